@@ -3,7 +3,7 @@ use Rattle.std.proofs.Common.{◌≡◌, ℕ, ◌+◌, ◌/◌, ◌%◌, ◌<◌
 use Rattle.std.proofs.lemmas.Bool.{and_parts, and_from}
 use Rattle.std.proofs.lemmas.List.Folds.{list_all-append}
 use Rattle.std.specs.List.{list_all}
-use Rattle.schedule.specs.Text.{digit, two_digits, day_text, is_day_byte}
+use Rattle.schedule.specs.Text.{digit, day_text, is_day_byte}
 use Rattle.schedule.proofs.ReadingLemmas.{day_text-bytes}
 use Rattle.deposit_name.specs.declared.kinds.Kind.{Kind}
 use Rattle.deposit_name.specs.declared.kinds.Kind.TheVariants.{Full, Diff}
