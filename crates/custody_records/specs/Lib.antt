@@ -1,0 +1,4 @@
+pub mod Keys
+pub mod Records
+pub mod Rows
+pub mod Form
