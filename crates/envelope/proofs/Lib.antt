@@ -6,3 +6,4 @@ pub mod Canonical
 pub mod Values
 pub mod Again
 pub mod Forms
+pub mod Lengths

@@ -177,6 +177,10 @@ back_text v =
     ++ (later (codes "watermark") (quoted (day_text v.watermark ++ codes "T00:00:00Z"))
     ++ 125 ∷ [])))
 
--- the one text of an envelope
+-- the one text of an envelope: compact JSON, whose members are in byte order of their names
 unfoldable pub env_text : Env → List ℕ
 env_text v = front_text v ++ back_text v
+
+-- no envelope in form has a text of more bytes
+abbrev pub text_max : ℕ
+text_max = 8192

@@ -1,4 +1,5 @@
-ghost use Rattle.std.specs.Prelude.{◌≡◌, ◌-◌, ◌≤◌, ◌<◌, ◌^◌, ℕ, List, Option, Some, None, Ok, option_map, IfSome, IfOk, IsUtf8, IsTrue, All, length};
+//! Reading an envelope: the JSON value of the text, the envelope that the value stands for, its text, and the comparison.
+ghost use Rattle.std.specs.Prelude.{◌≡◌, ◌-◌, ◌≤◌, ◌<◌, ◌^◌, ℕ, List, Option, Some, None, Ok, option_map, IfSome, IfOk, IsUtf8, IsTrue, IsErrOf, All, length};
 ghost use Rattle.serde_json.specs.View.{items_view, members_view};
 ghost use Rattle.serde_json.specs.Read.{read};
 ghost use Rattle.serde_json.specs.View as json;
@@ -8,7 +9,8 @@ ghost use Rattle.deposit_name.specs.Identifiers.{IsTld, IsDepositId};
 ghost use Rattle.schedule.specs.Reading.{day_at};
 ghost use Rattle.schedule.specs.Schedule.{IsDay};
 ghost use Rattle.envelope.specs.Uri.{is_uri};
-ghost use Rattle.envelope.specs.Envelope.{Env, IsFile, IsCount, FitsKind, Rises, IsHeader, IsMenu, IsEnvelope, view, env_text};
+ghost use Rattle.envelope.specs.Envelope.{Env, IsFile, IsCount, FitsKind, Rises, IsHeader, IsMenu, IsEnvelope, view, env_text, text_max};
+ghost use Rattle.envelope.specs.declared.error.EnvError.TheVariants.{Spelling};
 ghost use Rattle.envelope.specs.Reading.{Gives, number_at, text_at, digest_at, file_at, uri_at, each_at, counts_of, files_at, uris_at, counts_at, kind_at, deletes_at, id_at, prev_id_at, watermark_at, count_at, header_at, tld_at, menu_at, resend_at, env_at};
 
 use crate::envelope::{Count, Envelope, FileEntry, Header, Menu};
@@ -21,7 +23,21 @@ use schedule::{Day, read_day};
 use serde_json::{Category, Map, Value};
 use std::alloc::Global;
 
+/// No envelope has a text of more bytes.
+const TEXT_MAX: usize = 8192;
+
+/// In bytes.
 const FILE_LENGTH_MAX: u64 = 8_388_608;
+
+const CONTENTS_MAX: usize = 8;
+
+const DELETES_MAX: usize = 4;
+
+const COUNTS_MAX: usize = 16;
+
+const OBJECT_URIS_MAX: usize = 16;
+
+const RESEND_MAX: u64 = 99;
 
 #[tactic(auto, unfolding(crate::specs::Reading::number_at))]
 fn number_of(value: &Value, limit: u64) -> Option<u64>
@@ -86,12 +102,10 @@ fn prev_id_of(value: &Value) -> Option<Option<DepositId>>
 fn kind_of(t: &str) -> Option<Kind>
     ensures { result ≡ kind_at t.now }
 {
-    if t == "FULL" {
-        Some(Kind::Full)
-    } else if t == "DIFF" {
-        Some(Kind::Diff)
-    } else {
-        None
+    match t {
+        "FULL" => Some(Kind::Full),
+        "DIFF" => Some(Kind::Diff),
+        _ => None,
     }
 }
 
@@ -141,7 +155,7 @@ fn uris_of(alloc: Global, value: &Value) -> Result<Vec<Uri>, EnvError>
 {
     let items = value.as_array().ok_or(EnvError::Spelling)?;
     let uris = each_uri(alloc, items)?;
-    if uris.is_empty() || uris.len() > 16 {
+    if uris.is_empty() || uris.len() > OBJECT_URIS_MAX {
         return Err(EnvError::Spelling);
     }
     Ok(uris)
@@ -170,7 +184,7 @@ fn list_counts(alloc: Global, value: &Value) -> Result<Vec<Count>, EnvError>
 {
     let members = value.as_object().ok_or(EnvError::Spelling)?;
     let counts = each_count(alloc, members)?;
-    if counts.len() > 16 {
+    if counts.len() > COUNTS_MAX {
         return Err(EnvError::Spelling);
     }
     Ok(counts)
@@ -210,7 +224,7 @@ fn deletes_of(alloc: Global, value: &Value, kind: Kind) -> Result<Option<Vec<Fil
         Kind::Full => Ok(None),
         Kind::Diff => {
             let list = value.get("deletes").ok_or(EnvError::Spelling)?;
-            let files = files_of(alloc, list, 4)?;
+            let files = files_of(alloc, list, DELETES_MAX)?;
             if !have_deletes(&files) {
                 return Err(EnvError::Spelling);
             }
@@ -255,13 +269,18 @@ fn menu_of(alloc: Global, value: &Value) -> Result<Menu, EnvError>
     Ok(Menu { object_uris })
 }
 
-/// The envelope whose one text this is.
+/// The envelope whose one text this is. A text of more than 8,192 bytes is refused before any memory is taken.
 pub fn read_envelope(alloc: Global, t: &[u8]) -> Result<Envelope, EnvError>
-    // What is read is in form, and spelled so.
+    // What is read is in form, and the text is its one text.
     ensures found { IfOk result (λ e. IsEnvelope (view e) × (t.now ≡ env_text (view e))) }
-    // What is in form and spelled so is read, unless memory runs out.
+    // The text of each envelope in form is read as it, unless memory runs out.
     ensures only { (v : Env) → IsEnvelope v → t.now ≡ env_text v → Gives view result (Some v) }
+    // What is too long for any envelope is told so, however little memory there is.
+    ensures long { text_max < length t.now → IsErrOf result Spelling }
 {
+    if t.len() > TEXT_MAX {
+        return Err(EnvError::Spelling);
+    }
     let value = value_of(alloc, t)?;
     let envelope = envelope_of(alloc, &value)?;
     let text = write_envelope(alloc, &envelope)?;
@@ -288,7 +307,7 @@ fn envelope_of(alloc: Global, value: &Value) -> Result<Envelope, EnvError>
     ensures valid { IfOk result (λ e. IsEnvelope (view e)) }
 {
     let list = value.get("contents").ok_or(EnvError::Spelling)?;
-    let contents = files_of(alloc, list, 8)?;
+    let contents = files_of(alloc, list, CONTENTS_MAX)?;
     let kind_text = text_of(value, "type").ok_or(EnvError::Spelling)?;
     let kind = kind_of(kind_text).ok_or(EnvError::Spelling)?;
     let deletes = deletes_of(alloc, value, kind)?;
@@ -318,5 +337,5 @@ fn resend_of(value: &Value) -> Option<u8>
     ensures value { result ≡ resend_at (json.view value.now) }
     ensures valid { IfSome result (λ n. n ≤ 99) }
 {
-    Some(number_of(value.get("resend")?, 99)? as u8)
+    Some(number_of(value.get("resend")?, RESEND_MAX)? as u8)
 }

@@ -1,3 +1,4 @@
+//! Writing the one text of an envelope.
 ghost use Rattle.std.specs.Prelude.{◌≡◌, ◌++◌, ◌∷◌, [], List, codes, decimal, map, OnOk, IfOk, Some, None, option_map};
 ghost use Rattle.schedule.specs.Text.{day_text};
 ghost use Rattle.hex.specs.Hex.{encode_lower};
@@ -9,7 +10,7 @@ use deposit_name::{DepositId, Kind};
 use schedule::{Day, write_day};
 use std::alloc::{AllocError, Global};
 
-/// The one text of an envelope.
+/// The one text of an envelope: compact JSON without escapes, whose members are in byte order of their names.
 #[tactic(auto, unfolding(crate::specs::Envelope::env_text))]
 pub fn write_envelope(alloc: Global, e: &Envelope) -> Result<Vec<u8>, AllocError>
     ensures { IfOk result (λ t. t.items ≡ env_text (view e.now)) }
