@@ -1,1 +1,7 @@
-
+pub mod Orders
+pub mod FieldLemmas
+pub mod Gathered
+pub mod FormLemmas
+pub mod TableLemmas
+pub mod ReadBack
+pub mod ReadLemmas
