@@ -1,0 +1,7 @@
+//! The command machine of a custody of registry data deposits: what a command is answered, what is
+//! kept after it, and what holds through stops.
+#![tactic(auto)]
+
+mod laws;
+
+pub use laws::law_read_name;
