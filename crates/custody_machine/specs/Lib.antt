@@ -1,1 +1,5 @@
 pub mod Names
+pub mod State
+pub mod SameValues
+pub mod Machine
+pub mod Texts

@@ -2,6 +2,10 @@
 //! kept after it, and what holds through stops.
 #![tactic(auto)]
 
+mod answers;
+mod damage;
 mod laws;
 
+pub use answers::{Fault, Refusal};
+pub use damage::Damage;
 pub use laws::law_read_name;
