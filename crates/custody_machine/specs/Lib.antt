@@ -3,3 +3,6 @@ pub mod State
 pub mod SameValues
 pub mod Machine
 pub mod Texts
+pub mod History
+pub mod Retries
+pub mod MapValues
