@@ -4,3 +4,6 @@ pub mod MapValues
 pub mod Series
 pub mod SameValues
 pub mod Keeping
+pub mod Histories
+pub mod Retries
+pub mod Received
