@@ -1,0 +1,19 @@
+//! The records of the custody, in a database.
+#![tactic(auto)]
+
+mod calls;
+mod create;
+mod faults;
+mod meta;
+mod notices;
+mod parts;
+mod registries;
+mod releases;
+mod store;
+mod tables;
+mod values;
+
+pub use custody_records::Damage;
+pub use faults::StoreFault;
+pub use meta::{Meta, find_meta};
+pub use store::Store;
