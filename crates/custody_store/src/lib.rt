@@ -2,6 +2,7 @@
 #![tactic(auto)]
 
 mod calls;
+mod columns;
 mod create;
 mod faults;
 mod meta;
