@@ -1,1 +1,6 @@
-
+pub mod Orders
+pub mod FieldLemmas
+pub mod Gathered
+pub mod FormLemmas
+pub mod TableLemmas
+pub mod ReadBack

@@ -1,6 +1,7 @@
 //! The registries.
-ghost use Rattle.std.specs.Prelude.{◌≡◌, pos, map, Some, IfOk, IfErr};
+ghost use Rattle.std.specs.Prelude.{◌≡◌, map, Some, IfOk, IfErr};
 ghost use Rattle.custody_records.specs.Rows.{with_registry_row};
+ghost use Rattle.custody_records.specs.Written.{row_of_registry};
 ghost use Rattle.custody_store.specs.Reading.{answered_registry};
 ghost use Rattle.custody_store.specs.Standing.{standing, Commits, Selects};
 
@@ -17,7 +18,7 @@ pub fn add_registry<S: Alter>(
     tld: &Tld,
     first_day: Day,
 ) -> Result<(), StoreFault>
-    ensures commits { Commits (standing S.Store db.old) (standing S.Store db.new) (with_registry_row (record { tld = tld.now; first_day = pos first_day }) (standing S.Store db.old).rows) result }
+    ensures commits { Commits (standing S.Store db.old) (standing S.Store db.new) (with_registry_row (row_of_registry tld.now first_day) (standing S.Store db.old).rows) result }
     ensures kind { IfErr result (λ e. e ≡ StoreFault.Failed) }
 {
     run(

@@ -1,7 +1,7 @@
 //! The store: a connection with the tables of the records.
 ghost use Rattle.std.specs.Prelude.{◌≡◌, true, pos, Err, IfErr};
 ghost use Rattle.custody_records.specs.Rows.{fresh};
-ghost use Rattle.custody_store.specs.Records.{digits_of};
+ghost use Rattle.custody_records.specs.Written.{digits_of};
 ghost use Rattle.custody_store.specs.Standing.{standing, Founds, has_any};
 
 use crate::create::create;
