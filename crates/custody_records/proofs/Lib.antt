@@ -4,3 +4,4 @@ pub mod Gathered
 pub mod FormLemmas
 pub mod TableLemmas
 pub mod ReadBack
+pub mod ReadLemmas

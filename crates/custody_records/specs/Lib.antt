@@ -4,3 +4,4 @@ pub mod Rows
 pub mod Form
 pub mod Written
 pub mod Tables
+pub mod Typed

@@ -1,0 +1,9 @@
+pub mod NameReading
+pub mod Orders
+pub mod MapValues
+pub mod Series
+pub mod SameValues
+pub mod Keeping
+pub mod Histories
+pub mod Retries
+pub mod Received
