@@ -10,3 +10,4 @@ pub mod FindLemmas
 pub mod ReadLemmas
 pub mod MakingLemmas
 pub mod FoundLemmas
+pub mod DigitLemmas

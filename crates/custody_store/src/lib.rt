@@ -4,6 +4,7 @@
 mod calls;
 mod columns;
 mod create;
+mod digits;
 mod faults;
 mod meta;
 mod notices;
@@ -12,6 +13,8 @@ mod registries;
 mod releases;
 mod store;
 mod tables;
+#[cfg(test)]
+mod tests;
 mod values;
 
 pub use custody_records::Damage;

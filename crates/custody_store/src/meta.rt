@@ -1,65 +1,46 @@
 //! The row of meta.
 ghost use Rattle.std.specs.Prelude.{◌≡◌, ◌⊎◌, false, codes, map, Ok, Some, None, IfOk, IfErr, option_map, slice_get};
-ghost use Rattle.sqlite.specs.Order.{column, bytes};
-ghost use Rattle.sqlite.specs.Edit.{id_in};
-ghost use Rattle.custody_store.specs.Records.{row_of_meta};
+ghost use Rattle.custody_store.specs.Records.{meta_in};
 ghost use Rattle.custody_store.specs.Reading.{answered_meta, first_meta};
 ghost use Rattle.custody_store.specs.Standing.{standing, Selects, Reads};
 
 use crate::calls::ask;
+use crate::columns::{bytes_at, integer_at};
+use crate::digits::read_digits;
 use crate::faults::StoreFault;
 use crate::tables::has_table;
-use sqlite::types::{Bytes, Value};
 use sqlite::{Alter, Connection, Row};
 
 /// The row of meta as it stands.
-#[derive(Debug, Drop)]
+#[derive(Clone, Copy, Debug, PartialEq, Eq)]
 pub struct Meta {
+    /// 1 where it is in form.
     pub one: i64,
+    /// The number of the schema.
     pub schema_no: i64,
-    pub number: Bytes,
+    /// The number of the volume, where it is in form.
+    pub number: Option<u64>,
+    /// The blocks of the volume.
     pub blocks: i64,
 }
 
-fn integer_of(row: &Row, at: usize) -> Result<i64, StoreFault>
-    ensures value { IfOk result (λ n. id_in (column row.now at) ≡ n) }
-    ensures kind { IfErr result (λ e. e ≡ StoreFault.Failed) }
+fn meta_of(row: &Row) -> Meta
+    ensures { result ≡ meta_in (answered_meta row.now) }
 {
-    match row.get(at) {
-        Ok(number) => Ok(number),
-        Err(_) => Err(StoreFault::Failed),
+    Meta {
+        one: integer_at(row, 0),
+        schema_no: integer_at(row, 1),
+        number: read_digits(bytes_at(row, 2)),
+        blocks: integer_at(row, 3),
     }
 }
 
-fn text_of(row: &Row, at: usize) -> Result<Bytes, StoreFault>
-    ensures value { IfOk result (λ t. bytes (column row.now at) ≡ t) }
-    ensures kind { IfErr result (λ e. e ≡ StoreFault.Failed) }
-{
-    match row.get(at) {
-        Ok(Value::Text(text)) => Ok(text),
-        _ => Err(StoreFault::Failed),
-    }
-}
-
-fn meta_of(row: &Row) -> Result<Meta, StoreFault>
-    ensures value { IfOk result (λ it. answered_meta row.now ≡ row_of_meta it) }
-    ensures kind { IfErr result (λ e. e ≡ StoreFault.Failed) }
-{
-    Ok(Meta {
-        one: integer_of(row, 0)?,
-        schema_no: integer_of(row, 1)?,
-        number: text_of(row, 2)?,
-        blocks: integer_of(row, 3)?,
-    })
-}
-
-fn first_of(rows: &[Row]) -> Result<Option<Meta>, StoreFault>
-    ensures value { IfOk result (λ found. option_map row_of_meta found ≡ slice_get (map answered_meta rows.now) 0) }
-    ensures kind { IfErr result (λ e. e ≡ StoreFault.Failed) }
+fn first_of(rows: &[Row]) -> Option<Meta>
+    ensures { result ≡ option_map meta_in (slice_get (map answered_meta rows.now) 0) }
 {
     match rows.first() {
-        Some(row) => Ok(Some(meta_of(row)?)),
-        None => Ok(None),
+        Some(row) => Some(meta_of(row)),
+        None => None,
     }
 }
 
@@ -79,8 +60,9 @@ pub fn select_meta<S: Alter>(db: &mut Connection<S>) -> Result<Vec<Row>, StoreFa
 /// The first row of meta, or `None` where there is no table meta or no row in it.
 pub fn find_meta<S: Alter>(db: &mut Connection<S>) -> Result<Option<Meta>, StoreFault>
     ensures found { (standing S.Store db.new).IsHonest → (standing S.Store db.old).IsReady ⊎ (standing S.Store db.old).IsBare
-        → IfOk result (λ found. option_map row_of_meta found ≡ first_meta (standing S.Store db.old).rows) }
+        → IfOk result (λ found. found ≡ option_map meta_in (first_meta (standing S.Store db.old).rows)) }
     ensures reads { Reads (standing S.Store db.old) (standing S.Store db.new) result }
+    // A row that is there is answered, whatever its fields are.
     ensures kind { IfErr result (λ e. e ≡ StoreFault.Failed) }
     ensures missing { (standing S.Store db.old).has_table (codes "meta") ≡ false → (result ≡ Ok None) × (db.new ≡ db.old) }
 {
@@ -88,5 +70,5 @@ pub fn find_meta<S: Alter>(db: &mut Connection<S>) -> Result<Option<Meta>, Store
         return Ok(None);
     }
     let rows = select_meta(db)?;
-    first_of(&rows)
+    Ok(first_of(&rows))
 }

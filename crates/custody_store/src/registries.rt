@@ -8,23 +8,18 @@ ghost use Rattle.custody_store.specs.Standing.{standing, Commits, Selects};
 use crate::calls::{ask, run};
 use crate::faults::StoreFault;
 use crate::values::{day, text};
-use deposit_name::Tld;
-use schedule::Day;
+use custody_records::Registry;
 use sqlite::{Alter, Connection, Row};
 
 /// Adds a registry, and commits it.
-pub fn add_registry<S: Alter>(
-    db: &mut Connection<S>,
-    tld: &Tld,
-    first_day: Day,
-) -> Result<(), StoreFault>
-    ensures commits { Commits (standing S.Store db.old) (standing S.Store db.new) (with_registry_row (row_of_registry tld.now first_day) (standing S.Store db.old).rows) result }
+pub fn add_registry<S: Alter>(db: &mut Connection<S>, registry: &Registry) -> Result<(), StoreFault>
+    ensures commits { Commits (standing S.Store db.old) (standing S.Store db.new) (with_registry_row (row_of_registry registry.now.tld registry.now.first_day) (standing S.Store db.old).rows) result }
     ensures kind { IfErr result (λ e. e ≡ StoreFault.Failed) }
 {
     run(
         db,
         "INSERT INTO registry (tld, first_day) VALUES (?1, ?2)",
-        &[text(tld.as_bytes()), day(first_day)],
+        &[text(registry.tld.as_bytes()), day(registry.first_day)],
     )
 }
 

@@ -5,18 +5,10 @@ ghost use Rattle.custody_records.specs.Written.{digits_of};
 ghost use Rattle.custody_store.specs.Standing.{standing, Founds, has_any};
 
 use crate::create::create;
+use crate::digits::digits_of;
 use crate::faults::StoreFault;
 use sqlite::{Alter, Connection};
 use std::marker::Model;
-
-/// A number as 16 lower-case hexadecimal digits.
-fn digits_of(number: u64) -> [u8; 16]
-    ensures { result ≡ digits_of number }
-{
-    let mut digits = [0; 16];
-    let _ = hex::encode_to_slice(number.to_be_bytes(), &mut digits);
-    digits
-}
 
 /// The records, in the tables of a database.
 #[derive(Drop)]
