@@ -1,0 +1,4 @@
+pub mod Builders
+pub mod FormLemmas
+pub mod OneReading
+pub mod Readings
