@@ -6,6 +6,7 @@ mod laws;
 mod lines;
 mod number;
 mod order;
+mod paths;
 #[cfg(test)]
 mod tests;
 mod values;
@@ -15,4 +16,5 @@ pub use laws::law_orders;
 pub use lines::Line;
 pub use number::VolumeNumber;
 pub use order::{Argument, Order, WordFault};
+pub use paths::last_part;
 pub use words::order_of;

@@ -24,6 +24,7 @@ impl Model for VolumeNumber {
 }
 
 impl VolumeNumber {
+    /// The number as a volume's.
     pub fn new(number: u64) -> VolumeNumber
         ensures { result ≡ number }
     {
@@ -46,7 +47,7 @@ impl VolumeNumber {
         hex::decode_to_slice(t, &mut bytes).ok()?;
         let number = u64::from_be_bytes(bytes);
         if t == write_number(number).as_slice() {
-            Some(VolumeNumber { number })
+            Some(VolumeNumber::new(number))
         } else {
             None
         }
@@ -65,7 +66,7 @@ impl fmt::Display for VolumeNumber {
     ghost output = { λ n. Some (number_text n) };
 
     fn fmt<W: fmt::Write>(&self, f: &mut fmt::Formatter<W>) -> fmt::Result {
-        match str::from_utf8(&write_number(self.number)) {
+        match str::from_utf8(&write_number(self.get())) {
             Ok(text) => f.pad(text),
             Err(_) => Err(fmt::Error),
         }

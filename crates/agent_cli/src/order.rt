@@ -1,6 +1,6 @@
 //! What a command line asks for.
 ghost use Rattle.std.specs.Prelude.{◌≡◌, Some};
-ghost use Rattle.agent_cli.specs.Faults.{argument_text};
+ghost use Rattle.agent_cli.specs.Faults.{IsStatusOf, argument_text};
 ghost use Rattle.agent_cli.specs.declared.order.WordFault.TheVariants.{NoMemory};
 
 use crate::VolumeNumber;
@@ -74,6 +74,25 @@ pub enum WordFault {
     Bad(Argument),
     /// No memory for reading them.
     NoMemory,
+}
+
+impl WordFault {
+    /// The exit status: 0 where the words ask for help, 2 for other words, 3 for want of memory.
+    pub fn status(&self) -> u8
+        ensures { IsStatusOf self.now result }
+    {
+        match self {
+            WordFault::Words(error) => {
+                if error.use_stderr() {
+                    2
+                } else {
+                    0
+                }
+            }
+            WordFault::Bad(_) => 2,
+            WordFault::NoMemory => 3,
+        }
+    }
 }
 
 impl fmt::Display for WordFault {

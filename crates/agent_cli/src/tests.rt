@@ -1,7 +1,7 @@
 //! Worked words, the texts of help, and lines.
 mod help;
 
-use crate::{Argument, Line, Order, VolumeNumber, WordFault, order_of};
+use crate::{Argument, Line, Order, VolumeNumber, WordFault, last_part, order_of};
 use deposit_name::{DepositName, Tld};
 use schedule::{read_day, read_moment};
 use std::alloc::{AllocError, Global};
@@ -20,34 +20,25 @@ fn words_of(alloc: Global, texts: &[&str]) -> Result<Vec<String>, AllocError> {
 
 #[test]
 fn reads_orders(rt: HostRuntime) -> Result<(), Fail> {
-    let words = words_of(
-        rt.alloc(),
-        &["init", "d", "--blocks", "8", "--number", "00000000000000ff"],
-    )?;
-    let Ok(Order::Init {
-        folder,
-        blocks,
-        number,
-    }) = order_of(rt.alloc(), words.as_slice()) else {
-        return Err("an init".into());
-    };
-    assert_eq!(rt; (folder, blocks, number.get()), ("d", 8, 255));
+    let texts = ["init", "d", "--blocks", "8", "--number", "00000000000000ff"];
+    let words = words_of(rt.alloc(), &texts)?;
+    let order = order_of(rt.alloc(), words.as_slice());
+    assert!(rt;
+        matches!(&order, Ok(Order::Init { folder, blocks, number })
+            if *folder == "d" && *blocks == 8 && number.get() == 255)
+    );
 
-    let words = words_of(
-        rt.alloc(),
-        &["register", "--first", "2026-08-02", "d", "example"],
-    )?;
-    let Ok(Order::Register { folder, tld, first }) = order_of(rt.alloc(), words.as_slice()) else {
-        return Err("a register".into());
-    };
-    assert_eq!(rt; (folder, first.number()), ("d", 20_667));
-    assert_eq!(rt; tld.as_bytes(), b"example".as_slice());
+    let texts = ["register", "--first", "2026-08-02", "d", "example"];
+    let words = words_of(rt.alloc(), &texts)?;
+    let order = order_of(rt.alloc(), words.as_slice());
+    assert!(rt;
+        matches!(&order, Ok(Order::Register { folder, tld, first })
+            if *folder == "d" && tld.as_bytes() == b"example".as_slice() && first.number() == 20_667)
+    );
 
     let words = words_of(rt.alloc(), &["state", "--", "-d"])?;
-    let Ok(Order::State { folder }) = order_of(rt.alloc(), words.as_slice()) else {
-        return Err("a state".into());
-    };
-    assert_eq!(rt; folder, "-d");
+    let order = order_of(rt.alloc(), words.as_slice());
+    assert!(rt; matches!(&order, Ok(Order::State { folder }) if *folder == "-d"));
     Ok(())
 }
 
@@ -184,6 +175,38 @@ fn other_words_are_faults_of_the_command(rt: HostRuntime) -> Result<(), Fail> {
         assert_eq!(rt; text.as_str(), wanted);
     }
     Ok(())
+}
+
+#[test]
+fn faults_have_statuses(rt: HostRuntime) -> Result<(), Fail> {
+    let rows: [(&[&str], u8); 4] = [
+        (&["--help"], 0),
+        (&["put", "-h"], 0),
+        (&["put"], 2),
+        (&["put", "d", "a", "--now", "x"], 2),
+    ];
+    for (texts, wanted) in rows {
+        let words = words_of(rt.alloc(), texts)?;
+        let Err(fault) = order_of(rt.alloc(), words.as_slice()) else {
+            return Err("a fault".into());
+        };
+        assert_eq!(rt; fault.status(), wanted);
+    }
+    Ok(())
+}
+
+#[test]
+fn names_files_by_the_last_part(rt: HostRuntime) {
+    let rows: [(&str, &[u8]); 5] = [
+        ("a", b"a"),
+        ("in/b", b"b"),
+        ("/tmp//c", b"c"),
+        ("in/", b""),
+        ("", b""),
+    ];
+    for (path, wanted) in rows {
+        assert_eq!(rt; last_part(path), wanted);
+    }
 }
 
 #[test]

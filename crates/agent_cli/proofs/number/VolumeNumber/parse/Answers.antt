@@ -17,7 +17,7 @@ returns-in_err-ok-clause-only c = λ n (lt, same).
 pub returns-then-eq-clause-only : goal.returns-then-eq-clause-only
 returns-then-eq-clause-only c = λ n (lt, same).
     let decoded = MatchResult-at_ok _ _ _ (decodes c.args.t.now n same) c.decode_to_slice.ensures.value in
-    ap (λ x. Some x) (c.from_be_bytes-number.ensures ∙ ap (from_be_bytes w64) decoded.1 ∙ from_be_bytes-to_be_bytes_8 n lt)
+    ap (λ x. Some x) (c.new.ensures ∙ c.from_be_bytes-number.ensures ∙ ap (from_be_bytes w64) decoded.1 ∙ from_be_bytes-to_be_bytes_8 n lt)
 
 pub returns-else-eq-clause-only : goal.returns-else-eq-clause-only
 returns-else-eq-clause-only c = λ n (lt, same).
