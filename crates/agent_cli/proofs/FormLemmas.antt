@@ -1,11 +1,14 @@
 -- Texts in form show one value.
-use Rattle.std.proofs.Common.{◌≡◌, ℕ, zero, suc, ◌+◌, ◌*◌, ◌/◌, ◌%◌, ◌^◌, ◌<◌, List, take, get_or, refl, sym, ◌∙◌, ap, arith, subst, Option, Some, None}
-use Rattle.std.specs.Prelude.{Result, Ok, Err}
+use Rattle.std.proofs.Common.{◌≡◌, ℕ, zero, suc, ◌+◌, ◌*◌, ◌/◌, ◌%◌, ◌^◌, ◌<◌, List, take, get_or, refl, sym, ◌∙◌, ap, arith, subst, true, [], ◌∷◌, Option, Some, None}
+use Rattle.std.specs.Prelude.{Result, Ok, Err, nat_lt}
+use Rattle.std.specs.Str.{IsAscii}
+use Rattle.std.specs.List.{list_all}
+use Rattle.std.proofs.lemmas.Bool.{and_parts}
 use Rattle.std.specs.Int.{w64, to_be_bytes, from_be_bytes}
 use Rattle.std.proofs.lemmas.Nat.{from_be_bytes-to_be_bytes_8}
-use Rattle.hex.specs.Hex.{IsBytes, decode_sized}
+use Rattle.hex.specs.Hex.{IsBytes, decode_sized, lower_digits}
 use Rattle.hex.specs.declared.error.FromHexError.{FromHexError}
-use Rattle.hex.proofs.HexLemmas.{decode_sized-encode_lower}
+use Rattle.hex.proofs.HexLemmas.{IsAscii-encode_with, decode_sized-encode_lower}
 use Rattle.clap.specs.Words.{Text}
 use Rattle.schedule.specs.Schedule.{IsDay, IsMoment, day_of}
 use Rattle.schedule.specs.Text.{digit, day_text, moment_text}
@@ -40,17 +43,16 @@ number_text-injective m n h k e =
     let bytes = ok_same _ _ (sym (decodes (number_text m) m refl) ∙ decodes (number_text m) n e) in
     sym (from_be_bytes-to_be_bytes_8 m h) ∙ ap (from_be_bytes w64) bytes ∙ from_be_bytes-to_be_bytes_8 n k
 
-pub moment_text-injective : (s t : ℕ) → IsMoment s → IsMoment t → moment_text s ≡ moment_text t → s ≡ t
-moment_text-injective s t h k e =
-    let days : day_text (day_of s) ≡ day_text (day_of t) = ap (λ x. take 10 x) e in
-    let day : day_of s ≡ day_of t = day_text-injective (day_of s) (day_of t) (omega arith) (omega arith) days in
-    let h1 : digit (s % 86_400 / 3600 / 10) ≡ digit (t % 86_400 / 3600 / 10) = ap (λ x. get_or x 11 0) e in
-    let h2 : digit (s % 86_400 / 3600 % 10) ≡ digit (t % 86_400 / 3600 % 10) = ap (λ x. get_or x 12 0) e in
-    let m1 : digit (s % 86_400 % 3600 / 60 / 10) ≡ digit (t % 86_400 % 3600 / 60 / 10) = ap (λ x. get_or x 14 0) e in
-    let m2 : digit (s % 86_400 % 3600 / 60 % 10) ≡ digit (t % 86_400 % 3600 / 60 % 10) = ap (λ x. get_or x 15 0) e in
-    let s1 : digit (s % 86_400 % 60 / 10) ≡ digit (t % 86_400 % 60 / 10) = ap (λ x. get_or x 17 0) e in
-    let s2 : digit (s % 86_400 % 60 % 10) ≡ digit (t % 86_400 % 60 % 10) = ap (λ x. get_or x 18 0) e in
-    omega arith
+below : (b : ℕ) → nat_lt b 128 ≡ true → b < 128
+below b h = grind arith
+
+IsAscii-bytes : (text : List ℕ) → list_all (λ b. nat_lt b 128) text ≡ true → IsAscii text
+IsAscii-bytes [] h i = omega arith
+IsAscii-bytes (b ∷ bs) h zero = below b (and_parts (nat_lt b 128) (list_all (λ x. nat_lt x 128) bs) h).0
+IsAscii-bytes (b ∷ bs) h (suc i) = IsAscii-bytes bs (and_parts (nat_lt b 128) (list_all (λ x. nat_lt x 128) bs) h).1 i
+
+pub IsAscii-number_text : (n : ℕ) → IsAscii (number_text n)
+IsAscii-number_text n = IsAscii-encode_with lower_digits (to_be_bytes w64 n) (IsAscii-bytes lower_digits refl)
 
 pub if_given_one : {X : Type 0} (Shows : Text → X → Type 0) → ((t : Text) (x y : X) → Shows t x → Shows t y → x ≡ y)
     → (o : Option Text) (a b : Option X) → ShowsIfGiven Shows o a → ShowsIfGiven Shows o b → a ≡ b

@@ -8,8 +8,8 @@ use Rattle.agent_cli.specs.Command.{escrow_app}
 use Rattle.agent_cli.specs.Forms.{ShowsMoment}
 use Rattle.agent_cli.specs.Order.{Asks, InitReading, IsOneReading, MetReading, NamedReading, PutReading, ReadsValue, Reading, RegisterReading, StateReading, refused}
 use Rattle.agent_cli.specs.declared.order.Argument.{Argument}
-use Rattle.agent_cli.proofs.FormLemmas.{if_given_one, moment_text-injective, number_text-injective}
-use Rattle.schedule.proofs.TextLemmas.{day_text-injective}
+use Rattle.agent_cli.proofs.FormLemmas.{if_given_one, number_text-injective}
+use Rattle.schedule.proofs.TextLemmas.{day_text-injective, moment_text-injective}
 
 abbrev IsOne : (Reading → Type 0) → Type 0
 IsOne Reads = (r s : Reading) → Reads r → Reads s → r ≡ s

@@ -1,12 +1,11 @@
 //! The lines of replies.
 ghost use Rattle.std.specs.Prelude.{Some};
-ghost use Rattle.deposit_name.specs.Name.{name_text};
 ghost use Rattle.agent_cli.specs.Lines.{line_text};
 
 use crate::VolumeNumber;
-use deposit_name::{DepositName, Tld, write_name};
+use deposit_name::{DepositName, Tld};
 use schedule::{Day, Sec};
-use std::{fmt, str};
+use std::fmt;
 
 /// A line of a reply, written without its line feed.
 #[derive(Clone, Copy, Debug, PartialEq, Eq)]
@@ -33,60 +32,16 @@ pub enum Line {
     Room { free: u32, total: u32 },
 }
 
-/// A top-level domain as it is printed.
-#[derive(Clone, Copy)]
-struct TldText(Tld);
-
-impl fmt::Display for TldText {
-    ghost output = { λ t. Some t.0 };
-
-    fn fmt<W: fmt::Write>(&self, f: &mut fmt::Formatter<W>) -> fmt::Result {
-        match str::from_utf8(self.0.as_bytes()) {
-            Ok(text) => f.write_str(text),
-            Err(_) => Err(fmt::Error),
-        }
-    }
-}
-
-/// A deposit name as it is printed.
-#[derive(Clone, Copy)]
-struct NameText(DepositName);
-
-impl fmt::Display for NameText {
-    ghost output = { λ n. Some (name_text n.0) };
-
-    fn fmt<W: fmt::Write>(&self, f: &mut fmt::Formatter<W>) -> fmt::Result {
-        let mut room = [0; 96];
-        let length = write_name(&self.0, &mut room);
-        match str::from_utf8(&room[..length]) {
-            Ok(text) => f.write_str(text),
-            Err(_) => Err(fmt::Error),
-        }
-    }
-}
-
 impl fmt::Display for Line {
     ghost output = { λ l. Some (line_text l) };
 
     fn fmt<W: fmt::Write>(&self, f: &mut fmt::Formatter<W>) -> fmt::Result {
         match self {
             Line::Ready { blocks, number } => write!(f, "ready {blocks} {number}"),
-            Line::Registered { tld, first } => {
-                let tld = TldText(*tld);
-                write!(f, "registered {tld} {first}")
-            }
-            Line::Received { name, length, at } => {
-                let name = NameText(*name);
-                write!(f, "received {name} {length} {at}")
-            }
-            Line::Registry { tld, first } => {
-                let tld = TldText(*tld);
-                write!(f, "registry {tld} {first}")
-            }
-            Line::Part { name, length, at } => {
-                let name = NameText(*name);
-                write!(f, "part {name} {length} held {at}")
-            }
+            Line::Registered { tld, first } => write!(f, "registered {tld} {first}"),
+            Line::Received { name, length, at } => write!(f, "received {name} {length} {at}"),
+            Line::Registry { tld, first } => write!(f, "registry {tld} {first}"),
+            Line::Part { name, length, at } => write!(f, "part {name} {length} held {at}"),
             Line::Room { free, total } => write!(f, "free {free} of {total}"),
         }
     }

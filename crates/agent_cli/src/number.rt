@@ -1,5 +1,6 @@
 //! The numbers of volumes.
 ghost use Rattle.std.specs.Prelude.{◌≡◌, ℕ, ◌^◌, ◌<◌, Some, IfSome};
+ghost use Rattle.std.specs.Str.{IsAscii};
 ghost use Rattle.agent_cli.specs.Forms.{ShowsNumber, number_text};
 
 use std::marker::Model;
@@ -62,13 +63,17 @@ fn write_number(number: u64) -> [u8; 16]
     digits
 }
 
+fn ascii_str(text: &[u8]) -> &str
+    requires { IsAscii text.now }
+    ensures { result.now ≡ text.now }
+{
+    str::from_utf8(text).unwrap()
+}
+
 impl fmt::Display for VolumeNumber {
     ghost output = { λ n. Some (number_text n) };
 
     fn fmt<W: fmt::Write>(&self, f: &mut fmt::Formatter<W>) -> fmt::Result {
-        match str::from_utf8(&write_number(self.get())) {
-            Ok(text) => f.pad(text),
-            Err(_) => Err(fmt::Error),
-        }
+        f.pad(ascii_str(&write_number(self.get())))
     }
 }
