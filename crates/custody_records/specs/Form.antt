@@ -1,0 +1,221 @@
+-- What the rows of the tables stand for: whether they are in form, and the records that they make.
+use Rattle.std.specs.Prelude.{ℕ, ℤ, pos, negsuc, ◌*◌, ◌-◌, List, [], ◌∷◌, ◌++◌, length, slice_index, Option, Some, None, Bool, true, false, not, ◌&&◌, ◌||◌, ◌==◌, nat_lt, if◌then◌else◌, is_some, option_map, find, codes, Result, Ok, Err}
+use Rattle.std.specs.Option.{option_and_then}
+use Rattle.std.specs.Str.{bytes_eq}
+use Rattle.std.specs.List.{list_all}
+use Rattle.std.specs.Char.{is_ascii_alphanumeric}
+use Rattle.std.specs.declared.cmp.Ordering.{Ordering}
+use Rattle.std.specs.FinMap.{FinMap, get, insert, empty}
+use Rattle.std.specs.Int.{w32, w64, to_be_bytes, from_be_bytes}
+use Rattle.hex.specs.Hex.{encode_lower, decode_sized}
+use Rattle.hex.specs.declared.FromHexError.{FromHexError}
+use Rattle.schedule.specs.Schedule.{day_of, year_after}
+use Rattle.deposit_name.specs.declared.kinds.Kind.{Kind}
+use Rattle.deposit_name.specs.declared.kinds.Kind.TheVariants.{Full, Diff}
+use Rattle.deposit_name.specs.Identifiers.{is_tld_byte, is_reference_byte}
+use Rattle.deposit_name.specs.Name.{kind_text}
+use Rattle.desk.specs.Checks.{check_number}
+use Rattle.desk.specs.Grounds.{ground_text}
+use Rattle.desk.specs.declared.checks.Check.{Check}
+use Rattle.desk.specs.declared.checks.Check.TheVariants.{Frame, Envelope, Name, Statement, Weekday, PrevId, IdTaken, Menu, Files, Table, Counts, References, Deletes}
+use Rattle.desk.specs.declared.notices.NoticeKind.{NoticeKind}
+use Rattle.desk.specs.declared.notices.NoticeKind.TheVariants.{Receipt, Failure, Absence}
+use Rattle.desk.specs.declared.grounds.Ground.{Ground}
+use Rattle.desk.specs.declared.grounds.Ground.TheVariants.{Operator, Termination, NoNotices, SundayFailed, FiveFailed, Insolvency, Critical, Order, Audit}
+use Rattle.vault_volume.specs.declared.extent.Extent.{Extent}
+use Rattle.custody_records.specs.declared.damage.Damage.{Damage}
+use Rattle.custody_records.specs.declared.damage.Damage.TheVariants as damage
+use Rattle.custody_records.specs.Keys.{text_cmp, PartKey, part_cmp, NoticeKey, notice_cmp}
+use Rattle.custody_records.specs.Records.{PartRecord, Notice, Release, Records}
+use Rattle.custody_records.specs.Rows.{MetaRow, RegistryRow, PartRow, NoticeRow, HandoverRow, Rows}
+
+-- ---- fields
+
+abbrev pub natural : ℤ → ℕ
+natural (pos n) = n
+natural (negsuc _) = 0
+
+-- a number from low to high
+abbrev pub is_within : ℕ → ℕ → ℤ → Bool
+is_within low high (pos n) = not (nat_lt n low) && not (nat_lt high n)
+is_within low high (negsuc _) = false
+
+-- this number
+abbrev pub is_number : ℕ → ℤ → Bool
+is_number n = is_within n n
+
+-- a day from 1970-01-01 to 9998-12-31
+abbrev pub is_day : ℤ → Bool
+is_day = is_within 0 2_932_531
+
+-- the day of a deposit, from 2000-01-01 on
+abbrev pub is_deposit_day : ℤ → Bool
+is_deposit_day = is_within 10_957 2_932_531
+
+-- a moment of these days
+abbrev pub is_moment : ℤ → Bool
+is_moment = is_within 0 (86_400 * 2_932_532 - 1)
+
+-- a text of so many bytes at least and at most, of which each passes the test
+abbrev pub is_text : ℕ → ℕ → (ℕ → Bool) → List ℕ → Bool
+is_text low high test text = is_within low high (pos (length text)) && list_all test text
+
+abbrev pub is_tld : List ℕ → Bool
+is_tld text = is_text 1 63 is_tld_byte text && (not (slice_index text 0 == 45) && not (slice_index text (length text - 1) == 45))
+
+abbrev pub is_id : List ℕ → Bool
+is_id = is_text 1 13 is_ascii_alphanumeric
+
+abbrev pub is_reference : List ℕ → Bool
+is_reference = is_text 1 32 is_reference_byte
+
+-- ---- a table: each row has its record, and no two rows have one key
+
+abbrev pub gather : {X K R : Type 0} {order : K → K → Ordering} → (X → Option (K × R)) → FinMap order R → List X → Option (FinMap order R)
+gather read so_far [] = Some so_far
+gather {X = X} {K = K} {R = R} {order = order} read so_far (row ∷ rows) =
+    option_and_then (λ (entry : K × R). if is_some (get so_far entry.0) then None else gather {X = X} {K = K} {R = R} {order = order} read (insert so_far entry.0 entry.1) rows) (read row)
+
+-- ---- registries
+
+abbrev pub registry_in : RegistryRow → Option (List ℕ × ℕ)
+registry_in row = if is_tld row.tld && is_day row.first_day then Some (row.tld, natural row.first_day) else None
+
+-- ---- parts
+
+abbrev pub kind_in : List ℕ → Option Kind
+kind_in text = find (λ kind. bytes_eq text (kind_text kind)) (Full ∷ Diff ∷ [])
+
+-- extents, of which start and count are four bytes each, the greatest first
+abbrev pub extents_of : List ℕ → Option (List Extent)
+extents_of [] = Some []
+extents_of (a ∷ b ∷ c ∷ d ∷ e ∷ f ∷ g ∷ h ∷ bytes) =
+    option_map (λ extents. record { start = from_be_bytes w32 (a ∷ b ∷ c ∷ d ∷ []); count = from_be_bytes w32 (e ∷ f ∷ g ∷ h ∷ []) } ∷ extents) (extents_of bytes)
+extents_of _ = None
+
+-- none where the bytes are dropped; else one extent or more
+abbrev pub extents_in : Option (List ℕ) → Option (Option (List Extent))
+extents_in None = Some None
+extents_in (Some []) = None
+extents_in (Some (byte ∷ bytes)) = option_map Some (extents_of (byte ∷ bytes))
+
+-- the row's numbers and its digest are in form, and the bytes are kept for a year from the day received (Specification 2, Part B section 5)
+abbrev pub is_part : PartRow → Bool
+is_part row = is_tld row.tld && (is_deposit_day row.day && (is_within 0 99 row.rev && (is_within 1 8 row.part && (is_moment row.received
+    && (is_number (year_after (day_of (natural row.received))) row.keep_day && (is_within 1 1_048_576 row.len && length row.sha == 32))))))
+
+abbrev pub part_key : PartRow → PartKey
+part_key row = record { tld = row.tld; day = natural row.day; rev = natural row.rev; part = natural row.part }
+
+abbrev pub part_in : PartRow → Option (PartKey × PartRecord)
+part_in row = if is_part row then
+    option_and_then (λ (kind : Kind). option_map (λ (extents : Option (List Extent)). (part_key row, record { kind = kind; received = natural row.received; len = natural row.len; digest = row.sha; extents = extents })) (extents_in row.extents)) (kind_in row.kind)
+    else None
+
+-- ---- notices
+
+-- the checks in their order
+abbrev pub checks : List Check
+checks = Frame ∷ Envelope ∷ Name ∷ Statement ∷ Weekday ∷ PrevId ∷ IdTaken ∷ Menu ∷ Files ∷ Table ∷ Counts ∷ References ∷ Deletes ∷ []
+
+-- the check of a number from 1 to 13
+abbrev pub check_in : ℕ → Option Check
+check_in number = find (λ check. check_number check == number) checks
+
+-- 0 is a receipt, 1 to 13 a failure of that check, and 20 an absence, which has no revision and no id
+abbrev pub notice_kind_in : NoticeRow → Option NoticeKind
+notice_kind_in row =
+    if is_number 20 row.kind then (if is_number 0 row.rev && bytes_eq row.id [] then Some Absence else None)
+    else if is_within 0 99 row.rev && is_id row.id then
+        (if is_number 0 row.kind then Some (Receipt (natural row.rev) row.id) else option_map (λ (check : Check). Failure (natural row.rev) row.id check) (check_in (natural row.kind)))
+    else None
+
+abbrev pub notice_in : NoticeRow → Option (NoticeKey × Notice)
+notice_in row = if is_tld row.tld && (is_within 1 9_223_372_036_854_775_807 row.number && (is_day row.day && is_moment row.at)) then
+    option_map (λ (kind : NoticeKind). (record { tld = row.tld; number = natural row.number }, record { day = natural row.day; at = natural row.at; kind = kind })) (notice_kind_in row)
+    else None
+
+-- ---- releases
+
+-- the grounds in their order
+abbrev pub grounds : List Ground
+grounds = Operator ∷ Termination ∷ NoNotices ∷ SundayFailed ∷ FiveFailed ∷ Insolvency ∷ Critical ∷ Order ∷ Audit ∷ []
+
+abbrev pub ground_in : List ℕ → Option Ground
+ground_in text = find (λ reason. bytes_eq text (ground_text reason)) grounds
+
+-- the lines of a text, each of which ends with a line feed, after the bytes of the first line
+abbrev pub lines_from : List ℕ → List ℕ → Option (List (List ℕ))
+lines_from [] [] = Some []
+lines_from [] (_ ∷ _) = None
+lines_from (byte ∷ text) line = if byte == 10 then option_map (λ lines. line ∷ lines) (lines_from text []) else lines_from text (line ++ byte ∷ [])
+
+abbrev pub lines_in : List ℕ → Option (List (List ℕ))
+lines_in text = lines_from text []
+
+abbrev pub release_in : HandoverRow → Option (List ℕ × Release)
+release_in row = if is_reference row.reference && (is_tld row.tld && is_moment row.at) then
+    option_and_then (λ (reason : Ground). option_map (λ (names : List (List ℕ)). (row.reference, record { tld = row.tld; reason = reason; at = natural row.at; names = names })) (lines_in row.names)) (ground_in row.reason)
+    else None
+
+-- ---- the volume
+
+abbrev pub from_hex : Result (List ℕ) FromHexError → ℕ
+from_hex (Ok bytes) = from_be_bytes w64 bytes
+from_hex (Err _) = 0
+
+abbrev pub number_in : List ℕ → ℕ
+number_in text = from_hex (decode_sized text 8)
+
+-- one, a number of 16 lower-case hexadecimal digits, and 2 to 262,144 blocks
+abbrev pub is_meta : MetaRow → Bool
+is_meta row = is_number 1 row.one && (bytes_eq row.number (encode_lower (to_be_bytes w64 (number_in row.number))) && is_within 2 262_144 row.blocks)
+
+-- ---- all tables
+
+-- what the tables stand for: no vault, rows out of form, or the records of rows in form
+pub data Form : Type 0 where
+  NoVault : Form
+  OutOfForm : Damage → Form
+  InForm : Records → Form
+
+-- a table that is there
+abbrev pub gathered : {X K R : Type 0} {order : K → K → Ordering} → (X → Option (K × R)) → Option (List X) → Option (FinMap order R)
+gathered {X} {K} {R} {order} read = option_and_then (gather {X = X} {K = K} {R = R} {order = order} read empty)
+
+-- the records of a volume of this number and so many blocks, where each table is in form
+abbrev pub all_records : ℕ → ℕ → Option (FinMap text_cmp ℕ) → Option (FinMap part_cmp PartRecord) → Option (FinMap notice_cmp Notice) → Option (FinMap text_cmp Release) → Option Records
+all_records number blocks (Some registries) (Some parts) (Some notices) (Some releases) =
+    Some (record { number = number; blocks = blocks; registries = registries; parts = parts; notices = notices; releases = releases })
+all_records _ _ _ _ _ _ = None
+
+abbrev pub records_in : ℕ → ℕ → Rows → Option Records
+records_in number blocks rows =
+    all_records number blocks (gathered registry_in rows.registries) (gathered part_in rows.parts) (gathered notice_in rows.notices) (gathered release_in rows.handovers)
+
+abbrev pub in_form_or : Damage → Option Records → Form
+in_form_or why None = OutOfForm why
+in_form_or why (Some records) = InForm records
+
+-- the schema's number is known
+abbrev pub is_known : MetaRow → Bool
+is_known row = is_number 1 row.schema_no
+
+abbrev pub are_none : List MetaRow → Bool
+are_none [] = true
+are_none (_ ∷ _) = false
+
+abbrev pub form_after : List MetaRow → Rows → Form
+form_after [] rows = NoVault
+form_after (meta ∷ others) rows =
+    if is_known meta then
+        (if is_meta meta && are_none others then in_form_or damage.Form (records_in (number_in meta.number) (natural meta.blocks) rows) else OutOfForm damage.Form)
+    else OutOfForm damage.Schema
+
+abbrev pub form_by : Option (List MetaRow) → Rows → Form
+form_by None rows = NoVault
+form_by (Some metas) rows = form_after metas rows
+
+-- what the rows of the tables stand for
+unfoldable pub form_of : Rows → Form
+form_of rows = form_by rows.meta rows

@@ -1,0 +1,29 @@
+-- By what records are found: the keys of the records, and their orders.
+use Rattle.std.specs.Prelude.{ℕ, List}
+use Rattle.std.specs.declared.cmp.Ordering.{Ordering}
+use Rattle.std.specs.Ordering.{nat_cmp, ordering_then}
+use Rattle.std.specs.Cmp.Lexicographic.{slice_cmp}
+
+-- texts in the order of their bytes
+abbrev pub text_cmp : List ℕ → List ℕ → Ordering
+text_cmp = slice_cmp nat_cmp
+
+-- the place of a part: a revision of a registry's deposit of a day, and the place in its series
+pub record PartKey : Type 0 where
+  pub tld : List ℕ
+  pub day : ℕ
+  pub rev : ℕ
+  pub part : ℕ
+
+-- by registry, day, revision and place in the series
+abbrev pub part_cmp : PartKey → PartKey → Ordering
+part_cmp a b = ordering_then (text_cmp a.tld b.tld) (ordering_then (nat_cmp a.day b.day) (ordering_then (nat_cmp a.rev b.rev) (nat_cmp a.part b.part)))
+
+-- the number of a notice among those of its registry
+pub record NoticeKey : Type 0 where
+  pub tld : List ℕ
+  pub number : ℕ
+
+-- by registry and number
+abbrev pub notice_cmp : NoticeKey → NoticeKey → Ordering
+notice_cmp a b = ordering_then (text_cmp a.tld b.tld) (nat_cmp a.number b.number)

@@ -1,0 +1,65 @@
+-- What a custody records (Specification 2, Part B): registries, parts of deposits, notices, and releases. The bytes of a part are not here, but where they lie.
+use Rattle.std.specs.Prelude.{ℕ, List, Option}
+use Rattle.std.specs.FinMap as map
+use Rattle.std.specs.FinMap.{FinMap}
+use Rattle.deposit_name.specs.declared.kinds.Kind.{Kind}
+use Rattle.deposit_name.specs.Name.{Name}
+use Rattle.desk.specs.declared.notices.NoticeKind.{NoticeKind}
+use Rattle.desk.specs.declared.grounds.Ground.{Ground}
+use Rattle.vault_volume.specs.declared.extent.Extent.{Extent}
+use Rattle.custody_records.specs.Keys.{text_cmp, PartKey, part_cmp, NoticeKey, notice_cmp}
+
+-- a part: its kind, when it was received, its length and SHA-256, and the extents of its bytes
+pub record PartRecord : Type 0 where
+  pub kind : Kind
+  pub received : ℕ
+  pub len : ℕ
+  pub digest : List ℕ
+  -- none where the bytes are dropped (Part B section 5)
+  pub extents : Option (List Extent)
+
+-- a notice (Part B section 7)
+pub record Notice : Type 0 where
+  pub day : ℕ
+  pub at : ℕ
+  pub kind : NoticeKind
+
+-- deposits of a registry handed over on a ground (Part B section 6), by the names of their parts
+pub record Release : Type 0 where
+  pub tld : List ℕ
+  pub reason : Ground
+  pub at : ℕ
+  pub names : List (List ℕ)
+
+-- the records, and the number and the blocks of the volume that they belong to
+pub record Records : Type 0 where
+  pub number : ℕ
+  pub blocks : ℕ
+  -- the first day of each registry
+  pub registries : FinMap text_cmp ℕ
+  pub parts : FinMap part_cmp PartRecord
+  pub notices : FinMap notice_cmp Notice
+  -- by reference
+  pub releases : FinMap text_cmp Release
+
+-- where nothing is recorded yet
+abbrev pub new_records : ℕ → ℕ → Records
+new_records number blocks = record { number = number; blocks = blocks; registries = map.empty; parts = map.empty; notices = map.empty; releases = map.empty }
+
+-- the key of the part of a name
+abbrev pub key_of : Name → PartKey
+key_of name = record { tld = name.tld; day = name.day; rev = name.rev; part = name.part }
+
+-- ---- one record more
+
+abbrev pub with_registry : Records → List ℕ → ℕ → Records
+with_registry records tld first_day = record records { registries = map.insert records.registries tld first_day }
+
+abbrev pub with_part : Records → PartKey → PartRecord → Records
+with_part records key part = record records { parts = map.insert records.parts key part }
+
+abbrev pub with_notice : Records → NoticeKey → Notice → Records
+with_notice records key notice = record records { notices = map.insert records.notices key notice }
+
+abbrev pub with_release : Records → List ℕ → Release → Records
+with_release records reference release = record records { releases = map.insert records.releases reference release }
