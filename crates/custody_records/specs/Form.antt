@@ -13,7 +13,9 @@ use Rattle.schedule.specs.Schedule.{day_of, year_after}
 use Rattle.deposit_name.specs.declared.kinds.Kind.{Kind}
 use Rattle.deposit_name.specs.declared.kinds.Kind.TheVariants.{Full, Diff}
 use Rattle.deposit_name.specs.Identifiers.{is_tld_byte, is_reference_byte}
+use Rattle.deposit_name.specs.Name.{kind_text}
 use Rattle.desk.specs.Checks.{check_number}
+use Rattle.desk.specs.Grounds.{ground_text}
 use Rattle.desk.specs.declared.checks.Check.{Check}
 use Rattle.desk.specs.declared.checks.Check.TheVariants.{Frame, Envelope, Name, Statement, Weekday, PrevId, IdTaken, Menu, Files, Table, Counts, References, Deletes}
 use Rattle.desk.specs.declared.notices.NoticeKind.{NoticeKind}
@@ -82,7 +84,7 @@ registry_in row = if is_tld row.tld && is_day row.first_day then Some (row.tld, 
 -- ---- parts
 
 abbrev pub kind_in : List ℕ → Option Kind
-kind_in text = if bytes_eq text (codes "full") then Some Full else if bytes_eq text (codes "diff") then Some Diff else None
+kind_in text = find (λ kind. bytes_eq text (kind_text kind)) (Full ∷ Diff ∷ [])
 
 -- extents, of which start and count are four bytes each, the greatest first
 abbrev pub extents_of : List ℕ → Option (List Extent)
@@ -135,27 +137,21 @@ notice_in row = if is_tld row.tld && (is_within 1 9_223_372_036_854_775_807 row.
 
 -- ---- releases
 
-abbrev pub ground_in : List ℕ → Option Ground
-ground_in text =
-    if bytes_eq text (codes "operator") then Some Operator
-    else if bytes_eq text (codes "termination") then Some Termination
-    else if bytes_eq text (codes "no_notices") then Some NoNotices
-    else if bytes_eq text (codes "sunday_failed") then Some SundayFailed
-    else if bytes_eq text (codes "five_failed") then Some FiveFailed
-    else if bytes_eq text (codes "insolvency") then Some Insolvency
-    else if bytes_eq text (codes "critical") then Some Critical
-    else if bytes_eq text (codes "order") then Some Order
-    else if bytes_eq text (codes "audit") then Some Audit
-    else None
+-- the grounds in their order
+abbrev pub grounds : List Ground
+grounds = Operator ∷ Termination ∷ NoNotices ∷ SundayFailed ∷ FiveFailed ∷ Insolvency ∷ Critical ∷ Order ∷ Audit ∷ []
 
--- the lines of a text, each of which ends with a line feed
-abbrev pub lines_after : List ℕ → List ℕ → Option (List (List ℕ))
-lines_after [] [] = Some []
-lines_after (_ ∷ _) [] = None
-lines_after line (byte ∷ text) = if byte == 10 then option_map (λ lines. line ∷ lines) (lines_after [] text) else lines_after (line ++ byte ∷ []) text
+abbrev pub ground_in : List ℕ → Option Ground
+ground_in text = find (λ reason. bytes_eq text (ground_text reason)) grounds
+
+-- the lines of a text, each of which ends with a line feed, after the bytes of the first line
+abbrev pub lines_from : List ℕ → List ℕ → Option (List (List ℕ))
+lines_from [] [] = Some []
+lines_from [] (_ ∷ _) = None
+lines_from (byte ∷ text) line = if byte == 10 then option_map (λ lines. line ∷ lines) (lines_from text []) else lines_from text (line ++ byte ∷ [])
 
 abbrev pub lines_in : List ℕ → Option (List (List ℕ))
-lines_in = lines_after []
+lines_in text = lines_from text []
 
 abbrev pub release_in : HandoverRow → Option (List ℕ × Release)
 release_in row = if is_reference row.reference && (is_tld row.tld && is_moment row.at) then
@@ -187,38 +183,39 @@ pub data Form : Type 0 where
 abbrev pub gathered : {X K R : Type 0} {order : K → K → Ordering} → (X → Option (K × R)) → Option (List X) → Option (FinMap order R)
 gathered {X} {K} {R} {order} read = option_and_then (gather {X = X} {K = K} {R = R} {order = order} read empty)
 
--- the records of a volume of this number and so many blocks
+-- the records of a volume of this number and so many blocks, where each table is in form
+abbrev pub all_records : ℕ → ℕ → Option (FinMap text_cmp ℕ) → Option (FinMap part_cmp PartRecord) → Option (FinMap notice_cmp Notice) → Option (FinMap text_cmp Release) → Option Records
+all_records number blocks (Some registries) (Some parts) (Some notices) (Some releases) =
+    Some (record { number = number; blocks = blocks; registries = registries; parts = parts; notices = notices; releases = releases })
+all_records _ _ _ _ _ _ = None
+
 abbrev pub records_in : ℕ → ℕ → Rows → Option Records
 records_in number blocks rows =
-    option_and_then (λ (registries : FinMap text_cmp ℕ).
-    option_and_then (λ (parts : FinMap part_cmp PartRecord).
-    option_and_then (λ (notices : FinMap notice_cmp Notice).
-    option_map (λ (releases : FinMap text_cmp Release).
-        record { number = number; blocks = blocks; registries = registries; parts = parts; notices = notices; releases = releases })
-    (gathered release_in rows.handovers)) (gathered notice_in rows.notices)) (gathered part_in rows.parts)) (gathered registry_in rows.registries)
+    all_records number blocks (gathered registry_in rows.registries) (gathered part_in rows.parts) (gathered notice_in rows.notices) (gathered release_in rows.handovers)
 
 abbrev pub in_form_or : Damage → Option Records → Form
 in_form_or why None = OutOfForm why
 in_form_or why (Some records) = InForm records
 
+-- the schema's number is known
+abbrev pub is_known : MetaRow → Bool
+is_known row = is_number 1 row.schema_no
+
+abbrev pub are_none : List MetaRow → Bool
+are_none [] = true
+are_none (_ ∷ _) = false
+
 abbrev pub form_after : List MetaRow → Rows → Form
 form_after [] rows = NoVault
 form_after (meta ∷ others) rows =
-    if row_is_known meta then
-        (if is_meta meta && is_last others then in_form_or damage.Form (records_in (number_in meta.number) (natural meta.blocks) rows) else OutOfForm damage.Form)
+    if is_known meta then
+        (if is_meta meta && are_none others then in_form_or damage.Form (records_in (number_in meta.number) (natural meta.blocks) rows) else OutOfForm damage.Form)
     else OutOfForm damage.Schema
-  where
-    row_is_known : MetaRow → Bool
-    row_is_known meta = is_number 1 meta.schema_no
 
-    is_last : List MetaRow → Bool
-    is_last [] = true
-    is_last (_ ∷ _) = false
+abbrev pub form_by : Option (List MetaRow) → Rows → Form
+form_by None rows = NoVault
+form_by (Some metas) rows = form_after metas rows
 
 -- what the rows of the tables stand for
 unfoldable pub form_of : Rows → Form
-form_of rows = by rows.meta
-  where
-    by : Option (List MetaRow) → Form
-    by None = NoVault
-    by (Some metas) = form_after metas rows
+form_of rows = form_by rows.meta rows

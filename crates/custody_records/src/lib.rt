@@ -3,5 +3,27 @@
 #![tactic(auto)]
 
 mod damage;
+mod errors;
+mod extents;
+mod fields;
+mod keys;
+mod meta;
+mod names;
+mod notices;
+mod parts;
+mod records;
+mod registries;
+mod releases;
+mod tables;
 
 pub use damage::Damage;
+pub use errors::RowError;
+pub use extents::write_blob;
+pub use keys::{NoticeKey, PartKey};
+pub use meta::{Meta, write_number};
+pub use names::Names;
+pub use notices::NoticeColumns;
+pub use parts::{Part, PartColumns};
+pub use records::Records;
+pub use registries::{Registry, read_registry};
+pub use releases::{Release, ReleaseColumns};

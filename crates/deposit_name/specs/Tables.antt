@@ -1,4 +1,4 @@
--- The tables of a deposit.
+-- The tables of a deposit (the CSV model of RFC 9022).
 use Rattle.std.specs.Prelude.{ℕ, List, codes, Option, Some, None, if◌then◌else◌, Bool, true, false}
 use Rattle.std.specs.Str.{bytes_eq}
 use Rattle.deposit_name.specs.declared.table.TableName.{TableName}

@@ -3,7 +3,7 @@ ghost use Rattle.std.specs.Prelude.{◌≡◌, Some, IfSome};
 
 use std::fmt;
 
-/// A table of a deposit: a file of the CSV model of RFC 9022.
+/// A table of a deposit: a file of the CSV model of RFC 9022. Tables are ordered as a deposit lists them.
 #[derive(Clone, Copy, Debug, PartialEq, Eq, PartialOrd, Ord, Hash)]
 pub enum TableName {
     Domain,
@@ -30,6 +30,7 @@ impl TableName {
         TableName::named(t)
     }
 
+    // That this is the table with that name, and the only one, follows.
     #[tactic(auto, unfolding(crate::specs::Tables::table_at))]
     fn named(t: &str) -> Option<TableName>
         ensures { result ≡ table_at t.now }

@@ -1,5 +1,6 @@
 -- The checks of a deposit, by their numbers.
-use Rattle.std.specs.Prelude.{ℕ}
+use Rattle.std.specs.Prelude.{ℕ, List}
+use Rattle.schedule.specs.Text.{two_digits}
 use Rattle.desk.specs.declared.checks.Check.{Check}
 use Rattle.desk.specs.declared.checks.Check.TheVariants.{Frame, Envelope, Name, Statement, Weekday, PrevId, IdTaken, Menu, Files, Table, Counts, References, Deletes}
 
@@ -17,3 +18,7 @@ check_number Table = 10
 check_number Counts = 11
 check_number References = 12
 check_number Deletes = 13
+
+-- its number in two digits
+abbrev pub check_text : Check → List ℕ
+check_text check = two_digits (check_number check)

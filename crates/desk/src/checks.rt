@@ -1,6 +1,8 @@
 //! The checks of a deposit.
 ghost use Rattle.std.specs.Prelude.{◌≡◌, ℕ, Some, IfSome};
-ghost use Rattle.desk.specs.Checks.{check_number};
+ghost use Rattle.desk.specs.Checks.{check_number, check_text};
+
+use std::fmt;
 
 /// A check of a deposit, in the order in which they are made: the verdict names the first that fails.
 #[derive(Clone, Copy, Debug, PartialEq, Eq, PartialOrd, Ord, Hash)]
@@ -76,5 +78,34 @@ impl Check {
             13 => Some(Check::Deletes),
             _ => None,
         }
+    }
+
+    /// Its number in two digits.
+    pub fn as_str(self) -> &'static str
+        ensures { result.now ≡ check_text self }
+    {
+        match self {
+            Check::Frame => "01",
+            Check::Envelope => "02",
+            Check::Name => "03",
+            Check::Statement => "04",
+            Check::Weekday => "05",
+            Check::PrevId => "06",
+            Check::IdTaken => "07",
+            Check::Menu => "08",
+            Check::Files => "09",
+            Check::Table => "10",
+            Check::Counts => "11",
+            Check::References => "12",
+            Check::Deletes => "13",
+        }
+    }
+}
+
+impl fmt::Display for Check {
+    ghost output = { λ check. Some (check_text check) };
+
+    fn fmt<W: fmt::Write>(&self, f: &mut fmt::Formatter<W>) -> fmt::Result {
+        f.pad(self.as_str())
     }
 }

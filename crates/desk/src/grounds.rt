@@ -2,6 +2,8 @@
 ghost use Rattle.std.specs.Prelude.{◌≡◌, Some, IfSome};
 ghost use Rattle.desk.specs.Grounds.{ground_text};
 
+use std::fmt;
+
 /// A ground of a release (Specification 2, Part B section 6).
 #[derive(Clone, Copy, Debug, PartialEq, Eq, Hash)]
 pub enum Ground {
@@ -60,5 +62,13 @@ impl Ground {
             Ground::Order => "order",
             Ground::Audit => "audit",
         }
+    }
+}
+
+impl fmt::Display for Ground {
+    ghost output = { λ reason. Some (ground_text reason) };
+
+    fn fmt<W: fmt::Write>(&self, f: &mut fmt::Formatter<W>) -> fmt::Result {
+        f.pad(self.as_str())
     }
 }

@@ -8,4 +8,4 @@ mod notices;
 
 pub use checks::Check;
 pub use grounds::Ground;
-pub use notices::NoticeKind;
+pub use notices::{Notice, NoticeKind};

@@ -1,0 +1,13 @@
+pub mod NameReading
+pub mod Orders
+pub mod MapValues
+pub mod Series
+pub mod SameValues
+pub mod Keeping
+pub mod Histories
+pub mod Retries
+pub mod Received
+pub mod Heads
+pub mod Forms
+pub mod Stored
+pub mod Damages

@@ -1,0 +1,59 @@
+-- What is kept with its bytes was received so.
+use Rattle.std.proofs.Common.{◌≡◌, ℕ, List, [], ◌∷◌, ◌++◌, Option, Some, None, Bool, true, false, ◌⊎◌, inl, inr, refl, sym, ◌∙◌, ap, subst, cond, Ok}
+use Rattle.std.specs.Ordering.{eq_by_cmp}
+use Rattle.std.specs.Cmp.{Equal-is}
+use Rattle.std.specs.FinMap.{get, get-insert}
+use Rattle.deposit_name.specs.declared.kinds.Kind.{Kind}
+use Rattle.deposit_name.specs.Name.{Name}
+use Rattle.custody_records.specs.Keys.{PartKey, part_cmp}
+use Rattle.custody_records.specs.Records.{key_of}
+use Rattle.custody_machine.specs.Names.{read_name}
+use Rattle.custody_machine.specs.State.{State, Part, Held}
+use Rattle.custody_machine.specs.Machine.{Command, Register, Receive, Entry, Ruling, Refuse, Accept, Reply, step, state_of, state_after, after, recorded, received_part, with_part, first_day_of}
+use Rattle.custody_machine.specs.History.{WasReceived, HeldAsReceived}
+use Rattle.custody_machine.proofs.Orders.{part_total, part_exact}
+use Rattle.custody_machine.proofs.Keeping.{Receives, receives, answered, registered, step_accepts, accept_inj}
+
+-- a new part is the one received, or another that was kept
+by_key : (s : State) (entries : List Entry) (key : PartKey) (part : Part) (bytes text others : List ℕ) (name : Name) (now : ℕ) → part.content ≡ Held bytes → read_name text ≡ Ok name
+    → get (with_part s (key_of name) (received_part name others now)).parts key ≡ Some part → (get s.parts key ≡ Some part) ⊎ WasReceived ((Receive text others, now) ∷ entries) key part bytes
+by_key s entries key part bytes text others name now held named there =
+    by (eq_by_cmp part_cmp key (key_of name)) refl (sym (get-insert part_total s.parts (key_of name) (received_part name others now) key) ∙ there)
+  where
+    by : (b : Bool) → eq_by_cmp part_cmp key (key_of name) ≡ b → cond b (Some (received_part name others now)) (get s.parts key) ≡ Some part → (get s.parts key ≡ Some part) ⊎ WasReceived ((Receive text others, now) ∷ entries) key part bytes
+    by true t m =
+        let one : key ≡ key_of name = part_exact key (key_of name) ((Equal-is (part_cmp key (key_of name))).0 t) in
+        let made : received_part name others now ≡ part = cc in
+        let content : Held others ≡ Held bytes = ap (λ (p : Part). p.content) made ∙ held in
+        let all : others ≡ bytes = cc in
+        let moment : now ≡ part.received = ap (λ (p : Part). p.received) made in
+        let kind : name.kind ≡ part.kind = ap (λ (p : Part). p.kind) made in
+        let entry : ◌≡◌ {A = Entry} (Receive text others, now) (Receive text bytes, part.received) = λ i. (Receive text (all i), moment i) in
+        inr ([], entries, text, name, (λ i. entry i ∷ entries), named, sym one, kind)
+    by false t m = inl m
+
+-- a step keeps the part, or received it
+by_step : (s : State) (command : Command) (now : ℕ) (rest : List Entry) (key : PartKey) (part : Part) (bytes : List ℕ) (reply : Reply) (new : State) → part.content ≡ Held bytes → step s command now ≡ Accept reply new → get new.parts key ≡ Some part
+    → (get s.parts key ≡ Some part) ⊎ WasReceived ((command, now) ∷ rest) key part bytes
+by_step s (Register tld day) now rest key part bytes reply new held is at = by (first_day_of s tld) (step_accepts s (Register tld day) now reply new is).1
+  where
+    by : (o : Option ℕ) → registered s tld day now o ≡ Accept reply new → (get s.parts key ≡ Some part) ⊎ WasReceived ((Register tld day, now) ∷ rest) key part bytes
+    by (Some kept) r = inl (ap (λ (t : State). get t.parts key) (accept_inj _ _ _ _ r).1 ∙ at)
+    by None r = inl (ap (λ (t : State). get t.parts key) (accept_inj _ _ _ _ r).1 ∙ at)
+by_step s (Receive text others) now rest key part bytes reply new held is at = let h = receives s text others now reply new is in by h (recorded s h.name) h.ruling
+  where
+    by : (h : Receives s text others now reply new) (o : Option Part) → answered s h.name others now o ≡ Accept reply new → (get s.parts key ≡ Some part) ⊎ WasReceived ((Receive text others, now) ∷ rest) key part bytes
+    by h (Some kept) r = inl (ap (λ (t : State). get t.parts key) (accept_inj _ _ _ _ r).1 ∙ at)
+    by h None r = by_key s rest key part bytes text others h.name now held h.named (ap (λ (t : State). get t.parts key) (accept_inj _ _ _ _ r).1 ∙ at)
+
+by_ruling : (s : State) (entry : Entry) (rest : List Entry) (key : PartKey) (part : Part) (bytes : List ℕ) → part.content ≡ Held bytes → (r : Ruling) → step s entry.0 entry.1 ≡ r → get (state_of s r).parts key ≡ Some part → (get s.parts key ≡ Some part) ⊎ WasReceived (entry ∷ rest) key part bytes
+by_ruling s entry rest key part bytes held (Refuse q) is at = inl at
+by_ruling s entry rest key part bytes held (Accept reply new) is at = by_step s entry.0 entry.1 rest key part bytes reply new held is at
+
+pub held_as_received : (first : State) → HeldAsReceived first
+held_as_received s [] key part bytes at held = inl at
+held_as_received s (e ∷ entries) key part bytes at held = by (held_as_received (state_after s e.0 e.1) entries key part bytes at held)
+  where
+    by : (get (state_after s e.0 e.1).parts key ≡ Some part) ⊎ WasReceived entries key part bytes → (get s.parts key ≡ Some part) ⊎ WasReceived (e ∷ entries) key part bytes
+    by (inl here) = by_ruling s e entries key part bytes held (step s e.0 e.1) refl here
+    by (inr w) = inr (e ∷ w.0, w.1, w.2, w.3, (λ i. e ∷ w.4 i), w.5, w.6, w.7)

@@ -1,0 +1,271 @@
+-- The machine of commands: what each is answered, and what is kept after it (Specification 2, Part B).
+use Rattle.std.specs.Prelude.{◌≡◌, ◌≢◌, ℕ, ◌+◌, ◌-◌, List, [], ◌∷◌, length, Option, Some, None, option_map, Bool, true, false, not, ◌&&◌, ◌||◌, if◌then◌else◌, nat_lt, ◌==◌, is_some, is_none, unwrap_or, count_by, find, Result, Ok, Err}
+use Rattle.std.specs.List.{list_any}
+use Rattle.std.specs.Option.{option_and_then}
+use Rattle.std.specs.FinMap.{get, insert}
+use Rattle.schedule.specs.Schedule.{day_of}
+use Rattle.deposit_name.specs.declared.kinds.Kind.{Kind}
+use Rattle.deposit_name.specs.declared.faults.NameError.{NameError}
+use Rattle.deposit_name.specs.declared.faults.NameError.TheVariants as faults
+use Rattle.deposit_name.specs.Name.{Name}
+use Rattle.desk.specs.declared.notices.NoticeKind.{NoticeKind}
+use Rattle.desk.specs.declared.notices.NoticeKind.TheVariants.{Receipt, Failure, Absence}
+use Rattle.custody_records.specs.Keys.{PartKey}
+use Rattle.custody_records.specs.Records.{key_of}
+pub use Rattle.custody_machine.specs.declared.damage.Damage.{Damage}
+pub use Rattle.custody_machine.specs.declared.answers.Refusal.{Refusal}
+pub use Rattle.custody_machine.specs.declared.answers.Refusal.TheVariants.{NameRefused, RegistryUnknown, DateOutOfRange, Size, OtherBytes, DroppedAfterKeeping, RevisionNotDue, AlreadyStated, TypeDiffers, PartOutOfOrder, VolumeFull}
+pub use Rattle.custody_machine.specs.declared.answers.Fault.{Fault}
+pub use Rattle.custody_machine.specs.declared.answers.Fault.TheVariants.{NoMemory, VolumeFailed, StoreFailed, Closed, Damaged}
+use Rattle.custody_machine.specs.declared.damage.Damage.TheVariants.{Digest}
+use Rattle.custody_machine.specs.Names.{is_same_text, read_name}
+use Rattle.custody_machine.specs.SameValues.{is_same_kind, is_same_fault}
+use Rattle.custody_machine.specs.State.{State, Part, Content, Held, Dropped, places, at_place, has_notice}
+
+-- ---- what is asked and answered
+
+pub data Command : Type 0 where
+  -- takes on a registry, whose deposits begin on a day
+  Register : (tld : List ℕ) → (first_day : ℕ) → Command
+  -- takes a part of a deposit under its file name (Part A section 5)
+  Receive : (name : List ℕ) → (bytes : List ℕ) → Command
+
+-- The refusals that the state alone decides, in their order: the first that stands decides.
+abbrev pub refusals : List Refusal
+refusals = NameRefused faults.Suffix ∷ NameRefused faults.Pieces ∷ NameRefused faults.Tld ∷ NameRefused faults.Date ∷ NameRefused faults.Kind ∷ NameRefused faults.Part ∷ NameRefused faults.Revision
+    ∷ RegistryUnknown ∷ DateOutOfRange ∷ Size ∷ OtherBytes ∷ DroppedAfterKeeping ∷ RevisionNotDue ∷ AlreadyStated ∷ TypeDiffers ∷ PartOutOfOrder ∷ []
+
+-- the record that a command made, or found made
+pub data Record : Type 0 where
+  OfRegistry : (tld : List ℕ) → (first_day : ℕ) → Record
+  OfPart : PartKey → Part → Record
+
+pub record Reply : Type 0 where
+  pub entry : Record
+  pub is_repeat : Bool
+
+pub data Ruling : Type 0 where
+  Refuse : Refusal → Ruling
+  Accept : Reply → State → Ruling
+
+-- ---- the state, as the rules read it
+
+abbrev pub max_part_len : ℕ
+max_part_len = 1_048_576
+
+abbrev pub first_day_of : State → List ℕ → Option ℕ
+first_day_of state tld = get state.registries tld
+
+abbrev pub part_at : State → PartKey → Option Part
+part_at state key = get state.parts key
+
+abbrev pub of_kind : Kind → Part → Option Part
+of_kind kind part = if is_same_kind part.kind kind then Some part else None
+
+-- the part that is recorded under a name. The name has a kind: a part of another kind in the same place is not recorded under it
+abbrev pub recorded : State → Name → Option Part
+recorded state name = option_and_then (of_kind name.kind) (part_at state (key_of name))
+
+-- the part at a place of a name's revision
+abbrev pub part_in : State → Name → ℕ → Option Part
+part_in state name place = part_at state (at_place (key_of name) place)
+
+abbrev pub has_other_kind : Kind → Option Part → Bool
+has_other_kind kind None = false
+has_other_kind kind (Some part) = not (is_same_kind part.kind kind)
+
+abbrev pub is_receipt : NoticeKind → Bool
+is_receipt (Receipt _ _) = true
+is_receipt (Failure _ _ _) = false
+is_receipt Absence = false
+
+abbrev pub is_verdict_of : ℕ → NoticeKind → Bool
+is_verdict_of rev (Receipt of _) = of == rev
+is_verdict_of rev (Failure of _ _) = of == rev
+is_verdict_of rev Absence = false
+
+abbrev pub is_failure_of : ℕ → NoticeKind → Bool
+is_failure_of rev (Receipt _ _) = false
+is_failure_of rev (Failure of _ _) = of == rev
+is_failure_of rev Absence = false
+
+abbrev pub is_held_with : List ℕ → Content → Bool
+is_held_with bytes (Held kept) = is_same_text kept bytes
+is_held_with bytes (Dropped _) = false
+
+abbrev pub is_held_with_other : List ℕ → Content → Bool
+is_held_with_other bytes (Held kept) = not (is_same_text kept bytes)
+is_held_with_other bytes (Dropped _) = false
+
+abbrev pub holds_other : List ℕ → Option Part → Bool
+holds_other bytes None = false
+holds_other bytes (Some part) = is_held_with_other bytes part.content
+
+abbrev pub is_gone : Content → Bool
+is_gone (Held _) = false
+is_gone (Dropped _) = true
+
+abbrev pub is_dropped : Option Part → Bool
+is_dropped None = false
+is_dropped (Some part) = is_gone part.content
+
+-- ---- refusals
+
+-- whether a refusal stands for the part of a name
+abbrev pub receive_stands : State → Name → List ℕ → ℕ → Refusal → Bool
+receive_stands state name bytes now (NameRefused _) = false
+receive_stands state name bytes now RegistryUnknown = is_none (first_day_of state name.tld)
+receive_stands state name bytes now DateOutOfRange = is_none (recorded state name) && (nat_lt name.day (unwrap_or (first_day_of state name.tld) 0) || nat_lt (day_of now) name.day)
+receive_stands state name bytes now Size = length bytes == 0 || nat_lt max_part_len (length bytes)
+receive_stands state name bytes now OtherBytes = holds_other bytes (recorded state name)
+receive_stands state name bytes now DroppedAfterKeeping = is_dropped (recorded state name)
+-- the day has a receipt, or the revision before has no failure
+receive_stands state name bytes now RevisionNotDue =
+    is_none (recorded state name) && (has_notice state.notices name.tld name.day is_receipt || (nat_lt 0 name.rev && not (has_notice state.notices name.tld name.day (is_failure_of (name.rev - 1)))))
+receive_stands state name bytes now AlreadyStated = is_none (recorded state name) && has_notice state.notices name.tld name.day (is_verdict_of name.rev)
+receive_stands state name bytes now TypeDiffers = is_none (recorded state name) && list_any (λ place. has_other_kind name.kind (part_in state name place)) places
+receive_stands state name bytes now PartOutOfOrder = is_none (recorded state name) && not (count_by (λ place. is_some (part_in state name place)) places + 1 == name.part)
+receive_stands state name bytes now VolumeFull = false
+
+abbrev pub refuses_name : NameError → Refusal → Bool
+refuses_name fault (NameRefused other) = is_same_fault fault other
+refuses_name fault _ = false
+
+abbrev pub named_stands : State → Result Name NameError → List ℕ → ℕ → Refusal → Bool
+named_stands state (Err fault) bytes now refusal = refuses_name fault refusal
+named_stands state (Ok name) bytes now refusal = receive_stands state name bytes now refusal
+
+-- whether a refusal stands for a command
+abbrev pub stands : State → Command → ℕ → Refusal → Bool
+stands state (Register tld first_day) now refusal = false
+stands state (Receive text bytes) now refusal = named_stands state (read_name text) bytes now refusal
+
+-- the least that stands
+abbrev pub refusal_of : State → Command → ℕ → Option Refusal
+refusal_of state command now = find (stands state command now) refusals
+
+-- ---- repeats
+
+abbrev pub held_with : List ℕ → Part → Option Part
+held_with bytes part = if is_held_with bytes part.content then Some part else None
+
+-- the part that is held under a name with these bytes
+abbrev pub kept_under : State → Result Name NameError → List ℕ → Option Record
+kept_under state (Err fault) bytes = None
+kept_under state (Ok name) bytes = option_map (λ (part : Part). OfPart (key_of name) part) (option_and_then (held_with bytes) (recorded state name))
+
+-- The record that answers a command which is a repeat. Of a registration the first day is not compared, of a part each byte is.
+abbrev pub kept : State → Command → Option Record
+kept state (Register tld first_day) = option_map (λ (day : ℕ). OfRegistry tld day) (first_day_of state tld)
+kept state (Receive text bytes) = kept_under state (read_name text) bytes
+
+-- ---- effects
+
+abbrev pub with_registry : State → List ℕ → ℕ → State
+with_registry state tld first_day = record state { registries = insert state.registries tld first_day }
+
+abbrev pub with_part : State → PartKey → Part → State
+with_part state key part = record state { parts = insert state.parts key part }
+
+abbrev pub received_part : Name → List ℕ → ℕ → Part
+received_part name bytes now = record { kind = name.kind; received = now; content = Held bytes }
+
+abbrev pub received : State → Result Name NameError → List ℕ → ℕ → Ruling
+received state (Err fault) bytes now = Refuse (NameRefused fault)
+received state (Ok name) bytes now = Accept (record { entry = OfPart (key_of name) (received_part name bytes now); is_repeat = false }) (with_part state (key_of name) (received_part name bytes now))
+
+-- what a command does that is no repeat
+abbrev pub effect : State → Command → ℕ → Ruling
+effect state (Register tld first_day) now = Accept (record { entry = OfRegistry tld first_day; is_repeat = false }) (with_registry state tld first_day)
+effect state (Receive text bytes) now = received state (read_name text) bytes now
+
+abbrev pub unless_kept : State → Option Record → Ruling → Ruling
+unless_kept state (Some entry) ruling = Accept (record { entry = entry; is_repeat = true }) state
+unless_kept state None ruling = ruling
+
+abbrev pub unless_refused : Option Refusal → Ruling → Ruling
+unless_refused (Some refusal) ruling = Refuse refusal
+unless_refused None ruling = ruling
+
+-- what the state alone decides of a command at a moment
+unfoldable pub step : State → Command → ℕ → Ruling
+step state command now = unless_refused (refusal_of state command now) (unless_kept state (kept state command) (effect state command now))
+
+-- the state after a ruling
+abbrev pub state_of : State → Ruling → State
+state_of old (Refuse _) = old
+state_of old (Accept _ new) = new
+
+abbrev pub state_after : State → Command → ℕ → State
+state_after old command now = state_of old (step old command now)
+
+-- a command with its moment
+abbrev pub Entry : Type 0
+Entry = Command × ℕ
+
+-- the state after commands in order, each at its moment
+abbrev pub after : State → List Entry → State
+after state [] = state
+after state (entry ∷ entries) = after (state_after state entry.0 entry.1) entries
+
+-- ---- what an open custody may answer
+
+pub data Answer : Type 0 where
+  Accepted : Reply → Answer
+  Refused : Refusal → Answer
+  Failed : Fault → Answer
+
+-- a refusal that is found before anything takes memory
+abbrev pub is_early : Refusal → Bool
+is_early (NameRefused _) = true
+is_early RegistryUnknown = true
+is_early DateOutOfRange = true
+is_early Size = true
+is_early _ = false
+
+abbrev pub takes_room : Command → Bool
+takes_room (Register _ _) = false
+takes_room (Receive _ _) = true
+
+-- The one free choice: a new part may be refused for want of room.
+abbrev pub MayRefuse : Command → Ruling → Refusal → Type 0
+MayRefuse command (Refuse least) refusal = refusal ≡ least
+MayRefuse command (Accept reply new) refusal = (refusal ≡ VolumeFull) × (takes_room command ≡ true) × (reply.is_repeat ≡ false)
+
+abbrev pub read_by : Option Refusal → Result Name NameError → List PartKey
+read_by None read = []
+read_by (Some refusal) (Err fault) = []
+read_by (Some refusal) (Ok name) = if is_other_bytes refusal then key_of name ∷ [] else []
+  where
+    is_other_bytes : Refusal → Bool
+    is_other_bytes OtherBytes = true
+    is_other_bytes _ = false
+
+-- The parts whose bytes decide a command: where other bytes are sent under a name, the part that is kept under it.
+abbrev pub reads : State → Command → ℕ → List PartKey
+reads state (Register tld first_day) now = []
+reads state (Receive text bytes) now = read_by (refusal_of state (Receive text bytes) now) (read_name text)
+
+abbrev pub MayFail : Ruling → List PartKey → Fault → Type 0
+MayFail (Refuse least) read NoMemory = is_early least ≡ false
+MayFail (Refuse least) read VolumeFailed = is_early least ≡ false
+MayFail (Refuse least) read StoreFailed = ⊥
+MayFail (Accept reply new) read NoMemory = Unit {0}
+MayFail (Accept reply new) read VolumeFailed = Unit {0}
+MayFail (Accept reply new) read StoreFailed = reply.is_repeat ≡ false
+MayFail ruling read Closed = ⊥
+-- where a part that is read has not its recorded digest
+MayFail ruling read (Damaged damage) = (damage ≡ Digest) × (read ≢ [])
+
+-- what an open custody in the old state may answer, and its state then
+abbrev pub Answers : State → Command → ℕ → Answer → State → Type 0
+Answers old command now (Accepted reply) new = step old command now ≡ Accept reply new
+Answers old command now (Refused refusal) new = MayRefuse command (step old command now) refusal × (new ≡ old)
+Answers old command now (Failed fault) new = MayFail (step old command now) (reads old command now) fault × (new ≡ old)
+
+-- ---- records
+
+-- the state has this record
+abbrev pub HasRecord : State → Record → Type 0
+HasRecord state (OfRegistry tld first_day) = get state.registries tld ≡ Some first_day
+HasRecord state (OfPart key part) = get state.parts key ≡ Some part

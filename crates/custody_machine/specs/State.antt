@@ -1,0 +1,46 @@
+-- What a custody keeps for its registries, over whole byte strings (ICANN Registry Agreement, Specification 2, Part B sections 4 to 7).
+use Rattle.std.specs.Prelude.{ℕ, List, [], ◌∷◌, Bool, ◌==◌, ◌&&◌}
+use Rattle.std.specs.List.{list_any}
+use Rattle.std.specs.FinMap as map
+use Rattle.std.specs.FinMap.{FinMap, entries}
+use Rattle.deposit_name.specs.declared.kinds.Kind.{Kind}
+use Rattle.desk.specs.declared.notices.NoticeKind.{NoticeKind}
+use Rattle.custody_records.specs.Keys.{text_cmp, PartKey, part_cmp, NoticeKey, notice_cmp}
+use Rattle.custody_records.specs.Records.{Notice, Release}
+use Rattle.custody_machine.specs.Names.{is_same_text}
+
+-- what is kept of a part: its bytes, or after the keeping year its length (Part B section 5)
+pub data Content : Type 0 where
+  Held : (bytes : List ℕ) → Content
+  Dropped : (len : ℕ) → Content
+
+-- a part of a deposit, as it was received
+pub record Part : Type 0 where
+  pub kind : Kind
+  pub received : ℕ
+  pub content : Content
+
+pub record State : Type 0 where
+  -- the first day of each registry
+  pub registries : FinMap text_cmp ℕ
+  pub parts : FinMap part_cmp Part
+  -- by registry and number
+  pub notices : FinMap notice_cmp Notice
+  -- by reference
+  pub releases : FinMap text_cmp Release
+
+-- a new custody keeps nothing
+abbrev pub empty : State
+empty = record { registries = map.empty; parts = map.empty; notices = map.empty; releases = map.empty }
+
+-- the places in the series of a revision's parts
+abbrev pub places : List ℕ
+places = 1 ∷ 2 ∷ 3 ∷ 4 ∷ 5 ∷ 6 ∷ 7 ∷ 8 ∷ []
+
+-- another place of the same revision
+abbrev pub at_place : PartKey → ℕ → PartKey
+at_place key place = record { tld = key.tld; day = key.day; rev = key.rev; part = place }
+
+-- whether a notice of a registry's day passes a test
+abbrev pub has_notice : FinMap notice_cmp Notice → List ℕ → ℕ → (NoticeKind → Bool) → Bool
+has_notice notices tld day test = list_any (λ (entry : NoticeKey × Notice). is_same_text entry.0.tld tld && (entry.1.day == day && test entry.1.kind)) (entries notices)

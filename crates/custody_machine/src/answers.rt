@@ -1,0 +1,47 @@
+//! Why a command is not accepted.
+use crate::Damage;
+use deposit_name::NameError;
+use std::fmt;
+
+/// Why a command is refused: the first of these, in this order, that stands.
+#[derive(Clone, Copy, Debug, PartialEq, Eq, Hash)]
+pub enum Refusal {
+    /// The text is no deposit name.
+    NameRefused(NameError),
+    /// The top-level domain is not registered.
+    RegistryUnknown,
+    /// The day is before the registry's first day, or after today.
+    DateOutOfRange,
+    /// The part has no bytes, or more than 1,048,576.
+    Size,
+    /// The name is recorded with other bytes.
+    OtherBytes,
+    /// The name is recorded, and its bytes were dropped after the keeping year.
+    DroppedAfterKeeping,
+    /// The day has a receipt, or the revision before has no failure.
+    RevisionNotDue,
+    /// The revision has a notice.
+    AlreadyStated,
+    /// The revision has a part of another kind.
+    TypeDiffers,
+    /// The revision has not exactly the parts before this one.
+    PartOutOfOrder,
+    /// The volume has no room.
+    VolumeFull,
+}
+
+/// Why a command failed.
+#[derive(Clone, Copy, Debug, PartialEq, Eq, Hash)]
+pub enum Fault {
+    /// Memory was refused. Nothing was written.
+    NoMemory,
+    /// The volume failed. The custody is closed.
+    VolumeFailed,
+    /// The database failed. The custody is closed, and the command is found whole or not at all when
+    /// it is opened again.
+    StoreFailed,
+    /// The custody is closed.
+    Closed,
+    /// What is kept is damaged.
+    Damaged(Damage),
+}

@@ -1,0 +1,38 @@
+//! What holds of a custody, over all that may happen to it. The contracts of the calls cite the same
+//! definitions.
+ghost use Rattle.custody_machine.specs.Names.{IsReading};
+ghost use Rattle.custody_machine.specs.Damage.{IsRefinement};
+ghost use Rattle.custody_machine.specs.State.{State};
+ghost use Rattle.custody_machine.specs.History.{OpeningsAreRight, NothingIsTakenBack, AcceptedIsFound, HeldAsReceived};
+ghost use Rattle.custody_machine.specs.Retries.{ActsOnce, RepeatsAreAnswered, NothingIsRemoved, RepliesAreRecords, AcknowledgedIsKept};
+
+/// The name that the machine reads in a text is the one whose text it is; and a text that is none is
+/// refused by its first fault.
+pub fn law_read_name()
+    ensures { IsReading }
+{}
+
+/// A database and a volume that are damaged stand for no state, and any others for exactly one.
+pub fn law_damage()
+    ensures { IsRefinement }
+{}
+
+/// Wherever the custody is stopped, however often, opening it again gives what is kept after the
+/// commands that were acknowledged, in order, and of those that were running at a stop each one whole
+/// or not at all.
+pub fn law_histories()
+    ensures opens { (first : State) → OpeningsAreRight first }
+    ensures again { (first : State) → NothingIsTakenBack first }
+    ensures acknowledged { (first : State) → AcceptedIsFound first }
+    ensures received { (first : State) → HeldAsReceived first }
+    ensures kept { (first : State) → AcknowledgedIsKept first }
+{}
+
+/// A command that comes again, through whatever stops, acts once: it is answered by the record of its
+/// first acceptance, and changes nothing.
+pub fn law_retries()
+    ensures once { (first : State) → ActsOnce first }
+    ensures answered { (first : State) → RepeatsAreAnswered first }
+    ensures kept { NothingIsRemoved }
+    ensures replies { RepliesAreRecords }
+{}

@@ -1,0 +1,11 @@
+//! The command machine of a custody of registry data deposits: what a command is answered, what is
+//! kept after it, and what holds through stops.
+#![tactic(auto)]
+
+mod answers;
+mod damage;
+mod laws;
+
+pub use answers::{Fault, Refusal};
+pub use damage::Damage;
+pub use laws::{law_damage, law_histories, law_read_name, law_retries};

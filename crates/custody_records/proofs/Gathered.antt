@@ -1,0 +1,54 @@
+-- A table that is gathered row by row.
+use Rattle.std.proofs.Common.{◌≡◌, List, [], ◌∷◌, ◌++◌, Option, Some, None, Bool, true, false, cond, refl, sym, ◌∙◌, ap}
+use Rattle.std.specs.Prelude.{is_some, option_map}
+use Rattle.std.specs.Option.{option_and_then}
+use Rattle.std.specs.declared.cmp.Ordering.{Ordering}
+use Rattle.std.specs.FinMap.{FinMap, get, insert, empty}
+use Rattle.custody_records.specs.Rows.{and_then}
+use Rattle.custody_records.specs.Form.{gather, gathered}
+
+-- more rows are gathered after those before
+pub gather_append : {X K R : Type 0} {order : K → K → Ordering} (read : X → Option (K × R)) (so_far : FinMap order R) (rows more : List X)
+    → gather read so_far (rows ++ more) ≡ option_and_then (λ (m : FinMap order R). gather read m more) (gather read so_far rows)
+gather_append read so_far [] more = refl
+gather_append {X} {K} {R} {order} read so_far (row ∷ rows) more = by (λ (entry : K × R). gather_append read (insert so_far entry.0 entry.1) rows more) (read row)
+  where
+    by : ((entry : K × R) → gather read (insert so_far entry.0 entry.1) (rows ++ more) ≡ option_and_then (λ (m : FinMap order R). gather read m more) (gather read (insert so_far entry.0 entry.1) rows)) → (o : Option (K × R))
+        → option_and_then (λ (entry : K × R). cond (is_some (get so_far entry.0)) None (gather read (insert so_far entry.0 entry.1) (rows ++ more))) o
+        ≡ option_and_then (λ (m : FinMap order R). gather read m more) (option_and_then (λ (entry : K × R). cond (is_some (get so_far entry.0)) None (gather read (insert so_far entry.0 entry.1) rows)) o)
+    by rest None = refl
+    by rest (Some entry) = elim (is_some (get so_far entry.0)) as (λ b. cond b None (gather read (insert so_far entry.0 entry.1) (rows ++ more)) ≡ option_and_then (λ (m : FinMap order R). gather read m more) (cond b None (gather read (insert so_far entry.0 entry.1) rows))) [
+      | true ↦ refl
+      | false ↦ rest entry
+    ]
+
+-- a row more, whose key is not there, is a record more
+pub gather_push : {X K R : Type 0} {order : K → K → Ordering} (read : X → Option (K × R)) (so_far : FinMap order R) (rows : List X) (all : FinMap order R) (row : X) (key : K) (value : R)
+    → gather read so_far rows ≡ Some all → read row ≡ Some (key, value) → get all key ≡ None → gather read so_far (rows ++ row ∷ []) ≡ Some (insert all key value)
+gather_push {X} {K} {R} {order} read so_far rows all row key value before reads new =
+    gather_append read so_far rows (row ∷ [])
+    ∙ ap (option_and_then (λ (m : FinMap order R). gather read m (row ∷ []))) before
+    ∙ ap (option_and_then (λ (entry : K × R). cond (is_some (get all entry.0)) None (gather read (insert all entry.0 entry.1) []))) reads
+    ∙ ap (λ (o : Option R). cond (is_some o) None (Some (insert all key value))) new
+
+-- a row more that does not read, or whose key is there, leaves the table out of form
+pub gather_unread : {X K R : Type 0} {order : K → K → Ordering} (read : X → Option (K × R)) (so_far : FinMap order R) (rows : List X) (all : FinMap order R) (row : X)
+    → gather read so_far rows ≡ Some all → read row ≡ None → gather read so_far (rows ++ row ∷ []) ≡ None
+gather_unread {X} {K} {R} {order} read so_far rows all row before reads =
+    gather_append read so_far rows (row ∷ [])
+    ∙ ap (option_and_then (λ (m : FinMap order R). gather read m (row ∷ []))) before
+    ∙ ap (option_and_then (λ (entry : K × R). cond (is_some (get all entry.0)) None (gather read (insert all entry.0 entry.1) []))) reads
+
+pub gather_twice : {X K R : Type 0} {order : K → K → Ordering} (read : X → Option (K × R)) (so_far : FinMap order R) (rows : List X) (all : FinMap order R) (row : X) (key : K) (value old : R)
+    → gather read so_far rows ≡ Some all → read row ≡ Some (key, value) → get all key ≡ Some old → gather read so_far (rows ++ row ∷ []) ≡ None
+gather_twice {X} {K} {R} {order} read so_far rows all row key value old before reads there =
+    gather_append read so_far rows (row ∷ [])
+    ∙ ap (option_and_then (λ (m : FinMap order R). gather read m (row ∷ []))) before
+    ∙ ap (option_and_then (λ (entry : K × R). cond (is_some (get all entry.0)) None (gather read (insert all entry.0 entry.1) []))) reads
+    ∙ ap (λ (o : Option R). cond (is_some o) None (Some (insert all key value))) there
+
+-- a table that is there, and one row more
+pub gathered_push : {X K R : Type 0} {order : K → K → Ordering} (read : X → Option (K × R)) (table : Option (List X)) (all : FinMap order R) (row : X) (key : K) (value : R)
+    → gathered read table ≡ Some all → read row ≡ Some (key, value) → get all key ≡ None → gathered read (and_then row table) ≡ Some (insert all key value)
+gathered_push read None all row key value before reads new = cc
+gathered_push read (Some rows) all row key value before reads new = gather_push read empty rows all row key value before reads new

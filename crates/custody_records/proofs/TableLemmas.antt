@@ -1,0 +1,178 @@
+-- A table in the order of its keys is a finite map: what is found in it, and what a row more adds.
+use Rattle.std.proofs.Common.{◌≡◌, ◌⊎◌, inl, inr, ℕ, zero, suc, ◌+◌, ◌<◌, ◌≤◌, List, [], ◌∷◌, length, get_or, Bool, true, false, ◌&&◌, cond, Option, Some, None, Result, Ok, Err, refl, sym, ◌∙◌, ap, subst, arith, add-one}
+use Rattle.std.specs.Prelude.{T, option_map, is_some, OnOk, OnErr}
+use Rattle.std.specs.List as list
+use Rattle.std.specs.List.Sorted.{IsSearchInRange, IsBinarySearchResult, IsNonDecreasingBy}
+use Rattle.std.specs.Ordering.{is_lt, is_eq, ordering_reverse, ordering_index}
+use Rattle.std.specs.declared.cmp.Ordering.{Ordering}
+use Rattle.std.specs.declared.cmp.Ordering.TheVariants.{Less, Equal, Greater}
+use Rattle.std.specs.Cmp.{IsTotalOrder}
+use Rattle.std.specs.FinMap.{FinMap, get, insert, empty, entries, entries-insert, entries-from_sorted, get-from_sorted, same_entries_map, empty_of_len, len-entries, from_sorted}
+use Rattle.std.specs.FinMap.Entries.{find, put, is_sorted, below_all, by_order, is_sorted-put}
+use Rattle.std.proofs.lemmas.Bool.{cases_lt}
+use Rattle.std.proofs.lemmas.Cmp.{alike_right}
+use Rattle.std.proofs.lemmas.List.Sorted.{searchable_from_sorted}
+use Rattle.custody_records.specs.Tables.{entries_of, is_below_all, is_rising, row_at, table_map, IsAdded}
+
+both_true : (a b : Bool) → (a && b) ≡ true → (a ≡ true) × (b ≡ true)
+both_true true b e = (refl, e)
+both_true false b e = cc
+
+less_is : (o : Ordering) → is_lt o ≡ true → o ≡ Less
+less_is Less e = refl
+less_is Equal e = cc
+less_is Greater e = cc
+
+module _ {Row K : Type 0} (order : K → K → Ordering) (key : Row → K) where
+  -- ---- the entries
+
+  below_entries : {X : Type 0} (value : Row → X) (low : K) (rows : List Row) → below_all order low (entries_of key value rows) ≡ is_below_all order key low rows
+  below_entries value low [] = refl
+  below_entries value low (row ∷ rows) = ap (λ b. is_lt (order low (key row)) && b) (below_entries value low rows)
+
+  rising_entries : {X : Type 0} (value : Row → X) (rows : List Row) → is_sorted order (entries_of key value rows) ≡ is_rising order key rows
+  rising_entries value [] = refl
+  rising_entries value (row ∷ rows) = λ i. below_entries value (key row) rows i && rising_entries value rows i
+
+  sorted_entries : {X : Type 0} (value : Row → X) (rows : List Row) → is_rising order key rows ≡ true → T (is_sorted order (entries_of key value rows))
+  sorted_entries value rows rising = subst T (sym (rising_entries value rows ∙ rising)) tt
+
+  find_entries : {X : Type 0} (value : Row → X) (rows : List Row) (sought : K) → find order sought (entries_of key value rows) ≡ option_map value (row_at order key rows sought)
+  find_entries value [] sought = refl
+  find_entries {X} value (row ∷ rows) sought = by (is_eq (order sought (key row))) (find_entries value rows sought)
+    where
+      by : (b : Bool) → find order sought (entries_of key value rows) ≡ option_map value (row_at order key rows sought)
+          → cond b (Some (value row)) (find order sought (entries_of key value rows)) ≡ option_map value (cond b (Some row) (row_at order key rows sought))
+      by true rest = refl
+      by false rest = rest
+
+  -- what the map has is what the row has
+  pub get_table : {X : Type 0} (value : Row → X) (rows : List Row) (sought : K) → is_rising order key rows ≡ true → get (table_map order key value rows) sought ≡ option_map value (row_at order key rows sought)
+  unfolding table_map
+  get_table value rows sought rising = get-from_sorted order (entries_of key value rows) sought (sorted_entries value rows rising) ∙ find_entries value rows sought
+
+  pub empty_table : {X : Type 0} (value : Row → X) → table_map order key value [] ≡ empty
+  unfolding table_map
+  empty_table {X} value = empty_of_len (from_sorted {X = X} {R = order} []) (len-entries (from_sorted {X = X} {R = order} []) ∙ ap length (entries-from_sorted order [] tt))
+
+  -- ---- what a search finds
+
+  below_at : (low : K) (rows : List Row) (i : ℕ) (d : Row) → is_below_all order key low rows ≡ true → i < length rows → order low (key (get_or rows i d)) ≡ Less
+  below_at low [] i d below lt = absurd (omega arith)
+  below_at low (row ∷ rows) zero d below lt = less_is _ (both_true _ _ below).0
+  below_at low (row ∷ rows) (suc i) d below lt = below_at low rows i d (both_true (is_lt (order low (key row))) _ below).1 (omega arith)
+
+  rises : (rows : List Row) (i : ℕ) (d : Row) → is_rising order key rows ≡ true → suc i < length rows → order (key (get_or rows i d)) (key (get_or rows (suc i) d)) ≡ Less
+  rises [] i d rising lt = absurd (omega arith)
+  rises (row ∷ rows) zero d rising lt = below_at (key row) rows 0 d (both_true _ _ rising).0 (omega arith)
+  rises (row ∷ rows) (suc i) d rising lt = rises rows i d (both_true (is_below_all order key (key row) rows) _ rising).1 (omega arith)
+
+  module _ (o : IsTotalOrder order) where
+    turned : (x y : K) (r : Ordering) → order x y ≡ r → order y x ≡ ordering_reverse r
+    turned x y r e = o.antisymm y x ∙ ap ordering_reverse e
+
+    not_above : (rows : List Row) (i : ℕ) (d : Row) → is_rising order key rows ≡ true → suc i < length rows → is_lt (order (key (get_or rows (suc i) d)) (key (get_or rows i d))) ≡ false
+    not_above rows i d rising lt = ap is_lt (turned _ _ Less (rises rows i d rising lt))
+
+    pub answers_rise : (rows : List Row) (sought : K) → is_rising order key rows ≡ true → IsNonDecreasingBy (λ row. ordering_index (order (key row) sought)) rows
+    answers_rise rows sought rising = searchable_from_sorted o key rows sought (λ k d low lt.
+        rw add-one (not_above rows k d rising (omega arith)))
+
+    pub found_at : (rows : List Row) (sought : K) (i : ℕ) (d : Row) → is_rising order key rows ≡ true → i < length rows → order (key (get_or rows i d)) sought ≡ Equal → row_at order key rows sought ≡ Some (get_or rows i d)
+    found_at [] sought i d rising lt e = absurd (omega arith)
+    found_at (row ∷ rows) sought zero d rising lt e = ap (λ r. cond (is_eq r) (Some row) (row_at order key rows sought)) (turned _ _ Equal e)
+    found_at (row ∷ rows) sought (suc i) d rising lt e =
+        let split = both_true (is_below_all order key (key row) rows) (is_rising order key rows) rising in
+        let less : order (key row) sought ≡ Less = sym (alike_right o (key (get_or rows i d)) sought (key row) e) ∙ below_at (key row) rows i d split.0 (omega arith) in
+        ap (λ r. cond (is_eq r) (Some row) (row_at order key rows sought)) (turned _ _ Less less) ∙ found_at rows sought i d split.1 (omega arith) e
+
+    -- no row's key ties with the one that is sought
+    pub not_found : (rows : List Row) (sought : K) → ((i : ℕ) (d : Row) → i < length rows → is_eq (order (key (get_or rows i d)) sought) ≡ false) → row_at order key rows sought ≡ None
+    not_found [] sought apart = refl
+    not_found (row ∷ rows) sought apart =
+        ap (λ b. cond b (Some row) (row_at order key rows sought)) (is_eq_turned (order (key row) sought) (order sought (key row)) (turned _ _ _ refl) ∙ apart 0 row (omega arith))
+        ∙ not_found rows sought (λ i d lt. apart (suc i) d (omega arith))
+      where
+        is_eq_turned : (a b : Ordering) → b ≡ ordering_reverse a → is_eq b ≡ is_eq a
+        is_eq_turned Less b e = ap is_eq e
+        is_eq_turned Equal b e = ap is_eq e
+        is_eq_turned Greater b e = ap is_eq e
+
+    -- ---- a row more
+
+    put_added : {X : Type 0} (value : Row → X) (rows : List Row) (place : ℕ) (row : Row)
+        → ((i : ℕ) (d : Row) → i < place → i < length rows → order (key (get_or rows i d)) (key row) ≡ Less)
+        → ((i : ℕ) (d : Row) → place ≤ i → i < length rows → order (key (get_or rows i d)) (key row) ≡ Greater)
+        → put order (key row) (value row) (entries_of key value rows) ≡ entries_of key value (list.insert rows place row)
+    put_added value [] zero row below above = refl
+    put_added value [] (suc place) row below above = refl
+    put_added value (r ∷ rows) zero row below above =
+        ap (λ x. by_order x ((key row, value row) ∷ (key r, value r) ∷ entries_of key value rows) ((key r, value row) ∷ entries_of key value rows) ((key r, value r) ∷ put order (key row) (value row) (entries_of key value rows))) (turned _ _ Greater (above 0 row (omega arith) (omega arith)))
+    put_added value (r ∷ rows) (suc place) row below above =
+        ap (λ x. by_order x ((key row, value row) ∷ (key r, value r) ∷ entries_of key value rows) ((key r, value row) ∷ entries_of key value rows) ((key r, value r) ∷ put order (key row) (value row) (entries_of key value rows))) (turned _ _ Less (below 0 row (omega arith) (omega arith)))
+        ∙ ap (λ l. (key r, value r) ∷ l) (put_added value rows place row (λ i d lt within. below (suc i) d (omega arith) (omega arith)) (λ i d le within. above (suc i) d (omega arith) (omega arith)))
+
+    module _ {old new : List Row} {row : Row} (added : IsAdded order key old new row) (rising : is_rising order key old ≡ true) where
+      entries_added : {X : Type 0} (value : Row → X) → put order (key row) (value row) (entries_of key value old) ≡ entries_of key value new
+      entries_added value = put_added value old added.place row added.below added.above ∙ ap (entries_of key value) (sym added.is)
+
+      -- the keys still rise
+      pub rising_added : is_rising order key new ≡ true
+      rising_added = sym (rising_entries (λ r. r) new) ∙ T_true _ (subst (λ es. T (is_sorted order es)) (entries_added (λ r. r)) (is_sorted-put order o (key row) row (entries_of key (λ r. r) old) (sorted_entries (λ r. r) old rising)))
+        where
+          T_true : (b : Bool) → T b → b ≡ true
+          T_true true h = refl
+          T_true false h = absurd h
+
+      -- and the map has one entry more
+      pub map_added : {X : Type 0} (value : Row → X) → table_map order key value new ≡ insert (table_map order key value old) (key row) (value row)
+      unfolding table_map
+      map_added value = same_entries_map _ _ (
+          entries-from_sorted order (entries_of key value new) (sorted_entries value new rising_added)
+          ∙ sym (entries_added value)
+          ∙ sym (entries-insert o (from_sorted (entries_of key value old)) (key row) (value row) ∙ ap (put order (key row) (value row)) (entries-from_sorted order (entries_of key value old) (sorted_entries value old rising))))
+
+-- ---- what a binary search answers
+
+module _ {Row K : Type 0} (order : K → K → Ordering) (key : Row → K) (o : IsTotalOrder order) (rows : List Row) (rising : is_rising order key rows ≡ true) where
+  -- where no row has the key, smaller keys stand before its place and greater ones after it
+  pub gap : (sought : K) (place : ℕ) → IsBinarySearchResult (λ row. order (key row) sought) rows (Err place)
+      → ((i : ℕ) (d : Row) → i < place → i < length rows → order (key (get_or rows i d)) sought ≡ Less) × ((i : ℕ) (d : Row) → place ≤ i → i < length rows → order (key (get_or rows i d)) sought ≡ Greater)
+  gap sought place found = let split = found (answers_rise order key o rows sought rising) in (λ i d lt within. split.0 i d (omega arith) lt, λ i d le within. split.1 i d le within)
+
+  pub absent_at : (sought : K) (place : ℕ) → IsBinarySearchResult (λ row. order (key row) sought) rows (Err place) → row_at order key rows sought ≡ None
+  absent_at sought place found = not_found order key o rows sought (λ i d within. by i d within (cases_lt i place))
+    where
+      by : (i : ℕ) (d : Row) → i < length rows → (i < place) ⊎ (place ≤ i) → is_eq (order (key (get_or rows i d)) sought) ≡ false
+      by i d within (inl lt) = ap is_eq ((gap sought place found).0 i d lt within)
+      by i d within (inr le) = ap is_eq ((gap sought place found).1 i d le within)
+
+  -- a row that is put there is added
+  pub added_at : (row : Row) (sought : K) (place : ℕ) (new : List Row) → sought ≡ key row → IsBinarySearchResult (λ r. order (key r) sought) rows (Err place) → new ≡ list.insert rows place row → IsAdded order key rows new row
+  added_at row sought place new same found is =
+      let split = gap sought place found in
+      record { place = place; is = is; below = λ i d lt within. ap (order (key (get_or rows i d))) (sym same) ∙ split.0 i d lt within; above = λ i d le within. ap (order (key (get_or rows i d))) (sym same) ∙ split.1 i d le within }
+
+  -- a key that the map does not have is that of no row
+  pub absent_row : {X : Type 0} (value : Row → X) (sought : K) → get (table_map order key value rows) sought ≡ None → row_at order key rows sought ≡ None
+  absent_row value sought none = by (row_at order key rows sought) (sym (get_table order key value rows sought rising) ∙ none)
+    where
+      by : (found : Option Row) → option_map value found ≡ None → found ≡ None
+      by None e = refl
+      by (Some row) e = cc
+
+  pub present_row : {X : Type 0} (value : Row → X) (sought : K) → is_some (row_at order key rows sought) ≡ true → is_some (get (table_map order key value rows) sought) ≡ true
+  present_row value sought some = ap is_some (get_table order key value rows sought rising) ∙ by (row_at order key rows sought) some
+    where
+      by : (found : Option Row) → is_some found ≡ true → is_some (option_map value found) ≡ true
+      by None e = cc
+      by (Some row) e = refl
+
+pub not_both : {A : Type 0} (o : Option A) (x : A) → o ≡ Some x → o ≡ None → ⊥
+not_both o x some none = let clash : Some x ≡ None = sym some ∙ none in cc
+
+-- after a row that may be refused
+pub rising_either : {Row K A E : Type 0} (order : K → K → Ordering) (key : Row → K) (o : IsTotalOrder order) (old new : List Row) (row : Row) (r : Result A E)
+    → OnOk r (IsAdded order key old new row) → OnErr r (new ≡ old) → is_rising order key old ≡ true → is_rising order key new ≡ true
+rising_either order key o old new row (Ok x) added same rising = rising_added order key o added rising
+rising_either order key o old new row (Err e) added same rising = ap (is_rising order key) same ∙ rising

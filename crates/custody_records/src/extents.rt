@@ -1,0 +1,77 @@
+//! Extents as bytes: start and count of each as four bytes each, the greatest first.
+ghost use Rattle.std.specs.Prelude.{◌≡◌, ◌≤◌, ◌<◌, ◌+◌, ◌*◌, ◌==◌, if◌then◌else◌, [], ◌∷◌, ◌++◌, length, option_map, take, IfNone, IfSome, MatchResult};
+ghost use Rattle.std.specs.Int.{w32, to_be_bytes};
+ghost use Rattle.custody_records.specs.Form.{extents_in, extents_of};
+ghost use Rattle.custody_records.specs.Written.{blob_of};
+ghost use Rattle.custody_records.specs.declared.errors.RowError.TheVariants.{OutOfForm};
+
+use crate::RowError;
+use std::alloc::Global;
+use vault_volume::Extent;
+
+
+/// The extents of a blob: none where there is no blob, else one or more.
+pub(crate) fn read_extents(alloc: Global, blob: Option<&[u8]>) -> Result<Option<Vec<Extent>>, RowError>
+    ensures { MatchResult result (λ found. extents_in (option_map (λ b. b.now) blob.entry) ≡ Some (option_map (λ v. v.items) found))
+        (λ e. e ≡ OutOfForm → extents_in (option_map (λ b. b.now) blob.entry) ≡ None) }
+{
+    match blob {
+        None => Ok(None),
+        Some([]) => Err(RowError::OutOfForm),
+        Some(bytes) => Ok(Some(read_blob(alloc, bytes)?)),
+    }
+}
+
+fn read_blob(alloc: Global, bytes: &[u8]) -> Result<Vec<Extent>, RowError>
+    ensures { MatchResult result (λ v. extents_of bytes.now ≡ Some v.items) (λ e. e ≡ OutOfForm → extents_of bytes.now ≡ None) }
+{
+    let mut extents = Vec::new(alloc);
+    let mut rest = bytes;
+    while let Some((extent, more)) = first_extent(rest) {
+        extents.push(extent)?;
+        rest = more;
+    }
+    if rest.is_empty() {
+        Ok(extents)
+    } else {
+        Err(RowError::OutOfForm)
+    }
+}
+
+/// The extent of the first eight bytes, and the bytes after them.
+fn first_extent(bytes: &[u8]) -> Option<(Extent, &[u8])>
+    ensures short { IfNone result (extents_of bytes.now ≡ (if length bytes.now == 0 then Some [] else None)) }
+    ensures first { IfSome result (λ p. extents_of bytes.now ≡ option_map (λ more. p.0 ∷ more) (extents_of p.1.now)) }
+    ensures shorter { IfSome result (λ p. length p.1.now < length bytes.now) }
+{
+    if bytes.len() < 8 {
+        return None;
+    }
+    let extent = Extent {
+        start: u32::from_be_bytes([bytes[0], bytes[1], bytes[2], bytes[3]]),
+        count: u32::from_be_bytes([bytes[4], bytes[5], bytes[6], bytes[7]]),
+    };
+    Some((extent, &bytes[8..]))
+}
+
+/// Writes the extents of a part, of which there are at most 256, and answers how many bytes they take.
+pub fn write_blob(extents: &[Extent], out: &mut [u8; 2048]) -> usize
+    requires { length extents.now ≤ 256 }
+    ensures len { result ≡ 8 * length extents.now }
+    ensures bytes { take result out.new ≡ blob_of extents.now }
+{
+    let mut len = 0;
+    for extent in extents {
+        put_word(out, len, extent.start);
+        put_word(out, len + 4, extent.count);
+        len += 8;
+    }
+    len
+}
+
+fn put_word(out: &mut [u8; 2048], at: usize, word: u32)
+    requires { at + 4 ≤ 2048 }
+    ensures { take (at + 4) out.new ≡ take at out.old ++ to_be_bytes w32 word }
+{
+    out[at..at + 4].copy_from_slice(&word.to_be_bytes());
+}

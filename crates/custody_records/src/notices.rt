@@ -1,0 +1,67 @@
+//! Notices as rows.
+ghost use Rattle.std.specs.Prelude.{◌≡◌, option_map};
+ghost use Rattle.custody_records.specs.Form.{check_in, natural, notice_in, notice_kind_in};
+ghost use Rattle.custody_records.specs.Typed.{notice_entry, notice_row};
+
+use crate::fields::number_within;
+use deposit_name::{DepositId, Tld};
+use desk::{Check, Notice, NoticeKind};
+use schedule::{Day, Sec};
+
+/// The columns of a row of the table of notices.
+#[derive(Clone, Copy, Debug)]
+pub struct NoticeColumns<'a> {
+    pub tld: &'a [u8],
+    pub number: i64,
+    pub kind: i64,
+    pub day: i64,
+    pub rev: i64,
+    pub id: &'a [u8],
+    pub at: i64,
+}
+
+const RECEIPT: i64 = 0;
+const ABSENCE: i64 = 20;
+
+impl NoticeColumns<'_> {
+    /// The notice of the row, where its fields are in form.
+    pub fn read(&self) -> Option<Notice>
+        ensures { option_map notice_entry result ≡ notice_in (notice_row self.now) }
+    {
+        let tld = Tld::parse(self.tld)?;
+        let number = number_within(self.number, 1, i64::MAX as u64)?;
+        let day = Day::new(self.day)?;
+        let at = Sec::new(self.at)?;
+        let kind = self.read_kind()?;
+        Some(Notice {
+            number,
+            tld,
+            day,
+            at,
+            kind,
+        })
+    }
+
+    fn read_kind(&self) -> Option<NoticeKind>
+        ensures { result ≡ notice_kind_in (notice_row self.now) }
+    {
+        if self.kind == ABSENCE {
+            let is_bare = self.rev == 0 && self.id.is_empty();
+            return if is_bare { Some(NoticeKind::Absence) } else { None };
+        }
+        let rev = number_within(self.rev, 0, 99)? as u8;
+        let id = DepositId::parse(self.id)?;
+        if self.kind == RECEIPT {
+            return Some(NoticeKind::Receipt { rev, id });
+        }
+        let check = read_check(self.kind)?;
+        Some(NoticeKind::Failure { rev, id, check })
+    }
+}
+
+/// The check of that number.
+fn read_check(number: i64) -> Option<Check>
+    ensures { result ≡ check_in (natural number) }
+{
+    Check::from_number(number_within(number, 1, 13)? as u8)
+}

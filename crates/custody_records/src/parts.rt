@@ -1,0 +1,85 @@
+//! Parts of deposits.
+ghost use Rattle.std.specs.Prelude.{◌≡◌, MatchResult};
+ghost use Rattle.custody_records.specs.Form.{part_in};
+ghost use Rattle.custody_records.specs.Typed.{part_entry, part_row, name_in, received_in};
+ghost use Rattle.custody_records.specs.declared.errors.RowError.TheVariants.{OutOfForm};
+
+use crate::RowError;
+use crate::extents::read_extents;
+use crate::fields::{digest_of, number_within};
+use deposit_name::{DepositName, Kind, Tld};
+use schedule::{Day, Sec, keep_until};
+use std::alloc::Global;
+use vault_volume::Extent;
+
+/// A part of a deposit.
+#[derive(Debug, Drop)]
+pub struct Part {
+    pub name: DepositName,
+    /// When it was received.
+    pub received: Sec,
+    /// How many bytes it has.
+    pub len: u32,
+    /// Its SHA-256.
+    pub digest: [u8; 32],
+    /// Where its bytes lie, in their order; none where they are dropped (Specification 2, Part B section 5).
+    pub extents: Option<Vec<Extent>>,
+}
+
+/// The columns of a row of the table of parts.
+#[derive(Clone, Copy, Debug)]
+pub struct PartColumns<'a> {
+    pub tld: &'a [u8],
+    pub day: i64,
+    pub rev: i64,
+    pub part: i64,
+    pub kind: &'a [u8],
+    pub received: i64,
+    pub keep_day: i64,
+    pub len: i64,
+    pub sha: &'a [u8],
+    pub extents: Option<&'a [u8]>,
+}
+
+impl PartColumns<'_> {
+    /// The part of the row, where its fields are in form.
+    pub fn read(&self, alloc: Global) -> Result<Part, RowError>
+        ensures { MatchResult result (λ part. part_in (part_row self.now) ≡ Some (part_entry part))
+            (λ e. e ≡ OutOfForm → part_in (part_row self.now) ≡ None) }
+    {
+        let name = self.read_name().ok_or(RowError::OutOfForm)?;
+        let received = self.read_received().ok_or(RowError::OutOfForm)?;
+        let len = number_within(self.len, 1, 1_048_576).ok_or(RowError::OutOfForm)? as u32;
+        let digest = digest_of(self.sha).ok_or(RowError::OutOfForm)?;
+        let extents = read_extents(alloc, self.extents)?;
+        Ok(Part {
+            name,
+            received,
+            len,
+            digest,
+            extents,
+        })
+    }
+
+    fn read_name(&self) -> Option<DepositName>
+        ensures { result ≡ name_in (part_row self.now) }
+    {
+        let tld = Tld::parse(self.tld)?;
+        let day = Day::new(self.day)?;
+        let rev = number_within(self.rev, 0, 99)? as u8;
+        let part = number_within(self.part, 1, 8)? as u8;
+        let kind = Kind::parse(self.kind)?;
+        DepositName::new(tld, day, kind, part, rev)
+    }
+
+    fn read_received(&self) -> Option<Sec>
+        ensures { result ≡ received_in (part_row self.now) }
+    {
+        let received = Sec::new(self.received)?;
+        if self.keep_day == keep_until(received.day()) {
+            Some(received)
+        } else {
+            None
+        }
+    }
+}

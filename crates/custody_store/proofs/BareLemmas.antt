@@ -1,0 +1,55 @@
+-- A database without tables.
+use Rattle.std.proofs.Common.{◌≡◌, ◌⊎◌, inl, inr, false, true, ◌||◌, codes, Result, Err, ℕ, List, filter, find, option_map, map, [], ◌∷◌, None, IsTrue, refl, sym, ap, subst, ◌∙◌}
+use Rattle.std.specs.List.{AllZip}
+use Rattle.sqlite.specs.Order.{Row}
+use Rattle.sqlite.specs.Tree.{Trees}
+use Rattle.sqlite.specs.Effect.{Database, IsDatabase}
+use Rattle.sqlite.specs.State.{State, IsUnchanged, IsRolledBack}
+use Rattle.sqlite_trees.specs.Objects.{catalog_tree}
+use Rattle.sqlite_catalog.specs.Listing.{is_table_row, IsTableRow, IsSound}
+use Rattle.custody_store.specs.Schema.{no_schema}
+use Rattle.custody_store.specs.Reading.{rows_in, no_rows, has_table}
+use Rattle.custody_store.specs.Standing.{IsBare, IsOneFounding, Founds, shown, has_any}
+use Rattle.custody_records.specs.Rows.{Rows}
+use Rattle.custody_store.specs.Calls.{IsSettled}
+use Rattle.custody_store.proofs.TableLemmas.{named, named_in}
+
+pub bare_at : (old new : State) → IsBare old → IsSettled new → (d : Database) → d ≡ old.committed → IsTrue new.is_open → new.in_transaction ≡ false → (new.now ≡ d) × (new.committed ≡ d) → IsBare new × (rows_in new.now.trees ≡ rows_in old.now.trees)
+bare_at old new bare settled d is is_open autocommit both =
+    let now : new.now ≡ old.now = both.0 ∙ is ∙ bare.committed in (
+      record {
+        is_open = is_open;
+        autocommit = autocommit;
+        committed = both.1 ∙ sym both.0;
+        only = λ rows h. h.2 ∙ ap rows_in (settled h.0 is_open h.1 ∙ ap (λ (x : Database). x.trees) (both.1 ∙ sym both.0));
+        schema = ap (λ (x : Database). x.schema) now ∙ bare.schema;
+        sound = subst IsDatabase (sym now) bare.sound;
+      },
+      ap (λ (x : Database). rows_in x.trees) now,
+    )
+
+-- a call that changed nothing, or that rolled back
+pub bare_kept : (old new : State) → IsBare old → IsSettled new → IsUnchanged old new ⊎ IsRolledBack old new → IsTrue new.is_open → IsBare new × (rows_in new.now.trees ≡ rows_in old.now.trees)
+bare_kept old new bare settled (inl same) is_open =
+    bare_at old new bare settled old.committed refl is_open (same.0.mode ∙ bare.autocommit) (same.0.now_is ∙ sym bare.committed, same.0.committed_is)
+bare_kept old new bare settled (inr undone) is_open = bare_at old new bare settled old.committed refl is_open undone.autocommit (undone.undone is_open)
+
+-- no table is listed
+unlisted : (trees : Trees) (name : List ℕ) → (objects : List Row) → AllZip IsTableRow objects no_schema.tables → named_in name objects ≡ None
+unlisted trees name [] h = refl
+unlisted trees name (object ∷ objects) h = absurd h
+
+-- a database without tables has no rows
+pub rows_bare : (s : State) → IsBare s → rows_in s.now.trees ≡ no_rows
+rows_bare s bare =
+    let sound = subst (λ t. IsDatabase (record s.now { schema = t })) bare.schema bare.sound in
+    let none = λ (name : List ℕ). named name s.now.trees ∙ unlisted s.now.trees name _ sound.lists.listed.tables in
+    rw (none (codes "meta"), none (codes "registry"), none (codes "part"), none (codes "notice"), none (codes "handover"))
+
+pub has_none : (s : State) → IsBare s → has_any (shown s) ≡ false
+has_none s bare =
+    ap (λ t. has_table (codes "meta") t || has_table (codes "registry") t || has_table (codes "part") t || has_table (codes "notice") t || has_table (codes "handover") t) bare.schema
+
+-- where a table is there, no call is made
+pub founds_none : {A E : Type 0} (s : State) (after : Rows) (e : E) → has_any (shown s) ≡ true → Founds {A = A} (shown s) (shown s) after (Err e)
+founds_none s after e there = record { trust = λ honest. honest; mode = λ autocommit. autocommit; effect = λ _ bare. absurd (let none = has_none s bare in cc) }

@@ -1,0 +1,117 @@
+-- A statement that inserts, alone and outside a transaction, as one change of the rows.
+use Rattle.std.proofs.Common.{◌≡◌, ◌⊎◌, inl, inr, ℕ, ◌<◌, List, [], ◌∷◌, length, Option, None, Some, Bool, true, false, Ok, Err, Result, OnOk, OnErr, IsTrue, refl, sym, ap, subst, subst₂, ◌∙◌, append-nil, arith}
+use Rattle.std.specs.Result.{IsErr}
+use Rattle.sqlite.specs.Order.{Row}
+use Rattle.sqlite.specs.Source.{Source}
+use Rattle.sqlite.specs.Command.{Command}
+use Rattle.sqlite.specs.Command.TheVariants.{Insert}
+use Rattle.sqlite.specs.Schema.{Schema}
+use Rattle.sqlite.specs.Tree.{Trees}
+use Rattle.sqlite.specs.declared.error.Error.{Error}
+use Rattle.sqlite.specs.Effect.{Database, IsDatabase}
+use Rattle.sqlite.specs.Does.{Tally, Does}
+use Rattle.sqlite.specs.Listing.{understood}
+use Rattle.sqlite.specs.State.{State, HasCleanDisk, Survives, Executes, CommitsBy, MayCommit, IsUnchanged, IsRolledBack, Writes, mode_of, text_of}
+use Rattle.sqlite.specs.Clock.{timed}
+use Rattle.sqlite.proofs.Callers.{IsPlain, command_of, statement_of, runs_as}
+use Rattle.sqlite.proofs.InsideLemmas.{fails_whole}
+use Rattle.custody_store.specs.Schema.{record_schema}
+use Rattle.custody_records.specs.Rows.{Rows}
+use Rattle.custody_store.specs.Reading.{rows_in}
+use Rattle.custody_store.specs.Standing.{Standing, HasTables, IsReady, shown, IsOneCommit, Commits}
+use Rattle.custody_store.specs.Calls.{IsSettled, Runs}
+use Rattle.custody_store.proofs.StatementLemmas.{IsInsertion}
+
+pub ready_at : (s : State) → IsTrue s.is_open → s.in_transaction ≡ false → s.committed ≡ s.now → IsSettled s → HasTables s.now → IsReady s
+ready_at s is_open autocommit committed settled tables = record {
+  is_open = is_open;
+  autocommit = autocommit;
+  committed = committed;
+  only = λ rows h. h.2 ∙ ap rows_in (settled h.0 is_open h.1 ∙ ap (λ (d : Database). d.trees) committed);
+  tables = tables;
+}
+
+-- a call that changed nothing, or that rolled back
+pub kept : (old new : State) → IsReady old → IsSettled new → IsUnchanged old new ⊎ IsRolledBack old new → IsTrue new.is_open → IsReady new × (rows_in new.now.trees ≡ rows_in old.now.trees)
+kept old new ready settled (inl same) is_open =
+    let now = same.0.now_is in
+    (ready_at new is_open (same.0.mode ∙ ready.autocommit) (same.0.committed_is ∙ ready.committed ∙ sym now) settled (subst HasTables (sym now) ready.tables), ap (λ (d : Database). rows_in d.trees) now)
+kept old new ready settled (inr undone) is_open =
+    let both = undone.undone is_open in
+    let now = both.0 ∙ ready.committed in
+    (ready_at new is_open undone.autocommit (both.1 ∙ sym both.0) settled (subst HasTables (sym now) ready.tables), ap (λ (d : Database). rows_in d.trees) now)
+
+-- a call that changed nothing, or that rolled back, leaves no transaction open
+pub ended : (old new : State) → old.in_transaction ≡ false → IsUnchanged old new ⊎ IsRolledBack old new → new.in_transaction ≡ false
+ended old new autocommit (inl same) = same.0.mode ∙ autocommit
+ended old new autocommit (inr undone) = undone.autocommit
+
+-- honesty goes backwards
+pub trusts : (old new : State) (P : Trees → Type 0) → Survives old new P → HasCleanDisk new → HasCleanDisk old
+trusts old new P survives clean = omega (arith, clean, survives.clean)
+
+-- what the statement would make of the rows
+abbrev pub Makes : State → List ℕ → Row → ℕ → Source → Trees → Type 0
+Makes s sql params at from db =
+    (tally : Tally) × (after : Database) × Does s.step_limit (mode_of s) params s.now (statement_of sql (understood record_schema sql)) None (Insert at from) (Ok (tally, after)) × IsDatabase after × (db ≡ after.trees)
+
+-- the statement makes this change of the rows, and the tables stay as they are made
+abbrev pub Changes : State → List ℕ → Row → ℕ → Source → (Rows → Rows) → Type 0
+Changes s sql params at from change =
+    (tally : Tally) (after : Database) → Does s.step_limit (mode_of s) params s.now (statement_of sql (understood record_schema sql)) None (Insert at from) (Ok (tally, after)) → IsDatabase after
+    → HasTables after × (rows_in after.trees ≡ change (rows_in s.now.trees))
+
+module _ (sql : List ℕ) (params : Row) (at : ℕ) (from : Source) (means : IsInsertion sql at from) where
+  commits_as : (s : State) (db : Trees) → s.now.schema ≡ record_schema → CommitsBy sql params s db → Makes s sql params at from db
+  unfolding CommitsBy
+  commits_as s db has h =
+      let known = sym h.1.is ∙ ap (λ t. understood t sql) has in
+      let bare = subst IsPlain (sym known) means.plain in
+      let may = subst₂ (λ k t. MayCommit s None k t params db) (ap command_of known ∙ means.is) (ap (statement_of sql) known) (rw (bare.0, bare.1, append-nil params) at h.2) in
+      elim may [
+        | inl ends ↦ absurd (elim ends.0 [ inl commit ↦ cc | inr release ↦ let e = release.2 in cc ])
+        | inr writes ↦ (writes.1, writes.2, writes.3, writes.4, writes.5)
+      ]
+
+  module _ (old new : State) (change : Rows → Rows) (effect : IsReady old → Changes old sql params at from change) (settled : IsSettled new) (survives : Survives old new (CommitsBy sql params old)) where
+    left : IsReady old → HasCleanDisk new → (rows : Rows) → (shown new).may_leave rows → (shown old).may_leave rows ⊎ (rows ≡ change (rows_in old.now.trees))
+    left ready clean rows h = elim (survives.crash clean h.0 h.1) [
+      | inl before ↦ inl (h.0, before, h.2)
+      | inr made ↦ let it = commits_as old h.0 ready.tables.schema made in inr (h.2 ∙ ap rows_in it.4 ∙ (effect ready it.0 it.1 it.2 it.3).1)
+    ]
+
+    wrote : {A E : Type 0} (x : A) (count : ℕ) → Executes sql params old new (Ok count) → HasCleanDisk new → IsReady old → IsOneCommit {E = E} (shown old) (shown new) (change (rows_in old.now.trees)) (Ok x)
+    wrote x count h clean ready =
+        let w : Writes old new None (Insert at from) (statement_of sql (understood record_schema sql)) params count = runs_as sql params old new record_schema ready.tables.schema (Insert at from) means.is means.plain count h in
+        let made = effect ready w.tally new.now w.changed w.sound in
+        let committed : new.committed ≡ new.now = rw ready.autocommit at w.shown.committed_is in
+        let autocommit = w.shown.mode ∙ ready.autocommit in
+        record { done = (ready_at new w.shown.is_open autocommit committed settled made.0, made.1); kept = tt; left = left ready clean; ended = autocommit }
+
+    failed : {A E : Type 0} (x : E) (e : Error) → Executes sql params old new (Err e) → HasCleanDisk new → IsReady old → IsOneCommit {A = A} (shown old) (shown new) (change (rows_in old.now.trees)) (Err x)
+    failed x e h clean ready =
+        let whole = fails_whole old new false sql params e h in
+        record { done = tt; kept = kept old new ready settled whole; left = left ready clean; ended = ended old new ready.autocommit whole }
+
+  -- One statement that inserts is one commit.
+  pub inserts : {A E : Type 0} (old new : State) (change : Rows → Rows) (r : Result A E) → (IsReady old → Changes old sql params at from change) → Runs sql params old new r → Commits (shown old) (shown new) (change (rows_in old.now.trees)) r
+  inserts old new change (Ok x) effect runs = record {
+    trust = trusts old new _ runs.survives;
+    effect = λ clean ready. let ran = runs.ran clean in wrote old new change effect runs.settled runs.survives x ran.0 ran.1 clean ready;
+  }
+  inserts old new change (Err x) effect runs = record {
+    trust = trusts old new _ runs.survives;
+    effect = λ clean ready. let ran = runs.ran clean in failed old new change effect runs.settled runs.survives x ran.0 ran.1 clean ready;
+  }
+
+-- where nothing was called
+pub commits_none : {A E : Type 0} (s : State) (after : Rows) (e : E) → Commits {A = A} (shown s) (shown s) after (Err e)
+commits_none s after e = record { trust = λ honest. honest; effect = λ _ ready. record { done = tt; kept = λ _. (ready, refl); left = λ rows h. inl h; ended = ready.autocommit } }
+
+-- the same with another answer
+pub commits_ok : {A B E F : Type 0} (old new : Standing) (after : Rows) (x : A) (y : B) → Commits {E = E} old new after (Ok x) → Commits {E = F} old new after (Ok y)
+commits_ok old new after x y p = record { trust = p.trust; effect = λ honest ready. let it = p.effect honest ready in record { done = it.done; kept = tt; left = it.left; ended = it.ended } }
+
+pub commits_err : {A B E F : Type 0} (old new : Standing) (after : Rows) (x : E) (r : Result B F) → IsErr r → Commits {A = A} old new after (Err x) → Commits old new after r
+commits_err old new after x (Ok y) is p = absurd (let e = is in cc)
+commits_err old new after x (Err y) is p = record { trust = p.trust; effect = λ honest ready. let it = p.effect honest ready in record { done = tt; kept = it.kept; left = it.left; ended = it.ended } }

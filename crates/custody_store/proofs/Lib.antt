@@ -1,0 +1,13 @@
+pub mod SchemaLemmas
+pub mod StatementLemmas
+pub mod TableLemmas
+pub mod InsertLemmas
+pub mod CommitLemmas
+pub mod RowLemmas
+pub mod BareLemmas
+pub mod SelectLemmas
+pub mod FindLemmas
+pub mod ReadLemmas
+pub mod MakingLemmas
+pub mod FoundLemmas
+pub mod DigitLemmas

@@ -1,0 +1,134 @@
+-- CREATE TABLE inside a transaction.
+use Rattle.std.proofs.Common.{◌≡◌, ◌⊎◌, inl, inr, ℕ, List, [], ◌∷◌, ◌++◌, Bool, true, false, None, Some, Ok, Err, Result, IsTrue, refl, sym, ap, subst, ◌∙◌}
+use Rattle.std.specs.List.{AllByRecursion}
+use Rattle.sqlite.specs.Table.{Table}
+use Rattle.sqlite.specs.Schema.{Schema}
+use Rattle.sqlite.specs.Tree.{Trees}
+use Rattle.sqlite.specs.Change.{created, next_tree, KeepsRows}
+use Rattle.sqlite.specs.Compile.{table_defined_by}
+use Rattle.sqlite.specs.Command.TheVariants.{CreateTable}
+use Rattle.sqlite.specs.Listing.{understood}
+use Rattle.sqlite.specs.Effect.{Database}
+use Rattle.sqlite.specs.Does.{Tally, lacks_sequence}
+use Rattle.sqlite.specs.State.{State, Writes, ExecutesInside}
+use Rattle.sqlite.proofs.Callers.{command_of, statement_of, runs_as}
+use Rattle.std.proofs.Common.{ℤ, pos, arith}
+use Rattle.std.proofs.lemmas.Bool.{cases_Bool}
+use Rattle.sqlite.specs.declared.types.Value.TheVariants.{Null, Int, Text}
+use Rattle.sqlite.specs.Order.{Row}
+use Rattle.sqlite.specs.Store.{Ghosts}
+use Rattle.sqlite.specs.Held.{Held, state}
+use Rattle.sqlite.specs.Cast.{cast_row}
+use Rattle.sqlite.specs.Source.TheVariants.{Values}
+use Rattle.sqlite.specs.Command.TheVariants.{Insert}
+use Rattle.sqlite.specs.Edit.{edit_of}
+use Rattle.sqlite.specs.Rowids.TheVariants.{Chosen}
+use Rattle.sqlite.specs.Tree.{put_row}
+use Rattle.sqlite.specs.declared.error.Error.{Error}
+use Rattle.sqlite.specs.Effect.{IsDatabase}
+use Rattle.sqlite.specs.Does.{Does}
+use Rattle.sqlite.specs.State.{KeepsCommit, mode_of}
+use Rattle.sqlite.proofs.Callers.{one_step}
+use Rattle.sqlite.proofs.InsideLemmas.{inside_keeps}
+use Rattle.sqlite_rules.specs.Action.{Writes as EditWrites}
+use Rattle.sqlite_rules.specs.Edit.{with_rowid}
+use Rattle.custody_store.specs.Schema.{record_schema, meta_table}
+use Rattle.custody_records.specs.Rows.{fresh}
+use Rattle.custody_store.specs.Reading.{rows_in}
+use Rattle.custody_store.specs.Making.{IsMade}
+use Rattle.custody_store.proofs.StatementLemmas.{insert_meta_text, meta_source, insert_meta_is}
+use Rattle.custody_store.proofs.TableLemmas.{rows_held, held_rows}
+use Rattle.custody_store.proofs.InsertLemmas.{puts}
+use Rattle.custody_store.proofs.RowLemmas.{cast_null, cast_int, at_tree}
+use Rattle.sqlite_resolve.specs.declared.compiled.Compiled.{Compiled}
+use Rattle.sqlite_resolve.specs.declared.error.CompileError.{CompileError}
+use Rattle.custody_store.specs.Making.{IsMaking, IsTextOf, MakesOf}
+
+went : {B E R : Type 0} {b : B} {Stops : E → Type 0} → ((stop : E) × Stops stop × (Ok b ≡ Err stop)) ⊎ R → R
+went (inl stopped) = absurd (let e = stopped.2 in cc)
+went (inr on) = on
+
+same_value : {B E : Type 0} {a b : B} → ◌≡◌ {A = Result B E} (Ok a) (Ok b) → a ≡ b
+same_value e = cc
+
+all_push : {X : Type 0} (P : X → Type 0) (xs : List X) (x : X) → AllByRecursion P xs → P x → AllByRecursion P (xs ++ x ∷ [])
+all_push P [] x all h = (h, tt)
+all_push P (y ∷ xs) x all h = (all.0, all_push P xs x all.1 h)
+
+still_empty : (old new : Trees) (tables : List Table) → KeepsRows tables old new → AllByRecursion (λ t. old t.tree ≡ []) tables → AllByRecursion (λ t. new t.tree ≡ []) tables
+still_empty old new [] kept none = tt
+still_empty old new (t ∷ tables) kept none = (kept.0 ∙ none.0, still_empty old new tables kept.1 none.1)
+
+meant : (sql : List ℕ) (table : Table) (r : Result Compiled CompileError) → MakesOf sql table r → (command_of r ≡ CreateTable) × (table_defined_by (statement_of sql r) ≡ Ok table)
+meant sql table (Ok c) h = h
+meant sql table (Err e) h = absurd h
+
+pub makes : (sql : List ℕ) (old new : State) (count : ℕ) → ExecutesInside 0 sql [] old new (Ok count) → (schema : Schema) (table : Table) (first : Database) → IsTextOf schema sql table → IsMaking schema first old
+    → IsMaking (created schema table) first new
+makes sql old new count h schema table first text making =
+    let means = meant sql table (understood schema sql) text.means in
+    let w = subst (λ t. Writes old new None CreateTable t [] count) refl (runs_as sql [] old new schema making.schema_is CreateTable means.0 text.plain count h.0) in
+    let all = went w.changed in
+    let one = went all.1 in
+    let made = one.1 in
+    let both : Ok made.table ≡ Ok table = sym made.defined ∙ means.1 in
+    let same : made.table ≡ table = same_value both in
+    let after : one.0.schema ≡ created schema table = made.is ∙ ap (λ s. created s made.table) making.schema_is ∙ ap (created schema) same in
+    let uncounted : lacks_sequence one.0.schema ≡ false = ap lacks_sequence after ∙ text.uncounted in
+    let now : new.now ≡ one.0 = ap (λ (p : Tally × Database). p.1) (same_value all.2) ∙ same_value (rw uncounted at one.2) in
+    let trees : new.now.trees ≡ one.0.trees = ap (λ (d : Database). d.trees) now in
+    let fresh : one.0.trees (next_tree schema) ≡ [] = subst (λ s. one.0.trees (next_tree s) ≡ []) making.schema_is made.empty in
+    let others = subst (λ (s : Schema). KeepsRows s.tables old.now.trees one.0.trees) making.schema_is made.others in
+    record {
+      is_open = h.1.is_open;
+      inside = h.1.mode;
+      committed = h.1.committed_is ∙ making.committed;
+      schema_is = ap (λ (d : Database). d.schema) now ∙ after;
+      sound = w.sound;
+      empty = subst (λ (t : Trees). AllByRecursion (λ u. t u.tree ≡ []) (created schema table).tables) (sym trees) (all_push (λ t. one.0.trees t.tree ≡ []) schema.tables _ (still_empty old.now.trees one.0.trees schema.tables others making.empty) fresh);
+    }
+
+pub keeps_inside : {S : Type 0} (g : Ghosts S) (old new : Held S) (sql : List ℕ) (params : Row) (r : Result ℕ Error) → (old.in_transaction ≡ false → new ≡ old) → (IsTrue old.in_transaction → ExecutesInside 0 sql params (state g old) (state g new) r)
+    → KeepsCommit (state g old) (state g new)
+keeps_inside g old new sql params r ended runs = elim (cases_Bool old.in_transaction) [
+  | inl inside ↦ inside_keeps (state g old) (state g new) 0 false sql params r (runs inside)
+  | inr outside ↦ subst (λ h. KeepsCommit (state g old) (state g h)) (sym (ended outside)) (record { was_open = λ is_open. is_open; committed = λ _. refl })
+]
+
+-- ---- the row of meta
+
+module _ (number : List ℕ) (blocks : ℤ) where
+  abbrev source : Row
+  source = Int (pos 1) ∷ Null ∷ Int (pos 1) ∷ Text number ∷ Int blocks ∷ []
+
+  typed : cast_row (at_tree 0 meta_table) source ≡ source
+  typed = rw (cast_int (pos 1), cast_null, cast_int blocks) refl
+
+  pub puts_meta : (first : Database) (old new : State) (count : ℕ) → IsMaking record_schema first old → ExecutesInside 0 insert_meta_text (Text number ∷ Int blocks ∷ []) old new (Ok count) → IsMade number blocks first new
+  puts_meta first old new count making h =
+      let params = Text number ∷ Int blocks ∷ [] in
+      let trees = old.now.trees in
+      let db : Database = record { schema = record_schema; trees = trees } in
+      let text = statement_of insert_meta_text (understood record_schema insert_meta_text) in
+      let w : Writes old new None (Insert 0 meta_source) text params count = runs_as insert_meta_text params old new record_schema making.schema_is (Insert 0 meta_source) insert_meta_is.is insert_meta_is.plain count h.0 in
+      let here = subst (λ t. Does old.step_limit (mode_of old) params (record old.now { schema = t }) text None (Insert 0 meta_source) (Ok (w.tally, new.now))) making.schema_is w.changed in
+      let it = puts old.step_limit (mode_of old) db new.now (at_tree 0 meta_table) params text 0 meta_source w.tally refl here in
+      let edit = edit_of trees (at_tree 0 meta_table) [] Chosen 0 (source ∷ []) in
+      let wrote = subst (λ rows. EditWrites record_schema (mode_of old).keys trees (edit_of trees (at_tree 0 meta_table) [] Chosen 0 rows) (Ok new.now.trees)) it.source.1 it.applied in
+      let put = one_step record_schema (mode_of old).keys trees new.now.trees edit refl wrote in
+      let empty = making.empty in
+      let rows : new.now.trees 0 ≡ source ∷ [] = put.rows ∙ ap (λ row. put_row (with_rowid Chosen (trees 0) row) (trees 0)) typed ∙ ap (put_row source) empty.0 in
+      let registries : new.now.trees 1 ≡ [] = put.tables.1.0 (λ e. omega (arith, e)) ∙ empty.1.0 in
+      let parts : new.now.trees 3 ≡ [] = put.tables.1.1.0 (λ e. omega (arith, e)) ∙ empty.1.1.0 in
+      let notices : new.now.trees 5 ≡ [] = put.tables.1.1.1.0 (λ e. omega (arith, e)) ∙ empty.1.1.1.0 in
+      let handovers : new.now.trees 7 ≡ [] = put.tables.1.1.1.1.0 (λ e. omega (arith, e)) ∙ empty.1.1.1.1.0 in
+      let schema : new.now.schema ≡ record_schema = it.schema in
+      let now : rows_in new.now.trees ≡ held_rows new.now.trees = rows_held new.now.trees (subst (λ t. IsDatabase (record new.now { schema = t })) schema w.sound) in
+      let same : held_rows new.now.trees ≡ fresh number blocks = rw (rows, registries, parts, notices, handovers) refl in
+      record {
+        is_open = w.shown.is_open;
+        inside = h.1.mode;
+        committed = h.1.committed_is ∙ making.committed;
+        tables = record { schema = schema; sound = w.sound; ordered = rw (rows, registries, parts, notices, handovers) (((tt, tt), (refl, tt)), ((tt, tt), ((tt, tt), ((tt, tt), ((tt, tt), tt))))) };
+        rows = now ∙ same;
+      }

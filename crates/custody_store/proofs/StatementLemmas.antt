@@ -1,0 +1,156 @@
+-- What the texts of the statements mean over the schema that `create` makes.
+use Rattle.std.proofs.Common.{◌≡◌, List, [], ◌∷◌, ℕ, pos, negsuc, codes, false, None, refl}
+use Rattle.sqlite.specs.declared.types.Value.TheVariants.{Null, Int}
+use Rattle.sqlite.specs.Term.{Term, lit, col}
+use Rattle.sqlite.specs.Query.{Query, inner, end}
+use Rattle.sqlite.specs.Source.{Source}
+use Rattle.sqlite.specs.Source.TheVariants.{Values}
+use Rattle.sqlite.specs.Command.TheVariants.{Insert, Select}
+use Rattle.sqlite.specs.Listing.{understood, reads_listing}
+use Rattle.sqlite.specs.Collation.TheVariants.{Binary}
+use Rattle.sqlite_value.specs.Keys.{ascending}
+use Rattle.sqlite_tied.specs.Compute.{everything}
+use Rattle.sqlite.proofs.Callers.{IsPlain, command_of, statement_of}
+use Rattle.custody_store.specs.Schema.{record_schema}
+
+-- a statement that puts rows of this source into the table at this place
+pub record IsInsertion (sql : List ℕ) (at : ℕ) (from : Source) : Type 0 where
+  pub is : command_of (understood record_schema sql) ≡ Insert at from
+  pub plain : IsPlain (understood record_schema sql)
+
+-- these columns of the rows of one table, in the order of the rowids
+abbrev pub in_order : ℕ → List Term → Query
+in_order tree project = record {
+  from = inner tree end;
+  filter = [];
+  group = None;
+  project = project;
+  distinct = false;
+  collations = [];
+  order = (col 1 0, ascending Binary) ∷ [];
+  limit = lit (Int (negsuc 0));
+  offset = lit (Int (pos 0));
+}
+
+-- a query of these columns of one table
+pub record IsSelection (sql : List ℕ) (tree : ℕ) (project : List Term) (names : List (List ℕ)) : Type 0 where
+  pub is : command_of (understood record_schema sql) ≡ Select (record { lets = []; body = in_order tree project }) names
+  pub plain : IsPlain (understood record_schema sql)
+  pub unlisted : reads_listing record_schema sql ≡ false
+
+-- ---- the statements
+
+abbrev pub insert_meta_text : List ℕ
+insert_meta_text = codes "INSERT INTO meta (one, schema_no, number, blocks) VALUES (1, 1, ?1, ?2)"
+
+abbrev pub meta_source : Source
+meta_source = Values (lit (Int (pos 1)) ∷ lit Null ∷ lit (Int (pos 1)) ∷ col 0 0 ∷ col 0 1 ∷ []) 5
+
+pub insert_meta_is : IsInsertion insert_meta_text 0 meta_source
+unfolding understood everything
+insert_meta_is = record { is = refl; plain = (refl, refl) }
+
+abbrev pub insert_registry_text : List ℕ
+insert_registry_text = codes "INSERT INTO registry (tld, first_day) VALUES (?1, ?2)"
+
+abbrev pub registry_source : Source
+registry_source = Values (lit Null ∷ col 0 0 ∷ col 0 1 ∷ []) 3
+
+pub insert_registry_is : IsInsertion insert_registry_text 1 registry_source
+unfolding understood everything
+insert_registry_is = record { is = refl; plain = (refl, refl) }
+
+abbrev pub insert_part_text : List ℕ
+insert_part_text = codes "INSERT INTO part (tld, day, rev, part, kind, received, keep_day, len, sha, extents) VALUES (?1, ?2, ?3, ?4, ?5, ?6, ?7, ?8, ?9, ?10)"
+
+abbrev pub part_source : Source
+part_source = Values (lit Null ∷ col 0 0 ∷ col 0 1 ∷ col 0 2 ∷ col 0 3 ∷ col 0 4 ∷ col 0 5 ∷ col 0 6 ∷ col 0 7 ∷ col 0 8 ∷ col 0 9 ∷ []) 11
+
+pub insert_part_is : IsInsertion insert_part_text 2 part_source
+unfolding understood everything
+insert_part_is = record { is = refl; plain = (refl, refl) }
+
+abbrev pub insert_notice_text : List ℕ
+insert_notice_text = codes "INSERT INTO notice (tld, number, kind, day, rev, id, at) VALUES (?1, ?2, ?3, ?4, ?5, ?6, ?7)"
+
+abbrev pub notice_source : Source
+notice_source = Values (lit Null ∷ col 0 0 ∷ col 0 1 ∷ col 0 2 ∷ col 0 3 ∷ col 0 4 ∷ col 0 5 ∷ col 0 6 ∷ []) 8
+
+pub insert_notice_is : IsInsertion insert_notice_text 3 notice_source
+unfolding understood everything
+insert_notice_is = record { is = refl; plain = (refl, refl) }
+
+abbrev pub insert_handover_text : List ℕ
+insert_handover_text = codes "INSERT INTO handover (reference, tld, ground, at, names) VALUES (?1, ?2, ?3, ?4, ?5)"
+
+abbrev pub handover_source : Source
+handover_source = Values (lit Null ∷ col 0 0 ∷ col 0 1 ∷ col 0 2 ∷ col 0 3 ∷ col 0 4 ∷ []) 6
+
+pub insert_handover_is : IsInsertion insert_handover_text 4 handover_source
+unfolding understood everything
+insert_handover_is = record { is = refl; plain = (refl, refl) }
+
+abbrev pub select_meta_text : List ℕ
+select_meta_text = codes "SELECT one, schema_no, number, blocks FROM meta ORDER BY rowid"
+
+abbrev pub meta_places : List Term
+meta_places = col 1 0 ∷ col 1 2 ∷ col 1 3 ∷ col 1 4 ∷ []
+
+abbrev pub meta_names : List (List ℕ)
+meta_names = codes "one" ∷ codes "schema_no" ∷ codes "number" ∷ codes "blocks" ∷ []
+
+pub select_meta_is : IsSelection select_meta_text 0 meta_places meta_names
+unfolding understood everything
+select_meta_is = record { is = refl; plain = (refl, refl); unlisted = refl }
+
+abbrev pub select_registry_text : List ℕ
+select_registry_text = codes "SELECT tld, first_day FROM registry ORDER BY rowid"
+
+abbrev pub registry_places : List Term
+registry_places = col 1 1 ∷ col 1 2 ∷ []
+
+abbrev pub registry_names : List (List ℕ)
+registry_names = codes "tld" ∷ codes "first_day" ∷ []
+
+pub select_registry_is : IsSelection select_registry_text 1 registry_places registry_names
+unfolding understood everything
+select_registry_is = record { is = refl; plain = (refl, refl); unlisted = refl }
+
+abbrev pub select_part_text : List ℕ
+select_part_text = codes "SELECT tld, day, rev, part, kind, received, keep_day, len, sha, extents FROM part ORDER BY rowid"
+
+abbrev pub part_places : List Term
+part_places = col 1 1 ∷ col 1 2 ∷ col 1 3 ∷ col 1 4 ∷ col 1 5 ∷ col 1 6 ∷ col 1 7 ∷ col 1 8 ∷ col 1 9 ∷ col 1 10 ∷ []
+
+abbrev pub part_names : List (List ℕ)
+part_names = codes "tld" ∷ codes "day" ∷ codes "rev" ∷ codes "part" ∷ codes "kind" ∷ codes "received" ∷ codes "keep_day" ∷ codes "len" ∷ codes "sha" ∷ codes "extents" ∷ []
+
+pub select_part_is : IsSelection select_part_text 3 part_places part_names
+unfolding understood everything
+select_part_is = record { is = refl; plain = (refl, refl); unlisted = refl }
+
+abbrev pub select_notice_text : List ℕ
+select_notice_text = codes "SELECT tld, number, kind, day, rev, id, at FROM notice ORDER BY rowid"
+
+abbrev pub notice_places : List Term
+notice_places = col 1 1 ∷ col 1 2 ∷ col 1 3 ∷ col 1 4 ∷ col 1 5 ∷ col 1 6 ∷ col 1 7 ∷ []
+
+abbrev pub notice_names : List (List ℕ)
+notice_names = codes "tld" ∷ codes "number" ∷ codes "kind" ∷ codes "day" ∷ codes "rev" ∷ codes "id" ∷ codes "at" ∷ []
+
+pub select_notice_is : IsSelection select_notice_text 5 notice_places notice_names
+unfolding understood everything
+select_notice_is = record { is = refl; plain = (refl, refl); unlisted = refl }
+
+abbrev pub select_handover_text : List ℕ
+select_handover_text = codes "SELECT reference, tld, ground, at, names FROM handover ORDER BY rowid"
+
+abbrev pub handover_places : List Term
+handover_places = col 1 1 ∷ col 1 2 ∷ col 1 3 ∷ col 1 4 ∷ col 1 5 ∷ []
+
+abbrev pub handover_names : List (List ℕ)
+handover_names = codes "reference" ∷ codes "tld" ∷ codes "ground" ∷ codes "at" ∷ codes "names" ∷ []
+
+pub select_handover_is : IsSelection select_handover_text 7 handover_places handover_names
+unfolding understood everything
+select_handover_is = record { is = refl; plain = (refl, refl); unlisted = refl }

@@ -1,0 +1,96 @@
+-- The rows of a database that has the tables.
+use Rattle.std.proofs.Common.{◌≡◌, ◌⊎◌, inl, inr, ℕ, ◌+◌, ◌-◌, ℤ, pos, ◌+ℤ◌, ◌<ℤ◌, ◌&&◌, Bool, true, false, cond, List, [], ◌∷◌, ◌++◌, map, filter, find, fold, codes, bytes_eq, option_map, Option, Some, None, refl, sym, ap, subst, ◌∙◌, IsTrue, Ordering, Less, Equal, Greater, is_eq, int_cmp, arith}
+use Rattle.std.specs.List.{AllByRecursion, AllZip}
+use Rattle.std.proofs.lemmas.Int.{ints}
+use Rattle.std.proofs.lemmas.Bool.{cases_Bool}
+use Rattle.std.proofs.lemmas.Bool.Decides.{nat_tests}
+use Rattle.sqlite.specs.declared.types.Value.TheVariants.{Int, Text}
+use Rattle.sqlite.specs.Order.{Row, column, bytes, value_cmp}
+use Rattle.sqlite_value.proofs.OrderLemmas.{value_cmp-Int}
+use Rattle.sqlite.specs.Tree.{Trees, rowid, put_row, IsTable}
+use Rattle.sqlite_trees.specs.Objects.{catalog_tree, number_in}
+use Rattle.sqlite_trees.specs.View.{is_int, IsShaped}
+use Rattle.sqlite_rules.specs.Edit.{id_in, next_rowid}
+use Rattle.sqlite_rules.proofs.TableLemmas.{int_is}
+use Rattle.sqlite_catalog.specs.Listing.{is_table_row, IsTableRow, IsSound}
+use Rattle.sqlite.specs.Table.{Table}
+use Rattle.custody_store.specs.Schema.{record_schema}
+use Rattle.custody_records.specs.Rows.{Rows}
+use Rattle.custody_store.specs.Reading.{meta_row, registry_row, part_row, notice_row, handover_row, lists_table, tree_named, rows_named, rows_in}
+
+-- ---- the table of a name
+
+find_filtered : {X : Type 0} (p q : X → Bool) (xs : List X) → find (λ x. p x && q x) xs ≡ find q (filter p xs)
+find_filtered p q [] = refl
+find_filtered p q (x ∷ xs) = elim (cases_Bool (p x)) [ inl is ↦ elim (cases_Bool (q x)) [ inl also ↦ rw (is, also) | inr other ↦ rw (is, other, find_filtered p q xs) ] | inr other ↦ rw (other, find_filtered p q xs) ]
+
+abbrev pub held_rows : Trees → Rows
+held_rows trees = record {
+  meta = Some (map meta_row (trees 0));
+  registries = Some (map registry_row (trees 1));
+  parts = Some (map part_row (trees 3));
+  notices = Some (map notice_row (trees 5));
+  handovers = Some (map handover_row (trees 7));
+}
+
+abbrev pub named_in : List ℕ → List Row → Option ℕ
+named_in name objects = option_map (λ object. number_in (rowid object) - 1) (find (λ object. bytes_eq (bytes (column object 2)) name) objects)
+
+abbrev AreNamed : List Row → Type 0
+AreNamed objects = (named_in (codes "meta") objects ≡ Some 0) × (named_in (codes "registry") objects ≡ Some 1) × (named_in (codes "part") objects ≡ Some 3) × (named_in (codes "notice") objects ≡ Some 5) × (named_in (codes "handover") objects ≡ Some 7)
+
+are_named : (objects : List Row) → AllZip IsTableRow objects record_schema.tables → AreNamed objects
+are_named (a ∷ b ∷ c ∷ d ∷ e ∷ []) h =
+    let m = h.0.described in
+    let r = h.1.0.described in
+    let p = h.1.1.0.described in
+    let n = h.1.1.1.0.described in
+    let o = h.1.1.1.1.0.described in
+    (rw (m.name_is, m.id), rw (m.name_is, r.name_is, r.id), rw (m.name_is, r.name_is, p.name_is, p.id), rw (m.name_is, r.name_is, p.name_is, n.name_is, n.id), rw (m.name_is, r.name_is, p.name_is, n.name_is, o.name_is, o.id))
+are_named [] h = absurd h
+are_named (a ∷ []) h = absurd h.1
+are_named (a ∷ b ∷ []) h = absurd h.1.1
+are_named (a ∷ b ∷ c ∷ []) h = absurd h.1.1.1
+are_named (a ∷ b ∷ c ∷ d ∷ []) h = absurd h.1.1.1.1
+are_named (a ∷ b ∷ c ∷ d ∷ e ∷ f ∷ more) h = absurd h.1.1.1.1.1
+
+pub named : (name : List ℕ) (trees : Trees) → tree_named name trees ≡ named_in name (filter is_table_row (trees catalog_tree))
+named name trees = ap (option_map (λ object. number_in (rowid object) - 1)) (find_filtered is_table_row (λ object. bytes_eq (bytes (column object 2)) name) (trees catalog_tree))
+
+pub rows_held : (trees : Trees) → IsSound record_schema trees → rows_in trees ≡ held_rows trees
+rows_held trees sound =
+    let all = are_named _ sound.lists.listed.tables in
+    let m = named (codes "meta") trees ∙ all.0 in
+    let r = named (codes "registry") trees ∙ all.1 in
+    let p = named (codes "part") trees ∙ all.2 in
+    let n = named (codes "notice") trees ∙ all.3 in
+    let o = named (codes "handover") trees ∙ all.4 in
+    rw (m, r, p, n, o)
+
+-- ---- a row with the next rowid goes to the end
+
+lower_than : (a b c : ℤ) → int_cmp a b ≡ Less → b <ℤ c → a <ℤ c
+lower_than a b c p q = grind (arith, ints, nat_tests)
+
+below_is : (a b : ℤ) → a <ℤ b → int_cmp a b ≡ Less
+below_is a b h = grind (arith, ints, nat_tests)
+
+abbrev step : ℤ → Row → ℤ
+step _ row = id_in (rowid row) +ℤ pos 1
+
+put_last : (x : Row) (rows : List Row) (new : Row) → IsTable (x ∷ rows) → AllByRecursion (λ r. IsTrue (is_int (rowid r))) (x ∷ rows) → rowid new ≡ Int (fold step (step (pos 1) x) rows)
+    → (id_in (rowid x) <ℤ fold step (step (pos 1) x) rows) × (put_row new (x ∷ rows) ≡ (x ∷ rows) ++ new ∷ [])
+put_last x [] new up keyed is =
+    let lower : id_in (rowid x) <ℤ step (pos 1) x = omega (arith, ints) in
+    let less : value_cmp (rowid x) (rowid new) ≡ Less = rw (int_is (rowid x) keyed.0, is, value_cmp-Int) (below_is _ _ lower) in
+    (lower, rw less)
+put_last x (y ∷ rows) new up keyed is =
+    let later = put_last y rows new up.1 keyed.1 is in
+    let next : int_cmp (id_in (rowid x)) (id_in (rowid y)) ≡ Less = rw (int_is (rowid x) keyed.0, int_is (rowid y) keyed.1.0, value_cmp-Int (id_in (rowid x)) (id_in (rowid y))) at up.0.0 in
+    let lower = lower_than (id_in (rowid x)) (id_in (rowid y)) _ next later.0 in
+    let less : value_cmp (rowid x) (rowid new) ≡ Less = rw (int_is (rowid x) keyed.0, is, value_cmp-Int) (below_is _ _ lower) in
+    (lower, rw less (ap (λ all. x ∷ all) later.1))
+
+pub put_at_end : (rows : List Row) (new : Row) → IsTable rows → AllByRecursion (λ r. IsTrue (is_int (rowid r))) rows → rowid new ≡ Int (next_rowid rows) → put_row new rows ≡ rows ++ new ∷ []
+put_at_end [] new up keyed is = refl
+put_at_end (x ∷ rows) new up keyed is = (put_last x rows new up keyed is).1

@@ -1,0 +1,6 @@
+pub mod Schema
+pub mod Reading
+pub mod Standing
+pub mod Calls
+pub mod Records
+pub mod Making

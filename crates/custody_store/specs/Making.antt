@@ -1,0 +1,47 @@
+-- The tables as they are made, inside one transaction.
+use Rattle.std.specs.Prelude.{◌≡◌, false, List, [], ℕ, ℤ, Ok, IsTrue}
+use Rattle.std.specs.List.{AllByRecursion}
+use Rattle.sqlite.specs.Table.{Table}
+use Rattle.sqlite.specs.Schema.{Schema}
+use Rattle.sqlite.specs.Change.{created}
+use Rattle.sqlite.specs.Compile.{table_defined_by}
+use Rattle.sqlite.specs.Command.{Command}
+use Rattle.sqlite.specs.Command.TheVariants.{CreateTable, Nothing}
+use Rattle.sqlite.specs.Listing.{understood}
+use Rattle.sqlite.specs.Does.{lacks_sequence}
+use Rattle.sqlite.specs.Given.{IsPlain}
+use Rattle.sqlite.specs.Effect.{Database, IsDatabase}
+use Rattle.sqlite.specs.State.{State, text_of}
+use Rattle.custody_records.specs.Rows.{fresh}
+use Rattle.custody_store.specs.Reading.{rows_in}
+use Rattle.custody_store.specs.Standing.{HasTables}
+use Rattle.sqlite_resolve.specs.declared.compiled.Compiled.{Compiled}
+use Rattle.sqlite_resolve.specs.declared.error.CompileError.{CompileError}
+use Rattle.std.specs.Prelude.{Result, Err}
+
+-- a transaction over `first` has made the tables of this schema, and they are empty
+pub record IsMaking (schema : Schema) (first : Database) (s : State) : Type 0 where
+  pub is_open : IsTrue s.is_open
+  pub inside : IsTrue s.in_transaction
+  pub committed : s.committed ≡ first
+  pub schema_is : s.now.schema ≡ schema
+  pub sound : IsDatabase s.now
+  pub empty : AllByRecursion (λ t. s.now.trees t.tree ≡ []) schema.tables
+
+-- the whole text makes this table
+abbrev pub MakesOf : List ℕ → Table → Result Compiled CompileError → Type 0
+MakesOf sql table (Ok c) = (c.command ≡ CreateTable) × (table_defined_by (text_of sql c) ≡ Ok table)
+MakesOf sql table (Err e) = ⊥
+
+pub record IsTextOf (schema : Schema) (sql : List ℕ) (table : Table) : Type 0 where
+  pub means : MakesOf sql table (understood schema sql)
+  pub plain : IsPlain (understood schema sql)
+  pub uncounted : lacks_sequence (created schema table) ≡ false
+
+-- a transaction over `first` has made the tables and the row of meta
+pub record IsMade (number : List ℕ) (blocks : ℤ) (first : Database) (s : State) : Type 0 where
+  pub is_open : IsTrue s.is_open
+  pub inside : IsTrue s.in_transaction
+  pub committed : s.committed ≡ first
+  pub tables : HasTables s.now
+  pub rows : rows_in s.now.trees ≡ fresh number blocks

@@ -1,0 +1,122 @@
+-- The rows that a database holds, by the list of its tables.
+use Rattle.std.specs.Prelude.{ℕ, ◌-◌, ◌&&◌, Bool, List, map, find, codes, bytes_eq, Option, Some, None, option_map, slice_get}
+use Rattle.std.specs.Option.{option_and_then}
+use Rattle.sqlite.specs.declared.types.Value.{Value}
+use Rattle.sqlite.specs.declared.types.Value.TheVariants.{Null, Int, Real, Text, Blob}
+use Rattle.sqlite.specs.Order.{Row, column, bytes}
+use Rattle.sqlite.specs.Tree.{Trees, rowid}
+use Rattle.sqlite.specs.Edit.{id_in}
+use Rattle.sqlite_trees.specs.Objects.{catalog_tree, number_in}
+use Rattle.sqlite_catalog.specs.Listing.{is_table_row}
+use Rattle.std.specs.List.{list_any}
+use Rattle.sqlite.specs.Schema.{Schema}
+use Rattle.sqlite_schema.specs.Names.{same_name}
+use Rattle.custody_records.specs.Rows.{MetaRow, RegistryRow, PartRow, NoticeRow, HandoverRow, Rows}
+
+abbrev pub bytes_unless_null : Value → Option (List ℕ)
+bytes_unless_null Null = None
+bytes_unless_null (Int n) = Some (bytes (Int n))
+bytes_unless_null (Real x) = Some (bytes (Real x))
+bytes_unless_null (Text t) = Some t
+bytes_unless_null (Blob b) = Some b
+
+-- a row of a table is its rowid and then its columns; the key of meta is the rowid
+abbrev pub meta_row : Row → MetaRow
+meta_row row = record { one = id_in (rowid row); schema_no = id_in (column row 2); number = bytes (column row 3); blocks = id_in (column row 4) }
+
+abbrev pub registry_row : Row → RegistryRow
+registry_row row = record { tld = bytes (column row 1); first_day = id_in (column row 2) }
+
+abbrev pub part_row : Row → PartRow
+part_row row = record {
+  tld = bytes (column row 1);
+  day = id_in (column row 2);
+  rev = id_in (column row 3);
+  part = id_in (column row 4);
+  kind = bytes (column row 5);
+  received = id_in (column row 6);
+  keep_day = id_in (column row 7);
+  len = id_in (column row 8);
+  sha = bytes (column row 9);
+  extents = bytes_unless_null (column row 10);
+}
+
+abbrev pub notice_row : Row → NoticeRow
+notice_row row = record {
+  tld = bytes (column row 1);
+  number = id_in (column row 2);
+  kind = id_in (column row 3);
+  day = id_in (column row 4);
+  rev = id_in (column row 5);
+  id = bytes (column row 6);
+  at = id_in (column row 7);
+}
+
+abbrev pub handover_row : Row → HandoverRow
+handover_row row = record { reference = bytes (column row 1); tld = bytes (column row 2); reason = bytes (column row 3); at = id_in (column row 4); names = bytes (column row 5) }
+
+abbrev pub lists_table : List ℕ → Row → Bool
+lists_table name object = is_table_row object && bytes_eq (bytes (column object 2)) name
+
+-- the number of the tree of the table with this name
+abbrev pub tree_named : List ℕ → Trees → Option ℕ
+tree_named name trees = option_map (λ object. number_in (rowid object) - 1) (find (lists_table name) (trees catalog_tree))
+
+abbrev pub rows_named : {X : Type 0} → (Row → X) → List ℕ → Trees → Option (List X)
+rows_named read name trees = option_map (λ tree. map read (trees tree)) (tree_named name trees)
+
+abbrev pub rows_in : Trees → Rows
+rows_in trees = record {
+  meta = rows_named meta_row (codes "meta") trees;
+  registries = rows_named registry_row (codes "registry") trees;
+  parts = rows_named part_row (codes "part") trees;
+  notices = rows_named notice_row (codes "notice") trees;
+  handovers = rows_named handover_row (codes "handover") trees;
+}
+
+-- the first row of meta
+abbrev pub first_meta : Rows → Option MetaRow
+first_meta rows = option_and_then (λ all. slice_get all 0) rows.meta
+
+-- the rows of a database without tables
+abbrev pub no_rows : Rows
+no_rows = record { meta = None; registries = None; parts = None; notices = None; handovers = None }
+
+-- a row that is answered has the columns alone
+abbrev pub answered_registry : Row → RegistryRow
+answered_registry row = record { tld = bytes (column row 0); first_day = id_in (column row 1) }
+
+abbrev pub answered_part : Row → PartRow
+answered_part row = record {
+  tld = bytes (column row 0);
+  day = id_in (column row 1);
+  rev = id_in (column row 2);
+  part = id_in (column row 3);
+  kind = bytes (column row 4);
+  received = id_in (column row 5);
+  keep_day = id_in (column row 6);
+  len = id_in (column row 7);
+  sha = bytes (column row 8);
+  extents = bytes_unless_null (column row 9);
+}
+
+abbrev pub answered_notice : Row → NoticeRow
+answered_notice row = record {
+  tld = bytes (column row 0);
+  number = id_in (column row 1);
+  kind = id_in (column row 2);
+  day = id_in (column row 3);
+  rev = id_in (column row 4);
+  id = bytes (column row 5);
+  at = id_in (column row 6);
+}
+
+abbrev pub answered_handover : Row → HandoverRow
+answered_handover row = record { reference = bytes (column row 0); tld = bytes (column row 1); reason = bytes (column row 2); at = id_in (column row 3); names = bytes (column row 4) }
+
+abbrev pub answered_meta : Row → MetaRow
+answered_meta row = record { one = id_in (column row 0); schema_no = id_in (column row 1); number = bytes (column row 2); blocks = id_in (column row 3) }
+
+-- a table of the schema has this name
+abbrev pub has_table : List ℕ → Schema → Bool
+has_table name schema = list_any (λ t. same_name t.name name) schema.tables

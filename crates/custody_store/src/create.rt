@@ -1,0 +1,111 @@
+//! The tables and the row of meta, made in one transaction.
+ghost use Rattle.std.specs.Prelude.{◌≡◌, true, pos, [], IsTrue, OnOk, Ok, Err, IfErr};
+ghost use Rattle.sqlite.specs.State.{HasCleanDisk, Survives, ExecutesInside, KeepsCommit};
+ghost use Rattle.sqlite.specs.Held.{state};
+ghost use Rattle.custody_store.specs.Schema.{no_schema, record_schema};
+ghost use Rattle.custody_store.specs.Making.{IsMaking, IsMade};
+ghost use Rattle.custody_records.specs.Rows.{fresh};
+ghost use Rattle.custody_store.specs.Standing.{standing, Founds, has_any};
+
+use crate::faults::StoreFault;
+use crate::tables::has_any;
+use crate::values::{number, text};
+use sqlite::{Alter, Connection, Transaction};
+
+/// Makes one table.
+fn make<S: Alter>(tx: &mut Transaction<'_, S>, sql: &str) -> Result<(), StoreFault>
+    ensures same_reference { tx.new.conn.ghost_name ≡ tx.old.conn.ghost_name }
+    ensures made { HasCleanDisk (state S.Store tx.new.conn.now) → IsTrue tx.old.conn.now.in_transaction
+        → OnOk result ((count : _) × ExecutesInside 0 sql.now [] (state S.Store tx.old.conn.now) (state S.Store tx.new.conn.now) (Ok count)) }
+    ensures keeps { HasCleanDisk (state S.Store tx.new.conn.now) → KeepsCommit (state S.Store tx.old.conn.now) (state S.Store tx.new.conn.now) }
+    ensures survives { Survives (state S.Store tx.old.conn.now) (state S.Store tx.new.conn.now) (λ _. ⊥) }
+    ensures kind { IfErr result (λ e. e ≡ StoreFault.Failed) }
+{
+    tx.execute(sql, &[])?;
+    Ok(())
+}
+
+/// Writes the row of meta.
+fn put_meta<S: Alter>(
+    tx: &mut Transaction<'_, S>,
+    digits: &[u8],
+    blocks: u32,
+) -> Result<(), StoreFault>
+    ensures same_reference { tx.new.conn.ghost_name ≡ tx.old.conn.ghost_name }
+    ensures made { HasCleanDisk (state S.Store tx.new.conn.now)
+        → OnOk result ((first : _) → IsMaking record_schema first (state S.Store tx.old.conn.now) → IsMade digits.now (pos blocks) first (state S.Store tx.new.conn.now)) }
+    ensures keeps { HasCleanDisk (state S.Store tx.new.conn.now) → KeepsCommit (state S.Store tx.old.conn.now) (state S.Store tx.new.conn.now) }
+    ensures survives { Survives (state S.Store tx.old.conn.now) (state S.Store tx.new.conn.now) (λ _. ⊥) }
+    ensures kind { IfErr result (λ e. e ≡ StoreFault.Failed) }
+{
+    tx.execute(
+        "INSERT INTO meta (one, schema_no, number, blocks) VALUES (1, 1, ?1, ?2)",
+        &[text(digits), number(blocks)],
+    )?;
+    Ok(())
+}
+
+/// Makes the five tables.
+fn make_tables<S: Alter>(tx: &mut Transaction<'_, S>) -> Result<(), StoreFault>
+    ensures same_reference { tx.new.conn.ghost_name ≡ tx.old.conn.ghost_name }
+    ensures made { HasCleanDisk (state S.Store tx.new.conn.now)
+        → OnOk result ((first : _) → IsMaking no_schema first (state S.Store tx.old.conn.now) → IsMaking record_schema first (state S.Store tx.new.conn.now)) }
+    ensures keeps { HasCleanDisk (state S.Store tx.new.conn.now) → KeepsCommit (state S.Store tx.old.conn.now) (state S.Store tx.new.conn.now) }
+    ensures survives { Survives (state S.Store tx.old.conn.now) (state S.Store tx.new.conn.now) (λ _. ⊥) }
+    ensures kind { IfErr result (λ e. e ≡ StoreFault.Failed) }
+{
+    make(
+        tx,
+        "CREATE TABLE meta (one INTEGER PRIMARY KEY NOT NULL, schema_no INTEGER NOT NULL, number TEXT NOT NULL, blocks INTEGER NOT NULL) STRICT",
+    )?;
+    make(
+        tx,
+        "CREATE TABLE registry (tld TEXT PRIMARY KEY NOT NULL, first_day INTEGER NOT NULL) STRICT",
+    )?;
+    make(
+        tx,
+        "CREATE TABLE part (tld TEXT NOT NULL REFERENCES registry (tld), day INTEGER NOT NULL, rev INTEGER NOT NULL, part INTEGER NOT NULL, kind TEXT NOT NULL, received INTEGER NOT NULL, keep_day INTEGER NOT NULL, len INTEGER NOT NULL, sha BLOB NOT NULL, extents BLOB, PRIMARY KEY (tld, day, rev, part)) STRICT",
+    )?;
+    make(
+        tx,
+        "CREATE TABLE notice (tld TEXT NOT NULL REFERENCES registry (tld), number INTEGER NOT NULL, kind INTEGER NOT NULL, day INTEGER NOT NULL, rev INTEGER NOT NULL, id TEXT NOT NULL, at INTEGER NOT NULL, PRIMARY KEY (tld, number)) STRICT",
+    )?;
+    make(
+        tx,
+        "CREATE TABLE handover (reference TEXT PRIMARY KEY NOT NULL, tld TEXT NOT NULL REFERENCES registry (tld), ground TEXT NOT NULL, at INTEGER NOT NULL, names TEXT NOT NULL) STRICT",
+    )?;
+    Ok(())
+}
+
+/// Makes the tables and the row of meta in one transaction.
+fn found<S: Alter>(db: &mut Connection<S>, digits: &[u8], blocks: u32) -> Result<(), StoreFault>
+    ensures founds { Founds (standing S.Store db.old) (standing S.Store db.new) (fresh digits.now (pos blocks)) result }
+    ensures kind { IfErr result (λ e. e ≡ StoreFault.Failed) }
+{
+    if !db.is_autocommit() {
+        return Err(StoreFault::Failed);
+    }
+    let mut tx = db.transaction();
+    make_tables(&mut tx)?;
+    put_meta(&mut tx, digits, blocks)?;
+    match tx.commit() {
+        Ok(()) => Ok(()),
+        Err(_) => Err(StoreFault::Failed),
+    }
+}
+
+/// The same, or a failure where one of the tables is there.
+pub fn create<S: Alter>(
+    db: &mut Connection<S>,
+    digits: &[u8],
+    blocks: u32,
+) -> Result<(), StoreFault>
+    ensures founds { Founds (standing S.Store db.old) (standing S.Store db.new) (fresh digits.now (pos blocks)) result }
+    ensures taken { has_any (standing S.Store db.old) ≡ true → (result ≡ Err StoreFault.Failed) × (db.new ≡ db.old) }
+    ensures kind { IfErr result (λ e. e ≡ StoreFault.Failed) }
+{
+    if has_any(db) {
+        return Err(StoreFault::Failed);
+    }
+    found(db, digits, blocks)
+}

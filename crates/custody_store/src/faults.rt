@@ -1,0 +1,23 @@
+ghost use Rattle.std.specs.Prelude.{◌≡◌};
+
+use custody_records::Damage;
+use sqlite::Error;
+
+/// Why a call of the store gave no answer.
+#[derive(Clone, Copy, Debug, Drop, PartialEq, Eq)]
+pub enum StoreFault {
+    /// A call of the database failed or was refused, or there was no memory.
+    Failed,
+    /// The rows are not those of records.
+    Damaged(Damage),
+}
+
+impl From<Error> for StoreFault {
+    ghost use Rattle.custody_store.specs.declared.faults.StoreFault.TheVariants.{Failed};
+
+    ghost from_gives = { λ _ fault. fault ≡ Failed };
+
+    fn from(_: Error) -> StoreFault {
+        StoreFault::Failed
+    }
+}

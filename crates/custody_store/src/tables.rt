@@ -1,0 +1,43 @@
+//! Which tables a database has.
+ghost use Rattle.std.specs.Prelude.{◌≡◌, ◌||◌, ◌&&◌, codes};
+ghost use Rattle.custody_store.specs.Reading.{has_table};
+ghost use Rattle.custody_store.specs.Standing.{standing, has_any, has_all};
+
+use sqlite::{Alter, Connection};
+use sqlite_schema::names::same_name;
+use sqlite_schema::schema::Schema;
+
+/// Whether the schema has a table with this name.
+pub fn has_table(schema: &Schema, name: &str) -> bool
+    ensures { result ≡ has_table name.now schema.now }
+{
+    schema
+        .tables
+        .as_slice()
+        .iter()
+        .any(|table| same_name(table.name.as_slice(), name.as_bytes()))
+}
+
+/// Whether one of the five tables is there.
+pub fn has_any<S: Alter>(db: &Connection<S>) -> bool
+    ensures { result ≡ has_any (standing S.Store db.now) }
+{
+    let schema = db.schema();
+    has_table(schema, "meta")
+        || has_table(schema, "registry")
+        || has_table(schema, "part")
+        || has_table(schema, "notice")
+        || has_table(schema, "handover")
+}
+
+/// Whether all five tables are there.
+pub fn has_all<S: Alter>(db: &Connection<S>) -> bool
+    ensures { result ≡ has_all (standing S.Store db.now) }
+{
+    let schema = db.schema();
+    has_table(schema, "meta")
+        && has_table(schema, "registry")
+        && has_table(schema, "part")
+        && has_table(schema, "notice")
+        && has_table(schema, "handover")
+}

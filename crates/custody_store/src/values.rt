@@ -1,0 +1,61 @@
+//! The parameters of statements.
+ghost use Rattle.std.specs.Prelude.{◌≡◌, pos, IfSome};
+ghost use Rattle.schedule.specs.Schedule.{year_after};
+ghost use Rattle.sqlite.specs.declared.types.Value.TheVariants.{Int, Text, Blob};
+ghost use Rattle.sqlite_value.specs.Value.{owned};
+
+use schedule::{Day, Sec, keep_until};
+use sqlite::types::ValueRef;
+
+pub fn text(bytes: &[u8]) -> ValueRef<'_>
+    ensures { owned result ≡ Text bytes.now }
+{
+    ValueRef::Text(bytes)
+}
+
+pub fn blob(bytes: &[u8]) -> ValueRef<'_>
+    ensures { owned result ≡ Blob bytes.now }
+{
+    ValueRef::Blob(bytes)
+}
+
+pub fn number<'v>(n: u32) -> ValueRef<'v>
+    ensures { owned result ≡ Int (pos n) }
+{
+    ValueRef::Int(i64::from(n))
+}
+
+pub fn small<'v>(n: u8) -> ValueRef<'v>
+    ensures { owned result ≡ Int (pos n) }
+{
+    ValueRef::Int(i64::from(n))
+}
+
+/// None where the number has no place in a column.
+pub fn large<'v>(n: u64) -> Option<ValueRef<'v>>
+    ensures { IfSome result (λ v. owned v ≡ Int (pos n)) }
+{
+    match i64::try_from(n) {
+        Ok(n) => Some(ValueRef::Int(n)),
+        Err(_) => None,
+    }
+}
+
+pub fn day<'v>(d: Day) -> ValueRef<'v>
+    ensures { owned result ≡ Int (pos d) }
+{
+    ValueRef::Int(d.number())
+}
+
+pub fn moment<'v>(s: Sec) -> ValueRef<'v>
+    ensures { owned result ≡ Int (pos s) }
+{
+    ValueRef::Int(s.seconds())
+}
+
+/// The day until which a part is kept that was received on this day.
+pub fn kept_until<'v>(received: Day) -> ValueRef<'v>
+    ensures { owned result ≡ Int (pos (year_after received)) }
+{
+    ValueRef::Int(keep_until(received))
+}

@@ -1,0 +1,342 @@
+//! Reading an envelope: the JSON value of the text, the envelope that the value stands for, its text, and the comparison.
+ghost use Rattle.std.specs.Prelude.{◌≡◌, ◌-◌, ◌≤◌, ◌<◌, ◌^◌, ℕ, List, Option, Some, None, Ok, option_map, IfSome, IfOk, IsUtf8, IsTrue, IsErrOf, All, length};
+ghost use Rattle.serde_json.specs.View.{items_view, members_view};
+ghost use Rattle.serde_json.specs.Read.{read};
+ghost use Rattle.serde_json.specs.View as json;
+ghost use Rattle.std.specs.List.{list_all};
+ghost use Rattle.deposit_name.specs.Tables.{has_deletes};
+ghost use Rattle.deposit_name.specs.Identifiers.{IsTld, IsDepositId};
+ghost use Rattle.schedule.specs.Reading.{day_at};
+ghost use Rattle.schedule.specs.Schedule.{IsDay};
+ghost use Rattle.envelope.specs.Uri.{is_uri};
+ghost use Rattle.envelope.specs.Envelope.{Env, IsFile, IsCount, FitsKind, Rises, IsHeader, IsMenu, IsEnvelope, view, env_text, text_max};
+ghost use Rattle.envelope.specs.declared.error.EnvError.TheVariants.{Spelling};
+ghost use Rattle.envelope.specs.Reading.{Gives, number_at, text_at, digest_at, file_at, uri_at, each_at, counts_of, files_at, uris_at, counts_at, kind_at, deletes_at, id_at, prev_id_at, watermark_at, count_at, header_at, tld_at, menu_at, resend_at, env_at};
+
+use crate::envelope::{Count, Envelope, FileEntry, Header, Menu};
+use crate::error::EnvError;
+use crate::uri::Uri;
+use crate::writing::write_envelope;
+use deposit_name::{DepositId, Kind, TableName, Tld};
+use hex::FromHex;
+use schedule::{Day, read_day};
+use serde_json::{Category, Map, Value};
+use std::alloc::Global;
+
+/// No envelope has a text of more bytes.
+const TEXT_MAX: usize = 8192;
+
+/// In bytes.
+const FILE_LENGTH_MAX: u64 = 8_388_608;
+
+const CONTENTS_MAX: usize = 8;
+
+const DELETES_MAX: usize = 4;
+
+const COUNTS_MAX: usize = 16;
+
+const OBJECT_URIS_MAX: usize = 16;
+
+const RESEND_MAX: u64 = 99;
+
+#[tactic(auto, unfolding(crate::specs::Reading::number_at))]
+fn number_of(value: &Value, limit: u64) -> Option<u64>
+    ensures value { result ≡ number_at limit (json.view value.now) }
+    ensures small { IfSome result (λ n. n ≤ limit) }
+{
+    let n = value.as_u64()?;
+    if n <= limit { Some(n) } else { None }
+}
+
+#[tactic(auto, unfolding(crate::specs::Reading::text_at))]
+fn text_of<'v>(value: &'v Value, name: &str) -> Option<&'v str>
+    ensures { option_map (λ t. t.now) result ≡ text_at name.now (json.view value.now) }
+{
+    value.get(name)?.as_str()
+}
+
+#[tactic(auto, unfolding(crate::specs::Reading::file_at))]
+fn file_of(value: &Value) -> Option<FileEntry>
+    ensures value { result ≡ file_at (json.view value.now) }
+    ensures valid { IfSome result IsFile }
+{
+    let length = number_of(value.get("length")?, FILE_LENGTH_MAX)? as u32;
+    let name = TableName::parse(text_of(value, "name")?)?;
+    let sha256 = <[u8; 32] as FromHex>::from_hex(text_of(value, "sha256")?).ok()?;
+    Some(FileEntry {
+        length,
+        name,
+        sha256,
+    })
+}
+
+#[tactic(auto, unfolding(crate::specs::Reading::uri_at))]
+fn uri_of(value: &Value) -> Option<Uri>
+    ensures value { result ≡ uri_at (json.view value.now) }
+    ensures valid { IfSome result (λ u. IsTrue (is_uri u)) }
+{
+    Uri::parse(value.as_str()?.as_bytes())
+}
+
+#[tactic(auto, unfolding(crate::specs::Reading::id_at))]
+fn id_of(value: &Value, name: &str) -> Option<DepositId>
+    ensures value { result ≡ id_at name.now (json.view value.now) }
+    ensures valid { IfSome result IsDepositId }
+{
+    DepositId::parse(text_of(value, name)?.as_bytes())
+}
+
+#[tactic(auto, unfolding(crate::specs::Reading::prev_id_at))]
+fn prev_id_of(value: &Value) -> Option<Option<DepositId>>
+    ensures value { result ≡ prev_id_at (json.view value.now) }
+    ensures valid { IfSome result (λ p. IfSome p IsDepositId) }
+{
+    if value.get("prevId").is_none() {
+        return Some(None);
+    }
+    let id = id_of(value, "prevId")?;
+    Some(Some(id))
+}
+
+#[tactic(auto, unfolding(crate::specs::Reading::kind_at))]
+fn kind_of(t: &str) -> Option<Kind>
+    ensures { result ≡ kind_at t.now }
+{
+    match t {
+        "FULL" => Some(Kind::Full),
+        "DIFF" => Some(Kind::Diff),
+        _ => None,
+    }
+}
+
+#[tactic(auto, unfolding(crate::specs::Reading::watermark_at))]
+fn watermark_of(value: &Value) -> Option<Day>
+    ensures value { result ≡ watermark_at (json.view value.now) }
+    ensures valid { IfSome result IsDay }
+{
+    let t = text_of(value, "watermark")?.as_bytes();
+    read_day(t.get(..10).unwrap_or(t))
+}
+
+#[tactic(auto, unfolding(crate::specs::Reading::files_at))]
+fn files_of(alloc: Global, value: &Value, limit: usize) -> Result<Vec<FileEntry>, EnvError>
+    ensures value { Gives (λ v. v.items) result (files_at limit (json.view value.now)) }
+    ensures few { IfOk result (λ v. length v.items ≤ limit) }
+    ensures valid { IfOk result (λ v. All IsFile v.items) }
+{
+    let items = value.as_array().ok_or(EnvError::Spelling)?;
+    let files = each_file(alloc, items)?;
+    if files.len() > limit {
+        return Err(EnvError::Spelling);
+    }
+    Ok(files)
+}
+
+fn each_file(alloc: Global, items: &[Value]) -> Result<Vec<FileEntry>, EnvError>
+    ensures value { Gives (λ v. v.items) result (each_at file_at (items_view items.now)) }
+    ensures valid { IfOk result (λ v. All IsFile v.items) }
+{
+    let mut files = Vec::new(alloc);
+    for item in items {
+        let Some(file) = file_of(item) else {
+            return Err(EnvError::Spelling);
+        };
+        files.push(file)?;
+    }
+    Ok(files)
+}
+
+#[tactic(auto, unfolding(crate::specs::Reading::uris_at))]
+fn uris_of(alloc: Global, value: &Value) -> Result<Vec<Uri>, EnvError>
+    ensures value { Gives (λ v. v.items) result (uris_at (json.view value.now)) }
+    ensures some { IfOk result (λ v. 1 ≤ length v.items) }
+    ensures few { IfOk result (λ v. length v.items ≤ 16) }
+    ensures valid { IfOk result (λ v. All (λ u. IsTrue (is_uri u)) v.items) }
+{
+    let items = value.as_array().ok_or(EnvError::Spelling)?;
+    let uris = each_uri(alloc, items)?;
+    if uris.is_empty() || uris.len() > OBJECT_URIS_MAX {
+        return Err(EnvError::Spelling);
+    }
+    Ok(uris)
+}
+
+fn each_uri(alloc: Global, items: &[Value]) -> Result<Vec<Uri>, EnvError>
+    ensures value { Gives (λ v. v.items) result (each_at uri_at (items_view items.now)) }
+    ensures valid { IfOk result (λ v. All (λ u. IsTrue (is_uri u)) v.items) }
+{
+    let mut uris = Vec::new(alloc);
+    for item in items {
+        let Some(uri) = uri_of(item) else {
+            return Err(EnvError::Spelling);
+        };
+        uris.push(uri)?;
+    }
+    Ok(uris)
+}
+
+#[tactic(auto, unfolding(crate::specs::Reading::counts_at))]
+fn list_counts(alloc: Global, value: &Value) -> Result<Vec<Count>, EnvError>
+    ensures value { Gives (λ v. v.items) result (counts_at (json.view value.now)) }
+    ensures few { IfOk result (λ v. length v.items ≤ 16) }
+    ensures valid { IfOk result (λ v. All IsCount v.items) }
+    ensures order { IfOk result (λ v. Rises v.items) }
+{
+    let members = value.as_object().ok_or(EnvError::Spelling)?;
+    let counts = each_count(alloc, members)?;
+    if counts.len() > COUNTS_MAX {
+        return Err(EnvError::Spelling);
+    }
+    Ok(counts)
+}
+
+#[tactic(auto, unfolding(crate::specs::Reading::count_at))]
+fn count_of(name: &str, value: &Value) -> Option<Count>
+    ensures value { result ≡ count_at name.now (json.view value.now) }
+    ensures valid { IfSome result IsCount }
+{
+    let uri = Uri::parse(name.as_bytes())?;
+    let count = number_of(value, u64::from(u32::MAX))? as u32;
+    Some(Count { uri, count })
+}
+
+fn each_count(alloc: Global, members: &Map<String, Value>) -> Result<Vec<Count>, EnvError>
+    ensures value { Gives (λ v. v.items) result (counts_of (members_view members.now.entries)) }
+    ensures valid { IfOk result (λ v. All IsCount v.items) }
+    ensures order { IfOk result (λ v. Rises v.items) }
+{
+    let mut counts = Vec::new(alloc);
+    for (name, value) in members.iter() {
+        let Some(count) = count_of(name, value) else {
+            return Err(EnvError::Spelling);
+        };
+        counts.push(count)?;
+    }
+    Ok(counts)
+}
+
+#[tactic(auto, unfolding(crate::specs::Reading::deletes_at))]
+fn deletes_of(alloc: Global, value: &Value, kind: Kind) -> Result<Option<Vec<FileEntry>>, EnvError>
+    ensures value { Gives (option_map (λ v. v.items)) result (deletes_at kind (json.view value.now)) }
+    ensures valid { IfOk result (λ d. FitsKind kind (option_map (λ v. v.items) d)) }
+{
+    match kind {
+        Kind::Full => Ok(None),
+        Kind::Diff => {
+            let list = value.get("deletes").ok_or(EnvError::Spelling)?;
+            let files = files_of(alloc, list, DELETES_MAX)?;
+            if !have_deletes(&files) {
+                return Err(EnvError::Spelling);
+            }
+            Ok(Some(files))
+        }
+    }
+}
+
+fn have_deletes(files: &[FileEntry]) -> bool
+    ensures value { result ≡ list_all (λ f. has_deletes f.name) files.now }
+    ensures named { IsTrue result → All (λ f. IsTrue (has_deletes f.name)) files.now }
+{
+    files.iter().all(|f| f.name.has_deletes())
+}
+
+#[tactic(auto, unfolding(crate::specs::Reading::header_at))]
+fn header_of(alloc: Global, value: &Value) -> Result<Header, EnvError>
+    ensures value { Gives (λ h. (h.count.items, h.tld)) result (header_at (json.view value.now)) }
+    ensures valid { IfOk result IsHeader }
+{
+    let counts = value.get("count").ok_or(EnvError::Spelling)?;
+    let count = list_counts(alloc, counts)?;
+    let tld = tld_of(value).ok_or(EnvError::Spelling)?;
+    Ok(Header { count, tld })
+}
+
+#[tactic(auto, unfolding(crate::specs::Reading::tld_at))]
+fn tld_of(value: &Value) -> Option<Tld>
+    ensures value { result ≡ tld_at (json.view value.now) }
+    ensures valid { IfSome result IsTld }
+{
+    Tld::parse(text_of(value, "tld")?.as_bytes())
+}
+
+#[tactic(auto, unfolding(crate::specs::Reading::menu_at))]
+fn menu_of(alloc: Global, value: &Value) -> Result<Menu, EnvError>
+    ensures value { Gives (λ m. m.object_uris.items) result (menu_at (json.view value.now)) }
+    ensures valid { IfOk result IsMenu }
+{
+    let uris = value.get("objURI").ok_or(EnvError::Spelling)?;
+    let object_uris = uris_of(alloc, uris)?;
+    Ok(Menu { object_uris })
+}
+
+/// The envelope whose one text this is. Any other text is refused as a spelling, and one of more than 8,192 bytes
+/// before any memory is taken.
+pub fn read_envelope(alloc: Global, t: &[u8]) -> Result<Envelope, EnvError>
+    // What is read is in form, and the text is its one text.
+    ensures found { IfOk result (λ e. IsEnvelope (view e) × (t.now ≡ env_text (view e))) }
+    // The text of each envelope in form is read as it, unless memory runs out.
+    ensures only { (v : Env) → IsEnvelope v → t.now ≡ env_text v → Gives view result (Some v) }
+    // What is too long for any envelope is told so, however little memory there is.
+    ensures long { text_max < length t.now → IsErrOf result Spelling }
+{
+    if t.len() > TEXT_MAX {
+        return Err(EnvError::Spelling);
+    }
+    let value = value_of(alloc, t)?;
+    let envelope = envelope_of(alloc, &value)?;
+    let text = write_envelope(alloc, &envelope)?;
+    if text.as_slice() != t {
+        return Err(EnvError::Spelling);
+    }
+    Ok(envelope)
+}
+
+// The JSON value of a text.
+fn value_of(alloc: Global, t: &[u8]) -> Result<Value, EnvError>
+    ensures { IsUtf8 t.now → Gives json.view result (read t.now) }
+{
+    match Value::from_slice(alloc, t) {
+        Ok(value) => Ok(value),
+        Err(e) if e.classify() == Category::Memory => Err(EnvError::Memory),
+        Err(_) => Err(EnvError::Spelling),
+    }
+}
+
+#[tactic(auto, unfolding(crate::specs::Reading::env_at))]
+fn envelope_of(alloc: Global, value: &Value) -> Result<Envelope, EnvError>
+    ensures value { Gives view result (env_at (json.view value.now)) }
+    ensures valid { IfOk result (λ e. IsEnvelope (view e)) }
+{
+    let list = value.get("contents").ok_or(EnvError::Spelling)?;
+    let contents = files_of(alloc, list, CONTENTS_MAX)?;
+    let kind_text = text_of(value, "type").ok_or(EnvError::Spelling)?;
+    let kind = kind_of(kind_text).ok_or(EnvError::Spelling)?;
+    let deletes = deletes_of(alloc, value, kind)?;
+    let object = value.get("header").ok_or(EnvError::Spelling)?;
+    let header = header_of(alloc, object)?;
+    let id = id_of(value, "id").ok_or(EnvError::Spelling)?;
+    let prev_id = prev_id_of(value).ok_or(EnvError::Spelling)?;
+    let object = value.get("rdeMenu").ok_or(EnvError::Spelling)?;
+    let menu = menu_of(alloc, object)?;
+    let resend = resend_of(value).ok_or(EnvError::Spelling)?;
+    let watermark = watermark_of(value).ok_or(EnvError::Spelling)?;
+    Ok(Envelope {
+        contents,
+        deletes,
+        header,
+        id,
+        prev_id,
+        menu,
+        resend,
+        kind,
+        watermark,
+    })
+}
+
+#[tactic(auto, unfolding(crate::specs::Reading::resend_at))]
+fn resend_of(value: &Value) -> Option<u8>
+    ensures value { result ≡ resend_at (json.view value.now) }
+    ensures valid { IfSome result (λ n. n ≤ 99) }
+{
+    Some(number_of(value.get("resend")?, RESEND_MAX)? as u8)
+}

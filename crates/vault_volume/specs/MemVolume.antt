@@ -1,0 +1,19 @@
+-- The script of a volume in memory.
+use Rattle.std.specs.Prelude.{◌⊎◌, ℕ, ◌≤◌, length, nat_eq, IsSomeAnd, IsTrue}
+use Rattle.std.specs.List.{list_any}
+use Rattle.vault_volume.specs.declared.memory.MemVolume.{MemVolume}
+
+-- how many calls it has kept, which is the number of the next
+abbrev pub call_count : MemVolume → ℕ
+call_count volume = length volume.calls.items
+
+-- the call of this number is one of those that are to fail
+abbrev pub IsListed : MemVolume → ℕ → Type 0
+IsListed volume number = IsTrue (list_any (λ n. nat_eq n number) volume.failing.items)
+
+-- the volume has stopped by this call
+abbrev pub IsStopped : MemVolume → ℕ → Type 0
+IsStopped volume number = IsSomeAnd volume.stop_at (λ stop. stop ≤ number)
+
+abbrev pub WillFail : MemVolume → ℕ → Type 0
+WillFail volume number = IsListed volume number ⊎ IsStopped volume number
