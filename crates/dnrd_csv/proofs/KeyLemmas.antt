@@ -1,5 +1,5 @@
 -- Keys as lists of texts, in their order and in a set.
-use Rattle.std.proofs.Common.{All, AllPairs, Bool, Bor, Contains, List, Ordering, ℕ, ◌≡◌, ◌≢◌, ◌≤◌, ◌<◌, ◌+◌, ◌++◌, ◌∷◌, ◌∙◌, ◌||◌, [], ap, inl, inr, arith, cond, false, get_or, length, map, min, refl, sym, take, true}
+use Rattle.std.proofs.Common.{All, AllPairs, Bool, Bor, Contains, List, Ordering, ℕ, ◌≡◌, ◌≢◌, ◌≤◌, ◌<◌, ◌+◌, ◌++◌, ◌∷◌, ◌∙◌, ◌||◌, [], ap, inl, inr, arith, cond, false, get_or, length, map, refl, sym, take, true}
 use Rattle.std.specs.Prelude.{◌&&◌}
 use Rattle.std.specs.Bool.{Decides}
 use Rattle.std.specs.Cmp.{IsEquivalence, IsTotalOrder}

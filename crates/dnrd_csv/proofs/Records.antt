@@ -127,7 +127,7 @@ read_is : (old new : Reader (Bor (List ℕ))) (fields : List (List ℕ)) (text :
 unfolding Reached
 read_is old new fields text at read =
     let (left, source, reached) =
-        rows-more (λ (s : Bor (List ℕ)). Some s.now) old new fields default_config st.StartRecord text text [] at.config at.source (sym at.start, refl) read in
+    rows-more (λ (s : Bor (List ℕ)). Some s.now) old new fields default_config st.StartRecord text text [] at.config at.source (sym at.start, refl) read in
     let (p, is, same, ends) = reached in
     let (state, tail) = ends in
     record { read = p; left = left; source = source; found = is; fields_are = same; state_is = state; left_is = tail }

@@ -1,6 +1,6 @@
 -- Rows of one width in one list of fields, and what holds of each of them.
 use Rattle.std.specs.Prelude.{flat_map}
-use Rattle.std.proofs.Common.{◌≡◌, ◌<◌, ◌≤◌, ◌+◌, ◌*◌, ◌++◌, ◌∷◌, ◌∙◌, [], ℕ, List, All, None, Some, add-one, ap, append_assoc, arith, drop, get_or, length, map, min, refl, suc, sym, take, zero}
+use Rattle.std.proofs.Common.{◌≡◌, ◌<◌, ◌+◌, ◌*◌, ◌++◌, ◌∷◌, ◌∙◌, [], ℕ, List, All, None, Some, add-one, ap, append_assoc, arith, drop, get_or, length, refl, suc, sym, take, zero}
 use Rattle.std.specs.List.{AllByRecursion, AllZip}
 use Rattle.std.proofs.lemmas.List.{append-nil, drop-drop, get_or-drop, get_or-take, length-append, length-drop, length-take, take_more}
 use Rattle.std.proofs.lemmas.List.Elements.{recursion_from_All}

@@ -1,5 +1,5 @@
 -- What the reading of rows keeps.
-use Rattle.std.proofs.Common.{All, Bool, Bor, List, ℕ, ◌≡◌, ◌≢◌, ◌≤◌, ◌<◌, ◌+◌, ◌++◌, ◌∷◌, ◌∙◌, ◌⊎◌, [], ◌*◌, ap, append_assoc, arith, false, get_or, inl, inr, length, refl, suc, sym, true}
+use Rattle.std.proofs.Common.{All, Bool, Bor, List, ℕ, ◌≡◌, ◌≢◌, ◌≤◌, ◌<◌, ◌+◌, ◌++◌, ◌∷◌, ◌∙◌, ◌⊎◌, [], ◌*◌, ap, append_assoc, arith, false, inl, inr, length, refl, suc, sym, true}
 use Rattle.std.specs.List.{join_with_byte, starts_with}
 use Rattle.std.proofs.lemmas.List.{append-nil, get_or_append_left, length-append}
 use Rattle.std.proofs.lemmas.List.Elements.{All-push}

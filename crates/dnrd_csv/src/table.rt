@@ -5,10 +5,10 @@ ghost use Rattle.dnrd_csv.specs.Table.{IsTable, Refuses, columns_of, key_columns
 ghost use Rattle.dnrd_csv.specs.Text.{key_rows, table_text};
 
 use crate::checks::{have_forms, have_keys};
-use crate::layout::{columns, key_columns};
 use crate::error::TableError;
 use crate::form::Form;
 use crate::keys::Keys;
+use crate::layout::{columns, key_columns};
 use crate::reading::read_rows;
 use crate::rows::Rows;
 use deposit_name::TableName;

@@ -84,8 +84,14 @@ fn refuses_texts(rt: HostRuntime) {
         (b"R1,Exam\"ple,292,ok\n", TableError::NotRows),
         (b"\xEF\xBB\xBFR1,Example,292,ok\n", TableError::NotRows),
         (b"R1,Example,0292\nR2,Example,292,ok", TableError::NotRows),
-        (b"R1,Example,0292,ok\nR2,Example,292\n", TableError::ColumnCount),
-        (b"R1,Example,,ok\nR1,Other,,ok,more\n", TableError::ColumnCount),
+        (
+            b"R1,Example,0292,ok\nR2,Example,292\n",
+            TableError::ColumnCount,
+        ),
+        (
+            b"R1,Example,,ok\nR1,Other,,ok,more\n",
+            TableError::ColumnCount,
+        ),
         (b"R1,Example,0292,ok\n", TableError::FieldForm),
         (b"R1,Example,,ok\nR1,Other,,o1\n", TableError::FieldForm),
         (b"R1,Example,,ok\nR1,Other,,ok\n", TableError::DuplicateKey),
@@ -104,7 +110,11 @@ fn refuses_texts(rt: HostRuntime) {
 fn reads_keys(rt: HostRuntime) -> Result<(), Fail> {
     let keys = read_keys(rt.alloc(), TableName::Host, b"ns1.a.example\n")?;
     assert!(&rt; only_key(&keys) == Some(b"ns1.a.example".as_slice()));
-    let twice = read_keys(rt.alloc(), TableName::Host, b"b.example\na.example\nb.example\n");
+    let twice = read_keys(
+        rt.alloc(),
+        TableName::Host,
+        b"b.example\na.example\nb.example\n",
+    );
     assert!(&rt; twice.err() == Some(TableError::DuplicateKey));
     Ok(())
 }

@@ -1,5 +1,4 @@
-use Rattle.std.proofs.Common.{List, ◌<◌, ◌∙◌, ℕ, [], arith, get_or, length, rules, subst, sym}
-use Rattle.std.proofs.lemmas.List.{take_all}
+use Rattle.std.proofs.Common.{List, ◌<◌, ℕ, [], arith, get_or, length, rules, subst, sym}
 use Rattle.dnrd_csv.specs.Form.{HasForm}
 use Rattle.dnrd_csv.specs.declared.form.Form.TheVariants.{HostName}
 use Rattle.dnrd_csv.proofs.RowLemmas.{zip_at, zip_more}

@@ -1,4 +1,4 @@
-use Rattle.std.proofs.Common.{List, ℕ, ap, cond, ◌++◌, ◌∷◌, [], ◌≡◌, ◌<◌, ◌∙◌, Bool, arith, false, get_or, length, map, not, refl, rules, sym, take, true}
+use Rattle.std.proofs.Common.{List, ℕ, ap, cond, ◌++◌, ◌∷◌, [], ◌≡◌, ◌<◌, ◌∙◌, Bool, arith, false, get_or, length, not, refl, rules, sym, take, true}
 use Rattle.std.specs.Cmp.Lexicographic.{slice_cmp}
 use Rattle.std.specs.Ordering.{is_eq}
 use Rattle.std.specs.List.{IsDistinct, list_any}

@@ -1,4 +1,4 @@
-use Rattle.std.proofs.Common.{◌≡◌, ◌++◌, ◌∷◌, ◌∙◌, [], List, ℕ, ap, append_assoc, sym, take}
+use Rattle.std.proofs.Common.{◌++◌, ◌∷◌, ◌∙◌, [], List, ℕ, ap, append_assoc, sym, take}
 use Rattle.csv.specs.Records.{fields_of}
 use Rattle.dnrd_csv.proofs.RowLemmas.{taken_all, taken_more}
 use Rattle.dnrd_csv.proofs.reading.append.Goals as goal

@@ -1,4 +1,4 @@
-use Rattle.std.proofs.Common.{List, ℕ, ◌≡◌, ◌++◌, ◌∙◌, ap, rules, subst, sym}
+use Rattle.std.proofs.Common.{List, ℕ, ◌++◌, ◌∙◌, ap, rules, subst, sym}
 use Rattle.csv.specs.Records.{fields_of}
 use Rattle.dnrd_csv.specs.Text.{IsRow, row_text}
 use Rattle.dnrd_csv.proofs.Records.{at_next, none_read, read_front}

@@ -1,4 +1,4 @@
-use Rattle.std.proofs.Common.{◌≡◌, ◌≢◌, ◌∙◌, [], Some, ap, inr, refl, sym}
+use Rattle.std.proofs.Common.{◌∙◌, Some, ap, inr, refl, sym}
 use Rattle.std.proofs.lemmas.Result.{err_from_is_err_and}
 use Rattle.csv.specs.Records.{fields_of}
 use Rattle.dnrd_csv.specs.Reading.{IsAt}

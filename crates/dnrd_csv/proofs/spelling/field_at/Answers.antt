@@ -1,4 +1,3 @@
-use Rattle.std.proofs.Common.{sym}
 use Rattle.csv.specs.Records.{fields_of}
 use Rattle.dnrd_csv.proofs.RowLemmas.{field_there}
 use Rattle.dnrd_csv.proofs.spelling.field_at.Goals as goal

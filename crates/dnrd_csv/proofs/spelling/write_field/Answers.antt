@@ -1,4 +1,4 @@
-use Rattle.std.proofs.Common.{◌≡◌, ◌++◌, ◌∷◌, ◌∙◌, [], List, ℕ, ap, append_assoc, get_or, sym, take}
+use Rattle.std.proofs.Common.{◌++◌, ◌∷◌, ◌∙◌, [], List, ℕ, ap, append_assoc, get_or, sym, take}
 use Rattle.dnrd_csv.specs.Text.{doubled}
 use Rattle.dnrd_csv.proofs.WritingLemmas.{doubled_more}
 use Rattle.dnrd_csv.proofs.spelling.write_field.Goals as goal

@@ -1,4 +1,4 @@
-use Rattle.std.proofs.Common.{ℕ, ◌<◌, ◌≤◌, ◌∙◌, ◌+◌, ◌*◌, ap, arith, length, sym}
+use Rattle.std.proofs.Common.{◌<◌, ◌∙◌, ◌+◌, ◌*◌, arith, length, sym}
 use Rattle.csv.specs.Records.{fields_of}
 use Rattle.dnrd_csv.proofs.RowLemmas.{field_in, field_inside, length-rows_from}
 use Rattle.dnrd_csv.proofs.rows.Rows.field.Goals as goal

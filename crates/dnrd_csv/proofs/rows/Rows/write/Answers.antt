@@ -1,4 +1,4 @@
-use Rattle.std.proofs.Common.{List, ℕ, ◌≡◌, ◌<◌, ◌≤◌, ◌++◌, ◌∙◌, ◌+◌, ◌*◌, [], ap, append_assoc, arith, drop, get_or, length, sym, take}
+use Rattle.std.proofs.Common.{List, ℕ, ◌<◌, ◌≤◌, ◌++◌, ◌∙◌, ◌*◌, [], ap, append_assoc, arith, drop, get_or, length, sym, take}
 use Rattle.std.proofs.lemmas.List.{take_all}
 use Rattle.std.proofs.Math.Nat.{mul-le-mul_right}
 use Rattle.csv.specs.Records.{fields_of}

@@ -1,5 +1,4 @@
 use Rattle.std.proofs.Common.{◌≡◌, ◌++◌, take}
-use Rattle.dnrd_csv.specs.Rows.{rows_kept}
 use Rattle.dnrd_csv.specs.Text.{table_text}
 use Rattle.dnrd_csv.proofs.rows.Rows.write.Given as goal
 
