@@ -11,3 +11,5 @@ pub mod Heads
 pub mod Forms
 pub mod Stored
 pub mod Damages
+pub mod Moves
+pub mod Composed
