@@ -13,3 +13,4 @@ pub mod Stored
 pub mod Damages
 pub mod Moves
 pub mod Composed
+pub mod Compared
