@@ -112,7 +112,7 @@ volume_stands rows image state s meta number is head =
 not_both : (form : Form) (damage : rows_damage.Damage) (records : Records) → form ≡ OutOfForm damage → form ≡ InForm records → ⊥
 not_both form damage records p q = cc
 
-damaged_stands : (damage : Damage) (rows : Rows) (image : List ℕ) (state : State) → IsDamaged damage rows image → ¬ Stands rows image state
+pub damaged_stands : (damage : Damage) (rows : Rows) (image : List ℕ) (state : State) → IsDamaged damage rows image → ¬ Stands rows image state
 damaged_stands NoRecord rows image state none s = let row = meta_in_form rows s.records s.in_form in denied row.0 (meta_of rows) row.1 none
   where
     denied : (a : MetaRow) (o : Option MetaRow) → o ≡ Some a → o ≡ None → ⊥

@@ -11,3 +11,6 @@ pub mod Heads
 pub mod Forms
 pub mod Stored
 pub mod Damages
+pub mod Moves
+pub mod Composed
+pub mod Compared

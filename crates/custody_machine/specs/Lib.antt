@@ -8,3 +8,5 @@ pub mod Retries
 pub mod MapValues
 pub mod Stored
 pub mod Damage
+pub mod Moves
+pub mod Custody

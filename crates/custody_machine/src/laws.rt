@@ -4,6 +4,7 @@ ghost use Rattle.custody_machine.specs.Names.{IsReading};
 ghost use Rattle.custody_machine.specs.Damage.{IsRefinement};
 ghost use Rattle.custody_machine.specs.State.{State};
 ghost use Rattle.custody_machine.specs.History.{OpeningsAreRight, NothingIsTakenBack, AcceptedIsFound, HeldAsReceived};
+ghost use Rattle.custody_machine.specs.Moves.{MovesAreHistories, PlacesAreRight, NoDamageIsTold, ReadsBackAsReceived, FindsOne, ChainsMove};
 ghost use Rattle.custody_machine.specs.Retries.{ActsOnce, RepeatsAreAnswered, NothingIsRemoved, RepliesAreRecords, AcknowledgedIsKept};
 
 /// The name that the machine reads in a text is the one whose text it is; and a text that is none is
@@ -19,8 +20,16 @@ pub fn law_damage()
 
 /// Wherever the custody is stopped, however often, opening it again gives what is kept after the
 /// commands that were acknowledged, in order, and of those that were running at a stop each one whole
-/// or not at all.
+/// or not at all; and each part that it holds reads back as it was received.
 pub fn law_histories()
+    // Of database and volume, whatever moves there were.
+    ensures histories { (first : State) → MovesAreHistories first }
+    ensures places { (first : State) → PlacesAreRight first }
+    ensures reads_back { (first : State) → ReadsBackAsReceived first }
+    ensures no_damage { (first : State) → NoDamageIsTold first }
+    ensures finds { FindsOne }
+    ensures runs { ChainsMove }
+    // Of the states.
     ensures opens { (first : State) → OpeningsAreRight first }
     ensures again { (first : State) → NothingIsTakenBack first }
     ensures acknowledged { (first : State) → AcceptedIsFound first }

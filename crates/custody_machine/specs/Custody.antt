@@ -1,0 +1,146 @@
+-- What holds of an open custody, and what its calls do. The volume's and the database's words come as sets: the blocks that are free, and the images and rows that a stop may leave.
+use Rattle.std.specs.Prelude.{◌≡◌, ◌≢◌, ◌⊎◌, ℕ, ◌+◌, ◌-◌, ◌<◌, ◌≤◌, ◌^◌, All, List, [], ◌∷◌, length, Option, Some, None, Bool, true, false, Result, MatchResult, Ok}
+use Rattle.std.specs.FinMap.{get}
+use Rattle.sha2.specs.Sha256.{sha256}
+use Rattle.deposit_name.specs.Name.{Name}
+use Rattle.vault_volume.specs.declared.extent.Extent.{Extent}
+use Rattle.vault_volume.specs.Image.{DiffersOnlyIn}
+use Rattle.vault_volume.specs.Extents.{IsExtentOf, AreApart, IsInAny, IsFreeRun, AllIn, Takes, block_count, blocks_of, part_bytes}
+use Rattle.vault_volume.specs.Staged.{StagedPart}
+use Rattle.custody_records.specs.Keys.{PartKey}
+use Rattle.custody_records.specs.Records.{PartRecord, Records, key_of}
+use Rattle.custody_records.specs.Rows.{Rows}
+use Rattle.custody_records.specs.Form.{form_of, InForm}
+use Rattle.custody_machine.specs.declared.damage.Damage.TheVariants.{NoRecord}
+use Rattle.custody_machine.specs.Names.{read_name}
+use Rattle.custody_machine.specs.State.{State, empty}
+use Rattle.custody_machine.specs.Machine.{Command, Register, Receive, OfPart, Refuse, Accept, Refusal, OtherBytes, VolumeFull, Answer, step, received_part, with_part}
+use Rattle.custody_machine.specs.History.{Answered}
+use Rattle.custody_machine.specs.Stored.{IsNamed, AreWhole, IsVolumeOf, part_of, state_in}
+use Rattle.custody_machine.specs.Damage.{IsDamaged}
+use Rattle.custody_machine.specs.Moves.{Place, Serving, Shut, Left, MayLeave, MayLeaveWithin, Moves, IsBegun}
+
+-- ---- free blocks
+
+-- A block that may be placed, as the records have it. Until blocks are used again, it is one behind each that is named.
+abbrev pub IsPlaceable : Records → ℕ → Type 0
+IsPlaceable records b = (1 ≤ b) × (b < records.blocks) × ((n : ℕ) → IsNamed records n → n < b)
+
+-- so many bytes can be placed
+abbrev pub HasRoom : Records → ℕ → Type 0
+HasRoom records len = (start : ℕ) × IsFreeRun (IsPlaceable records) start (block_count len)
+
+-- a command's part can be placed
+abbrev pub HasRoomFor : Records → Command → Type 0
+HasRoomFor records (Register tld first_day) = Unit {0}
+HasRoomFor records (Receive name bytes) = HasRoom records (length bytes)
+
+-- ---- an open custody
+
+-- In memory, whatever volume and database are: the records are whole, of a volume of this size, and the free blocks are those that they leave. The volume can count one more failure.
+pub record IsInOrder (records : Records) (size failures : ℕ) (free : ℕ → Type 0) : Type 0 where
+  pub whole : AreWhole records
+  pub blocks : size ≡ records.blocks
+  pub placeable : (b : ℕ) → (free b → IsPlaceable records b) × (IsPlaceable records b → free b)
+  pub count : failures < 2 ^ 64 - 1
+
+-- Where the volume tells its images: it is that of the records, and a stop leaves all but the free blocks as they are read.
+pub record IsOnVolume (records : Records) (image : List ℕ) (free : ℕ → Type 0) (left : List ℕ → Type 0) : Type 0 where
+  pub volume : IsVolumeOf records image
+  pub elsewhere : (c : List ℕ) → left c → DiffersOnlyIn free image c
+
+-- Where the database is honest: it stands ready, its rows are the records, and a stop leaves these rows.
+pub record IsInStore (records : Records) (rows : Rows) (is_ready : Type 0) (left : Rows → Type 0) : Type 0 where
+  pub ready : is_ready
+  pub in_form : form_of rows ≡ InForm records
+  pub settled : (r : Rows) → left r → r ≡ rows
+
+-- ---- what the calls of volume and database give
+
+-- what a stop at some moment from the old volume on may leave of the new one
+abbrev pub LeftSince : {V : Type 0} → (V → ℕ) → (V → ℕ → List ℕ → Type 0) → V → V → List ℕ → Type 0
+LeftSince moment left_at old new image = (t : ℕ) × (moment old ≤ t) × (t ≤ moment new) × left_at new t image
+
+-- Bytes are settled at blocks that were free, and are used now.
+pub record IsStaged (size : ℕ) (old new : List ℕ) (was_free is_free : ℕ → Type 0) (left : List ℕ → Type 0) (bytes : List ℕ) (staged : StagedPart) : Type 0 where
+  pub len : staged.len ≡ length bytes
+  pub digest : staged.digest ≡ sha256 bytes
+  pub each : All (IsExtentOf size) staged.extents
+  pub counts : blocks_of staged.extents ≡ block_count (length bytes)
+  pub apart : AreApart staged.extents
+  pub from_free : AllIn was_free staged.extents
+  pub taken : Takes was_free staged.extents is_free
+  -- until blocks are used again: the blocks that are still free lie behind those that were taken
+  pub behind : (b n : ℕ) → is_free b → IsInAny staged.extents n → n < b
+  pub holds : part_bytes new staged.extents staged.len ≡ bytes
+  pub elsewhere : DiffersOnlyIn was_free old new
+  pub settled : (c : List ℕ) → left c → c ≡ new
+
+-- the record of a staged part
+abbrev pub staged_record : Name → ℕ → StagedPart → PartRecord
+staged_record name now staged = record { kind = name.kind; received = now; len = staged.len; digest = staged.digest; extents = Some staged.extents }
+
+-- One commit: at `Ok` the database stands ready and a stop leaves the changed records, at `Err` those before or the changed ones.
+abbrev pub Commits : {A E : Type 0} → Type 0 → Rows → Rows → (Rows → Type 0) → (Rows → Type 0) → (Records → Records) → Result A E → Type 0
+Commits is_ready old new might_leave may_leave change result = (records : Records) → form_of old ≡ InForm records → ((r : Rows) → might_leave r → r ≡ old) →
+    MatchResult result (λ _. (form_of new ≡ InForm (change records)) × ((r : Rows) → may_leave r → r ≡ new) × is_ready)
+    (λ _. (r : Rows) → may_leave r → (form_of r ≡ InForm records) ⊎ (form_of r ≡ InForm (change records)))
+
+-- ---- what the records decide of a part, whatever its bytes
+
+pub data PartRuling : Type 0 where
+  Refuses : Refusal → PartRuling
+  -- a part is held under the name: its bytes decide
+  ByBytes : PartKey → PartRecord → List Extent → PartRuling
+  -- the name is new, and nothing but room can refuse it
+  Goes : Name → PartRuling
+
+-- the machine's ruling, in the state of the records with any image and for any bytes so long
+abbrev pub Decides : PartRuling → Records → List ℕ → ℕ → ℕ → Type 0
+Decides (Refuses refusal) records text len now = (refusal ≢ OtherBytes) × (refusal ≢ VolumeFull) × ((image bytes : List ℕ) → length bytes ≡ len → step (state_in records image) (Receive text bytes) now ≡ Refuse refusal)
+Decides (ByBytes key part extents) records text len now = (name : Name) × (read_name text ≡ Ok name) × (key ≡ key_of name) × (get records.parts key ≡ Some part) × (part.extents ≡ Some extents) × ((image bytes : List ℕ) → length bytes ≡ len →
+    (part_bytes image extents part.len ≡ bytes → step (state_in records image) (Receive text bytes) now ≡ Accept (record { entry = OfPart key (part_of image part); is_repeat = true }) (state_in records image))
+    × (part_bytes image extents part.len ≢ bytes → step (state_in records image) (Receive text bytes) now ≡ Refuse OtherBytes))
+Decides (Goes name) records text len now = (read_name text ≡ Ok name) × (get records.parts (key_of name) ≡ None) × ((image bytes : List ℕ) → length bytes ≡ len →
+    step (state_in records image) (Receive text bytes) now ≡ Accept (record { entry = OfPart (key_of name) (received_part name bytes now); is_repeat = false }) (with_part (state_in records image) (key_of name) (received_part name bytes now)))
+
+-- how the bytes of a part compare with others
+pub data Comparison : Type 0 where
+  Same : Comparison
+  -- others, and the part has its digest
+  Other : Comparison
+  -- others, and the part has not its digest
+  Broken : Comparison
+
+abbrev pub Compares : Comparison → (stored bytes digest : List ℕ) → Type 0
+Compares Same stored bytes digest = stored ≡ bytes
+Compares Other stored bytes digest = (stored ≢ bytes) × (sha256 stored ≡ digest)
+Compares Broken stored bytes digest = (stored ≢ bytes) × (sha256 stored ≢ digest)
+
+-- ---- what a call did
+
+-- What a stop may leave of a call: within it, the rows from before with an image of any moment of it; and after it.
+pub record Leaves (rows_before : Rows → Type 0) (images_since : List ℕ → Type 0) (rows_then : Rows → Type 0) (images_then : List ℕ → Type 0) (Within Then : Rows → List ℕ → Type 0) : Type 0 where
+  pub within : (rows : Rows) (image : List ℕ) → rows_before rows → images_since image → Within rows image
+  pub at_exit : (rows : Rows) (image : List ℕ) → rows_then rows → images_then image → Then rows image
+
+-- a custody with these records and this image is at a place, if it is open; and if not, at that of a closed one
+abbrev pub IsAt : Bool → Records → List ℕ → Place → Type 0
+IsAt true records image (Serving there left) = (there ≡ records) × (left ≡ image)
+IsAt true records image (Shut there left doubt) = ⊥
+IsAt true records image (Left rows left) = ⊥
+IsAt false records image (Serving there left) = ⊥
+IsAt false records image (Shut there left doubt) = Unit {0}
+IsAt false records image (Left rows left) = ⊥
+
+-- A command in an open custody with the old records and image: it moves by the answer, and leaves at each moment what its place may.
+pub record Serves (old : Records) (image : List ℕ) (command : Command) (now : ℕ) (answer : Answer) (is_open : Bool) (new : Records) (later : List ℕ)
+    (rows_before : Rows → Type 0) (images_since : List ℕ → Type 0) (rows_then : Rows → Type 0) (images_then : List ℕ → Type 0) : Type 0 where
+  pub next : Place
+  pub moves : Moves (Serving old image) (Answered command now answer) next
+  pub is_at : IsAt is_open new later next
+  pub leaves : Leaves rows_before images_since rows_then images_then (MayLeaveWithin (Serving old image) command now) (MayLeave next)
+
+-- what an initialisation over no record may leave: no record still, or what stands for the empty state
+abbrev pub MayInitialise : Rows → List ℕ → Type 0
+MayInitialise rows image = IsDamaged NoRecord rows image ⊎ IsBegun empty (Left rows image)

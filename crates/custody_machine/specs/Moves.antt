@@ -1,0 +1,175 @@
+-- What may happen to a database and a volume: the moves of a custody over records and images, which the contracts of the calls and the laws both cite.
+use Rattle.std.specs.Prelude.{◌≡◌, ◌⊎◌, ℕ, List, [], ◌∷◌, ◌++◌, Option, Some, None, Bool, true, false, if◌then◌else◌, MatchOption, Contains}
+use Rattle.std.specs.FinMap.{get}
+use Rattle.vault_volume.specs.declared.extent.Extent.{Extent}
+use Rattle.vault_volume.specs.Extents.{part_bytes}
+use Rattle.custody_records.specs.Keys.{PartKey}
+use Rattle.custody_records.specs.Records.{PartRecord, Records}
+use Rattle.custody_records.specs.Rows.{Rows}
+use Rattle.custody_records.specs.Form.{form_of, InForm}
+use Rattle.custody_machine.specs.State.{State}
+use Rattle.custody_machine.specs.Machine.{Command, Entry, after, reads, Answer, Accepted, Refused, Failed, Fault, NoMemory, VolumeFailed, StoreFailed, Closed, Damaged, Damage, Answers}
+use Rattle.custody_machine.specs.History.{IsFoundWithin, MayFind, doubt_of, is_open_after, Pair, OpenAnswer, Opened, NotOpened, Event, Answered, ShutDown, StoppedAtRest, StoppedWithin, OpenedWith, IsHistory, found, WasReceived}
+use Rattle.custody_machine.specs.Stored.{IsGood, part_of, state_in, Stands, HasDigestAt, HasDigests, IsSound, KeepsParts, OpensFrom}
+use Rattle.custody_machine.specs.Damage.{IsDamaged}
+
+-- between two events
+pub data Place : Type 0 where
+  -- an open custody: its records, and the image that a read gives
+  Serving : Records → (image : List ℕ) → Place
+  -- a closed one: what it had when it was closed, or before the command at which it was, and the command in doubt
+  Shut : Records → (image : List ℕ) → Option Entry → Place
+  -- no custody: what a restart shows
+  Left : Rows → (image : List ℕ) → Place
+
+-- ---- what a stop may leave
+
+-- between two calls. Over what a restart shows an opening may be stopped, or may have failed: it leaves the same state
+abbrev pub MayLeave : Place → Rows → List ℕ → Type 0
+MayLeave (Serving records image) rows left = OpensFrom records image (λ found. found ≡ state_in records image) rows left
+MayLeave (Shut records image doubt) rows left = OpensFrom records image (MayFind (state_in records image) doubt) rows left
+MayLeave (Left before image) rows left = (records : Records) → form_of before ≡ InForm records → IsGood records image → OpensFrom records image (λ found. found ≡ state_in records image) rows left
+
+-- within a command
+abbrev pub MayLeaveWithin : Place → Command → ℕ → Rows → List ℕ → Type 0
+MayLeaveWithin (Serving records image) command now rows left = OpensFrom records image (IsFoundWithin (state_in records image) command now) rows left
+MayLeaveWithin (Shut records image doubt) command now rows left = OpensFrom records image (MayFind (state_in records image) doubt) rows left
+MayLeaveWithin (Left before image) command now rows left = ⊥
+
+-- what is found of rows and an image: the state for which they stand, if there is one, and whether each held part has its digest
+pub record Finds (rows : Rows) (image : List ℕ) (pair : Pair) : Type 0 where
+  pub opens : MatchOption pair.opens ((state : State) → ¬ Stands rows image state) (λ state. Stands rows image state)
+  pub sound : IsSound rows image → pair.is_sound ≡ true
+  pub only_sound : pair.is_sound ≡ true → IsSound rows image
+
+-- ---- what is answered
+
+-- Damage is told where a part that is read has not its digest, and what else the bytes of parts decide only where each that is read has it.
+abbrev pub RestsOnBytes : Records → List ℕ → Command → ℕ → Answer → Type 0
+RestsOnBytes records image command now (Accepted reply) = (key : PartKey) → Contains (reads (state_in records image) command now) key → HasDigestAt image records key
+RestsOnBytes records image command now (Refused refusal) = (key : PartKey) → Contains (reads (state_in records image) command now) key → HasDigestAt image records key
+RestsOnBytes records image command now (Failed NoMemory) = Unit {0}
+RestsOnBytes records image command now (Failed VolumeFailed) = Unit {0}
+RestsOnBytes records image command now (Failed StoreFailed) = Unit {0}
+RestsOnBytes records image command now (Failed Closed) = Unit {0}
+RestsOnBytes records image command now (Failed (Damaged damage)) = (key : PartKey) × Contains (reads (state_in records image) command now) key × (¬ HasDigestAt image records key)
+
+-- after an answer by which a custody went from old records and an old image to new ones
+abbrev pub place_after : Records → List ℕ → Command → ℕ → Answer → Records → List ℕ → Place
+place_after old image command now answer new later = if is_open_after answer then Serving new later else Shut old image (doubt_of command now answer)
+
+-- why an opening may fail
+abbrev pub MayNotOpen : Rows → List ℕ → Fault → Type 0
+MayNotOpen rows image NoMemory = Unit {0}
+MayNotOpen rows image VolumeFailed = Unit {0}
+MayNotOpen rows image StoreFailed = Unit {0}
+MayNotOpen rows image Closed = ⊥
+MayNotOpen rows image (Damaged damage) = IsDamaged damage rows image
+
+-- ---- the moves
+
+abbrev pub Stops : (Rows → List ℕ → Type 0) → Pair → Place → Type 0
+Stops may_leave pair next = (rows : Rows) × (left : List ℕ) × may_leave rows left × Finds rows left pair × (next ≡ Left rows left)
+
+-- an event may take one place to the next
+abbrev pub Moves : Place → Event → Place → Type 0
+Moves (Serving records image) (Answered command now answer) next = (new : Records) × (later : List ℕ) × Answers (state_in records image) command now answer (state_in new later) × RestsOnBytes records image command now answer
+    × KeepsParts records image new later × (next ≡ place_after records image command now answer new later)
+Moves (Serving records image) ShutDown next = next ≡ Shut records image None
+Moves (Serving records image) (StoppedAtRest pair) next = Stops (MayLeave (Serving records image)) pair next
+Moves (Serving records image) (StoppedWithin command now pair) next = Stops (MayLeaveWithin (Serving records image) command now) pair next
+Moves (Serving records image) (OpenedWith pair answer) next = ⊥
+Moves (Shut records image doubt) (Answered command now answer) next = (answer ≡ Failed Closed) × (next ≡ Shut records image doubt)
+Moves (Shut records image doubt) ShutDown next = next ≡ Shut records image doubt
+Moves (Shut records image doubt) (StoppedAtRest pair) next = Stops (MayLeave (Shut records image doubt)) pair next
+Moves (Shut records image doubt) (StoppedWithin command now pair) next = Stops (MayLeaveWithin (Shut records image doubt) command now) pair next
+Moves (Shut records image doubt) (OpenedWith pair answer) next = ⊥
+Moves (Left rows image) (Answered command now answer) next = ⊥
+Moves (Left rows image) ShutDown next = ⊥
+-- a stop within an opening
+Moves (Left rows image) (StoppedAtRest pair) next = Stops (MayLeave (Left rows image)) pair next
+Moves (Left rows image) (StoppedWithin command now pair) next = ⊥
+Moves (Left rows image) (OpenedWith pair (Opened state)) next = Finds rows image pair × ((records : Records) × (form_of rows ≡ InForm records) × IsGood records image × (state ≡ state_in records image) × (next ≡ Serving records image))
+Moves (Left rows image) (OpenedWith pair (NotOpened fault)) next = Finds rows image pair × MayNotOpen rows image fault × ((other : Rows) × (left : List ℕ) × MayLeave (Left rows image) other left × (next ≡ Left other left))
+
+-- moves one after the other
+abbrev pub MovesAlong : Place → List Event → Place → Type 0
+MovesAlong old [] new = new ≡ old
+MovesAlong old (event ∷ events) new = (next : Place) × Moves old event next × MovesAlong next events new
+
+-- A finished initialisation or opening is in the first state, with each held part's digest; and one that did not finish has left what stands for it.
+abbrev pub IsBegun : State → Place → Type 0
+IsBegun first (Serving records image) = (state_in records image ≡ first) × HasDigests image records
+IsBegun first (Shut records image doubt) = ⊥
+IsBegun first (Left rows image) = Stands rows image first × IsSound rows image
+
+-- ---- several commands
+
+-- commands answered one after the other, each by the custody that the one before left
+abbrev pub Chain : {C : Type 0} → (C → Command → ℕ → Answer → C → Type 0) → C → List Entry → List Answer → C → Type 0
+Chain {C} does old [] [] new = new ≡ old
+Chain {C} does old [] (answer ∷ answers) new = ⊥
+Chain {C} does old (entry ∷ entries) [] new = ⊥
+Chain {C} does old (entry ∷ entries) (answer ∷ answers) new = (mid : C) × does old entry.0 entry.1 answer mid × Chain {C = C} does mid entries answers new
+
+abbrev pub MovesBy : Place → Command → ℕ → Answer → Place → Type 0
+MovesBy old command now answer new = Moves old (Answered command now answer) new
+
+abbrev pub answered_all : List Entry → List Answer → List Event
+answered_all [] answers = []
+answered_all (entry ∷ entries) [] = []
+answered_all (entry ∷ entries) (answer ∷ answers) = Answered entry.0 entry.1 answer ∷ answered_all entries answers
+
+-- ---- the laws
+
+-- What happens to database and volume is a history of states.
+abbrev pub MovesAreHistories : State → Type 0
+MovesAreHistories first = (start end : Place) (events : List Event) → IsBegun first start → MovesAlong start events end → IsHistory first events
+
+-- database and volume, or the custody over them, are in a state, with each held part's digest
+abbrev pub IsIn : State → Place → Type 0
+IsIn state (Serving records image) = (state_in records image ≡ state) × HasDigests image records
+IsIn state (Shut records image doubt) = (state_in records image ≡ state) × HasDigests image records
+IsIn state (Left rows image) = Stands rows image state × IsSound rows image
+
+-- At each moment they are in the state after the commands found, in order.
+abbrev pub PlacesAreRight : State → Type 0
+PlacesAreRight first = (start end : Place) (events : List Event) → IsBegun first start → MovesAlong start events end → IsIn (after first (found first events)) end
+
+-- damage is told
+abbrev pub TellsDamage : Event → Type 0
+TellsDamage (Answered command now (Accepted reply)) = ⊥
+TellsDamage (Answered command now (Refused refusal)) = ⊥
+TellsDamage (Answered command now (Failed NoMemory)) = ⊥
+TellsDamage (Answered command now (Failed VolumeFailed)) = ⊥
+TellsDamage (Answered command now (Failed StoreFailed)) = ⊥
+TellsDamage (Answered command now (Failed Closed)) = ⊥
+TellsDamage (Answered command now (Failed (Damaged damage))) = Unit {0}
+TellsDamage ShutDown = ⊥
+TellsDamage (StoppedAtRest pair) = ⊥
+TellsDamage (StoppedWithin command now pair) = ⊥
+TellsDamage (OpenedWith pair (Opened state)) = ⊥
+TellsDamage (OpenedWith pair (NotOpened NoMemory)) = ⊥
+TellsDamage (OpenedWith pair (NotOpened VolumeFailed)) = ⊥
+TellsDamage (OpenedWith pair (NotOpened StoreFailed)) = ⊥
+TellsDamage (OpenedWith pair (NotOpened Closed)) = ⊥
+TellsDamage (OpenedWith pair (NotOpened (Damaged damage))) = Unit {0}
+
+-- Whatever stops there were, neither an opening nor a command tells of damage.
+abbrev pub NoDamageIsTold : State → Type 0
+NoDamageIsTold first = (start end : Place) (earlier later : List Event) (event : Event) → IsBegun first start → MovesAlong start (earlier ++ event ∷ later) end → ¬ TellsDamage event
+
+-- Each part that an open custody holds reads back as it was received: the bytes at its extents are those of a command found, at its moment; or the first state has it so.
+abbrev pub ReadsBackAsReceived : State → Type 0
+ReadsBackAsReceived first = (start : Place) (records : Records) (image : List ℕ) (events : List Event) → IsBegun first start → MovesAlong start events (Serving records image)
+    → (key : PartKey) (part : PartRecord) (extents : List Extent) → get records.parts key ≡ Some part → part.extents ≡ Some extents
+    → (get first.parts key ≡ Some (part_of image part)) ⊎ WasReceived (found first events) key (part_of image part) (part_bytes image extents part.len)
+
+-- What is found of rows and image is one thing; and each stop that may come of sound rows and image has it.
+pub record FindsOne : Type 0 where
+  pub one : (rows : Rows) (image : List ℕ) (a b : Pair) → Finds rows image a → Finds rows image b → a ≡ b
+  pub some : (rows : Rows) (image : List ℕ) (state : State) → Stands rows image state → IsSound rows image → Finds rows image (record { opens = Some state; is_sound = true })
+
+-- commands in a row are moves
+abbrev pub ChainsMove : Type 0
+ChainsMove = (old new : Place) (entries : List Entry) (answers : List Answer) → Chain MovesBy old entries answers new → MovesAlong old (answered_all entries answers) new
