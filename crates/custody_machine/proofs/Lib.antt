@@ -7,3 +7,7 @@ pub mod Keeping
 pub mod Histories
 pub mod Retries
 pub mod Received
+pub mod Heads
+pub mod Forms
+pub mod Stored
+pub mod Damages

@@ -6,3 +6,5 @@ pub mod Texts
 pub mod History
 pub mod Retries
 pub mod MapValues
+pub mod Stored
+pub mod Damage

@@ -1,6 +1,7 @@
 //! What holds of a custody, over all that may happen to it. The contracts of the calls cite the same
 //! definitions.
 ghost use Rattle.custody_machine.specs.Names.{IsReading};
+ghost use Rattle.custody_machine.specs.Damage.{IsRefinement};
 ghost use Rattle.custody_machine.specs.State.{State};
 ghost use Rattle.custody_machine.specs.History.{OpeningsAreRight, NothingIsTakenBack, AcceptedIsFound, HeldAsReceived};
 ghost use Rattle.custody_machine.specs.Retries.{ActsOnce, RepeatsAreAnswered, NothingIsRemoved, RepliesAreRecords, AcknowledgedIsKept};
@@ -9,6 +10,11 @@ ghost use Rattle.custody_machine.specs.Retries.{ActsOnce, RepeatsAreAnswered, No
 /// refused by its first fault.
 pub fn law_read_name()
     ensures { IsReading }
+{}
+
+/// A database and a volume that are damaged stand for no state, and any others for exactly one.
+pub fn law_damage()
+    ensures { IsRefinement }
 {}
 
 /// Wherever the custody is stopped, however often, opening it again gives what is kept after the

@@ -8,4 +8,4 @@ mod laws;
 
 pub use answers::{Fault, Refusal};
 pub use damage::Damage;
-pub use laws::{law_histories, law_read_name, law_retries};
+pub use laws::{law_damage, law_histories, law_read_name, law_retries};

@@ -1,7 +1,7 @@
 -- When a field passes its test, and what a typed reader of the field then answers.
 use Rattle.std.proofs.Common.{◌≡◌, ◌≢◌, ℕ, ℤ, pos, negsuc, ◌*◌, ◌-◌, ◌≤◌, ◌<◌, List, [], ◌∷◌, ◌==◌, length, Bool, true, false, ◌&&◌, not, cond, nat_lt, eqb, Option, Some, None, refl, sym, ◌∙◌, ap, subst, arith}
 use Rattle.std.specs.Prelude.{IfSome, find, slice_index}
-use Rattle.std.specs.Str.{bytes_eq}
+use Rattle.std.specs.Str.{bytes_eq, IsUtf8}
 use Rattle.std.specs.List.{list_all}
 use Rattle.std.specs.Char.{is_ascii_alphanumeric}
 use Rattle.std.specs.Int.{IsInRange}
@@ -157,6 +157,26 @@ ground_in-ground_text Audit = refl
 
 pub ground_read : (t : List ℕ) (o : Option Ground) → IfSome o (λ g. t ≡ ground_text g) → ((g : Ground) → t ≡ ground_text g → o ≡ Some g) → o ≡ ground_in t
 ground_read t o = word_read ground_text grounds t o ground_in-ground_text
+
+-- the text of a ground is a text
+ground_utf8 : (reason : Ground) → IsUtf8 (ground_text reason)
+unfolding lib.Utf8.encode
+ground_utf8 Operator = (ground_text Operator, (refl, refl))
+ground_utf8 Termination = (ground_text Termination, (refl, refl))
+ground_utf8 NoNotices = (ground_text NoNotices, (refl, refl))
+ground_utf8 SundayFailed = (ground_text SundayFailed, (refl, refl))
+ground_utf8 FiveFailed = (ground_text FiveFailed, (refl, refl))
+ground_utf8 Insolvency = (ground_text Insolvency, (refl, refl))
+ground_utf8 Critical = (ground_text Critical, (refl, refl))
+ground_utf8 Order = (ground_text Order, (refl, refl))
+ground_utf8 Audit = (ground_text Audit, (refl, refl))
+
+pub ground_not_text : (t : List ℕ) → ¬ IsUtf8 t → None ≡ ground_in t
+ground_not_text t not_text = by (ground_in t) refl
+  where
+    by : (found : Option Ground) → ground_in t ≡ found → None ≡ found
+    by None e = refl
+    by (Some g) e = absurd (not_text (subst IsUtf8 (sym ((bytes_eq-Decides t (ground_text g)).0 (find_passes (λ x. bytes_eq t (ground_text x)) grounds g e))) (ground_utf8 g)))
 
 pub check_in-check_number : (check : Check) → check_in (check_number check) ≡ Some check
 check_in-check_number Frame = refl

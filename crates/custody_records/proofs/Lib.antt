@@ -5,3 +5,4 @@ pub mod FormLemmas
 pub mod TableLemmas
 pub mod ReadBack
 pub mod ReadLemmas
+pub mod MetaLemmas

@@ -1,6 +1,6 @@
 -- A table in the order of its keys is a finite map: what is found in it, and what a row more adds.
-use Rattle.std.proofs.Common.{◌≡◌, ℕ, zero, suc, ◌+◌, ◌<◌, ◌≤◌, List, [], ◌∷◌, length, get_or, Bool, true, false, ◌&&◌, cond, Option, Some, None, Result, Ok, Err, refl, sym, ◌∙◌, ap, subst, arith, add-one}
-use Rattle.std.specs.Prelude.{T, option_map, IsTrue}
+use Rattle.std.proofs.Common.{◌≡◌, ◌⊎◌, inl, inr, ℕ, zero, suc, ◌+◌, ◌<◌, ◌≤◌, List, [], ◌∷◌, length, get_or, Bool, true, false, ◌&&◌, cond, Option, Some, None, Result, Ok, Err, refl, sym, ◌∙◌, ap, subst, arith, add-one}
+use Rattle.std.specs.Prelude.{T, option_map, is_some, OnOk, OnErr}
 use Rattle.std.specs.List as list
 use Rattle.std.specs.List.Sorted.{IsSearchInRange, IsBinarySearchResult, IsNonDecreasingBy}
 use Rattle.std.specs.Ordering.{is_lt, is_eq, ordering_reverse, ordering_index}
@@ -9,7 +9,8 @@ use Rattle.std.specs.declared.cmp.Ordering.TheVariants.{Less, Equal, Greater}
 use Rattle.std.specs.Cmp.{IsTotalOrder}
 use Rattle.std.specs.FinMap.{FinMap, get, insert, empty, entries, entries-insert, entries-from_sorted, get-from_sorted, same_entries_map, empty_of_len, len-entries, from_sorted}
 use Rattle.std.specs.FinMap.Entries.{find, put, is_sorted, below_all, by_order, is_sorted-put}
-use Rattle.std.proofs.lemmas.Cmp.{tied_back, alike_right}
+use Rattle.std.proofs.lemmas.Bool.{cases_lt}
+use Rattle.std.proofs.lemmas.Cmp.{alike_right}
 use Rattle.std.proofs.lemmas.List.Sorted.{searchable_from_sorted}
 use Rattle.custody_records.specs.Tables.{entries_of, is_below_all, is_rising, row_at, table_map, IsAdded}
 
@@ -73,7 +74,7 @@ module _ {Row K : Type 0} (order : K → K → Ordering) (key : Row → K) where
     not_above : (rows : List Row) (i : ℕ) (d : Row) → is_rising order key rows ≡ true → suc i < length rows → is_lt (order (key (get_or rows (suc i) d)) (key (get_or rows i d))) ≡ false
     not_above rows i d rising lt = ap is_lt (turned _ _ Less (rises rows i d rising lt))
 
-    answers_rise : (rows : List Row) (sought : K) → is_rising order key rows ≡ true → IsNonDecreasingBy (λ row. ordering_index (order (key row) sought)) rows
+    pub answers_rise : (rows : List Row) (sought : K) → is_rising order key rows ≡ true → IsNonDecreasingBy (λ row. ordering_index (order (key row) sought)) rows
     answers_rise rows sought rising = searchable_from_sorted o key rows sought (λ k d low lt.
         rw add-one (not_above rows k d rising (omega arith)))
 
@@ -130,3 +131,48 @@ module _ {Row K : Type 0} (order : K → K → Ordering) (key : Row → K) where
           entries-from_sorted order (entries_of key value new) (sorted_entries value new rising_added)
           ∙ sym (entries_added value)
           ∙ sym (entries-insert o (from_sorted (entries_of key value old)) (key row) (value row) ∙ ap (put order (key row) (value row)) (entries-from_sorted order (entries_of key value old) (sorted_entries value old rising))))
+
+-- ---- what a binary search answers
+
+module _ {Row K : Type 0} (order : K → K → Ordering) (key : Row → K) (o : IsTotalOrder order) (rows : List Row) (rising : is_rising order key rows ≡ true) where
+  -- where no row has the key, smaller keys stand before its place and greater ones after it
+  pub gap : (sought : K) (place : ℕ) → IsBinarySearchResult (λ row. order (key row) sought) rows (Err place)
+      → ((i : ℕ) (d : Row) → i < place → i < length rows → order (key (get_or rows i d)) sought ≡ Less) × ((i : ℕ) (d : Row) → place ≤ i → i < length rows → order (key (get_or rows i d)) sought ≡ Greater)
+  gap sought place found = let split = found (answers_rise order key o rows sought rising) in (λ i d lt within. split.0 i d (omega arith) lt, λ i d le within. split.1 i d le within)
+
+  pub absent_at : (sought : K) (place : ℕ) → IsBinarySearchResult (λ row. order (key row) sought) rows (Err place) → row_at order key rows sought ≡ None
+  absent_at sought place found = not_found order key o rows sought (λ i d within. by i d within (cases_lt i place))
+    where
+      by : (i : ℕ) (d : Row) → i < length rows → (i < place) ⊎ (place ≤ i) → is_eq (order (key (get_or rows i d)) sought) ≡ false
+      by i d within (inl lt) = ap is_eq ((gap sought place found).0 i d lt within)
+      by i d within (inr le) = ap is_eq ((gap sought place found).1 i d le within)
+
+  -- a row that is put there is added
+  pub added_at : (row : Row) (sought : K) (place : ℕ) (new : List Row) → sought ≡ key row → IsBinarySearchResult (λ r. order (key r) sought) rows (Err place) → new ≡ list.insert rows place row → IsAdded order key rows new row
+  added_at row sought place new same found is =
+      let split = gap sought place found in
+      record { place = place; is = is; below = λ i d lt within. ap (order (key (get_or rows i d))) (sym same) ∙ split.0 i d lt within; above = λ i d le within. ap (order (key (get_or rows i d))) (sym same) ∙ split.1 i d le within }
+
+  -- a key that the map does not have is that of no row
+  pub absent_row : {X : Type 0} (value : Row → X) (sought : K) → get (table_map order key value rows) sought ≡ None → row_at order key rows sought ≡ None
+  absent_row value sought none = by (row_at order key rows sought) (sym (get_table order key value rows sought rising) ∙ none)
+    where
+      by : (found : Option Row) → option_map value found ≡ None → found ≡ None
+      by None e = refl
+      by (Some row) e = cc
+
+  pub present_row : {X : Type 0} (value : Row → X) (sought : K) → is_some (row_at order key rows sought) ≡ true → is_some (get (table_map order key value rows) sought) ≡ true
+  present_row value sought some = ap is_some (get_table order key value rows sought rising) ∙ by (row_at order key rows sought) some
+    where
+      by : (found : Option Row) → is_some found ≡ true → is_some (option_map value found) ≡ true
+      by None e = cc
+      by (Some row) e = refl
+
+pub not_both : {A : Type 0} (o : Option A) (x : A) → o ≡ Some x → o ≡ None → ⊥
+not_both o x some none = let clash : Some x ≡ None = sym some ∙ none in cc
+
+-- after a row that may be refused
+pub rising_either : {Row K A E : Type 0} (order : K → K → Ordering) (key : Row → K) (o : IsTotalOrder order) (old new : List Row) (row : Row) (r : Result A E)
+    → OnOk r (IsAdded order key old new row) → OnErr r (new ≡ old) → is_rising order key old ≡ true → is_rising order key new ≡ true
+rising_either order key o old new row (Ok x) added same rising = rising_added order key o added rising
+rising_either order key o old new row (Err e) added same rising = ap (is_rising order key) same ∙ rising

@@ -1,7 +1,9 @@
 pub mod Keys
+pub mod Orders
 pub mod Records
 pub mod Rows
 pub mod Form
 pub mod Written
 pub mod Tables
 pub mod Typed
+pub mod Held

@@ -1,17 +1,22 @@
 -- Typed records and the columns of rows, as keys, records and rows.
 use Rattle.std.specs.Prelude.{ℕ, ◌&&◌, if◌then◌else◌, List, Option, None, Some, option_map}
+use Rattle.std.specs.Str.{bytes_eq}
 use Rattle.schedule.specs.Schedule.{day_of, year_after}
 use Rattle.deposit_name.specs.declared.kinds.Kind.{Kind}
 use Rattle.deposit_name.specs.Name.{Name}
 use Rattle.desk.specs.declared.notices.Notice as told
+use Rattle.custody_records.specs.declared.meta.Meta.{Meta}
 use Rattle.custody_records.specs.declared.notices.NoticeColumns.{NoticeColumns}
 use Rattle.custody_records.specs.declared.parts.Part.{Part}
 use Rattle.custody_records.specs.declared.parts.PartColumns.{PartColumns}
 use Rattle.custody_records.specs.declared.registries.Registry.{Registry}
+use Rattle.custody_records.specs.declared.releases.Release as given
+use Rattle.custody_records.specs.declared.releases.ReleaseColumns.{ReleaseColumns}
 use Rattle.custody_records.specs.Keys.{PartKey, NoticeKey}
-use Rattle.custody_records.specs.Records.{PartRecord, Notice, key_of}
-use Rattle.custody_records.specs.Rows.{PartRow, NoticeRow}
-use Rattle.custody_records.specs.Form.{natural, is_within, is_number, is_deposit_day, is_moment, is_tld, kind_in}
+use Rattle.custody_records.specs.Records.{PartRecord, Notice, Release, key_of}
+use Rattle.custody_records.specs.Rows.{MetaRow, PartRow, NoticeRow, HandoverRow}
+use Rattle.custody_records.specs.Form.{natural, is_within, is_number, is_deposit_day, is_moment, is_tld, kind_in, number_in}
+use Rattle.custody_records.specs.Written.{digits_of}
 
 -- ---- registries
 
@@ -72,3 +77,26 @@ notice_entry n = (notice_key n, notice_value n)
 
 abbrev pub notice_row : NoticeColumns → NoticeRow
 notice_row c = record { tld = c.tld.now; number = c.number; kind = c.kind; day = c.day; rev = c.rev; id = c.id.now; at = c.at }
+
+-- ---- releases
+
+abbrev pub release_key : given.Release → List ℕ
+release_key r = r.reference
+
+abbrev pub release_value : given.Release → Release
+release_value r = record { tld = r.tld; reason = r.reason; at = r.at; names = r.names }
+
+abbrev pub release_entry : given.Release → List ℕ × Release
+release_entry r = (release_key r, release_value r)
+
+abbrev pub handover_row : ReleaseColumns → HandoverRow
+handover_row c = record { reference = c.reference.now; tld = c.tld.now; reason = c.reason.now; at = c.at; names = c.names.now }
+
+-- ---- the volume
+
+abbrev pub meta_of : MetaRow → Meta
+meta_of row = record { one = row.one; schema_no = row.schema_no; number = (if bytes_eq row.number (digits_of (number_in row.number)) then Some (number_in row.number) else None); blocks = row.blocks }
+
+-- the number and the blocks of a row in form
+abbrev pub volume_of : Meta → Option (ℕ × ℕ)
+volume_of m = if is_number 1 m.one && is_within 2 262_144 m.blocks then option_map (λ n. (n, natural m.blocks)) m.number else None

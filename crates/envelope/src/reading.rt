@@ -269,7 +269,8 @@ fn menu_of(alloc: Global, value: &Value) -> Result<Menu, EnvError>
     Ok(Menu { object_uris })
 }
 
-/// The envelope whose one text this is. A text of more than 8,192 bytes is refused before any memory is taken.
+/// The envelope whose one text this is. Any other text is refused as a spelling, and one of more than 8,192 bytes
+/// before any memory is taken.
 pub fn read_envelope(alloc: Global, t: &[u8]) -> Result<Envelope, EnvError>
     // What is read is in form, and the text is its one text.
     ensures found { IfOk result (λ e. IsEnvelope (view e) × (t.now ≡ env_text (view e))) }

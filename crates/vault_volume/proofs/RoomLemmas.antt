@@ -136,8 +136,7 @@ module _ (start : List ℕ) (calls : List Call) (opened : List ℕ) (r : ℕ) (b
           let same = differs.same_length in
           let fits : at + length (bytes_at d at n) ≤ length c = omega arith in
           let written = within_written c (bytes_at d at n) at fits in
-          let other : (i : ℕ) → (IsOpened opened r i → ⊥) → ((at ≤ i) × (i < at + n) → ⊥) → get_or c i 0 ≡ get_or d i 0 = λ i out apart. differs.elsewhere i (λ here. ⊎_elim out apart (opened_now i here)) in
-          (
+          let other : (i : ℕ) → (IsOpened opened r i → ⊥) → ((at ≤ i) × (i < at + n) → ⊥) → get_or c i 0 ≡ get_or d i 0 = λ i out apart. differs.elsewhere i (λ here. ⊎_elim out apart (opened_now i here)) in (
             with_bytes c at (bytes_at d at n),
             record {
               same_length = written.same_length ∙ same;

@@ -1,5 +1,5 @@
-use Rattle.std.proofs.Common.{ℕ, ◌<◌, ◌≤◌, ◌+◌, ⊎_elim, take, get_or, arith}
-use Rattle.vault_volume.specs.Extents.{IsIn, IsInAny}
+use Rattle.std.proofs.Common.{⊎_elim, get_or, arith}
+use Rattle.vault_volume.specs.Extents.{IsIn}
 use Rattle.vault_volume.specs.declared.extent.Extent.{Extent}
 use Rattle.vault_volume.proofs.FreeLemmas.{in_at, in_next}
 use Rattle.vault_volume.proofs.free_tail.start_of_run.Goals as goal

@@ -1,4 +1,4 @@
-use Rattle.std.proofs.Common.{◌≡◌, ◌∙◌, ◌≤◌, ℕ, List, length, get_or, refl, sym, ap, arith}
+use Rattle.std.proofs.Common.{◌∙◌, ℕ, List, length, get_or, refl, sym, ap, arith}
 use Rattle.std.specs.Vec.{with_items}
 use Rattle.std.proofs.lemmas.List.{with_items_is}
 use Rattle.vault_volume.proofs.RoomLemmas.{found, filled, settled_anew}
@@ -14,8 +14,8 @@ returns-clause-restarted c =
     let left = rw c.deref_mut.ensures.value at (rw c.deref.ensures.value at c.leave.ensures.left) in
     record {
       found = found old.start.items old.calls.items old.opened.items old.refused old.opened_by_then c.leave.new.image c.copy_from_slice.new.self.items left
-        (ap length (start ∙ second) ∙ c.leave_opened.auto.image ∙ ap length (c.deref_mut-2.ensures.value ∙ first))
-        (λ i none. ap (λ (l : List ℕ). get_or l i 0) (start ∙ second) ∙ c.leave_opened.ensures.elsewhere i (ap (λ (l : List ℕ). get_or l i 0) c.deref-2.ensures.value ∙ none) ∙ ap (λ (l : List ℕ). get_or l i 0) (c.deref_mut-2.ensures.value ∙ first));
+          (ap length (start ∙ second) ∙ c.leave_opened.auto.image ∙ ap length (c.deref_mut-2.ensures.value ∙ first))
+          (λ i none. ap (λ (l : List ℕ). get_or l i 0) (start ∙ second) ∙ c.leave_opened.ensures.elsewhere i (ap (λ (l : List ℕ). get_or l i 0) c.deref-2.ensures.value ∙ none) ∙ ap (λ (l : List ℕ). get_or l i 0) (c.deref_mut-2.ensures.value ∙ first));
       settled = settled_anew _ c.recycle.new.calls.items c.fill.new.self.items 0 c.copy_from_slice.new.self.items c.recycle.ensures refl start;
       same_size = refl;
     }

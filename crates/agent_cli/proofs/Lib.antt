@@ -1,0 +1,5 @@
+pub mod Builders
+pub mod FormLemmas
+pub mod OneReading
+pub mod PathLemmas
+pub mod Readings

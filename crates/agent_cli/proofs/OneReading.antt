@@ -1,0 +1,61 @@
+-- Words ask for one thing at most.
+use Rattle.std.proofs.Common.{◌≡◌, ℕ, List, [], refl, sym, subst, ◌∙◌, Bool, true, false, Option, Some, None, inl, inr, codes}
+use Rattle.std.specs.Prelude.{MatchBool}
+use Rattle.std.specs.Str.{bytes_eq}
+use Rattle.clap.specs.Words.{Row, Text, fault_of, subcommand_of}
+use Rattle.clap.specs.Walk.{is_empty}
+use Rattle.agent_cli.specs.Command.{escrow_app}
+use Rattle.agent_cli.specs.Forms.{ShowsMoment}
+use Rattle.agent_cli.specs.Order.{Asks, InitReading, IsOneReading, MetReading, NamedReading, PutReading, ReadsValue, Reading, RegisterReading, StateReading, refused}
+use Rattle.agent_cli.specs.declared.order.Argument.{Argument}
+use Rattle.agent_cli.proofs.FormLemmas.{if_given_one, number_text-injective}
+use Rattle.schedule.proofs.TextLemmas.{day_text-injective, moment_text-injective}
+
+abbrev IsOne : (Reading → Type 0) → Type 0
+IsOne Reads = (r s : Reading) → Reads r → Reads s → r ≡ s
+
+value_one : {X : Type 0} (a : Argument) (Shows : X → Type 0) (Next : X → Reading → Type 0)
+    → ((x y : X) → Shows x → Shows y → x ≡ y) → ((x : X) → IsOne (Next x)) → IsOne (ReadsValue a Shows Next)
+value_one a Shows Next one next r s (inl p) (inl q) =
+    next q.0 r s (subst (λ x. Next x r) (one p.0 q.0 p.1 q.1) p.2) q.2
+value_one a Shows Next one next r s (inl p) (inr q) = absurd (q.0 p.0 p.1)
+value_one a Shows Next one next r s (inr p) (inl q) = absurd (p.0 q.0 q.1)
+value_one a Shows Next one next r s (inr p) (inr q) = p.1 ∙ sym q.1
+
+init_one : (rows : List Row) → IsOne (InitReading rows)
+init_one rows = value_one _ _ _ (λ x y h k. number_text-injective x y h.0 k.0 (sym h.1 ∙ k.1)) (λ x r s h k. h ∙ sym k)
+
+register_one : (rows : List Row) → IsOne (RegisterReading rows)
+register_one rows =
+    value_one _ _ _ (λ x y h k. h.0 ∙ sym k.0) (λ tld.
+    value_one _ _ _ (λ x y h k. day_text-injective x y h.0 k.0 (sym h.1 ∙ k.1)) (λ x r s h k. h ∙ sym k))
+
+put_one : (rows : List Row) → IsOne (PutReading rows)
+put_one rows =
+    value_one _ _ _ (if_given_one ShowsMoment (λ t x y h k. moment_text-injective x y h.0 k.0 (sym h.1 ∙ k.1)) _) (λ x r s h k. h ∙ sym k)
+
+state_one : (rows : List Row) → IsOne (StateReading rows)
+state_one rows r s h k = h ∙ sym k
+
+either_one : (b : Bool) (P Q : Reading → Type 0) → IsOne P → IsOne Q → IsOne (λ r. MatchBool b (P r) (Q r))
+either_one true P Q p q = p
+either_one false P Q p q = q
+
+refused_one : IsOne (λ r. r ≡ refused)
+refused_one r s h k = h ∙ sym k
+
+named_one : (name : Text) (rows : List Row) → IsOne (NamedReading name rows)
+named_one name rows =
+    either_one (bytes_eq name (codes "init")) _ _ (init_one rows) (
+    either_one (bytes_eq name (codes "register")) _ _ (register_one rows) (
+    either_one (bytes_eq name (codes "put")) _ _ (put_one rows) (
+    either_one (bytes_eq name (codes "state")) _ _ (state_one rows) refused_one)))
+
+met_one : (met : Option (Text × List Row)) → IsOne (MetReading met)
+met_one None = refused_one
+met_one (Some p) = named_one p.0 p.1
+
+pub asks_one : IsOneReading
+unfolding Asks
+asks_one words =
+    either_one (is_empty (fault_of escrow_app words)) (MetReading (subcommand_of escrow_app words)) _ (met_one (subcommand_of escrow_app words)) refused_one

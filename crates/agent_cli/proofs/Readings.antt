@@ -1,0 +1,156 @@
+-- What the matches of a parse give, and where a parse that passes has met a subcommand.
+use Rattle.std.proofs.Common.{◌∙◌, ◌≡◌, ◌≤◌, ◌<◌, ◌^◌, ap, arith, refl, sym, subst, inl, inr, List, ℕ, [], ◌∷◌, Bool, true, false, Option, Some, None, Result, Ok, Err, option_map, unwrap_or, is_some, not, IfSome, codes, cond, find, length}
+use Rattle.std.specs.Prelude.{◌&&◌}
+use Rattle.std.specs.Borrow.{Bor}
+use Rattle.std.specs.List.{list_all, list_any}
+use Rattle.std.specs.Option.{option_map_or}
+use Rattle.std.specs.Str.Parse.{ParsesUnsigned, digits_value, without_leading_plus}
+use Rattle.clap.specs.Words.{App, Row, Shape, Text, first_of, kind_of, subcommand_of, fault_of, built, HasKind, IsAmong, Kinds}
+use Rattle.clap.specs.Walk.{Held, Names, answers_to, finished, is_empty, nothing_held, settled, stop_after, walk, walk_from}
+use Rattle.clap.specs.Simple.{argument_words, entered, label_of, names_of, rows_at}
+use Rattle.clap.specs.Kinds.{check_kinds, or_else}
+use Rattle.clap.specs.Faults.{check_fault, defaults_fault, entered_fault, level_fault, settle_fault, walk_fault}
+use Rattle.clap.specs.Facts.{explicit_source}
+use Rattle.clap.specs.Takes.{is_given}
+use Rattle.clap.specs.Matches.{subcommand_name_of}
+use Rattle.clap.specs.Words.{subcommand_rows_of}
+use Rattle.clap.specs.declared.parser.ArgMatches.{ArgMatches}
+use Rattle.clap.proofs.WalkLemmas.{both}
+use Rattle.std.proofs.lemmas.Bool.{ne_eqb}
+use Rattle.clap.specs.Matches.{ReadsOne}
+use Rattle.clap.specs.ValueTests.{is_unsigned_in}
+use Rattle.clap.specs.declared.builder.ValueParser.TheVariants.{Unsigned}
+use Rattle.clap.specs.declared.error.Error.{Error}
+use Rattle.clap.specs.declared.error.ErrorKind.{ErrorKind}
+use Rattle.clap.proofs.ValueTestLemmas.{accepts-Accepts, Accepts-accepts}
+use Rattle.agent_cli.specs.Command.{escrow_app}
+use Rattle.agent_cli.specs.Forms.{count_in_text}
+use Rattle.agent_cli.specs.Order.{Answers, Asks, IsFaultFrom, NamedReading, Reading, is_subcommand, refused}
+use Rattle.agent_cli.specs.declared.order.Order.{Order}
+use Rattle.agent_cli.specs.declared.order.WordFault.{WordFault}
+use Rattle.agent_cli.specs.declared.order.WordFault.TheVariants as fault
+
+-- ---- values
+
+pub shown_or : (o : Option (Bor (List ℕ))) (d : Bor (List ℕ)) → (unwrap_or o d).now ≡ unwrap_or (option_map (λ s. s.now) o) d.now
+shown_or None d = refl
+shown_or (Some x) d = refl
+
+-- the number that `get_one` reads, and 0 where it reads none
+pub count_read : {E : Type 0} (G : List ℕ → Result ℕ E → Type 0) (t : List ℕ) (r : Option ℕ) → ((u : List ℕ) (x : Result ℕ E) → G u x → ParsesUnsigned 32 10 u x)
+    → ReadsOne G t r → unwrap_or r 0 ≡ count_in_text t
+count_read {E} G t r only read = go (is_unsigned_in 0 4294967295 t) refl r read
+  where
+    go : (b : Bool) → is_unsigned_in 0 4294967295 t ≡ b → (o : Option ℕ) → ReadsOne G t o → unwrap_or o 0 ≡ count_in_text t
+    go true e (Some v) h = rw e ((only t (Ok v) h).1)
+    go true e None h =
+        let a = accepts-Accepts false (Unsigned 0 4294967295) t e in
+        absurd (only t (Err h.0) h.1 (a.0, omega (arith, a.3)))
+    go false e (Some v) h =
+        let p = (only t (Ok v) h).0 in
+        let yes : is_unsigned_in 0 4294967295 t ≡ true = Accepts-accepts false (Unsigned 0 4294967295) t (p.0, omega (arith, p.1), omega arith, omega (arith, p.1)) in
+        let bad : true ≡ false = sym yes ∙ e in
+        absurd (cc)
+    go false e None h = rw e refl
+
+-- ---- faults
+
+among_some : (k : ErrorKind) (xs : Kinds) → IsAmong k xs → is_empty xs ≡ false
+among_some k [] h = absurd h
+among_some k (x ∷ xs) h = ne_eqb (length (x ∷ xs)) 0 (λ e. omega (arith, e))
+
+pub refused_by : (words : List Text) → is_empty (fault_of escrow_app words) ≡ false → Asks words refused
+unfolding Asks
+refused_by words e = rw e refl
+
+-- an error of clap is an answer, where it has a kind that the words call for
+pub fault_answers : (words : List Text) (e : Error) (w : WordFault) → IsFaultFrom e w → HasKind (fault_of escrow_app words) e → Answers (Asks words) (Err w)
+fault_answers words e (fault.Words f) h (inl no_memory) = absurd (h.1 no_memory)
+fault_answers words e (fault.Words f) h (inr among) = refused_by words (among_some (kind_of e) _ among)
+fault_answers words e (fault.Bad a) h k = absurd h
+fault_answers words e fault.NoMemory h k = tt
+
+-- ---- a subcommand
+
+or_else_none : (a b : Kinds) → or_else a b ≡ [] → b ≡ []
+or_else_none [] b e = e
+or_else_none (k ∷ ks) b e = absurd (cc)
+
+check_passes : (a b c : Bool) → check_kinds a b c ≡ [] → b ≡ false
+check_passes true b c e = absurd (cc)
+check_passes false true c e = absurd (cc)
+check_passes false false c e = refl
+
+is_met : (has : Bool) → (not has && true) ≡ false → has ≡ true
+is_met true e = refl
+is_met false e = absurd (cc)
+
+check_meets : (s : Shape) (rows : List Row) (has : Bool) → s.subcommand_required ≡ true → check_fault s rows has ≡ [] → has ≡ true
+check_meets s rows has needs e =
+    let met : (not has && s.subcommand_required) ≡ false =
+    check_passes (not has && (s.arg_required_else_help && not (list_any (λ r. explicit_source r.source) rows)))
+    (not has && s.subcommand_required)
+    (not (s.subcommand_negates_reqs && has) && list_any (λ a. a.required && not (is_given a.id rows)) s.rules) e in
+    is_met has (rw needs at met)
+
+level_meets : (s : Shape) (names : Names) (h : Held) (words : List Text) (has : Bool) (below : Kinds) → s.subcommand_required ≡ true
+    → level_fault s names h words has below ≡ [] → has ≡ true
+level_meets s names h words has below needs e =
+    let end = (walk s.rules names h words).held in
+    let after_walk = or_else_none (walk_fault s names (walk_from h) words) _ e in
+    let after_below = or_else_none below _ after_walk in
+    let after_pending = or_else_none (settle_fault s.rules s.args_override_self end) _ after_below in
+    check_meets s (finished s.rules end) has needs (or_else_none (defaults_fault (settled s.rules end).rows s.rules) _ after_pending)
+
+pub meets_subcommand : (words : List Text) → fault_of escrow_app words ≡ [] → is_some (subcommand_of escrow_app words) ≡ true
+meets_subcommand words e =
+    let stop = stop_after (built escrow_app).top.rules (names_of (built escrow_app)) (argument_words escrow_app words) in
+    level_meets (built escrow_app).top (names_of (built escrow_app)) nothing_held (argument_words escrow_app words)
+    (is_some (entered (built escrow_app) stop)) (entered_fault (built escrow_app) stop) refl e
+
+at_test : {X : Type 0} (p q : X → Bool) (x : X) (rest : Option X) (b : Bool) → q x ≡ true → IfSome rest (λ y. q y ≡ true) → IfSome (cond b (Some x) rest) (λ y. q y ≡ true)
+at_test p q x rest true here later = here
+at_test p q x rest false here later = later
+
+found_passes : {X : Type 0} (p q : X → Bool) (xs : List X) → list_all q xs ≡ true → IfSome (find p xs) (λ x. q x ≡ true)
+found_passes p q [] h = tt
+found_passes p q (x ∷ xs) h = at_test p q x (find p xs) (p x) (both (q x) (list_all q xs) h).0 (found_passes p q xs (both (q x) (list_all q xs) h).1)
+
+shape_named : (o : Option Shape) (words : List Text) → IfSome o (λ s. is_subcommand s.name ≡ true)
+    → IfSome (option_map (λ s. rows_at s words) o) (λ p. is_subcommand p.0 ≡ true)
+shape_named None words h = tt
+shape_named (Some s) words h = h
+
+pub knows_subcommand : (words : List Text) → IfSome (subcommand_of escrow_app words) (λ p. is_subcommand p.0 ≡ true)
+knows_subcommand words = go (stop_after (built escrow_app).top.rules (names_of (built escrow_app)) (argument_words escrow_app words))
+  where
+    go : (stop : Option (Text × List Text)) → IfSome (entered (built escrow_app) stop) (λ p. is_subcommand p.0 ≡ true)
+    go None = tt
+    go (Some p) =
+        let test : Shape → Bool = λ s. answers_to p.0 (label_of s) in
+        shape_named (find test (built escrow_app).subs) p.1 (found_passes test (λ s. is_subcommand s.name) (built escrow_app).subs refl)
+
+pair_of : {X : Type 0} (h : X → Text × List Row) (s : Option X) (name : Text) (rows : List Row) → Some name ≡ option_map (λ b. (h b).0) s
+    → Some rows ≡ option_map {T = Text × List Row} (λ p. p.1) (option_map h s) → option_map h s ≡ Some (name, rows)
+pair_of h None name rows e1 e2 = absurd (cc)
+pair_of h (Some b) name rows e1 e2 =
+    let same_name : name ≡ (h b).0 = cc in
+    let same_rows : rows ≡ (h b).1 = cc in
+    rw (same_name, same_rows) refl
+
+-- the subcommand that a parse met, by its name and its rows
+pub met_rows : (m : ArgMatches) (name : Text) (rows : List Row) → Some name ≡ subcommand_name_of m
+    → Some rows ≡ option_map (λ p. p.1) (subcommand_rows_of m) → subcommand_rows_of m ≡ Some (name, rows)
+met_rows m name rows e1 e2 = pair_of _ _ name rows e1 e2
+
+-- a result that is as its reading allows is as another does that allows no less
+pub answers_as : (P Q : Reading → Type 0) → ((r : Reading) → P r → Q r) → (r : Result Order WordFault) → Answers P r → Answers Q r
+answers_as P Q sub (Ok o) h = sub _ h
+answers_as P Q sub (Err (fault.Bad a)) h = sub _ h
+answers_as P Q sub (Err (fault.Words e)) h = sub _ h
+answers_as P Q sub (Err fault.NoMemory) h = tt
+
+pub met_asks : (words : List Text) (name : Text) (rows : List Row) → fault_of escrow_app words ≡ []
+    → subcommand_of escrow_app words ≡ Some (name, rows) → (r : Reading) → NamedReading name rows r → Asks words r
+unfolding Asks
+met_asks words name rows none met r h = rw (none, met) h

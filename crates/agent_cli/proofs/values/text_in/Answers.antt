@@ -1,0 +1,10 @@
+use Rattle.std.proofs.Common.{◌∙◌, ◌≡◌, ap, unwrap_or, [], codes}
+use Rattle.clap.specs.Words.{found_of}
+use Rattle.clap.proofs.WalkLemmas.{first_value-rows}
+use Rattle.agent_cli.proofs.Readings.{shown_or}
+use Rattle.agent_cli.proofs.values.text_in.Goals as goal
+
+pub returns : goal.returns
+returns c =
+    ap (λ s. s.now) c.unwrap_or.ensures ∙ shown_or c.get_str.result _
+    ∙ ap (λ o. unwrap_or o []) (c.get_str.ensures ∙ first_value-rows (found_of c.args.matches.now) c.args.id.now)

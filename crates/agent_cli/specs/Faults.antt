@@ -1,0 +1,26 @@
+-- Faults of words: the names of arguments, and exit statuses.
+use Rattle.std.specs.Prelude.{◌≡◌, ◌≢◌, ℕ, List, codes}
+use Rattle.clap.specs.Words.{kind_of}
+use Rattle.clap.specs.declared.error.ErrorKind.TheVariants.{DisplayHelp, DisplayVersion}
+use Rattle.agent_cli.specs.declared.order.Argument.{Argument}
+use Rattle.agent_cli.specs.declared.order.Argument.TheVariants.{Tld, Date, First, Kind, Id, Reference, Ground, Number, Now}
+use Rattle.agent_cli.specs.declared.order.WordFault.{WordFault}
+use Rattle.agent_cli.specs.declared.order.WordFault.TheVariants as fault
+
+abbrev pub argument_text : Argument → List ℕ
+argument_text Tld = codes "TLD"
+argument_text Date = codes "DATE"
+argument_text First = codes "FIRST"
+argument_text Kind = codes "KIND"
+argument_text Id = codes "ID"
+argument_text Reference = codes "REF"
+argument_text Ground = codes "GROUND"
+argument_text Number = codes "NUMBER"
+argument_text Now = codes "NOW"
+
+-- help is asked for and no mistake; the command has no version to show
+abbrev pub IsStatusOf : WordFault → ℕ → Type 0
+IsStatusOf (fault.Words e) n =
+    (kind_of e ≡ DisplayHelp → n ≡ 0) × (kind_of e ≢ DisplayHelp → kind_of e ≢ DisplayVersion → n ≡ 2)
+IsStatusOf (fault.Bad a) n = n ≡ 2
+IsStatusOf fault.NoMemory n = n ≡ 3

@@ -1,0 +1,43 @@
+-- The values that the texts of arguments show.
+use Rattle.std.specs.Prelude.{◌≡◌, ℕ, ◌^◌, ◌<◌, List, Option, Some, None, IsSomeAnd, if◌then◌else◌}
+use Rattle.std.specs.Int.{w64, to_be_bytes}
+use Rattle.std.specs.Option.{option_map_or}
+use Rattle.std.specs.Str.Parse.{digits_value, without_leading_plus}
+use Rattle.hex.specs.Hex.{encode_lower}
+use Rattle.clap.specs.Words.{Row, Text, one_of}
+use Rattle.clap.specs.ValueTests.{is_unsigned_in}
+use Rattle.schedule.specs.Schedule.{IsDay, IsMoment}
+use Rattle.schedule.specs.Text.{day_text, moment_text}
+use Rattle.deposit_name.specs.Identifiers.{IsTld}
+
+-- the number of a volume as 16 lower-case hexadecimal digits
+abbrev pub number_text : ℕ → List ℕ
+number_text n = encode_lower (to_be_bytes w64 n)
+
+abbrev pub ShowsNumber : Text → ℕ → Type 0
+ShowsNumber text n = (n < 2 ^ 64) × (text ≡ number_text n)
+
+abbrev pub ShowsTld : Text → List ℕ → Type 0
+ShowsTld text tld = (tld ≡ text) × IsTld tld
+
+-- `YYYY-MM-DD`
+abbrev pub ShowsDay : Text → ℕ → Type 0
+ShowsDay text d = IsDay d × (text ≡ day_text d)
+
+-- `YYYY-MM-DDTHH:MM:SSZ`
+abbrev pub ShowsMoment : Text → ℕ → Type 0
+ShowsMoment text s = IsMoment s × (text ≡ moment_text s)
+
+-- the value of a text that may be left out
+abbrev pub ShowsIfGiven : {X : Type 0} → (Text → X → Type 0) → Option Text → Option X → Type 0
+ShowsIfGiven Shows None value = value ≡ None
+ShowsIfGiven Shows (Some text) value = IsSomeAnd value (λ x. Shows text x)
+
+-- the number below 2 ^ 32 that a text writes in decimal digits
+abbrev pub count_in_text : Text → ℕ
+count_in_text text =
+    if is_unsigned_in 0 4294967295 text then digits_value 10 (without_leading_plus text) else 0
+
+-- the number that is the value of an argument, whose bounds clap has tested
+abbrev pub count_of : Text → List Row → ℕ
+count_of id rows = option_map_or count_in_text (one_of id rows) 0

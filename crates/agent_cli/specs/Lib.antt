@@ -1,0 +1,5 @@
+pub mod Command
+pub mod Faults
+pub mod Forms
+pub mod Lines
+pub mod Order

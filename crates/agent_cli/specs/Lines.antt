@@ -1,0 +1,18 @@
+-- The lines of replies, without their line feed.
+use Rattle.std.specs.Prelude.{ℕ, List, ◌++◌, codes}
+use Rattle.std.specs.Fmt.{decimal}
+use Rattle.schedule.specs.Text.{day_text, moment_text}
+use Rattle.deposit_name.specs.Name.{name_text}
+use Rattle.agent_cli.specs.Forms.{number_text}
+use Rattle.agent_cli.specs.declared.lines.Line.{Line}
+use Rattle.agent_cli.specs.declared.lines.Line.TheVariants.{Ready, Registered, Received, Registry, Part, Room}
+
+abbrev pub line_text : Line → List ℕ
+line_text (Ready blocks number) = codes "ready " ++ decimal blocks ++ codes " " ++ number_text number
+line_text (Registered tld first) = codes "registered " ++ tld ++ codes " " ++ day_text first
+line_text (Received name length at) =
+    codes "received " ++ name_text name ++ codes " " ++ decimal length ++ codes " " ++ moment_text at
+line_text (Registry tld first) = codes "registry " ++ tld ++ codes " " ++ day_text first
+line_text (Part name length at) =
+    codes "part " ++ name_text name ++ codes " " ++ decimal length ++ codes " held " ++ moment_text at
+line_text (Room free total) = codes "free " ++ decimal free ++ codes " of " ++ decimal total

@@ -1,0 +1,104 @@
+-- What the words of a call ask for: the matches of the command, each value in form.
+use Rattle.std.specs.Prelude.{◌≡◌, ◌≢◌, ◌⊎◌, ℕ, Bool, List, [], ◌∷◌, Option, Some, None, Result, Ok, Err, MatchBool, codes}
+use Rattle.std.specs.List.{list_any}
+use Rattle.std.specs.Str.{bytes_eq}
+use Rattle.clap.specs.Words.{Row, Text, fault_of, first_of, kind_of, subcommand_of}
+use Rattle.clap.specs.Walk.{is_empty}
+use Rattle.clap.specs.declared.error.Error.{Error}
+use Rattle.clap.specs.declared.error.ErrorKind.TheVariants.{OutOfMemory}
+use Rattle.agent_cli.specs.Command.{escrow_app, text_of}
+use Rattle.agent_cli.specs.Forms.{ShowsDay, ShowsIfGiven, ShowsMoment, ShowsNumber, ShowsTld, count_of}
+use Rattle.agent_cli.specs.declared.order.Argument.{Argument}
+use Rattle.agent_cli.specs.declared.order.Argument.TheVariants as argument
+use Rattle.agent_cli.specs.declared.order.Order.{Order}
+use Rattle.agent_cli.specs.declared.order.Order.TheVariants as order
+use Rattle.agent_cli.specs.declared.order.WordFault.{WordFault}
+use Rattle.agent_cli.specs.declared.order.WordFault.TheVariants as fault
+
+-- a subcommand and its values
+pub data Wanted : Type 0 where
+  init : Text → ℕ → ℕ → Wanted
+  register : Text → List ℕ → ℕ → Wanted
+  put : Text → Text → Option ℕ → Wanted
+  state : Text → Wanted
+
+-- what words are: an order, words with an argument out of form, or no words of the command
+pub data Reading : Type 0 where
+  wanted : Wanted → Reading
+  bad : Argument → Reading
+  refused : Reading
+
+-- an argument shows a value, with which the rest is read; or it is out of form
+abbrev pub ReadsValue : {X : Type 0} → Argument → (X → Type 0) → (X → Reading → Type 0) → Reading → Type 0
+ReadsValue {X} a Shows Next r = ((x : X) × Shows x × Next x r) ⊎ (((x : X) → ¬ Shows x) × (r ≡ bad a))
+
+-- Each reading tests the arguments in the order TLD, DATE, FIRST, KIND, ID, REF, GROUND, NUMBER, NOW.
+abbrev pub InitReading : List Row → Reading → Type 0
+InitReading rows =
+    ReadsValue argument.Number (ShowsNumber (text_of (codes "number") rows)) (λ number r.
+    r ≡ wanted (init (text_of (codes "DIR") rows) (count_of (codes "blocks") rows) number))
+
+abbrev pub RegisterReading : List Row → Reading → Type 0
+RegisterReading rows =
+    ReadsValue argument.Tld (ShowsTld (text_of (codes "TLD") rows)) (λ tld.
+    ReadsValue argument.First (ShowsDay (text_of (codes "first") rows)) (λ first r.
+    r ≡ wanted (register (text_of (codes "DIR") rows) tld first)))
+
+abbrev pub PutReading : List Row → Reading → Type 0
+PutReading rows =
+    ReadsValue argument.Now (ShowsIfGiven ShowsMoment (first_of (codes "now") rows)) (λ now r.
+    r ≡ wanted (put (text_of (codes "DIR") rows) (text_of (codes "FILE") rows) now))
+
+abbrev pub StateReading : List Row → Reading → Type 0
+StateReading rows r = r ≡ wanted (state (text_of (codes "DIR") rows))
+
+-- by the name of the subcommand
+abbrev pub NamedReading : Text → List Row → Reading → Type 0
+NamedReading name rows r =
+    MatchBool (bytes_eq name (codes "init")) (InitReading rows r) (
+    MatchBool (bytes_eq name (codes "register")) (RegisterReading rows r) (
+    MatchBool (bytes_eq name (codes "put")) (PutReading rows r) (
+    MatchBool (bytes_eq name (codes "state")) (StateReading rows r) (r ≡ refused))))
+
+abbrev pub is_subcommand : Text → Bool
+is_subcommand name =
+    list_any (bytes_eq name) (codes "init" ∷ codes "register" ∷ codes "put" ∷ codes "state" ∷ [])
+
+abbrev pub MetReading : Option (Text × List Row) → Reading → Type 0
+MetReading None r = r ≡ refused
+MetReading (Some p) r = NamedReading p.0 p.1 r
+
+-- What the words of a call ask for, with the program's name first: clap takes them as the command
+-- `escrow`, and its matches have their values in form.
+unfoldable pub Asks : List Text → Reading → Type 0
+Asks words r =
+    MatchBool (is_empty (fault_of escrow_app words)) (MetReading (subcommand_of escrow_app words) r) (r ≡ refused)
+
+-- Words ask for one thing at most.
+abbrev pub IsOneReading : Type 0
+IsOneReading = (words : List Text) (a b : Reading) → Asks words a → Asks words b → a ≡ b
+
+-- what an order says
+abbrev pub meaning : Order → Wanted
+meaning (order.Init folder blocks number) = init folder.now blocks number
+meaning (order.Register folder tld first) = register folder.now tld first
+meaning (order.Put folder file now) = put folder.now file.now now
+meaning (order.State folder) = state folder.now
+
+-- the answer is the reading, or memory ran out
+abbrev pub Answers : (Reading → Type 0) → Result Order WordFault → Type 0
+Answers Reads (Ok o) = Reads (wanted (meaning o))
+Answers Reads (Err (fault.Bad a)) = Reads (bad a)
+Answers Reads (Err (fault.Words e)) = Reads refused
+Answers Reads (Err fault.NoMemory) = Unit {0}
+
+-- the answer is the value that an argument shows, and where it shows none the argument is out of form
+abbrev pub AnswersValue : {X : Type 0} → Argument → (X → Type 0) → Result X WordFault → Type 0
+AnswersValue a Shows (Ok x) = Shows x
+AnswersValue {X} a Shows (Err e) = (e ≡ fault.Bad a) × ((x : X) → ¬ Shows x)
+
+-- an error of clap, where want of memory has a name of its own
+abbrev pub IsFaultFrom : Error → WordFault → Type 0
+IsFaultFrom e (fault.Words f) = (f ≡ e) × (kind_of e ≢ OutOfMemory)
+IsFaultFrom e (fault.Bad a) = ⊥
+IsFaultFrom e fault.NoMemory = kind_of e ≡ OutOfMemory

@@ -1,0 +1,48 @@
+//! The lines of replies.
+ghost use Rattle.std.specs.Prelude.{Some};
+ghost use Rattle.agent_cli.specs.Lines.{line_text};
+
+use crate::VolumeNumber;
+use deposit_name::{DepositName, Tld};
+use schedule::{Day, Sec};
+use std::fmt;
+
+/// A line of a reply, written without its line feed.
+#[derive(Clone, Copy, Debug, PartialEq, Eq)]
+pub enum Line {
+    /// The vault stands, with so many blocks and this number.
+    Ready { blocks: u32, number: VolumeNumber },
+    /// The registry is recorded, with its first day.
+    Registered { tld: Tld, first: Day },
+    /// The part is kept, received at that moment.
+    Received {
+        name: DepositName,
+        length: u32,
+        at: Sec,
+    },
+    /// A registry of the records.
+    Registry { tld: Tld, first: Day },
+    /// A part of the records whose bytes are held.
+    Part {
+        name: DepositName,
+        length: u32,
+        at: Sec,
+    },
+    /// The free blocks, of all but the head's.
+    Room { free: u32, total: u32 },
+}
+
+impl fmt::Display for Line {
+    ghost output = { λ l. Some (line_text l) };
+
+    fn fmt<W: fmt::Write>(&self, f: &mut fmt::Formatter<W>) -> fmt::Result {
+        match self {
+            Line::Ready { blocks, number } => write!(f, "ready {blocks} {number}"),
+            Line::Registered { tld, first } => write!(f, "registered {tld} {first}"),
+            Line::Received { name, length, at } => write!(f, "received {name} {length} {at}"),
+            Line::Registry { tld, first } => write!(f, "registry {tld} {first}"),
+            Line::Part { name, length, at } => write!(f, "part {name} {length} held {at}"),
+            Line::Room { free, total } => write!(f, "free {free} of {total}"),
+        }
+    }
+}

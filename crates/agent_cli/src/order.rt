@@ -1,0 +1,114 @@
+//! What a command line asks for.
+ghost use Rattle.std.specs.Prelude.{◌≡◌, Some};
+ghost use Rattle.agent_cli.specs.Faults.{IsStatusOf, argument_text};
+ghost use Rattle.agent_cli.specs.declared.order.WordFault.TheVariants.{NoMemory};
+
+use crate::VolumeNumber;
+use deposit_name::Tld;
+use schedule::{Day, Sec};
+use std::alloc::AllocError;
+use std::fmt;
+
+/// A subcommand with its values, each in form. `folder` is the folder of the vault.
+#[derive(Clone, Copy, Debug)]
+pub enum Order<'a> {
+    Init {
+        folder: &'a str,
+        blocks: u32,
+        number: VolumeNumber,
+    },
+    Register {
+        folder: &'a str,
+        tld: Tld,
+        first: Day,
+    },
+    Put {
+        folder: &'a str,
+        file: &'a str,
+        /// The moment of the call, where the words name it.
+        now: Option<Sec>,
+    },
+    State {
+        folder: &'a str,
+    },
+}
+
+/// An argument whose text has a form of its own, in the order in which they are tested.
+#[derive(Clone, Copy, Debug, PartialEq, Eq, PartialOrd, Ord, Hash)]
+pub enum Argument {
+    Tld,
+    Date,
+    First,
+    Kind,
+    Id,
+    Reference,
+    Ground,
+    Number,
+    Now,
+}
+
+impl fmt::Display for Argument {
+    ghost output = { λ a. Some (argument_text a) };
+
+    fn fmt<W: fmt::Write>(&self, f: &mut fmt::Formatter<W>) -> fmt::Result {
+        f.write_str(match self {
+            Argument::Tld => "TLD",
+            Argument::Date => "DATE",
+            Argument::First => "FIRST",
+            Argument::Kind => "KIND",
+            Argument::Id => "ID",
+            Argument::Reference => "REF",
+            Argument::Ground => "GROUND",
+            Argument::Number => "NUMBER",
+            Argument::Now => "NOW",
+        })
+    }
+}
+
+/// Why the words of a call are no order. It is written as it is printed, with its last line feed.
+#[derive(Debug, Drop)]
+pub enum WordFault {
+    /// They are no words of the command, or ask for help.
+    Words(clap::Error),
+    /// The first argument that is out of form.
+    Bad(Argument),
+    /// No memory for reading them.
+    NoMemory,
+}
+
+impl WordFault {
+    /// The exit status: 0 where the words ask for help, 2 for other words, 3 for want of memory.
+    pub fn status(&self) -> u8
+        ensures { IsStatusOf self.now result }
+    {
+        match self {
+            WordFault::Words(error) => {
+                if error.use_stderr() {
+                    2
+                } else {
+                    0
+                }
+            }
+            WordFault::Bad(_) => 2,
+            WordFault::NoMemory => 3,
+        }
+    }
+}
+
+impl fmt::Display for WordFault {
+    fn fmt<W: fmt::Write>(&self, f: &mut fmt::Formatter<W>) -> fmt::Result {
+        match self {
+            WordFault::Words(error) => write!(f, "{error}"),
+            WordFault::Bad(argument) => writeln!(f, "bad value for {argument}"),
+            WordFault::NoMemory => writeln!(f, "C1 no memory"),
+        }
+    }
+}
+
+impl From<AllocError> for WordFault {
+    ghost from_gives = { λ _ e. e ≡ NoMemory };
+
+    fn from(_error: AllocError) -> WordFault {
+        WordFault::NoMemory
+    }
+}

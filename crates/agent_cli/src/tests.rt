@@ -1,0 +1,253 @@
+//! Worked words, the texts of help, and lines.
+mod help;
+
+use crate::{Argument, Line, Order, VolumeNumber, WordFault, last_part, order_of};
+use deposit_name::{DepositName, Tld};
+use schedule::{read_day, read_moment};
+use std::alloc::{AllocError, Global};
+use std::test::Fail;
+
+const NAME0: &str = "example_2026-08-02_full_S1_R0.ryde";
+
+fn words_of(alloc: Global, texts: &[&str]) -> Result<Vec<String>, AllocError> {
+    let mut words = Vec::new(alloc);
+    words.push(String::from_str(alloc, "escrow")?)?;
+    for text in texts {
+        words.push(String::from_str(alloc, text)?)?;
+    }
+    Ok(words)
+}
+
+#[test]
+fn reads_orders(rt: HostRuntime) -> Result<(), Fail> {
+    let texts = ["init", "d", "--blocks", "8", "--number", "00000000000000ff"];
+    let words = words_of(rt.alloc(), &texts)?;
+    let order = order_of(rt.alloc(), words.as_slice());
+    assert!(rt;
+        matches!(&order, Ok(Order::Init { folder, blocks, number })
+            if *folder == "d" && *blocks == 8 && number.get() == 255)
+    );
+
+    let texts = ["register", "--first", "2026-08-02", "d", "example"];
+    let words = words_of(rt.alloc(), &texts)?;
+    let order = order_of(rt.alloc(), words.as_slice());
+    assert!(rt;
+        matches!(&order, Ok(Order::Register { folder, tld, first })
+            if *folder == "d" && tld.as_bytes() == b"example".as_slice() && first.number() == 20_667)
+    );
+
+    let words = words_of(rt.alloc(), &["state", "--", "-d"])?;
+    let order = order_of(rt.alloc(), words.as_slice());
+    assert!(rt; matches!(&order, Ok(Order::State { folder }) if *folder == "-d"));
+    Ok(())
+}
+
+#[test]
+fn the_moment_of_a_put_may_be_left_out(rt: HostRuntime) -> Result<(), Fail> {
+    let words = words_of(
+        rt.alloc(),
+        &["put", "d", "in/a", "--now", "2026-08-02T10:00:00Z"],
+    )?;
+    let Ok(Order::Put { folder, file, now }) = order_of(rt.alloc(), words.as_slice()) else {
+        return Err("a put".into());
+    };
+    assert_eq!(rt; (folder, file), ("d", "in/a"));
+    assert_eq!(rt; now.map(|at| at.seconds()), Some(1_785_664_800));
+
+    let words = words_of(rt.alloc(), &["put", "d", "in/a"])?;
+    assert!(rt;
+        matches!(
+            order_of(rt.alloc(), words.as_slice()),
+            Ok(Order::Put { now: None, .. })
+        )
+    );
+    Ok(())
+}
+
+// The text of the fault of these words.
+fn fault_text(alloc: Global, texts: &[&str]) -> Result<String, Fail> {
+    let words = words_of(alloc, texts)?;
+    match order_of(alloc, words.as_slice()) {
+        Ok(_) => Err("an order".into()),
+        Err(fault) => Ok(format!(in alloc; "{fault}")?),
+    }
+}
+
+#[test]
+fn names_the_first_argument_out_of_form(rt: HostRuntime) -> Result<(), Fail> {
+    let rows: [(&[&str], &str); 6] = [
+        (
+            &["register", "d", "-", "--first", "x"],
+            "bad value for TLD\n",
+        ),
+        (
+            &["register", "--first", "2026-02-29", "d", "example"],
+            "bad value for FIRST\n",
+        ),
+        (
+            &["init", "d", "--blocks", "8", "--number", "00000000000000FF"],
+            "bad value for NUMBER\n",
+        ),
+        (
+            &["init", "d", "--blocks", "8", "--number", "1"],
+            "bad value for NUMBER\n",
+        ),
+        (
+            &["put", "d", "a", "--now", "2026-08-02"],
+            "bad value for NOW\n",
+        ),
+        (&["put", "d", "a", "--now", ""], "bad value for NOW\n"),
+    ];
+    for (texts, wanted) in rows {
+        let text = fault_text(rt.alloc(), texts)?;
+        assert_eq!(rt; text.as_str(), wanted);
+    }
+    let alloc = rt.alloc();
+    let arguments = [
+        (Argument::Tld, "TLD"),
+        (Argument::Date, "DATE"),
+        (Argument::First, "FIRST"),
+        (Argument::Kind, "KIND"),
+        (Argument::Id, "ID"),
+        (Argument::Reference, "REF"),
+        (Argument::Ground, "GROUND"),
+        (Argument::Number, "NUMBER"),
+        (Argument::Now, "NOW"),
+    ];
+    for (argument, wanted) in arguments {
+        let text = format!(in alloc; "{argument}")?;
+        assert_eq!(rt; text.as_str(), wanted);
+    }
+    let text = format!(in alloc; "{}", WordFault::NoMemory)?;
+    assert_eq!(rt; text.as_str(), "C1 no memory\n");
+    Ok(())
+}
+
+#[test]
+fn other_words_are_faults_of_the_command(rt: HostRuntime) -> Result<(), Fail> {
+    let rows: [(&[&str], &str); 9] = [
+        (
+            &[],
+            "error: 'escrow' requires a subcommand but one was not provided\n  [subcommands: init, register, put, state]\n\nUsage: escrow <COMMAND>\n\nFor more information, try '--help'.\n",
+        ),
+        (
+            &["audit", "d"],
+            "error: unrecognized subcommand 'audit'\n\nUsage: escrow <COMMAND>\n\nFor more information, try '--help'.\n",
+        ),
+        (
+            &["help"],
+            "error: unrecognized subcommand 'help'\n\nUsage: escrow <COMMAND>\n\nFor more information, try '--help'.\n",
+        ),
+        (
+            &["state"],
+            "error: the following required arguments were not provided:\n  <DIR>\n\nUsage: escrow state <DIR>\n\nFor more information, try '--help'.\n",
+        ),
+        (
+            &["register", "d", "example"],
+            "error: the following required arguments were not provided:\n  --first <DATE>\n\nUsage: escrow register --first <DATE> <DIR> <TLD>\n\nFor more information, try '--help'.\n",
+        ),
+        (
+            &["init", "d", "--blocks", "1", "--number", "0000000000000001"],
+            "error: invalid value '1' for '--blocks <N>': 1 is not in 2..=262144\n\nFor more information, try '--help'.\n",
+        ),
+        (
+            &[
+                "init",
+                "d",
+                "--blocks",
+                "262145",
+                "--number",
+                "0000000000000001",
+            ],
+            "error: invalid value '262145' for '--blocks <N>': 262145 is not in 2..=262144\n\nFor more information, try '--help'.\n",
+        ),
+        (
+            &["state", "d", "--now", "2026-08-02T10:00:00Z"],
+            "error: unexpected argument '--now' found\n\n  tip: to pass '--now' as a value, use '-- --now'\n\nUsage: escrow state <DIR>\n\nFor more information, try '--help'.\n",
+        ),
+        (
+            &["state", "d", "e"],
+            "error: unexpected argument 'e' found\n\nUsage: escrow state <DIR>\n\nFor more information, try '--help'.\n",
+        ),
+    ];
+    for (texts, wanted) in rows {
+        let text = fault_text(rt.alloc(), texts)?;
+        assert_eq!(rt; text.as_str(), wanted);
+    }
+    Ok(())
+}
+
+#[test]
+fn faults_have_statuses(rt: HostRuntime) -> Result<(), Fail> {
+    let rows: [(&[&str], u8); 4] = [
+        (&["--help"], 0),
+        (&["put", "-h"], 0),
+        (&["put"], 2),
+        (&["put", "d", "a", "--now", "x"], 2),
+    ];
+    for (texts, wanted) in rows {
+        let words = words_of(rt.alloc(), texts)?;
+        let Err(fault) = order_of(rt.alloc(), words.as_slice()) else {
+            return Err("a fault".into());
+        };
+        assert_eq!(rt; fault.status(), wanted);
+    }
+    Ok(())
+}
+
+#[test]
+fn names_files_by_the_last_part(rt: HostRuntime) {
+    let rows: [(&str, &[u8]); 5] = [
+        ("a", b"a"),
+        ("in/b", b"b"),
+        ("/tmp//c", b"c"),
+        ("in/", b""),
+        ("", b""),
+    ];
+    for (path, wanted) in rows {
+        assert_eq!(rt; last_part(path), wanted);
+    }
+}
+
+#[test]
+fn prints_lines(rt: HostRuntime) -> Result<(), Fail> {
+    let alloc = rt.alloc();
+    let tld = Tld::parse(b"example").ok_or("a tld")?;
+    let first = read_day(b"2026-08-02").ok_or("a day")?;
+    let name = DepositName::parse(NAME0.as_bytes()).ok().ok_or("a name")?;
+    let at = read_moment(b"2026-08-02T10:00:00Z").ok_or("a moment")?;
+    let number = VolumeNumber::new(1);
+    let rows = [
+        (Line::Ready { blocks: 8, number }, "ready 8 0000000000000001"),
+        (
+            Line::Registered { tld, first },
+            "registered example 2026-08-02",
+        ),
+        (
+            Line::Received {
+                name,
+                length: 5,
+                at,
+            },
+            "received example_2026-08-02_full_S1_R0.ryde 5 2026-08-02T10:00:00Z",
+        ),
+        (
+            Line::Registry { tld, first },
+            "registry example 2026-08-02",
+        ),
+        (
+            Line::Part {
+                name,
+                length: 5,
+                at,
+            },
+            "part example_2026-08-02_full_S1_R0.ryde 5 held 2026-08-02T10:00:00Z",
+        ),
+        (Line::Room { free: 6, total: 7 }, "free 6 of 7"),
+    ];
+    for (line, wanted) in rows {
+        let text = format!(in alloc; "{line}")?;
+        assert_eq!(rt; text.as_str(), wanted);
+    }
+    Ok(())
+}

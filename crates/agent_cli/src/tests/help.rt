@@ -1,0 +1,113 @@
+//! The texts of help.
+use super::fault_text;
+use std::test::Fail;
+
+const ESCROW: &str = "\
+Keeps escrow deposits of registries in a vault: a folder with vault.vol and custody.db
+
+Usage: escrow <COMMAND>
+
+Commands:
+  init      Makes a vault in a folder: its volume vault.vol and its records custody.db
+  register  Records a registry; of one that is known the kept first day is printed
+  put       Receives one part file of a deposit; the same bytes again are answered as before
+  state     Prints the records: each registry with its parts, then the free blocks
+
+Options:
+  -h, --help  Print help
+
+First steps:
+  mkdir vault
+  escrow init vault --blocks 8 --number 0000000000000001
+  escrow register vault example --first 2026-08-02
+  escrow put vault example_2026-08-02_full_S1_R0.ryde
+  escrow state vault
+
+Exit status: 0 done, 1 refused, 2 words out of form, 3 failed
+";
+
+const INIT: &str = "\
+Makes a vault in a folder: its volume vault.vol and its records custody.db
+
+Usage: escrow init --blocks <N> --number <HEX16> <DIR>
+
+Arguments:
+  <DIR>  Folder of the vault, which has to be there
+
+Options:
+      --blocks <N>      Blocks of 4096 bytes, 2 to 262144; the first is the head of the volume
+      --number <HEX16>  Number of the volume, 16 lower-case hexadecimal digits
+  -h, --help            Print help
+
+Prints: ready N HEX16
+Example: escrow init vault --blocks 8 --number 0000000000000001
+";
+
+const REGISTER: &str = "\
+Records a registry; of one that is known the kept first day is printed
+
+Usage: escrow register --first <DATE> <DIR> <TLD>
+
+Arguments:
+  <DIR>  Folder of the vault, which has to be there
+  <TLD>  Top-level domain of the registry: 1 to 63 of a-z 0-9 -, no hyphen at either end
+
+Options:
+      --first <DATE>  First day of which a deposit is due, as 2026-08-02
+  -h, --help          Print help
+
+Prints: registered TLD DATE
+Example: escrow register vault example --first 2026-08-02
+";
+
+const PUT: &str = "\
+Receives one part file of a deposit; the same bytes again are answered as before
+
+Usage: escrow put [OPTIONS] <DIR> <FILE>
+
+Arguments:
+  <DIR>   Folder of the vault, which has to be there
+  <FILE>  Part file of 1 to 1048576 bytes; the last part of its path is its name
+
+Options:
+      --now <MOMENT>  Moment of receipt, as 2026-08-02T10:00:00Z; else the clock is read
+  -h, --help          Print help
+
+Name: TLD_DATE_KIND_SN_RM.ryde, KIND full or diff, N from 1 to 8, M from 0 to 99
+Prints: received NAME LENGTH MOMENT
+Example: escrow put vault example_2026-08-02_full_S1_R0.ryde --now 2026-08-02T10:00:00Z
+";
+
+const STATE: &str = "\
+Prints the records: each registry with its parts, then the free blocks
+
+Usage: escrow state <DIR>
+
+Arguments:
+  <DIR>  Folder of the vault, which has to be there
+
+Options:
+  -h, --help  Print help
+
+Prints: registry TLD DATE
+        part NAME LENGTH held MOMENT
+        free F of T
+Example: escrow state vault
+";
+
+#[test]
+fn help_teaches_each_subcommand(rt: HostRuntime) -> Result<(), Fail> {
+    let rows: [(&[&str], &str); 6] = [
+        (&["--help"], ESCROW),
+        (&["-h"], ESCROW),
+        (&["init", "--help"], INIT),
+        (&["register", "--help"], REGISTER),
+        (&["put", "-h"], PUT),
+        (&["state", "--help"], STATE),
+    ];
+    for (texts, wanted) in rows {
+        let text = fault_text(rt.alloc(), texts)?;
+        assert_eq!(rt; text.as_str(), wanted);
+    }
+    Ok(())
+}

@@ -1,0 +1,55 @@
+//! The values of arguments, each in its form.
+ghost use Rattle.std.specs.Prelude.{◌≡◌, codes};
+ghost use Rattle.clap.specs.Words.{first_of, found_of, rows_of};
+ghost use Rattle.agent_cli.specs.Command.{text_of};
+ghost use Rattle.agent_cli.specs.Forms.{ShowsDay, ShowsIfGiven, ShowsMoment, ShowsNumber, ShowsTld, count_of};
+ghost use Rattle.agent_cli.specs.Order.{AnswersValue};
+
+use crate::{Argument, VolumeNumber, WordFault};
+use clap::ArgMatches;
+use deposit_name::Tld;
+use schedule::{Day, Sec, read_day, read_moment};
+
+/// The value of an argument that is required.
+pub(crate) fn text_in<'a>(matches: &ArgMatches<'a>, id: &str) -> &'a str
+    ensures { result.now ≡ text_of id.now (rows_of (found_of matches.now)) }
+{
+    matches.get_str(id).unwrap_or("")
+}
+
+/// A number that the command's parser has tested.
+pub(crate) fn count_in(matches: &ArgMatches<'_>, id: &str) -> u32
+    ensures { result ≡ count_of id.now (rows_of (found_of matches.now)) }
+{
+    matches.get_one::<u32>(id).unwrap_or(0)
+}
+
+pub(crate) fn tld_in(matches: &ArgMatches<'_>) -> Result<Tld, WordFault>
+    ensures { AnswersValue Argument.Tld (ShowsTld (text_of (codes "TLD") (rows_of (found_of matches.now)))) result }
+{
+    Tld::parse(text_in(matches, "TLD").as_bytes()).ok_or(WordFault::Bad(Argument::Tld))
+}
+
+pub(crate) fn first_in(matches: &ArgMatches<'_>) -> Result<Day, WordFault>
+    ensures { AnswersValue Argument.First (ShowsDay (text_of (codes "first") (rows_of (found_of matches.now)))) result }
+{
+    read_day(text_in(matches, "first").as_bytes()).ok_or(WordFault::Bad(Argument::First))
+}
+
+pub(crate) fn number_in(matches: &ArgMatches<'_>) -> Result<VolumeNumber, WordFault>
+    ensures { AnswersValue Argument.Number (ShowsNumber (text_of (codes "number") (rows_of (found_of matches.now)))) result }
+{
+    VolumeNumber::parse(text_in(matches, "number").as_bytes()).ok_or(WordFault::Bad(Argument::Number))
+}
+
+pub(crate) fn now_in(matches: &ArgMatches<'_>) -> Result<Option<Sec>, WordFault>
+    ensures { AnswersValue Argument.Now (ShowsIfGiven ShowsMoment (first_of (codes "now") (rows_of (found_of matches.now)))) result }
+{
+    match matches.get_str("now") {
+        Some(text) => match read_moment(text.as_bytes()) {
+            Some(now) => Ok(Some(now)),
+            None => Err(WordFault::Bad(Argument::Now)),
+        },
+        None => Ok(None),
+    }
+}

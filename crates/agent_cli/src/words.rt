@@ -1,0 +1,96 @@
+//! The words of a call, read by `clap` as a simple command with one level of subcommands.
+ghost use Rattle.std.specs.Prelude.{◌≡◌, map, true};
+ghost use Rattle.std.specs.String.{string_bytes};
+ghost use Rattle.clap.specs.Words.{found_of, rows_of};
+ghost use Rattle.agent_cli.specs.Order.{Answers, Asks, InitReading, IsFaultFrom, NamedReading, PutReading, RegisterReading, StateReading, is_subcommand};
+
+use crate::commands::escrow_command;
+use crate::values::{count_in, first_in, now_in, number_in, text_in, tld_in};
+use crate::{Order, WordFault};
+use clap::ArgMatches;
+use clap::error::ErrorKind;
+use std::alloc::Global;
+
+fn init_order<'a>(matches: &ArgMatches<'a>) -> Result<Order<'a>, WordFault>
+    ensures { Answers (InitReading (rows_of (found_of matches.now))) result }
+{
+    let number = number_in(matches)?;
+    Ok(Order::Init {
+        folder: text_in(matches, "DIR"),
+        blocks: count_in(matches, "blocks"),
+        number,
+    })
+}
+
+fn register_order<'a>(matches: &ArgMatches<'a>) -> Result<Order<'a>, WordFault>
+    ensures { Answers (RegisterReading (rows_of (found_of matches.now))) result }
+{
+    let tld = tld_in(matches)?;
+    let first = first_in(matches)?;
+    Ok(Order::Register {
+        folder: text_in(matches, "DIR"),
+        tld,
+        first,
+    })
+}
+
+fn put_order<'a>(matches: &ArgMatches<'a>) -> Result<Order<'a>, WordFault>
+    ensures { Answers (PutReading (rows_of (found_of matches.now))) result }
+{
+    let now = now_in(matches)?;
+    Ok(Order::Put {
+        folder: text_in(matches, "DIR"),
+        file: text_in(matches, "FILE"),
+        now,
+    })
+}
+
+fn state_order<'a>(matches: &ArgMatches<'a>) -> Result<Order<'a>, WordFault>
+    ensures { Answers (StateReading (rows_of (found_of matches.now))) result }
+{
+    Ok(Order::State {
+        folder: text_in(matches, "DIR"),
+    })
+}
+
+/// By the name of the subcommand.
+fn named_order<'a>(name: &str, matches: &ArgMatches<'a>) -> Result<Order<'a>, WordFault>
+    requires { is_subcommand name.now ≡ true }
+    ensures { Answers (NamedReading name.now (rows_of (found_of matches.now))) result }
+{
+    if name == "init" {
+        init_order(matches)
+    } else if name == "register" {
+        register_order(matches)
+    } else if name == "put" {
+        put_order(matches)
+    } else {
+        state_order(matches)
+    }
+}
+
+fn fault_from(error: clap::Error) -> WordFault
+    ensures { IsFaultFrom error result }
+{
+    if error.kind() == ErrorKind::OutOfMemory {
+        WordFault::NoMemory
+    } else {
+        WordFault::Words(error)
+    }
+}
+
+/// What the words of a call ask for; the first of them is the program's name. A call for help is an
+/// `Err` with the text of the help.
+pub fn order_of<'a>(alloc: Global, words: &'a [String]) -> Result<Order<'a>, WordFault>
+    ensures { Answers (Asks (map string_bytes words.now)) result }
+{
+    let command = escrow_command(alloc)?;
+    let matches = match command.try_get_matches_from(words) {
+        Ok(matches) => matches,
+        Err(error) => return Err(fault_from(error)),
+    };
+    match matches.subcommand() {
+        Some((name, inner)) => named_order(name, inner),
+        None => unreachable!(),
+    }
+}

@@ -1,0 +1,240 @@
+-- What rows and image stand for, and how it changes with them.
+use Rattle.std.proofs.Common.{◌≡◌, ◌⊎◌, inl, inr, ℕ, suc, ◌+◌, ◌-◌, ◌*◌, ◌<◌, ◌≤◌, List, [], ◌∷◌, ◌++◌, length, Option, Some, None, Bool, true, false, ◌||◌, ◌&&◌, cond, refl, sym, ◌∙◌, ap, subst, is_some, arith, Ok, Err, Result}
+use Rattle.std.specs.Prelude.{option_map, All}
+use Rattle.std.specs.List.{list_all}
+use Rattle.std.specs.Ordering.{eq_by_cmp}
+use Rattle.std.specs.Cmp.{Equal-is}
+use Rattle.std.specs.FinMap.{FinMap, get, insert, get-insert, same_map}
+use Rattle.std.proofs.lemmas.List.{length-take-le}
+use Rattle.sha2.specs.Sha256.{sha256}
+use Rattle.deposit_name.specs.declared.kinds.Kind.{Kind}
+use Rattle.deposit_name.specs.declared.faults.NameError.{NameError}
+use Rattle.deposit_name.specs.Name.{Name}
+use Rattle.vault_volume.specs.declared.extent.Extent.{Extent}
+use Rattle.vault_volume.specs.Image.{bytes_at, DiffersOnlyIn}
+use Rattle.vault_volume.specs.Extents.{IsExtentOf, AreApart, IsIn, IsInAny, block_count, blocks_of, bytes_of, part_bytes}
+use Rattle.vault_volume.specs.Head.{head_of}
+use Rattle.vault_volume.proofs.ImageLemmas.{bytes_at-same, part_bytes-same}
+use Rattle.custody_records.specs.Keys.{PartKey, part_cmp, text_cmp, NoticeKey, notice_cmp}
+use Rattle.custody_records.specs.Records.{PartRecord, Notice, Release, Records, key_of}
+use Rattle.custody_records.specs.Records as recorded
+use Rattle.custody_records.specs.Rows.{Rows}
+use Rattle.custody_records.specs.Form.{form_of, InForm}
+use Rattle.custody_machine.specs.Names.{is_same_text, read_name}
+use Rattle.custody_machine.specs.SameValues.{is_same_kind}
+use Rattle.custody_machine.specs.State.{State, Held, at_place, has_notice}
+use Rattle.custody_machine.specs.Machine.{is_failure_of, with_part}
+use Rattle.custody_machine.specs.Stored.{ForExtents, AreNaming, IsNamed, AreExtents, AreInRange, AreOnce, is_part_of, names_part, AreLinked, AreWhole, IsVolumeOf, IsGood, content_of, part_of, state_in, Stands, HasDigestAt, HasDigests, IsSound, IsKeptRecord, KeepsParts, OpensFrom}
+use Rattle.custody_machine.proofs.MapValues.{get-map_values, map_values-insert}
+use Rattle.custody_machine.proofs.Orders.{text_total, part_total, part_exact}
+use Rattle.custody_machine.proofs.Keeping.{insert_new}
+use Rattle.custody_machine.proofs.Forms.{records_inj}
+
+-- rows and image determine the state
+pub stands_for_one : (rows : Rows) (image : List ℕ) (a b : State) → Stands rows image a → Stands rows image b → a ≡ b
+stands_for_one rows image a b s t = s.meaning ∙ ap (λ r. state_in r image) (records_inj s.records t.records (sym s.in_form ∙ t.in_form)) ∙ sym t.meaning
+
+-- ---- blocks that no part names
+
+module _ (free : ℕ → Type 0) (records : Records) (old new : List ℕ) (differs : DiffersOnlyIn free old new) (unnamed : (b : ℕ) → IsNamed records b → ¬ free b) where
+  same_bytes : (key : PartKey) (part : PartRecord) (extents : List Extent) → get records.parts key ≡ Some part → part.extents ≡ Some extents → part_bytes old extents part.len ≡ part_bytes new extents part.len
+  same_bytes key part extents at is = part_bytes-same free old new extents part.len differs (λ b within. unnamed b (key, part, at, subst (λ o. AreNaming o b) (sym is) within))
+
+  same_part : (key : PartKey) (part : PartRecord) → get records.parts key ≡ Some part → part_of new part ≡ part_of old part
+  same_part key part at = ap (λ c. record { kind = part.kind; received = part.received; content = c }) (by part.extents refl)
+    where
+      by : (o : Option (List Extent)) → part.extents ≡ o → content_of new part.len o ≡ content_of old part.len o
+      by None is = refl
+      by (Some extents) is = ap Held (sym (same_bytes key part extents at is))
+
+  pub state_in-elsewhere : state_in records new ≡ state_in records old
+  state_in-elsewhere =
+      ap (λ ps. record { registries = records.registries; parts = ps; notices = records.notices; releases = records.releases })
+      (same_map part_total part_exact _ _ (λ q. get-map_values part_cmp (part_of new) records.parts q ∙ by q (get records.parts q) refl ∙ sym (get-map_values part_cmp (part_of old) records.parts q)))
+    where
+      by : (q : PartKey) (o : Option PartRecord) → get records.parts q ≡ o → option_map (part_of new) o ≡ option_map (part_of old) o
+      by q None at = refl
+      by q (Some part) at = ap Some (same_part q part at)
+
+  pub digest-elsewhere : (key : PartKey) → HasDigestAt old records key → HasDigestAt new records key
+  digest-elsewhere key has part extents at is = ap sha256 (sym (same_bytes key part extents at is)) ∙ has part extents at is
+
+  pub good-elsewhere : ¬ free 0 → IsGood records old → IsGood records new
+  good-elsewhere head g = record {
+    whole = g.whole;
+    volume = record {
+      head = sym (bytes_at-same free old new (record { start = 0; count = 1 }) differs (λ b within f. let low = within.0 in let high = within.1 in let here : b ≡ 0 = omega arith in head (subst free here f))) ∙ g.volume.head;
+      size = differs.same_length ∙ g.volume.size;
+    };
+  }
+
+pub keeps_same : (records : Records) (old new : List ℕ) → ((key : PartKey) → HasDigestAt old records key → HasDigestAt new records key) → KeepsParts records old records new
+keeps_same records old new digests = record { kept = λ key part at. (part, at, inl refl); digests = digests }
+
+pub keeps_itself : (records : Records) (image : List ℕ) → KeepsParts records image records image
+keeps_itself records image = keeps_same records image image (λ key has. has)
+
+-- one after the other
+pub keeps_on : (a b c : Records) (i j k : List ℕ) → KeepsParts a i b j → KeepsParts b j c k → KeepsParts a i c k
+keeps_on a b c i j k p q = record {
+  kept = λ key part at. let one = p.kept key part at in let two = q.kept key one.0 one.1 in (two.0, two.1, still part one.0 two.0 one.2 two.2);
+  digests = λ key has. q.digests key (p.digests key has);
+}
+  where
+    still : (part one two : PartRecord) → IsKeptRecord part one → IsKeptRecord one two → IsKeptRecord part two
+    still part one two (inl x) (inl y) = inl (y ∙ x)
+    still part one two (inl x) (inr y) = inr (y ∙ ap (λ (r : PartRecord). record r { extents = None }) x)
+    still part one two (inr x) (inl y) = inr (y ∙ x)
+    still part one two (inr x) (inr y) = inr (y ∙ ap (λ (r : PartRecord). record r { extents = None }) x)
+
+-- intact parts stay intact
+pub sound_from : (a b : Records) (i j : List ℕ) → KeepsParts a i b j → HasDigests i a → HasDigests j b
+sound_from a b i j keeps has key = keeps.digests key (has key)
+
+-- what opens so stands for its state, soundly if it was intact
+pub stands_of : (old : Records) (image : List ℕ) (P : State → Type 0) (rows : Rows) (left : List ℕ) (o : OpensFrom old image P rows left) → Stands rows left (state_in o.records left)
+stands_of old image P rows left o = record { records = o.records; in_form = o.in_form; good = o.good; meaning = refl }
+
+pub sound_of : (old : Records) (image : List ℕ) (P : State → Type 0) (rows : Rows) (left : List ℕ) → OpensFrom old image P rows left → HasDigests image old → IsSound rows left
+sound_of old image P rows left o has records e = subst (HasDigests left) (records_inj o.records records (sym o.in_form ∙ e)) (sound_from old o.records image left o.keeps has)
+
+-- ---- a new registry
+
+known_still : (registries : FinMap text_cmp ℕ) (tld : List ℕ) (day : ℕ) (q : List ℕ) → is_some (get registries q) ≡ true → is_some (get (insert registries tld day) q) ≡ true
+known_still registries tld day q h = ap is_some (get-insert text_total registries tld day q) ∙ by (eq_by_cmp text_cmp q tld)
+  where
+    by : (b : Bool) → is_some (cond b (Some day) (get registries q)) ≡ true
+    by true = refl
+    by false = h
+
+pub good-with_registry : (records : Records) (image : List ℕ) (tld : List ℕ) (day : ℕ) → IsGood records image → IsGood (recorded.with_registry records tld day) image
+good-with_registry records image tld day g = let l = g.whole.linked in record {
+  whole = record {
+    extents = g.whole.extents;
+    once = record { within = g.whole.once.within; between = g.whole.once.between };
+    linked = record {
+      part_registry = λ key part at. known_still records.registries tld day key.tld (l.part_registry key part at);
+      notice_registry = λ key notice at. known_still records.registries tld day key.tld (l.notice_registry key notice at);
+      release_registry = λ reference release at. known_still records.registries tld day release.tld (l.release_registry reference release at);
+      released = l.released;
+      series = l.series;
+      numbers = l.numbers;
+      verdict_parts = l.verdict_parts;
+      one_verdict = l.one_verdict;
+      due = l.due;
+      one_receipt = l.one_receipt;
+      one_absence = l.one_absence;
+    };
+  };
+  volume = record { head = g.volume.head; size = g.volume.size };
+}
+
+pub keeps-with_registry : (records : Records) (image : List ℕ) (tld : List ℕ) (day : ℕ) → KeepsParts records image (recorded.with_registry records tld day) image
+keeps-with_registry records image tld day = record { kept = λ key part at. (part, at, inl refl); digests = λ key has. has }
+
+-- ---- a new part
+
+pub state_in-with_part : (records : Records) (image : List ℕ) (key : PartKey) (part : PartRecord) → state_in (recorded.with_part records key part) image ≡ with_part (state_in records image) key (part_of image part)
+state_in-with_part records image key part =
+    ap (λ ps. record { registries = records.registries; parts = ps; notices = records.notices; releases = records.releases })
+    (map_values-insert part_cmp (part_of image) part_total part_exact records.parts key part)
+
+-- the parts after an insertion: the new one, and those before
+pub inserted : (m : FinMap part_cmp PartRecord) (k : PartKey) (part : PartRecord) (P : PartKey → PartRecord → Type 0) → P k part → ((q : PartKey) (r : PartRecord) → get m q ≡ Some r → P q r) → (q : PartKey) (r : PartRecord) → get (insert m k part) q ≡ Some r → P q r
+inserted m k part P new old q r at = by (eq_by_cmp part_cmp q k) refl (sym (get-insert part_total m k part q) ∙ at)
+  where
+    by : (b : Bool) → eq_by_cmp part_cmp q k ≡ b → cond b (Some part) (get m q) ≡ Some r → P q r
+    by true t e = let key : k ≡ q = sym (part_exact q k ((Equal-is (part_cmp q k)).0 t)) in
+        let is : part ≡ r = cc in subst (λ z. P z r) key (subst (P k) is new)
+    by false t e = old q r e
+
+module _ (m : FinMap part_cmp PartRecord) (k : PartKey) (part : PartRecord) (new : get m k ≡ None) where
+  pub part_still : (q : PartKey) (p : PartRecord) → get m q ≡ Some p → get (insert m k part) q ≡ Some p
+  part_still q p at = insert_new part_total m k part q p new at
+
+  some_still : (q : PartKey) → is_some (get m q) ≡ true → is_some (get (insert m k part) q) ≡ true
+  some_still q h = by (get m q) refl h
+    where
+      by : (o : Option PartRecord) → get m q ≡ o → is_some o ≡ true → is_some (get (insert m k part) q) ≡ true
+      by None at h = cc
+      by (Some p) at h = ap is_some (part_still q p at)
+
+  pub kind_still : (kind : Kind) (q : PartKey) → is_part_of kind (get m q) ≡ true → is_part_of kind (get (insert m k part) q) ≡ true
+  kind_still kind q h = by (get m q) refl h
+    where
+      by : (o : Option PartRecord) → get m q ≡ o → is_part_of kind o ≡ true → is_part_of kind (get (insert m k part) q) ≡ true
+      by None at h = cc
+      by (Some p) at h = ap (is_part_of kind) (part_still q p at) ∙ h
+
+names_still : (records : Records) (key : PartKey) (part : PartRecord) → get records.parts key ≡ None → (tld : List ℕ) (r : Result Name NameError) → names_part records tld r ≡ true → names_part (recorded.with_part records key part) tld r ≡ true
+names_still records key part new tld (Err fault) h = h
+names_still records key part new tld (Ok name) h = by (is_same_text name.tld tld) h
+  where
+    by : (b : Bool) → (b && is_part_of name.kind (get records.parts (key_of name))) ≡ true → (b && is_part_of name.kind (get (insert records.parts key part) (key_of name))) ≡ true
+    by true h = kind_still records.parts key part new name.kind (key_of name) h
+    by false h = cc
+
+all_still : (p q : List ℕ → Bool) → ((text : List ℕ) → p text ≡ true → q text ≡ true) → (texts : List (List ℕ)) → list_all p texts ≡ true → list_all q texts ≡ true
+all_still p q still [] h = refl
+all_still p q still (text ∷ texts) h = by (p text) refl h (all_still p q still texts)
+  where
+    by : (b : Bool) → p text ≡ b → (b && list_all p texts) ≡ true → (list_all p texts ≡ true → list_all q texts ≡ true) → (q text && list_all q texts) ≡ true
+    by true is h rest = rw (still text is, rest h) refl
+    by false is h rest = cc
+
+-- a new part's record is in place: its extents, its registry, its place in the series, and its revision
+pub record IsInPlace (records : Records) (key : PartKey) (part : PartRecord) (extents : List Extent) : Type 0 where
+  pub held : part.extents ≡ Some extents
+  pub range : AreExtents records.blocks part.len extents
+  pub apart : AreApart extents
+  pub unnamed : (b : ℕ) → IsInAny extents b → ¬ IsNamed records b
+  pub registry : is_some (get records.registries key.tld) ≡ true
+  pub fresh : get records.parts key ≡ None
+  pub series : (n : ℕ) → key.part ≡ suc (suc n) → is_part_of part.kind (get records.parts (at_place key (suc n))) ≡ true
+  pub due : 0 < key.rev → has_notice records.notices key.tld key.day (is_failure_of (key.rev - 1)) ≡ true
+
+pub good-with_part : (records : Records) (image : List ℕ) (key : PartKey) (part : PartRecord) (extents : List Extent) → IsInPlace records key part extents → IsGood records image → IsGood (recorded.with_part records key part) image
+good-with_part records image key part extents p g = let l = g.whole.linked in record {
+  whole = record {
+    extents = inserted records.parts key part (λ q r. ForExtents r.extents (AreExtents records.blocks r.len)) (subst (λ o. ForExtents o (AreExtents records.blocks part.len)) (sym p.held) p.range) g.whole.extents;
+    once = record {
+      within = inserted records.parts key part (λ q r. ForExtents r.extents AreApart) (subst (λ o. ForExtents o AreApart) (sym p.held) p.apart) g.whole.once.within;
+      between = λ i j x y b at_i at_j in_x in_y. inserted records.parts key part (λ i x. AreNaming x.extents b → i ≡ j)
+          (λ in_new. inserted records.parts key part (λ j y. AreNaming y.extents b → key ≡ j) (λ _. refl) (λ j y at in_old. absurd (not_both b in_new j y at in_old)) j y at_j in_y)
+          (λ i x at in_old. inserted records.parts key part (λ j y. AreNaming y.extents b → i ≡ j) (λ in_new. absurd (not_both b in_new i x at in_old)) (λ j y at' in_j. g.whole.once.between i j x y b at at' in_old in_j) j y at_j in_y)
+          i x at_i in_x;
+    };
+    linked = record {
+      part_registry = inserted records.parts key part (λ q r. is_some (get records.registries q.tld) ≡ true) p.registry l.part_registry;
+      notice_registry = l.notice_registry;
+      release_registry = l.release_registry;
+      released = λ reference release at. all_still (λ text. names_part records release.tld (read_name text)) (λ text. names_part (recorded.with_part records key part) release.tld (read_name text))
+          (λ text. names_still records key part p.fresh release.tld (read_name text)) release.names (l.released reference release at);
+      series = inserted records.parts key part (λ q r. (n : ℕ) → q.part ≡ suc (suc n) → is_part_of r.kind (get (insert records.parts key part) (at_place q (suc n))) ≡ true)
+          (λ n e. kind_still records.parts key part p.fresh part.kind (at_place key (suc n)) (p.series n e))
+          (λ q r at n e. kind_still records.parts key part p.fresh r.kind (at_place q (suc n)) (l.series q r at n e));
+      numbers = l.numbers;
+      verdict_parts = λ k notice rev at of. some_still records.parts key part p.fresh (record { tld = k.tld; day = notice.day; rev = rev; part = 1 }) (l.verdict_parts k notice rev at of);
+      one_verdict = l.one_verdict;
+      due = inserted records.parts key part (λ q r. 0 < q.rev → has_notice records.notices q.tld q.day (is_failure_of (q.rev - 1)) ≡ true) p.due l.due;
+      one_receipt = l.one_receipt;
+      one_absence = l.one_absence;
+    };
+  };
+  volume = record { head = g.volume.head; size = g.volume.size };
+}
+  where
+    not_both : (b : ℕ) → AreNaming part.extents b → (k : PartKey) (q : PartRecord) → get records.parts k ≡ Some q → AreNaming q.extents b → ⊥
+    not_both b in_new k q at in_old = p.unnamed b (subst (λ o. AreNaming o b) p.held in_new) (k, q, at, in_old)
+
+-- the parts from before stay, and the new one has its digest
+pub keeps-with_part : (records : Records) (old new : List ℕ) (key : PartKey) (part : PartRecord) (extents : List Extent) → get records.parts key ≡ None → part.extents ≡ Some extents → sha256 (part_bytes new extents part.len) ≡ part.digest
+    → ((q : PartKey) → HasDigestAt old records q → HasDigestAt new records q) → KeepsParts records old (recorded.with_part records key part) new
+keeps-with_part records old new key part extents fresh held digest before = record {
+  kept = λ q r at. (r, part_still records.parts key part fresh q r at, inl refl);
+  digests = λ q has r es at is. inserted records.parts key part (λ q r. (es : List Extent) → r.extents ≡ Some es → HasDigestAt old records q → sha256 (part_bytes new es r.len) ≡ r.digest)
+      (λ es is has. subst (λ l. sha256 (part_bytes new l part.len) ≡ part.digest) (one extents es part.extents held is) digest) (λ q r at es is has. before q has r es at is) q r at es is has;
+}
+  where
+    one : (a b : List Extent) (o : Option (List Extent)) → o ≡ Some a → o ≡ Some b → a ≡ b
+    one a b o p q = cc

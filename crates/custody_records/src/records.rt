@@ -1,0 +1,317 @@
+//! The records of a custody in memory.
+ghost use Rattle.std.specs.Prelude.{◌≡◌, true, None, IsSome, OnOk, OnErr, IsErrOf, option_map, option_copied};
+ghost use Rattle.std.specs.FinMap.{get};
+ghost use Rattle.custody_records.specs.Keys.{text_cmp, part_cmp, notice_cmp};
+ghost use Rattle.custody_records.specs.Orders.{text_total, part_total, notice_total};
+ghost use Rattle.custody_records.specs.Tables.{is_rising, table_map};
+ghost use Rattle.custody_records.specs.Typed.{registry_key, registry_value, part_place, part_value, notice_key, notice_value, release_key, release_value};
+
+use crate::tables::{Keyed, add, find, insert};
+use crate::{NoticeKey, Part, PartKey, Registry, Release, RowError};
+use deposit_name::{Reference, Tld};
+use desk::{Notice, NoticeKind};
+use schedule::Day;
+use std::alloc::{AllocError, Global};
+use std::cmp::Ordering;
+
+/// The records of a custody, each table in the order of its keys, and the number and the blocks of the
+/// volume that they belong to.
+#[derive(Debug, Drop)]
+pub struct Records {
+    number: u64,
+    blocks: u32,
+    registries: Vec<Registry>,
+    parts: Vec<Part>,
+    notices: Vec<Notice>,
+    releases: Vec<Release>,
+    ghost registries_rise: { is_rising text_cmp registry_key registries.items ≡ true },
+    ghost parts_rise: { is_rising part_cmp part_place parts.items ≡ true },
+    ghost notices_rise: { is_rising notice_cmp notice_key notices.items ≡ true },
+    ghost releases_rise: { is_rising text_cmp release_key releases.items ≡ true },
+}
+
+impl Records {
+    ghost use Rattle.custody_records.specs.Records.{new_records, with_registry, with_part, with_notice, with_release};
+    ghost use Rattle.custody_records.specs.Held.{records_of, HasRegistryRoom, HasPartRoom, HasNoticeRoom, HasReleaseRoom};
+    ghost use Rattle.custody_records.specs.declared.errors.RowError.TheVariants.{OutOfForm};
+
+    /// No records yet, for a volume of this number and so many blocks.
+    pub fn new(alloc: Global, number: u64, blocks: u32) -> Records
+        ensures { records_of result ≡ new_records number blocks }
+    {
+        Records {
+            number,
+            blocks,
+            registries: Vec::new(alloc),
+            parts: Vec::new(alloc),
+            notices: Vec::new(alloc),
+            releases: Vec::new(alloc),
+        }
+    }
+
+    /// The number of the volume.
+    pub fn number(&self) -> u64
+        ensures { result ≡ (records_of self.now).number }
+    {
+        self.number
+    }
+
+    /// How many blocks the volume has.
+    pub fn blocks(&self) -> u32
+        ensures { result ≡ (records_of self.now).blocks }
+    {
+        self.blocks
+    }
+
+    /// The first day of a registry.
+    pub fn first_day(&self, tld: &Tld) -> Option<Day>
+        ensures { result ≡ get (records_of self.now).registries tld.now }
+    {
+        let registry = find(&self.registries, tld)?;
+        Some(registry.first_day)
+    }
+
+    /// The part of that place.
+    pub fn part(&self, place: &PartKey) -> Option<&Part>
+        ensures { option_map part_value (option_copied result) ≡ get (records_of self.now).parts place.now }
+    {
+        find(&self.parts, place)
+    }
+
+    /// The notice of that number.
+    pub fn notice(&self, key: &NoticeKey) -> Option<&Notice>
+        ensures { option_map notice_value (option_copied result) ≡ get (records_of self.now).notices key.now }
+    {
+        find(&self.notices, key)
+    }
+
+    /// The release of that reference.
+    pub fn release(&self, reference: &Reference) -> Option<&Release>
+        ensures { option_map release_value (option_copied result) ≡ get (records_of self.now).releases reference.now }
+    {
+        find(&self.releases, reference)
+    }
+
+    /// The registries, by their names.
+    pub fn registries(&self) -> &[Registry]
+        ensures all { (records_of self.now).registries ≡ table_map text_cmp registry_key registry_value result.now }
+        ensures rising { is_rising text_cmp registry_key result.now ≡ true }
+    {
+        &self.registries
+    }
+
+    /// Makes room for one more registry.
+    pub fn reserve_registry(&mut self) -> Result<(), AllocError>
+        ensures same { records_of self.new ≡ records_of self.old }
+        ensures room { OnOk result (HasRegistryRoom self.new) }
+    {
+        self.registries.try_reserve(1)
+    }
+
+    /// Adds a registry that is not there, without taking memory.
+    pub fn add_registry(&mut self, registry: Registry)
+        requires room { HasRegistryRoom self.old }
+        requires new { get (records_of self.old).registries (registry_key registry) ≡ None }
+        ensures { records_of self.new ≡ with_registry (records_of self.old) (registry_key registry) (registry_value registry) }
+    {
+        add(&mut self.registries, registry);
+    }
+
+    /// Adds a registry, or refuses one that is there.
+    pub fn insert_registry(&mut self, registry: Registry) -> Result<(), RowError>
+        ensures added { OnOk result (records_of self.new ≡ with_registry (records_of self.old) (registry_key registry) (registry_value registry)) }
+        ensures new { OnOk result (get (records_of self.old).registries (registry_key registry) ≡ None) }
+        ensures taken { IsErrOf result OutOfForm → IsSome (get (records_of self.old).registries (registry_key registry)) }
+        ensures same { OnErr result (records_of self.new ≡ records_of self.old) }
+    {
+        insert(&mut self.registries, registry)
+    }
+
+    /// The parts, by registry, day, revision and place.
+    pub fn parts(&self) -> &[Part]
+        ensures all { (records_of self.now).parts ≡ table_map part_cmp part_place part_value result.now }
+        ensures rising { is_rising part_cmp part_place result.now ≡ true }
+    {
+        &self.parts
+    }
+
+    /// Makes room for one more part.
+    pub fn reserve_part(&mut self) -> Result<(), AllocError>
+        ensures same { records_of self.new ≡ records_of self.old }
+        ensures room { OnOk result (HasPartRoom self.new) }
+    {
+        self.parts.try_reserve(1)
+    }
+
+    /// Adds a part that is not there, without taking memory.
+    pub fn add_part(&mut self, part: Part)
+        requires room { HasPartRoom self.old }
+        requires new { get (records_of self.old).parts (part_place part) ≡ None }
+        ensures { records_of self.new ≡ with_part (records_of self.old) (part_place part) (part_value part) }
+    {
+        add(&mut self.parts, part);
+    }
+
+    /// Adds a part, or refuses one that is there.
+    pub fn insert_part(&mut self, part: Part) -> Result<(), RowError>
+        ensures added { OnOk result (records_of self.new ≡ with_part (records_of self.old) (part_place part) (part_value part)) }
+        ensures new { OnOk result (get (records_of self.old).parts (part_place part) ≡ None) }
+        ensures taken { IsErrOf result OutOfForm → IsSome (get (records_of self.old).parts (part_place part)) }
+        ensures same { OnErr result (records_of self.new ≡ records_of self.old) }
+    {
+        insert(&mut self.parts, part)
+    }
+
+    /// The notices, by registry and number.
+    pub fn notices(&self) -> &[Notice]
+        ensures all { (records_of self.now).notices ≡ table_map notice_cmp notice_key notice_value result.now }
+        ensures rising { is_rising notice_cmp notice_key result.now ≡ true }
+    {
+        &self.notices
+    }
+
+    /// Makes room for one more notice.
+    pub fn reserve_notice(&mut self) -> Result<(), AllocError>
+        ensures same { records_of self.new ≡ records_of self.old }
+        ensures room { OnOk result (HasNoticeRoom self.new) }
+    {
+        self.notices.try_reserve(1)
+    }
+
+    /// Adds a notice that is not there, without taking memory.
+    pub fn add_notice(&mut self, notice: &Notice)
+        requires room { HasNoticeRoom self.old }
+        requires new { get (records_of self.old).notices (notice_key notice.now) ≡ None }
+        ensures { records_of self.new ≡ with_notice (records_of self.old) (notice_key notice.now) (notice_value notice.now) }
+    {
+        let kind: NoticeKind = notice.kind;
+        add(&mut self.notices, Notice { kind, ..*notice });
+    }
+
+    /// Adds a notice, or refuses one that is there.
+    pub fn insert_notice(&mut self, notice: &Notice) -> Result<(), RowError>
+        ensures added { OnOk result (records_of self.new ≡ with_notice (records_of self.old) (notice_key notice.now) (notice_value notice.now)) }
+        ensures new { OnOk result (get (records_of self.old).notices (notice_key notice.now) ≡ None) }
+        ensures taken { IsErrOf result OutOfForm → IsSome (get (records_of self.old).notices (notice_key notice.now)) }
+        ensures same { OnErr result (records_of self.new ≡ records_of self.old) }
+    {
+        let kind: NoticeKind = notice.kind;
+        insert(&mut self.notices, Notice { kind, ..*notice })
+    }
+
+    /// The releases, by their references.
+    pub fn releases(&self) -> &[Release]
+        ensures all { (records_of self.now).releases ≡ table_map text_cmp release_key release_value result.now }
+        ensures rising { is_rising text_cmp release_key result.now ≡ true }
+    {
+        &self.releases
+    }
+
+    /// Makes room for one more release.
+    pub fn reserve_release(&mut self) -> Result<(), AllocError>
+        ensures same { records_of self.new ≡ records_of self.old }
+        ensures room { OnOk result (HasReleaseRoom self.new) }
+    {
+        self.releases.try_reserve(1)
+    }
+
+    /// Adds a release that is not there, without taking memory.
+    pub fn add_release(&mut self, release: Release)
+        requires room { HasReleaseRoom self.old }
+        requires new { get (records_of self.old).releases (release_key release) ≡ None }
+        ensures { records_of self.new ≡ with_release (records_of self.old) (release_key release) (release_value release) }
+    {
+        add(&mut self.releases, release);
+    }
+
+    /// Adds a release, or refuses one that is there.
+    pub fn insert_release(&mut self, release: Release) -> Result<(), RowError>
+        ensures added { OnOk result (records_of self.new ≡ with_release (records_of self.old) (release_key release) (release_value release)) }
+        ensures new { OnOk result (get (records_of self.old).releases (release_key release) ≡ None) }
+        ensures taken { IsErrOf result OutOfForm → IsSome (get (records_of self.old).releases (release_key release)) }
+        ensures same { OnErr result (records_of self.new ≡ records_of self.old) }
+    {
+        insert(&mut self.releases, release)
+    }
+}
+
+impl Keyed for Registry {
+    type Key = Tld;
+
+    ghost key_of = { registry_key };
+
+    ghost order = { text_cmp };
+
+    ghost total = { text_total };
+
+    fn key(&self) -> Tld {
+        self.tld
+    }
+
+    fn compare(&self, sought: &Tld) -> Ordering {
+        self.tld.as_bytes().cmp(sought.as_bytes())
+    }
+}
+
+impl Keyed for Part {
+    type Key = PartKey;
+
+    ghost key_of = { part_place };
+
+    ghost order = { part_cmp };
+
+    ghost total = { part_total };
+
+    fn key(&self) -> PartKey {
+        PartKey::of(&self.name)
+    }
+
+    fn compare(&self, sought: &PartKey) -> Ordering {
+        let name = &self.name;
+        let registries = name.tld.as_bytes().cmp(sought.tld.as_bytes());
+        let days = name.day.cmp(&sought.day);
+        let revisions = name.rev.cmp(&sought.rev);
+        let places = name.part.cmp(&sought.part);
+        registries.then(days.then(revisions.then(places)))
+    }
+}
+
+impl Keyed for Notice {
+    type Key = NoticeKey;
+
+    ghost key_of = { notice_key };
+
+    ghost order = { notice_cmp };
+
+    ghost total = { notice_total };
+
+    fn key(&self) -> NoticeKey {
+        NoticeKey {
+            tld: self.tld,
+            number: self.number,
+        }
+    }
+
+    fn compare(&self, sought: &NoticeKey) -> Ordering {
+        let registries = self.tld.as_bytes().cmp(sought.tld.as_bytes());
+        registries.then(self.number.cmp(&sought.number))
+    }
+}
+
+impl Keyed for Release {
+    type Key = Reference;
+
+    ghost key_of = { release_key };
+
+    ghost order = { text_cmp };
+
+    ghost total = { text_total };
+
+    fn key(&self) -> Reference {
+        self.reference
+    }
+
+    fn compare(&self, sought: &Reference) -> Ordering {
+        self.reference.as_bytes().cmp(sought.as_bytes())
+    }
+}

@@ -1,0 +1,64 @@
+//! Releases of deposits.
+ghost use Rattle.std.specs.Prelude.{◌≡◌, MatchResult};
+ghost use Rattle.custody_records.specs.Form.{ground_in, release_in};
+ghost use Rattle.custody_records.specs.Typed.{release_entry, handover_row};
+ghost use Rattle.custody_records.specs.declared.errors.RowError.TheVariants.{OutOfForm};
+
+use crate::{Names, RowError};
+use deposit_name::{Reference, Tld};
+use desk::Ground;
+use schedule::Sec;
+use std::alloc::Global;
+use std::str;
+
+/// Deposits of a registry handed over on a ground (Specification 2, Part B section 6).
+#[derive(Debug, Drop)]
+pub struct Release {
+    pub reference: Reference,
+    pub tld: Tld,
+    pub reason: Ground,
+    pub at: Sec,
+    /// The names of the parts.
+    pub names: Names,
+}
+
+/// The columns of a row of the table of releases.
+#[derive(Clone, Copy, Debug)]
+pub struct ReleaseColumns<'a> {
+    pub reference: &'a [u8],
+    pub tld: &'a [u8],
+    pub reason: &'a [u8],
+    pub at: i64,
+    pub names: &'a [u8],
+}
+
+impl ReleaseColumns<'_> {
+    /// The release of the row, where its fields are in form.
+    pub fn read(&self, alloc: Global) -> Result<Release, RowError>
+        ensures { MatchResult result (λ release. release_in (handover_row self.now) ≡ Some (release_entry release))
+            (λ e. e ≡ OutOfForm → release_in (handover_row self.now) ≡ None) }
+    {
+        let reference = Reference::parse(self.reference).ok_or(RowError::OutOfForm)?;
+        let tld = Tld::parse(self.tld).ok_or(RowError::OutOfForm)?;
+        let reason = read_ground(self.reason).ok_or(RowError::OutOfForm)?;
+        let at = Sec::new(self.at).ok_or(RowError::OutOfForm)?;
+        let names = Names::parse(alloc, self.names)?;
+        Ok(Release {
+            reference,
+            tld,
+            reason,
+            at,
+            names,
+        })
+    }
+}
+
+/// The ground of that text.
+fn read_ground(text: &[u8]) -> Option<Ground>
+    ensures { result ≡ ground_in text.now }
+{
+    match str::from_utf8(text) {
+        Ok(text) => Ground::parse(text),
+        Err(_) => None,
+    }
+}

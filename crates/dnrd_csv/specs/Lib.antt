@@ -1,0 +1,5 @@
+pub mod Form
+pub mod Reading
+pub mod Rows
+pub mod Table
+pub mod Text

@@ -1,0 +1,52 @@
+//! Files of keys.
+ghost use Rattle.std.specs.Prelude.{◌≡◌, ◌<◌, ◌==◌, [], get_or, length};
+ghost use Rattle.csv.specs.Records.{fields_of};
+
+use crate::spelling::field_at;
+use csv::ByteRecord;
+use std::marker::Model;
+
+/// The keys of a file, in its order.
+#[derive(Drop)]
+pub struct Keys {
+    keys: ByteRecord,
+}
+
+impl Model for Keys {
+    ghost use Rattle.std.specs.Prelude.{List, ℕ};
+    ghost use Rattle.csv.specs.Records.{fields_of};
+
+    ghost Value = { List (List ℕ) };
+
+    ghost view = { λ a. fields_of a.keys };
+}
+
+impl Keys {
+    pub(crate) fn new(keys: ByteRecord) -> Keys
+        ensures { result ≡ fields_of keys }
+    {
+        Keys { keys }
+    }
+
+    /// How many keys there are.
+    pub fn len(&self) -> usize
+        ensures { result ≡ length self.now }
+    {
+        self.keys.len()
+    }
+
+    /// Whether there is no key.
+    pub fn is_empty(&self) -> bool
+        ensures { result ≡ (length self.now == 0) }
+    {
+        self.keys.is_empty()
+    }
+
+    /// The key at a place, from 0.
+    pub fn key(&self, i: usize) -> &[u8]
+        requires { i < length self.now }
+        ensures { result.now ≡ get_or self.now i [] }
+    {
+        field_at(&self.keys, i)
+    }
+}

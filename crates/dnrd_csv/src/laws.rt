@@ -1,0 +1,9 @@
+//! Laws of texts.
+ghost use Rattle.std.specs.Prelude.{◌≡◌, ℕ, List, All};
+ghost use Rattle.dnrd_csv.specs.Text.{IsRow, IsTextOf, table_text};
+
+/// Rows in form have one text, which no other rows have, and no bytes are the text of two lists of rows.
+pub fn law_one_text()
+    ensures text { (xs ys : List (List (List ℕ))) → All IsRow xs → All IsRow ys → table_text xs ≡ table_text ys → xs ≡ ys }
+    ensures reading { (bytes : List ℕ) (xs ys : List (List (List ℕ))) → IsTextOf bytes xs → IsTextOf bytes ys → xs ≡ ys }
+{}

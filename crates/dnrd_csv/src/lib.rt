@@ -1,0 +1,23 @@
+//! The comma-separated tables of a deposit (the CSV model of RFC 9022), each in its one spelling.
+#![tactic(auto)]
+
+mod checks;
+mod error;
+mod form;
+mod keys;
+mod laws;
+mod layout;
+mod reading;
+mod rows;
+mod spelling;
+mod table;
+#[cfg(test)]
+mod tests;
+
+pub use crate::error::TableError;
+pub use crate::form::Form;
+pub use crate::keys::Keys;
+pub use crate::laws::law_one_text;
+pub use crate::layout::{columns, key_columns};
+pub use crate::rows::Rows;
+pub use crate::table::{Table, read_keys, read_table, write_table};

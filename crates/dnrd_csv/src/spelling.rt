@@ -1,0 +1,87 @@
+//! Writing fields and rows in their one spelling.
+ghost use Rattle.std.specs.Prelude.{◌≡◌, ◌+◌, ◌<◌, ◌≤◌, ◌==◌, ◌++◌, ◌∷◌, [], OnOk, drop, get_or, if◌then◌else◌, length, take};
+ghost use Rattle.std.specs.List.{list_any};
+ghost use Rattle.csv.specs.Records.{fields_of};
+ghost use Rattle.dnrd_csv.specs.Text.{calls_for_quotes, doubled, field_text, row_text};
+
+use csv::ByteRecord;
+use std::alloc::AllocError;
+
+/// The field at a place.
+pub fn field_at(fields: &ByteRecord, i: usize) -> &[u8]
+    requires { i < length (fields_of fields.now) }
+    ensures { result.now ≡ get_or (fields_of fields.now) i [] }
+{
+    match fields.get(i) {
+        Some(field) => field,
+        None => b"",
+    }
+}
+
+fn calls_for_quotes(byte: u8) -> bool
+    ensures { result ≡ calls_for_quotes byte }
+{
+    byte == b',' || byte == b'"' || byte == b'\r' || byte == b'\n'
+}
+
+fn is_quoted(field: &[u8]) -> bool
+    ensures { result ≡ list_any calls_for_quotes field.now }
+{
+    field.iter().any(|byte| calls_for_quotes(*byte))
+}
+
+// Writes a byte of a quoted field.
+#[tactic(auto, unfolding(crate::specs::Text::doubled))]
+fn write_doubled(byte: u8, out: &mut Vec<u8>) -> Result<(), AllocError>
+    ensures { OnOk result (out.new.items ≡ out.old.items ++ doubled (byte ∷ [])) }
+{
+    if byte == b'"' {
+        return out.extend_from_slice(b"\"\"");
+    }
+    out.push(byte)?;
+    Ok(())
+}
+
+/// Writes a field, in quotes exactly if it calls for them.
+pub fn write_field(field: &[u8], out: &mut Vec<u8>) -> Result<(), AllocError>
+    ensures { OnOk result (out.new.items ≡ out.old.items ++ field_text field.now) }
+{
+    if !is_quoted(field) {
+        return out.extend_from_slice(field);
+    }
+    out.push(b'"')?;
+    for byte in field {
+        write_doubled(*byte, out)?;
+    }
+    out.push(b'"')?;
+    Ok(())
+}
+
+// Writes the comma before each field but the first.
+fn write_comma(i: usize, out: &mut Vec<u8>) -> Result<(), AllocError>
+    ensures { OnOk result (out.new.items ≡ out.old.items ++ (if i == 0 then [] else 44 ∷ [])) }
+{
+    if i > 0 {
+        out.push(b',')?;
+    }
+    Ok(())
+}
+
+/// Writes the row of so many fields from a place on.
+pub fn write_row(
+    fields: &ByteRecord,
+    from: usize,
+    count: usize,
+    out: &mut Vec<u8>,
+) -> Result<(), AllocError>
+    requires { from + count ≤ length (fields_of fields.now) }
+    ensures { OnOk result (out.new.items ≡ out.old.items ++ row_text (take count (drop from (fields_of fields.now)))) }
+{
+    let _ = fields.len();
+    for i in 0..count {
+        write_comma(i, out)?;
+        write_field(field_at(fields, from + i), out)?;
+    }
+    out.push(b'\n')?;
+    Ok(())
+}

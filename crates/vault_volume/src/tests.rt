@@ -1,0 +1,311 @@
+use super::*;
+use std::alloc::Global;
+use std::test::Fail;
+use std::{env, fs, process};
+
+const NUMBER: u64 = 0x0123_4567_89AB_CDEF;
+
+const HELD: [u8; 3] = *b"abc";
+
+const OLD: [u8; 6000] = [b'o'; 6000];
+
+const NEW: [u8; 5000] = [b'n'; 5000];
+
+// What the open bytes hold after a restart.
+#[derive(Clone, Copy)]
+enum Pattern {
+    Zeros,
+    Ones,
+    Written,
+    OldReversed,
+    BlockZero,
+}
+
+const PATTERNS: [Pattern; 5] = [
+    Pattern::Zeros,
+    Pattern::Ones,
+    Pattern::Written,
+    Pattern::OldReversed,
+    Pattern::BlockZero,
+];
+
+fn byte_of(pattern: Pattern, old: &[u8], i: usize) -> u8 {
+    let at = match pattern {
+        Pattern::Zeros => return 0,
+        Pattern::Ones => return 255,
+        Pattern::Written => return b'n',
+        Pattern::OldReversed => old.len().saturating_sub(i).saturating_sub(1),
+        Pattern::BlockZero => i % 4096,
+    };
+    old.get(at).copied().unwrap_or(0)
+}
+
+fn fill_of(alloc: Global, pattern: Pattern, old: &[u8]) -> Result<Vec<u8>, Fail> {
+    let mut fill = Vec::with_capacity(alloc, old.len())?;
+    for i in 0..old.len() {
+        fill.push(byte_of(pattern, old, i))?;
+    }
+    Ok(fill)
+}
+
+fn copy_of(alloc: Global, bytes: &[u8]) -> Result<Vec<u8>, Fail> {
+    let mut copy = Vec::new(alloc);
+    copy.extend_from_slice(bytes)?;
+    Ok(copy)
+}
+
+// Whether the vault has room and its volume answers.
+fn keep<V: Volume>(alloc: Global, vault: &mut Vault<V>, bytes: &[u8]) -> bool {
+    if bytes.is_empty() || bytes.len() > 1048576 || vault.volume().failures() > 9 {
+        return false;
+    }
+    match vault.stage(alloc, bytes) {
+        Ok(staged) => {
+            let _ = staged.spend();
+            true
+        }
+        Err(_) => false,
+    }
+}
+
+// Stages the bytes from a block on, and says whether that was done.
+fn keep_from<V: Volume>(alloc: Global, volume: V, place: u32, bytes: &[u8]) -> (V, bool) {
+    if place == 0 || place > volume.size() {
+        return (volume, false);
+    }
+    let mut vault = Vault::over(volume, place);
+    let kept = keep(alloc, &mut vault, bytes);
+    (vault.into_inner(), kept)
+}
+
+fn name<V: Volume>(volume: &mut V) -> bool {
+    volume.size() > 0 && volume.failures() < 9 && write_head(volume, NUMBER).is_ok()
+}
+
+fn number_of<V: Volume>(volume: &mut V) -> Option<u64> {
+    if volume.failures() > 9 {
+        return None;
+    }
+    read_head(volume).ok().flatten()
+}
+
+// The part of three bytes in block 1.
+fn held<V: Volume>(alloc: Global, volume: V) -> (V, Vec<u8>) {
+    let mut out = Vec::new(alloc);
+    let extent = Extent { start: 1, count: 1 };
+    if volume.size() < 2 || volume.failures() > 9 {
+        return (volume, out);
+    }
+    let mut vault = Vault::over(volume, 2);
+    let _ = vault.read_part(&[extent], 3, &mut out);
+    (vault.into_inner(), out)
+}
+
+// The head, a held part in block 1, and bytes that no record names in blocks 2 and 3.
+fn prepared(alloc: Global) -> Result<MemVolume, Fail> {
+    let mut volume = MemVolume::new(alloc, 4, 12, 6)?;
+    let named = name(&mut volume);
+    let (volume, held) = keep_from(alloc, volume, 1, &HELD);
+    let (volume, old) = keep_from(alloc, volume, 2, &OLD);
+    if !(named && held && old) {
+        return Err(Fail::from("not prepared"));
+    }
+    Ok(volume)
+}
+
+fn restart(volume: &mut MemVolume, fill: &[u8]) {
+    if fill.len() == 4096 * volume.size() as usize {
+        volume.restart(fill);
+    }
+}
+
+// The image that is wanted after a stop: the bytes staged, or those of the restart, in the open range
+// alone.
+fn is_wanted(found: &[u8], old: &[u8], open: &[u8], written: bool) -> bool {
+    found.iter().zip(old).zip(open).enumerate().all(|(i, ((found, old), open))| {
+        if i < 8192 || i >= 13192 {
+            found == old
+        } else if written {
+            *found == b'n'
+        } else {
+            found == open
+        }
+    })
+}
+
+fn stops_well(alloc: Global, stop: u64, pattern: Pattern) -> Result<bool, Fail> {
+    let mut volume = prepared(alloc)?;
+    let old = copy_of(alloc, volume.bytes())?;
+    let fill = fill_of(alloc, pattern, &old)?;
+    volume.stop_at((volume.calls() as u64).saturating_add(stop));
+    let (mut volume, staged) = keep_from(alloc, volume, 2, &NEW);
+    restart(&mut volume, &fill);
+    let image = is_wanted(volume.bytes(), &old, &fill, staged);
+    let number = number_of(&mut volume);
+    let (_, held) = held(alloc, volume);
+    Ok(
+        image
+            && staged == (stop == 2)
+            && number == Some(NUMBER)
+            && held.as_slice() == HELD.as_slice(),
+    )
+}
+
+#[test]
+fn a_stop_at_each_call_of_stage_spares_what_is_held(rt: HostRuntime) -> Result<(), Fail> {
+    for stop in 0..3u64 {
+        for pattern in PATTERNS {
+            assert!(rt; stops_well(rt.alloc(), stop, pattern)?, "stop at {stop}");
+        }
+    }
+    Ok(())
+}
+
+// SHA-256 of `abc`, as FIPS 180-2 gives it in its first example.
+const ABC: [u8; 32] = [
+    0xba, 0x78, 0x16, 0xbf, 0x8f, 0x01, 0xcf, 0xea, 0x41, 0x41, 0x40, 0xde, 0x5d, 0xae, 0x22, 0x23,
+    0xb0, 0x03, 0x61, 0xa3, 0x96, 0x17, 0x7a, 0x9c, 0xb4, 0x10, 0xff, 0x61, 0xf2, 0x00, 0x15, 0xad,
+];
+
+fn stage_held(alloc: Global, place: u32) -> Result<(Vault<MemVolume>, Staged), Fail> {
+    let volume = MemVolume::new(alloc, 4, 12, 6)?;
+    if place == 0 || place > volume.size() || volume.failures() > 9 {
+        return Err(Fail::from("no place"));
+    }
+    let mut vault = Vault::over(volume, place);
+    let staged = vault.stage(alloc, &HELD)?;
+    Ok((vault, staged))
+}
+
+#[test]
+fn a_staged_part_has_the_first_free_blocks(rt: HostRuntime) -> Result<(), Fail> {
+    let (vault, staged) = stage_held(rt.alloc(), 3)?;
+    let (extents, len, digest) = staged.spend();
+    let block = Extent { start: 3, count: 1 };
+    assert_eq!(rt; extents.as_slice(), [block].as_slice());
+    assert!(rt; block.is_within(4) && !block.is_within(3));
+    assert_eq!(rt; (len, blocks_for(len), blocks_for(4097)), (3, 1, 2));
+    assert_eq!(rt; digest, ABC);
+    assert_eq!(rt; vault.volume().failures(), 0);
+    Ok(())
+}
+
+// What becomes of the blocks of the first of two parts, where there is room for one.
+#[derive(Clone, Copy)]
+enum Fate {
+    Kept,
+    Cancelled,
+    GivenBack,
+}
+
+fn has_room_after(alloc: Global, fate: Fate) -> Result<bool, Fail> {
+    let volume = MemVolume::new(alloc, 4, 12, 6)?;
+    let mut vault = Vault::over(volume, 3);
+    let staged = vault.stage(alloc, &HELD)?;
+    match fate {
+        Fate::Cancelled => vault.cancel(staged),
+        fate => {
+            let (extents, _, _) = staged.spend();
+            if let Fate::GivenBack = fate {
+                vault.give_back(&extents);
+            }
+        }
+    }
+    Ok(keep(alloc, &mut vault, &HELD))
+}
+
+#[test]
+fn blocks_are_used_until_they_are_given_back(rt: HostRuntime) -> Result<(), Fail> {
+    assert!(rt; !has_room_after(rt.alloc(), Fate::Kept)?);
+    assert!(rt; has_room_after(rt.alloc(), Fate::Cancelled)?);
+    assert!(rt; has_room_after(rt.alloc(), Fate::GivenBack)?);
+    Ok(())
+}
+
+#[test]
+fn block_0_has_the_number_in_lower_case(rt: HostRuntime) -> Result<(), Fail> {
+    let mut volume = MemVolume::new(rt.alloc(), 1, 8, 4)?;
+    assert_eq!(rt; number_of(&mut volume), None);
+    assert!(rt; name(&mut volume));
+    assert!(rt;
+        volume
+            .bytes()
+            .starts_with(b"RDEVAULT1\n0123456789abcdef\n\0")
+    );
+    assert_eq!(rt; number_of(&mut volume), Some(NUMBER));
+    assert!(rt; volume.size() == 1 && volume.failures() == 0);
+    assert!(rt; volume.write_at(20, b"A").is_ok());
+    assert!(rt; volume.failures() == 0);
+    assert_eq!(rt; number_of(&mut volume), None);
+    let mut empty = MemVolume::new(rt.alloc(), 0, 8, 4)?;
+    assert_eq!(rt; number_of(&mut empty), None);
+    Ok(())
+}
+
+#[test]
+fn calls_fail_by_the_script(rt: HostRuntime) -> Result<(), Fail> {
+    let mut volume = prepared(rt.alloc())?;
+    let next = volume.calls() as u64;
+    volume.fail_at(vec![in rt.alloc(); next]?);
+    let (volume, first) = keep_from(rt.alloc(), volume, 2, &NEW);
+    let (volume, second) = keep_from(rt.alloc(), volume, 2, &NEW);
+    assert_eq!(rt; (first, second, volume.failures()), (false, true, 1));
+    Ok(())
+}
+
+#[test]
+fn without_room_each_call_fails(rt: HostRuntime) -> Result<(), Fail> {
+    let volume = MemVolume::new(rt.alloc(), 2, 3, 1)?;
+    let (volume, first) = keep_from(rt.alloc(), volume, 1, &HELD);
+    let (mut volume, second) = keep_from(rt.alloc(), volume, 1, b"xyz");
+    assert_eq!(rt; (first, second, volume.failures()), (true, false, 1));
+    let fill = vec![in rt.alloc(); 255u8; 8192]?;
+    restart(&mut volume, &fill);
+    assert!(rt;
+        volume
+            .bytes()
+            .iter()
+            .skip(4096)
+            .take(3)
+            .all(|byte| *byte == 255)
+    );
+    let (volume, third) = keep_from(rt.alloc(), volume, 1, &HELD);
+    let (_, out) = held(rt.alloc(), volume);
+    assert!(rt; third && out.as_slice() == HELD.as_slice());
+    Ok(())
+}
+
+fn has_kind(opened: Result<FileVolume, FileError>, kind: &str) -> bool {
+    let found = match opened {
+        Ok(_) => "opened",
+        Err(FileError::Missing) => "missing",
+        Err(FileError::Locked) => "locked",
+        Err(FileError::WrongLength { .. }) => "length",
+        Err(FileError::Io(_)) => "io",
+    };
+    found == kind
+}
+
+#[test]
+fn a_file_is_opened_again(rt: HostRuntime) -> Result<(), Fail> {
+    let name_of = format!(in rt.alloc(); "vault-volume-test-{}", process::id(rt.process()))?;
+    let folder = env::temp_dir(&rt)?.join(rt.alloc(), name_of.as_str())?;
+    let path = folder.as_path().as_str();
+    assert!(rt; has_kind(FileVolume::open(&rt, path), "missing"));
+    let mut volume = FileVolume::create(&rt, path, 3)?;
+    assert!(rt; has_kind(FileVolume::open(&rt, path), "locked"));
+    assert!(rt; has_kind(FileVolume::create(&rt, path, 1), "locked"));
+    assert!(rt; name(&mut volume));
+    let (volume, staged) = keep_from(rt.alloc(), volume, 1, &HELD);
+    assert!(rt; staged && volume.size() == 3);
+    drop(volume);
+    let mut volume = FileVolume::open(&rt, path)?;
+    assert_eq!(rt; (volume.size(), number_of(&mut volume)), (3, Some(NUMBER)));
+    let (volume, out) = held(rt.alloc(), volume);
+    assert_eq!(rt; out.as_slice(), HELD.as_slice());
+    drop(volume);
+    fs::write(&rt, path, b"short")?;
+    assert!(rt; has_kind(FileVolume::open(&rt, path), "length"));
+    fs::remove_file(&rt, path)?;
+    Ok(())
+}
