@@ -1,14 +1,23 @@
 //! The store: a connection with the tables of the records.
-ghost use Rattle.std.specs.Prelude.{◌≡◌, true, pos, Err, IfErr};
-ghost use Rattle.custody_records.specs.Rows.{fresh};
-ghost use Rattle.custody_records.specs.Written.{digits_of};
-ghost use Rattle.custody_store.specs.Standing.{standing, Founds, has_any};
+ghost use Rattle.std.specs.Prelude.{◌≡◌, ◌≤◌, length, true, pos, Err, IfOk, IfErr};
+ghost use Rattle.custody_records.specs.Rows.{fresh, with_registry_row, with_part_row, with_notice_row};
+ghost use Rattle.custody_records.specs.Written.{digits_of, row_of_registry};
+ghost use Rattle.custody_store.specs.Records.{staged_row, notice_row_of};
+ghost use Rattle.custody_store.specs.Standing.{standing, Commits, Founds, has_any};
 
 use crate::create::create;
 use crate::digits::digits_of;
 use crate::faults::StoreFault;
+use crate::notices::add_notice;
+use crate::parts::insert_part;
+use crate::registries::add_registry;
+use custody_records::Registry;
+use deposit_name::DepositName;
+use desk::Notice;
+use schedule::Sec;
 use sqlite::{Alter, Connection};
 use std::marker::Model;
+use vault_volume::{Extent, Staged};
 
 /// The records, in the tables of a database.
 #[derive(Drop)]
@@ -50,5 +59,40 @@ impl<S: Alter> Store<S> {
         ensures kind { IfErr result (λ e. e ≡ StoreFault.Failed) }
     {
         create(&mut self.db, &digits_of(number), blocks)
+    }
+
+    /// Adds a registry, and commits it.
+    pub fn insert_registry(&mut self, registry: &Registry) -> Result<(), StoreFault>
+        ensures commits { Commits (standing S.Store self.old) (standing S.Store self.new)
+            (with_registry_row (row_of_registry registry.now.tld registry.now.first_day) (standing S.Store self.old).rows) result }
+        ensures kind { IfErr result (λ e. e ≡ StoreFault.Failed) }
+    {
+        add_registry(&mut self.db, registry)
+    }
+
+    /// Adds a part where its bytes were staged, and commits it. The extents, the length and the digest
+    /// are handed back. No row may name a block of these extents.
+    pub fn insert_part(
+        &mut self,
+        name: &DepositName,
+        received: Sec,
+        staged: Staged,
+    ) -> Result<(Vec<Extent>, u32, [u8; 32]), StoreFault>
+        requires few { length staged.extents ≤ 256 }
+        ensures handed { IfOk result (λ t. (t.0.items ≡ staged.extents) × (t.1 ≡ staged.len) × (t.2 ≡ staged.digest)) }
+        ensures commits { Commits (standing S.Store self.old) (standing S.Store self.new)
+            (with_part_row (staged_row name.now received staged) (standing S.Store self.old).rows) result }
+        ensures kind { IfErr result (λ e. e ≡ StoreFault.Failed) }
+    {
+        insert_part(&mut self.db, name, received, staged)
+    }
+
+    /// Adds a notice, and commits it.
+    pub fn insert_notice(&mut self, notice: &Notice) -> Result<(), StoreFault>
+        ensures commits { Commits (standing S.Store self.old) (standing S.Store self.new)
+            (with_notice_row (notice_row_of notice.now) (standing S.Store self.old).rows) result }
+        ensures kind { IfErr result (λ e. e ≡ StoreFault.Failed) }
+    {
+        add_notice(&mut self.db, notice)
     }
 }
