@@ -24,8 +24,8 @@ no_slash_before n bytes positive h ne = record {
   within = omega (arith, h.within);
   rest = λ k ge lt. elim (cases_lt k n) [
     | inl below ↦
-      let at : n - 1 ≡ k = omega (arith, ge, below, positive) in
-      subst (λ (i : ℕ). not (is_slash (slice_index_or bytes i 0)) ≡ true) at (other _ ne)
+        let at : n - 1 ≡ k = omega (arith, ge, below, positive) in
+        subst (λ (i : ℕ). not (is_slash (slice_index_or bytes i 0)) ≡ true) at (other _ ne)
     | inr above ↦ h.rest k above lt
   ];
 }

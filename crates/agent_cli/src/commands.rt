@@ -22,13 +22,7 @@ fn folder<'a>(alloc: Global) -> Arg<'a>
     positional(alloc, "DIR", "Folder of the vault, which has to be there")
 }
 
-fn option<'a>(
-    alloc: Global,
-    id: &'a str,
-    required: bool,
-    value: &'a str,
-    help: &'a str,
-) -> Arg<'a>
+fn option<'a>(alloc: Global, id: &'a str, required: bool, value: &'a str, help: &'a str) -> Arg<'a>
     ensures rule { rule_of result ≡ option_rule id.entry.now required }
     ensures local { result.global ≡ false }
 {
@@ -114,7 +108,8 @@ fn bare_command<'a>(alloc: Global) -> Command<'a>
     ensures app { app_of result ≡ bare_app }
     ensures local { (out-Command result).has_globals ≡ false }
 {
-    let about = "Keeps escrow deposits of registries in a vault: a folder with vault.vol and custody.db";
+    let about =
+        "Keeps escrow deposits of registries in a vault: a folder with vault.vol and custody.db";
     let after = "First steps:\n  \
                  mkdir vault\n  \
                  escrow init vault --blocks 8 --number 0000000000000001\n  \

@@ -11,9 +11,15 @@ use std::fmt;
 #[derive(Clone, Copy, Debug, PartialEq, Eq)]
 pub enum Line {
     /// The vault stands, with so many blocks and this number.
-    Ready { blocks: u32, number: VolumeNumber },
+    Ready {
+        blocks: u32,
+        number: VolumeNumber,
+    },
     /// The registry is recorded, with its first day.
-    Registered { tld: Tld, first: Day },
+    Registered {
+        tld: Tld,
+        first: Day,
+    },
     /// The part is kept, received at that moment.
     Received {
         name: DepositName,
@@ -21,7 +27,10 @@ pub enum Line {
         at: Sec,
     },
     /// A registry of the records.
-    Registry { tld: Tld, first: Day },
+    Registry {
+        tld: Tld,
+        first: Day,
+    },
     /// A part of the records whose bytes are held.
     Part {
         name: DepositName,
@@ -29,7 +38,10 @@ pub enum Line {
         at: Sec,
     },
     /// The free blocks, of all but the head's.
-    Room { free: u32, total: u32 },
+    Room {
+        free: u32,
+        total: u32,
+    },
 }
 
 impl fmt::Display for Line {

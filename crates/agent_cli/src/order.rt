@@ -82,13 +82,7 @@ impl WordFault {
         ensures { IsStatusOf self.now result }
     {
         match self {
-            WordFault::Words(error) => {
-                if error.use_stderr() {
-                    2
-                } else {
-                    0
-                }
-            }
+            WordFault::Words(error) => { if error.use_stderr() { 2 } else { 0 } }
             WordFault::Bad(_) => 2,
             WordFault::NoMemory => 3,
         }

@@ -218,7 +218,10 @@ fn prints_lines(rt: HostRuntime) -> Result<(), Fail> {
     let at = read_moment(b"2026-08-02T10:00:00Z").ok_or("a moment")?;
     let number = VolumeNumber::new(1);
     let rows = [
-        (Line::Ready { blocks: 8, number }, "ready 8 0000000000000001"),
+        (
+            Line::Ready { blocks: 8, number },
+            "ready 8 0000000000000001",
+        ),
         (
             Line::Registered { tld, first },
             "registered example 2026-08-02",
@@ -231,10 +234,7 @@ fn prints_lines(rt: HostRuntime) -> Result<(), Fail> {
             },
             "received example_2026-08-02_full_S1_R0.ryde 5 2026-08-02T10:00:00Z",
         ),
-        (
-            Line::Registry { tld, first },
-            "registry example 2026-08-02",
-        ),
+        (Line::Registry { tld, first }, "registry example 2026-08-02"),
         (
             Line::Part {
                 name,

@@ -39,7 +39,9 @@ pub(crate) fn first_in(matches: &ArgMatches<'_>) -> Result<Day, WordFault>
 pub(crate) fn number_in(matches: &ArgMatches<'_>) -> Result<VolumeNumber, WordFault>
     ensures { AnswersValue Argument.Number (ShowsNumber (text_of (codes "number") (rows_of (found_of matches.now)))) result }
 {
-    VolumeNumber::parse(text_in(matches, "number").as_bytes()).ok_or(WordFault::Bad(Argument::Number))
+    VolumeNumber::parse(text_in(matches, "number").as_bytes()).ok_or(WordFault::Bad(
+        Argument::Number,
+    ))
 }
 
 pub(crate) fn now_in(matches: &ArgMatches<'_>) -> Result<Option<Sec>, WordFault>

@@ -142,19 +142,22 @@ module _ (rows : Rows) (image : List ℕ) (undamaged : (damage : Damage) → ¬ 
         undamaged Volume (row.0, records.number, row.1, head, λ of. other (of.size ∙ ap (λ n. 4096 * n) row.2.blocks)))
 
     in_form_stands : (state : State) × Stands rows image state
-    in_form_stands = (state_in records image, record {
-      records = records;
-      in_form = is;
-      good = record {
-        whole = record {
-          extents = stable_range records (λ out. undamaged ExtentDamage (records, is, out));
-          once = stable_once records (λ out. undamaged Overlap (records, is, out));
-          linked = stable_linked records (λ out. undamaged Link (records, is, out));
+    in_form_stands = (
+      state_in records image,
+      record {
+        records = records;
+        in_form = is;
+        good = record {
+          whole = record {
+            extents = stable_range records (λ out. undamaged ExtentDamage (records, is, out));
+            once = stable_once records (λ out. undamaged Overlap (records, is, out));
+            linked = stable_linked records (λ out. undamaged Link (records, is, out));
+          };
+          volume = record { head = head; size = size };
         };
-        volume = record { head = head; size = size };
-      };
-      meaning = refl;
-    })
+        meaning = refl;
+      },
+    )
 
   undamaged_stands : (state : State) × Stands rows image state
   undamaged_stands = by (form_of rows) refl

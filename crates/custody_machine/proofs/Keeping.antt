@@ -481,9 +481,11 @@ asked_again s (Receive text bytes) (Receive other others) entry now h again = by
           kind = not_new _;
           order = not_new _;
         } in
-        let nothing = find_none s h.name others now none in
-        (inl (step_none s (Receive other others) now (refusal_by None nothing) ∙ rules_part s other others now h.name named other_bytes dropped ∙ ap (answered s h.name others now) at
-        ∙ ap (λ e. Accept (record { entry = e; is_repeat = true }) s) (ap (OfPart (key_of h.name)) p ∙ sym h.made)), reads_by None nothing refl)
+        let nothing = find_none s h.name others now none in (
+          inl (step_none s (Receive other others) now (refusal_by None nothing) ∙ rules_part s other others now h.name named other_bytes dropped ∙ ap (answered s h.name others now) at
+              ∙ ap (λ e. Accept (record { entry = e; is_repeat = true }) s) (ap (OfPart (key_of h.name)) p ∙ sym h.made)),
+          reads_by None nothing refl,
+        )
     by (inr p) =
         let content : is_gone h.kept.content ≡ true = ap (λ (q : Part). is_gone q.content) p in
         let other_bytes : receive_stands s h.name others now OtherBytes ≡ false = ap (holds_other others) at ∙ ap (λ (q : Part). is_held_with_other others q.content) p in

@@ -114,13 +114,17 @@ move_happens (Serving records image) (Running state) (OpenedWith pair answer) ne
 move_happens (Shut records image doubt) (Halted old entry) (Answered command now answer) next follows m = (Halted old entry, (m.0, refl), subst (λ p. Follows p (Halted old entry)) (sym m.1) follows)
 move_happens (Shut records image doubt) (Halted old entry) ShutDown next follows m = (Halted old entry, refl, subst (λ p. Follows p (Halted old entry)) (sym m) follows)
 move_happens (Shut records image doubt) (Halted old entry) (StoppedAtRest pair) next follows m =
-    let P : State → Type 0 = MayFind (state_in records image) doubt in
-    (Resting pair, ((λ (z : OpensSoundly (MayFind old entry) pair). z) (subst (λ s. OpensSoundly (MayFind s entry) pair) (sym follows.0) (subst (λ d. OpensSoundly (MayFind (state_in records image) d) pair) (sym follows.1) (opens_soundly records image follows.2 P m.0 m.1 pair m.2 m.3))), refl),
-    subst (λ p. Follows p (Resting pair)) (sym m.4) (follows_left records image follows.2 P m.0 m.1 pair m.2 m.3))
+    let P : State → Type 0 = MayFind (state_in records image) doubt in (
+      Resting pair,
+      ((λ (z : OpensSoundly (MayFind old entry) pair). z) (subst (λ s. OpensSoundly (MayFind s entry) pair) (sym follows.0) (subst (λ d. OpensSoundly (MayFind (state_in records image) d) pair) (sym follows.1) (opens_soundly records image follows.2 P m.0 m.1 pair m.2 m.3))), refl),
+      subst (λ p. Follows p (Resting pair)) (sym m.4) (follows_left records image follows.2 P m.0 m.1 pair m.2 m.3),
+    )
 move_happens (Shut records image doubt) (Halted old entry) (StoppedWithin command now pair) next follows m =
-    let P : State → Type 0 = MayFind (state_in records image) doubt in
-    (Resting pair, ((λ (z : OpensSoundly (MayFind old entry) pair). z) (subst (λ s. OpensSoundly (MayFind s entry) pair) (sym follows.0) (subst (λ d. OpensSoundly (MayFind (state_in records image) d) pair) (sym follows.1) (opens_soundly records image follows.2 P m.0 m.1 pair m.2 m.3))), refl),
-    subst (λ p. Follows p (Resting pair)) (sym m.4) (follows_left records image follows.2 P m.0 m.1 pair m.2 m.3))
+    let P : State → Type 0 = MayFind (state_in records image) doubt in (
+      Resting pair,
+      ((λ (z : OpensSoundly (MayFind old entry) pair). z) (subst (λ s. OpensSoundly (MayFind s entry) pair) (sym follows.0) (subst (λ d. OpensSoundly (MayFind (state_in records image) d) pair) (sym follows.1) (opens_soundly records image follows.2 P m.0 m.1 pair m.2 m.3))), refl),
+      subst (λ p. Follows p (Resting pair)) (sym m.4) (follows_left records image follows.2 P m.0 m.1 pair m.2 m.3),
+    )
 move_happens (Shut records image doubt) (Halted old entry) (OpenedWith pair answer) next follows m = absurd m
 move_happens (Left rows image) (Resting left) (Answered command now answer) next follows m = absurd m
 move_happens (Left rows image) (Resting left) ShutDown next follows m = absurd m
@@ -157,10 +161,11 @@ move_happens (Left rows image) (Resting left) (OpenedWith pair (NotOpened fault)
         let o = leaves s.records s.in_form s.good in
         let P : State → Type 0 = λ found. found ≡ state_in s.records image in
         let same : pair ≡ left = finds_one rows image pair (pair_of follows.0) finds (finds_some rows image follows.0 s follows.2) ∙ sym follows.3 in
-        let found : pair ≡ pair_of (state_in o.records other) = same ∙ follows.3 ∙ ap pair_of (s.meaning ∙ sym o.state) in
-        (Resting pair, (same, may_open rows image follows.0 pair.opens fault s may, refl),
-        subst (λ p. Follows p (Resting pair)) (sym is) (state_in o.records other, stands_of s.records image P others other o, sound_of s.records image P others other o has, found))
-
+        let found : pair ≡ pair_of (state_in o.records other) = same ∙ follows.3 ∙ ap pair_of (s.meaning ∙ sym o.state) in (
+          Resting pair,
+          (same, may_open rows image follows.0 pair.opens fault s may, refl),
+          subst (λ p. Follows p (Resting pair)) (sym is) (state_in o.records other, stands_of s.records image P others other o, sound_of s.records image P others other o has, found),
+        )
 move_happens (Serving records image) (Halted old entry) event next follows m = absurd follows
 move_happens (Serving records image) (Resting left) event next follows m = absurd follows
 move_happens (Shut records image doubt) (Running state) event next follows m = absurd follows

@@ -112,7 +112,7 @@ pieces_found stem p e = by (cut stem) refl e
         let hk = cut_found d.1 k.0 k.1 ek in
         let hq = cut_found k.1 q.0 q.1 eq in
         let whole : stem ≡ t.0 ++ 95 ∷ (d.0 ++ 95 ∷ (k.0 ++ 95 ∷ (q.0 ++ 95 ∷ q.1))) =
-            ht.0 ∙ ap (λ r. t.0 ++ 95 ∷ r) (hd.0 ∙ ap (λ r. d.0 ++ 95 ∷ r) (hk.0 ∙ ap (λ r. k.0 ++ 95 ∷ r) hq.0)) in
+        ht.0 ∙ ap (λ r. t.0 ++ 95 ∷ r) (hd.0 ∙ ap (λ r. d.0 ++ 95 ∷ r) (hk.0 ∙ ap (λ r. k.0 ++ 95 ∷ r) hq.0)) in
         let is : ◌≡◌ {A = NamePieces} (record { tld = t.0; date = d.0; kind = k.0; part = q.0; rev = q.1 }) p = cc in
         subst (IsSplit stem) is (record {
           joined = whole ∙ sym (regroup t.0 d.0 k.0 q.0 q.1);
@@ -231,7 +231,7 @@ not_decides a b = Decides-not (a == b) (Decides-eqb a b)
 pub tld_decides : (text : List ℕ) → Decides (is_tld text) (IsTld text)
 tld_decides text = Decides-like (is_tld text)
     (λ (h : (IsInRange 1 63 (length text) × (list_all is_tld_byte text ≡ true)) × ((slice_index text 0 ≢ 45) × (slice_index text (length text - 1) ≢ 45))).
-        record { length_in = h.0.0; bytes = h.0.1; first = h.1.0; last = h.1.1 })
+    record { length_in = h.0.0; bytes = h.0.1; first = h.1.0; last = h.1.1 })
     (λ h. ((h.length_in, h.bytes), (h.first, h.last)))
     (Decides-and _ _ (Decides-and _ _ (is_within_decides 1 63 (length text)) (itself (list_all is_tld_byte text)))
     (Decides-and _ _ (not_decides (slice_index text 0) 45) (not_decides (slice_index text (length text - 1)) 45)))
@@ -255,7 +255,7 @@ module _ (text : List ℕ) (p : NamePieces) (pieces : HasPieces text p) (tld : I
         (
           record { tld = tld; day = hd.0; part = hp.0; rev = hr.0 },
           pieces.1 ∙ ap (λ s. s ++ codes ".ryde") pieces.2.joined ∙ rejoin p.tld p.date p.kind p.part p.rev (codes ".ryde")
-          ∙ (λ i. p.tld ++ codes "_" ++ hd.1 i ++ codes "_" ++ hk i ++ codes "_" ++ hp.1 i ++ codes "_" ++ hr.1 i ++ codes ".ryde"),
+              ∙ (λ i. p.tld ++ codes "_" ++ hd.1 i ++ codes "_" ++ hk i ++ codes "_" ++ hp.1 i ++ codes "_" ++ hr.1 i ++ codes ".ryde"),
         ),
         tt,
       )

@@ -16,7 +16,7 @@ loop-start-preserved c = no_slash_before _ _ c.loop-start-test.true c.loop-start
 pub returns : goal.returns
 returns c =
     last_part_is _ _ c.loop-start.invariant (λ positive. elim c.loop-start-test.branch [
-        | then-loop-start-test+else-bytes-start-ne47 w ↦ w.if-bytes-start-ne47.false
-        | else-loop-start-test w ↦ absurd (omega (arith, w.loop-start-test.false, positive))
-      ])
+      | then-loop-start-test+else-bytes-start-ne47 w ↦ w.if-bytes-start-ne47.false
+      | else-loop-start-test w ↦ absurd (omega (arith, w.loop-start-test.false, positive))
+    ])
     ∙ ap (after_last is_slash) c.as_bytes-bytes.ensures.value
