@@ -56,7 +56,7 @@ pub part_read_back : (key : PartKey) (part : PartRecord) → IsPart key part →
 part_read_back key part h =
     let passes : is_part (row_of_part key part) ≡ true = λ i.
     tld_passes key.tld h.tld i && (deposit_day_passes key.day h.day i && (within_passes 0 99 key.rev (omega arith) h.rev i && (within_passes 1 8 key.part h.place.0 h.place.1 i && (moment_passes part.received h.received i
-        && (number_passes (year_after (day_of part.received)) i && (within_passes 1 1_048_576 part.len h.len.0 h.len.1 i && is_32 (length part.digest) h.digest i)))))) in
+    && (number_passes (year_after (day_of part.received)) i && (within_passes 1 1_048_576 part.len h.len.0 h.len.1 i && is_32 (length part.digest) h.digest i)))))) in
     λ i. cond (passes i) (option_and_then (λ (kind : Kind). option_map (λ (extents : Option (List Extent)). (key, record { kind = kind; received = part.received; len = part.len; digest = part.digest; extents = extents })) (extents_read_back part.extents h.extents i)) (kind_in-kind_text part.kind i)) None
   where
     is_32 : (n : ℕ) → n ≡ 32 → (n == 32) ≡ true
@@ -69,13 +69,13 @@ kind_read_back tld number day at (Receipt rev id) h = λ i. cond (within_passes 
 kind_read_back tld number day at (Failure rev id check) h =
     let apart = check_apart check in
     λ i. cond (apart.0 i) (cond (is_number 0 (pos rev) && bytes_eq id []) (Some Absence) None)
-        (cond (within_passes 0 99 rev (omega arith) h.0 i && id_passes id h.1 i) (cond (apart.1 i) (Some (Receipt rev id)) (option_map (λ (c : Check). Failure rev id c) (check_in-check_number check i))) None)
+    (cond (within_passes 0 99 rev (omega arith) h.0 i && id_passes id h.1 i) (cond (apart.1 i) (Some (Receipt rev id)) (option_map (λ (c : Check). Failure rev id c) (check_in-check_number check i))) None)
 kind_read_back tld number day at Absence h = refl
 
 pub notice_read_back : (key : NoticeKey) (notice : Notice) → IsNotice key notice → notice_in (row_of_notice key notice) ≡ Some (key, notice)
 notice_read_back key notice h =
     λ i. cond (tld_passes key.tld h.tld i && (within_passes 1 9_223_372_036_854_775_807 key.number h.number.0 h.number.1 i && (day_passes notice.day h.day i && moment_passes notice.at h.at i)))
-        (option_map (λ (kind : NoticeKind). (key, record { day = notice.day; at = notice.at; kind = kind })) (kind_read_back key.tld key.number notice.day notice.at notice.kind h.kind i)) None
+    (option_map (λ (kind : NoticeKind). (key, record { day = notice.day; at = notice.at; kind = kind })) (kind_read_back key.tld key.number notice.day notice.at notice.kind h.kind i)) None
 
 -- ---- releases
 
@@ -101,4 +101,4 @@ lines_in-text_of (line ∷ lines) e =
 pub release_read_back : (reference : List ℕ) (release : Release) → IsRelease reference release → release_in (row_of_release reference release) ≡ Some (reference, release)
 release_read_back reference release h =
     λ i. cond (reference_passes reference h.named i && (tld_passes release.tld h.tld i && moment_passes release.at h.at i))
-        (option_and_then (λ (reason : Ground). option_map (λ (names : List (List ℕ)). (reference, record { tld = release.tld; reason = reason; at = release.at; names = names })) (lines_in-text_of release.names h.names i)) (ground_in-ground_text release.reason i)) None
+    (option_and_then (λ (reason : Ground). option_map (λ (names : List (List ℕ)). (reference, record { tld = release.tld; reason = reason; at = release.at; names = names })) (lines_in-text_of release.names h.names i)) (ground_in-ground_text release.reason i)) None

@@ -127,7 +127,7 @@ abbrev pub notice_kind_in : NoticeRow → Option NoticeKind
 notice_kind_in row =
     if is_number 20 row.kind then (if is_number 0 row.rev && bytes_eq row.id [] then Some Absence else None)
     else if is_within 0 99 row.rev && is_id row.id then
-        (if is_number 0 row.kind then Some (Receipt (natural row.rev) row.id) else option_map (λ (check : Check). Failure (natural row.rev) row.id check) (check_in (natural row.kind)))
+    (if is_number 0 row.kind then Some (Receipt (natural row.rev) row.id) else option_map (λ (check : Check). Failure (natural row.rev) row.id check) (check_in (natural row.kind)))
     else None
 
 abbrev pub notice_in : NoticeRow → Option (NoticeKey × Notice)
@@ -209,7 +209,7 @@ abbrev pub form_after : List MetaRow → Rows → Form
 form_after [] rows = NoVault
 form_after (meta ∷ others) rows =
     if is_known meta then
-        (if is_meta meta && are_none others then in_form_or damage.Form (records_in (number_in meta.number) (natural meta.blocks) rows) else OutOfForm damage.Form)
+    (if is_meta meta && are_none others then in_form_or damage.Form (records_in (number_in meta.number) (natural meta.blocks) rows) else OutOfForm damage.Form)
     else OutOfForm damage.Schema
 
 abbrev pub form_by : Option (List MetaRow) → Rows → Form

@@ -9,9 +9,11 @@ use crate::RowError;
 use std::alloc::Global;
 use vault_volume::Extent;
 
-
 /// The extents of a blob: none where there is no blob, else one or more.
-pub(crate) fn read_extents(alloc: Global, blob: Option<&[u8]>) -> Result<Option<Vec<Extent>>, RowError>
+pub(crate) fn read_extents(
+    alloc: Global,
+    blob: Option<&[u8]>,
+) -> Result<Option<Vec<Extent>>, RowError>
     ensures { MatchResult result (λ found. extents_in (option_map (λ b. b.now) blob.entry) ≡ Some (option_map (λ v. v.items) found))
         (λ e. e ≡ OutOfForm → extents_in (option_map (λ b. b.now) blob.entry) ≡ None) }
 {

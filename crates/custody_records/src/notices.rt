@@ -21,6 +21,7 @@ pub struct NoticeColumns<'a> {
 }
 
 const RECEIPT: i64 = 0;
+
 const ABSENCE: i64 = 20;
 
 impl NoticeColumns<'_> {
@@ -47,7 +48,11 @@ impl NoticeColumns<'_> {
     {
         if self.kind == ABSENCE {
             let is_bare = self.rev == 0 && self.id.is_empty();
-            return if is_bare { Some(NoticeKind::Absence) } else { None };
+            return if is_bare {
+                Some(NoticeKind::Absence)
+            } else {
+                None
+            };
         }
         let rev = number_within(self.rev, 0, 99)? as u8;
         let id = DepositId::parse(self.id)?;

@@ -7,9 +7,16 @@ use schedule::{Day, Sec};
 #[derive(Clone, Copy, Debug, PartialEq, Eq)]
 pub enum NoticeKind {
     /// A deposit was received and verified.
-    Receipt { rev: u8, id: DepositId },
+    Receipt {
+        rev: u8,
+        id: DepositId,
+    },
     /// A deposit was received, and a check of it failed.
-    Failure { rev: u8, id: DepositId, check: Check },
+    Failure {
+        rev: u8,
+        id: DepositId,
+        check: Check,
+    },
     /// No deposit of the day was received.
     Absence,
 }
