@@ -1,13 +1,14 @@
 -- A table in the order of its keys is a finite map: what is found in it, and what a row more adds.
 use Rattle.std.proofs.Common.{◌≡◌, ◌⊎◌, inl, inr, ℕ, zero, suc, ◌+◌, ◌<◌, ◌≤◌, List, [], ◌∷◌, length, get_or, Bool, true, false, ◌&&◌, cond, Option, Some, None, Result, Ok, Err, refl, sym, ◌∙◌, ap, subst, arith, add-one}
-use Rattle.std.specs.Prelude.{T, option_map, is_some, OnOk, OnErr}
+use Rattle.std.specs.Prelude.{T, option_map, is_some, OnOk, OnErr, IfSome, option_copied}
 use Rattle.std.specs.List as list
 use Rattle.std.specs.List.Sorted.{IsSearchInRange, IsBinarySearchResult, IsNonDecreasingBy}
 use Rattle.std.specs.Ordering.{is_lt, is_eq, ordering_reverse, ordering_index}
 use Rattle.std.specs.declared.cmp.Ordering.{Ordering}
 use Rattle.std.specs.declared.cmp.Ordering.TheVariants.{Less, Equal, Greater}
 use Rattle.std.specs.Cmp.{IsTotalOrder}
-use Rattle.std.specs.FinMap.{FinMap, get, insert, empty, entries, entries-insert, entries-from_sorted, get-from_sorted, same_entries_map, empty_of_len, len-entries, from_sorted}
+use denote.Ref.{Bor}
+use Rattle.std.specs.FinMap.{FinMap, IsAntisymmetric, get, insert, empty, entries, entries-insert, entries-from_sorted, get-from_sorted, same_entries_map, empty_of_len, len-entries, from_sorted}
 use Rattle.std.specs.FinMap.Entries.{find, put, is_sorted, below_all, by_order, is_sorted-put}
 use Rattle.std.proofs.lemmas.Bool.{cases_lt}
 use Rattle.std.proofs.lemmas.Cmp.{alike_right}
@@ -176,3 +177,17 @@ pub rising_either : {Row K A E : Type 0} (order : K → K → Ordering) (key : R
     → OnOk r (IsAdded order key old new row) → OnErr r (new ≡ old) → is_rising order key old ≡ true → is_rising order key new ≡ true
 rising_either order key o old new row (Ok x) added same rising = rising_added order key o added rising
 rising_either order key o old new row (Err e) added same rising = ap (is_rising order key) same ∙ rising
+
+-- the row that is found has the key
+pub key_found : {Row K : Type 0} (order : K → K → Ordering) (key : Row → K) → IsAntisymmetric order → (rows : List Row) (sought : K) (row : Row) → row_at order key rows sought ≡ Some row → key row ≡ sought
+key_found order key exact [] sought row e = cc
+key_found {Row} order key exact (r ∷ rows) sought row e = by (order sought (key r)) refl e (key_found order key exact rows sought row)
+  where
+    by : (o : Ordering) → order sought (key r) ≡ o → cond (is_eq o) (Some r) (row_at order key rows sought) ≡ Some row → (row_at order key rows sought ≡ Some row → key row ≡ sought) → key row ≡ sought
+    by Less is e rest = rest e
+    by Equal is e rest = let same : r ≡ row = cc e in sym (exact sought (key r) is ∙ ap key same)
+    by Greater is e rest = rest e
+
+pub lent_key : {Row K : Type 0} (order : K → K → Ordering) (key : Row → K) → IsAntisymmetric order → (rows : List Row) (sought : K) (found : Option (Bor Row)) → option_copied found ≡ row_at order key rows sought → IfSome found (λ row. key row.now ≡ sought)
+lent_key order key exact rows sought None e = tt
+lent_key order key exact rows sought (Some row) e = key_found order key exact rows sought row.now (sym e)

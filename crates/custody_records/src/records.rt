@@ -1,5 +1,5 @@
 //! The records of a custody in memory.
-ghost use Rattle.std.specs.Prelude.{◌≡◌, true, None, IsSome, OnOk, OnErr, IsErrOf, option_map, option_copied};
+ghost use Rattle.std.specs.Prelude.{◌≡◌, true, None, IsSome, IfSome, OnOk, OnErr, IsErrOf, option_map, option_copied};
 ghost use Rattle.std.specs.FinMap.{get};
 ghost use Rattle.custody_records.specs.Keys.{text_cmp, part_cmp, notice_cmp};
 ghost use Rattle.custody_records.specs.Orders.{text_total, part_total, notice_total};
@@ -73,21 +73,24 @@ impl Records {
 
     /// The part of that place.
     pub fn part(&self, place: &PartKey) -> Option<&Part>
-        ensures { option_map part_value (option_copied result) ≡ get (records_of self.now).parts place.now }
+        ensures found { option_map part_value (option_copied result) ≡ get (records_of self.now).parts place.now }
+        ensures key { IfSome result (λ part. part_place part.now ≡ place.now) }
     {
         find(&self.parts, place)
     }
 
     /// The notice of that number.
     pub fn notice(&self, key: &NoticeKey) -> Option<&Notice>
-        ensures { option_map notice_value (option_copied result) ≡ get (records_of self.now).notices key.now }
+        ensures found { option_map notice_value (option_copied result) ≡ get (records_of self.now).notices key.now }
+        ensures key { IfSome result (λ notice. notice_key notice.now ≡ key.now) }
     {
         find(&self.notices, key)
     }
 
     /// The release of that reference.
     pub fn release(&self, reference: &Reference) -> Option<&Release>
-        ensures { option_map release_value (option_copied result) ≡ get (records_of self.now).releases reference.now }
+        ensures found { option_map release_value (option_copied result) ≡ get (records_of self.now).releases reference.now }
+        ensures key { IfSome result (λ release. release_key release.now ≡ reference.now) }
     {
         find(&self.releases, reference)
     }

@@ -17,6 +17,7 @@ pub(crate) trait Keyed: Drop {
 
     ghost order: { Self.Key → Self.Key → Ordering };
 
+    /// The row's key.
     fn key(&self) -> Self::Key
         ensures { result ≡ key_of self.now };
 

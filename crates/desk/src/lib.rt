@@ -5,6 +5,8 @@
 mod checks;
 mod grounds;
 mod notices;
+#[cfg(test)]
+mod tests;
 
 pub use checks::Check;
 pub use grounds::Ground;

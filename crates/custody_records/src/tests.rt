@@ -1,0 +1,225 @@
+//! The records and their rows at work: hostile rows, a key twice, and memory that runs out.
+use crate::{
+    Names, NoticeColumns, Part, PartColumns, PartKey, Records, ReleaseColumns, RowError,
+    read_registry, write_blob,
+};
+use desk::{Check, NoticeKind};
+use std::test::Fail;
+use vault_volume::Extent;
+
+const BLOB: [u8; 16] = [0, 0, 0, 1, 0, 0, 0, 2, 0, 0, 1, 0, 0, 0, 0, 3];
+
+// 2026-08-02, received on that day, kept until 2027-08-02.
+fn part_columns() -> PartColumns<'static> {
+    PartColumns {
+        tld: b"example",
+        day: 20667,
+        rev: 0,
+        part: 1,
+        kind: b"full",
+        received: 20667 * 86400 + 60,
+        keep_day: 21032,
+        len: 20000,
+        sha: &[7; 32],
+        extents: Some(&BLOB),
+    }
+}
+
+fn notice_columns() -> NoticeColumns<'static> {
+    NoticeColumns {
+        tld: b"example",
+        number: 1,
+        kind: 11,
+        day: 20667,
+        rev: 0,
+        id: b"A1",
+        at: 20667 * 86400 + 90,
+    }
+}
+
+fn release_columns() -> ReleaseColumns<'static> {
+    ReleaseColumns {
+        reference: b"R-1",
+        tld: b"example",
+        reason: b"order",
+        at: 20667 * 86400 + 120,
+        names: b"example_2026-08-02_full_S1_R0.ryde\nexample_2026-08-02_full_S2_R0.ryde\n",
+    }
+}
+
+#[test]
+fn reads_rows_in_form(rt: HostRuntime) -> Result<(), Fail> {
+    let part = part_columns().read(rt.alloc())?;
+    assert_eq!(rt; part.len, 20000);
+    let extents = part.extents.ok_or("dropped")?;
+    assert_eq!(rt;
+        extents.as_slice(),
+        [
+            Extent { start: 1, count: 2 },
+            Extent {
+                start: 256,
+                count: 3
+            }
+        ]
+        .as_slice()
+    );
+    let mut blob = [0; 2048];
+    if extents.len() <= 256 {
+        assert_eq!(rt; write_blob(&extents, &mut blob), 16);
+        assert_eq!(rt; &blob[..16], BLOB.as_slice());
+    }
+    let notice = notice_columns().read().ok_or("no notice")?;
+    assert!(rt;
+        matches!(
+            notice.kind,
+            NoticeKind::Failure {
+                check: Check::Counts,
+                ..
+            }
+        )
+    );
+    let release = release_columns().read(rt.alloc())?;
+    assert_eq!(rt; release.names.as_slice().len(), 2);
+    Ok(())
+}
+
+#[test]
+fn refuses_each_field_out_of_form(rt: HostRuntime) -> Result<(), Fail> {
+    let good = part_columns();
+    let bad = [
+        PartColumns {
+            tld: b"-example",
+            ..good
+        },
+        PartColumns { day: 10956, ..good },
+        PartColumns { rev: 100, ..good },
+        PartColumns { part: 9, ..good },
+        PartColumns {
+            kind: b"incr",
+            ..good
+        },
+        PartColumns {
+            received: -1,
+            ..good
+        },
+        PartColumns {
+            keep_day: 21031,
+            ..good
+        },
+        PartColumns { len: 0, ..good },
+        PartColumns {
+            len: 1_048_577,
+            ..good
+        },
+        PartColumns {
+            sha: &[7; 31],
+            ..good
+        },
+        PartColumns {
+            extents: Some(&[]),
+            ..good
+        },
+        PartColumns {
+            extents: Some(&[0; 9]),
+            ..good
+        },
+    ];
+    for columns in &bad {
+        let result = columns.read(rt.alloc());
+        assert_eq!(rt; result.err(), Some(RowError::OutOfForm));
+    }
+    let good = notice_columns();
+    let bad = [
+        NoticeColumns { tld: b"", ..good },
+        NoticeColumns { number: 0, ..good },
+        NoticeColumns { kind: 14, ..good },
+        NoticeColumns { kind: 20, ..good },
+        NoticeColumns {
+            day: 2_932_532,
+            ..good
+        },
+        NoticeColumns { rev: -1, ..good },
+        NoticeColumns { id: b"", ..good },
+        NoticeColumns { at: -1, ..good },
+    ];
+    for columns in &bad {
+        assert_eq!(rt; columns.read(), None);
+    }
+    let good = release_columns();
+    let bad = [
+        ReleaseColumns {
+            reference: b"R 1",
+            ..good
+        },
+        ReleaseColumns {
+            tld: b"Example",
+            ..good
+        },
+        ReleaseColumns {
+            reason: b"ordered",
+            ..good
+        },
+        ReleaseColumns {
+            reason: &[0xff],
+            ..good
+        },
+        ReleaseColumns { at: -1, ..good },
+        ReleaseColumns {
+            names: b"no line feed",
+            ..good
+        },
+    ];
+    for columns in &bad {
+        let result = columns.read(rt.alloc());
+        assert_eq!(rt; result.err(), Some(RowError::OutOfForm));
+    }
+    assert_eq!(rt; read_registry(b"example", 2_932_532), None);
+    Ok(())
+}
+
+#[test]
+fn finds_what_was_added(rt: HostRuntime) -> Result<(), Fail> {
+    let mut records = Records::new(rt.alloc(), 7, 1000);
+    for columns in [
+        PartColumns {
+            part: 2,
+            ..part_columns()
+        },
+        part_columns(),
+        PartColumns {
+            rev: 1,
+            ..part_columns()
+        },
+        PartColumns {
+            tld: b"a",
+            ..part_columns()
+        },
+    ] {
+        records.insert_part(columns.read(rt.alloc())?)?;
+    }
+    assert_eq!(rt; records.parts().len(), 4);
+    let again = records.insert_part(part_columns().read(rt.alloc())?);
+    assert_eq!(rt; again.err(), Some(RowError::OutOfForm));
+    let sought = part_columns().read(rt.alloc())?;
+    let place = PartKey::of(&sought.name);
+    let found: Option<&Part> = records.part(&place);
+    assert!(rt; found.is_some());
+    let registry = read_registry(b"example", 20667).ok_or("no registry")?;
+    records.insert_registry(registry)?;
+    assert_eq!(rt; records.first_day(&registry.tld), Some(registry.first_day));
+    Ok(())
+}
+
+#[test]
+fn names_are_lines(rt: HostRuntime) -> Result<(), Fail> {
+    let mut names = Names::new(rt.alloc());
+    names.push(rt.alloc(), b"one")?;
+    names.push(rt.alloc(), b"two")?;
+    assert_eq!(rt;
+        names.push(rt.alloc(), b"th\nree").err(),
+        Some(RowError::OutOfForm)
+    );
+    let text = names.to_text(rt.alloc())?;
+    assert_eq!(rt; text.as_slice(), b"one\ntwo\n".as_slice());
+    Ok(())
+}
