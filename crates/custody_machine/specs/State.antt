@@ -9,7 +9,7 @@ use Rattle.custody_records.specs.Keys.{text_cmp, PartKey, part_cmp, NoticeKey, n
 use Rattle.custody_records.specs.Records.{Notice, Release}
 use Rattle.custody_machine.specs.Names.{is_same_text}
 
--- what is kept of a part: its bytes, or after the keeping year its length (Part B section 5)
+-- what is kept of a part: its bytes, or after the keeping year its length (Part B section 4)
 pub data Content : Type 0 where
   Held : (bytes : List ℕ) → Content
   Dropped : (len : ℕ) → Content

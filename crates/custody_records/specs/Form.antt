@@ -99,7 +99,7 @@ extents_in None = Some None
 extents_in (Some []) = None
 extents_in (Some (byte ∷ bytes)) = option_map Some (extents_of (byte ∷ bytes))
 
--- the row's numbers and its digest are in form, and the bytes are kept for a year from the day received (Specification 2, Part B section 5)
+-- the row's numbers and its digest are in form, and the bytes are kept for a year from the day received (Specification 2, Part B section 4)
 abbrev pub is_part : PartRow → Bool
 is_part row = is_tld row.tld && (is_deposit_day row.day && (is_within 0 99 row.rev && (is_within 1 8 row.part && (is_moment row.received
     && (is_number (year_after (day_of (natural row.received))) row.keep_day && (is_within 1 1_048_576 row.len && length row.sha == 32))))))

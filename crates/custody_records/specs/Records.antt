@@ -15,7 +15,7 @@ pub record PartRecord : Type 0 where
   pub received : ℕ
   pub len : ℕ
   pub digest : List ℕ
-  -- none where the bytes are dropped (Part B section 5)
+  -- none where the bytes are dropped (Part B section 4)
   pub extents : Option (List Extent)
 
 -- a notice (Part B section 7)

@@ -22,7 +22,7 @@ pub struct Part {
     pub len: u32,
     /// Its SHA-256.
     pub digest: [u8; 32],
-    /// Where its bytes lie, in their order; none where they are dropped (Specification 2, Part B section 5).
+    /// Where its bytes lie, in their order; none where they are dropped (Specification 2, Part B section 4).
     pub extents: Option<Vec<Extent>>,
 }
 
