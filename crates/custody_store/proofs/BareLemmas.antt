@@ -1,5 +1,5 @@
 -- A database without tables.
-use Rattle.std.proofs.Common.{◌≡◌, ◌⊎◌, inl, inr, false, true, ◌||◌, codes, Result, Err, ℕ, List, filter, find, option_map, map, [], ◌∷◌, None, IsTrue, refl, sym, ap, subst, ◌∙◌}
+use Rattle.std.proofs.Common.{◌≡◌, ◌⊎◌, inl, inr, false, true, ◌||◌, ◌&&◌, codes, Result, Err, ℕ, List, filter, find, option_map, map, [], ◌∷◌, None, IsTrue, refl, sym, ap, subst, ◌∙◌}
 use Rattle.std.specs.List.{AllZip}
 use Rattle.sqlite.specs.Order.{Row}
 use Rattle.sqlite.specs.Tree.{Trees}
@@ -9,7 +9,7 @@ use Rattle.sqlite_trees.specs.Objects.{catalog_tree}
 use Rattle.sqlite_catalog.specs.Listing.{is_table_row, IsTableRow, IsSound}
 use Rattle.custody_store.specs.Schema.{no_schema}
 use Rattle.custody_store.specs.Reading.{rows_in, no_rows, has_table}
-use Rattle.custody_store.specs.Standing.{IsBare, IsOneFounding, Founds, shown, has_any}
+use Rattle.custody_store.specs.Standing.{IsBare, IsOneFounding, Founds, shown, has_any, has_all}
 use Rattle.custody_records.specs.Rows.{Rows}
 use Rattle.custody_store.specs.Calls.{IsSettled}
 use Rattle.custody_store.proofs.TableLemmas.{named, named_in}
@@ -53,3 +53,7 @@ has_none s bare =
 -- where a table is there, no call is made
 pub founds_none : {A E : Type 0} (s : State) (after : Rows) (e : E) → has_any (shown s) ≡ true → Founds {A = A} (shown s) (shown s) after (Err e)
 founds_none s after e there = record { trust = λ honest. honest; mode = λ autocommit. autocommit; effect = λ _ bare. absurd (let none = has_none s bare in cc) }
+
+pub not_all : (s : State) → IsBare s → has_all (shown s) ≡ false
+not_all s bare =
+    ap (λ t. has_table (codes "meta") t && has_table (codes "registry") t && has_table (codes "part") t && has_table (codes "notice") t && has_table (codes "handover") t) bare.schema

@@ -10,4 +10,5 @@ pub mod FindLemmas
 pub mod ReadLemmas
 pub mod MakingLemmas
 pub mod FoundLemmas
-pub mod DigitLemmas
+pub mod FormLemmas
+pub mod LoadLemmas

@@ -1,11 +1,10 @@
 -- Calls that only read, one after another.
-use Rattle.std.proofs.Common.{◌≡◌, ◌⊎◌, inl, inr, false, true, codes, Ok, Err, Result, OnOk, IsTrue, refl, sym, ap, ◌∙◌}
+use Rattle.std.proofs.Common.{◌≡◌, ◌⊎◌, ◌&&◌, inl, inr, false, true, codes, Ok, Err, Result, OnOk, IsTrue, refl, sym, ap, ◌∙◌}
 use Rattle.sqlite.specs.State.{State}
 use Rattle.sqlite_schema.specs.Names.{same_name}
 use Rattle.custody_store.specs.Schema.{record_schema}
 use Rattle.custody_store.specs.Reading.{has_table}
-use Rattle.custody_store.specs.Standing.{Standing, IsReady, IsBare, shown, has_any, Keeps, Selects, Reads}
-use Rattle.custody_store.proofs.BareLemmas.{has_none}
+use Rattle.custody_store.specs.Standing.{Standing, IsReady, IsBare, shown, has_all, Keeps, Selects, Reads}
 
 on_ok : {A E : Type 0} (r : Result A E) {P : Type 0} → P → OnOk r P
 on_ok (Ok x) p = p
@@ -79,7 +78,16 @@ reads_failed old new e f there p = reads_there old new (Err e) (Err f) there (λ
 pub reads_on : {A B E F : Type 0} (old new : State) (x : A) (q : Result B F) → (IsBare old → ⊥) → Selects {E = E} (shown old) (shown new) (Ok x) → Reads (shown old) (shown new) q
 reads_on old new x q there p = reads_there old new (Ok x) q there (λ is_open. on_ok q is_open) p
 
--- ---- the table meta
+-- ---- the tables
+
+has_all_tables : (has_table (codes "meta") record_schema && has_table (codes "registry") record_schema && has_table (codes "part") record_schema && has_table (codes "notice") record_schema && has_table (codes "handover") record_schema) ≡ true
+unfolding same_name
+has_all_tables = refl
+
+pub all_there : (s : State) → IsReady s → has_all (shown s) ≡ true
+all_there s ready =
+    ap (λ t. has_table (codes "meta") t && has_table (codes "registry") t && has_table (codes "part") t && has_table (codes "notice") t && has_table (codes "handover") t) ready.tables.schema
+    ∙ has_all_tables
 
 pub has_meta : has_table (codes "meta") record_schema ≡ true
 unfolding same_name

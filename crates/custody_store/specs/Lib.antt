@@ -4,3 +4,4 @@ pub mod Standing
 pub mod Calls
 pub mod Records
 pub mod Making
+pub mod Loaded

@@ -4,8 +4,8 @@
 mod calls;
 mod columns;
 mod create;
-mod digits;
 mod faults;
+mod loading;
 mod meta;
 mod notices;
 mod parts;
@@ -17,7 +17,6 @@ mod tables;
 mod tests;
 mod values;
 
-pub use custody_records::Damage;
 pub use faults::StoreFault;
-pub use meta::{Meta, find_meta};
+pub use meta::find_meta;
 pub use store::Store;

@@ -1,42 +1,30 @@
 //! The row of meta.
 ghost use Rattle.std.specs.Prelude.{◌≡◌, ◌⊎◌, false, codes, map, Ok, Some, None, IfOk, IfErr, option_map, slice_get};
-ghost use Rattle.custody_store.specs.Records.{meta_in};
+ghost use Rattle.custody_records.specs.Typed.{meta_of};
 ghost use Rattle.custody_store.specs.Reading.{answered_meta, first_meta};
 ghost use Rattle.custody_store.specs.Standing.{standing, Selects, Reads};
 
 use crate::calls::ask;
 use crate::columns::{bytes_at, integer_at};
-use crate::digits::read_digits;
 use crate::faults::StoreFault;
 use crate::tables::has_table;
+use custody_records::Meta;
 use sqlite::{Alter, Connection, Row};
 
-/// The row of meta as it stands.
-#[derive(Clone, Copy, Debug, PartialEq, Eq)]
-pub struct Meta {
-    /// 1 where it is in form.
-    pub one: i64,
-    /// The number of the schema.
-    pub schema_no: i64,
-    /// The number of the volume, where it is in form.
-    pub number: Option<u64>,
-    /// The blocks of the volume.
-    pub blocks: i64,
-}
-
 fn meta_of(row: &Row) -> Meta
-    ensures { result ≡ meta_in (answered_meta row.now) }
+    ensures { result ≡ meta_of (answered_meta row.now) }
 {
-    Meta {
-        one: integer_at(row, 0),
-        schema_no: integer_at(row, 1),
-        number: read_digits(bytes_at(row, 2)),
-        blocks: integer_at(row, 3),
-    }
+    Meta::from_columns(
+        integer_at(row, 0),
+        integer_at(row, 1),
+        bytes_at(row, 2),
+        integer_at(row, 3),
+    )
 }
 
-fn first_of(rows: &[Row]) -> Option<Meta>
-    ensures { result ≡ option_map meta_in (slice_get (map answered_meta rows.now) 0) }
+/// The first row.
+pub fn first_of(rows: &[Row]) -> Option<Meta>
+    ensures { result ≡ option_map meta_of (slice_get (map answered_meta rows.now) 0) }
 {
     match rows.first() {
         Some(row) => Some(meta_of(row)),
@@ -60,7 +48,7 @@ pub fn select_meta<S: Alter>(db: &mut Connection<S>) -> Result<Vec<Row>, StoreFa
 /// The first row of meta, or `None` where there is no table meta or no row in it.
 pub fn find_meta<S: Alter>(db: &mut Connection<S>) -> Result<Option<Meta>, StoreFault>
     ensures found { (standing S.Store db.new).IsHonest → (standing S.Store db.old).IsReady ⊎ (standing S.Store db.old).IsBare
-        → IfOk result (λ found. found ≡ option_map meta_in (first_meta (standing S.Store db.old).rows)) }
+        → IfOk result (λ found. found ≡ option_map meta_of (first_meta (standing S.Store db.old).rows)) }
     ensures reads { Reads (standing S.Store db.old) (standing S.Store db.new) result }
     // A row that is there is answered, whatever its fields are.
     ensures kind { IfErr result (λ e. e ≡ StoreFault.Failed) }

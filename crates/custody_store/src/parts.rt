@@ -1,17 +1,23 @@
 //! The parts.
-ghost use Rattle.std.specs.Prelude.{◌≡◌, ◌≤◌, length, map, Some, IfOk, IfErr};
+ghost use Rattle.std.specs.Prelude.{◌≡◌, ◌≤◌, [], ◌∷◌, length, None, map, Some, IfOk, IfErr, OnOk, IsErrOf};
 ghost use Rattle.custody_records.specs.Rows.{with_part_row};
 ghost use Rattle.custody_store.specs.Records.{held_row, staged_row};
+ghost use Rattle.custody_records.specs.Form.{gather, part_in};
+ghost use Rattle.custody_records.specs.Held.{records_of};
+ghost use Rattle.custody_records.specs.declared.errors.RowError.TheVariants.{OutOfForm};
+ghost use Rattle.custody_records.specs.Typed.{part_row};
 ghost use Rattle.custody_store.specs.Reading.{answered_part};
 ghost use Rattle.custody_store.specs.Standing.{standing, Commits, Selects};
 
 use crate::calls::{ask, run};
+use crate::columns::{bytes_at, bytes_or_null_at, integer_at};
 use crate::faults::StoreFault;
 use crate::values::{blob, day, kept_until, moment, number, small, text};
-use custody_records::write_blob;
+use custody_records::{PartColumns, Records, RowError, write_blob};
 use deposit_name::DepositName;
 use schedule::Sec;
 use sqlite::{Alter, Connection, Row};
+use std::alloc::Global;
 use vault_volume::{Extent, Staged};
 
 /// Adds a part that is held at the extents in these bytes, and commits it.
@@ -76,4 +82,43 @@ pub fn select_parts<S: Alter>(db: &mut Connection<S>) -> Result<Vec<Row>, StoreF
         db,
         "SELECT tld, day, rev, part, kind, received, keep_day, len, sha, extents FROM part ORDER BY rowid",
     )
+}
+
+fn part_columns(row: &Row) -> PartColumns<'_>
+    ensures { part_row result ≡ answered_part row.now }
+{
+    PartColumns {
+        tld: bytes_at(row, 0),
+        day: integer_at(row, 1),
+        rev: integer_at(row, 2),
+        part: integer_at(row, 3),
+        kind: bytes_at(row, 4),
+        received: integer_at(row, 5),
+        keep_day: integer_at(row, 6),
+        len: integer_at(row, 7),
+        sha: bytes_at(row, 8),
+        extents: bytes_or_null_at(row, 9),
+    }
+}
+
+/// Adds the record of a row.
+fn gather_part(records: &mut Records, alloc: Global, row: &Row) -> Result<(), RowError>
+    ensures gathered { OnOk result (gather part_in (records_of records.old).parts (answered_part row.now ∷ []) ≡ Some (records_of records.new).parts) }
+    ensures others { OnOk result (records_of records.new ≡ record (records_of records.old) { parts = (records_of records.new).parts }) }
+    ensures refused { IsErrOf result OutOfForm → gather part_in (records_of records.old).parts (answered_part row.now ∷ []) ≡ None }
+{
+    let part = part_columns(row).read(alloc)?;
+    records.insert_part(part)
+}
+
+/// Adds the records of the rows in turn.
+pub fn gather_parts(records: &mut Records, alloc: Global, rows: &[Row]) -> Result<(), RowError>
+    ensures gathered { OnOk result (gather part_in (records_of records.old).parts (map answered_part rows.now) ≡ Some (records_of records.new).parts) }
+    ensures others { OnOk result (records_of records.new ≡ record (records_of records.old) { parts = (records_of records.new).parts }) }
+    ensures refused { IsErrOf result OutOfForm → gather part_in (records_of records.old).parts (map answered_part rows.now) ≡ None }
+{
+    for row in rows {
+        gather_part(records, alloc, row)?;
+    }
+    Ok(())
 }

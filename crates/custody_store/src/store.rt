@@ -1,21 +1,27 @@
 //! The store: a connection with the tables of the records.
-ghost use Rattle.std.specs.Prelude.{◌≡◌, ◌≤◌, length, true, pos, Err, IfOk, IfErr};
-ghost use Rattle.custody_records.specs.Rows.{fresh, with_registry_row, with_part_row, with_notice_row};
+ghost use Rattle.std.specs.Prelude.{◌≡◌, ◌≤◌, length, true, false, pos, Err, IfOk, IfErr, MatchResult};
+ghost use Rattle.custody_records.specs.Rows.{fresh, with_registry_row, with_part_row, with_notice_row, with_handover_row};
+ghost use Rattle.custody_records.specs.Form.{form_of, InForm, OutOfForm};
+ghost use Rattle.custody_records.specs.Held.{records_of};
+ghost use Rattle.custody_records.specs.declared.damage.Damage.{Damage};
+ghost use Rattle.custody_records.specs.declared.damage.Damage.TheVariants as damage;
 ghost use Rattle.custody_records.specs.Written.{digits_of, row_of_registry};
-ghost use Rattle.custody_store.specs.Records.{staged_row, notice_row_of};
-ghost use Rattle.custody_store.specs.Standing.{standing, Commits, Founds, has_any};
+ghost use Rattle.custody_store.specs.Records.{staged_row, notice_row_of, release_row_of};
+ghost use Rattle.custody_store.specs.Standing.{standing, Commits, Founds, Reads, has_any, has_all};
 
 use crate::create::create;
-use crate::digits::digits_of;
 use crate::faults::StoreFault;
+use crate::loading::load;
 use crate::notices::add_notice;
 use crate::parts::insert_part;
 use crate::registries::add_registry;
-use custody_records::Registry;
+use crate::releases::add_release;
+use custody_records::{Records, Registry, Release, write_number};
 use deposit_name::DepositName;
 use desk::Notice;
 use schedule::Sec;
 use sqlite::{Alter, Connection};
+use std::alloc::Global;
 use std::marker::Model;
 use vault_volume::{Extent, Staged};
 
@@ -58,7 +64,7 @@ impl<S: Alter> Store<S> {
         ensures taken { has_any (standing S.Store self.old) ≡ true → (result ≡ Err StoreFault.Failed) × (self.new ≡ self.old) }
         ensures kind { IfErr result (λ e. e ≡ StoreFault.Failed) }
     {
-        create(&mut self.db, &digits_of(number), blocks)
+        create(&mut self.db, &write_number(number), blocks)
     }
 
     /// Adds a registry, and commits it.
@@ -94,5 +100,26 @@ impl<S: Alter> Store<S> {
         ensures kind { IfErr result (λ e. e ≡ StoreFault.Failed) }
     {
         add_notice(&mut self.db, notice)
+    }
+
+    /// Adds a release, and commits it.
+    pub fn insert_release(&mut self, alloc: Global, release: &Release) -> Result<(), StoreFault>
+        ensures commits { Commits (standing S.Store self.old) (standing S.Store self.new)
+            (with_handover_row (release_row_of release.now) (standing S.Store self.old).rows) result }
+        ensures kind { IfErr result (λ e. e ≡ StoreFault.Failed) }
+    {
+        add_release(&mut self.db, alloc, release)
+    }
+
+    /// The records, where meta has a row. It fails where meta has none.
+    pub fn load(&mut self, alloc: Global) -> Result<Records, StoreFault>
+        ensures found { (standing S.Store self.new).IsHonest → (standing S.Store self.old).IsReady → MatchResult result
+            (λ records. form_of (standing S.Store self.old).rows ≡ InForm (records_of records))
+            (λ e. (why : Damage) → e ≡ StoreFault.Damaged why → form_of (standing S.Store self.old).rows ≡ OutOfForm why) }
+        ensures reads { Reads (standing S.Store self.old) (standing S.Store self.new) result }
+        // Where a table is not there, the rows are damaged, whatever else is.
+        ensures missing { has_all (standing S.Store self.old) ≡ false → (result ≡ Err (StoreFault.Damaged damage.Form)) × (self.new ≡ self.old) }
+    {
+        load(&mut self.db, alloc)
     }
 }

@@ -1,7 +1,7 @@
 use Rattle.std.proofs.Common.{◌≡◌, inl, inr, ◌∙◌, sym, ap, refl, codes, rules, option_map}
 use Rattle.sqlite.specs.Held.{state}
 use Rattle.custody_store.specs.Reading.{first_meta}
-use Rattle.custody_store.specs.Records.{meta_in}
+use Rattle.custody_records.specs.Typed.{meta_of}
 use Rattle.custody_store.proofs.BareLemmas.{rows_bare}
 use Rattle.custody_store.proofs.ReadLemmas.{reads_none, meta_there, no_meta}
 use Rattle.custody_store.proofs.meta.find_meta.Goals as goal
@@ -9,7 +9,7 @@ use Rattle.custody_store.proofs.meta.find_meta.Goals as goal
 pub returns-then-not-has_table-clause-found : goal.returns-then-not-has_table-clause-found
 returns-then-not-has_table-clause-found g c clean either = elim either [
   | inl ready ↦ let there = meta_there (state g.S.Store c.args.db.now) ready in absurd (search (rules, there))
-  | inr bare ↦ sym (ap (λ rows. option_map meta_in (first_meta rows)) (rows_bare (state g.S.Store c.args.db.now) bare))
+  | inr bare ↦ sym (ap (λ rows. option_map meta_of (first_meta rows)) (rows_bare (state g.S.Store c.args.db.now) bare))
 ]
 
 pub returns-then-not-has_table-clause-reads : goal.returns-then-not-has_table-clause-reads

@@ -1,7 +1,3 @@
-use Rattle.std.proofs.Common.{pos}
 use Rattle.sqlite.specs.Held.{state}
-use Rattle.custody_store.proofs.RowLemmas.{inserts_handover}
+use Rattle.custody_store.proofs.CommitLemmas.{commits_none}
 use Rattle.custody_store.proofs.releases.add_release.Goals as goal
-
-pub returns-clause-commits : goal.returns-clause-commits
-returns-clause-commits g c = inserts_handover (state g.S.Store c.args.db.now) (state g.S.Store c.run.new.db) (record { reference = c.args.reference.now; tld = c.args.tld.now; reason = c.args.reason.now; at = pos c.args.at; names = c.args.names.now }) _ (rw (c.text.ensures, c.as_bytes.ensures.text, c.text-2.ensures, c.as_bytes-2.ensures.text, c.text-3.ensures, c.moment.ensures, c.text-4.ensures) at c.run.ensures.runs)
