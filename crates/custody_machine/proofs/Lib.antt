@@ -14,3 +14,4 @@ pub mod Damages
 pub mod Moves
 pub mod Composed
 pub mod Compared
+pub mod PlainMaps

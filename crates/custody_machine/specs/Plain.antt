@@ -1,0 +1,50 @@
+-- The state that a plain program shows.
+use Rattle.std.specs.Prelude.{ℕ, List, map, Bool, ◌&&◌, ◌==◌}
+use Rattle.std.specs.FinMap.{from_entries, empty}
+use Rattle.custody_records.specs.Keys.{PartKey}
+use Rattle.custody_records.specs.Records.{key_of}
+use Rattle.custody_machine.specs.declared.command.Command as asked
+use Rattle.custody_machine.specs.declared.command.Command.TheVariants as commands
+use Rattle.custody_machine.specs.declared.plain.PlainRegistry.{PlainRegistry}
+use Rattle.custody_machine.specs.declared.plain.PlainContent.{PlainContent}
+use Rattle.custody_machine.specs.declared.plain.PlainContent.TheVariants as plain
+use Rattle.custody_machine.specs.declared.plain.PlainPart.{PlainPart}
+use Rattle.custody_machine.specs.declared.plain.PlainState.{PlainState}
+use Rattle.custody_machine.specs.Names.{is_same_text}
+use Rattle.custody_machine.specs.SameValues.{is_same_key}
+use Rattle.custody_machine.specs.State.{State, Part, Content, Held, Dropped, at_place}
+use Rattle.custody_machine.specs.Machine.{Command, Register, Receive}
+
+-- the command of a value in memory
+abbrev pub command_of : asked.Command → Command
+command_of (commands.Register tld first_day) = Register tld first_day
+command_of (commands.Receive name bytes) = Receive name.now bytes.now
+
+abbrev pub registry_entry : PlainRegistry → List ℕ × ℕ
+registry_entry r = (r.tld, r.first_day)
+
+abbrev pub content_shown : PlainContent → Content
+content_shown (plain.Held bytes) = Held bytes.items
+content_shown (plain.Dropped len) = Dropped len
+
+abbrev pub part_shown : PlainPart → Part
+part_shown p = record { kind = p.name.kind; received = p.received; content = content_shown p.content }
+
+abbrev pub part_entry : PlainPart → PartKey × Part
+part_entry p = (key_of p.name, part_shown p)
+
+abbrev pub shown : PlainState → State
+shown state = record {
+  registries = from_entries (map registry_entry state.registries.items);
+  parts = from_entries (map part_entry state.parts.items);
+  notices = empty;
+  releases = empty;
+}
+
+-- ---- what the loops look for
+
+abbrev pub is_of : List ℕ → PlainRegistry → Bool
+is_of tld r = is_same_text r.tld tld
+
+abbrev pub is_at : PartKey → PlainPart → Bool
+is_at key p = is_same_key (key_of p.name) key
