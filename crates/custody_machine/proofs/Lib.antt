@@ -15,3 +15,4 @@ pub mod Moves
 pub mod Composed
 pub mod Compared
 pub mod PlainMaps
+pub mod PlainSteps

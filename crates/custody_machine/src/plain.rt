@@ -1,14 +1,15 @@
 //! The machine as a plain and slow program over whole byte strings, with which every other body is
 //! compared.
-ghost use Rattle.std.specs.Prelude.{◌≡◌, ◌≤◌, ◌||◌, ◌==◌, [], if◌then◌else◌, nat_lt, unwrap_or, ℕ, Some, IfOk, OnErr, find, option_map, length, count_by, is_some, is_none};
+ghost use Rattle.std.specs.Prelude.{◌≡◌, ◌≤◌, ◌||◌, ◌==◌, [], if◌then◌else◌, nat_lt, unwrap_or, ℕ, List, Ok, Some, IfOk, OnErr, find, option_map, length, count_by, is_some, is_none};
 ghost use Rattle.std.specs.FinMap.{get};
 ghost use Rattle.std.specs.List.{list_any};
 ghost use Rattle.custody_records.specs.Records.{key_of};
-ghost use Rattle.custody_machine.specs.Plain.{shown, part_shown, content_shown, is_of, is_at};
+ghost use Rattle.custody_machine.specs.Plain.{command_of, shown, part_shown, content_shown, IsRuling, is_of, is_at};
+ghost use Rattle.custody_machine.specs.Names.{read_name};
 ghost use Rattle.custody_machine.specs.SameValues.{is_same_kind};
 ghost use Rattle.custody_machine.specs.State.{empty, at_place, places};
 ghost use Rattle.schedule.specs.Schedule.{day_of};
-ghost use Rattle.custody_machine.specs.Machine.{first_day_of, recorded, part_in, has_other_kind, is_gone, is_held_with_other, holds_other, is_dropped, receive_stands, refusals, max_part_len, DateOutOfRange, RevisionNotDue, TypeDiffers, PartOutOfOrder};
+ghost use Rattle.custody_machine.specs.Machine.{Register, Receive, step, first_day_of, recorded, part_in, has_other_kind, is_gone, is_held_with_other, holds_other, is_dropped, receive_stands, refusals, max_part_len, DateOutOfRange, RevisionNotDue, TypeDiffers, PartOutOfOrder};
 
 use crate::{Command, Refusal};
 use deposit_name::{DepositName, Kind, Tld};
@@ -297,6 +298,100 @@ impl PlainState {
             return Some(Refusal::PartOutOfOrder);
         }
         None
+    }
+
+    fn register(&mut self, tld: Tld, first_day: Day) -> Result<PlainAnswer, AllocError>
+        ensures step { (now : ℕ) → IfOk result (λ answer. IsRuling answer (shown self.old) (shown self.new) (step (shown self.old) (Register tld first_day) now)) }
+        ensures err { OnErr result (shown self.new ≡ shown self.old) }
+    {
+        match self.first_day(&tld) {
+            Some(kept) => Ok(accepted_registry(tld, kept, true)),
+            None => {
+                self.registries.push(PlainRegistry { tld, first_day })?;
+                Ok(accepted_registry(tld, first_day, false))
+            }
+        }
+    }
+
+    fn receive(
+        &mut self,
+        alloc: Global,
+        text: &[u8],
+        bytes: &[u8],
+        now: Sec,
+    ) -> Result<PlainAnswer, AllocError>
+        ensures step { IfOk result (λ answer. IsRuling answer (shown self.old) (shown self.new) (step (shown self.old) (Receive text.now bytes.now) now)) }
+        ensures err { OnErr result (shown self.new ≡ shown self.old) }
+    {
+        match DepositName::parse(text) {
+            Ok(name) => self.receive_part(alloc, &name, bytes, now),
+            Err(fault) => Ok(PlainAnswer::Refused(Refusal::NameRefused(fault))),
+        }
+    }
+
+    fn receive_part(
+        &mut self,
+        alloc: Global,
+        name: &DepositName,
+        bytes: &[u8],
+        now: Sec,
+    ) -> Result<PlainAnswer, AllocError>
+        ensures step { (text : List ℕ) → read_name text ≡ Ok name.now → IfOk result (λ answer. IsRuling answer (shown self.old) (shown self.new) (step (shown self.old) (Receive text bytes.now) now)) }
+        ensures err { OnErr result (shown self.new ≡ shown self.old) }
+    {
+        match self.refusal_of(name, bytes, now) {
+            Some(refusal) => Ok(PlainAnswer::Refused(refusal)),
+            None => match self.recorded(name) {
+                Some(part) => Ok(accepted_part(name, part.received, bytes.len(), true)),
+                None => {
+                    let copy = Vec::from_slice(alloc, bytes)?;
+                    self.parts.push(PlainPart {
+                        name: *name,
+                        received: now,
+                        content: PlainContent::Held(copy),
+                    })?;
+                    Ok(accepted_part(name, now, bytes.len(), false))
+                }
+            },
+        }
+    }
+}
+
+/// Does a command, as the machine has it. `Err`: memory was refused, and nothing has changed.
+pub fn step_plain(
+    state: &mut PlainState,
+    alloc: Global,
+    command: &Command<'_>,
+    now: Sec,
+) -> Result<PlainAnswer, AllocError>
+    ensures step { IfOk result (λ answer. IsRuling answer (shown state.old) (shown state.new) (step (shown state.old) (command_of command.now) now)) }
+    ensures err { OnErr result (shown state.new ≡ shown state.old) }
+{
+    match command {
+        Command::Register(tld, first_day) => state.register(*tld, *first_day),
+        Command::Receive(name, bytes) => state.receive(alloc, name, bytes, now),
+    }
+}
+
+fn accepted_registry(tld: Tld, first_day: Day, is_repeat: bool) -> PlainAnswer
+    ensures { result ≡ PlainAnswer.Accepted (PlainRecord.Registry tld first_day) is_repeat }
+{
+    PlainAnswer::Accepted {
+        record: PlainRecord::Registry { tld, first_day },
+        is_repeat,
+    }
+}
+
+fn accepted_part(name: &DepositName, received: Sec, len: usize, is_repeat: bool) -> PlainAnswer
+    ensures { result ≡ PlainAnswer.Accepted (PlainRecord.Part name.now received len) is_repeat }
+{
+    PlainAnswer::Accepted {
+        record: PlainRecord::Part {
+            name: *name,
+            received,
+            len,
+        },
+        is_repeat,
     }
 }
 
