@@ -163,7 +163,7 @@ place_is_empty s text name e new kinds = by (part_at s (key_of name)) refl
 -- ---- what is answered where no refusal stands
 
 -- a held part that is not other bytes has these bytes
-held_bytes : (part : Part) (bytes : List ℕ) → is_held_with_other bytes part.content ≡ false → is_gone part.content ≡ false → part.content ≡ Held bytes
+pub held_bytes : (part : Part) (bytes : List ℕ) → is_held_with_other bytes part.content ≡ false → is_gone part.content ≡ false → part.content ≡ Held bytes
 held_bytes part bytes other gone = by part.content other gone
   where
     by : (c : Content) → is_held_with_other bytes c ≡ false → is_gone c ≡ false → c ≡ Held bytes

@@ -14,3 +14,5 @@ pub mod Damages
 pub mod Moves
 pub mod Composed
 pub mod Compared
+pub mod PlainMaps
+pub mod PlainSteps

@@ -10,3 +10,4 @@ pub mod Stored
 pub mod Damage
 pub mod Moves
 pub mod Custody
+pub mod Plain

@@ -1,0 +1,89 @@
+-- The plain program's answers are the machine's rulings.
+use Rattle.std.proofs.Common.{◌≡◌, ℕ, List, [], ◌∷◌, ◌++◌, length, Option, Some, None, Bool, true, false, ◌&&◌, map, refl, sym, ◌∙◌, ap, subst, find, is_none, Result, Ok, Err}
+use Rattle.std.specs.List.{list_any}
+use Rattle.std.specs.FinMap as fin
+use Rattle.std.specs.FinMap.{FinMap, IsAntisymmetric, get, insert, from_entries, get-from_entries, from_entries_push}
+use Rattle.std.specs.Cmp.{IsTotalOrder}
+use Rattle.std.specs.declared.cmp.Ordering.{Ordering}
+use Rattle.std.proofs.lemmas.Map.Lookups.{exact_bytes}
+use Rattle.deposit_name.specs.Name.{Name, IsName, name_text}
+use Rattle.deposit_name.specs.declared.faults.NameError.{NameError}
+use Rattle.deposit_name.specs.Fault.{IsFault}
+use Rattle.custody_records.specs.Keys.{text_cmp, part_cmp}
+use Rattle.custody_records.specs.Records.{key_of}
+use Rattle.custody_machine.specs.declared.plain.PlainRegistry.{PlainRegistry}
+use Rattle.custody_machine.specs.declared.plain.PlainPart.{PlainPart}
+use Rattle.custody_machine.specs.declared.plain.PlainAnswer.{PlainAnswer}
+use Rattle.custody_machine.specs.declared.plain.PlainAnswer.TheVariants as answer
+use Rattle.custody_machine.specs.declared.plain.PlainRecord.TheVariants as entry
+use Rattle.custody_machine.specs.Names.{read_name}
+use Rattle.custody_machine.specs.Plain.{registry_entry, part_entry, part_shown, IsRuling}
+use Rattle.custody_machine.specs.Retries.{content_len}
+use Rattle.custody_machine.specs.State.{State, Part, Held, places}
+use Rattle.custody_machine.specs.Machine.{Register, Receive, Refusal, NameRefused, refusals, OfRegistry, OfPart, Ruling, Refuse, Accept, first_day_of, part_at, part_in, recorded, has_other_kind, holds_other, is_dropped, receive_stands, named_stands, refusal_of, step, with_registry, with_part, received_part}
+use Rattle.custody_machine.proofs.NameReading.{is_reading}
+use Rattle.custody_machine.proofs.Orders.{text_total, part_total, part_exact}
+use Rattle.custody_machine.proofs.SameValues.{kind_decides}
+use Rattle.custody_machine.proofs.Keeping.{none_stand, refused_name, step_none, step_refuses, registered, answered, rules_part, held_bytes, recorded_is, place_is_empty}
+use Rattle.custody_machine.proofs.Composed.{register_repeats}
+
+-- ---- an entry more
+
+module _ {K X E : Type 0} {R : K → K → Ordering} (total : IsTotalOrder R) (exact : IsAntisymmetric R) (entry_of : E → K × X) where
+  map-append : (es fs : List E) → map entry_of (es ++ fs) ≡ map entry_of es ++ map entry_of fs
+  map-append [] fs = refl
+  map-append (e ∷ es) fs = ap (λ l. entry_of e ∷ l) (map-append es fs)
+
+  pub pushed : (es : List E) (e : E) → get (from_entries {R = R} (map entry_of es)) (entry_of e).0 ≡ None → from_entries {R = R} (map entry_of (es ++ e ∷ [])) ≡ insert (from_entries (map entry_of es)) (entry_of e).0 (entry_of e).1
+  pushed es e none = ap from_entries (map-append es (e ∷ [])) ∙ from_entries_push total exact (map entry_of es) (entry_of e).0 (entry_of e).1 (sym (get-from_entries total (map entry_of es) (entry_of e).0) ∙ none)
+
+pub registry_pushed : (es : List PlainRegistry) (r : PlainRegistry) → get (from_entries {R = text_cmp} (map registry_entry es)) r.tld ≡ None → from_entries {R = text_cmp} (map registry_entry (es ++ r ∷ [])) ≡ insert (from_entries (map registry_entry es)) r.tld r.first_day
+registry_pushed = pushed text_total exact_bytes registry_entry
+
+pub part_pushed : (es : List PlainPart) (p : PlainPart) → get (from_entries {R = part_cmp} (map part_entry es)) (key_of p.name) ≡ None → from_entries {R = part_cmp} (map part_entry (es ++ p ∷ [])) ≡ insert (from_entries (map part_entry es)) (key_of p.name) (part_shown p)
+part_pushed = pushed part_total part_exact part_entry
+
+pub as_answered : (a b : PlainAnswer) (old new : State) (r : Ruling) → a ≡ b → IsRuling b old new r → IsRuling a old new r
+as_answered a b old new r e h = subst (λ c. IsRuling c old new r) (sym e) h
+
+-- ---- registrations
+
+pub registers_again : (s : State) (tld : List ℕ) (day now first : ℕ) → first_day_of s tld ≡ Some first → IsRuling (answer.Accepted (entry.Registry tld first) true) s s (step s (Register tld day) now)
+registers_again s tld day now first e = (record { entry = OfRegistry tld first; is_repeat = true }, register_repeats s tld day now first e, (refl, refl), refl)
+
+pub registers : (s new : State) (tld : List ℕ) (day now : ℕ) → first_day_of s tld ≡ None → new ≡ with_registry s tld day → IsRuling (answer.Accepted (entry.Registry tld day) false) s new (step s (Register tld day) now)
+registers s new tld day now e is = (record { entry = OfRegistry tld day; is_repeat = false }, step_none s (Register tld day) now refl ∙ ap (registered s tld day now) e ∙ ap (Accept (record { entry = OfRegistry tld day; is_repeat = false })) (sym is), (refl, refl), refl)
+
+-- ---- parts
+
+-- a text that is refused
+pub refuses_text : (s : State) (text bytes : List ℕ) (now : ℕ) (fault : NameError) → IsFault text fault → IsRuling (answer.Refused (NameRefused fault)) s s (step s (Receive text bytes) now)
+refuses_text s text bytes now fault is = (step_refuses s (Receive text bytes) now (NameRefused fault) (ap (λ r. find (named_stands s r bytes now) refusals) ((is_reading.faults text fault).1 is) ∙ refused_name s bytes now fault), refl)
+
+pub read_of : (text : List ℕ) (name : Name) → IsName name × (text ≡ name_text name) → read_name text ≡ Ok name
+read_of text name h = (is_reading.names text name).1 h
+
+module _ (s : State) (text bytes : List ℕ) (now : ℕ) (name : Name) (named : read_name text ≡ Ok name) where
+  refusal_is : (o : Option Refusal) → find (receive_stands s name bytes now) refusals ≡ o → refusal_of s (Receive text bytes) now ≡ o
+  refusal_is o e = ap (λ r. find (named_stands s r bytes now) refusals) named ∙ e
+
+  pub refuses : (q : Refusal) → find (receive_stands s name bytes now) refusals ≡ Some q → IsRuling (answer.Refused q) s s (step s (Receive text bytes) now)
+  refuses q e = (step_refuses s (Receive text bytes) now q (refusal_is (Some q) e), refl)
+
+  ruled : find (receive_stands s name bytes now) refusals ≡ None → step s (Receive text bytes) now ≡ answered s name bytes now (recorded s name)
+  ruled none = let stand = none_stand s name bytes now none in step_none s (Receive text bytes) now (refusal_is None none) ∙ rules_part s text bytes now name named stand.bytes stand.dropped
+
+  pub repeats : (part : Part) → find (receive_stands s name bytes now) refusals ≡ None → recorded s name ≡ Some part → IsRuling (answer.Accepted (entry.Part name part.received (length bytes)) true) s s (step s (Receive text bytes) now)
+  repeats part none at =
+      let stand = none_stand s name bytes now none in
+      let content = held_bytes part bytes (ap (holds_other bytes) (sym at) ∙ stand.bytes) (ap is_dropped (sym at) ∙ stand.dropped) in
+      (record { entry = OfPart (key_of name) part; is_repeat = true }, ruled none ∙ ap (answered s name bytes now) at, (refl, (kind_decides part.kind name.kind).0 (recorded_is s name part at).1, refl, sym (ap content_len content)), refl)
+
+  pub place_is_free : find (receive_stands s name bytes now) refusals ≡ None → recorded s name ≡ None → part_at s (key_of name) ≡ None
+  place_is_free none at = let stand = none_stand s name bytes now none in
+      place_is_empty s text name named at (ap (λ o. is_none o && list_any (λ place. has_other_kind name.kind (part_in s name place)) places) (sym at) ∙ stand.kind)
+
+  pub receives_new : (new : State) → find (receive_stands s name bytes now) refusals ≡ None → recorded s name ≡ None → new ≡ with_part s (key_of name) (received_part name bytes now)
+      → IsRuling (answer.Accepted (entry.Part name now (length bytes)) false) s new (step s (Receive text bytes) now)
+  receives_new new none at is =
+      (record { entry = OfPart (key_of name) (received_part name bytes now); is_repeat = false }, ruled none ∙ ap (answered s name bytes now) at ∙ ap (Accept (record { entry = OfPart (key_of name) (received_part name bytes now); is_repeat = false })) (sym is), (refl, refl, refl, refl), refl)

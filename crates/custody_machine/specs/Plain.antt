@@ -1,0 +1,67 @@
+-- The state that a plain program shows.
+use Rattle.std.specs.Prelude.{◌≡◌, ℕ, List, map, Bool, ◌&&◌, ◌==◌}
+use Rattle.std.specs.FinMap.{from_entries, empty}
+use Rattle.custody_records.specs.Keys.{PartKey}
+use Rattle.custody_records.specs.Records.{key_of}
+use Rattle.custody_machine.specs.declared.command.Command as asked
+use Rattle.custody_machine.specs.declared.command.Command.TheVariants as commands
+use Rattle.custody_machine.specs.declared.plain.PlainRegistry.{PlainRegistry}
+use Rattle.custody_machine.specs.declared.plain.PlainContent.{PlainContent}
+use Rattle.custody_machine.specs.declared.plain.PlainContent.TheVariants as plain
+use Rattle.custody_machine.specs.declared.plain.PlainPart.{PlainPart}
+use Rattle.custody_machine.specs.declared.plain.PlainState.{PlainState}
+use Rattle.custody_machine.specs.declared.plain.PlainRecord.{PlainRecord}
+use Rattle.custody_machine.specs.declared.plain.PlainRecord.TheVariants as entry
+use Rattle.custody_machine.specs.declared.plain.PlainAnswer.{PlainAnswer}
+use Rattle.custody_machine.specs.declared.plain.PlainAnswer.TheVariants as answer
+use Rattle.custody_machine.specs.Names.{is_same_text}
+use Rattle.custody_machine.specs.SameValues.{is_same_key}
+use Rattle.custody_machine.specs.State.{State, Part, Content, Held, Dropped, at_place}
+use Rattle.custody_machine.specs.Machine.{Command, Register, Receive, Record, OfRegistry, OfPart, Reply, Ruling, Refuse, Accept}
+use Rattle.custody_machine.specs.Retries.{content_len}
+
+-- the command of a value in memory
+abbrev pub command_of : asked.Command → Command
+command_of (commands.Register tld first_day) = Register tld first_day
+command_of (commands.Receive name bytes) = Receive name.now bytes.now
+
+abbrev pub registry_entry : PlainRegistry → List ℕ × ℕ
+registry_entry r = (r.tld, r.first_day)
+
+abbrev pub content_shown : PlainContent → Content
+content_shown (plain.Held bytes) = Held bytes.items
+content_shown (plain.Dropped len) = Dropped len
+
+abbrev pub part_shown : PlainPart → Part
+part_shown p = record { kind = p.name.kind; received = p.received; content = content_shown p.content }
+
+abbrev pub part_entry : PlainPart → PartKey × Part
+part_entry p = (key_of p.name, part_shown p)
+
+abbrev pub shown : PlainState → State
+shown state = record {
+  registries = from_entries (map registry_entry state.registries.items);
+  parts = from_entries (map part_entry state.parts.items);
+  notices = empty;
+  releases = empty;
+}
+
+-- a record is shown without its bytes
+abbrev pub IsShown : PlainRecord → Record → Type 0
+IsShown (entry.Registry tld first_day) (OfRegistry other day) = (other ≡ tld) × (first_day ≡ day)
+IsShown (entry.Part name received len) (OfPart key part) = (key ≡ key_of name) × (part.kind ≡ name.kind) × (received ≡ part.received) × (len ≡ content_len part.content)
+IsShown (entry.Registry tld first_day) (OfPart key part) = ⊥
+IsShown (entry.Part name received len) (OfRegistry tld first_day) = ⊥
+
+-- the answer and the new state are those of a ruling in the old state
+abbrev pub IsRuling : PlainAnswer → State → State → Ruling → Type 0
+IsRuling (answer.Accepted made is_repeat) old new ruling = (reply : Reply) × (ruling ≡ Accept reply new) × IsShown made reply.entry × (is_repeat ≡ reply.is_repeat)
+IsRuling (answer.Refused refusal) old new ruling = (ruling ≡ Refuse refusal) × (new ≡ old)
+
+-- ---- what the loops look for
+
+abbrev pub is_of : List ℕ → PlainRegistry → Bool
+is_of tld r = is_same_text r.tld tld
+
+abbrev pub is_at : PartKey → PlainPart → Bool
+is_at key p = is_same_key (key_of p.name) key

@@ -1,0 +1,402 @@
+//! The machine as a plain and slow program over whole byte strings, with which every other body is
+//! compared.
+ghost use Rattle.std.specs.Prelude.{◌≡◌, ◌≤◌, ◌||◌, ◌==◌, [], if◌then◌else◌, nat_lt, unwrap_or, ℕ, List, Ok, Some, IfOk, OnErr, find, option_map, length, count_by, is_some, is_none};
+ghost use Rattle.std.specs.FinMap.{get};
+ghost use Rattle.std.specs.List.{list_any};
+ghost use Rattle.custody_records.specs.Records.{key_of};
+ghost use Rattle.custody_machine.specs.Plain.{command_of, shown, part_shown, content_shown, IsRuling, is_of, is_at};
+ghost use Rattle.custody_machine.specs.Names.{read_name};
+ghost use Rattle.custody_machine.specs.SameValues.{is_same_kind};
+ghost use Rattle.custody_machine.specs.State.{empty, at_place, places};
+ghost use Rattle.schedule.specs.Schedule.{day_of};
+ghost use Rattle.custody_machine.specs.Machine.{Register, Receive, step, first_day_of, recorded, part_in, has_other_kind, is_gone, is_held_with_other, holds_other, is_dropped, receive_stands, refusals, max_part_len, DateOutOfRange, RevisionNotDue, TypeDiffers, PartOutOfOrder};
+
+use crate::{Command, Refusal};
+use deposit_name::{DepositName, Kind, Tld};
+use schedule::{Day, Sec};
+use std::alloc::{AllocError, Global};
+
+/// A registry with its first day.
+#[derive(Clone, Copy)]
+pub struct PlainRegistry {
+    pub tld: Tld,
+    pub first_day: Day,
+}
+
+/// What is kept of a part.
+#[derive(Drop)]
+pub enum PlainContent {
+    /// Its bytes.
+    Held(Vec<u8>),
+    /// Their number, after the keeping year.
+    Dropped(u32),
+}
+
+/// A part as it was received.
+#[derive(Drop)]
+pub struct PlainPart {
+    pub name: DepositName,
+    pub received: Sec,
+    pub content: PlainContent,
+}
+
+/// What is kept: of two entries of one key the first counts. There are no notices and no releases yet.
+#[derive(Drop)]
+pub struct PlainState {
+    pub registries: Vec<PlainRegistry>,
+    pub parts: Vec<PlainPart>,
+}
+
+/// The record that a command made, or found made.
+#[derive(Clone, Copy)]
+pub enum PlainRecord {
+    Registry {
+        tld: Tld,
+        first_day: Day,
+    },
+    Part {
+        name: DepositName,
+        received: Sec,
+        len: usize,
+    },
+}
+
+/// The answer to a command.
+#[derive(Clone, Copy)]
+pub enum PlainAnswer {
+    Accepted {
+        record: PlainRecord,
+        is_repeat: bool,
+    },
+    Refused(Refusal),
+}
+
+impl PlainContent {
+    fn is_dropped(&self) -> bool
+        ensures { result ≡ is_gone (content_shown self.now) }
+    {
+        match self {
+            PlainContent::Held(_) => false,
+            PlainContent::Dropped(_) => true,
+        }
+    }
+
+    fn is_held_with_other(&self, bytes: &[u8]) -> bool
+        ensures { result ≡ is_held_with_other bytes.now (content_shown self.now) }
+    {
+        match self {
+            PlainContent::Held(kept) => kept.as_slice() != bytes,
+            PlainContent::Dropped(_) => false,
+        }
+    }
+}
+
+impl PlainPart {
+    fn is_at(&self, name: &DepositName, place: u8) -> bool
+        ensures { result ≡ is_at (at_place (key_of name.now) place) self.now }
+    {
+        self.name.tld.as_bytes() == name.tld.as_bytes()
+            && self.name.day == name.day
+            && self.name.rev == name.rev
+            && self.name.part == place
+    }
+
+    fn is_of_kind(&self, kind: Kind) -> bool
+        ensures { result ≡ is_same_kind self.now.name.kind kind }
+    {
+        self.name.kind.as_bytes() == kind.as_bytes()
+    }
+}
+
+impl PlainState {
+    /// Nothing is kept yet.
+    pub fn new(alloc: Global) -> PlainState
+        ensures { shown result ≡ empty }
+    {
+        PlainState {
+            registries: Vec::new(alloc),
+            parts: Vec::new(alloc),
+        }
+    }
+
+    fn find_registry(&self, tld: &Tld) -> Option<Day>
+        ensures { result ≡ option_map (λ r. r.first_day) (find (is_of tld.now) self.now.registries.items) }
+    {
+        self.registries
+            .iter()
+            .find(|r| r.tld.as_bytes() == tld.as_bytes())
+            .map(|r| r.first_day)
+    }
+
+    fn find_part(&self, name: &DepositName, place: u8) -> Option<&PlainPart>
+        ensures { option_map (λ p. p.now) result ≡ find (is_at (at_place (key_of name.now) place)) self.now.parts.items }
+    {
+        self.parts.iter().find(|p| p.is_at(name, place))
+    }
+
+    fn first_day(&self, tld: &Tld) -> Option<Day>
+        ensures { result ≡ first_day_of (shown self.now) tld.now }
+    {
+        self.find_registry(tld)
+    }
+
+    fn part_at(&self, name: &DepositName, place: u8) -> Option<&PlainPart>
+        ensures { option_map (λ p. part_shown p.now) result ≡ part_in (shown self.now) name.now place }
+    {
+        self.find_part(name, place)
+    }
+
+    fn recorded(&self, name: &DepositName) -> Option<&PlainPart>
+        ensures { option_map (λ p. part_shown p.now) result ≡ recorded (shown self.now) name.now }
+    {
+        match self.part_at(name, name.part) {
+            Some(part) if part.is_of_kind(name.kind) => Some(part),
+            _ => None,
+        }
+    }
+
+    fn has_part(&self, name: &DepositName, place: u8) -> bool
+        ensures { result ≡ is_some (part_in (shown self.now) name.now place) }
+    {
+        self.part_at(name, place).is_some()
+    }
+
+    fn has_other_kind(&self, name: &DepositName, place: u8) -> bool
+        ensures { result ≡ has_other_kind name.now.kind (part_in (shown self.now) name.now place) }
+    {
+        match self.part_at(name, place) {
+            Some(part) => !part.is_of_kind(name.kind),
+            None => false,
+        }
+    }
+
+    fn has_any_other_kind(&self, name: &DepositName) -> bool
+        ensures { result ≡ list_any (λ place. has_other_kind name.now.kind (part_in (shown self.now) name.now place)) places }
+    {
+        self.has_other_kind(name, 1)
+            || self.has_other_kind(name, 2)
+            || self.has_other_kind(name, 3)
+            || self.has_other_kind(name, 4)
+            || self.has_other_kind(name, 5)
+            || self.has_other_kind(name, 6)
+            || self.has_other_kind(name, 7)
+            || self.has_other_kind(name, 8)
+    }
+
+    fn counted(&self, name: &DepositName, place: u8) -> u8
+        ensures value { result ≡ (if is_some (part_in (shown self.now) name.now place) then 1 else 0) }
+        ensures small { result ≤ 1 }
+    {
+        if self.has_part(name, place) { 1 } else { 0 }
+    }
+
+    fn count_parts(&self, name: &DepositName) -> u8
+        ensures value { result ≡ count_by (λ place. is_some (part_in (shown self.now) name.now place)) places }
+        ensures small { result ≤ 8 }
+    {
+        self.counted(name, 1)
+            + self.counted(name, 2)
+            + self.counted(name, 3)
+            + self.counted(name, 4)
+            + self.counted(name, 5)
+            + self.counted(name, 6)
+            + self.counted(name, 7)
+            + self.counted(name, 8)
+    }
+
+    fn is_new(&self, name: &DepositName) -> bool
+        ensures { result ≡ is_none (recorded (shown self.now) name.now) }
+    {
+        self.recorded(name).is_none()
+    }
+
+    fn is_unknown(&self, name: &DepositName) -> bool
+        ensures { result ≡ is_none (first_day_of (shown self.now) name.now.tld) }
+    {
+        self.first_day(&name.tld).is_none()
+    }
+
+    fn holds_other(&self, name: &DepositName, bytes: &[u8]) -> bool
+        ensures { result ≡ holds_other bytes.now (recorded (shown self.now) name.now) }
+    {
+        match self.recorded(name) {
+            Some(part) => part.content.is_held_with_other(bytes),
+            None => false,
+        }
+    }
+
+    fn is_dropped(&self, name: &DepositName) -> bool
+        ensures { result ≡ is_dropped (recorded (shown self.now) name.now) }
+    {
+        match self.recorded(name) {
+            Some(part) => part.content.is_dropped(),
+            None => false,
+        }
+    }
+
+    fn is_outside(&self, name: &DepositName, now: Sec) -> bool
+        ensures { result ≡ (nat_lt name.now.day (unwrap_or (first_day_of (shown self.now) name.now.tld) 0) || nat_lt (day_of now) name.now.day) }
+    {
+        let too_early = match self.first_day(&name.tld) {
+            Some(first_day) => name.day.number() < first_day.number(),
+            None => false,
+        };
+        too_early || now.day().number() < name.day.number()
+    }
+
+    fn is_out_of_range(&self, name: &DepositName, now: Sec) -> bool
+        ensures { result ≡ receive_stands (shown self.now) name.now [] now DateOutOfRange }
+    {
+        self.is_new(name) && self.is_outside(name, now)
+    }
+
+    // There are no notices: no revision above 0 is due.
+    fn is_not_due(&self, name: &DepositName) -> bool
+        ensures { result ≡ receive_stands (shown self.now) name.now [] 0 RevisionNotDue }
+    {
+        self.is_new(name) && name.rev > 0
+    }
+
+    fn differs_in_type(&self, name: &DepositName) -> bool
+        ensures { result ≡ receive_stands (shown self.now) name.now [] 0 TypeDiffers }
+    {
+        self.is_new(name) && self.has_any_other_kind(name)
+    }
+
+    fn is_out_of_order(&self, name: &DepositName) -> bool
+        ensures { result ≡ receive_stands (shown self.now) name.now [] 0 PartOutOfOrder }
+    {
+        self.is_new(name) && self.count_parts(name) + 1 != name.part
+    }
+
+    // The refusals of a part under a name, in their order. No revision is stated yet.
+    fn refusal_of(&self, name: &DepositName, bytes: &[u8], now: Sec) -> Option<Refusal>
+        ensures { result ≡ find (receive_stands (shown self.now) name.now bytes.now now) refusals }
+    {
+        if self.is_unknown(name) {
+            return Some(Refusal::RegistryUnknown);
+        }
+        if self.is_out_of_range(name, now) {
+            return Some(Refusal::DateOutOfRange);
+        }
+        if is_out_of_size(bytes) {
+            return Some(Refusal::Size);
+        }
+        if self.holds_other(name, bytes) {
+            return Some(Refusal::OtherBytes);
+        }
+        if self.is_dropped(name) {
+            return Some(Refusal::DroppedAfterKeeping);
+        }
+        if self.is_not_due(name) {
+            return Some(Refusal::RevisionNotDue);
+        }
+        if self.differs_in_type(name) {
+            return Some(Refusal::TypeDiffers);
+        }
+        if self.is_out_of_order(name) {
+            return Some(Refusal::PartOutOfOrder);
+        }
+        None
+    }
+
+    fn register(&mut self, tld: Tld, first_day: Day) -> Result<PlainAnswer, AllocError>
+        ensures step { (now : ℕ) → IfOk result (λ answer. IsRuling answer (shown self.old) (shown self.new) (step (shown self.old) (Register tld first_day) now)) }
+        ensures err { OnErr result (shown self.new ≡ shown self.old) }
+    {
+        match self.first_day(&tld) {
+            Some(kept) => Ok(accepted_registry(tld, kept, true)),
+            None => {
+                self.registries.push(PlainRegistry { tld, first_day })?;
+                Ok(accepted_registry(tld, first_day, false))
+            }
+        }
+    }
+
+    fn receive(
+        &mut self,
+        alloc: Global,
+        text: &[u8],
+        bytes: &[u8],
+        now: Sec,
+    ) -> Result<PlainAnswer, AllocError>
+        ensures step { IfOk result (λ answer. IsRuling answer (shown self.old) (shown self.new) (step (shown self.old) (Receive text.now bytes.now) now)) }
+        ensures err { OnErr result (shown self.new ≡ shown self.old) }
+    {
+        match DepositName::parse(text) {
+            Ok(name) => self.receive_part(alloc, &name, bytes, now),
+            Err(fault) => Ok(PlainAnswer::Refused(Refusal::NameRefused(fault))),
+        }
+    }
+
+    fn receive_part(
+        &mut self,
+        alloc: Global,
+        name: &DepositName,
+        bytes: &[u8],
+        now: Sec,
+    ) -> Result<PlainAnswer, AllocError>
+        ensures step { (text : List ℕ) → read_name text ≡ Ok name.now → IfOk result (λ answer. IsRuling answer (shown self.old) (shown self.new) (step (shown self.old) (Receive text bytes.now) now)) }
+        ensures err { OnErr result (shown self.new ≡ shown self.old) }
+    {
+        match self.refusal_of(name, bytes, now) {
+            Some(refusal) => Ok(PlainAnswer::Refused(refusal)),
+            None => match self.recorded(name) {
+                Some(part) => Ok(accepted_part(name, part.received, bytes.len(), true)),
+                None => {
+                    let copy = Vec::from_slice(alloc, bytes)?;
+                    self.parts.push(PlainPart {
+                        name: *name,
+                        received: now,
+                        content: PlainContent::Held(copy),
+                    })?;
+                    Ok(accepted_part(name, now, bytes.len(), false))
+                }
+            },
+        }
+    }
+}
+
+/// Does a command, as the machine has it. `Err`: memory was refused, and nothing has changed.
+pub fn step_plain(
+    state: &mut PlainState,
+    alloc: Global,
+    command: &Command<'_>,
+    now: Sec,
+) -> Result<PlainAnswer, AllocError>
+    ensures step { IfOk result (λ answer. IsRuling answer (shown state.old) (shown state.new) (step (shown state.old) (command_of command.now) now)) }
+    ensures err { OnErr result (shown state.new ≡ shown state.old) }
+{
+    match command {
+        Command::Register(tld, first_day) => state.register(*tld, *first_day),
+        Command::Receive(name, bytes) => state.receive(alloc, name, bytes, now),
+    }
+}
+
+fn accepted_registry(tld: Tld, first_day: Day, is_repeat: bool) -> PlainAnswer
+    ensures { result ≡ PlainAnswer.Accepted (PlainRecord.Registry tld first_day) is_repeat }
+{
+    PlainAnswer::Accepted {
+        record: PlainRecord::Registry { tld, first_day },
+        is_repeat,
+    }
+}
+
+fn accepted_part(name: &DepositName, received: Sec, len: usize, is_repeat: bool) -> PlainAnswer
+    ensures { result ≡ PlainAnswer.Accepted (PlainRecord.Part name.now received len) is_repeat }
+{
+    PlainAnswer::Accepted {
+        record: PlainRecord::Part {
+            name: *name,
+            received,
+            len,
+        },
+        is_repeat,
+    }
+}
+
+fn is_out_of_size(bytes: &[u8]) -> bool
+    ensures { result ≡ (length bytes.now == 0 || nat_lt max_part_len (length bytes.now)) }
+{
+    bytes.is_empty() || bytes.len() > 1_048_576
+}
