@@ -1,18 +1,16 @@
 -- The moves of a custody over records and images make histories, and the laws of histories hold of them.
-use Rattle.std.proofs.Common.{◌≡◌, ◌⊎◌, inl, inr, ℕ, List, [], ◌∷◌, ◌++◌, Option, Some, None, Bool, true, false, if◌then◌else◌, refl, sym, ◌∙◌, ap, subst, MatchOption, Contains}
+use Rattle.std.proofs.Common.{◌≡◌, ℕ, List, [], ◌∷◌, ◌++◌, Option, Some, None, Bool, true, false, if◌then◌else◌, refl, sym, ◌∙◌, ap, subst, MatchOption}
 use Rattle.std.specs.Prelude.{option_map}
 use Rattle.std.specs.FinMap.{get}
-use Rattle.vault_volume.specs.declared.extent.Extent.{Extent}
 use Rattle.vault_volume.specs.Extents.{part_bytes}
-use Rattle.custody_records.specs.Keys.{PartKey, part_cmp}
-use Rattle.custody_records.specs.Records.{PartRecord, Records}
+use Rattle.custody_records.specs.Keys.{part_cmp}
+use Rattle.custody_records.specs.Records.{Records}
 use Rattle.custody_records.specs.Rows.{Rows}
-use Rattle.custody_records.specs.Form.{form_of, InForm}
-use Rattle.custody_machine.specs.State.{State, Part, Content, Held}
-use Rattle.custody_machine.specs.Machine.{Command, Entry, after, Answer, Accepted, Refused, Failed, Fault, NoMemory, VolumeFailed, StoreFailed, Closed, Damaged, Answers}
-use Rattle.custody_machine.specs.History.{IsFoundWithin, MayFind, doubt_of, is_open_after, Pair, OpenAnswer, Opened, NotOpened, MayOpen, Event, Answered, ShutDown, StoppedAtRest, StoppedWithin, OpenedWith, Condition, Running, Halted, Resting, OpensSoundly, condition_after, Happens, Run, Begins, IsHistory, Found, found, found_after, none_found}
-use Rattle.custody_machine.specs.Stored.{IsGood, part_of, content_of, state_in, Stands, HasDigests, IsSound, KeepsParts, OpensFrom}
-use Rattle.custody_machine.specs.Moves.{Place, Serving, Shut, Left, MayLeave, MayLeaveWithin, Finds, MayNotOpen, place_after, Moves, MovesAlong, IsBegun, Chain, MovesBy, answered_all, MovesAreHistories, IsIn, PlacesAreRight, TellsDamage, NoDamageIsTold, ReadsBackAsReceived, FindsOne, ChainsMove}
+use Rattle.custody_machine.specs.State.{State}
+use Rattle.custody_machine.specs.Machine.{Command, after, Answer, Accepted, Refused, Failed, Fault, NoMemory, VolumeFailed, StoreFailed, Closed, Damaged, Answers}
+use Rattle.custody_machine.specs.History.{IsFoundWithin, MayFind, doubt_of, is_open_after, Pair, Opened, NotOpened, MayOpen, Event, Answered, ShutDown, StoppedAtRest, StoppedWithin, OpenedWith, Condition, Running, Halted, Resting, OpensSoundly, Happens, Run, Begins, Found, found, found_after, none_found}
+use Rattle.custody_machine.specs.Stored.{part_of, content_of, state_in, Stands, HasDigests, IsSound, OpensFrom}
+use Rattle.custody_machine.specs.Moves.{Place, Serving, Shut, Left, MayLeave, Finds, MayNotOpen, Moves, MovesAlong, IsBegun, MovesAreHistories, IsIn, PlacesAreRight, TellsDamage, NoDamageIsTold, ReadsBackAsReceived, FindsOne, ChainsMove}
 use Rattle.custody_machine.proofs.MapValues.{get-map_values}
 use Rattle.custody_machine.proofs.Histories.{Fits, fits_after, fits_first}
 use Rattle.custody_machine.proofs.Received.{held_as_received}
@@ -114,13 +112,17 @@ move_happens (Serving records image) (Running state) (OpenedWith pair answer) ne
 move_happens (Shut records image doubt) (Halted old entry) (Answered command now answer) next follows m = (Halted old entry, (m.0, refl), subst (λ p. Follows p (Halted old entry)) (sym m.1) follows)
 move_happens (Shut records image doubt) (Halted old entry) ShutDown next follows m = (Halted old entry, refl, subst (λ p. Follows p (Halted old entry)) (sym m) follows)
 move_happens (Shut records image doubt) (Halted old entry) (StoppedAtRest pair) next follows m =
-    let P : State → Type 0 = MayFind (state_in records image) doubt in
-    (Resting pair, ((λ (z : OpensSoundly (MayFind old entry) pair). z) (subst (λ s. OpensSoundly (MayFind s entry) pair) (sym follows.0) (subst (λ d. OpensSoundly (MayFind (state_in records image) d) pair) (sym follows.1) (opens_soundly records image follows.2 P m.0 m.1 pair m.2 m.3))), refl),
-    subst (λ p. Follows p (Resting pair)) (sym m.4) (follows_left records image follows.2 P m.0 m.1 pair m.2 m.3))
+    let P : State → Type 0 = MayFind (state_in records image) doubt in (
+      Resting pair,
+      ((λ (z : OpensSoundly (MayFind old entry) pair). z) (subst (λ s. OpensSoundly (MayFind s entry) pair) (sym follows.0) (subst (λ d. OpensSoundly (MayFind (state_in records image) d) pair) (sym follows.1) (opens_soundly records image follows.2 P m.0 m.1 pair m.2 m.3))), refl),
+      subst (λ p. Follows p (Resting pair)) (sym m.4) (follows_left records image follows.2 P m.0 m.1 pair m.2 m.3),
+    )
 move_happens (Shut records image doubt) (Halted old entry) (StoppedWithin command now pair) next follows m =
-    let P : State → Type 0 = MayFind (state_in records image) doubt in
-    (Resting pair, ((λ (z : OpensSoundly (MayFind old entry) pair). z) (subst (λ s. OpensSoundly (MayFind s entry) pair) (sym follows.0) (subst (λ d. OpensSoundly (MayFind (state_in records image) d) pair) (sym follows.1) (opens_soundly records image follows.2 P m.0 m.1 pair m.2 m.3))), refl),
-    subst (λ p. Follows p (Resting pair)) (sym m.4) (follows_left records image follows.2 P m.0 m.1 pair m.2 m.3))
+    let P : State → Type 0 = MayFind (state_in records image) doubt in (
+      Resting pair,
+      ((λ (z : OpensSoundly (MayFind old entry) pair). z) (subst (λ s. OpensSoundly (MayFind s entry) pair) (sym follows.0) (subst (λ d. OpensSoundly (MayFind (state_in records image) d) pair) (sym follows.1) (opens_soundly records image follows.2 P m.0 m.1 pair m.2 m.3))), refl),
+      subst (λ p. Follows p (Resting pair)) (sym m.4) (follows_left records image follows.2 P m.0 m.1 pair m.2 m.3),
+    )
 move_happens (Shut records image doubt) (Halted old entry) (OpenedWith pair answer) next follows m = absurd m
 move_happens (Left rows image) (Resting left) (Answered command now answer) next follows m = absurd m
 move_happens (Left rows image) (Resting left) ShutDown next follows m = absurd m
@@ -157,10 +159,11 @@ move_happens (Left rows image) (Resting left) (OpenedWith pair (NotOpened fault)
         let o = leaves s.records s.in_form s.good in
         let P : State → Type 0 = λ found. found ≡ state_in s.records image in
         let same : pair ≡ left = finds_one rows image pair (pair_of follows.0) finds (finds_some rows image follows.0 s follows.2) ∙ sym follows.3 in
-        let found : pair ≡ pair_of (state_in o.records other) = same ∙ follows.3 ∙ ap pair_of (s.meaning ∙ sym o.state) in
-        (Resting pair, (same, may_open rows image follows.0 pair.opens fault s may, refl),
-        subst (λ p. Follows p (Resting pair)) (sym is) (state_in o.records other, stands_of s.records image P others other o, sound_of s.records image P others other o has, found))
-
+        let found : pair ≡ pair_of (state_in o.records other) = same ∙ follows.3 ∙ ap pair_of (s.meaning ∙ sym o.state) in (
+          Resting pair,
+          (same, may_open rows image follows.0 pair.opens fault s may, refl),
+          subst (λ p. Follows p (Resting pair)) (sym is) (state_in o.records other, stands_of s.records image P others other o, sound_of s.records image P others other o has, found),
+        )
 move_happens (Serving records image) (Halted old entry) event next follows m = absurd follows
 move_happens (Serving records image) (Resting left) event next follows m = absurd follows
 move_happens (Shut records image doubt) (Running state) event next follows m = absurd follows

@@ -1,18 +1,17 @@
 -- The name that is read in a text is the one whose text it is.
-use Rattle.std.proofs.Common.{◌≡◌, ◌≢◌, ◌⊎◌, ⊎_elim, inl, inr, ℕ, zero, suc, ◌+◌, ◌-◌, ◌<◌, ◌≤◌, List, [], ◌∷◌, ◌++◌, length, take, drop, Option, Some, None, Bool, true, false, not, ◌&&◌, ◌||◌, ◌==◌, nat_lt, cond, if◌then◌else◌, codes, refl, sym, ◌∙◌, ap, subst, arith, Result, Ok, Err, IfOk, IfErr, append_assoc, length-append, Decides}
+use Rattle.std.proofs.Common.{◌≡◌, ◌≢◌, ◌⊎◌, ⊎_elim, inl, inr, ℕ, zero, suc, ◌+◌, ◌-◌, ◌<◌, ◌≤◌, List, [], ◌∷◌, ◌++◌, length, take, drop, Option, Some, None, Bool, true, false, not, ◌||◌, ◌==◌, cond, if◌then◌else◌, codes, refl, sym, ◌∙◌, ap, subst, arith, Result, Ok, Err, IfOk, IfErr, append_assoc, length-append, Decides}
 use Rattle.std.specs.Prelude.{option_map, pos, slice_index}
-use Rattle.std.specs.List.{list_any, list_all}
+use Rattle.std.specs.List.{list_all}
 use Rattle.std.specs.Option.{option_and_then}
 use Rattle.std.specs.Int.{IsInRange}
 use Rattle.std.specs.Cmp.Lexicographic.{bytes_decides}
 use Rattle.std.proofs.lemmas.List.{take-append-drop, drop_at}
 use Rattle.std.proofs.lemmas.Bool.Decides.{Decides-eqb, Decides-and, Decides-like, Decides-not, not_from_Decides, nat_tests}
-use Rattle.schedule.specs.Schedule.{IsDay}
 use Rattle.schedule.specs.Text.{day_text}
 use Rattle.deposit_name.specs.declared.kinds.Kind.{Kind}
 use Rattle.deposit_name.specs.declared.kinds.Kind.TheVariants.{Full, Diff}
 use Rattle.deposit_name.specs.declared.faults.NameError.{NameError}
-use Rattle.deposit_name.specs.declared.faults.NameError.TheVariants.{Suffix, Pieces, Tld, Date, Kind as KindFault, Part, Revision}
+use Rattle.deposit_name.specs.declared.faults.NameError.TheVariants.{Tld}
 use Rattle.deposit_name.specs.Identifiers.{IsTld, is_tld_byte}
 use Rattle.deposit_name.specs.Name.{Name, IsName, IsNameDay, name_text, kind_text, part_text, rev_text}
 use Rattle.deposit_name.specs.Fault.{HasNoUnderscore, NamePieces, IsSplit, HasPieces, IsDateText, IsKindText, IsPartText, IsRevText, IsFault}
@@ -112,7 +111,7 @@ pieces_found stem p e = by (cut stem) refl e
         let hk = cut_found d.1 k.0 k.1 ek in
         let hq = cut_found k.1 q.0 q.1 eq in
         let whole : stem ≡ t.0 ++ 95 ∷ (d.0 ++ 95 ∷ (k.0 ++ 95 ∷ (q.0 ++ 95 ∷ q.1))) =
-            ht.0 ∙ ap (λ r. t.0 ++ 95 ∷ r) (hd.0 ∙ ap (λ r. d.0 ++ 95 ∷ r) (hk.0 ∙ ap (λ r. k.0 ++ 95 ∷ r) hq.0)) in
+        ht.0 ∙ ap (λ r. t.0 ++ 95 ∷ r) (hd.0 ∙ ap (λ r. d.0 ++ 95 ∷ r) (hk.0 ∙ ap (λ r. k.0 ++ 95 ∷ r) hq.0)) in
         let is : ◌≡◌ {A = NamePieces} (record { tld = t.0; date = d.0; kind = k.0; part = q.0; rev = q.1 }) p = cc in
         subst (IsSplit stem) is (record {
           joined = whole ∙ sym (regroup t.0 d.0 k.0 q.0 q.1);
@@ -231,7 +230,7 @@ not_decides a b = Decides-not (a == b) (Decides-eqb a b)
 pub tld_decides : (text : List ℕ) → Decides (is_tld text) (IsTld text)
 tld_decides text = Decides-like (is_tld text)
     (λ (h : (IsInRange 1 63 (length text) × (list_all is_tld_byte text ≡ true)) × ((slice_index text 0 ≢ 45) × (slice_index text (length text - 1) ≢ 45))).
-        record { length_in = h.0.0; bytes = h.0.1; first = h.1.0; last = h.1.1 })
+    record { length_in = h.0.0; bytes = h.0.1; first = h.1.0; last = h.1.1 })
     (λ h. ((h.length_in, h.bytes), (h.first, h.last)))
     (Decides-and _ _ (Decides-and _ _ (is_within_decides 1 63 (length text)) (itself (list_all is_tld_byte text)))
     (Decides-and _ _ (not_decides (slice_index text 0) 45) (not_decides (slice_index text (length text - 1)) 45)))
@@ -255,7 +254,7 @@ module _ (text : List ℕ) (p : NamePieces) (pieces : HasPieces text p) (tld : I
         (
           record { tld = tld; day = hd.0; part = hp.0; rev = hr.0 },
           pieces.1 ∙ ap (λ s. s ++ codes ".ryde") pieces.2.joined ∙ rejoin p.tld p.date p.kind p.part p.rev (codes ".ryde")
-          ∙ (λ i. p.tld ++ codes "_" ++ hd.1 i ++ codes "_" ++ hk i ++ codes "_" ++ hp.1 i ++ codes "_" ++ hr.1 i ++ codes ".ryde"),
+              ∙ (λ i. p.tld ++ codes "_" ++ hd.1 i ++ codes "_" ++ hk i ++ codes "_" ++ hp.1 i ++ codes "_" ++ hr.1 i ++ codes ".ryde"),
         ),
         tt,
       )

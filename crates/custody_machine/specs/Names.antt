@@ -36,7 +36,7 @@ pieces_in stem =
     option_and_then (λ (date : List ℕ × List ℕ).
     option_and_then (λ (kind : List ℕ × List ℕ).
     option_and_then (λ (part : List ℕ × List ℕ).
-        if has_underscore part.1 then None else Some (record { tld = tld.0; date = date.0; kind = kind.0; part = part.0; rev = part.1 }))
+    if has_underscore part.1 then None else Some (record { tld = tld.0; date = date.0; kind = kind.0; part = part.0; rev = part.1 }))
     (cut kind.1)) (cut date.1)) (cut tld.1)) (cut stem)
 
 -- ---- the pieces, read

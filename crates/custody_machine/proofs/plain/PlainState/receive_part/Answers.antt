@@ -23,6 +23,6 @@ returns-in_ok-push-in-None-recorded-clause-step c = λ text named.
     let new = sym c.recorded.ensures ∙ ap (option_map (λ p. part_shown p.now)) c.in-None-recorded.is in
     let free = place_is_free (shown c.args.self.now) text c.args.bytes.now c.args.now c.args.name.now named none new in
     let maps = ap (λ items. from_entries (map part_entry items)) c.in_ok-push-in-None-recorded.ensures.items
-        ∙ part_pushed c.args.self.now.parts.items (record { name = c.args.name.now; received = c.args.now; content = Held c.in_ok-copy-in-None-recorded.copy }) free in
+    ∙ part_pushed c.args.self.now.parts.items (record { name = c.args.name.now; received = c.args.now; content = Held c.in_ok-copy-in-None-recorded.copy }) free in
     let all = ap (λ m. record (shown c.args.self.now) { parts = m }) maps ∙ ap (λ bytes. with_part (shown c.args.self.now) (key_of c.args.name.now) (record { kind = c.args.name.now.kind; received = c.args.now; content = state.Held bytes })) c.in_ok-copy-in-None-recorded.ensures.items in
     as_answered _ _ _ _ _ c.accepted_part-in-None-recorded.ensures (receives_new (shown c.args.self.now) text c.args.bytes.now c.args.now c.args.name.now named _ none new all)
