@@ -1,17 +1,16 @@
 -- How the calls of volume, database and records make up a command of the machine.
-use Rattle.std.proofs.Common.{◌≡◌, ◌≢◌, ◌⊎◌, inl, inr, ℕ, zero, suc, ◌+◌, ◌-◌, ◌*◌, ◌<◌, ◌≤◌, ◌^◌, List, [], ◌∷◌, length, Option, Some, None, Bool, true, false, not, ◌&&◌, ◌||◌, if◌then◌else◌, refl, sym, ◌∙◌, ap, subst, is_some, is_none, nat_lt, ◌==◌, count_by, find, arith, Result, Ok, Err, Contains}
-use Rattle.std.specs.Prelude.{option_map, is_err, MatchResult, All, slice_index_or}
+use Rattle.std.proofs.Common.{◌≡◌, ◌≢◌, ◌⊎◌, inl, inr, ℕ, zero, suc, ◌-◌, ◌<◌, ◌≤◌, ◌^◌, List, [], ◌∷◌, length, Option, Some, None, Bool, true, false, not, ◌&&◌, ◌||◌, if◌then◌else◌, refl, sym, ◌∙◌, ap, subst, is_some, is_none, nat_lt, ◌==◌, find, arith, Result, Ok, Err, Contains}
+use Rattle.std.specs.Prelude.{option_map, All, slice_index_or}
 use Rattle.std.specs.List.{list_any}
 use Rattle.std.specs.Option.{option_and_then}
-use Rattle.std.specs.FinMap.{get, insert}
+use Rattle.std.specs.FinMap.{get}
 use Rattle.std.proofs.lemmas.Bool.Decides.{Decides-eqb, Decides-ltb, nat_tests}
 use Rattle.sha2.specs.Sha256.{sha256}
 use Rattle.deposit_name.specs.declared.kinds.Kind.{Kind}
 use Rattle.deposit_name.specs.declared.faults.NameError.{NameError}
 use Rattle.deposit_name.specs.Name.{Name}
-use Rattle.vault_volume.specs.declared.extent.Extent.{Extent}
 use Rattle.vault_volume.specs.Image.{DiffersOnlyIn}
-use Rattle.vault_volume.specs.Extents.{IsExtentOf, AreApart, IsInAny, block_count, blocks_of, part_bytes}
+use Rattle.vault_volume.specs.Extents.{IsExtentOf, IsInAny, block_count}
 use Rattle.vault_volume.specs.Staged.{StagedPart}
 use Rattle.vault_volume.proofs.ImageLemmas.{same_in, in_more, in_both}
 use Rattle.custody_records.specs.Keys.{PartKey, part_cmp}
@@ -21,15 +20,13 @@ use Rattle.custody_records.specs.Rows.{Rows}
 use Rattle.custody_records.specs.Form.{form_of, InForm}
 use Rattle.custody_machine.specs.Names.{read_name}
 use Rattle.custody_machine.specs.SameValues.{is_same_kind}
-use Rattle.custody_machine.specs.State.{State, Part, Held, places, at_place, has_notice}
-use Rattle.custody_machine.specs.Machine.{Command, Register, Receive, Refusal, NameRefused, RegistryUnknown, DateOutOfRange, Size, OtherBytes, DroppedAfterKeeping, RevisionNotDue, AlreadyStated, TypeDiffers, PartOutOfOrder, VolumeFull, refusals, Record, OfRegistry, OfPart, Reply, Ruling, Refuse, Accept, max_part_len, of_kind, recorded, part_in, has_other_kind, is_failure_of, named_stands, refusal_of, kept, effect, received, unless_kept, unless_refused, step, state_of, state_after, received_part, with_part, Entry, read_by, reads, Answer, Accepted, Refused, Failed, Fault, NoMemory, VolumeFailed, StoreFailed, Closed, Damaged, Damage, MayFail, Answers}
-use Rattle.custody_machine.specs.declared.damage.Damage.TheVariants.{Digest}
+use Rattle.custody_machine.specs.State.{State, Held, places, at_place, has_notice}
+use Rattle.custody_machine.specs.Machine.{Command, Register, Receive, Refusal, NameRefused, RegistryUnknown, DateOutOfRange, Size, OtherBytes, DroppedAfterKeeping, RevisionNotDue, AlreadyStated, TypeDiffers, PartOutOfOrder, VolumeFull, refusals, Record, OfRegistry, OfPart, Reply, Refuse, Accept, max_part_len, of_kind, recorded, part_in, has_other_kind, is_failure_of, named_stands, refusal_of, kept, effect, received, unless_kept, unless_refused, step, state_of, state_after, received_part, with_part, Entry, read_by, reads, Answer, Accepted, Failed, StoreFailed, MayFail, Answers}
 use Rattle.custody_machine.specs.History.{IsFoundWithin, doubt_of, MayFind, is_open_after}
-use Rattle.custody_machine.specs.Stored.{AreNaming, IsNamed, AreExtents, is_part_of, IsGood, part_of, content_of, state_in, HasDigestAt, HasDigests, KeepsParts, OpensFrom}
-use Rattle.custody_machine.specs.Moves.{Place, Serving, Shut, Left, MayLeave, MayLeaveWithin, RestsOnBytes, place_after, Moves}
-use Rattle.custody_machine.specs.Custody.{IsPlaceable, IsInOrder, IsOnVolume, IsInStore, IsStaged, staged_record, Comparison, Same, Other, Broken, Compares, PartRuling, ByBytes, Decides, Leaves, IsAt, Serves}
+use Rattle.custody_machine.specs.Stored.{AreNaming, IsNamed, is_part_of, IsGood, part_of, state_in, KeepsParts, OpensFrom}
+use Rattle.custody_machine.specs.Moves.{Place, Serving, Shut, MayLeave, MayLeaveWithin, RestsOnBytes, place_after}
+use Rattle.custody_machine.specs.Custody.{IsPlaceable, IsInOrder, IsOnVolume, IsInStore, IsStaged, staged_record, IsAt, Serves}
 use Rattle.custody_machine.proofs.MapValues.{get-map_values}
-use Rattle.custody_machine.proofs.SameValues.{text_decides, kind_decides}
 use Rattle.custody_machine.proofs.Series.{prior_taken, is_place}
 use Rattle.custody_machine.proofs.Keeping.{NoneStands, refused_name, step_none, step_accepts, registered, receives, place_passes, insert_here}
 use Rattle.custody_machine.proofs.Orders.{part_total}

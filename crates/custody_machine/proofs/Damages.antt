@@ -1,27 +1,25 @@
 -- What is damaged stands for no state, and what is not for one.
-use Rattle.std.proofs.Common.{◌≡◌, ◌⊎◌, inl, inr, ⊎_elim, ℕ, zero, suc, ◌+◌, ◌*◌, ◌<◌, ◌≤◌, ◌^◌, List, [], ◌∷◌, length, Option, Some, None, Bool, true, false, ◌==◌, nat_lt, refl, sym, ◌∙◌, ap, subst, arith, is_some}
-use Rattle.std.specs.Prelude.{All, slice_index_or}
+use Rattle.std.proofs.Common.{◌≡◌, ℕ, ◌*◌, ◌≤◌, List, [], ◌∷◌, length, Option, Some, None, Bool, true, false, nat_lt, refl, sym, ◌∙◌, ap, subst, arith}
+use Rattle.std.specs.Prelude.{slice_index_or}
 use Rattle.std.specs.Bool.{Decides}
-use Rattle.std.specs.FinMap.{get}
-use Rattle.std.specs.List.{list_all}
 use Rattle.std.proofs.lemmas.Bool.Decides.{Decides-eqb, Decides-ltb}
 use Rattle.vault_volume.specs.declared.extent.Extent.{Extent}
 use Rattle.vault_volume.specs.Image.{bytes_at}
-use Rattle.vault_volume.specs.Extents.{IsExtentOf, AreApart, IsIn, IsInAny, block_count, blocks_of}
+use Rattle.vault_volume.specs.Extents.{IsExtentOf, AreApart, block_count, blocks_of}
 use Rattle.vault_volume.specs.Head.{head_of}
 use Rattle.custody_records.specs.declared.damage.Damage as rows_damage
 use Rattle.custody_records.specs.declared.damage.Damage.TheVariants as form
 use Rattle.custody_records.specs.Keys.{PartKey, NoticeKey}
-use Rattle.custody_records.specs.Records.{PartRecord, Records}
+use Rattle.custody_records.specs.Records.{Records}
 use Rattle.custody_records.specs.Rows.{MetaRow, Rows}
-use Rattle.custody_records.specs.Form.{Form, NoVault, OutOfForm, InForm, form_of, natural}
+use Rattle.custody_records.specs.Form.{Form, NoVault, OutOfForm, InForm, form_of}
 use Rattle.custody_machine.specs.declared.damage.Damage.{Damage}
 use Rattle.custody_machine.specs.declared.damage.Damage.TheVariants.{NoRecord, Head, Volume, Schema, Form as FormDamage, Extent as ExtentDamage, Overlap, Link, Digest}
 use Rattle.custody_machine.specs.State.{State}
-use Rattle.custody_machine.specs.Stored.{ForExtents, AreExtents, AreInRange, AreOnce, AreLinked, AreWhole, IsVolumeOf, IsGood, state_in, Stands}
-use Rattle.custody_machine.specs.Damage.{meta_of, number_text, IsRowOf, IsDamaged, IsRefinement}
+use Rattle.custody_machine.specs.Stored.{ForExtents, AreExtents, AreInRange, AreOnce, AreLinked, state_in, Stands}
+use Rattle.custody_machine.specs.Damage.{meta_of, IsRowOf, IsDamaged, IsRefinement}
 use Rattle.custody_machine.proofs.SameValues.{text_decides, key_decides, notice_key_decides}
-use Rattle.custody_machine.proofs.Forms.{IsRecordsOf, records_inj, meta_in_form, row_in_form, no_row_in_form}
+use Rattle.custody_machine.proofs.Forms.{IsRecordsOf, records_inj, meta_in_form, row_in_form}
 use Rattle.custody_machine.proofs.Heads.{head_by_digits, head_in_range, digits_by_head}
 use Rattle.custody_machine.proofs.Stored.{stands_for_one}
 

@@ -1,7 +1,7 @@
 -- What it tells that rows are in form.
-use Rattle.std.proofs.Common.{◌≡◌, ◌⊎◌, inl, inr, ℕ, List, [], ◌∷◌, Option, Some, None, Bool, true, false, ◌&&◌, cond, if◌then◌else◌, refl, sym, ◌∙◌, ap, subst}
+use Rattle.std.proofs.Common.{◌≡◌, ℕ, List, [], ◌∷◌, Option, Some, None, Bool, true, false, ◌&&◌, if◌then◌else◌, refl, ◌∙◌, ap}
 use Rattle.std.specs.Str.{bytes_eq}
-use Rattle.std.specs.Prelude.{option_map, pos}
+use Rattle.std.specs.Prelude.{option_map}
 use Rattle.std.specs.Option.{option_and_then}
 use Rattle.std.specs.FinMap.{FinMap}
 use Rattle.std.proofs.lemmas.Slice.Eq.{bytes_eq-Decides}
@@ -10,7 +10,7 @@ use Rattle.custody_records.specs.declared.damage.Damage as rows_damage
 use Rattle.custody_records.specs.declared.damage.Damage.TheVariants as damage
 use Rattle.custody_records.specs.Records.{PartRecord, Notice, Release, Records}
 use Rattle.custody_records.specs.Rows.{MetaRow, Rows}
-use Rattle.custody_records.specs.Form.{Form, NoVault, OutOfForm, InForm, form_of, form_after, records_in, in_form_or, is_meta, is_number, number_in, natural, is_within, gathered, registry_in, part_in, notice_in, release_in}
+use Rattle.custody_records.specs.Form.{NoVault, OutOfForm, InForm, form_of, form_after, records_in, in_form_or, is_meta, is_number, number_in, natural, is_within, gathered, registry_in, part_in, notice_in, release_in}
 use Rattle.custody_machine.specs.Damage.{first_of, meta_of, number_text}
 
 -- the number and the blocks of the volume are those of the row of `meta`

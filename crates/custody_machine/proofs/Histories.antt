@@ -1,9 +1,9 @@
 -- The laws of histories. Nothing here looks into the machine's `step`: they hold whatever the commands are.
 use Rattle.std.proofs.Common.{◌≡◌, ℕ, List, [], ◌∷◌, ◌++◌, Option, Some, None, Bool, true, false, ◌⊎◌, inl, inr, refl, sym, ◌∙◌, ap, subst, if◌then◌else◌, append_assoc, append-nil}
 use Rattle.custody_machine.specs.State.{State}
-use Rattle.custody_machine.specs.Machine.{Command, Entry, Ruling, Refuse, Accept, step, state_of, state_after, after, Answer, Accepted, Refused, Failed, Fault, NoMemory, VolumeFailed, StoreFailed, Closed, Damaged}
+use Rattle.custody_machine.specs.Machine.{Command, Entry, Ruling, Refuse, Accept, step, state_of, state_after, after, Answer, Accepted, Refused, Failed, NoMemory, VolumeFailed, StoreFailed, Closed, Damaged}
 use Rattle.custody_machine.specs.SameValues.{is_same_state}
-use Rattle.custody_machine.specs.History.{IsFoundWithin, doubt_of, MayFind, Pair, OpenAnswer, Opened, NotOpened, MayOpen, Event, Answered, ShutDown, StoppedAtRest, StoppedWithin, OpenedWith, Condition, Running, Halted, Resting, OpensSoundly, Happens, Run, Begins, Found, leads_to, settled, or_else, found_then, found_after, none_found, OpensAs, OpeningsAreRight, NothingIsTakenBack, AcceptedIsFound}
+use Rattle.custody_machine.specs.History.{IsFoundWithin, MayFind, Pair, OpenAnswer, Opened, NotOpened, MayOpen, Event, Answered, ShutDown, StoppedAtRest, StoppedWithin, OpenedWith, Condition, Running, Halted, Resting, OpensSoundly, Happens, Run, Begins, Found, leads_to, settled, or_else, found_then, found_after, none_found, OpensAs, OpeningsAreRight, NothingIsTakenBack, AcceptedIsFound}
 use Rattle.custody_machine.proofs.SameValues.{state_decides}
 
 pub after-append : (state : State) (xs ys : List Entry) → after state (xs ++ ys) ≡ after (after state xs) ys

@@ -1,9 +1,8 @@
 -- What the machine keeps of an accepted command for good.
-use Rattle.std.proofs.Common.{◌≡◌, ◌≤◌, ◌<◌, ℕ, zero, suc, List, [], ◌∷◌, Option, Some, None, Bool, true, false, not, ◌&&◌, ◌||◌, ◌⊎◌, inl, inr, refl, sym, ◌∙◌, ap, subst, cond, nat_eq, nat_lt, ◌==◌, is_none, length, find, Result, Ok, Err, arith}
+use Rattle.std.proofs.Common.{◌≡◌, ℕ, zero, suc, List, [], ◌∷◌, Option, Some, None, Bool, true, false, not, ◌&&◌, ◌||◌, ◌⊎◌, inl, inr, refl, sym, ◌∙◌, ap, subst, cond, nat_lt, ◌==◌, is_none, length, find, Result, Ok, Err, arith}
 use Rattle.std.specs.Prelude.{option_map}
 use Rattle.std.specs.List.{list_any}
 use Rattle.std.specs.Int.{IsInRange}
-use Rattle.std.specs.Cmp.Lexicographic.{pointwise}
 use Rattle.std.specs.Ordering.{eq_by_cmp, is_eq}
 use Rattle.std.specs.FinMap.{FinMap, get, insert, get-insert, get_tied}
 use Rattle.std.specs.Cmp.{IsTotalOrder, tied_itself, Equal-is}
@@ -20,7 +19,7 @@ use Rattle.custody_records.specs.Records.{key_of}
 use Rattle.custody_machine.specs.Names.{is_same_text, read_name}
 use Rattle.custody_machine.specs.SameValues.{is_same_kind}
 use Rattle.custody_machine.specs.State.{State, Part, Content, Held, Dropped, places}
-use Rattle.custody_machine.specs.Machine.{Command, Register, Receive, Refusal, NameRefused, RegistryUnknown, DateOutOfRange, Size, OtherBytes, DroppedAfterKeeping, RevisionNotDue, AlreadyStated, TypeDiffers, PartOutOfOrder, refusals, Record, OfRegistry, OfPart, Reply, Ruling, Refuse, Accept, first_day_of, part_at, of_kind, recorded, has_other_kind, max_part_len, is_held_with, is_held_with_other, holds_other, is_dropped, is_gone, part_in, receive_stands, named_stands, refuses_name, refusal_of, with_registry, with_part, received_part, held_with, kept_under, kept, effect, received, unless_kept, unless_refused, step, state_of, state_after, reads, read_by, HasRecord}
+use Rattle.custody_machine.specs.Machine.{Command, Register, Receive, Refusal, NameRefused, RegistryUnknown, DateOutOfRange, Size, OtherBytes, DroppedAfterKeeping, RevisionNotDue, AlreadyStated, TypeDiffers, PartOutOfOrder, refusals, Record, OfRegistry, OfPart, Reply, Ruling, Refuse, Accept, first_day_of, part_at, of_kind, recorded, has_other_kind, max_part_len, is_held_with, is_held_with_other, holds_other, is_dropped, is_gone, part_in, receive_stands, named_stands, refusal_of, with_registry, with_part, received_part, held_with, kept_under, kept, effect, received, unless_kept, unless_refused, step, state_of, reads, read_by, HasRecord}
 use Rattle.custody_machine.specs.Retries.{has_same_key, AsksAgain, IsDroppedSince, IsKeptPart, without_bytes, KeepsRecords, NothingIsRemoved, RepliesAreRecords, IsOfCommand, StillHas}
 use Rattle.custody_machine.proofs.NameReading.{read_is}
 use Rattle.custody_machine.proofs.SameValues.{text_decides, kind_decides}

@@ -1,18 +1,16 @@
 -- The moves of a custody over records and images make histories, and the laws of histories hold of them.
-use Rattle.std.proofs.Common.{◌≡◌, ◌⊎◌, inl, inr, ℕ, List, [], ◌∷◌, ◌++◌, Option, Some, None, Bool, true, false, if◌then◌else◌, refl, sym, ◌∙◌, ap, subst, MatchOption, Contains}
+use Rattle.std.proofs.Common.{◌≡◌, ℕ, List, [], ◌∷◌, ◌++◌, Option, Some, None, Bool, true, false, if◌then◌else◌, refl, sym, ◌∙◌, ap, subst, MatchOption}
 use Rattle.std.specs.Prelude.{option_map}
 use Rattle.std.specs.FinMap.{get}
-use Rattle.vault_volume.specs.declared.extent.Extent.{Extent}
 use Rattle.vault_volume.specs.Extents.{part_bytes}
-use Rattle.custody_records.specs.Keys.{PartKey, part_cmp}
-use Rattle.custody_records.specs.Records.{PartRecord, Records}
+use Rattle.custody_records.specs.Keys.{part_cmp}
+use Rattle.custody_records.specs.Records.{Records}
 use Rattle.custody_records.specs.Rows.{Rows}
-use Rattle.custody_records.specs.Form.{form_of, InForm}
-use Rattle.custody_machine.specs.State.{State, Part, Content, Held}
-use Rattle.custody_machine.specs.Machine.{Command, Entry, after, Answer, Accepted, Refused, Failed, Fault, NoMemory, VolumeFailed, StoreFailed, Closed, Damaged, Answers}
-use Rattle.custody_machine.specs.History.{IsFoundWithin, MayFind, doubt_of, is_open_after, Pair, OpenAnswer, Opened, NotOpened, MayOpen, Event, Answered, ShutDown, StoppedAtRest, StoppedWithin, OpenedWith, Condition, Running, Halted, Resting, OpensSoundly, condition_after, Happens, Run, Begins, IsHistory, Found, found, found_after, none_found}
-use Rattle.custody_machine.specs.Stored.{IsGood, part_of, content_of, state_in, Stands, HasDigests, IsSound, KeepsParts, OpensFrom}
-use Rattle.custody_machine.specs.Moves.{Place, Serving, Shut, Left, MayLeave, MayLeaveWithin, Finds, MayNotOpen, place_after, Moves, MovesAlong, IsBegun, Chain, MovesBy, answered_all, MovesAreHistories, IsIn, PlacesAreRight, TellsDamage, NoDamageIsTold, ReadsBackAsReceived, FindsOne, ChainsMove}
+use Rattle.custody_machine.specs.State.{State}
+use Rattle.custody_machine.specs.Machine.{Command, after, Answer, Accepted, Refused, Failed, Fault, NoMemory, VolumeFailed, StoreFailed, Closed, Damaged, Answers}
+use Rattle.custody_machine.specs.History.{IsFoundWithin, MayFind, doubt_of, is_open_after, Pair, Opened, NotOpened, MayOpen, Event, Answered, ShutDown, StoppedAtRest, StoppedWithin, OpenedWith, Condition, Running, Halted, Resting, OpensSoundly, Happens, Run, Begins, Found, found, found_after, none_found}
+use Rattle.custody_machine.specs.Stored.{part_of, content_of, state_in, Stands, HasDigests, IsSound, OpensFrom}
+use Rattle.custody_machine.specs.Moves.{Place, Serving, Shut, Left, MayLeave, Finds, MayNotOpen, Moves, MovesAlong, IsBegun, MovesAreHistories, IsIn, PlacesAreRight, TellsDamage, NoDamageIsTold, ReadsBackAsReceived, FindsOne, ChainsMove}
 use Rattle.custody_machine.proofs.MapValues.{get-map_values}
 use Rattle.custody_machine.proofs.Histories.{Fits, fits_after, fits_first}
 use Rattle.custody_machine.proofs.Received.{held_as_received}

@@ -1,18 +1,17 @@
 -- The name that is read in a text is the one whose text it is.
-use Rattle.std.proofs.Common.{◌≡◌, ◌≢◌, ◌⊎◌, ⊎_elim, inl, inr, ℕ, zero, suc, ◌+◌, ◌-◌, ◌<◌, ◌≤◌, List, [], ◌∷◌, ◌++◌, length, take, drop, Option, Some, None, Bool, true, false, not, ◌&&◌, ◌||◌, ◌==◌, nat_lt, cond, if◌then◌else◌, codes, refl, sym, ◌∙◌, ap, subst, arith, Result, Ok, Err, IfOk, IfErr, append_assoc, length-append, Decides}
+use Rattle.std.proofs.Common.{◌≡◌, ◌≢◌, ◌⊎◌, ⊎_elim, inl, inr, ℕ, zero, suc, ◌+◌, ◌-◌, ◌<◌, ◌≤◌, List, [], ◌∷◌, ◌++◌, length, take, drop, Option, Some, None, Bool, true, false, not, ◌||◌, ◌==◌, cond, if◌then◌else◌, codes, refl, sym, ◌∙◌, ap, subst, arith, Result, Ok, Err, IfOk, IfErr, append_assoc, length-append, Decides}
 use Rattle.std.specs.Prelude.{option_map, pos, slice_index}
-use Rattle.std.specs.List.{list_any, list_all}
+use Rattle.std.specs.List.{list_all}
 use Rattle.std.specs.Option.{option_and_then}
 use Rattle.std.specs.Int.{IsInRange}
 use Rattle.std.specs.Cmp.Lexicographic.{bytes_decides}
 use Rattle.std.proofs.lemmas.List.{take-append-drop, drop_at}
 use Rattle.std.proofs.lemmas.Bool.Decides.{Decides-eqb, Decides-and, Decides-like, Decides-not, not_from_Decides, nat_tests}
-use Rattle.schedule.specs.Schedule.{IsDay}
 use Rattle.schedule.specs.Text.{day_text}
 use Rattle.deposit_name.specs.declared.kinds.Kind.{Kind}
 use Rattle.deposit_name.specs.declared.kinds.Kind.TheVariants.{Full, Diff}
 use Rattle.deposit_name.specs.declared.faults.NameError.{NameError}
-use Rattle.deposit_name.specs.declared.faults.NameError.TheVariants.{Suffix, Pieces, Tld, Date, Kind as KindFault, Part, Revision}
+use Rattle.deposit_name.specs.declared.faults.NameError.TheVariants.{Tld}
 use Rattle.deposit_name.specs.Identifiers.{IsTld, is_tld_byte}
 use Rattle.deposit_name.specs.Name.{Name, IsName, IsNameDay, name_text, kind_text, part_text, rev_text}
 use Rattle.deposit_name.specs.Fault.{HasNoUnderscore, NamePieces, IsSplit, HasPieces, IsDateText, IsKindText, IsPartText, IsRevText, IsFault}

@@ -1,20 +1,20 @@
 -- What the plain program's loops find is what the maps have.
-use Rattle.std.proofs.Common.{◌≡◌, ℕ, List, [], ◌∷◌, ◌++◌, length, Option, Some, None, Bool, true, false, not, ◌&&◌, ◌||◌, ◌==◌, cond, map, refl, sym, ◌∙◌, ap, find, Decides, arith}
+use Rattle.std.proofs.Common.{◌≡◌, ℕ, List, [], ◌∷◌, length, Option, Some, None, Bool, true, false, not, ◌&&◌, ◌||◌, ◌==◌, cond, map, refl, sym, ◌∙◌, ap, find, Decides, arith}
 use Rattle.std.specs.List.{list_any}
 use Rattle.desk.specs.declared.notices.NoticeKind.{NoticeKind}
 use Rattle.std.specs.Prelude.{option_map}
 use Rattle.std.specs.Ordering.{eq_by_cmp, is_eq}
 use Rattle.std.specs.Cmp.{IsTotalOrder, tied_itself, Equal-is}
 use Rattle.std.specs.FinMap as fin
-use Rattle.std.specs.FinMap.{FinMap, IsAntisymmetric, get, insert, from_entries, get-from_entries, from_entries_push}
+use Rattle.std.specs.FinMap.{IsAntisymmetric, get, from_entries, get-from_entries}
 use Rattle.std.specs.declared.cmp.Ordering.{Ordering}
-use Rattle.std.proofs.lemmas.Bool.Decides.{same_from_decides, Decides-like}
+use Rattle.std.proofs.lemmas.Bool.Decides.{same_from_decides}
 use Rattle.custody_records.specs.Keys.{PartKey, text_cmp, part_cmp, NoticeKey, notice_cmp}
 use Rattle.custody_records.specs.Records.{Notice, key_of}
 use Rattle.custody_machine.specs.declared.plain.PlainRegistry.{PlainRegistry}
 use Rattle.custody_machine.specs.declared.plain.PlainPart.{PlainPart}
 use Rattle.custody_machine.specs.Plain.{registry_entry, part_entry, part_shown, is_of, is_at}
-use Rattle.custody_machine.specs.State.{Part, has_notice}
+use Rattle.custody_machine.specs.State.{has_notice}
 use Rattle.custody_machine.specs.Names.{is_same_text}
 use Rattle.custody_machine.specs.Machine.{TypeDiffers, PartOutOfOrder}
 use Rattle.custody_machine.proofs.Keeping.{part_refusals}

@@ -1,8 +1,7 @@
 -- The plain program's answers are the machine's rulings.
-use Rattle.std.proofs.Common.{◌≡◌, ℕ, List, [], ◌∷◌, ◌++◌, length, Option, Some, None, Bool, true, false, ◌&&◌, map, refl, sym, ◌∙◌, ap, subst, find, is_none, Result, Ok, Err}
+use Rattle.std.proofs.Common.{◌≡◌, ℕ, List, [], ◌∷◌, ◌++◌, length, Option, Some, None, true, false, ◌&&◌, map, refl, sym, ◌∙◌, ap, subst, find, is_none, Ok}
 use Rattle.std.specs.List.{list_any}
-use Rattle.std.specs.FinMap as fin
-use Rattle.std.specs.FinMap.{FinMap, IsAntisymmetric, get, insert, from_entries, get-from_entries, from_entries_push}
+use Rattle.std.specs.FinMap.{IsAntisymmetric, get, insert, from_entries, get-from_entries, from_entries_push}
 use Rattle.std.specs.Cmp.{IsTotalOrder}
 use Rattle.std.specs.declared.cmp.Ordering.{Ordering}
 use Rattle.std.proofs.lemmas.Map.Lookups.{exact_bytes}
@@ -19,8 +18,8 @@ use Rattle.custody_machine.specs.declared.plain.PlainRecord.TheVariants as entry
 use Rattle.custody_machine.specs.Names.{read_name}
 use Rattle.custody_machine.specs.Plain.{registry_entry, part_entry, part_shown, IsRuling}
 use Rattle.custody_machine.specs.Retries.{content_len}
-use Rattle.custody_machine.specs.State.{State, Part, Held, places}
-use Rattle.custody_machine.specs.Machine.{Register, Receive, Refusal, NameRefused, refusals, OfRegistry, OfPart, Ruling, Refuse, Accept, first_day_of, part_at, part_in, recorded, has_other_kind, holds_other, is_dropped, receive_stands, named_stands, refusal_of, step, with_registry, with_part, received_part}
+use Rattle.custody_machine.specs.State.{State, Part, places}
+use Rattle.custody_machine.specs.Machine.{Register, Receive, Refusal, NameRefused, refusals, OfRegistry, OfPart, Ruling, Accept, first_day_of, part_at, part_in, recorded, has_other_kind, holds_other, is_dropped, receive_stands, named_stands, refusal_of, step, with_registry, with_part, received_part}
 use Rattle.custody_machine.proofs.NameReading.{is_reading}
 use Rattle.custody_machine.proofs.Orders.{text_total, part_total, part_exact}
 use Rattle.custody_machine.proofs.SameValues.{kind_decides}

@@ -1,15 +1,14 @@
 -- What is kept with its bytes was received so.
-use Rattle.std.proofs.Common.{◌≡◌, ℕ, List, [], ◌∷◌, ◌++◌, Option, Some, None, Bool, true, false, ◌⊎◌, inl, inr, refl, sym, ◌∙◌, ap, subst, cond, Ok}
+use Rattle.std.proofs.Common.{◌≡◌, ℕ, List, [], ◌∷◌, Option, Some, None, Bool, true, false, ◌⊎◌, inl, inr, refl, sym, ◌∙◌, ap, cond, Ok}
 use Rattle.std.specs.Ordering.{eq_by_cmp}
 use Rattle.std.specs.Cmp.{Equal-is}
 use Rattle.std.specs.FinMap.{get, get-insert}
-use Rattle.deposit_name.specs.declared.kinds.Kind.{Kind}
 use Rattle.deposit_name.specs.Name.{Name}
 use Rattle.custody_records.specs.Keys.{PartKey, part_cmp}
 use Rattle.custody_records.specs.Records.{key_of}
 use Rattle.custody_machine.specs.Names.{read_name}
 use Rattle.custody_machine.specs.State.{State, Part, Held}
-use Rattle.custody_machine.specs.Machine.{Command, Register, Receive, Entry, Ruling, Refuse, Accept, Reply, step, state_of, state_after, after, recorded, received_part, with_part, first_day_of}
+use Rattle.custody_machine.specs.Machine.{Command, Register, Receive, Entry, Ruling, Refuse, Accept, Reply, step, state_of, state_after, recorded, received_part, with_part, first_day_of}
 use Rattle.custody_machine.specs.History.{WasReceived, HeldAsReceived}
 use Rattle.custody_machine.proofs.Orders.{part_total, part_exact}
 use Rattle.custody_machine.proofs.Keeping.{Receives, receives, answered, registered, step_accepts, accept_inj}

@@ -1,11 +1,11 @@
 -- The laws of commands that come again. They rest on four facts of the machine, `step_keeps`, `accepted_is_kept`, `same_key_is_kept` and `asked_again`.
-use Rattle.std.proofs.Common.{◌≡◌, ℕ, List, [], ◌∷◌, ◌++◌, Option, Some, None, Bool, true, false, ◌||◌, ◌⊎◌, inl, inr, refl, sym, ◌∙◌, ap, subst, cond, if◌then◌else◌, append_assoc}
+use Rattle.std.proofs.Common.{◌≡◌, ℕ, List, [], ◌∷◌, ◌++◌, Option, Some, None, Bool, true, false, ◌||◌, inl, inr, refl, sym, ◌∙◌, ap, subst, cond, if◌then◌else◌, append_assoc}
 use Rattle.std.specs.List.{list_any}
 use Rattle.custody_machine.specs.State.{State}
-use Rattle.custody_machine.specs.Machine.{Register, Receive, Command, Entry, Record, Reply, Ruling, Refuse, Accept, step, state_of, state_after, after, reads, Answer, Accepted, Refused, Failed, Fault, NoMemory, VolumeFailed, StoreFailed, Closed, Damaged, Answers, MayRefuse, MayFail, DroppedAfterKeeping}
+use Rattle.custody_machine.specs.Machine.{Register, Receive, Command, Entry, Record, Reply, Ruling, Refuse, Accept, step, state_of, state_after, after, reads, Answer, Accepted, Refused, Failed, NoMemory, VolumeFailed, StoreFailed, Closed, Damaged, Answers, MayRefuse, MayFail}
 use Rattle.custody_machine.specs.SameValues.{is_same_state}
-use Rattle.custody_machine.specs.History.{Pair, OpenAnswer, Opened, Event, Answered, ShutDown, StoppedAtRest, StoppedWithin, OpenedWith, Condition, Running, Halted, Resting, Happens, Run, Found, leads_to, settled, or_else, found_then, found_after, found, none_found, OpensAs, OpensSoundly}
-use Rattle.custody_machine.specs.Retries.{has_same_key, once_after, ActsOnce, AsksAgain, record_of, first_record, IsDroppedSince, IsAnsweredAgain, RepeatsAreAnswered, IsOfCommand, StillHas, AcknowledgedIsKept}
+use Rattle.custody_machine.specs.History.{Pair, Opened, Event, Answered, ShutDown, StoppedAtRest, StoppedWithin, OpenedWith, Condition, Running, Halted, Resting, Happens, Run, Found, leads_to, settled, or_else, found_then, found_after, found, none_found}
+use Rattle.custody_machine.specs.Retries.{has_same_key, once_after, ActsOnce, AsksAgain, record_of, first_record, IsAnsweredAgain, RepeatsAreAnswered, IsOfCommand, StillHas, AcknowledgedIsKept}
 use Rattle.custody_machine.proofs.SameValues.{text_decides}
 use Rattle.custody_machine.proofs.Histories.{after-append, Fits, fits_then, fits_after, fits_first, run_split, found_after-append, all_more, openings_are_right}
 use Rattle.custody_machine.proofs.Keeping.{Keeps, keeps_on, step_keeps, accepted_is_kept, same_key_is_kept, asked_again, Again, kept_is_there}

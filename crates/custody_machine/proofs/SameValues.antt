@@ -1,14 +1,11 @@
 -- The tests of sameness decide whether two values are equal.
-use Rattle.std.proofs.Common.{◌≡◌, ℕ, List, Bool, true, false, ◌&&◌, refl, sym, ◌∙◌, ap, nat_eq, ◌==◌, Some, Option}
+use Rattle.std.proofs.Common.{◌≡◌, ℕ, List, Bool, refl, sym, ◌∙◌, ap, nat_eq, ◌==◌, Some, Option}
 use Rattle.std.specs.Bool.{Decides}
-use Rattle.std.specs.Cmp.Lexicographic.{pointwise, pointwise_decides, bytes_decides}
+use Rattle.std.specs.Cmp.Lexicographic.{pointwise_decides, bytes_decides}
 use Rattle.std.specs.FinMap.{FinMap, entries, same_entries_map}
 use Rattle.std.specs.declared.cmp.Ordering.{Ordering}
 use Rattle.std.proofs.lemmas.Bool.Decides.{Decides-eqb, Decides-like, Decides-and}
 use Rattle.deposit_name.specs.declared.kinds.Kind.{Kind}
-use Rattle.deposit_name.specs.declared.faults.NameError.{NameError}
-use Rattle.deposit_name.specs.declared.faults.NameError.TheVariants.{Suffix, Pieces, Tld, Date, Kind as KindFault, Part as PartFault, Revision}
-use Rattle.deposit_name.specs.FaultText.{fault_text}
 use Rattle.deposit_name.specs.Name.{kind_text}
 use Rattle.desk.specs.Checks.{check_number}
 use Rattle.desk.specs.Grounds.{ground_text}
@@ -23,7 +20,7 @@ use Rattle.custody_records.specs.Records.{Notice, Release}
 use Rattle.custody_records.specs.Form.{kind_in, check_in, ground_in}
 use Rattle.custody_machine.specs.Names.{is_same_text}
 use Rattle.custody_machine.specs.State.{State, Part, Content, Held, Dropped}
-use Rattle.custody_machine.specs.SameValues.{is_same_kind, is_same_fault, is_same_key, is_same_notice_key, is_same_content, is_same_part, is_same_notice_kind, is_same_notice, is_same_release, is_same_map, is_same_state}
+use Rattle.custody_machine.specs.SameValues.{is_same_kind, is_same_key, is_same_notice_key, is_same_content, is_same_part, is_same_notice_kind, is_same_notice, is_same_release, is_same_map, is_same_state}
 use Rattle.custody_machine.proofs.NameReading.{kind_in-text}
 
 pub text_decides : (a b : List ℕ) → Decides (is_same_text a b) (a ≡ b)

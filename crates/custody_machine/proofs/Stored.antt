@@ -1,30 +1,26 @@
 -- What rows and image stand for, and how it changes with them.
-use Rattle.std.proofs.Common.{◌≡◌, ◌⊎◌, inl, inr, ℕ, suc, ◌+◌, ◌-◌, ◌*◌, ◌<◌, ◌≤◌, List, [], ◌∷◌, ◌++◌, length, Option, Some, None, Bool, true, false, ◌||◌, ◌&&◌, cond, refl, sym, ◌∙◌, ap, subst, is_some, arith, Ok, Err, Result}
-use Rattle.std.specs.Prelude.{option_map, All}
+use Rattle.std.proofs.Common.{◌≡◌, inl, inr, ℕ, suc, ◌-◌, ◌<◌, List, [], ◌∷◌, Option, Some, None, Bool, true, false, ◌&&◌, cond, refl, sym, ◌∙◌, ap, subst, is_some, arith, Ok, Err, Result}
+use Rattle.std.specs.Prelude.{option_map}
 use Rattle.std.specs.List.{list_all}
 use Rattle.std.specs.Ordering.{eq_by_cmp}
 use Rattle.std.specs.Cmp.{Equal-is}
 use Rattle.std.specs.FinMap.{FinMap, get, insert, get-insert, same_map}
-use Rattle.std.proofs.lemmas.List.{length-take-le}
 use Rattle.sha2.specs.Sha256.{sha256}
 use Rattle.deposit_name.specs.declared.kinds.Kind.{Kind}
 use Rattle.deposit_name.specs.declared.faults.NameError.{NameError}
 use Rattle.deposit_name.specs.Name.{Name}
 use Rattle.vault_volume.specs.declared.extent.Extent.{Extent}
-use Rattle.vault_volume.specs.Image.{bytes_at, DiffersOnlyIn}
-use Rattle.vault_volume.specs.Extents.{IsExtentOf, AreApart, IsIn, IsInAny, block_count, blocks_of, bytes_of, part_bytes}
-use Rattle.vault_volume.specs.Head.{head_of}
+use Rattle.vault_volume.specs.Image.{DiffersOnlyIn}
+use Rattle.vault_volume.specs.Extents.{AreApart, IsInAny, part_bytes}
 use Rattle.vault_volume.proofs.ImageLemmas.{bytes_at-same, part_bytes-same}
-use Rattle.custody_records.specs.Keys.{PartKey, part_cmp, text_cmp, NoticeKey, notice_cmp}
+use Rattle.custody_records.specs.Keys.{PartKey, part_cmp, text_cmp}
 use Rattle.custody_records.specs.Records.{PartRecord, Notice, Release, Records, key_of}
 use Rattle.custody_records.specs.Records as recorded
 use Rattle.custody_records.specs.Rows.{Rows}
-use Rattle.custody_records.specs.Form.{form_of, InForm}
 use Rattle.custody_machine.specs.Names.{is_same_text, read_name}
-use Rattle.custody_machine.specs.SameValues.{is_same_kind}
 use Rattle.custody_machine.specs.State.{State, Held, at_place, has_notice}
 use Rattle.custody_machine.specs.Machine.{is_failure_of, with_part}
-use Rattle.custody_machine.specs.Stored.{ForExtents, AreNaming, IsNamed, AreExtents, AreInRange, AreOnce, is_part_of, names_part, AreLinked, AreWhole, IsVolumeOf, IsGood, content_of, part_of, state_in, Stands, HasDigestAt, HasDigests, IsSound, IsKeptRecord, KeepsParts, OpensFrom}
+use Rattle.custody_machine.specs.Stored.{ForExtents, AreNaming, IsNamed, AreExtents, is_part_of, names_part, IsGood, content_of, part_of, state_in, Stands, HasDigestAt, HasDigests, IsSound, IsKeptRecord, KeepsParts, OpensFrom}
 use Rattle.custody_machine.proofs.MapValues.{get-map_values, map_values-insert}
 use Rattle.custody_machine.proofs.Orders.{text_total, part_total, part_exact}
 use Rattle.custody_machine.proofs.Keeping.{insert_new}

@@ -1,5 +1,5 @@
 -- What holds of an open custody, and what its calls do. The volume's and the database's words come as sets: the blocks that are free, and the images and rows that a stop may leave.
-use Rattle.std.specs.Prelude.{◌≡◌, ◌≢◌, ◌⊎◌, ℕ, ◌+◌, ◌-◌, ◌<◌, ◌≤◌, ◌^◌, All, List, [], ◌∷◌, length, Option, Some, None, Bool, true, false, Result, MatchResult, Ok}
+use Rattle.std.specs.Prelude.{◌≡◌, ◌≢◌, ◌⊎◌, ℕ, ◌-◌, ◌<◌, ◌≤◌, ◌^◌, All, List, length, Some, None, Bool, true, false, Result, MatchResult, Ok}
 use Rattle.std.specs.FinMap.{get}
 use Rattle.sha2.specs.Sha256.{sha256}
 use Rattle.deposit_name.specs.Name.{Name}
@@ -13,7 +13,7 @@ use Rattle.custody_records.specs.Rows.{Rows}
 use Rattle.custody_records.specs.Form.{form_of, InForm}
 use Rattle.custody_machine.specs.declared.damage.Damage.TheVariants.{NoRecord}
 use Rattle.custody_machine.specs.Names.{read_name}
-use Rattle.custody_machine.specs.State.{State, empty}
+use Rattle.custody_machine.specs.State.{empty}
 use Rattle.custody_machine.specs.Machine.{Command, Register, Receive, OfPart, Refuse, Accept, Refusal, OtherBytes, VolumeFull, Answer, step, received_part, with_part}
 use Rattle.custody_machine.specs.History.{Answered}
 use Rattle.custody_machine.specs.Stored.{IsNamed, AreWhole, IsVolumeOf, part_of, state_in}

@@ -1,5 +1,5 @@
 -- What may happen to a database and a volume: the moves of a custody over records and images, which the contracts of the calls and the laws both cite.
-use Rattle.std.specs.Prelude.{◌≡◌, ◌⊎◌, ℕ, List, [], ◌∷◌, ◌++◌, Option, Some, None, Bool, true, false, if◌then◌else◌, MatchOption, Contains}
+use Rattle.std.specs.Prelude.{◌≡◌, ◌⊎◌, ℕ, List, [], ◌∷◌, ◌++◌, Option, Some, None, true, if◌then◌else◌, MatchOption, Contains}
 use Rattle.std.specs.FinMap.{get}
 use Rattle.vault_volume.specs.declared.extent.Extent.{Extent}
 use Rattle.vault_volume.specs.Extents.{part_bytes}
@@ -8,8 +8,8 @@ use Rattle.custody_records.specs.Records.{PartRecord, Records}
 use Rattle.custody_records.specs.Rows.{Rows}
 use Rattle.custody_records.specs.Form.{form_of, InForm}
 use Rattle.custody_machine.specs.State.{State}
-use Rattle.custody_machine.specs.Machine.{Command, Entry, after, reads, Answer, Accepted, Refused, Failed, Fault, NoMemory, VolumeFailed, StoreFailed, Closed, Damaged, Damage, Answers}
-use Rattle.custody_machine.specs.History.{IsFoundWithin, MayFind, doubt_of, is_open_after, Pair, OpenAnswer, Opened, NotOpened, Event, Answered, ShutDown, StoppedAtRest, StoppedWithin, OpenedWith, IsHistory, found, WasReceived}
+use Rattle.custody_machine.specs.Machine.{Command, Entry, after, reads, Answer, Accepted, Refused, Failed, Fault, NoMemory, VolumeFailed, StoreFailed, Closed, Damaged, Answers}
+use Rattle.custody_machine.specs.History.{IsFoundWithin, MayFind, doubt_of, is_open_after, Pair, Opened, NotOpened, Event, Answered, ShutDown, StoppedAtRest, StoppedWithin, OpenedWith, IsHistory, found, WasReceived}
 use Rattle.custody_machine.specs.Stored.{IsGood, part_of, state_in, Stands, HasDigestAt, HasDigests, IsSound, KeepsParts, OpensFrom}
 use Rattle.custody_machine.specs.Damage.{IsDamaged}
 

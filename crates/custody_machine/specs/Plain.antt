@@ -1,5 +1,5 @@
 -- The state that a plain program shows.
-use Rattle.std.specs.Prelude.{◌≡◌, ℕ, List, map, Bool, ◌&&◌, ◌==◌}
+use Rattle.std.specs.Prelude.{◌≡◌, ℕ, List, map, Bool}
 use Rattle.std.specs.FinMap.{from_entries, empty}
 use Rattle.custody_records.specs.Keys.{PartKey}
 use Rattle.custody_records.specs.Records.{key_of}
@@ -16,7 +16,7 @@ use Rattle.custody_machine.specs.declared.plain.PlainAnswer.{PlainAnswer}
 use Rattle.custody_machine.specs.declared.plain.PlainAnswer.TheVariants as answer
 use Rattle.custody_machine.specs.Names.{is_same_text}
 use Rattle.custody_machine.specs.SameValues.{is_same_key}
-use Rattle.custody_machine.specs.State.{State, Part, Content, Held, Dropped, at_place}
+use Rattle.custody_machine.specs.State.{State, Part, Content, Held, Dropped}
 use Rattle.custody_machine.specs.Machine.{Command, Register, Receive, Record, OfRegistry, OfPart, Reply, Ruling, Refuse, Accept}
 use Rattle.custody_machine.specs.Retries.{content_len}
 

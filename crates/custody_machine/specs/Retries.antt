@@ -8,7 +8,7 @@ use Rattle.custody_records.specs.Records.{Notice, Release, key_of}
 use Rattle.custody_machine.specs.Names.{is_same_text, read_name}
 use Rattle.custody_machine.specs.State.{State, Part, Content, Held, Dropped}
 use Rattle.custody_machine.specs.Machine.{Command, Register, Receive, DroppedAfterKeeping, Record, OfRegistry, OfPart, Reply, Ruling, Refuse, Accept, Entry, step, state_after, after, recorded, is_dropped, Answer, Accepted, Refused, Failed, NoMemory, VolumeFailed, StoreFailed, Closed, Damaged, HasRecord}
-use Rattle.custody_machine.specs.History.{Event, Answered, OpenedWith, Pair, OpenAnswer, Opened, IsHistory, found}
+use Rattle.custody_machine.specs.History.{Event, Answered, OpenedWith, Pair, Opened, IsHistory, found}
 
 -- Two commands have one key: of a registration its registry, of a part its name.
 abbrev pub has_same_key : Command → Command → Bool

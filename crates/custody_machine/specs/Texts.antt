@@ -1,6 +1,5 @@
 -- What is printed of refusals, failures and damage.
-use Rattle.std.specs.Prelude.{ℕ, List, ◌++◌, codes}
-use Rattle.deposit_name.specs.FaultText.{fault_text}
+use Rattle.std.specs.Prelude.{ℕ, List, codes}
 use Rattle.custody_machine.specs.declared.damage.Damage.{Damage}
 use Rattle.custody_machine.specs.declared.damage.Damage.TheVariants.{NoRecord, Head, Volume, Schema, Form, Extent, Overlap, Link, Digest}
 

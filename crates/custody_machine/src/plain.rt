@@ -48,7 +48,7 @@ pub struct PlainState {
 }
 
 /// The record that a command made, or found made.
-#[derive(Clone, Copy)]
+#[derive(Clone, Copy, Debug, PartialEq, Eq)]
 pub enum PlainRecord {
     Registry {
         tld: Tld,
@@ -62,7 +62,7 @@ pub enum PlainRecord {
 }
 
 /// The answer to a command.
-#[derive(Clone, Copy)]
+#[derive(Clone, Copy, Debug, PartialEq, Eq)]
 pub enum PlainAnswer {
     Accepted {
         record: PlainRecord,
