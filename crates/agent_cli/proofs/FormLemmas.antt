@@ -1,6 +1,6 @@
 -- Texts in form show one value.
-use Rattle.std.proofs.Common.{◌≡◌, ℕ, zero, suc, ◌+◌, ◌*◌, ◌/◌, ◌%◌, ◌^◌, ◌<◌, List, take, get_or, refl, sym, ◌∙◌, ap, arith, subst, true, [], ◌∷◌, Option, Some, None}
-use Rattle.std.specs.Prelude.{Result, Ok, Err, nat_lt}
+use Rattle.std.proofs.Common.{◌≡◌, ℕ, zero, suc, ◌/◌, ◌%◌, ◌^◌, ◌<◌, List, refl, sym, ◌∙◌, ap, arith, subst, true, [], ◌∷◌, Option, Some, None}
+use Rattle.std.specs.Prelude.{Result, Ok, nat_lt}
 use Rattle.std.specs.Str.{IsAscii}
 use Rattle.std.specs.List.{list_all}
 use Rattle.std.proofs.lemmas.Bool.{and_parts}
@@ -10,9 +10,6 @@ use Rattle.hex.specs.Hex.{IsBytes, decode_sized, lower_digits}
 use Rattle.hex.specs.declared.error.FromHexError.{FromHexError}
 use Rattle.hex.proofs.HexLemmas.{IsAscii-encode_with, decode_sized-encode_lower}
 use Rattle.clap.specs.Words.{Text}
-use Rattle.schedule.specs.Schedule.{IsDay, IsMoment, day_of}
-use Rattle.schedule.specs.Text.{digit, day_text, moment_text}
-use Rattle.schedule.proofs.TextLemmas.{day_text-injective}
 use Rattle.agent_cli.specs.Forms.{ShowsIfGiven, ShowsMoment, number_text}
 
 -- the remainder is a byte

@@ -1,5 +1,5 @@
 -- Words ask for one thing at most.
-use Rattle.std.proofs.Common.{◌≡◌, ℕ, List, [], refl, sym, subst, ◌∙◌, Bool, true, false, Option, Some, None, inl, inr, codes}
+use Rattle.std.proofs.Common.{◌≡◌, List, sym, subst, ◌∙◌, Bool, true, false, Option, Some, None, inl, inr, codes}
 use Rattle.std.specs.Prelude.{MatchBool}
 use Rattle.std.specs.Str.{bytes_eq}
 use Rattle.clap.specs.Words.{Row, Text, fault_of, subcommand_of}

@@ -1,5 +1,5 @@
 -- The last part of a path.
-use Rattle.std.proofs.Common.{◌≡◌, ◌≢◌, ◌==◌, ℕ, ◌+◌, ◌-◌, ◌<◌, ◌≤◌, Bool, true, not, List, length, take, drop, slice_index_or, ap, ◌∙◌, arith, inl, inr, subst}
+use Rattle.std.proofs.Common.{◌≡◌, ◌≢◌, ◌==◌, ℕ, ◌-◌, ◌<◌, ◌≤◌, Bool, true, not, List, length, take, drop, slice_index_or, ap, ◌∙◌, arith, inl, inr, subst}
 use Rattle.std.specs.List.{after_last, suffix_len}
 use Rattle.std.proofs.lemmas.List.Sums.{suffix_len_is}
 use Rattle.std.proofs.lemmas.Bool.{cases_lt, ne_eqb}

@@ -1,11 +1,10 @@
 -- What the matches of a parse give, and where a parse that passes has met a subcommand.
-use Rattle.std.proofs.Common.{◌∙◌, ◌≡◌, ◌≤◌, ◌<◌, ◌^◌, ap, arith, refl, sym, subst, inl, inr, List, ℕ, [], ◌∷◌, Bool, true, false, Option, Some, None, Result, Ok, Err, option_map, unwrap_or, is_some, not, IfSome, codes, cond, find, length}
+use Rattle.std.proofs.Common.{◌∙◌, ◌≡◌, arith, refl, sym, inl, inr, List, ℕ, [], ◌∷◌, Bool, true, false, Option, Some, None, Result, Ok, Err, option_map, unwrap_or, is_some, not, IfSome, cond, find, length}
 use Rattle.std.specs.Prelude.{◌&&◌}
 use Rattle.std.specs.Borrow.{Bor}
 use Rattle.std.specs.List.{list_all, list_any}
-use Rattle.std.specs.Option.{option_map_or}
-use Rattle.std.specs.Str.Parse.{ParsesUnsigned, digits_value, without_leading_plus}
-use Rattle.clap.specs.Words.{App, Row, Shape, Text, first_of, kind_of, subcommand_of, fault_of, built, HasKind, IsAmong, Kinds}
+use Rattle.std.specs.Str.Parse.{ParsesUnsigned}
+use Rattle.clap.specs.Words.{Row, Shape, Text, kind_of, subcommand_of, fault_of, built, HasKind, IsAmong, Kinds}
 use Rattle.clap.specs.Walk.{Held, Names, answers_to, finished, is_empty, nothing_held, settled, stop_after, walk, walk_from}
 use Rattle.clap.specs.Simple.{argument_words, entered, label_of, names_of, rows_at}
 use Rattle.clap.specs.Kinds.{check_kinds, or_else}

@@ -1,4 +1,3 @@
-use Rattle.std.proofs.Common.{length}
 use Rattle.agent_cli.proofs.PathLemmas.{HasNoSlashFrom}
 use Rattle.agent_cli.proofs.paths.last_part.Given as goal
 

@@ -1,5 +1,5 @@
 use Rattle.std.proofs.Common.{◌∙◌, ◌≡◌, refl, subst, sym, codes, Some, None, Option, List, ℕ}
-use Rattle.clap.specs.Words.{first_of, found_of, rows_of}
+use Rattle.clap.specs.Words.{found_of}
 use Rattle.clap.proofs.WalkLemmas.{first_value-rows}
 use Rattle.agent_cli.specs.Forms.{ShowsIfGiven, ShowsMoment}
 use Rattle.agent_cli.proofs.FormLemmas.{not_given}

@@ -1,4 +1,4 @@
-use Rattle.std.proofs.Common.{◌∙◌, ◌≡◌, ap, unwrap_or, [], codes}
+use Rattle.std.proofs.Common.{◌∙◌, ap, unwrap_or, []}
 use Rattle.clap.specs.Words.{found_of}
 use Rattle.clap.proofs.WalkLemmas.{first_value-rows}
 use Rattle.agent_cli.proofs.Readings.{shown_or}
