@@ -15,7 +15,7 @@ use Rattle.custody_machine.specs.declared.plain.PlainAnswer.TheVariants as answe
 use Rattle.custody_machine.specs.Names.{is_same_text}
 use Rattle.custody_machine.specs.SameValues.{is_same_key}
 use Rattle.custody_machine.specs.State.{State, Part, Content, Held, Dropped}
-use Rattle.custody_machine.specs.Machine.{Command, Register, Receive, Record, OfRegistry, OfPart, Reply, Ruling, Refuse, Accept}
+use Rattle.custody_machine.specs.Machine.{Command, Register, Receive, OfRegistry, OfPart, Ruling, Refuse, Accept}
 use Rattle.custody_machine.specs.Retries.{content_len}
 
 -- the command of a value in memory

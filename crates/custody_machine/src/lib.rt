@@ -14,6 +14,4 @@ pub use answers::{Fault, Refusal};
 pub use command::Command;
 pub use damage::Damage;
 pub use laws::{law_damage, law_histories, law_read_name, law_retries};
-pub use plain::{
-    PlainAnswer, PlainContent, PlainPart, PlainRegistry, PlainState, step_plain,
-};
+pub use plain::{PlainAnswer, PlainContent, PlainPart, PlainRegistry, PlainState, step_plain};

@@ -6,7 +6,9 @@ use std::alloc::Global;
 use std::test::Fail;
 
 const NAME: &[u8] = b"example_2026-08-02_full_S1_R0.ryde";
+
 const AT_TEN: &[u8] = b"2026-08-02T10:00:00Z";
+
 const AT_ELEVEN: &[u8] = b"2026-08-02T11:00:00Z";
 
 fn ask(
@@ -43,12 +45,7 @@ fn registered(alloc: Global) -> Result<PlainState, Fail> {
     Ok(state)
 }
 
-fn received(
-    name: &[u8],
-    moment: &[u8],
-    len: usize,
-    is_repeat: bool,
-) -> Result<PlainAnswer, Fail> {
+fn received(name: &[u8], moment: &[u8], len: usize, is_repeat: bool) -> Result<PlainAnswer, Fail> {
     Ok(PlainAnswer::Received {
         name: DepositName::parse(name).ok().ok_or("a name")?,
         received: read_moment(moment).ok_or("a moment")?,
@@ -183,8 +180,14 @@ fn the_parts_of_a_revision_are_of_one_type(rt: HostRuntime) -> Result<(), Fail> 
     let differs = PlainAnswer::Refused(Refusal::TypeDiffers);
     let same_place = b"example_2026-08-02_diff_S1_R0.ryde";
     let next_place = b"example_2026-08-02_diff_S2_R0.ryde";
-    assert_eq!(rt; put(rt.alloc(), &mut state, same_place, b"hello", AT_TEN)?, differs);
-    assert_eq!(rt; put(rt.alloc(), &mut state, next_place, b"hello", AT_TEN)?, differs);
+    assert_eq!(rt;
+        put(rt.alloc(), &mut state, same_place, b"hello", AT_TEN)?,
+        differs
+    );
+    assert_eq!(rt;
+        put(rt.alloc(), &mut state, next_place, b"hello", AT_TEN)?,
+        differs
+    );
     let second = b"example_2026-08-02_full_S2_R0.ryde";
     let taken = put(rt.alloc(), &mut state, second, b"world", AT_ELEVEN)?;
     assert_eq!(rt; taken, received(second, AT_ELEVEN, 5, false)?);
