@@ -16,3 +16,4 @@ pub mod Composed
 pub mod Compared
 pub mod PlainMaps
 pub mod PlainSteps
+pub mod Examples

@@ -14,7 +14,6 @@ use Rattle.custody_machine.specs.declared.plain.PlainRegistry.{PlainRegistry}
 use Rattle.custody_machine.specs.declared.plain.PlainPart.{PlainPart}
 use Rattle.custody_machine.specs.declared.plain.PlainAnswer.{PlainAnswer}
 use Rattle.custody_machine.specs.declared.plain.PlainAnswer.TheVariants as answer
-use Rattle.custody_machine.specs.declared.plain.PlainRecord.TheVariants as entry
 use Rattle.custody_machine.specs.Names.{read_name}
 use Rattle.custody_machine.specs.Plain.{registry_entry, part_entry, part_shown, IsRuling}
 use Rattle.custody_machine.specs.Retries.{content_len}
@@ -47,11 +46,11 @@ as_answered a b old new r e h = subst (λ c. IsRuling c old new r) (sym e) h
 
 -- ---- registrations
 
-pub registers_again : (s : State) (tld : List ℕ) (day now first : ℕ) → first_day_of s tld ≡ Some first → IsRuling (answer.Accepted (entry.Registry tld first) true) s s (step s (Register tld day) now)
-registers_again s tld day now first e = (record { entry = OfRegistry tld first; is_repeat = true }, register_repeats s tld day now first e, (refl, refl), refl)
+pub registers_again : (s : State) (tld : List ℕ) (day now first : ℕ) → first_day_of s tld ≡ Some first → IsRuling (answer.Registered tld first true) s s (step s (Register tld day) now)
+registers_again s tld day now first e = register_repeats s tld day now first e
 
-pub registers : (s new : State) (tld : List ℕ) (day now : ℕ) → first_day_of s tld ≡ None → new ≡ with_registry s tld day → IsRuling (answer.Accepted (entry.Registry tld day) false) s new (step s (Register tld day) now)
-registers s new tld day now e is = (record { entry = OfRegistry tld day; is_repeat = false }, step_none s (Register tld day) now refl ∙ ap (registered s tld day now) e ∙ ap (Accept (record { entry = OfRegistry tld day; is_repeat = false })) (sym is), (refl, refl), refl)
+pub registers : (s new : State) (tld : List ℕ) (day now : ℕ) → first_day_of s tld ≡ None → new ≡ with_registry s tld day → IsRuling (answer.Registered tld day false) s new (step s (Register tld day) now)
+registers s new tld day now e is = step_none s (Register tld day) now refl ∙ ap (registered s tld day now) e ∙ ap (Accept (record { entry = OfRegistry tld day; is_repeat = false })) (sym is)
 
 -- ---- parts
 
@@ -72,17 +71,17 @@ module _ (s : State) (text bytes : List ℕ) (now : ℕ) (name : Name) (named : 
   ruled : find (receive_stands s name bytes now) refusals ≡ None → step s (Receive text bytes) now ≡ answered s name bytes now (recorded s name)
   ruled none = let stand = none_stand s name bytes now none in step_none s (Receive text bytes) now (refusal_is None none) ∙ rules_part s text bytes now name named stand.bytes stand.dropped
 
-  pub repeats : (part : Part) → find (receive_stands s name bytes now) refusals ≡ None → recorded s name ≡ Some part → IsRuling (answer.Accepted (entry.Part name part.received (length bytes)) true) s s (step s (Receive text bytes) now)
+  pub repeats : (part : Part) → find (receive_stands s name bytes now) refusals ≡ None → recorded s name ≡ Some part → IsRuling (answer.Received name part.received (length bytes) true) s s (step s (Receive text bytes) now)
   repeats part none at =
       let stand = none_stand s name bytes now none in
       let content = held_bytes part bytes (ap (holds_other bytes) (sym at) ∙ stand.bytes) (ap is_dropped (sym at) ∙ stand.dropped) in
-      (record { entry = OfPart (key_of name) part; is_repeat = true }, ruled none ∙ ap (answered s name bytes now) at, (refl, (kind_decides part.kind name.kind).0 (recorded_is s name part at).1, refl, sym (ap content_len content)), refl)
+      (part, ruled none ∙ ap (answered s name bytes now) at, (kind_decides part.kind name.kind).0 (recorded_is s name part at).1, refl, ap content_len content)
 
   pub place_is_free : find (receive_stands s name bytes now) refusals ≡ None → recorded s name ≡ None → part_at s (key_of name) ≡ None
   place_is_free none at = let stand = none_stand s name bytes now none in
       place_is_empty s text name named at (ap (λ o. is_none o && list_any (λ place. has_other_kind name.kind (part_in s name place)) places) (sym at) ∙ stand.kind)
 
   pub receives_new : (new : State) → find (receive_stands s name bytes now) refusals ≡ None → recorded s name ≡ None → new ≡ with_part s (key_of name) (received_part name bytes now)
-      → IsRuling (answer.Accepted (entry.Part name now (length bytes)) false) s new (step s (Receive text bytes) now)
+      → IsRuling (answer.Received name now (length bytes) false) s new (step s (Receive text bytes) now)
   receives_new new none at is =
-      (record { entry = OfPart (key_of name) (received_part name bytes now); is_repeat = false }, ruled none ∙ ap (answered s name bytes now) at ∙ ap (Accept (record { entry = OfPart (key_of name) (received_part name bytes now); is_repeat = false })) (sym is), (refl, refl, refl, refl), refl)
+      (received_part name bytes now, ruled none ∙ ap (answered s name bytes now) at ∙ ap (Accept (record { entry = OfPart (key_of name) (received_part name bytes now); is_repeat = false })) (sym is), refl, refl, refl)

@@ -11,3 +11,4 @@ pub mod Damage
 pub mod Moves
 pub mod Custody
 pub mod Plain
+pub mod Examples

@@ -10,14 +10,12 @@ use Rattle.custody_machine.specs.declared.plain.PlainContent.{PlainContent}
 use Rattle.custody_machine.specs.declared.plain.PlainContent.TheVariants as plain
 use Rattle.custody_machine.specs.declared.plain.PlainPart.{PlainPart}
 use Rattle.custody_machine.specs.declared.plain.PlainState.{PlainState}
-use Rattle.custody_machine.specs.declared.plain.PlainRecord.{PlainRecord}
-use Rattle.custody_machine.specs.declared.plain.PlainRecord.TheVariants as entry
 use Rattle.custody_machine.specs.declared.plain.PlainAnswer.{PlainAnswer}
 use Rattle.custody_machine.specs.declared.plain.PlainAnswer.TheVariants as answer
 use Rattle.custody_machine.specs.Names.{is_same_text}
 use Rattle.custody_machine.specs.SameValues.{is_same_key}
 use Rattle.custody_machine.specs.State.{State, Part, Content, Held, Dropped}
-use Rattle.custody_machine.specs.Machine.{Command, Register, Receive, Record, OfRegistry, OfPart, Reply, Ruling, Refuse, Accept}
+use Rattle.custody_machine.specs.Machine.{Command, Register, Receive, OfRegistry, OfPart, Ruling, Refuse, Accept}
 use Rattle.custody_machine.specs.Retries.{content_len}
 
 -- the command of a value in memory
@@ -46,16 +44,11 @@ shown state = record {
   releases = empty;
 }
 
--- a record is shown without its bytes
-abbrev pub IsShown : PlainRecord → Record → Type 0
-IsShown (entry.Registry tld first_day) (OfRegistry other day) = (other ≡ tld) × (first_day ≡ day)
-IsShown (entry.Part name received len) (OfPart key part) = (key ≡ key_of name) × (part.kind ≡ name.kind) × (received ≡ part.received) × (len ≡ content_len part.content)
-IsShown (entry.Registry tld first_day) (OfPart key part) = ⊥
-IsShown (entry.Part name received len) (OfRegistry tld first_day) = ⊥
-
--- the answer and the new state are those of a ruling in the old state
+-- The answer and the new state are those of a ruling in the old state. A part is shown without its bytes.
 abbrev pub IsRuling : PlainAnswer → State → State → Ruling → Type 0
-IsRuling (answer.Accepted made is_repeat) old new ruling = (reply : Reply) × (ruling ≡ Accept reply new) × IsShown made reply.entry × (is_repeat ≡ reply.is_repeat)
+IsRuling (answer.Registered tld first_day is_repeat) old new ruling = ruling ≡ Accept (record { entry = OfRegistry tld first_day; is_repeat = is_repeat }) new
+IsRuling (answer.Received name received len is_repeat) old new ruling =
+    (part : Part) × (ruling ≡ Accept (record { entry = OfPart (key_of name) part; is_repeat = is_repeat }) new) × (part.kind ≡ name.kind) × (part.received ≡ received) × (content_len part.content ≡ len)
 IsRuling (answer.Refused refusal) old new ruling = (ruling ≡ Refuse refusal) × (new ≡ old)
 
 -- ---- what the loops look for

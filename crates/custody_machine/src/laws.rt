@@ -4,6 +4,7 @@ ghost use Rattle.custody_machine.specs.Names.{IsReading};
 ghost use Rattle.custody_machine.specs.Damage.{IsRefinement};
 ghost use Rattle.custody_machine.specs.State.{State};
 ghost use Rattle.custody_machine.specs.History.{OpeningsAreRight, NothingIsTakenBack, AcceptedIsFound, HeldAsReceived};
+ghost use Rattle.custody_machine.specs.Examples.{HistoriesHappen};
 ghost use Rattle.custody_machine.specs.Moves.{MovesAreHistories, PlacesAreRight, NoDamageIsTold, ReadsBackAsReceived, FindsOne, ChainsMove};
 ghost use Rattle.custody_machine.specs.Retries.{ActsOnce, RepeatsAreAnswered, NothingIsRemoved, RepliesAreRecords, AcknowledgedIsKept};
 
@@ -35,6 +36,8 @@ pub fn law_histories()
     ensures acknowledged { (first : State) → AcceptedIsFound first }
     ensures received { (first : State) → HeldAsReceived first }
     ensures kept { (first : State) → AcknowledgedIsKept first }
+    // Of each command that is accepted there are such histories.
+    ensures happen { HistoriesHappen }
 {}
 
 /// A command that comes again, through whatever stops, acts once: it is answered by the record of its

@@ -47,25 +47,18 @@ pub struct PlainState {
     pub parts: Vec<PlainPart>,
 }
 
-/// The record that a command made, or found made.
+/// The answer to a command, with the record that it made, or found made.
 #[derive(Clone, Copy, Debug, PartialEq, Eq)]
-pub enum PlainRecord {
-    Registry {
+pub enum PlainAnswer {
+    Registered {
         tld: Tld,
         first_day: Day,
+        is_repeat: bool,
     },
-    Part {
+    Received {
         name: DepositName,
         received: Sec,
         len: usize,
-    },
-}
-
-/// The answer to a command.
-#[derive(Clone, Copy, Debug, PartialEq, Eq)]
-pub enum PlainAnswer {
-    Accepted {
-        record: PlainRecord,
         is_repeat: bool,
     },
     Refused(Refusal),
@@ -305,10 +298,10 @@ impl PlainState {
         ensures err { OnErr result (shown self.new ≡ shown self.old) }
     {
         match self.first_day(&tld) {
-            Some(kept) => Ok(accepted_registry(tld, kept, true)),
+            Some(kept) => Ok(registered(tld, kept, true)),
             None => {
                 self.registries.push(PlainRegistry { tld, first_day })?;
-                Ok(accepted_registry(tld, first_day, false))
+                Ok(registered(tld, first_day, false))
             }
         }
     }
@@ -342,7 +335,7 @@ impl PlainState {
         match self.refusal_of(name, bytes, now) {
             Some(refusal) => Ok(PlainAnswer::Refused(refusal)),
             None => match self.recorded(name) {
-                Some(part) => Ok(accepted_part(name, part.received, bytes.len(), true)),
+                Some(part) => Ok(received(name, part.received, bytes.len(), true)),
                 None => {
                     let copy = Vec::from_slice(alloc, bytes)?;
                     self.parts.push(PlainPart {
@@ -350,7 +343,7 @@ impl PlainState {
                         received: now,
                         content: PlainContent::Held(copy),
                     })?;
-                    Ok(accepted_part(name, now, bytes.len(), false))
+                    Ok(received(name, now, bytes.len(), false))
                 }
             },
         }
@@ -373,24 +366,23 @@ pub fn step_plain(
     }
 }
 
-fn accepted_registry(tld: Tld, first_day: Day, is_repeat: bool) -> PlainAnswer
-    ensures { result ≡ PlainAnswer.Accepted (PlainRecord.Registry tld first_day) is_repeat }
+fn registered(tld: Tld, first_day: Day, is_repeat: bool) -> PlainAnswer
+    ensures { result ≡ PlainAnswer.Registered tld first_day is_repeat }
 {
-    PlainAnswer::Accepted {
-        record: PlainRecord::Registry { tld, first_day },
+    PlainAnswer::Registered {
+        tld,
+        first_day,
         is_repeat,
     }
 }
 
-fn accepted_part(name: &DepositName, received: Sec, len: usize, is_repeat: bool) -> PlainAnswer
-    ensures { result ≡ PlainAnswer.Accepted (PlainRecord.Part name.now received len) is_repeat }
+fn received(name: &DepositName, received: Sec, len: usize, is_repeat: bool) -> PlainAnswer
+    ensures { result ≡ PlainAnswer.Received name.now received len is_repeat }
 {
-    PlainAnswer::Accepted {
-        record: PlainRecord::Part {
-            name: *name,
-            received,
-            len,
-        },
+    PlainAnswer::Received {
+        name: *name,
+        received,
+        len,
         is_repeat,
     }
 }

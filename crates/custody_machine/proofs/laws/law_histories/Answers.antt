@@ -1,3 +1,4 @@
+use Rattle.custody_machine.proofs.Examples.{histories_happen}
 use Rattle.custody_machine.proofs.Histories.{openings_are_right, nothing_is_taken_back, accepted_is_found}
 use Rattle.custody_machine.proofs.Moves.{moves_are_histories, places_are_right, reads_back, no_damage_is_told, finds_one_thing, chains_move}
 use Rattle.custody_machine.proofs.Received.{held_as_received}
@@ -17,4 +18,5 @@ returns c = record {
   acknowledged = accepted_is_found;
   received = held_as_received;
   kept = acknowledged_is_kept;
+  happen = histories_happen;
 }

@@ -14,7 +14,7 @@ returns-in-Some-clause-step c = λ text named. refuses (shown c.args.self.now) t
 
 pub returns-in-Some-recorded-clause-step : goal.returns-in-Some-recorded-clause-step
 returns-in-Some-recorded-clause-step c = λ text named.
-    subst (λ a. IsRuling a (shown c.args.self.now) (shown c.args.self.now) (step (shown c.args.self.now) (Receive text c.args.bytes.now) c.args.now)) (sym c.accepted_part.ensures)
+    subst (λ a. IsRuling a (shown c.args.self.now) (shown c.args.self.now) (step (shown c.args.self.now) (Receive text c.args.bytes.now) c.args.now)) (sym c.received.ensures)
     (repeats (shown c.args.self.now) text c.args.bytes.now c.args.now c.args.name.now named (part_shown c.in-Some-recorded.part.now) (sym c.refusal_of.ensures ∙ c.in-None.is) (sym c.recorded.ensures ∙ ap (option_map (λ p. part_shown p.now)) c.in-Some-recorded.is))
 
 pub returns-in_ok-push-in-None-recorded-clause-step : goal.returns-in_ok-push-in-None-recorded-clause-step
@@ -25,4 +25,4 @@ returns-in_ok-push-in-None-recorded-clause-step c = λ text named.
     let maps = ap (λ items. from_entries (map part_entry items)) c.in_ok-push-in-None-recorded.ensures.items
     ∙ part_pushed c.args.self.now.parts.items (record { name = c.args.name.now; received = c.args.now; content = Held c.in_ok-copy-in-None-recorded.copy }) free in
     let all = ap (λ m. record (shown c.args.self.now) { parts = m }) maps ∙ ap (λ bytes. with_part (shown c.args.self.now) (key_of c.args.name.now) (record { kind = c.args.name.now.kind; received = c.args.now; content = state.Held bytes })) c.in_ok-copy-in-None-recorded.ensures.items in
-    as_answered _ _ _ _ _ c.accepted_part-in-None-recorded.ensures (receives_new (shown c.args.self.now) text c.args.bytes.now c.args.now c.args.name.now named _ none new all)
+    as_answered _ _ _ _ _ c.received-in-None-recorded.ensures (receives_new (shown c.args.self.now) text c.args.bytes.now c.args.now c.args.name.now named _ none new all)

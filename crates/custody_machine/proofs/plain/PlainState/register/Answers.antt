@@ -7,11 +7,11 @@ use Rattle.custody_machine.proofs.plain.PlainState.register.Goals as goal
 
 pub returns-in-Some-clause-step : goal.returns-in-Some-clause-step
 returns-in-Some-clause-step c = λ now.
-    subst (λ a. IsRuling a (shown c.args.self.now) (shown c.args.self.now) (step (shown c.args.self.now) (Register c.args.tld c.args.first_day) now)) (sym c.accepted_registry.ensures)
+    subst (λ a. IsRuling a (shown c.args.self.now) (shown c.args.self.now) (step (shown c.args.self.now) (Register c.args.tld c.args.first_day) now)) (sym c.registered.ensures)
     (registers_again (shown c.args.self.now) c.args.tld c.args.first_day now c.in-Some.kept (sym c.first_day.ensures ∙ c.in-Some.is))
 
 pub returns-in_ok-push-in-None-clause-step : goal.returns-in_ok-push-in-None-clause-step
 returns-in_ok-push-in-None-clause-step c = λ now.
     let none = sym c.first_day.ensures ∙ c.in-None.is in
     let maps = ap (λ items. from_entries (map registry_entry items)) c.in_ok-push-in-None.ensures.items ∙ registry_pushed c.args.self.now.registries.items (record { tld = c.args.tld; first_day = c.args.first_day }) none in
-    as_answered _ _ _ _ _ c.accepted_registry-in-None.ensures (registers (shown c.args.self.now) _ c.args.tld c.args.first_day now none (ap (λ m. record (shown c.args.self.now) { registries = m }) maps))
+    as_answered _ _ _ _ _ c.registered-in-None.ensures (registers (shown c.args.self.now) _ c.args.tld c.args.first_day now none (ap (λ m. record (shown c.args.self.now) { registries = m }) maps))

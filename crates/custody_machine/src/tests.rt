@@ -1,0 +1,208 @@
+//! Worked examples of the machine, by its plain program.
+use crate::{Command, PlainAnswer, PlainContent, PlainPart, PlainState, Refusal, step_plain};
+use deposit_name::{DepositName, NameError, Tld};
+use schedule::{read_day, read_moment};
+use std::alloc::Global;
+use std::test::Fail;
+
+const NAME: &[u8] = b"example_2026-08-02_full_S1_R0.ryde";
+
+const AT_TEN: &[u8] = b"2026-08-02T10:00:00Z";
+
+const AT_ELEVEN: &[u8] = b"2026-08-02T11:00:00Z";
+
+fn ask(
+    alloc: Global,
+    state: &mut PlainState,
+    command: &Command<'_>,
+    moment: &[u8],
+) -> Result<PlainAnswer, Fail> {
+    let now = read_moment(moment).ok_or("a moment")?;
+    Ok(step_plain(state, alloc, command, now)?)
+}
+
+fn put(
+    alloc: Global,
+    state: &mut PlainState,
+    name: &[u8],
+    bytes: &[u8],
+    moment: &[u8],
+) -> Result<PlainAnswer, Fail> {
+    ask(alloc, state, &Command::Receive(name, bytes), moment)
+}
+
+// The registry `example`, whose deposits begin on 2026-08-02.
+fn registered(alloc: Global) -> Result<PlainState, Fail> {
+    let mut state = PlainState::new(alloc);
+    let tld = Tld::parse(b"example").ok_or("a domain")?;
+    let first_day = read_day(b"2026-08-02").ok_or("a day")?;
+    ask(
+        alloc,
+        &mut state,
+        &Command::Register(tld, first_day),
+        AT_TEN,
+    )?;
+    Ok(state)
+}
+
+fn received(name: &[u8], moment: &[u8], len: usize, is_repeat: bool) -> Result<PlainAnswer, Fail> {
+    Ok(PlainAnswer::Received {
+        name: DepositName::parse(name).ok().ok_or("a name")?,
+        received: read_moment(moment).ok_or("a moment")?,
+        len,
+        is_repeat,
+    })
+}
+
+#[test]
+fn a_part_is_received_once(rt: HostRuntime) -> Result<(), Fail> {
+    let mut state = registered(rt.alloc())?;
+    let first = put(rt.alloc(), &mut state, NAME, b"hello", AT_TEN)?;
+    assert_eq!(rt; first, received(NAME, AT_TEN, 5, false)?);
+    // Again an hour later it is answered by the record of the first time.
+    let again = put(rt.alloc(), &mut state, NAME, b"hello", AT_ELEVEN)?;
+    assert_eq!(rt; again, received(NAME, AT_TEN, 5, true)?);
+    let other = put(rt.alloc(), &mut state, NAME, b"hellp", AT_ELEVEN)?;
+    assert_eq!(rt; other, PlainAnswer::Refused(Refusal::OtherBytes));
+    assert_eq!(rt; state.parts.len(), 1);
+    Ok(())
+}
+
+#[test]
+fn a_registry_keeps_its_first_day(rt: HostRuntime) -> Result<(), Fail> {
+    let mut state = registered(rt.alloc())?;
+    let tld = Tld::parse(b"example").ok_or("a domain")?;
+    let first_day = read_day(b"2026-08-02").ok_or("a day")?;
+    let other_day = read_day(b"2026-08-09").ok_or("a day")?;
+    let again = ask(
+        rt.alloc(),
+        &mut state,
+        &Command::Register(tld, other_day),
+        AT_TEN,
+    )?;
+    let want = PlainAnswer::Registered {
+        tld,
+        first_day,
+        is_repeat: true,
+    };
+    assert_eq!(rt; again, want);
+    Ok(())
+}
+
+#[test]
+fn a_part_has_1_to_1048576_bytes(rt: HostRuntime) -> Result<(), Fail> {
+    let mut state = registered(rt.alloc())?;
+    let bytes = vec![in rt.alloc(); b'a'; 1_048_577]?;
+    let refused = PlainAnswer::Refused(Refusal::Size);
+    assert_eq!(rt; put(rt.alloc(), &mut state, NAME, b"", AT_TEN)?, refused);
+    assert_eq!(rt; put(rt.alloc(), &mut state, NAME, &bytes, AT_TEN)?, refused);
+    let taken = match bytes.as_slice().split_last() {
+        Some((_, fewer)) => put(rt.alloc(), &mut state, NAME, fewer, AT_TEN)?,
+        None => refused,
+    };
+    assert_eq!(rt; taken, received(NAME, AT_TEN, 1_048_576, false)?);
+    Ok(())
+}
+
+#[test]
+fn refuses_by_the_first_that_stands(rt: HostRuntime) -> Result<(), Fail> {
+    let rows: [(&[u8], Refusal); 14] = [
+        (
+            b"example_2026-08-02_full_S1_R01.ryde",
+            Refusal::NameRefused(NameError::Revision),
+        ),
+        (
+            b"example_2026-08-02_full_S0_R0.ryde",
+            Refusal::NameRefused(NameError::Part),
+        ),
+        (
+            b"example_2026-08-02_full_S9_R0.ryde",
+            Refusal::NameRefused(NameError::Part),
+        ),
+        (
+            b"example_2026-02-29_full_S1_R0.ryde",
+            Refusal::NameRefused(NameError::Date),
+        ),
+        (
+            b"-a_2026-08-02_full_S1_R0.ryde",
+            Refusal::NameRefused(NameError::Tld),
+        ),
+        (
+            b"example_2026-08-02_full_S1.ryde",
+            Refusal::NameRefused(NameError::Pieces),
+        ),
+        (
+            b"example_2026-08-02_full_S1_R0",
+            Refusal::NameRefused(NameError::Suffix),
+        ),
+        (
+            b"other_2026-08-02_full_S1_R0.ryde",
+            Refusal::RegistryUnknown,
+        ),
+        (
+            b"example_2026-08-01_full_S1_R0.ryde",
+            Refusal::DateOutOfRange,
+        ),
+        (
+            b"example_2026-08-03_diff_S1_R0.ryde",
+            Refusal::DateOutOfRange,
+        ),
+        (
+            b"example_2026-08-02_full_S1_R1.ryde",
+            Refusal::RevisionNotDue,
+        ),
+        (
+            b"example_2026-08-02_full_S2_R0.ryde",
+            Refusal::PartOutOfOrder,
+        ),
+        (
+            b"example_2026-08-02_full_S8_R0.ryde",
+            Refusal::PartOutOfOrder,
+        ),
+        (
+            b"example_2026-08-02_diff_S2_R0.ryde",
+            Refusal::PartOutOfOrder,
+        ),
+    ];
+    let mut state = registered(rt.alloc())?;
+    for (name, refusal) in rows {
+        let answer = put(rt.alloc(), &mut state, name, b"hello", AT_TEN)?;
+        assert_eq!(rt; answer, PlainAnswer::Refused(refusal));
+    }
+    assert_eq!(rt; state.parts.len(), 0);
+    Ok(())
+}
+
+#[test]
+fn the_parts_of_a_revision_are_of_one_type(rt: HostRuntime) -> Result<(), Fail> {
+    let mut state = registered(rt.alloc())?;
+    put(rt.alloc(), &mut state, NAME, b"hello", AT_TEN)?;
+    let differs = PlainAnswer::Refused(Refusal::TypeDiffers);
+    let same_place = b"example_2026-08-02_diff_S1_R0.ryde";
+    let next_place = b"example_2026-08-02_diff_S2_R0.ryde";
+    assert_eq!(rt;
+        put(rt.alloc(), &mut state, same_place, b"hello", AT_TEN)?,
+        differs
+    );
+    assert_eq!(rt;
+        put(rt.alloc(), &mut state, next_place, b"hello", AT_TEN)?,
+        differs
+    );
+    let second = b"example_2026-08-02_full_S2_R0.ryde";
+    let taken = put(rt.alloc(), &mut state, second, b"world", AT_ELEVEN)?;
+    assert_eq!(rt; taken, received(second, AT_ELEVEN, 5, false)?);
+    Ok(())
+}
+
+#[test]
+fn a_dropped_part_is_not_received_again(rt: HostRuntime) -> Result<(), Fail> {
+    let mut state = registered(rt.alloc())?;
+    state.parts.push(PlainPart {
+        name: DepositName::parse(NAME).ok().ok_or("a name")?,
+        received: read_moment(AT_TEN).ok_or("a moment")?,
+        content: PlainContent::Dropped(5),
+    })?;
+    let again = put(rt.alloc(), &mut state, NAME, b"hello", AT_ELEVEN)?;
+    assert_eq!(rt; again, PlainAnswer::Refused(Refusal::DroppedAfterKeeping));
+    Ok(())
+}
