@@ -1,71 +1,107 @@
-//! Records that are added are read back, from memory and from a file.
+//! Records that are added are read back, from memory and from a file, and rows out of form are damage.
+mod hostile;
+
 use crate::Store;
-use crate::meta::{Meta, find_meta};
-use crate::notices::{add_notice, select_notices};
-use crate::parts::{add_part, select_parts};
-use crate::registries::{add_registry, select_registries};
-use crate::releases::{add_release, select_releases};
-use custody_records::Registry;
+use crate::meta::find_meta;
+use crate::parts::add_part;
+use custody_records::{Meta, Names, NoticeKey, PartKey, Records, Registry, Release};
 use deposit_name::{DepositId, DepositName, Reference, Tld};
-use desk::{Check, Notice, NoticeKind};
+use desk::{Check, Ground, Notice, NoticeKind};
 use schedule::{Day, Sec};
-use sqlite::{Alter, Connection, Row};
+use sqlite::{Alter, Connection};
+use std::alloc::Global;
 use std::fs;
 use std::test::Fail;
 
 const MOMENT: i64 = 1785664800;
+
+const NAME: &[u8] = b"example_2026-08-02_full_S1_R0.ryde";
+
+const META: Meta = Meta {
+    one: 1,
+    schema_no: 1,
+    number: Some(0xab),
+    blocks: 8,
+};
+
+fn registry() -> Result<Registry, Fail> {
+    Ok(Registry {
+        tld: Tld::parse(b"example").ok_or("a tld")?,
+        first_day: Day::new(20667).ok_or("a day")?,
+    })
+}
+
+fn notice(number: u64, kind: NoticeKind) -> Result<Notice, Fail> {
+    Ok(Notice {
+        number,
+        tld: Tld::parse(b"example").ok_or("a tld")?,
+        day: Day::new(20667).ok_or("a day")?,
+        at: Sec::new(MOMENT).ok_or("a moment")?,
+        kind,
+    })
+}
+
+fn release(alloc: Global) -> Result<Release, Fail> {
+    let mut names = Names::new(alloc);
+    names.push(alloc, NAME)?;
+    Ok(Release {
+        reference: Reference::parse(b"REF-1").ok_or("a reference")?,
+        tld: Tld::parse(b"example").ok_or("a tld")?,
+        reason: Ground::Order,
+        at: Sec::new(MOMENT).ok_or("a moment")?,
+        names,
+    })
+}
+
+/// Adds a part of five bytes in block 1.
+fn add_deposit<S: Alter + Drop>(store: Store<S>) -> Result<(Store<S>, bool), Fail> {
+    let name = DepositName::parse(NAME).ok().ok_or("a name")?;
+    let at = Sec::new(MOMENT).ok_or("a moment")?;
+    let blob = [0, 0, 0, 1, 0, 0, 0, 1];
+    let mut db = store.into_inner();
+    let is_added = add_part(&mut db, &name, at, 5, &[7; 32], &blob).is_ok();
+    Ok((Store::over(db), is_added))
+}
+
+/// Adds a notice of each kind and a release, and answers how many were added.
+fn add_told<S: Alter>(store: &mut Store<S>, alloc: Global) -> Result<usize, Fail> {
+    let id = DepositId::parse(b"20260802001").ok_or("an id")?;
+    let failure = NoticeKind::Failure {
+        rev: 1,
+        id,
+        check: Check::Deletes,
+    };
+    let added = [
+        store.insert_notice(&notice(1, NoticeKind::Receipt { rev: 0, id })?),
+        store.insert_notice(&notice(2, failure)?),
+        store.insert_notice(&notice(3, NoticeKind::Absence)?),
+        store.insert_release(alloc, &release(alloc)?),
+    ];
+    Ok(added.iter().filter(|answer| answer.is_ok()).count())
+}
+
+/// Makes the tables and adds one record of each kind.
+fn filled<S: Alter + Drop>(db: Connection<S>, alloc: Global) -> Result<Store<S>, Fail> {
+    let mut store = Store::over(db);
+    let is_made = store.create(0xab, 8).is_ok() & store.insert_registry(&registry()?).is_ok();
+    let (mut store, is_added) = add_deposit(store)?;
+    let count = add_told(&mut store, alloc)?;
+    if is_made & is_added & (count == 4) {
+        Ok(store)
+    } else {
+        Err("not added")?
+    }
+}
 
 fn is_all<S: Alter>(db: &mut Connection<S>, sql: &str) -> Result<bool, Fail> {
     let count: i64 = db.query_row(sql, &[])?.get(0)?;
     Ok(count == 1)
 }
 
-/// Adds one registry and one part.
-fn add_deposit<S: Alter>(db: &mut Connection<S>) -> Result<bool, Fail> {
-    let at = Sec::new(MOMENT).ok_or("a moment")?;
-    let name = DepositName::parse(b"example_2026-08-02_full_S1_R0.ryde");
-    let name = name.ok().ok_or("a name")?;
-    let blob = [0, 0, 0, 1, 0, 0, 0, 1];
-    let registry = Registry {
-        tld: Tld::parse(b"example").ok_or("a tld")?,
-        first_day: Day::new(20667).ok_or("a day")?,
-    };
-    let is_added = add_registry(db, &registry).is_ok();
-    Ok(is_added & add_part(db, &name, at, 5, &[7; 32], &blob).is_ok())
-}
-
-fn add_told<S: Alter>(db: &mut Connection<S>, number: u64, kind: NoticeKind) -> Result<bool, Fail> {
-    let notice = Notice {
-        number,
-        tld: Tld::parse(b"example").ok_or("a tld")?,
-        day: Day::new(20667).ok_or("a day")?,
-        at: Sec::new(MOMENT).ok_or("a moment")?,
-        kind,
-    };
-    Ok(add_notice(db, &notice).is_ok())
-}
-
-/// Adds a notice of each kind and a release.
-fn add_others<S: Alter>(db: &mut Connection<S>) -> Result<bool, Fail> {
-    let id = DepositId::parse(b"20260802001").ok_or("an id")?;
-    let tld = Tld::parse(b"example").ok_or("a tld")?;
-    let at = Sec::new(MOMENT).ok_or("a moment")?;
-    let reference = Reference::parse(b"REF-1").ok_or("a reference")?;
-    let names = b"example_2026-08-02_full_S1_R0.ryde\n";
-    let failure = NoticeKind::Failure {
-        rev: 1,
-        id,
-        check: Check::Deletes,
-    };
-    let is_first = add_told(db, 1, NoticeKind::Receipt { rev: 0, id })?;
-    let is_second = add_told(db, 2, failure)?;
-    let is_third = add_told(db, 3, NoticeKind::Absence)?;
-    let is_added = add_release(db, &reference, &tld, b"order", at, names).is_ok();
-    Ok(is_first & is_second & is_third & is_added)
-}
-
-/// Whether the tables hold what was added, field by field, and nothing else.
+/// Whether the tables hold what was added, field by field.
 fn is_filled<S: Alter>(db: &mut Connection<S>) -> Result<bool, Fail> {
+    let meta =
+        "SELECT count(*) FROM meta WHERE one = 1 AND schema_no = 1 AND number = '00000000000000ab' AND blocks = 8";
     let registry = "SELECT count(*) FROM registry WHERE tld = 'example' AND first_day = 20667";
     let part =
         "SELECT count(*) FROM part WHERE tld = 'example' AND day = 20667 AND rev = 0 AND part = 1 AND kind = 'full' AND received = 1785664800 AND keep_day = 21032 AND len = 5 AND sha = x'0707070707070707070707070707070707070707070707070707070707070707' AND extents = x'0000000100000001'";
@@ -77,73 +113,79 @@ fn is_filled<S: Alter>(db: &mut Connection<S>) -> Result<bool, Fail> {
         "SELECT count(*) FROM notice WHERE number = 3 AND kind = 20 AND rev = 0 AND id = ''";
     let release =
         "SELECT count(*) FROM handover WHERE reference = 'REF-1' AND tld = 'example' AND ground = 'order' AND at = 1785664800 AND length(names) = 35";
-    Ok(
-        is_all(db, registry)?
-            & is_all(db, part)?
-            & is_all(db, first)?
-            & is_all(db, second)?
-            & is_all(db, third)?
-            & is_all(db, release)?,
-    )
+    for sql in [meta, registry, part, first, second, third, release] {
+        if !is_all(db, sql)? {
+            return Ok(false);
+        }
+    }
+    Ok(true)
 }
 
-fn count_of(rows: Option<Vec<Row>>) -> usize {
-    rows.map_or(0, |rows| rows.len())
+/// Whether the records are those that were added.
+fn are_added(records: &Records) -> Result<bool, Fail> {
+    let tld = Tld::parse(b"example").ok_or("a tld")?;
+    let name = DepositName::parse(NAME).ok().ok_or("a name")?;
+    let reference = Reference::parse(b"REF-1").ok_or("a reference")?;
+    let part = records.part(&PartKey::of(&name)).ok_or("a part")?;
+    let extents = part.extents.as_ref().ok_or("extents")?;
+    let told = records.notice(&NoticeKey { tld, number: 2 });
+    let release = records.release(&reference).ok_or("a release")?;
+    let is_volume = (records.number() == 0xab) & (records.blocks() == 8);
+    let is_part = (part.name == name) & (part.len == 5) & (part.digest == [7; 32]);
+    let is_held = extents
+        .iter()
+        .all(|extent| (extent.start, extent.count) == (1, 1));
+    let is_told = told.is_some_and(|told| matches!(told.kind, NoticeKind::Failure { .. }));
+    let is_given = (release.reason == Ground::Order) & (release.names.as_slice().len() == 1);
+    Ok(is_volume & is_part & is_held & is_told & is_given & (extents.len() == 1))
 }
-
-/// How many rows the tables of records have.
-fn counts<S: Alter>(db: &mut Connection<S>) -> [usize; 4] {
-    [
-        count_of(select_registries(db).ok()),
-        count_of(select_parts(db).ok()),
-        count_of(select_notices(db).ok()),
-        count_of(select_releases(db).ok()),
-    ]
-}
-
-const META: Meta = Meta {
-    one: 1,
-    schema_no: 1,
-    number: Some(0xab),
-    blocks: 8,
-};
 
 #[test]
 fn in_memory(rt: HostRuntime) -> Result<(), Fail> {
-    let mut db = Connection::open_in_memory(rt.alloc())?;
+    let alloc = rt.alloc();
+    let mut db = Connection::open_in_memory(alloc)?;
     assert!(rt; find_meta(&mut db).is_ok_and(|found| found.is_none()));
-    assert!(rt; select_registries(&mut db).is_err());
     let mut store = Store::over(db);
-    assert!(rt; store.create(0xab, 8).is_ok());
+    assert!(rt; store.load(alloc).is_err());
+    let mut store = filled(store.into_inner(), alloc)?;
     assert!(rt; store.create(0xab, 8).is_err());
+    assert!(rt; store.insert_registry(&registry()?).is_err());
+    let (mut store, is_added) = add_deposit(store)?;
+    assert!(rt; !is_added);
+    assert_eq!(rt; add_told(&mut store, alloc)?, 0);
+    let records = store.load(alloc).ok().ok_or("records")?;
+    assert!(rt; are_added(&records)?);
     let mut db = store.into_inner();
     assert!(rt; find_meta(&mut db).is_ok_and(|found| found == Some(META)));
-    assert!(rt; !add_others(&mut db)?, "no registry");
-    assert!(rt; add_deposit(&mut db)?);
-    assert!(rt; add_others(&mut db)?);
     assert!(rt; is_filled(&mut db)?);
-    assert!(rt;
-        !add_deposit(&mut db)? & !add_others(&mut db)?,
-        "keys that are there"
-    );
-    assert!(rt; is_filled(&mut db)?);
-    assert_eq!(rt; counts(&mut db), [1, 1, 3, 1]);
+    Ok(())
+}
+
+#[test]
+fn without_a_registry(rt: HostRuntime) -> Result<(), Fail> {
+    let alloc = rt.alloc();
+    let mut store = Store::over(Connection::open_in_memory(alloc)?);
+    assert!(rt; store.create(1, 2).is_ok());
+    let (mut store, is_added) = add_deposit(store)?;
+    assert!(rt; !is_added);
+    assert_eq!(rt; add_told(&mut store, alloc)?, 0);
+    let records = store.load(alloc).ok().ok_or("records")?;
+    assert!(rt; records.parts().is_empty() & records.notices().is_empty());
     Ok(())
 }
 
 #[test]
 fn in_a_file(rt: HostRuntime) -> Result<(), Fail> {
+    let alloc = rt.alloc();
     let _ = fs::remove_dir_all(&rt, "custody_store_test");
     fs::create_dir(&rt, "custody_store_test")?;
+    let store = filled(Connection::open(&rt, "custody_store_test/a.db")?, alloc)?;
+    store.into_inner().close()?;
     let mut store = Store::over(Connection::open(&rt, "custody_store_test/a.db")?);
-    assert!(rt; store.create(0xab, 8).is_ok());
+    let records = store.load(alloc).ok().ok_or("records")?;
+    assert!(rt; are_added(&records)?);
     let mut db = store.into_inner();
-    assert!(rt; add_deposit(&mut db)? & add_others(&mut db)?);
-    db.close()?;
-    let mut db = Connection::open(&rt, "custody_store_test/a.db")?;
-    assert!(rt; find_meta(&mut db).is_ok_and(|found| found == Some(META)));
     assert!(rt; is_filled(&mut db)?);
-    assert_eq!(rt; counts(&mut db), [1, 1, 3, 1]);
     db.close()?;
     fs::remove_dir_all(&rt, "custody_store_test")?;
     Ok(())
