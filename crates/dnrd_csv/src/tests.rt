@@ -2,7 +2,9 @@
 use crate::{Keys, TableError, read_keys, read_table, write_table};
 use deposit_name::TableName;
 use std::alloc::Global;
+use std::fs;
 use std::process::Abort;
+use std::rt::Files;
 use std::test::Fail;
 
 // Reads a text of a table and writes it back.
@@ -125,4 +127,32 @@ fn only_key(keys: &Keys) -> Option<&[u8]> {
     } else {
         None
     }
+}
+
+/// The most memory that the process has held so far, in kB.
+fn most_held(rt: &(impl Files + AllocGlobal)) -> Result<u64, Fail> {
+    let status = fs::read_to_string(rt, "/proc/self/status")?;
+    let line = status
+        .lines()
+        .find(|line| line.starts_with("VmHWM:"))
+        .ok_or("no VmHWM")?;
+    let number = line.split_whitespace().nth(1).ok_or("no number")?;
+    Ok(number.parse::<u64>()?)
+}
+
+#[test]
+fn hostile_tables_take_little_memory(rt: HostRuntime) -> Result<(), Fail> {
+    let alloc = rt.alloc();
+    let length = 8 * 1024 * 1024;
+    let before = most_held(&rt)?;
+    for byte in [b'"', b'\n', b','] {
+        let mut text = Vec::new(alloc);
+        text.resize(length, byte)?;
+        let read = read_table(alloc, TableName::Registrar, &text);
+        let taken = most_held(&rt)?.saturating_sub(before);
+        assert!(rt; read.err() == Some(TableError::NotRows), "{byte}");
+        // The text itself, and 32 times its bytes.
+        assert!(rt; taken <= 33 * 8192, "{byte}: {taken} kB");
+    }
+    Ok(())
 }
