@@ -11,6 +11,7 @@ use Rattle.custody_records.specs.declared.damage.Damage.TheVariants as damage
 use Rattle.custody_records.specs.Records.{PartRecord, Notice, Release, Records}
 use Rattle.custody_records.specs.Rows.{MetaRow, Rows}
 use Rattle.custody_records.specs.Form.{NoVault, OutOfForm, InForm, form_of, form_after, records_in, in_form_or, is_meta, is_number, number_in, natural, is_within, gathered, registry_in, part_in, notice_in, release_in}
+use Rattle.custody_records.proofs.FormLemmas.{in_form_has}
 use Rattle.custody_machine.specs.Damage.{first_of, meta_of, number_text}
 
 -- the number and the blocks of the volume are those of the row of `meta`
@@ -21,31 +22,6 @@ pub record IsRecordsOf (meta : MetaRow) (records : Records) : Type 0 where
 pub records_inj : (r q : Records) → InForm r ≡ InForm q → r ≡ q
 records_inj r q e = cc
 
-number_of : (number blocks : ℕ) (rows : Rows) (records : Records) → records_in number blocks rows ≡ Some records → (number ≡ records.number) × (blocks ≡ records.blocks)
-number_of number blocks rows records e = by_registries (gathered registry_in rows.registries) e
-  where
-    by_releases : (registries : FinMap text_cmp ℕ) (parts : FinMap part_cmp PartRecord) (notices : FinMap notice_cmp Notice) (o : Option (FinMap text_cmp Release))
-        → option_map (λ (releases : FinMap text_cmp Release). record { number = number; blocks = blocks; registries = registries; parts = parts; notices = notices; releases = releases }) o ≡ Some records → (number ≡ records.number) × (blocks ≡ records.blocks)
-    by_releases registries parts notices None e = cc
-    by_releases registries parts notices (Some releases) e =
-        let is : ◌≡◌ {A = Records} (record { number = number; blocks = blocks; registries = registries; parts = parts; notices = notices; releases = releases }) records = cc in
-        (ap (λ (r : Records). r.number) is, ap (λ (r : Records). r.blocks) is)
-
-    by_notices : (registries : FinMap text_cmp ℕ) (parts : FinMap part_cmp PartRecord) (o : Option (FinMap notice_cmp Notice))
-        → option_and_then (λ (notices : FinMap notice_cmp Notice). option_map (λ (releases : FinMap text_cmp Release). record { number = number; blocks = blocks; registries = registries; parts = parts; notices = notices; releases = releases }) (gathered release_in rows.handovers)) o ≡ Some records → (number ≡ records.number) × (blocks ≡ records.blocks)
-    by_notices registries parts None e = cc
-    by_notices registries parts (Some notices) e = by_releases registries parts notices (gathered release_in rows.handovers) e
-
-    by_parts : (registries : FinMap text_cmp ℕ) (o : Option (FinMap part_cmp PartRecord))
-        → option_and_then (λ (parts : FinMap part_cmp PartRecord). option_and_then (λ (notices : FinMap notice_cmp Notice). option_map (λ (releases : FinMap text_cmp Release). record { number = number; blocks = blocks; registries = registries; parts = parts; notices = notices; releases = releases }) (gathered release_in rows.handovers)) (gathered notice_in rows.notices)) o ≡ Some records → (number ≡ records.number) × (blocks ≡ records.blocks)
-    by_parts registries None e = cc
-    by_parts registries (Some parts) e = by_notices registries parts (gathered notice_in rows.notices) e
-
-    by_registries : (o : Option (FinMap text_cmp ℕ))
-        → option_and_then (λ (registries : FinMap text_cmp ℕ). option_and_then (λ (parts : FinMap part_cmp PartRecord). option_and_then (λ (notices : FinMap notice_cmp Notice). option_map (λ (releases : FinMap text_cmp Release). record { number = number; blocks = blocks; registries = registries; parts = parts; notices = notices; releases = releases }) (gathered release_in rows.handovers)) (gathered notice_in rows.notices)) (gathered part_in rows.parts)) o ≡ Some records → (number ≡ records.number) × (blocks ≡ records.blocks)
-    by_registries None e = cc
-    by_registries (Some registries) e = by_parts registries (gathered part_in rows.parts) e
-
 digits_of : (meta : MetaRow) → is_meta meta ≡ true → meta.number ≡ number_text (number_in meta.number)
 digits_of meta e = (bytes_eq-Decides _ _).0 (second (is_number 1 meta.one) (bytes_eq meta.number (number_text (number_in meta.number))) (is_within 2 262_144 meta.blocks) e)
   where
@@ -54,36 +30,11 @@ digits_of meta e = (bytes_eq-Decides _ _).0 (second (is_number 1 meta.one) (byte
     second true false c e = cc
     second false b c e = cc
 
-in_form_is : (why : rows_damage.Damage) (o : Option Records) (records : Records) → in_form_or why o ≡ InForm records → o ≡ Some records
-in_form_is why None records e = cc
-in_form_is why (Some r) records e = ap Some (records_inj r records e)
-
 -- rows in form have a row of `meta`
 pub meta_in_form : (rows : Rows) (records : Records) → form_of rows ≡ InForm records → (meta : MetaRow) × (meta_of rows ≡ Some meta) × IsRecordsOf meta records
-unfolding form_of
-meta_in_form rows records e = by_meta rows.meta refl e
-  where
-    by_last : (meta : MetaRow) → (b : Bool) → is_meta meta ≡ b → (c : Bool)
-        → (if b && c then in_form_or damage.Form (records_in (number_in meta.number) (natural meta.blocks) rows) else OutOfForm damage.Form) ≡ InForm records → IsRecordsOf meta records
-    by_last meta true is true e =
-        let of = number_of (number_in meta.number) (natural meta.blocks) rows records (in_form_is damage.Form _ records e) in
-        record { digits = digits_of meta is ∙ ap number_text of.0; blocks = of.1 }
-    by_last meta true is false e = cc
-    by_last meta false is c e = cc
-
-    by_known : (meta : MetaRow) (b c : Bool)
-        → (if b then (if is_meta meta && c then in_form_or damage.Form (records_in (number_in meta.number) (natural meta.blocks) rows) else OutOfForm damage.Form) else OutOfForm damage.Schema) ≡ InForm records → IsRecordsOf meta records
-    by_known meta true c e = by_last meta (is_meta meta) refl c e
-    by_known meta false c e = cc
-
-    by_row : (others : List MetaRow) → rows.meta ≡ Some others → form_after others (record rows { meta = Some others }) ≡ InForm records → (meta : MetaRow) × (meta_of rows ≡ Some meta) × IsRecordsOf meta records
-    by_row [] is e = cc
-    by_row (meta ∷ []) is e = (meta, ap (option_and_then first_of) is, by_known meta (is_number 1 meta.schema_no) true e)
-    by_row (meta ∷ other ∷ others) is e = (meta, ap (option_and_then first_of) is, by_known meta (is_number 1 meta.schema_no) false e)
-
-    by_meta : (o : Option (List MetaRow)) → rows.meta ≡ o → form_of (record rows { meta = o }) ≡ InForm records → (meta : MetaRow) × (meta_of rows ≡ Some meta) × IsRecordsOf meta records
-    by_meta None is e = cc
-    by_meta (Some others) is e = by_row others is e
+meta_in_form rows records e =
+    let h = in_form_has rows records e in
+    (h.meta, ap (option_and_then first_of) h.alone, record { digits = digits_of h.meta h.in_form ∙ ap number_text h.number; blocks = h.blocks })
 
 -- rows with a row of `meta` are not nothing
 pub row_in_form : (rows : Rows) (meta : MetaRow) → meta_of rows ≡ Some meta → form_of rows ≡ NoVault → ⊥
