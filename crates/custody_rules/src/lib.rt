@@ -1,0 +1,8 @@
+//! What records decide: how a part that is sent is judged, and whether records belong together.
+#![tactic(auto)]
+
+mod judge;
+mod whole;
+
+pub use judge::{PartRuling, judge_part};
+pub use whole::{damage_in, place_after};
