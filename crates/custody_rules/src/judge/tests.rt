@@ -116,7 +116,10 @@ fn the_first_part_goes(rt: HostRuntime) -> Result<(), Fail> {
 fn a_text_that_is_no_name_is_refused(rt: HostRuntime) -> Result<(), Fail> {
     let records = registered(rt.alloc())?;
     let leading_zero = refusal(&records, b"example_2026-08-02_full_S1_R01.ryde")?;
-    assert_eq!(rt; leading_zero, Some(Refusal::NameRefused(NameError::Revision)));
+    assert_eq!(rt;
+        leading_zero,
+        Some(Refusal::NameRefused(NameError::Revision))
+    );
     let no_suffix = refusal(&records, b"example_2026-08-02_full_S1_R0")?;
     assert_eq!(rt; no_suffix, Some(Refusal::NameRefused(NameError::Suffix)));
     Ok(())
@@ -181,7 +184,10 @@ fn a_part_that_is_recorded_is_compared_after_the_verdict(rt: HostRuntime) -> Res
 #[test]
 fn a_dropped_part_is_not_taken_again(rt: HostRuntime) -> Result<(), Fail> {
     let records = with_part(rt.alloc(), FIRST, false)?;
-    assert_eq!(rt; refusal(&records, FIRST)?, Some(Refusal::DroppedAfterKeeping));
+    assert_eq!(rt;
+        refusal(&records, FIRST)?,
+        Some(Refusal::DroppedAfterKeeping)
+    );
     Ok(())
 }
 
