@@ -3,7 +3,6 @@ ghost use Rattle.std.specs.Prelude.{◌≡◌, ◌≢◌, ◌≤◌, ◌+◌, �
 ghost use Rattle.std.specs.List.{list_any};
 ghost use Rattle.std.specs.FinMap.{get};
 ghost use Rattle.schedule.specs.Schedule.{day_of};
-ghost use Rattle.deposit_name.specs.Name.{Name};
 ghost use Rattle.custody_records.specs.Records.{key_of};
 ghost use Rattle.custody_records.specs.Held.{records_of};
 ghost use Rattle.custody_records.specs.Typed.{part_place, part_value};
@@ -11,7 +10,7 @@ ghost use Rattle.custody_machine.specs.Names.{is_same_text, read_name};
 ghost use Rattle.custody_machine.specs.SameValues.{is_same_kind};
 ghost use Rattle.custody_machine.specs.State.{places, at_place, has_notice};
 ghost use Rattle.custody_machine.specs.Stored.{state_in};
-ghost use Rattle.custody_machine.specs.Machine.{is_receipt, is_failure_of, is_verdict_of, has_other_kind, part_in, recorded, receive_stands, refusals, max_part_len};
+ghost use Rattle.custody_machine.specs.Machine.{is_receipt, is_failure_of, is_verdict_of, recorded, receive_stands, refusals, max_part_len};
 ghost use Rattle.custody_machine.specs.declared.answers.Refusal.TheVariants.{OtherBytes, VolumeFull};
 ghost use Rattle.custody_machine.specs.Custody.{Decides};
 ghost use Rattle.custody_rules.specs.Rulings.{ruling_of};
@@ -118,7 +117,7 @@ fn refusal_of_new(
 fn is_outside(name: &DepositName, first_day: Day, now: Sec) -> bool
     ensures { result ≡ (nat_lt name.now.day first_day || nat_lt (day_of now) name.now.day) }
 {
-    name.day.number() < first_day.number() || now.day().number() < name.day.number()
+    name.day < first_day || now.day() < name.day
 }
 
 fn is_out_of_size(len: usize) -> bool
@@ -190,7 +189,7 @@ fn is_verdict_of(notice: &Notice, name: &DepositName) -> bool
 fn is_of_day(notice: &Notice, name: &DepositName) -> bool
     ensures { result ≡ (is_same_text notice.now.tld name.now.tld && notice.now.day == name.now.day) }
 {
-    notice.tld.as_bytes() == name.tld.as_bytes() && notice.day == name.day
+    notice.tld == name.tld && notice.day == name.day
 }
 
 // The part that is recorded under a name: one of another kind in its place is not.
@@ -215,7 +214,7 @@ fn part_in<'a>(records: &'a Records, name: &DepositName, place: u8) -> Option<&'
 fn is_of_kind(part: &Part, kind: Kind) -> bool
     ensures { result ≡ is_same_kind part.now.name.kind kind }
 {
-    part.name.kind.as_bytes() == kind.as_bytes()
+    part.name.kind == kind
 }
 
 fn has_part(records: &Records, name: &DepositName, place: u8) -> bool
