@@ -1,11 +1,12 @@
 -- A table in memory and the map that it stands for: the rows are what the map has.
-use Rattle.std.proofs.Common.{◌≡◌, ℕ, zero, suc, ◌<◌, List, [], ◌∷◌, length, get_or, Bool, true, false, ◌&&◌, cond, Option, Some, None, refl, sym, ◌∙◌, ap, arith}
+use Rattle.std.proofs.Common.{◌≡◌, ℕ, zero, suc, ◌<◌, List, [], ◌∷◌, length, get_or, Bool, true, false, cond, Option, Some, None, refl, sym, ◌∙◌, ap, arith}
 use Rattle.std.specs.Prelude.{option_map}
 use Rattle.std.specs.Ordering.{is_lt, is_eq}
 use Rattle.std.specs.declared.cmp.Ordering.{Ordering}
 use Rattle.std.specs.declared.cmp.Ordering.TheVariants.{Less, Equal, Greater}
 use Rattle.std.specs.Cmp.{IsTotalOrder}
 use Rattle.std.specs.FinMap.{IsAntisymmetric, get}
+use Rattle.std.proofs.lemmas.Bool.{and_parts}
 use Rattle.std.proofs.lemmas.Cmp.{tied_itself}
 use Rattle.custody_records.specs.Tables.{is_below_all, is_rising, row_at, table_map}
 use Rattle.custody_records.proofs.TableLemmas.{get_table, found_at, key_found}
@@ -18,10 +19,6 @@ pub record IsRowOf {Row K X : Type 0} (key : Row → K) (value : Row → X) (row
   pub at : (d : Row) → get_or rows place d ≡ row
   pub key_is : key row ≡ sought
   pub value_is : value row ≡ x
-
-both_true : (a b : Bool) → (a && b) ≡ true → (a ≡ true) × (b ≡ true)
-both_true true b e = (refl, e)
-both_true false b e = cc
 
 module _ {Row K X : Type 0} (order : K → K → Ordering) (key : Row → K) (value : Row → X) where
   -- a row is what the map has at its key
@@ -61,15 +58,15 @@ less_is Greater e = cc
 module _ {Row K : Type 0} (order : K → K → Ordering) (key : Row → K) where
   below_row : (low : K) (rows : List Row) (i : ℕ) (d : Row) → is_below_all order key low rows ≡ true → i < length rows → order low (key (get_or rows i d)) ≡ Less
   below_row low [] i d below within = absurd (omega arith)
-  below_row low (row ∷ rows) zero d below within = less_is _ (both_true _ _ below).0
-  below_row low (row ∷ rows) (suc i) d below within = below_row low rows i d (both_true (is_lt (order low (key row))) _ below).1 (omega arith)
+  below_row low (row ∷ rows) zero d below within = less_is _ (and_parts _ _ below).0
+  below_row low (row ∷ rows) (suc i) d below within = below_row low rows i d (and_parts (is_lt (order low (key row))) _ below).1 (omega arith)
 
   -- a row's key is below that of each row after it
   pub rows_rise : (rows : List Row) → is_rising order key rows ≡ true → (i j : ℕ) (d : Row) → i < j → j < length rows → order (key (get_or rows i d)) (key (get_or rows j d)) ≡ Less
   rows_rise [] rising i j d before within = absurd (omega arith)
   rows_rise (row ∷ rows) rising i zero d before within = absurd (omega arith)
-  rows_rise (row ∷ rows) rising zero (suc j) d before within = below_row (key row) rows j d (both_true (is_below_all order key (key row) rows) _ rising).0 (omega arith)
-  rows_rise (row ∷ rows) rising (suc i) (suc j) d before within = rows_rise rows (both_true (is_below_all order key (key row) rows) _ rising).1 i j d (omega arith) (omega arith)
+  rows_rise (row ∷ rows) rising zero (suc j) d before within = below_row (key row) rows j d (and_parts (is_below_all order key (key row) rows) _ rising).0 (omega arith)
+  rows_rise (row ∷ rows) rising (suc i) (suc j) d before within = rows_rise rows (and_parts (is_below_all order key (key row) rows) _ rising).1 i j d (omega arith) (omega arith)
 
   pub keys_differ : IsTotalOrder order → (rows : List Row) → is_rising order key rows ≡ true → (i j : ℕ) (d : Row) → i < j → j < length rows → key (get_or rows i d) ≡ key (get_or rows j d) → ⊥
   keys_differ o rows rising i j d before within same =

@@ -1,2 +1,3 @@
 pub mod Breaks
 pub mod Rulings
+pub mod Blocks

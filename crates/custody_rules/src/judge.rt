@@ -21,7 +21,12 @@ pub enum PartRuling<'a> {
 }
 
 /// Judges a part of so many bytes that is sent under a name.
-pub fn judge_part<'a>(records: &'a Records, name: &[u8], len: usize, now: Sec) -> PartRuling<'a>
+pub fn judge_part<'a>(
+    records: &'a Records,
+    name: &[u8],
+    len: usize,
+    now: Sec,
+) -> PartRuling<'a>
     ensures { Decides (ruling_of result) (records_of records.now) name.now len now }
 {
     unreachable!()
