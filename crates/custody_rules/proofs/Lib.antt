@@ -1,2 +1,4 @@
-pub mod Notices
-pub mod Judged
+pub mod Tables
+pub mod Apart
+pub mod Behind
+pub mod PartBlocks

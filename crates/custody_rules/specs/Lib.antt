@@ -1,3 +1,4 @@
 pub mod Breaks
 pub mod Judged
 pub mod Rulings
+pub mod Blocks
