@@ -2,6 +2,7 @@
 #![tactic(auto)]
 
 mod judge;
+mod linked;
 mod whole;
 
 pub use judge::{PartRuling, judge_part};
