@@ -1,4 +1,2 @@
-pub mod Tables
-pub mod Apart
-pub mod Behind
-pub mod PartBlocks
+pub mod EntryLemmas
+pub mod LinkLemmas

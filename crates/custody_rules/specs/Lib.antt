@@ -1,4 +1,4 @@
 pub mod Breaks
-pub mod Judged
+pub mod Links
 pub mod Rulings
 pub mod Blocks
