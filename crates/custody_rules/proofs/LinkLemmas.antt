@@ -1,11 +1,10 @@
 -- Records belong together exactly where each record finds among the others what it has to.
-use Rattle.std.proofs.Common.{◌≡◌, ◌≢◌, ◌⊎◌, inl, inr, ⊎_elim, ℕ, zero, suc, ◌-◌, ◌<◌, ◌≤◌, List, Bool, true, false, not, ◌&&◌, ◌||◌, ◌==◌, cond, Option, Some, None, refl, sym, ◌∙◌, ap, subst, arith}
+use Rattle.std.proofs.Common.{◌≡◌, ◌≢◌, ◌⊎◌, inl, inr, ℕ, suc, ◌-◌, ◌<◌, List, Bool, true, false, not, ◌&&◌, ◌||◌, ◌==◌, Option, Some, None, refl, sym, ◌∙◌, ap, subst, arith}
 use Rattle.std.specs.Prelude.{is_some, nat_le}
 use Rattle.std.specs.Bool.{Decides}
 use Rattle.std.specs.List.{list_all, list_any}
 use Rattle.std.specs.FinMap.{get}
 use Rattle.std.proofs.lemmas.Bool.Decides.{Decides-eqb, Decides-and, Decides-or, Decides-not, Decides-like, not_from_Decides, nat_tests}
-use Rattle.deposit_name.specs.declared.kinds.Kind.{Kind}
 use Rattle.desk.specs.declared.notices.NoticeKind.{NoticeKind}
 use Rattle.desk.specs.declared.notices.Notice as told
 use Rattle.custody_records.specs.declared.parts.Part.{Part}
@@ -20,7 +19,7 @@ use Rattle.custody_machine.specs.State.{at_place, has_notice}
 use Rattle.custody_machine.specs.Machine.{is_receipt, is_failure_of}
 use Rattle.custody_machine.specs.Stored.{AreLinked, is_part_of, names_part, revision_of, is_absence, AreOfOneDay}
 use Rattle.custody_machine.proofs.SameValues.{text_decides}
-use Rattle.custody_rules.specs.Links.{is_known, is_in_series, is_due, is_part_linked, is_numbered, has_parts, is_same_revision, are_exclusive, are_rivals, is_only, is_notice_linked, are_recorded, is_release_linked, each_passes}
+use Rattle.custody_rules.specs.Links.{is_part_linked, has_parts, is_same_revision, are_exclusive, are_rivals, is_only, is_notice_linked, is_release_linked, each_passes}
 use Rattle.custody_rules.proofs.EntryLemmas.{each_decides, all_rows, any_rows}
 
 itself : (b : Bool) → Decides b (b ≡ true)

@@ -6,7 +6,7 @@ use Rattle.custody_rules.proofs.linked.are_linked.Goals as goal
 use Rattle.custody_rules.proofs.linked.are_linked.Goals.{then-parts_are_linked, else-parts_are_linked}
 
 pub returns-then-notices_are_linked-clause-linked : goal.returns-then-notices_are_linked-clause-linked
-returns-then-notices_are_linked-clause-linked c so =
+returns-then-notices_are_linked-clause-linked c is_true =
     let all = records_of c.args.records.now in
     let parts = parts_pass all c.parts.result.now c.parts.ensures.all c.parts.ensures.rising in
     let releases = releases_pass all c.releases.result.now c.releases.ensures.all c.releases.ensures.rising in
@@ -21,12 +21,12 @@ returns-then-notices_are_linked-clause-linked c so =
     ]
 
 pub returns-then-notices_are_linked-clause-broken : goal.returns-then-notices_are_linked-clause-broken
-returns-then-notices_are_linked-clause-broken c so =
+returns-then-notices_are_linked-clause-broken c is_false =
     let all = records_of c.args.records.now in
-    releases_broken all (sym (releases_pass all c.releases.result.now c.releases.ensures.all c.releases.ensures.rising) ∙ (sym c.releases_are_linked.ensures ∙ so))
+    releases_broken all (sym (releases_pass all c.releases.result.now c.releases.ensures.all c.releases.ensures.rising) ∙ (sym c.releases_are_linked.ensures ∙ is_false))
 
 pub returns-else-notices_are_linked-clause-broken : goal.returns-else-notices_are_linked-clause-broken
-returns-else-notices_are_linked-clause-broken c so =
+returns-else-notices_are_linked-clause-broken c is_false =
     let all = records_of c.args.records.now in
     let parts = parts_pass all c.parts.result.now c.parts.ensures.all c.parts.ensures.rising in
     elim c.if-parts_are_linked.branch [
