@@ -3,6 +3,7 @@ use custody_machine::{Fault, Refusal};
 use deposit_name::{DepositName, Tld};
 use schedule::{Day, Sec};
 use std::fmt;
+use vault_volume::{ReadError, StageError};
 
 /// The record that a command made, or found made.
 #[derive(Clone, Copy, Debug, PartialEq, Eq)]
@@ -44,23 +45,32 @@ pub enum InitError {
     Fault(Fault),
 }
 
-impl From<Refusal> for Refused {
-    ghost use Rattle.custody.specs.declared.answers.Refused.TheVariants as refused;
+impl From<StageError> for Refused {
+    ghost use Rattle.std.specs.Prelude.{◌≡◌};
+    ghost use Rattle.custody.specs.Answers.{unstaged};
 
-    ghost from_gives = { λ refusal r. r ≡ refused.Refusal refusal };
+    ghost from_gives = { λ error r. r ≡ unstaged error };
 
-    fn from(refusal: Refusal) -> Refused {
-        Refused::Refusal(refusal)
+    fn from(error: StageError) -> Refused {
+        match error {
+            StageError::Full => Refused::Refusal(Refusal::VolumeFull),
+            StageError::NoMemory => Refused::Fault(Fault::NoMemory),
+            StageError::VolumeFailed => Refused::Fault(Fault::VolumeFailed),
+        }
     }
 }
 
-impl From<Fault> for Refused {
-    ghost use Rattle.custody.specs.declared.answers.Refused.TheVariants as refused;
+impl From<ReadError> for Refused {
+    ghost use Rattle.std.specs.Prelude.{◌≡◌};
+    ghost use Rattle.custody.specs.Answers.{unread};
 
-    ghost from_gives = { λ fault r. r ≡ refused.Fault fault };
+    ghost from_gives = { λ error r. r ≡ unread error };
 
-    fn from(fault: Fault) -> Refused {
-        Refused::Fault(fault)
+    fn from(error: ReadError) -> Refused {
+        match error {
+            ReadError::NoMemory => Refused::Fault(Fault::NoMemory),
+            ReadError::VolumeFailed => Refused::Fault(Fault::VolumeFailed),
+        }
     }
 }
 

@@ -1,14 +1,12 @@
 //! The custody.
 ghost use Rattle.std.specs.Prelude.{◌≡◌, ◌-◌, ◌<◌, ◌^◌, true, false};
-ghost use Rattle.std.specs.Coded.{Π_prop, ×_prop, le_prop};
-ghost use Rattle.vault_volume.specs.Vault.{volume_of, IsFree};
-ghost use Rattle.custody_records.specs.Held.{records_of};
-ghost use Rattle.custody_machine.specs.Custody.{IsInOrder};
-ghost use Rattle.custody.specs.Order.{IsInOrder-prop};
+ghost use Rattle.std.specs.Coded.{Π_prop};
+ghost use Rattle.custody.specs.Answers.{stays_open};
+ghost use Rattle.custody.specs.Holdings.{KeepsOrder, KeepsOrder-prop};
 
+use crate::holdings::Holdings;
 use crate::opening::{has_record, identify, load_whole};
 use crate::rules::place_after;
-use crate::serving::{serve, stays_open};
 use crate::{InitError, Refused, Reply};
 use custody_machine::{Command, Fault};
 use custody_records::Records;
@@ -22,11 +20,9 @@ use vault_volume::{Vault, Volume, write_head};
 /// records in memory. It is closed after a failure of the volume or the database.
 #[derive(Drop)]
 pub struct Custody<V: Volume, S: Alter> {
-    vault: Vault<V>,
-    store: Store<S>,
-    records: Records,
+    holdings: Holdings<V, S>,
     is_open: bool,
-    ghost order: { is_open ≡ true → IsInOrder (records_of records) (V.size (volume_of vault)) (V.failures (volume_of vault)) (IsFree vault) } by { Π_prop λ _. IsInOrder-prop (records_of records) (V.size (volume_of vault)) (V.failures (volume_of vault)) (IsFree vault) (λ b. ×_prop le_prop le_prop) },
+    ghost order: { is_open ≡ true → KeepsOrder holdings } by { Π_prop λ _. KeepsOrder-prop holdings },
 }
 
 impl<V: Volume, S: Alter> Custody<V, S> {
@@ -57,9 +53,11 @@ impl<V: Volume, S: Alter> Custody<V, S> {
             ));
         }
         Ok(Custody {
-            vault: Vault::over(volume, 1),
-            store,
-            records: Records::new(alloc, number, blocks),
+            holdings: Holdings {
+                vault: Vault::over(volume, 1),
+                store,
+                records: Records::new(alloc, number, blocks),
+            },
             is_open: true,
         })
     }
@@ -84,16 +82,18 @@ impl<V: Volume, S: Alter> Custody<V, S> {
         };
         let place = place_after(&records);
         Ok(Custody {
-            vault: Vault::over(volume, place),
-            store,
-            records,
+            holdings: Holdings {
+                vault: Vault::over(volume, place),
+                store,
+                records,
+            },
             is_open: true,
         })
     }
 
     /// Hands the volume and the database back. It writes nothing.
     pub fn close(self) -> (V, Connection<S>) {
-        let Custody { vault, store, .. } = self;
+        let Holdings { vault, store, .. } = self.holdings;
         (vault.into_inner(), store.into_inner())
     }
 
@@ -107,14 +107,7 @@ impl<V: Volume, S: Alter> Custody<V, S> {
         if !self.is_open {
             return Err(Refused::Fault(Fault::Closed));
         }
-        let answer = serve(
-            alloc,
-            &mut self.vault,
-            &mut self.store,
-            &mut self.records,
-            command,
-            now,
-        );
+        let answer = self.holdings.serve(alloc, command, now);
         self.is_open = stays_open(&answer);
         answer
     }
@@ -135,7 +128,7 @@ impl<V: Volume, S: Alter> Custody<V, S> {
     /// The records.
     pub fn records(&self) -> Result<&Records, Fault> {
         if self.is_open {
-            Ok(&self.records)
+            Ok(&self.holdings.records)
         } else {
             Err(Fault::Closed)
         }
@@ -146,6 +139,16 @@ impl<V: Volume, S: Alter> Custody<V, S> {
         let records = self.records()?;
         Ok((free_blocks(records), records.blocks().saturating_sub(1)))
     }
+}
+
+/// Whether a custody is open after an answer: it is closed where the volume or the database failed.
+fn stays_open(answer: &Result<Reply, Refused>) -> bool
+    ensures { result ≡ stays_open answer.now }
+{
+    !matches!(
+        answer,
+        Err(Refused::Fault(Fault::VolumeFailed | Fault::StoreFailed | Fault::Closed))
+    )
 }
 
 /// Whether a custody may be begun.

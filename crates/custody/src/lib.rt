@@ -5,11 +5,9 @@
 mod answers;
 mod compare;
 mod custody;
+mod holdings;
 mod opening;
-mod receiving;
-mod registering;
 mod rules;
-mod serving;
 #[cfg(test)]
 mod tests;
 
