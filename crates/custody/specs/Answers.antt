@@ -1,5 +1,5 @@
 -- The answers of a custody, as those of the machine, and their lines.
-use Rattle.std.specs.Prelude.{◌≡◌, ℕ, List, [], length, codes, Bool, true, false, Result, Ok, Err}
+use Rattle.std.specs.Prelude.{◌≡◌, ℕ, List, [], length, codes, Bool, true, false, not, Result, Ok, Err}
 use Rattle.deposit_name.specs.Name.{Name}
 use Rattle.custody_records.specs.Records.{key_of}
 use Rattle.vault_volume.specs.declared.errors.StageError.{StageError}
@@ -73,11 +73,7 @@ stays_open (Err (refused.Fault (Damaged damage))) = true
 
 -- whether a command is done that was not done before, or may be
 abbrev pub may_change : Result Reply not_accepted.Refused → Bool
-may_change (Ok reply) = not_repeat reply.is_repeat
-  where
-    not_repeat : Bool → Bool
-    not_repeat true = false
-    not_repeat false = true
+may_change (Ok reply) = not reply.is_repeat
 may_change (Err (refused.Refusal refusal)) = false
 may_change (Err (refused.Fault NoMemory)) = false
 may_change (Err (refused.Fault VolumeFailed)) = false

@@ -8,6 +8,7 @@ ghost use Rattle.custody.specs.Answers.{stays_open, TellsLength};
 ghost use Rattle.custody.specs.Holdings.{recorded, stored, KeepsOrder, KeepsImage, KeepsRows, IsSafe, HasServed};
 
 use crate::compare::{Comparison, compare};
+use crate::forms::{show_form_of_registry, show_range_of_moment};
 use crate::rules::{PartRuling, judge_part};
 use crate::{Record, Refused, Reply};
 use custody_machine::{Command, Damage, Fault, Refusal};
@@ -83,6 +84,7 @@ impl<V: Volume, S: Alter> Holdings<V, S> {
         ensures rows { stays_open result ≡ true → (stored S.Store self.new).IsHonest → KeepsRows S.Store self.old → KeepsRows S.Store self.new }
     {
         let registry = Registry { tld, first_day };
+        show_form_of_registry(&registry);
         if self.records.reserve_registry().is_err() {
             return Err(Refused::Fault(Fault::NoMemory));
         }
@@ -151,6 +153,7 @@ impl<V: Volume, S: Alter> Holdings<V, S> {
         ensures image { stays_open result ≡ true → V.tells → KeepsImage self.old → KeepsImage self.new }
         ensures rows { stays_open result ≡ true → (stored S.Store self.new).IsHonest → KeepsRows S.Store self.old → KeepsRows S.Store self.new }
     {
+        show_range_of_moment(now);
         if self.records.reserve_part().is_err() {
             return Err(Refused::Fault(Fault::NoMemory));
         }

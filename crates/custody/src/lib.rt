@@ -5,6 +5,7 @@
 mod answers;
 mod compare;
 mod custody;
+mod forms;
 mod holdings;
 mod opening;
 mod rules;
