@@ -1,6 +1,6 @@
 -- How the calls of volume and database make up a command over holdings.
 use Rattle.std.proofs.Common.{◌≡◌, ◌≢◌, ◌⊎◌, inl, inr, ⊎_elim, ℕ, ◌-◌, ◌<◌, ◌≤◌, ◌^◌, List, [], ◌∷◌, length, Option, Some, None, Bool, true, false, not, refl, sym, ◌∙◌, ap, subst, arith, Result, Ok, Err}
-use Rattle.std.specs.Prelude.{is_err, OnOk, OnErr, IfOk}
+use Rattle.std.specs.Prelude.{is_err, OnOk, IsErrAnd}
 use Rattle.std.specs.FinMap.{get}
 use Rattle.schedule.specs.Schedule.{IsDay}
 use Rattle.deposit_name.specs.Identifiers.{IsTld}
@@ -39,6 +39,10 @@ use Rattle.custody.specs.Holdings.{recorded, stored, image_of, failures_of, left
 pub on_ok : {T E : Type 0} (P : Type 0) (r : Result T E) (b : Bool) → b ≡ is_err r → b ≡ false → OnOk r P → P
 on_ok P (Ok x) b is good p = p
 on_ok P (Err e) b is good p = cc
+
+pub err_is : {T E : Type 0} (r : Result T E) (e : E) → IsErrAnd r (λ x. x ≡ e) → r ≡ Err e
+err_is (Ok x) e h = absurd h
+err_is (Err x) e h = ap Err h
 
 -- ---- a volume that was not called
 
@@ -116,6 +120,10 @@ module _ {V S : Type 0} {g : volume.Ghosts V} (database : Ghosts S) (old new : H
     is_in_doubt shown_reply ruled first during either images_same =
         in_doubt (recorded old) (stored database old).rows (image_of old) _ _ (IsFree old.vault) (stored database old).IsReady (stored database old).may_leave (left_by old) order volume store
         changed (image_of new) (IsFree new.vault) change command now shown_reply ruled (recorded new) (image_of new) (left_since old new) (stored database new).may_leave (left_by new) first during either images_same
+
+-- the volume has the size that is recorded
+pub recorded_size : {V S : Type 0} {g : volume.Ghosts V} (h : Holdings V S g) → KeepsOrder h → g.size (volume_of h.vault) ≡ (recorded h).blocks
+recorded_size h order = order.blocks
 
 -- ---- holdings whose blocks and records are as they were
 

@@ -1,2 +1,5 @@
 pub mod HoldingLemmas
+pub mod KeptPart
 pub mod PartLemmas
+pub mod Repeats
+pub mod Unstaged

@@ -1,5 +1,9 @@
 //! What a custody answers.
+ghost use Rattle.std.specs.Prelude.{◌≡◌};
+ghost use Rattle.custody.specs.declared.answers.Record.TheVariants as of;
+
 use custody_machine::{Fault, Refusal};
+use custody_records::Part;
 use deposit_name::{DepositName, Tld};
 use schedule::{Day, Sec};
 use std::fmt;
@@ -18,6 +22,19 @@ pub enum Record {
         received: Sec,
         len: u32,
     },
+}
+
+impl Record {
+    /// The record of a part that is kept.
+    pub(crate) fn of_part(part: &Part) -> Record
+        ensures { result ≡ of.Part part.now.name part.now.received part.now.len }
+    {
+        Record::Part {
+            name: part.name,
+            received: part.received,
+            len: part.len,
+        }
+    }
 }
 
 /// A command was accepted.

@@ -117,11 +117,7 @@ impl<V: Volume, S: Alter> Holdings<V, S> {
         match judge_part(&self.records, name, bytes.len(), now) {
             PartRuling::Refuse(refusal) => Err(Refused::Refusal(refusal)),
             PartRuling::Compare(part, extents) => {
-                let record = Record::Part {
-                    name: part.name,
-                    received: part.received,
-                    len: part.len,
-                };
+                let record = Record::of_part(part);
                 match compare(alloc, &mut self.vault, part, extents, bytes)? {
                     Comparison::Same => Ok(Reply {
                         record,
