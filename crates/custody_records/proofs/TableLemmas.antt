@@ -35,7 +35,7 @@ module _ {Row K : Type 0} (order : K → K → Ordering) (key : Row → K) where
   rising_entries value [] = refl
   rising_entries value (row ∷ rows) = λ i. below_entries value (key row) rows i && rising_entries value rows i
 
-  sorted_entries : {X : Type 0} (value : Row → X) (rows : List Row) → is_rising order key rows ≡ true → T (is_sorted order (entries_of key value rows))
+  pub sorted_entries : {X : Type 0} (value : Row → X) (rows : List Row) → is_rising order key rows ≡ true → T (is_sorted order (entries_of key value rows))
   sorted_entries value rows rising = subst T (sym (rising_entries value rows ∙ rising)) tt
 
   find_entries : {X : Type 0} (value : Row → X) (rows : List Row) (sought : K) → find order sought (entries_of key value rows) ≡ option_map value (row_at order key rows sought)
