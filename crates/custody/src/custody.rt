@@ -6,7 +6,7 @@ ghost use Rattle.custody.specs.Holdings.{KeepsOrder, KeepsOrder-prop};
 
 use crate::holdings::Holdings;
 use crate::opening::{has_record, identify, load_whole};
-use crate::rules::place_after;
+use custody_rules::place_after;
 use crate::{InitError, Refused, Reply};
 use custody_machine::{Command, Fault};
 use custody_records::Records;

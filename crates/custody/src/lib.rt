@@ -8,7 +8,6 @@ mod custody;
 mod forms;
 mod holdings;
 mod opening;
-mod rules;
 #[cfg(test)]
 mod tests;
 
