@@ -1,4 +1,5 @@
 pub mod Answers
+pub mod Custody
 pub mod Holdings
 pub mod Compared
 pub mod Order

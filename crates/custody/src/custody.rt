@@ -1,6 +1,7 @@
 //! The custody.
 ghost use Rattle.std.specs.Prelude.{◌≡◌, ◌-◌, ◌<◌, ◌^◌, true, false};
 ghost use Rattle.std.specs.Coded.{Π_prop};
+ghost use Rattle.custody_machine.specs.Plain.{command_of};
 ghost use Rattle.custody.specs.Answers.{stays_open};
 ghost use Rattle.custody.specs.Holdings.{KeepsOrder, KeepsOrder-prop};
 
@@ -26,6 +27,8 @@ pub struct Custody<V: Volume, S: Alter> {
 }
 
 impl<V: Volume, S: Alter> Custody<V, S> {
+    ghost use Rattle.custody.specs.Custody.{HasApplied, entries_of};
+
     /// Begins a custody over a volume of 2 to 262,144 blocks and a database with no record of one:
     /// block 0 is written and synced, and then the records are made. Where it fails, volume and
     /// database are handed back.
@@ -103,7 +106,9 @@ impl<V: Volume, S: Alter> Custody<V, S> {
         alloc: Global,
         command: &Command<'_>,
         now: Sec,
-    ) -> Result<Reply, Refused> {
+    ) -> Result<Reply, Refused>
+        ensures { HasApplied self.old (command_of command.now) now result self.new }
+    {
         if !self.is_open {
             return Err(Refused::Fault(Fault::Closed));
         }
