@@ -2,4 +2,5 @@ pub mod HoldingLemmas
 pub mod KeptPart
 pub mod PartLemmas
 pub mod Repeats
+pub mod RunLemmas
 pub mod Unstaged

@@ -1,5 +1,5 @@
 -- What a custody shows, and what its commands do.
-use Rattle.std.specs.Prelude.{◌≡◌, ℕ, List, map, Bool, true, false, Result, Err}
+use Rattle.std.specs.Prelude.{◌≡◌, ℕ, List, [], ◌∷◌, map, Bool, true, false, Result, Err}
 use Rattle.vault_volume.specs.declared.volume.Volume as volume
 use Rattle.sqlite.specs.Store.{Ghosts}
 use Rattle.custody_machine.specs.declared.command.Command as asked
@@ -40,3 +40,11 @@ module _ {V S : Type 0} {g : volume.Ghosts V} {database : Ghosts S} where
 -- commands, each with its moment
 abbrev pub entries_of : List (asked.Command × ℕ) → List Entry
 entries_of commands = map (λ (c : asked.Command × ℕ). (command_of c.0, c.1)) commands
+
+module _ {V S : Type 0} {g : volume.Ghosts V} {database : Ghosts S} where
+  -- What commands in order do: each to the custody that the one before left.
+  abbrev pub HasRun : Custody V S g database → List Entry → List (Result Reply Refused) → Custody V S g database → Type 0
+  HasRun old [] [] new = new ≡ old
+  HasRun old [] (answer ∷ answers) new = ⊥
+  HasRun old (entry ∷ entries) [] new = ⊥
+  HasRun old (entry ∷ entries) (answer ∷ answers) new = (mid : Custody V S g database) × HasApplied old entry.0 entry.1 answer mid × HasRun mid entries answers new

@@ -1,5 +1,5 @@
 //! The custody.
-ghost use Rattle.std.specs.Prelude.{◌≡◌, ◌-◌, ◌<◌, ◌^◌, true, false};
+ghost use Rattle.std.specs.Prelude.{◌≡◌, ◌-◌, ◌<◌, ◌^◌, true, false, IfOk, OnErr};
 ghost use Rattle.std.specs.Coded.{Π_prop};
 ghost use Rattle.custody_machine.specs.Plain.{command_of};
 ghost use Rattle.custody.specs.Answers.{stays_open};
@@ -27,7 +27,7 @@ pub struct Custody<V: Volume, S: Alter> {
 }
 
 impl<V: Volume, S: Alter> Custody<V, S> {
-    ghost use Rattle.custody.specs.Custody.{HasApplied, entries_of};
+    ghost use Rattle.custody.specs.Custody.{HasApplied, HasRun, entries_of};
 
     /// Begins a custody over a volume of 2 to 262,144 blocks and a database with no record of one:
     /// block 0 is written and synced, and then the records are made. Where it fails, volume and
@@ -122,10 +122,14 @@ impl<V: Volume, S: Alter> Custody<V, S> {
         &mut self,
         alloc: Global,
         commands: &[(Command<'_>, Sec)],
-    ) -> Result<Vec<Result<Reply, Refused>>, AllocError> {
+    ) -> Result<Vec<Result<Reply, Refused>>, AllocError>
+        ensures run { IfOk result (λ answers. HasRun self.old (entries_of commands.now) answers.items self.new) }
+        ensures none { OnErr result (self.new ≡ self.old) }
+    {
         let mut answers = Vec::with_capacity(alloc, commands.len())?;
         for (command, now) in commands {
-            answers.push(self.apply(alloc, command, *now))?;
+            let answer = self.apply(alloc, command, *now);
+            answers.push_reserved(answer);
         }
         Ok(answers)
     }
