@@ -4,3 +4,4 @@ pub mod Compared
 pub mod Rulings
 pub mod Breaks
 pub mod Order
+pub mod Opening

@@ -5,7 +5,7 @@ ghost use Rattle.custody.specs.Answers.{stays_open};
 ghost use Rattle.custody.specs.Holdings.{KeepsOrder, KeepsOrder-prop};
 
 use crate::holdings::Holdings;
-use crate::opening::{has_record, identify, load_whole};
+use crate::opening::{identify, load_whole, may_begin};
 use crate::rules::place_after;
 use crate::{InitError, Refused, Reply};
 use custody_machine::{Command, Fault};
@@ -149,16 +149,6 @@ fn stays_open(answer: &Result<Reply, Refused>) -> bool
         answer,
         Err(Refused::Fault(Fault::VolumeFailed | Fault::StoreFailed | Fault::Closed))
     )
-}
-
-/// Whether a custody may be begun.
-fn may_begin<S: Alter>(db: &mut Connection<S>, blocks: u32) -> Result<(), InitError> {
-    match has_record(db) {
-        Ok(true) => Err(InitError::AlreadyInitialised),
-        Ok(false) if (2..=262_144).contains(&blocks) => Ok(()),
-        Ok(false) => Err(InitError::Size),
-        Err(fault) => Err(InitError::Fault(fault)),
-    }
 }
 
 /// All blocks but block 0 and those of the parts that are held.
