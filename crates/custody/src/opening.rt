@@ -1,28 +1,33 @@
 //! What an opening and a beginning look at.
 ghost use Rattle.std.specs.Prelude.{◌≡◌, ◌≢◌, ◌⊎◌, ◌↔◌, ℕ, pos, IsTrue, List, ◌-◌, ◌<◌, ◌≤◌, ◌^◌, is_some, option_map, IfOk, IfErr, OnOk, MatchResult};
-ghost use Rattle.vault_volume.specs.Disk.{LeavesOnly};
+ghost use Rattle.vault_volume.specs.Disk.{LeavesOne, LeavesOnly};
 ghost use Rattle.vault_volume.specs.Head.{head_of};
 ghost use Rattle.vault_volume.specs.Image.{bytes_at};
+ghost use Rattle.vault_volume.specs.Vault.{volume_of};
 ghost use Rattle.custody_records.specs.Form.{form_of, InForm};
 ghost use Rattle.custody_records.specs.Held.{records_of};
-ghost use Rattle.custody_records.specs.Rows.{Rows};
+ghost use Rattle.custody_records.specs.Rows.{Rows, fresh};
+ghost use Rattle.custody_records.specs.Written.{digits_of};
 ghost use Rattle.custody_records.specs.Typed as typed;
 ghost use Rattle.custody_store.specs.Reading.{first_meta};
-ghost use Rattle.custody_store.specs.Standing.{standing, Reads};
+ghost use Rattle.custody_store.specs.Standing.{standing, Reads, Founds};
 ghost use Rattle.custody_machine.specs.declared.damage.Damage as wrong;
 ghost use Rattle.custody_machine.specs.Damage.{meta_of, IsDamaged};
 ghost use Rattle.custody_machine.specs.Stored.{AreWhole};
+ghost use Rattle.custody_machine.specs.Custody.{MayInitialise};
 ghost use Rattle.custody_machine.specs.declared.answers.Fault as why;
+ghost use Rattle.custody.specs.Holdings.{recorded, KeepsOrder};
 ghost use Rattle.custody.specs.Opening.{HasNoRecord, fault_of};
 
 use crate::InitError;
-use crate::rules::damage_in;
+use crate::holdings::Holdings;
+use crate::rules::{damage_in, place_after};
 use custody_machine::{Damage, Fault};
 use custody_records::{Meta, Records};
 use custody_store::{Store, StoreFault, find_meta};
 use sqlite::{Alter, Connection};
 use std::alloc::Global;
-use vault_volume::{Volume, read_head};
+use vault_volume::{Vault, Volume, read_head, write_head};
 
 /// The first row of meta.
 fn find_record<S: Alter>(db: &mut Connection<S>) -> Result<Option<Meta>, Fault>
@@ -171,5 +176,53 @@ pub fn may_begin<S: Alter>(db: &mut Connection<S>, blocks: u32) -> Result<(), In
         Ok(false) if (2..=262_144).contains(&blocks) => Ok(()),
         Ok(false) => Err(InitError::Size),
         Err(fault) => Err(InitError::Fault(fault)),
+    }
+}
+
+/// Writes block 0, and then makes the records.
+pub fn prepare<V: Volume, S: Alter>(
+    volume: &mut V,
+    store: &mut Store<S>,
+    number: u64,
+    blocks: u32,
+) -> Result<(), Fault>
+    requires count { V.failures volume.old < 2 ^ 64 - 1 }
+    requires fits { (2 ≤ blocks) × (blocks ≤ 262144) }
+    requires blocks { V.size volume.old ≡ blocks }
+    ensures size { V.size volume.new ≡ V.size volume.old }
+    ensures failed { IfErr result (λ fault. fault ≡ Fault.VolumeFailed → V.failures volume.old < V.failures volume.new) }
+    ensures no_failure { OnOk result (V.failures volume.new ≡ V.failures volume.old) }
+    ensures kind { IfErr result (λ fault. (fault ≡ Fault.VolumeFailed) ⊎ (fault ≡ Fault.StoreFailed)) }
+    ensures head { V.tells → OnOk result (bytes_at (V.image volume.new) 0 4096 ≡ head_of number) }
+    ensures settled { V.tells → OnOk result (LeavesOne (V.image volume.new) (V.left_at volume.new (V.moment volume.new))) }
+    ensures founds { Founds (standing S.Store store.old) (standing S.Store store.new) (fresh (digits_of number) (pos blocks)) result }
+    ensures at_exit { V.tells → (standing S.Store store.new).IsHonest → (standing S.Store store.old).IsBare
+        → (rows : Rows) (image : List ℕ) → (standing S.Store store.new).may_leave rows → V.left_at volume.new (V.moment volume.new) image → MayInitialise rows image }
+{
+    if write_head(volume, number).is_err() {
+        return Err(Fault::VolumeFailed);
+    }
+    match store.create(number, blocks) {
+        Ok(()) => Ok(()),
+        Err(_) => Err(Fault::StoreFailed),
+    }
+}
+
+/// Whole records with their volume and database.
+pub fn hold<V: Volume, S: Alter>(volume: V, store: Store<S>, records: Records) -> Holdings<V, S>
+    requires whole { AreWhole (records_of records) }
+    requires some { 1 ≤ (records_of records).blocks }
+    requires size { V.size volume ≡ (records_of records).blocks }
+    requires count { V.failures volume < 2 ^ 64 - 1 }
+    ensures volume { volume_of result.vault ≡ volume }
+    ensures store { result.store ≡ store }
+    ensures records { recorded result ≡ records_of records }
+    ensures order { KeepsOrder result }
+{
+    let place = place_after(&records);
+    Holdings {
+        vault: Vault::over(volume, place),
+        store,
+        records,
     }
 }
