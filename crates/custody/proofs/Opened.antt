@@ -1,5 +1,5 @@
 -- What an opening finds of a database and a volume.
-use Rattle.std.proofs.Common.{◌≡◌, ◌≢◌, ◌⊎◌, inl, inr, ℕ, zero, suc, ℤ, pos, negsuc, ◌*◌, ◌<◌, ◌≤◌, ◌^◌, List, [], ◌∷◌, length, Option, Some, None, Bool, refl, sym, ◌∙◌, ap, subst, arith}
+use Rattle.std.proofs.Common.{◌≡◌, ◌≢◌, ◌⊎◌, inl, inr, ℕ, zero, suc, ℤ, pos, negsuc, ◌*◌, ◌<◌, ◌≤◌, ◌^◌, List, [], ◌∷◌, length, Option, Some, None, Bool, Err, refl, sym, ◌∙◌, ap, subst, arith}
 use Rattle.std.specs.Prelude.{option_map, IfSome, IfNone}
 use Rattle.vault_volume.specs.Image.{bytes_at}
 use Rattle.vault_volume.specs.Head.{head_of}
@@ -14,6 +14,25 @@ use Rattle.custody_machine.specs.declared.damage.Damage.{Damage}
 use Rattle.custody_machine.specs.declared.damage.Damage.TheVariants as wrong
 use Rattle.custody_machine.specs.Damage.{meta_of, IsRowOf, IsDamaged}
 use Rattle.custody.specs.Breaks.{Breaks}
+use Rattle.std.specs.FinMap.{FinMap, get, empty, get-empty, same_map}
+use Rattle.std.specs.declared.cmp.Ordering.{Ordering}
+use Rattle.sqlite.specs.State.{State}
+use Rattle.custody_records.specs.Keys.{text_cmp, part_cmp, notice_cmp}
+use Rattle.custody_records.specs.Records.{new_records}
+use Rattle.custody_records.specs.Rows.{fresh}
+use Rattle.custody_records.specs.Written.{digits_of}
+use Rattle.custody_records.proofs.FormLemmas.{fresh_in_form}
+use Rattle.custody_store.specs.Reading.{rows_in}
+use Rattle.custody_store.specs.Standing.{Standing, IsBare, leaves, Founds}
+use Rattle.custody_store.proofs.BareLemmas.{rows_bare}
+use Rattle.custody_machine.specs.State.{empty as nothing}
+use Rattle.custody_machine.specs.Stored.{AreWhole, part_of, state_in, HasDigests}
+use Rattle.custody_machine.specs.Moves.{Serving, Left, IsBegun}
+use Rattle.custody_machine.specs.Custody.{MayInitialise}
+use Rattle.custody_machine.proofs.MapValues.{get-map_values}
+use Rattle.custody_machine.proofs.Orders.{part_total, part_exact}
+use Rattle.custody_machine.proofs.Forms.{records_inj}
+use Rattle.custody.specs.Opening.{HasNoRecord}
 
 pub some_is : {T : Type 0} (P : T → Type 0) (o : Option T) (x : T) → o ≡ Some x → IfSome o P → P x
 some_is {T} P o x e h = subst (λ (o : Option T). IfSome o P) e h
@@ -56,3 +75,84 @@ other_volume rows found number size image is lt long head other = by rows.meta r
         (row, number, ap (λ metas. meta_of (record rows { meta = metas })) at, head, λ of. other (
           ap (λ (m : Meta). m.number) same ∙ sym (number_reads row.number number lt of.number_is),
           ap (λ (m : Meta). m.blocks) same ∙ same_blocks row.blocks (sym of.size ∙ long) (has_block image size number long head)))
+
+-- ---- a beginning
+
+-- a database without tables has no record
+pub bare_has_none : (s : State) → IsBare s → HasNoRecord (rows_in s.now.trees)
+bare_has_none s bare = ap meta_of (rows_bare s bare)
+
+-- nor has what a stop leaves of it
+pub none_left : (s : State) → IsBare s → (rows : Rows) → leaves s rows → HasNoRecord rows
+none_left s bare rows left = ap meta_of (bare.only rows left) ∙ bare_has_none s bare
+
+-- the tables were not made
+pub founds_nothing : {A E : Type 0} (s : Standing) (after : Rows) (e : E) → Founds {A = A} s s after (Err e)
+founds_nothing s after e = record {
+  trust = λ honest. honest;
+  mode = λ autocommit. autocommit;
+  effect = λ _ bare. record { done = tt; kept = λ _. (bare, refl); left = λ rows h. inl h };
+}
+
+-- the same with another fault
+pub founds_err : {A B E F : Type 0} (old new : Standing) (after : Rows) (e : E) (f : F) → Founds {A = A} old new after (Err e) → Founds {A = B} old new after (Err f)
+founds_err old new after e f p = record {
+  trust = p.trust;
+  mode = p.mode;
+  effect = λ honest bare. let did = p.effect honest bare in record { done = tt; kept = did.kept; left = did.left };
+}
+
+module _ (number blocks : ℕ) where
+  none_at : {K X : Type 0} (R : K → K → Ordering) (key : K) (x : X) → get (empty {X = X} {R = R}) key ≡ Some x → ⊥
+  none_at {X = X} R key x at = let none = get-empty {X = X} R key in let apart : Some x ≡ None = sym at ∙ none in cc
+
+  -- no records are whole
+  pub new_whole : AreWhole (new_records number blocks)
+  new_whole = record {
+    extents = λ key part at. absurd (none_at part_cmp key part at);
+    once = record {
+      within = λ key part at. absurd (none_at part_cmp key part at);
+      between = λ j k p q b at_j at_k in_p in_q. absurd (none_at part_cmp j p at_j);
+    };
+    linked = record {
+      part_registry = λ key part at. absurd (none_at part_cmp key part at);
+      notice_registry = λ key notice at. absurd (none_at notice_cmp key notice at);
+      release_registry = λ reference release at. absurd (none_at text_cmp reference release at);
+      released = λ reference release at. absurd (none_at text_cmp reference release at);
+      series = λ key part at n e. absurd (none_at part_cmp key part at);
+      numbers = λ key notice at n e. absurd (none_at notice_cmp key notice at);
+      verdict_parts = λ key notice rev at of. absurd (none_at notice_cmp key notice at);
+      one_verdict = λ j k m n rev at_j at_k day of_m of_n. absurd (none_at notice_cmp j m at_j);
+      due = λ key part at lt. absurd (none_at part_cmp key part at);
+      one_receipt = λ j k m n at_j at_k day is_m is_n. absurd (none_at notice_cmp j m at_j);
+      one_absence = λ j k m n at_j at_k day is_m is_n. absurd (none_at notice_cmp j m at_j);
+    };
+  }
+
+  -- and stand for the empty state, whatever the image is
+  pub new_empty : (image : List ℕ) → state_in (new_records number blocks) image ≡ nothing
+  new_empty image = ap (λ parts. record nothing { parts = parts }) (same_map part_total part_exact _ _ (λ key. get-map_values part_cmp (part_of image) empty key ∙ ap (option_map (part_of image)) (get-empty part_cmp key) ∙ sym (get-empty part_cmp key)))
+
+  pub new_digests : (image : List ℕ) → HasDigests image (new_records number blocks)
+  new_digests image key part extents at = absurd (none_at part_cmp key part at)
+
+  pub new_begun : (records : Records) (image : List ℕ) → records ≡ new_records number blocks → IsBegun nothing (Serving records image)
+  new_begun records image is = subst (λ r. IsBegun nothing (Serving r image)) (sym is) (new_empty image, new_digests image)
+
+  module _ (image : List ℕ) (lt : number < 2 ^ 64) (low : 2 ≤ blocks) (high : blocks ≤ 262_144) (head : bytes_at image 0 4096 ≡ head_of number) (long : length image ≡ 4096 * blocks) where
+    -- the rows that are made, with the volume that is begun, stand for it
+    pub fresh_begun : IsBegun nothing (Left (fresh (digits_of number) (pos blocks)) image)
+    fresh_begun = (
+      record {
+        records = new_records number blocks;
+        in_form = fresh_in_form number blocks lt low high;
+        good = record { whole = new_whole; volume = record { head = head; size = long } };
+        meaning = sym (new_empty image);
+      },
+      λ records is. subst (HasDigests image) (records_inj (new_records number blocks) records (sym (fresh_in_form number blocks lt low high) ∙ is)) (new_digests image),
+    )
+
+    -- what a stop leaves after the volume is begun
+    pub may_be_begun : (s : State) → IsBare s → (rows : Rows) (left : List ℕ) → leaves s rows ⊎ (rows ≡ fresh (digits_of number) (pos blocks)) → left ≡ image → MayInitialise rows left
+    may_be_begun s bare rows left (inl old) is = inl (none_left s bare rows old)
+    may_be_begun s bare rows left (inr new) is = inr (subst (λ r. IsBegun nothing (Left r left)) (sym new) (subst (λ i. IsBegun nothing (Left (fresh (digits_of number) (pos blocks)) i)) (sym is) fresh_begun))

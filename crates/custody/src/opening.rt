@@ -199,9 +199,9 @@ pub fn prepare<V: Volume, S: Alter>(
     ensures at_exit { V.tells → (standing S.Store store.new).IsHonest → (standing S.Store store.old).IsBare
         → (rows : Rows) (image : List ℕ) → (standing S.Store store.new).may_leave rows → V.left_at volume.new (V.moment volume.new) image → MayInitialise rows image }
 {
-    if write_head(volume, number).is_err() {
+    let Ok(()) = write_head(volume, number) else {
         return Err(Fault::VolumeFailed);
-    }
+    };
     match store.create(number, blocks) {
         Ok(()) => Ok(()),
         Err(_) => Err(Fault::StoreFailed),
