@@ -64,7 +64,7 @@ impl<V: Volume, S: Alter> Custody<V, S> {
             → IfErr result (λ e. (standing S.Store e.2).IsHonest → e.0 ≡ InitError.AlreadyInitialised → ¬ HasNoRecord (standing S.Store db).rows) }
         ensures not_taken { (standing S.Store db).IsReady ⊎ (standing S.Store db).IsBare
             → MatchResult result (λ c. (stored S.Store c.holdings).IsHonest → HasNoRecord (standing S.Store db).rows)
-              (λ e. (standing S.Store e.2).IsHonest → e.0 ≡ InitError.Size → HasNoRecord (standing S.Store db).rows) }
+            (λ e. (standing S.Store e.2).IsHonest → e.0 ≡ InitError.Size → HasNoRecord (standing S.Store db).rows) }
         // A refusal writes nothing.
         ensures unwritten { IfErr result (λ e. IsRefused e.0 → e.1 ≡ volume) }
         ensures rows_left { (standing S.Store db).IsReady ⊎ (standing S.Store db).IsBare

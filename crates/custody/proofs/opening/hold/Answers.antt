@@ -9,7 +9,9 @@ returns-clause-order g c =
     record {
       whole = c.requires.whole;
       blocks = ap g.V.Volume.size volume ∙ size;
-      placeable = λ b. (λ free. let in_volume = (c.over.ensures.free b).0 free in (placed b).1 in_volume.0 (subst (λ n. b < n) size in_volume.1),
-          λ placeable. (c.over.ensures.free b).1 ((placed b).0 placeable, subst (λ n. b < n) (sym size) placeable.1));
+      placeable = λ b. (
+        λ free. let in_volume = (c.over.ensures.free b).0 free in (placed b).1 in_volume.0 (subst (λ n. b < n) size in_volume.1),
+        λ placeable. (c.over.ensures.free b).1 ((placed b).0 placeable, subst (λ n. b < n) (sym size) placeable.1),
+      );
       count = subst (λ n. n < 2 ^ 64 - 1) (ap g.V.Volume.failures (sym volume)) c.requires.count;
     }

@@ -14,4 +14,4 @@ returns-else-is_of-clause-damaged g c tells honest either damage same =
     let size : c.size-blocks.result ≡ g.V.Volume.size volume = c.size-blocks.ensures ∙ c.in-Ok.ensures.size in
     subst (λ damage. IsDamaged damage rows (g.V.Volume.image volume)) is
     (other_volume rows c.in-Ok-Some.meta c.in-Ok.number (g.V.Volume.size volume) (g.V.Volume.image volume) (rw c.in-Ok-Some.field-0-is at (c.in-Ok-Some.ensures.found honest either)) fits
-      (g.met.V.Volume.image_length volume tells) (c.in-Ok.ensures.head tells) (λ both. let is_it = c.if-is_of.ensures.1 (both.0, both.1 ∙ ap pos (sym size)) in cc))
+    (g.met.V.Volume.image_length volume tells) (c.in-Ok.ensures.head tells) (λ both. let is_it = c.if-is_of.ensures.1 (both.0, both.1 ∙ ap pos (sym size)) in cc))

@@ -1,6 +1,6 @@
 use Rattle.std.proofs.Common.{◌≡◌, inl, ◌<◌, ◌^◌, ◌*◌, ◌∙◌, ap, arith, length}
 use Rattle.sqlite.specs.Held.{state}
-use Rattle.custody.proofs.Opened.{none_left, founds_nothing, founds_err, may_be_begun}
+use Rattle.custody.proofs.Opened.{none_left, founds_err, may_be_begun}
 use Rattle.custody.proofs.opening.prepare.Goals as goal
 
 pub returns-in_default-clause-at_exit : goal.returns-in_default-clause-at_exit
