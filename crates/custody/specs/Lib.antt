@@ -3,3 +3,4 @@ pub mod Custody
 pub mod Holdings
 pub mod Compared
 pub mod Order
+pub mod Opening

@@ -9,10 +9,10 @@ ghost use Rattle.custody.specs.Holdings.{recorded, stored, KeepsOrder, KeepsImag
 
 use crate::compare::{Comparison, compare};
 use crate::forms::{show_form_of_registry, show_range_of_moment};
-use custody_rules::{PartRuling, judge_part};
 use crate::{Record, Refused, Reply};
 use custody_machine::{Command, Damage, Fault, Refusal};
 use custody_records::{Part, Records, Registry};
+use custody_rules::{PartRuling, judge_part};
 use custody_store::Store;
 use deposit_name::{DepositName, Tld};
 use schedule::{Day, Sec};
