@@ -3,3 +3,4 @@ pub mod Faults
 pub mod Forms
 pub mod Lines
 pub mod Order
+pub mod Statuses

@@ -1,0 +1,136 @@
+//! What an order does to the agent of a folder, and what is printed of it.
+ghost use Rattle.std.specs.Prelude.{◌≡◌, ◌⊎◌};
+ghost use Rattle.agent_cli.specs.Statuses.{IsStatus, IsStatusAfter, answer_status, init_status};
+
+use crate::state::print_state;
+use crate::{Line, Order, last_part};
+use custody::{Custody, InitError, Record, Refused, Reply};
+use custody_machine::{Command, Fault};
+use schedule::Sec;
+use sqlite::Alter;
+use std::alloc::Global;
+use std::fmt::Display;
+use std::io::{self, Write};
+use vault_volume::Volume;
+
+/// The exit status where all is done.
+const DONE: u8 = 0;
+
+/// The exit status of a refusal.
+const REFUSED: u8 = 1;
+
+/// The exit status of a failure, also where output cannot be written.
+const FAILED: u8 = 3;
+
+/// Carries out an order, prints its lines and answers the exit status. `file` holds the bytes of the
+/// file that a `put` names, and `now` is its moment. An `init` is refused, since the vault is there.
+pub fn act<V: Volume, S: Alter, W: Write, E: Write>(
+    alloc: Global,
+    custody: &mut Custody<V, S>,
+    order: &Order<'_>,
+    file: &[u8],
+    now: Sec,
+    out: &mut W,
+    err: &mut E,
+) -> u8
+    ensures { IsStatus result }
+{
+    match order {
+        Order::Init { .. } => tell_init(&InitError::AlreadyInitialised, err),
+        Order::Register { tld, first, .. } => {
+            let answer = custody.apply(alloc, &Command::Register(*tld, *first), now);
+            print_answer(&answer, out, err)
+        }
+        Order::Put { file: path, .. } => {
+            let answer = custody.apply(alloc, &Command::Receive(last_part(path), file), now);
+            print_answer(&answer, out, err)
+        }
+        Order::State { .. } => show(custody, out, err),
+    }
+}
+
+/// Prints the line of a failure, as of opening, and answers its status.
+pub fn tell<E: Write>(fault: &Fault, err: &mut E) -> u8
+    ensures { result ≡ 3 }
+{
+    let _ = print(fault, err);
+    FAILED
+}
+
+/// Prints why there is no new vault, and answers the status.
+pub fn tell_init<E: Write>(error: &InitError, err: &mut E) -> u8
+    ensures { IsStatusAfter (init_status error.now) result }
+{
+    let status = match error {
+        InitError::AlreadyInitialised | InitError::Size => REFUSED,
+        InitError::Fault(_) => FAILED,
+    };
+    status_after(print(error, err), status)
+}
+
+/// Prints the line of a reply, and answers the status.
+pub fn print_line<W: Write>(line: &Line, out: &mut W) -> u8
+    ensures { IsStatusAfter 0 result }
+{
+    status_after(print(line, out), DONE)
+}
+
+fn print_answer<W: Write, E: Write>(answer: &Result<Reply, Refused>, out: &mut W, err: &mut E) -> u8
+    ensures { IsStatusAfter (answer_status answer.now) result }
+{
+    match answer {
+        Ok(reply) => print_line(&reply_line(reply), out),
+        Err(Refused::Refusal(refusal)) => status_after(print(refusal, err), REFUSED),
+        Err(Refused::Fault(fault)) => tell(fault, err),
+    }
+}
+
+fn reply_line(reply: &Reply) -> Line {
+    match reply.record {
+        Record::Registry { tld, first_day } => Line::Registered {
+            tld,
+            first: first_day,
+        },
+        Record::Part {
+            name,
+            received,
+            len,
+        } => Line::Received {
+            name,
+            length: len,
+            at: received,
+        },
+    }
+}
+
+fn show<V: Volume, S: Alter, W: Write, E: Write>(
+    custody: &Custody<V, S>,
+    out: &mut W,
+    err: &mut E,
+) -> u8
+    ensures { IsStatus result }
+{
+    let records = match custody.records() {
+        Ok(records) => records,
+        Err(fault) => return tell(&fault, err),
+    };
+    match custody.room() {
+        Ok((free, total)) => status_after(print_state(records, free, total, out), DONE),
+        Err(fault) => tell(&fault, err),
+    }
+}
+
+fn print<D: Display, W: Write>(line: &D, to: &mut W) -> io::Result<()> {
+    writeln!(to, "{line}")?;
+    to.flush()
+}
+
+/// The status of what was printed, or that of output that was not written.
+fn status_after(printed: io::Result<()>, status: u8) -> u8
+    ensures { IsStatusAfter status result }
+{
+    match printed {
+        Ok(()) => status,
+        Err(_) => FAILED,
+    }
+}
