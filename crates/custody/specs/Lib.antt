@@ -1,4 +1,2 @@
 pub mod Answers
-pub mod Rulings
-pub mod Breaks
 pub mod Order

@@ -7,7 +7,7 @@ ghost use Rattle.custody_machine.specs.Custody.{IsInOrder};
 ghost use Rattle.custody.specs.Order.{IsInOrder-prop};
 
 use crate::opening::{has_record, identify, load_whole};
-use crate::rules::place_after;
+use custody_rules::place_after;
 use crate::serving::{serve, stays_open};
 use crate::{InitError, Refused, Reply};
 use custody_machine::{Command, Fault};

@@ -8,7 +8,6 @@ mod custody;
 mod opening;
 mod receiving;
 mod registering;
-mod rules;
 mod serving;
 #[cfg(test)]
 mod tests;

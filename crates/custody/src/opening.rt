@@ -1,5 +1,5 @@
 //! What an opening looks at.
-use crate::rules::damage_in;
+use custody_rules::damage_in;
 use custody_machine::{Damage, Fault};
 use custody_records::Records;
 use custody_store::{Store, StoreFault, find_meta};

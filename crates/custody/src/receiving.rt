@@ -1,6 +1,6 @@
 //! Parts that are received.
 use crate::compare::{Comparison, compare};
-use crate::rules::{PartRuling, judge_part};
+use custody_rules::{PartRuling, judge_part};
 use crate::{Record, Refused, Reply};
 use custody_machine::{Damage, Fault, Refusal};
 use custody_records::{Part, Records};
