@@ -23,14 +23,14 @@ use Rattle.custody_machine.specs.SameValues.{is_same_kind}
 use Rattle.custody_machine.specs.State.{State, Held, places, at_place, has_notice}
 use Rattle.custody_machine.specs.Machine.{Command, Register, Receive, Refusal, NameRefused, RegistryUnknown, DateOutOfRange, Size, OtherBytes, DroppedAfterKeeping, RevisionNotDue, AlreadyStated, TypeDiffers, PartOutOfOrder, VolumeFull, refusals, Record, OfRegistry, OfPart, Reply, Refuse, Accept, max_part_len, of_kind, recorded, part_in, has_other_kind, is_failure_of, named_stands, refusal_of, kept, effect, received, unless_kept, unless_refused, step, state_of, state_after, received_part, with_part, Entry, read_by, reads, Answer, Accepted, Failed, StoreFailed, MayFail, Answers}
 use Rattle.custody_machine.specs.History.{IsFoundWithin, doubt_of, MayFind, is_open_after}
-use Rattle.custody_machine.specs.Stored.{AreNaming, IsNamed, is_part_of, IsGood, part_of, state_in, KeepsParts, OpensFrom}
+use Rattle.custody_machine.specs.Stored.{AreNaming, IsNamed, AreWhole, IsVolumeOf, is_part_of, IsGood, part_of, state_in, KeepsParts, OpensFrom}
 use Rattle.custody_machine.specs.Moves.{Place, Serving, Shut, MayLeave, MayLeaveWithin, RestsOnBytes, place_after}
-use Rattle.custody_machine.specs.Custody.{IsPlaceable, IsInOrder, IsOnVolume, IsInStore, IsStaged, staged_record, IsAt, Serves}
+use Rattle.custody_machine.specs.Custody.{IsPlaceable, IsInOrder, IsOnVolume, IsInStore, IsPlaced, IsSettled, staged_record, IsAt, Serves}
 use Rattle.custody_machine.proofs.MapValues.{get-map_values}
 use Rattle.custody_machine.proofs.Series.{prior_taken, is_place}
 use Rattle.custody_machine.proofs.Keeping.{NoneStands, refused_name, step_none, step_accepts, registered, receives, place_passes, insert_here}
 use Rattle.custody_machine.proofs.Orders.{part_total}
-use Rattle.custody_machine.proofs.Stored.{state_in-elsewhere, digest-elsewhere, good-elsewhere, keeps_same, keeps_itself, keeps_on, good-with_registry, keeps-with_registry, state_in-with_part, inserted, part_still, IsInPlace, good-with_part, keeps-with_part}
+use Rattle.custody_machine.proofs.Stored.{state_in-elsewhere, digest-elsewhere, good-elsewhere, keeps_same, keeps_itself, keeps_on, whole-with_registry, good-with_registry, keeps-with_registry, state_in-with_part, inserted, part_still, IsInPlace, whole-with_part, good-with_part, keeps-with_part}
 
 -- ---- which parts are read
 
@@ -239,10 +239,13 @@ module _ (records : Records) (i : List ℕ) (size failures failures_then : ℕ) 
     moved = same_in free i;
   }
 
+  pub registry_in_order : failures_then < 2 ^ 64 - 1 → IsInOrder (recorded_in.with_registry records tld day) size failures_then free
+  registry_in_order count = record { whole = whole-with_registry records tld day order.whole; blocks = order.blocks; placeable = order.placeable; count = count }
+
 -- ---- a new part
 
 -- what none of the refusals of a new part tells
-module _ (records : Records) (i : List ℕ) (order : IsGood records i) (text bytes : List ℕ) (now : ℕ) (n : Name) (named : read_name text ≡ Ok n) (empty_place : get records.parts (key_of n) ≡ None)
+module _ (records : Records) (i : List ℕ) (whole : AreWhole records) (text bytes : List ℕ) (now : ℕ) (n : Name) (named : read_name text ≡ Ok n) (empty_place : get records.parts (key_of n) ≡ None)
     (ruled : step (state_in records i) (Receive text bytes) now ≡ Accept (record { entry = OfPart (key_of n) (received_part n bytes now); is_repeat = false }) (with_part (state_in records i) (key_of n) (received_part n bytes now))) where
   none_stand : NoneStands (state_in records i) n bytes now
   none_stand = let r = receives (state_in records i) text bytes now _ _ ruled in
@@ -274,7 +277,7 @@ module _ (records : Records) (i : List ℕ) (order : IsGood records i) (text byt
     where
       by : (o : Option PartRecord) → get records.parts (at_place (key_of n) (suc (suc m))) ≡ o → is_some (option_map (part_of i) o) ≡ true → is_some (part_in (state_in records i) n (suc m)) ≡ true
       by None at h = cc
-      by (Some p) at h = ap is_some (place_is (suc m)) ∙ some_of _ p.kind (order.whole.linked.series (at_place (key_of n) (suc (suc m))) p at m refl)
+      by (Some p) at h = ap is_some (place_is (suc m)) ∙ some_of _ p.kind (whole.linked.series (at_place (key_of n) (suc (suc m))) p at m refl)
 
   series : (m : ℕ) → n.part ≡ suc (suc m) → is_part_of n.kind (get records.parts (at_place (key_of n) (suc m))) ≡ true
   series m e =
@@ -326,65 +329,66 @@ module _ (records : Records) (i : List ℕ) (order : IsGood records i) (text byt
   pub reads_nothing : reads (state_in records i) (Receive text bytes) now ≡ []
   reads_nothing = let r = step_accepts (state_in records i) (Receive text bytes) now _ _ ruled in reads_accepted (state_in records i) (Receive text bytes) now r.0
 
-  module _ (size failures : ℕ) (free : ℕ → Type 0) (kept_order : IsInOrder records size failures free) (j : List ℕ) (g : ℕ → Type 0) (images_then : List ℕ → Type 0) (staged : StagedPart) (s : IsStaged size i j free g images_then bytes staged) where
+  module _ (size failures : ℕ) (free : ℕ → Type 0) (kept_order : IsInOrder records size failures free) (g : ℕ → Type 0) (staged : StagedPart) (p : IsPlaced size free g bytes staged) where
     in_place : IsInPlace records (key_of n) (staged_record n now staged) staged.extents
     in_place = record {
       held = refl;
-      range = record { each = subst (λ (b : ℕ). All (IsExtentOf b) staged.extents) kept_order.blocks s.each; counts = s.counts ∙ sym (ap block_count s.len) };
-      apart = s.apart;
-      unnamed = λ b within is. named_used records size failures free kept_order b is (s.from_free b within);
+      range = record { each = subst (λ (b : ℕ). All (IsExtentOf b) staged.extents) kept_order.blocks p.each; counts = p.counts ∙ sym (ap block_count p.len) };
+      apart = p.apart;
+      unnamed = λ b within is. named_used records size failures free kept_order b is (p.from_free b within);
       registry = known;
       fresh = empty_place;
       series = series;
       due = due;
     }
 
-    -- the state after the command
-    pub state_then : state_in (recorded_in.with_part records (key_of n) (staged_record n now staged)) j ≡ with_part (state_in records i) (key_of n) (received_part n bytes now)
-    state_then = state_in-with_part records j (key_of n) (staged_record n now staged)
-        ∙ ap (λ b. with_part (state_in records j) (key_of n) (record { kind = n.kind; received = now; content = Held b })) s.holds
-        ∙ ap (λ z. with_part z (key_of n) (received_part n bytes now)) (state_in-elsewhere free records i j s.elsewhere (named_used records size failures free kept_order))
-
     -- a block that a part names then is one of those before, or of the new part
     named_then : (b : ℕ) → IsNamed (recorded_in.with_part records (key_of n) (staged_record n now staged)) b → IsNamed records b ⊎ IsInAny staged.extents b
     named_then b is = inserted records.parts (key_of n) (staged_record n now staged) (λ q r. AreNaming r.extents b → IsNamed records b ⊎ IsInAny staged.extents b) (λ within. inr within) (λ q r at within. inl (q, r, at, within)) is.0 is.1 is.2 is.3
 
-    pub part_changes : IsChange records i free (recorded_in.with_part records (key_of n) (staged_record n now staged)) j g
-    part_changes = record {
-      good = good-with_part records j (key_of n) (staged_record n now staged) staged.extents in_place
-          (good-elsewhere free records i j s.elsewhere (named_used records size failures free kept_order) (head_used records size failures free kept_order) order);
-      keeps = keeps-with_part records i j (key_of n) (staged_record n now staged) staged.extents empty_place refl (ap sha256 s.holds ∙ sym s.digest) (digest-elsewhere free records i j s.elsewhere (named_used records size failures free kept_order));
-      unnamed = λ b is f. by b f (named_then b is);
-      head = λ f. head_used records size failures free kept_order ((s.taken 0).0 f).0;
-      fewer = λ b f. ((s.taken b).0 f).0;
-      moved = s.elsewhere;
-    }
-      where
-        by : (b : ℕ) → g b → IsNamed records b ⊎ IsInAny staged.extents b → ⊥
-        by b f (inl is) = named_used records size failures free kept_order b is ((s.taken b).0 f).0
-        by b f (inr within) = ((s.taken b).0 f).1 within
-
-    pub part_ruled : step (state_in records i) (Receive text bytes) now ≡ Accept (record { entry = OfPart (key_of n) (received_part n bytes now); is_repeat = false }) (state_in (recorded_in.with_part records (key_of n) (staged_record n now staged)) j)
-    part_ruled = ruled ∙ ap (Accept (record { entry = OfPart (key_of n) (received_part n bytes now); is_repeat = false })) (sym state_then)
-
     -- the blocks that are free then are those that may be placed
     pub part_in_order : (failures_then : ℕ) → failures_then < 2 ^ 64 - 1 → IsInOrder (recorded_in.with_part records (key_of n) (staged_record n now staged)) size failures_then g
     part_in_order failures_then count = record {
-      whole = part_changes.good.whole;
+      whole = whole-with_part records (key_of n) (staged_record n now staged) staged.extents in_place whole;
       blocks = kept_order.blocks;
       placeable = λ b. (to b, from b);
       count = count;
     }
       where
         below : (b : ℕ) → g b → (m : ℕ) → IsNamed records m ⊎ IsInAny staged.extents m → m < b
-        below b f m (inl is) = ((kept_order.placeable b).0 ((s.taken b).0 f).0).2 m is
-        below b f m (inr within) = s.behind b m f within
+        below b f m (inl is) = ((kept_order.placeable b).0 ((p.taken b).0 f).0).2 m is
+        below b f m (inr within) = p.behind b m f within
 
         to : (b : ℕ) → g b → IsPlaceable (recorded_in.with_part records (key_of n) (staged_record n now staged)) b
-        to b f = let was = (kept_order.placeable b).0 ((s.taken b).0 f).0 in (was.0, was.1, λ m is. below b f m (named_then m is))
+        to b f = let was = (kept_order.placeable b).0 ((p.taken b).0 f).0 in (was.0, was.1, λ m is. below b f m (named_then m is))
 
         still : (m : ℕ) → IsNamed records m → IsNamed (recorded_in.with_part records (key_of n) (staged_record n now staged)) m
         still m is = (is.0, is.1, part_still records.parts (key_of n) (staged_record n now staged) empty_place is.0 is.1 is.2, is.3)
 
         from : (b : ℕ) → IsPlaceable (recorded_in.with_part records (key_of n) (staged_record n now staged)) b → g b
-        from b p = (s.taken b).1 ((kept_order.placeable b).1 (p.0, p.1, λ m is. p.2 m (still m is))) (λ within. let lt = p.2 b (key_of n, staged_record n now staged, insert_here part_total records.parts (key_of n) (staged_record n now staged), within) in absurd (omega (arith, lt)))
+        from b q = (p.taken b).1 ((kept_order.placeable b).1 (q.0, q.1, λ m is. q.2 m (still m is))) (λ within. let lt = q.2 b (key_of n, staged_record n now staged, insert_here part_total records.parts (key_of n) (staged_record n now staged), within) in absurd (omega (arith, lt)))
+
+    module _ (volume : IsVolumeOf records i) (j : List ℕ) (images_then : List ℕ → Type 0) (s : IsSettled i j free images_then bytes staged) where
+      -- the state after the command
+      pub state_then : state_in (recorded_in.with_part records (key_of n) (staged_record n now staged)) j ≡ with_part (state_in records i) (key_of n) (received_part n bytes now)
+      state_then = state_in-with_part records j (key_of n) (staged_record n now staged)
+          ∙ ap (λ b. with_part (state_in records j) (key_of n) (record { kind = n.kind; received = now; content = Held b })) s.holds
+          ∙ ap (λ z. with_part z (key_of n) (received_part n bytes now)) (state_in-elsewhere free records i j s.elsewhere (named_used records size failures free kept_order))
+
+      pub part_changes : IsChange records i free (recorded_in.with_part records (key_of n) (staged_record n now staged)) j g
+      part_changes = record {
+        good = good-with_part records j (key_of n) (staged_record n now staged) staged.extents in_place
+            (good-elsewhere free records i j s.elsewhere (named_used records size failures free kept_order) (head_used records size failures free kept_order) (record { whole = whole; volume = volume }));
+        keeps = keeps-with_part records i j (key_of n) (staged_record n now staged) staged.extents empty_place refl (ap sha256 s.holds ∙ sym p.digest) (digest-elsewhere free records i j s.elsewhere (named_used records size failures free kept_order));
+        unnamed = λ b is f. by b f (named_then b is);
+        head = λ f. head_used records size failures free kept_order ((p.taken 0).0 f).0;
+        fewer = λ b f. ((p.taken b).0 f).0;
+        moved = s.elsewhere;
+      }
+        where
+          by : (b : ℕ) → g b → IsNamed records b ⊎ IsInAny staged.extents b → ⊥
+          by b f (inl is) = named_used records size failures free kept_order b is ((p.taken b).0 f).0
+          by b f (inr within) = ((p.taken b).0 f).1 within
+
+      pub part_ruled : step (state_in records i) (Receive text bytes) now ≡ Accept (record { entry = OfPart (key_of n) (received_part n bytes now); is_repeat = false }) (state_in (recorded_in.with_part records (key_of n) (staged_record n now staged)) j)
+      part_ruled = ruled ∙ ap (Accept (record { entry = OfPart (key_of n) (received_part n bytes now); is_repeat = false })) (sym state_then)

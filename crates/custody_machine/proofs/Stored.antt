@@ -20,7 +20,7 @@ use Rattle.custody_records.specs.Rows.{Rows}
 use Rattle.custody_machine.specs.Names.{is_same_text, read_name}
 use Rattle.custody_machine.specs.State.{State, Held, at_place, has_notice}
 use Rattle.custody_machine.specs.Machine.{is_failure_of, with_part}
-use Rattle.custody_machine.specs.Stored.{ForExtents, AreNaming, IsNamed, AreExtents, is_part_of, names_part, IsGood, content_of, part_of, state_in, Stands, HasDigestAt, HasDigests, IsSound, IsKeptRecord, KeepsParts, OpensFrom}
+use Rattle.custody_machine.specs.Stored.{ForExtents, AreNaming, IsNamed, AreExtents, is_part_of, names_part, AreWhole, IsGood, content_of, part_of, state_in, Stands, HasDigestAt, HasDigests, IsSound, IsKeptRecord, KeepsParts, OpensFrom}
 use Rattle.custody_machine.proofs.MapValues.{get-map_values, map_values-insert}
 use Rattle.custody_machine.proofs.Orders.{text_total, part_total, part_exact}
 use Rattle.custody_machine.proofs.Keeping.{insert_new}
@@ -103,27 +103,27 @@ known_still registries tld day q h = ap is_some (get-insert text_total registrie
     by true = refl
     by false = h
 
-pub good-with_registry : (records : Records) (image : List ℕ) (tld : List ℕ) (day : ℕ) → IsGood records image → IsGood (recorded.with_registry records tld day) image
-good-with_registry records image tld day g = let l = g.whole.linked in record {
-  whole = record {
-    extents = g.whole.extents;
-    once = record { within = g.whole.once.within; between = g.whole.once.between };
-    linked = record {
-      part_registry = λ key part at. known_still records.registries tld day key.tld (l.part_registry key part at);
-      notice_registry = λ key notice at. known_still records.registries tld day key.tld (l.notice_registry key notice at);
-      release_registry = λ reference release at. known_still records.registries tld day release.tld (l.release_registry reference release at);
-      released = l.released;
-      series = l.series;
-      numbers = l.numbers;
-      verdict_parts = l.verdict_parts;
-      one_verdict = l.one_verdict;
-      due = l.due;
-      one_receipt = l.one_receipt;
-      one_absence = l.one_absence;
-    };
+pub whole-with_registry : (records : Records) (tld : List ℕ) (day : ℕ) → AreWhole records → AreWhole (recorded.with_registry records tld day)
+whole-with_registry records tld day whole = let l = whole.linked in record {
+  extents = whole.extents;
+  once = record { within = whole.once.within; between = whole.once.between };
+  linked = record {
+    part_registry = λ key part at. known_still records.registries tld day key.tld (l.part_registry key part at);
+    notice_registry = λ key notice at. known_still records.registries tld day key.tld (l.notice_registry key notice at);
+    release_registry = λ reference release at. known_still records.registries tld day release.tld (l.release_registry reference release at);
+    released = l.released;
+    series = l.series;
+    numbers = l.numbers;
+    verdict_parts = l.verdict_parts;
+    one_verdict = l.one_verdict;
+    due = l.due;
+    one_receipt = l.one_receipt;
+    one_absence = l.one_absence;
   };
-  volume = record { head = g.volume.head; size = g.volume.size };
 }
+
+pub good-with_registry : (records : Records) (image : List ℕ) (tld : List ℕ) (day : ℕ) → IsGood records image → IsGood (recorded.with_registry records tld day) image
+good-with_registry records image tld day g = record { whole = whole-with_registry records tld day g.whole; volume = record { head = g.volume.head; size = g.volume.size } }
 
 pub keeps-with_registry : (records : Records) (image : List ℕ) (tld : List ℕ) (day : ℕ) → KeepsParts records image (recorded.with_registry records tld day) image
 keeps-with_registry records image tld day = record { kept = λ key part at. (part, at, inl refl); digests = λ key has. has }
@@ -189,39 +189,39 @@ pub record IsInPlace (records : Records) (key : PartKey) (part : PartRecord) (ex
   pub series : (n : ℕ) → key.part ≡ suc (suc n) → is_part_of part.kind (get records.parts (at_place key (suc n))) ≡ true
   pub due : 0 < key.rev → has_notice records.notices key.tld key.day (is_failure_of (key.rev - 1)) ≡ true
 
-pub good-with_part : (records : Records) (image : List ℕ) (key : PartKey) (part : PartRecord) (extents : List Extent) → IsInPlace records key part extents → IsGood records image → IsGood (recorded.with_part records key part) image
-good-with_part records image key part extents p g = let l = g.whole.linked in record {
-  whole = record {
-    extents = inserted records.parts key part (λ q r. ForExtents r.extents (AreExtents records.blocks r.len)) (subst (λ o. ForExtents o (AreExtents records.blocks part.len)) (sym p.held) p.range) g.whole.extents;
-    once = record {
-      within = inserted records.parts key part (λ q r. ForExtents r.extents AreApart) (subst (λ o. ForExtents o AreApart) (sym p.held) p.apart) g.whole.once.within;
-      between = λ i j x y b at_i at_j in_x in_y. inserted records.parts key part (λ i x. AreNaming x.extents b → i ≡ j)
-          (λ in_new. inserted records.parts key part (λ j y. AreNaming y.extents b → key ≡ j) (λ _. refl) (λ j y at in_old. absurd (not_both b in_new j y at in_old)) j y at_j in_y)
-          (λ i x at in_old. inserted records.parts key part (λ j y. AreNaming y.extents b → i ≡ j) (λ in_new. absurd (not_both b in_new i x at in_old)) (λ j y at' in_j. g.whole.once.between i j x y b at at' in_old in_j) j y at_j in_y)
-          i x at_i in_x;
-    };
-    linked = record {
-      part_registry = inserted records.parts key part (λ q r. is_some (get records.registries q.tld) ≡ true) p.registry l.part_registry;
-      notice_registry = l.notice_registry;
-      release_registry = l.release_registry;
-      released = λ reference release at. all_still (λ text. names_part records release.tld (read_name text)) (λ text. names_part (recorded.with_part records key part) release.tld (read_name text))
-          (λ text. names_still records key part p.fresh release.tld (read_name text)) release.names (l.released reference release at);
-      series = inserted records.parts key part (λ q r. (n : ℕ) → q.part ≡ suc (suc n) → is_part_of r.kind (get (insert records.parts key part) (at_place q (suc n))) ≡ true)
-          (λ n e. kind_still records.parts key part p.fresh part.kind (at_place key (suc n)) (p.series n e))
-          (λ q r at n e. kind_still records.parts key part p.fresh r.kind (at_place q (suc n)) (l.series q r at n e));
-      numbers = l.numbers;
-      verdict_parts = λ k notice rev at of. some_still records.parts key part p.fresh (record { tld = k.tld; day = notice.day; rev = rev; part = 1 }) (l.verdict_parts k notice rev at of);
-      one_verdict = l.one_verdict;
-      due = inserted records.parts key part (λ q r. 0 < q.rev → has_notice records.notices q.tld q.day (is_failure_of (q.rev - 1)) ≡ true) p.due l.due;
-      one_receipt = l.one_receipt;
-      one_absence = l.one_absence;
-    };
+pub whole-with_part : (records : Records) (key : PartKey) (part : PartRecord) (extents : List Extent) → IsInPlace records key part extents → AreWhole records → AreWhole (recorded.with_part records key part)
+whole-with_part records key part extents p whole = let l = whole.linked in record {
+  extents = inserted records.parts key part (λ q r. ForExtents r.extents (AreExtents records.blocks r.len)) (subst (λ o. ForExtents o (AreExtents records.blocks part.len)) (sym p.held) p.range) whole.extents;
+  once = record {
+    within = inserted records.parts key part (λ q r. ForExtents r.extents AreApart) (subst (λ o. ForExtents o AreApart) (sym p.held) p.apart) whole.once.within;
+    between = λ i j x y b at_i at_j in_x in_y. inserted records.parts key part (λ i x. AreNaming x.extents b → i ≡ j)
+        (λ in_new. inserted records.parts key part (λ j y. AreNaming y.extents b → key ≡ j) (λ _. refl) (λ j y at in_old. absurd (not_both b in_new j y at in_old)) j y at_j in_y)
+        (λ i x at in_old. inserted records.parts key part (λ j y. AreNaming y.extents b → i ≡ j) (λ in_new. absurd (not_both b in_new i x at in_old)) (λ j y at' in_j. whole.once.between i j x y b at at' in_old in_j) j y at_j in_y)
+        i x at_i in_x;
   };
-  volume = record { head = g.volume.head; size = g.volume.size };
+  linked = record {
+    part_registry = inserted records.parts key part (λ q r. is_some (get records.registries q.tld) ≡ true) p.registry l.part_registry;
+    notice_registry = l.notice_registry;
+    release_registry = l.release_registry;
+    released = λ reference release at. all_still (λ text. names_part records release.tld (read_name text)) (λ text. names_part (recorded.with_part records key part) release.tld (read_name text))
+        (λ text. names_still records key part p.fresh release.tld (read_name text)) release.names (l.released reference release at);
+    series = inserted records.parts key part (λ q r. (n : ℕ) → q.part ≡ suc (suc n) → is_part_of r.kind (get (insert records.parts key part) (at_place q (suc n))) ≡ true)
+        (λ n e. kind_still records.parts key part p.fresh part.kind (at_place key (suc n)) (p.series n e))
+        (λ q r at n e. kind_still records.parts key part p.fresh r.kind (at_place q (suc n)) (l.series q r at n e));
+    numbers = l.numbers;
+    verdict_parts = λ k notice rev at of. some_still records.parts key part p.fresh (record { tld = k.tld; day = notice.day; rev = rev; part = 1 }) (l.verdict_parts k notice rev at of);
+    one_verdict = l.one_verdict;
+    due = inserted records.parts key part (λ q r. 0 < q.rev → has_notice records.notices q.tld q.day (is_failure_of (q.rev - 1)) ≡ true) p.due l.due;
+    one_receipt = l.one_receipt;
+    one_absence = l.one_absence;
+  };
 }
   where
     not_both : (b : ℕ) → AreNaming part.extents b → (k : PartKey) (q : PartRecord) → get records.parts k ≡ Some q → AreNaming q.extents b → ⊥
     not_both b in_new k q at in_old = p.unnamed b (subst (λ o. AreNaming o b) p.held in_new) (k, q, at, in_old)
+
+pub good-with_part : (records : Records) (image : List ℕ) (key : PartKey) (part : PartRecord) (extents : List Extent) → IsInPlace records key part extents → IsGood records image → IsGood (recorded.with_part records key part) image
+good-with_part records image key part extents p g = record { whole = whole-with_part records key part extents p g.whole; volume = record { head = g.volume.head; size = g.volume.size } }
 
 -- the parts from before stay, and the new one has its digest
 pub keeps-with_part : (records : Records) (old new : List ℕ) (key : PartKey) (part : PartRecord) (extents : List Extent) → get records.parts key ≡ None → part.extents ≡ Some extents → sha256 (part_bytes new extents part.len) ≡ part.digest

@@ -61,8 +61,8 @@ pub record IsInStore (records : Records) (rows : Rows) (is_ready : Type 0) (left
 abbrev pub LeftSince : {V : Type 0} → (V → ℕ) → (V → ℕ → List ℕ → Type 0) → V → V → List ℕ → Type 0
 LeftSince moment left_at old new image = (t : ℕ) × (moment old ≤ t) × (t ≤ moment new) × left_at new t image
 
--- Bytes are settled at blocks that were free, and are used now.
-pub record IsStaged (size : ℕ) (old new : List ℕ) (was_free is_free : ℕ → Type 0) (left : List ℕ → Type 0) (bytes : List ℕ) (staged : StagedPart) : Type 0 where
+-- Blocks that were free are taken for bytes.
+pub record IsPlaced (size : ℕ) (was_free is_free : ℕ → Type 0) (bytes : List ℕ) (staged : StagedPart) : Type 0 where
   pub len : staged.len ≡ length bytes
   pub digest : staged.digest ≡ sha256 bytes
   pub each : All (IsExtentOf size) staged.extents
@@ -72,6 +72,9 @@ pub record IsStaged (size : ℕ) (old new : List ℕ) (was_free is_free : ℕ �
   pub taken : Takes was_free staged.extents is_free
   -- until blocks are used again: the blocks that are still free lie behind those that were taken
   pub behind : (b n : ℕ) → is_free b → IsInAny staged.extents n → n < b
+
+-- They hold the bytes, and a stop leaves this image.
+pub record IsSettled (old new : List ℕ) (was_free : ℕ → Type 0) (left : List ℕ → Type 0) (bytes : List ℕ) (staged : StagedPart) : Type 0 where
   pub holds : part_bytes new staged.extents staged.len ≡ bytes
   pub elsewhere : DiffersOnlyIn was_free old new
   pub settled : (c : List ℕ) → left c → c ≡ new

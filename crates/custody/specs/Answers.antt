@@ -1,0 +1,45 @@
+-- The answers of a custody, as those of the machine, and their lines.
+use Rattle.std.specs.Prelude.{◌≡◌, ℕ, List, [], length, codes, Bool, Result, Ok, Err, IfOk}
+use Rattle.deposit_name.specs.Name.{Name}
+use Rattle.custody_records.specs.Records.{key_of}
+use Rattle.custody_machine.specs.State.{Held}
+use Rattle.custody_machine.specs.Machine as machine
+use Rattle.custody_machine.specs.Machine.{Command, Register, Receive, Answer, Accepted, Refused, Failed, OfRegistry, OfPart}
+use Rattle.custody_machine.specs.Texts.{refusal_text, fault_text}
+use Rattle.custody.specs.declared.answers.Record as code
+use Rattle.custody.specs.declared.answers.Record.TheVariants as record_of_kind
+use Rattle.custody.specs.declared.answers.Reply.{Reply}
+use Rattle.custody.specs.declared.answers.Refused as not_accepted
+use Rattle.custody.specs.declared.answers.Refused.TheVariants as refused
+use Rattle.custody.specs.declared.answers.InitError.{InitError}
+use Rattle.custody.specs.declared.answers.InitError.TheVariants as init_error
+
+abbrev pub refused_text : not_accepted.Refused → List ℕ
+refused_text (refused.Refusal refusal) = refusal_text refusal
+refused_text (refused.Fault fault) = fault_text fault
+
+abbrev pub init_error_text : InitError → List ℕ
+init_error_text init_error.AlreadyInitialised = codes "I1 already initialised"
+init_error_text init_error.Size = codes "I2 size"
+init_error_text (init_error.Fault fault) = fault_text fault
+
+-- the bytes that a command brings
+abbrev pub bytes_of : Command → List ℕ
+bytes_of (Register tld first_day) = []
+bytes_of (Receive name bytes) = bytes
+
+-- the record that is answered; a part has the bytes of the command, of which the answer tells the number
+abbrev pub record_shown : List ℕ → code.Record → machine.Record
+record_shown bytes (record_of_kind.Registry tld first_day) = OfRegistry tld first_day
+record_shown bytes (record_of_kind.Part name received len) = OfPart (key_of name) (record { kind = name.kind; received = received; content = Held bytes })
+
+-- the answer of the machine
+abbrev pub answer_of : Command → Result Reply not_accepted.Refused → Answer
+answer_of command (Ok reply) = Accepted (record { entry = record_shown (bytes_of command) reply.record; is_repeat = reply.is_repeat })
+answer_of command (Err (refused.Refusal refusal)) = Refused refusal
+answer_of command (Err (refused.Fault fault)) = Failed fault
+
+-- the length told of a part is that of the bytes
+abbrev pub TellsLength : List ℕ → code.Record → Type 0
+TellsLength bytes (record_of_kind.Registry tld first_day) = Unit {0}
+TellsLength bytes (record_of_kind.Part name received len) = len ≡ length bytes

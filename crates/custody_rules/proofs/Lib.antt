@@ -1,0 +1,4 @@
+pub mod Tables
+pub mod Apart
+pub mod Behind
+pub mod PartBlocks

@@ -1,0 +1,198 @@
+-- The blocks of parts, by the rows of their table and by their map.
+use Rattle.std.proofs.Common.{◌≡◌, ◌⊎◌, inl, inr, ⊎_elim, ℕ, zero, suc, ◌+◌, ◌-◌, ◌<◌, ◌≤◌, List, [], ◌∷◌, ◌++◌, length, get_or, take, drop, Bool, true, Option, Some, None, sym, ◌∙◌, ap, subst, arith}
+use Rattle.std.specs.Prelude.{All}
+use Rattle.std.specs.FinMap.{get}
+use Rattle.std.proofs.lemmas.Bool.{cases_order}
+use Rattle.std.proofs.lemmas.List.{take_more, take-append-drop, flat_map_more}
+use Rattle.std.proofs.lemmas.Grind.{flat_map-append}
+use Rattle.std.proofs.lemmas.List.Elements.{All-nil, All-cons, All-head, All-tail, All-append}
+use Rattle.vault_volume.specs.Extents.{IsExtentOf, IsInAny, AreApart}
+use Rattle.vault_volume.specs.declared.extent.Extent.{Extent}
+use Rattle.custody_records.specs.declared.parts.Part.{Part}
+use Rattle.custody_records.specs.Keys.{PartKey, part_cmp}
+use Rattle.custody_records.specs.Orders.{part_total, part_exact}
+use Rattle.custody_records.specs.Records.{PartRecord, Records}
+use Rattle.custody_records.specs.Tables.{is_rising, table_map}
+use Rattle.custody_records.specs.Typed.{part_place, part_value}
+use Rattle.custody_machine.specs.Stored.{ForExtents, AreNaming, IsNamed, AreExtents, AreInRange, AreOnce}
+use Rattle.custody_machine.specs.Custody.{IsPlaceable}
+use Rattle.custody_rules.specs.Blocks.{IsInRange, held, extents_of, all_extents, AreNew, Marks}
+use Rattle.custody_rules.proofs.Apart.{in_left, in_right, in_either, apart_left, apart_right, apart_between, apart_append, new_left, new_append, new_rest, marks_append}
+use Rattle.custody_rules.proofs.Behind.{block_within}
+use Rattle.custody_rules.proofs.Tables.{IsRowOf, row_in_table, table_has_row, keys_differ}
+
+-- ---- the extents that are held, and those that may not be
+
+naming_held : (o : Option (List Extent)) (b : ℕ) → AreNaming o b → IsInAny (held o) b
+naming_held None b none = none
+naming_held (Some extents) b there = there
+
+held_naming : (o : Option (List Extent)) (b : ℕ) → IsInAny (held o) b → AreNaming o b
+held_naming None b none = none
+held_naming (Some extents) b there = there
+
+apart_held : (o : Option (List Extent)) → ForExtents o AreApart → AreApart (held o)
+apart_held None apart = tt
+apart_held (Some extents) apart = apart
+
+held_apart : (o : Option (List Extent)) → AreApart (held o) → ForExtents o AreApart
+held_apart None apart = tt
+held_apart (Some extents) apart = apart
+
+within_held : (blocks len : ℕ) (o : Option (List Extent)) → ForExtents o (AreExtents blocks len) → All (IsExtentOf blocks) (held o)
+within_held blocks len None within = All-nil (IsExtentOf blocks)
+within_held blocks len (Some extents) within = within.each
+
+-- ---- the extents of all rows
+
+in_row : (rows : List Part) (b : ℕ) → IsInAny (all_extents rows) b → (i : ℕ) × (i < length rows) × ((d : Part) → IsInAny (extents_of (get_or rows i d)) b)
+in_row [] b none = absurd none
+in_row (row ∷ rows) b there = by (in_either (extents_of row) (all_extents rows) b there) (in_row rows b)
+  where
+    by : IsInAny (extents_of row) b ⊎ IsInAny (all_extents rows) b → (IsInAny (all_extents rows) b → (i : ℕ) × (i < length rows) × ((d : Part) → IsInAny (extents_of (get_or rows i d)) b))
+        → (i : ℕ) × (i < length (row ∷ rows)) × ((d : Part) → IsInAny (extents_of (get_or (row ∷ rows) i d)) b)
+    by (inl here) rest = (0, omega arith, λ d. here)
+    by (inr after) rest = let found = rest after in let low = found.1 in (suc found.0, omega arith, λ d. found.2 d)
+
+of_row : (rows : List Part) (i : ℕ) (d : Part) (b : ℕ) → i < length rows → IsInAny (extents_of (get_or rows i d)) b → IsInAny (all_extents rows) b
+of_row [] i d b within there = absurd (omega arith)
+of_row (row ∷ rows) zero d b within there = in_left (extents_of row) (all_extents rows) b there
+of_row (row ∷ rows) (suc i) d b within there = in_right (extents_of row) (all_extents rows) b (of_row rows i d b (omega arith) there)
+
+apart_within : (rows : List Part) → AreApart (all_extents rows) → (i : ℕ) (d : Part) → i < length rows → AreApart (extents_of (get_or rows i d))
+apart_within [] apart i d within = absurd (omega arith)
+apart_within (row ∷ rows) apart zero d within = apart_left (extents_of row) (all_extents rows) apart
+apart_within (row ∷ rows) apart (suc i) d within = apart_within rows (apart_right (extents_of row) (all_extents rows) apart) i d (omega arith)
+
+apart_rows : (rows : List Part) → AreApart (all_extents rows) → (i j : ℕ) (d : Part) → i < j → j < length rows → (b : ℕ) → IsInAny (extents_of (get_or rows i d)) b → IsInAny (extents_of (get_or rows j d)) b → ⊥
+apart_rows [] apart i j d before within b here there = omega arith
+apart_rows (row ∷ rows) apart i zero d before within b here there = omega arith
+apart_rows (row ∷ rows) apart zero (suc j) d before within b here there = apart_between (extents_of row) (all_extents rows) apart b here (of_row rows j d b (omega arith) there)
+apart_rows (row ∷ rows) apart (suc i) (suc j) d before within b here there = apart_rows rows (apart_right (extents_of row) (all_extents rows) apart) i j d (omega arith) (omega arith) b here there
+
+apart_all : (rows : List Part) → ((i : ℕ) (d : Part) → i < length rows → AreApart (extents_of (get_or rows i d)))
+    → ((i j : ℕ) (d : Part) → i < j → j < length rows → (b : ℕ) → IsInAny (extents_of (get_or rows i d)) b → IsInAny (extents_of (get_or rows j d)) b → ⊥) → AreApart (all_extents rows)
+apart_all [] each between = tt
+apart_all (row ∷ rows) each between = apart_append (extents_of row) (all_extents rows) (each 0 row (omega arith))
+    (apart_all rows (λ i d within. each (suc i) d (omega arith)) (λ i j d before within. between (suc i) (suc j) d (omega arith) (omega arith)))
+    (λ b here there. let found = in_row rows b there in let low = found.1 in between 0 (suc found.0) row (omega arith) (omega arith) b here (found.2 row))
+
+-- each extent lies in the volume
+pub each_extent : (blocks : ℕ) (rows : List Part) → All (IsInRange blocks) rows → All (IsExtentOf blocks) (all_extents rows)
+each_extent blocks [] each = All-nil (IsExtentOf blocks)
+each_extent blocks (row ∷ rows) each = All-append (IsExtentOf blocks) (extents_of row) (all_extents rows) (within_held blocks row.len (part_value row).extents (All-head (IsInRange blocks) row rows each))
+    (each_extent blocks rows (All-tail (IsInRange blocks) row rows each))
+
+-- ---- a row more
+
+pub all_more : (rows : List Part) (i : ℕ) (d : Part) → i < length rows → all_extents (take (i + 1) rows) ≡ all_extents (take i rows) ++ extents_of (get_or rows i d)
+all_more rows i d within = ap all_extents (take_more rows i d within) ∙ sym (flat_map_more extents_of [] (take i rows) (get_or rows i d))
+
+new_take_rows : (marks : List Bool) (i : ℕ) (rows : List Part) → AreNew marks (all_extents rows) → AreNew marks (all_extents (take i rows))
+new_take_rows marks i rows all = new_left marks (all_extents (take i rows)) (all_extents (drop i rows))
+    (subst (AreNew marks) (ap all_extents (sym (take-append-drop i rows)) ∙ flat_map-append extents_of (take i rows) (drop i rows)) all)
+
+module _ (old mid : List Bool) (rows : List Part) (i : ℕ) (d : Part) (within : i < length rows) where
+  pub next_row_is_new : AreNew old (all_extents rows) → Marks old (all_extents (take i rows)) mid → AreNew mid (extents_of (get_or rows i d))
+  next_row_is_new all marked = new_rest old mid (all_extents (take i rows)) (extents_of (get_or rows i d)) (subst (AreNew old) (all_more rows i d within) (new_take_rows old (i + 1) rows all)) marked
+
+  pub new_more_rows : AreNew old (all_extents (take i rows)) → Marks old (all_extents (take i rows)) mid → AreNew mid (extents_of (get_or rows i d)) → AreNew old (all_extents (take (i + 1) rows))
+  new_more_rows first marked second = subst (AreNew old) (sym (all_more rows i d within)) (new_append old mid (all_extents (take i rows)) (extents_of (get_or rows i d)) first marked second)
+
+  pub marks_more_rows : (new : List Bool) → Marks old (all_extents (take i rows)) mid → Marks mid (extents_of (get_or rows i d)) new → Marks old (all_extents (take (i + 1) rows)) new
+  marks_more_rows new first second = subst (λ (xs : List Extent). Marks old xs new) (sym (all_more rows i d within)) (marks_append old mid (all_extents (take i rows)) (extents_of (get_or rows i d)) new first second)
+
+-- what holds of the extents of all rows holds of those of one
+pub all_of_row : (P : Extent → Type 0) (rows : List Part) (i : ℕ) (d : Part) → i < length rows → All P (all_extents rows) → All P (extents_of (get_or rows i d))
+all_of_row P [] i d within each = absurd (omega arith)
+all_of_row P (row ∷ rows) zero d within each = All-left (extents_of row) (all_extents rows) each
+  where
+    All-left : (xs ys : List Extent) → All P (xs ++ ys) → All P xs
+    All-left [] ys each = All-nil P
+    All-left (x ∷ xs) ys each = All-cons P x xs (All-head P x (xs ++ ys) each) (All-left xs ys (All-tail P x (xs ++ ys) each))
+all_of_row P (row ∷ rows) (suc i) d within each = all_of_row P rows i d (omega arith) (All-right (extents_of row) (all_extents rows) each)
+  where
+    All-right : (xs ys : List Extent) → All P (xs ++ ys) → All P ys
+    All-right [] ys each = each
+    All-right (x ∷ xs) ys each = All-right xs ys (All-tail P x (xs ++ ys) each)
+
+-- ---- the rows of records
+
+module _ (records : Records) (rows : List Part) (all : records.parts ≡ table_map part_cmp part_place part_value rows) (rising : is_rising part_cmp part_place rows ≡ true) where
+  row_of : (key : PartKey) (part : PartRecord) → get records.parts key ≡ Some part → IsRowOf part_place part_value rows key part
+  row_of key part has = table_has_row part_cmp part_place part_value part_exact rows rising key part (ap (λ m. get m key) (sym all) ∙ has)
+
+  has_row : (i : ℕ) (d : Part) → i < length rows → get records.parts (part_place (get_or rows i d)) ≡ Some (part_value (get_or rows i d))
+  has_row i d within = ap (λ m. get m (part_place (get_or rows i d))) all ∙ row_in_table part_cmp part_place part_value part_total rows rising i d within
+
+  -- what the row of a part names
+  row_named : (key : PartKey) (part : PartRecord) (b : ℕ) → (row : IsRowOf part_place part_value rows key part) → AreNaming part.extents b → (d : Part) → IsInAny (extents_of (get_or rows row.place d)) b
+  row_named key part b row naming d = subst (λ p. IsInAny (extents_of p) b) (sym (row.at d)) (subst (λ (p : PartRecord). IsInAny (held p.extents) b) (sym row.value_is) (naming_held part.extents b naming))
+
+  pub in_range_rows : AreInRange records → All (IsInRange records.blocks) rows
+  in_range_rows range i d within = range (part_place (get_or rows i d)) (part_value (get_or rows i d)) (has_row i d within)
+
+  pub rows_in_range : All (IsInRange records.blocks) rows → AreInRange records
+  rows_in_range each key part has =
+      let row = row_of key part has in
+      subst (λ (p : PartRecord). ForExtents p.extents (AreExtents records.blocks p.len)) row.value_is (subst (IsInRange records.blocks) (row.at row.row) (each row.place row.row row.within))
+
+  pub named_rows : (b : ℕ) → IsNamed records b → IsInAny (all_extents rows) b
+  named_rows b named = let row = row_of named.0 named.1 named.2 in of_row rows row.place row.row b row.within (row_named named.0 named.1 b row named.3 row.row)
+
+  pub rows_named : (b : ℕ) → IsInAny (all_extents rows) b → IsNamed records b
+  rows_named b there = by rows (in_row rows b there) has_row
+    where
+      by : (ps : List Part) → (i : ℕ) × (i < length ps) × ((d : Part) → IsInAny (extents_of (get_or ps i d)) b)
+          → ((i : ℕ) (d : Part) → i < length ps → get records.parts (part_place (get_or ps i d)) ≡ Some (part_value (get_or ps i d))) → IsNamed records b
+      by [] found has = let low = found.1 in absurd (omega arith)
+      by (p ∷ ps) found has = (part_place (get_or (p ∷ ps) found.0 p), part_value (get_or (p ∷ ps) found.0 p), has found.0 p found.1, held_naming (part_value (get_or (p ∷ ps) found.0 p)).extents b (found.2 p))
+
+  pub once_rows : AreOnce records → AreApart (all_extents rows)
+  once_rows once = apart_all rows
+      (λ i d within. apart_held (part_value (get_or rows i d)).extents (once.within (part_place (get_or rows i d)) (part_value (get_or rows i d)) (has_row i d within)))
+      (λ i j d before within b here there.
+      keys_differ part_cmp part_place part_total rows rising i j d before within
+      (once.between (part_place (get_or rows i d)) (part_place (get_or rows j d)) (part_value (get_or rows i d)) (part_value (get_or rows j d)) b (has_row i d (omega arith)) (has_row j d within)
+      (held_naming (part_value (get_or rows i d)).extents b here) (held_naming (part_value (get_or rows j d)).extents b there)))
+
+  pub rows_once : AreApart (all_extents rows) → AreOnce records
+  rows_once apart = record {
+    within = λ key part has.
+        let row = row_of key part has in
+        held_apart part.extents (subst (λ (p : PartRecord). AreApart (held p.extents)) row.value_is (subst (λ p. AreApart (extents_of p)) (row.at row.row) (apart_within rows apart row.place row.row row.within)));
+    between = λ j k p q b has has_too here there.
+        let first = row_of j p has in
+        let second = row_of k q has_too in
+        let d = first.row in
+        ⊎_elim
+        (λ (same : first.place ≡ second.place).
+        sym first.key_is ∙ ap part_place (sym (first.at d) ∙ ap (λ i. get_or rows i d) same ∙ second.at d) ∙ second.key_is)
+        (λ (apart_places : (first.place < second.place) ⊎ (second.place < first.place)). absurd (⊎_elim
+        (λ (before : first.place < second.place). apart_rows rows apart first.place second.place d before second.within b (row_named j p b first here d) (row_named k q b second there d))
+        (λ (after : second.place < first.place). apart_rows rows apart second.place first.place d after first.within b (row_named k q b second there d) (row_named j p b first here d))
+        apart_places))
+        (cases_order first.place second.place);
+  }
+
+  -- ---- the place behind the last block
+
+  module _ (place : ℕ) (behind : (b : ℕ) → IsInAny (all_extents rows) b → b < place) (last : (place ≡ 1) ⊎ IsInAny (all_extents rows) (place - 1)) where
+    pub place_within : AreInRange records → 1 ≤ records.blocks → (1 ≤ place) × (place ≤ records.blocks)
+    place_within range some = ⊎_elim
+        (λ (first : place ≡ 1). (omega arith, omega arith))
+        (λ (there : IsInAny (all_extents rows) (place - 1)).
+        let block = block_within records.blocks (all_extents rows) (each_extent records.blocks rows (in_range_rows range)) (place - 1) there in
+        let low = block.0 in
+        let high = block.1 in
+        (omega arith, omega arith))
+        last
+
+    pub at_least_place : (b : ℕ) → IsPlaceable records b → place ≤ b
+    at_least_place b placeable = ⊎_elim
+        (λ (first : place ≡ 1). let low = placeable.0 in omega arith)
+        (λ (there : IsInAny (all_extents rows) (place - 1)). let before = placeable.2 (place - 1) (rows_named (place - 1) there) in omega arith)
+        last
+
+    pub placeable_from : 1 ≤ place → (b : ℕ) → place ≤ b → b < records.blocks → IsPlaceable records b
+    placeable_from one b from within = (omega arith, within, λ n named. let before = behind n (named_rows n named) in omega arith)

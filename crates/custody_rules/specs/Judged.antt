@@ -1,0 +1,29 @@
+-- What is recorded under a name, as the tests of a part read it in the records.
+use Rattle.std.specs.Prelude.{◌≡◌, ℕ, List, Option, Some, None, Bool, false, not, is_some, if◌then◌else◌, Ok}
+use Rattle.std.specs.FinMap.{get}
+use Rattle.std.specs.Option.{option_and_then}
+use Rattle.deposit_name.specs.declared.kinds.Kind.{Kind}
+use Rattle.deposit_name.specs.Name.{Name}
+use Rattle.custody_records.specs.declared.parts.Part as typed
+use Rattle.custody_records.specs.Typed.{part_place, part_value}
+use Rattle.custody_records.specs.Records.{PartRecord, Records, key_of}
+use Rattle.custody_machine.specs.Names.{read_name}
+use Rattle.custody_machine.specs.SameValues.{is_same_kind}
+use Rattle.custody_machine.specs.Custody.{PartRuling, Decides}
+
+-- a part, where it is of a kind
+abbrev pub if_of_kind : Kind → PartRecord → Option PartRecord
+if_of_kind kind part = if is_same_kind part.kind kind then Some part else None
+
+-- the part that is recorded under a name, which has a place and a kind
+abbrev pub recorded_under : Records → Name → Option PartRecord
+recorded_under records name = option_and_then (if_of_kind name.kind) (get records.parts (key_of name))
+
+abbrev pub is_of_other_kind : Kind → Option PartRecord → Bool
+is_of_other_kind kind None = false
+is_of_other_kind kind (Some part) = not (is_same_kind part.kind kind)
+
+-- the ruling of any name that the part is recorded under, in a registry that is known
+abbrev pub RulesRecorded : PartRuling → typed.Part → ℕ → Type 0
+RulesRecorded ruling part len = (records : Records) (text : List ℕ) (name : Name) (now : ℕ) → read_name text ≡ Ok name → is_some (get records.registries name.tld) ≡ true → part_place part ≡ key_of name
+    → recorded_under records name ≡ Some (part_value part) → Decides ruling records text len now

@@ -1,0 +1,263 @@
+//! How a part is judged by the records, before its bytes are looked at.
+ghost use Rattle.std.specs.Prelude.{◌≡◌, ◌≤◌, ◌+◌, ◌-◌, ◌==◌, ◌&&◌, ◌||◌, ℕ, List, Ok, None, Some, not, nat_lt, length, find, count_by, is_some, IfSome, option_map, option_copied};
+ghost use Rattle.std.specs.List.{list_any};
+ghost use Rattle.std.specs.FinMap.{get};
+ghost use Rattle.schedule.specs.Schedule.{day_of};
+ghost use Rattle.deposit_name.specs.Name.{Name};
+ghost use Rattle.custody_records.specs.Records.{key_of};
+ghost use Rattle.custody_records.specs.Held.{records_of};
+ghost use Rattle.custody_records.specs.Typed.{part_place, part_value};
+ghost use Rattle.custody_machine.specs.Names.{is_same_text, read_name};
+ghost use Rattle.custody_machine.specs.SameValues.{is_same_kind};
+ghost use Rattle.custody_machine.specs.State.{places, at_place, has_notice};
+ghost use Rattle.custody_machine.specs.Stored.{state_in};
+ghost use Rattle.custody_machine.specs.Machine.{is_receipt, is_failure_of, is_verdict_of, has_other_kind, part_in, recorded, receive_stands, refusals, max_part_len};
+ghost use Rattle.custody_machine.specs.Custody.{Decides};
+ghost use Rattle.custody_rules.specs.Rulings.{ruling_of};
+ghost use Rattle.custody_rules.specs.Judged.{recorded_under, is_of_other_kind, RulesRecorded};
+
+use custody_machine::Refusal;
+use custody_records::{Part, PartKey, Records};
+use deposit_name::{DepositName, Kind};
+use desk::{Notice, NoticeKind};
+use schedule::{Day, Sec};
+use vault_volume::Extent;
+
+#[cfg(test)]
+mod tests;
+
+/// What the records decide of a part, whatever its bytes.
+#[derive(Clone, Copy, Debug)]
+pub enum PartRuling<'a> {
+    /// It is refused.
+    Refuse(Refusal),
+    /// A part is held under the name, at these extents: its bytes decide.
+    Compare(&'a Part, &'a [Extent]),
+    /// The name is new, and nothing but room can refuse it.
+    Go(DepositName),
+}
+
+/// The places in the series of a revision's parts.
+const PLACES: [u8; 8] = [1, 2, 3, 4, 5, 6, 7, 8];
+
+/// The most bytes of a part.
+const MAX_PART_LEN: usize = 1_048_576;
+
+/// Judges a part of so many bytes that is sent under a name.
+pub fn judge_part<'a>(
+    records: &'a Records,
+    name: &[u8],
+    len: usize,
+    now: Sec,
+) -> PartRuling<'a>
+    ensures { Decides (ruling_of result) (records_of records.now) name.now len now }
+{
+    match DepositName::parse(name) {
+        Ok(name) => judge_named(records, &name, len, now),
+        Err(fault) => PartRuling::Refuse(Refusal::NameRefused(fault)),
+    }
+}
+
+fn judge_named<'a>(
+    records: &'a Records,
+    name: &DepositName,
+    len: usize,
+    now: Sec,
+) -> PartRuling<'a>
+    ensures { (text : List ℕ) → read_name text ≡ Ok name.now → Decides (ruling_of result) (records_of records.now) text len now }
+{
+    let Some(first_day) = records.first_day(&name.tld) else {
+        return PartRuling::Refuse(Refusal::RegistryUnknown);
+    };
+    match recorded(records, name) {
+        Some(part) => judge_recorded(part, len),
+        None => match refusal_of_new(records, name, first_day, len, now) {
+            Some(refusal) => PartRuling::Refuse(refusal),
+            None => PartRuling::Go(*name),
+        },
+    }
+}
+
+// A part that is recorded under the name already.
+fn judge_recorded(part: &Part, len: usize) -> PartRuling<'_>
+    ensures { RulesRecorded (ruling_of result) part.now len }
+{
+    if is_out_of_size(len) {
+        return PartRuling::Refuse(Refusal::Size);
+    }
+    match &part.extents {
+        Some(extents) => PartRuling::Compare(part, extents),
+        None => PartRuling::Refuse(Refusal::DroppedAfterKeeping),
+    }
+}
+
+// Why a part of a new name is refused, by the first refusal that stands.
+fn refusal_of_new(
+    records: &Records,
+    name: &DepositName,
+    first_day: Day,
+    len: usize,
+    now: Sec,
+) -> Option<Refusal>
+    ensures { (image bytes : List ℕ) → length bytes ≡ len → get (records_of records.now).registries name.now.tld ≡ Some first_day → recorded (state_in (records_of records.now) image) name.now ≡ None
+        → result ≡ find (receive_stands (state_in (records_of records.now) image) name.now bytes now) refusals }
+{
+    if is_outside(name, first_day, now) {
+        return Some(Refusal::DateOutOfRange);
+    }
+    if is_out_of_size(len) {
+        return Some(Refusal::Size);
+    }
+    if is_not_due(records, name) {
+        return Some(Refusal::RevisionNotDue);
+    }
+    if revision_has_verdict(records, name) {
+        return Some(Refusal::AlreadyStated);
+    }
+    if has_other_kind(records, name) {
+        return Some(Refusal::TypeDiffers);
+    }
+    if count_parts(records, name) + 1 != usize::from(name.part) {
+        return Some(Refusal::PartOutOfOrder);
+    }
+    None
+}
+
+fn is_outside(name: &DepositName, first_day: Day, now: Sec) -> bool
+    ensures { result ≡ (nat_lt name.now.day first_day || nat_lt (day_of now) name.now.day) }
+{
+    name.day.number() < first_day.number() || now.day().number() < name.day.number()
+}
+
+fn is_out_of_size(len: usize) -> bool
+    ensures { result ≡ (len == 0 || nat_lt max_part_len len) }
+{
+    len == 0 || len > MAX_PART_LEN
+}
+
+// The day has a receipt, or the revision before has no failure.
+fn is_not_due(records: &Records, name: &DepositName) -> bool
+    ensures { result ≡ (has_notice (records_of records.now).notices name.now.tld name.now.day is_receipt
+        || (nat_lt 0 name.now.rev && not (has_notice (records_of records.now).notices name.now.tld name.now.day (is_failure_of (name.now.rev - 1))))) }
+{
+    day_has_receipt(records, name) || name.rev > 0 && !revision_before_failed(records, name)
+}
+
+fn day_has_receipt(records: &Records, name: &DepositName) -> bool
+    ensures { result ≡ has_notice (records_of records.now).notices name.now.tld name.now.day is_receipt }
+{
+    records
+        .notices()
+        .iter()
+        .any(|notice| is_of_day(notice, name) && is_receipt(notice))
+}
+
+fn revision_before_failed(records: &Records, name: &DepositName) -> bool
+    requires { nat_lt 0 name.now.rev ≡ true }
+    ensures { result ≡ has_notice (records_of records.now).notices name.now.tld name.now.day (is_failure_of (name.now.rev - 1)) }
+{
+    let before = name.rev - 1;
+    records
+        .notices()
+        .iter()
+        .any(|notice| is_of_day(notice, name) && is_failure_of(notice, before))
+}
+
+fn revision_has_verdict(records: &Records, name: &DepositName) -> bool
+    ensures { result ≡ has_notice (records_of records.now).notices name.now.tld name.now.day (is_verdict_of name.now.rev) }
+{
+    records
+        .notices()
+        .iter()
+        .any(|notice| is_of_day(notice, name) && is_verdict_of(notice, name.rev))
+}
+
+fn is_of_day(notice: &Notice, name: &DepositName) -> bool
+    ensures { result ≡ (is_same_text notice.now.tld name.now.tld && notice.now.day == name.now.day) }
+{
+    notice.tld.as_bytes() == name.tld.as_bytes() && notice.day == name.day
+}
+
+fn is_receipt(notice: &Notice) -> bool
+    ensures { result ≡ is_receipt notice.now.kind }
+{
+    matches!(notice.kind, NoticeKind::Receipt { .. })
+}
+
+fn is_failure_of(notice: &Notice, rev: u8) -> bool
+    ensures { result ≡ is_failure_of rev notice.now.kind }
+{
+    match notice.kind {
+        NoticeKind::Failure { rev: of, .. } => of == rev,
+        NoticeKind::Receipt { .. } | NoticeKind::Absence => false,
+    }
+}
+
+fn is_verdict_of(notice: &Notice, rev: u8) -> bool
+    ensures { result ≡ is_verdict_of rev notice.now.kind }
+{
+    match notice.kind {
+        NoticeKind::Receipt { rev: of, .. } | NoticeKind::Failure { rev: of, .. } => of == rev,
+        NoticeKind::Absence => false,
+    }
+}
+
+// The part that is recorded under a name: one of another kind in its place is not.
+fn recorded<'a>(records: &'a Records, name: &DepositName) -> Option<&'a Part>
+    ensures found { option_map part_value (option_copied result) ≡ recorded_under (records_of records.now) name.now }
+    ensures key { IfSome result (λ part. part_place part.now ≡ key_of name.now) }
+{
+    part_in(records, name, name.part).filter(|part| is_of_kind(part, name.kind))
+}
+
+// The part at a place of a name's revision.
+fn part_in<'a>(records: &'a Records, name: &DepositName, place: u8) -> Option<&'a Part>
+    ensures found { option_map part_value (option_copied result) ≡ get (records_of records.now).parts (at_place (key_of name.now) place) }
+    ensures key { IfSome result (λ part. part_place part.now ≡ at_place (key_of name.now) place) }
+{
+    records.part(&PartKey {
+        part: place,
+        ..PartKey::of(name)
+    })
+}
+
+fn is_of_kind(part: &Part, kind: Kind) -> bool
+    ensures { result ≡ is_same_kind part.now.name.kind kind }
+{
+    part.name.kind.as_bytes() == kind.as_bytes()
+}
+
+fn has_part(records: &Records, name: &DepositName, place: u8) -> bool
+    ensures { result ≡ is_some (get (records_of records.now).parts (at_place (key_of name.now) place)) }
+{
+    part_in(records, name, place).is_some()
+}
+
+fn is_other_kind(records: &Records, name: &DepositName, place: u8) -> bool
+    ensures { result ≡ is_of_other_kind name.now.kind (get (records_of records.now).parts (at_place (key_of name.now) place)) }
+{
+    match part_in(records, name, place) {
+        Some(part) => !is_of_kind(part, name.kind),
+        None => false,
+    }
+}
+
+// Whether a part of the revision is of another kind.
+fn has_other_kind(records: &Records, name: &DepositName) -> bool
+    ensures { result ≡ list_any (λ place. is_of_other_kind name.now.kind (get (records_of records.now).parts (at_place (key_of name.now) place))) places }
+{
+    PLACES
+        .iter()
+        .any(|place| is_other_kind(records, name, *place))
+}
+
+// How many parts the revision has.
+fn count_parts(records: &Records, name: &DepositName) -> usize
+    ensures number { result ≡ count_by (λ place. is_some (get (records_of records.now).parts (at_place (key_of name.now) place))) places }
+    ensures small { result ≤ 8 }
+{
+    PLACES
+        .iter()
+        .filter(|place| has_part(records, name, **place))
+        .count()
+}

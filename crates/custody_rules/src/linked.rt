@@ -1,0 +1,243 @@
+//! Whether the records belong together: each record is held against the others.
+ghost use Rattle.std.specs.Prelude.{◌≡◌, ◌&&◌, ◌==◌, true, false, map, not};
+ghost use Rattle.std.specs.FinMap.{get};
+ghost use Rattle.std.specs.List.{list_all, list_any};
+ghost use Rattle.custody_machine.specs.Machine.{is_failure_of, is_receipt};
+ghost use Rattle.custody_machine.specs.Names.{is_same_text, read_name};
+ghost use Rattle.custody_machine.specs.Stored.{AreLinked, is_absence, is_part_of, names_part, revision_of};
+ghost use Rattle.custody_records.specs.Held.{records_of};
+ghost use Rattle.custody_records.specs.Typed.{notice_key, notice_value, part_place, part_value, release_value};
+ghost use Rattle.custody_rules.specs.Links.{are_exclusive, are_recorded, are_rivals, has_parts, is_due, is_in_series, is_known, is_notice_linked, is_numbered, is_only, is_part_linked, is_release_linked, is_same_revision};
+
+use custody_records::{NoticeKey, Part, PartKey, Records, Release};
+use deposit_name::{DepositName, Kind, Tld};
+use desk::{Notice, NoticeKind};
+use schedule::Day;
+
+/// Whether the records belong together.
+pub(crate) fn are_linked(records: &Records) -> bool
+    ensures linked { result ≡ true → AreLinked (records_of records.now) }
+    ensures broken { result ≡ false → ¬ AreLinked (records_of records.now) }
+{
+    parts_are_linked(records, records.parts())
+        && notices_are_linked(records, records.notices())
+        && releases_are_linked(records, records.releases())
+}
+
+fn parts_are_linked(records: &Records, parts: &[Part]) -> bool
+    ensures { result ≡ list_all (λ p. is_part_linked (records_of records.now) (part_place p) (part_value p)) parts.now }
+{
+    parts.iter().all(|part| part_is_linked(records, part))
+}
+
+fn notices_are_linked(records: &Records, notices: &[Notice]) -> bool
+    ensures { result ≡ list_all (λ n. is_notice_linked (records_of records.now) (notice_key n) (notice_value n)) notices.now }
+{
+    notices
+        .iter()
+        .all(|notice| notice_is_linked(records, notice))
+}
+
+fn releases_are_linked(records: &Records, releases: &[Release]) -> bool
+    ensures { result ≡ list_all (λ r. is_release_linked (records_of records.now) (release_value r)) releases.now }
+{
+    releases
+        .iter()
+        .all(|release| release_is_linked(records, release))
+}
+
+/// Whether a registry is recorded.
+fn is_known(records: &Records, tld: &Tld) -> bool
+    ensures { result ≡ is_known (records_of records.now) tld.now }
+{
+    records.first_day(tld).is_some()
+}
+
+/// Whether a part of that kind is recorded at that place.
+fn has_part_of(records: &Records, place: &PartKey, kind: Kind) -> bool
+    ensures { result ≡ is_part_of kind (get (records_of records.now).parts place.now) }
+{
+    match records.part(place) {
+        Some(part) => part.name.kind.as_bytes() == kind.as_bytes(),
+        None => false,
+    }
+}
+
+/// Whether a part has its registry, the part before it, and the failure that its revision follows.
+fn part_is_linked(records: &Records, part: &Part) -> bool
+    ensures { result ≡ is_part_linked (records_of records.now) (part_place part.now) (part_value part.now) }
+{
+    let place = PartKey::of(&part.name);
+    is_known(records, &place.tld)
+        && is_in_series(records, &place, part.name.kind)
+        && is_due(records, &place)
+}
+
+/// Whether the place is the first of its series, or a part of that kind stands before it.
+fn is_in_series(records: &Records, place: &PartKey, kind: Kind) -> bool
+    ensures { result ≡ is_in_series (records_of records.now) place.now kind }
+{
+    if place.part <= 1 {
+        return true;
+    }
+    let before = PartKey {
+        part: place.part - 1,
+        ..*place
+    };
+    has_part_of(records, &before, kind)
+}
+
+/// Whether the revision is the first, or the one before has failed.
+fn is_due(records: &Records, place: &PartKey) -> bool
+    ensures { result ≡ is_due (records_of records.now) place.now }
+{
+    if place.rev == 0 {
+        return true;
+    }
+    has_failure(records.notices(), &place.tld, place.day, place.rev - 1)
+}
+
+fn has_failure(notices: &[Notice], tld: &Tld, day: Day, rev: u8) -> bool
+    ensures { result ≡ list_any (λ n. is_same_text n.tld tld.now && (n.day == day && is_failure_of rev n.kind)) notices.now }
+{
+    notices
+        .iter()
+        .any(|notice| is_failure(notice, tld, day, rev))
+}
+
+/// Whether the notice tells that the revision has failed.
+fn is_failure(notice: &Notice, tld: &Tld, day: Day, rev: u8) -> bool
+    ensures { result ≡ (is_same_text notice.now.tld tld.now && (notice.now.day == day && is_failure_of rev notice.now.kind)) }
+{
+    notice.tld.as_bytes() == tld.as_bytes()
+        && notice.day == day
+        && is_failure_of(&notice.kind, rev)
+}
+
+fn is_failure_of(kind: &NoticeKind, rev: u8) -> bool
+    ensures { result ≡ is_failure_of rev kind.now }
+{
+    match kind {
+        NoticeKind::Failure { rev: failed, .. } => *failed == rev,
+        NoticeKind::Receipt { .. } | NoticeKind::Absence => false,
+    }
+}
+
+/// Whether a notice has its registry, the notice before it and the part that it judges, and no rival.
+fn notice_is_linked(records: &Records, notice: &Notice) -> bool
+    ensures { result ≡ is_notice_linked (records_of records.now) (notice_key notice.now) (notice_value notice.now) }
+{
+    is_known(records, &notice.tld)
+        && is_numbered(records, &notice.tld, notice.number)
+        && has_parts(records, notice)
+        && is_only(notice, records.notices())
+}
+
+/// Whether the number is the first of its registry's, or a notice has the number before.
+fn is_numbered(records: &Records, tld: &Tld, number: u64) -> bool
+    ensures { result ≡ is_numbered (records_of records.now) (record { tld = tld.now; number = number }) }
+{
+    if number <= 1 {
+        return true;
+    }
+    let before = NoticeKey {
+        tld: *tld,
+        number: number - 1,
+    };
+    records.notice(&before).is_some()
+}
+
+/// Whether the revision that a notice judges has parts.
+fn has_parts(records: &Records, notice: &Notice) -> bool
+    ensures { result ≡ has_parts (records_of records.now) notice.now.tld notice.now.day (revision_of notice.now.kind) }
+{
+    match revision_of(&notice.kind) {
+        Some(rev) => {
+            let first = PartKey {
+                tld: notice.tld,
+                day: notice.day,
+                rev,
+                part: 1,
+            };
+            records.part(&first).is_some()
+        }
+        None => true,
+    }
+}
+
+/// The revision of a verdict.
+fn revision_of(kind: &NoticeKind) -> Option<u8>
+    ensures { result ≡ revision_of kind.now }
+{
+    match kind {
+        NoticeKind::Receipt { rev, .. } | NoticeKind::Failure { rev, .. } => Some(*rev),
+        NoticeKind::Absence => None,
+    }
+}
+
+/// Whether a notice has no rival. It is held against each notice: this takes no memory, and for all
+/// notices time in the square of their number.
+fn is_only(notice: &Notice, notices: &[Notice]) -> bool
+    ensures { result ≡ list_all (λ n. not (are_rivals (notice_key notice.now) (notice_value notice.now) (notice_key n) (notice_value n))) notices.now }
+{
+    notices.iter().all(|other| !are_rivals(notice, other))
+}
+
+/// Whether the two are notices of one registry and day, of which it has one at most.
+fn are_rivals(notice: &Notice, other: &Notice) -> bool
+    ensures { result ≡ are_rivals (notice_key notice.now) (notice_value notice.now) (notice_key other.now) (notice_value other.now) }
+{
+    notice.tld.as_bytes() == other.tld.as_bytes()
+        && notice.day == other.day
+        && notice.number != other.number
+        && are_exclusive(&notice.kind, &other.kind)
+}
+
+/// Whether a day has one of the two at most: two verdicts of one revision, two receipts, or two absences.
+fn are_exclusive(kind: &NoticeKind, other: &NoticeKind) -> bool
+    ensures { result ≡ are_exclusive kind.now other.now }
+{
+    match (kind, other) {
+        (NoticeKind::Receipt { .. }, NoticeKind::Receipt { .. }) => true,
+        (NoticeKind::Absence, NoticeKind::Absence) => true,
+        _ => is_same_revision(revision_of(kind), revision_of(other)),
+    }
+}
+
+fn is_same_revision(rev: Option<u8>, other: Option<u8>) -> bool
+    ensures { result ≡ is_same_revision rev other }
+{
+    match (rev, other) {
+        (Some(rev), Some(other)) => rev == other,
+        _ => false,
+    }
+}
+
+/// Whether a release has its registry, and a part for each of its names.
+fn release_is_linked(records: &Records, release: &Release) -> bool
+    ensures { result ≡ is_release_linked (records_of records.now) (release_value release.now) }
+{
+    is_known(records, &release.tld)
+        && names_are_recorded(records, &release.tld, release.names.as_slice())
+}
+
+fn names_are_recorded(records: &Records, tld: &Tld, names: &[Vec<u8>]) -> bool
+    ensures { result ≡ are_recorded (records_of records.now) tld.now (map (λ n. n.items) names.now) }
+{
+    names
+        .iter()
+        .all(|name| is_name_recorded(records, tld, name))
+}
+
+/// Whether the text is the name of a part of the registry that is recorded.
+fn is_name_recorded(records: &Records, tld: &Tld, text: &[u8]) -> bool
+    ensures { result ≡ names_part (records_of records.now) tld.now (read_name text.now) }
+{
+    match DepositName::parse(text) {
+        Ok(name) => {
+            name.tld.as_bytes() == tld.as_bytes()
+                && has_part_of(records, &PartKey::of(&name), name.kind)
+        }
+        Err(_) => false,
+    }
+}
