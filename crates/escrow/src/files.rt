@@ -39,10 +39,7 @@ pub fn find(rt: &HostRuntime, folder: &str) -> Result<(FileVolume, Database), St
     ensures { IfOk result (λ files. ⟦<FileVolume as Volume>⟧.failures files.0 ≡ 0) }
 {
     let volume = open_volume(rt, folder)?;
-    let path = database_path(rt.alloc(), folder)?;
-    if let Err(error) = fs::metadata(rt, path.as_str()) {
-        return Err(Stop::by_file(path, error));
-    }
+    let path = there(rt, database_path(rt.alloc(), folder)?)?;
     let db = open_database(rt, path)?;
     Ok((volume, db))
 }
@@ -51,6 +48,7 @@ pub fn find(rt: &HostRuntime, folder: &str) -> Result<(FileVolume, Database), St
 pub fn make(rt: &HostRuntime, folder: &str, blocks: u32) -> Result<(FileVolume, Database), Stop>
     ensures { IfOk result (λ files. ⟦<FileVolume as Volume>⟧.failures files.0 ≡ 0) }
 {
+    there(rt, String::from_str(rt.alloc(), folder)?)?;
     let path = database_path(rt.alloc(), folder)?;
     let mut db = open_database(rt, path)?;
     let volume = match has_record(&mut db) {
@@ -66,6 +64,27 @@ pub fn close(custody: FileCustody) {
     let (volume, db) = custody.close();
     let _ = db.close();
     drop(volume);
+}
+
+/// The path, where something is there.
+fn there(rt: &HostRuntime, path: String) -> Result<String, Stop> {
+    match fs::metadata(rt, path.as_str()) {
+        Ok(_) => Ok(path),
+        Err(error) => Err(Stop::by_file(path, error)),
+    }
+}
+
+/// Settles the names of the files in a folder.
+fn sync_folder(rt: &HostRuntime, folder: &str) -> Result<(), Stop> {
+    let path = String::from_str(rt.alloc(), folder)?;
+    let synced = match fs::File::open(rt, folder) {
+        Ok(opened) => opened.sync_all(),
+        Err(error) => Err(error),
+    };
+    match synced {
+        Ok(()) => Ok(()),
+        Err(error) => Err(Stop::by_file(path, error)),
+    }
 }
 
 fn database_path(alloc: Global, folder: &str) -> Result<String, AllocError> {
@@ -91,7 +110,10 @@ fn create_volume(rt: &HostRuntime, folder: &str, blocks: u32) -> Result<FileVolu
 {
     let path = volume_path(rt.alloc(), folder)?;
     match FileVolume::create(rt, path.as_str(), blocks) {
-        Ok(volume) => Ok(volume),
+        Ok(volume) => {
+            sync_folder(rt, folder)?;
+            Ok(volume)
+        }
         Err(cause) => Err(Stop::File { path, cause }),
     }
 }
