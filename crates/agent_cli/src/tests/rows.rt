@@ -1,11 +1,11 @@
 //! Orders on an agent over memory: what they print, and their exit statuses.
 use super::words_of;
-use crate::{Line, Order, act, order_of, print_line, tell, tell_init};
+use crate::{Line, Order, VolumeNumber, act, order_of, print_line, tell, tell_init};
 use custody::{Custody, InitError};
 use custody_machine::{Damage, Fault};
 use schedule::Sec;
 use sqlite::{Connection, MemStore};
-use std::alloc::Global;
+use std::alloc::{AllocError, Global};
 use std::io::{self, Write};
 use std::test::Fail;
 use vault_volume::{MemVolume, Volume};
@@ -28,6 +28,15 @@ impl Printed {
     }
 }
 
+fn new_custody(alloc: Global, blocks: u32, number: VolumeNumber) -> Result<MemCustody, Fail> {
+    let volume = MemVolume::new(alloc, blocks, 400, 12)?;
+    let db = Connection::open_in_memory(alloc)?;
+    match Custody::init(alloc, volume, db, number.get()) {
+        Ok(custody) => Ok(custody),
+        Err(_) => Err("a custody".into()),
+    }
+}
+
 fn vault_of(alloc: Global, blocks: &str) -> Result<(MemCustody, Printed), Fail> {
     let words = words_of(
         alloc,
@@ -40,14 +49,15 @@ fn vault_of(alloc: Global, blocks: &str) -> Result<(MemCustody, Printed), Fail> 
             "0000000000000001",
         ],
     )?;
-    let Ok(Order::Init { blocks, number, .. }) = order_of(alloc, words.as_slice()) else {
-        return Err("an init".into());
-    };
-    let volume = MemVolume::new(alloc, blocks, 400, 12)?;
-    let db = Connection::open_in_memory(alloc)?;
-    let Ok(custody) = Custody::init(alloc, volume, db, number.get()) else {
-        return Err("a custody".into());
-    };
+    let order = order_of(alloc, words.as_slice());
+    match &order {
+        Ok(Order::Init { blocks, number, .. }) => made(alloc, *blocks, *number),
+        _ => Err("an init".into()),
+    }
+}
+
+fn made(alloc: Global, blocks: u32, number: VolumeNumber) -> Result<(MemCustody, Printed), Fail> {
+    let custody = new_custody(alloc, blocks, number)?;
     let mut out = Vec::new(alloc);
     let status = print_line(&Line::Ready { blocks, number }, &mut out);
     let err = Vec::new(alloc);
@@ -169,6 +179,10 @@ fn an_opened_vault_has_what_was_received(rt: HostRuntime) -> Result<(), Fail> {
     Ok(())
 }
 
+fn sevens(alloc: Global, count: usize) -> Result<Vec<u8>, AllocError> {
+    vec![in alloc; 7; count]
+}
+
 #[test]
 fn parts_are_refused_by_name_day_and_size(rt: HostRuntime) -> Result<(), Fail> {
     let alloc = rt.alloc();
@@ -206,15 +220,16 @@ fn parts_are_refused_by_name_day_and_size(rt: HostRuntime) -> Result<(), Fail> {
         let refused = put(alloc, &mut custody, name, b"hello", TEN)?;
         assert!(rt; refused.is("", wanted, 1), "{name} {refused:?}");
     }
-    let bytes = vec![in alloc; 7u8; 1_048_577]?;
-    for file in [&bytes[..0], &bytes] {
-        let refused = put(alloc, &mut custody, NAME0, file, TEN)?;
+    for count in [0, 1_048_577] {
+        let file = sevens(alloc, count)?;
+        let refused = put(alloc, &mut custody, NAME0, &file, TEN)?;
         assert!(rt; refused.is("", "Q4 size\n", 1), "{refused:?}");
     }
     assert!(rt;
         state(alloc, &mut custody)?.is("registry example 2026-08-02\nfree 299 of 299\n", "", 0)
     );
-    assert!(rt; put(alloc, &mut custody, NAME0, &bytes[..1_048_576], TEN)?.status == 0);
+    let file = sevens(alloc, 1_048_576)?;
+    assert!(rt; put(alloc, &mut custody, NAME0, &file, TEN)?.status == 0);
     let printed = state(alloc, &mut custody)?;
     assert!(rt; printed.out.as_slice().ends_with(b"\nfree 43 of 299\n"));
     Ok(())
