@@ -3,4 +3,5 @@ pub mod Faults
 pub mod Forms
 pub mod Lines
 pub mod Order
+pub mod Printed
 pub mod Statuses

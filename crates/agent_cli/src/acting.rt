@@ -1,5 +1,7 @@
 //! What an order does to the agent of a folder, and what is printed of it.
-ghost use Rattle.std.specs.Prelude.{◌≡◌, ◌⊎◌};
+ghost use Rattle.std.specs.Prelude.{◌≡◌, OnOk, IfSome, IsErr};
+ghost use Rattle.agent_cli.specs.Lines.{line_text};
+ghost use Rattle.agent_cli.specs.Printed.{IsTold, Prints, line_of};
 ghost use Rattle.agent_cli.specs.Statuses.{IsStatus, IsStatusAfter, answer_status, init_status};
 
 use crate::state::print_state;
@@ -70,23 +72,27 @@ pub fn tell_init<E: Write>(error: &InitError, err: &mut E) -> u8
 
 /// Prints the line of a reply, and answers the status.
 pub fn print_line<W: Write>(line: &Line, out: &mut W) -> u8
-    ensures { IsStatusAfter 0 result }
+    ensures status { IsStatusAfter 0 result }
+    ensures printed { result ≡ 0 → Prints (W.contents out.old) (W.contents out.new) (line_text line.now) }
 {
     status_after(print(line, out), DONE)
 }
 
 fn print_answer<W: Write, E: Write>(answer: &Result<Reply, Refused>, out: &mut W, err: &mut E) -> u8
-    ensures { IsStatusAfter (answer_status answer.now) result }
+    ensures status { IsStatusAfter (answer_status answer.now) result }
+    ensures told { IsTold answer.now result (Prints (W.contents out.old) (W.contents out.new)) (Prints (E.contents err.old) (E.contents err.new)) }
 {
     match answer {
-        Ok(reply) => print_line(&reply_line(reply), out),
+        Ok(reply) => print_line(&line_of(reply.record), out),
         Err(Refused::Refusal(refusal)) => status_after(print(refusal, err), REFUSED),
         Err(Refused::Fault(fault)) => tell(fault, err),
     }
 }
 
-fn reply_line(reply: &Reply) -> Line {
-    match reply.record {
+fn line_of(told: Record) -> Line
+    ensures { result ≡ line_of told }
+{
+    match told {
         Record::Registry { tld, first_day } => Line::Registered {
             tld,
             first: first_day,
@@ -120,14 +126,17 @@ fn show<V: Volume, S: Alter, W: Write, E: Write>(
     }
 }
 
-fn print<D: Display, W: Write>(line: &D, to: &mut W) -> io::Result<()> {
+fn print<D: Display, W: Write>(line: &D, to: &mut W) -> io::Result<()>
+    ensures { OnOk result (IfSome (D.output line.now) (Prints (W.contents to.old) (W.contents to.new))) }
+{
     writeln!(to, "{line}")?;
     to.flush()
 }
 
 /// The status of what was printed, or that of output that was not written.
 fn status_after(printed: io::Result<()>, status: u8) -> u8
-    ensures { IsStatusAfter status result }
+    ensures status { IsStatusAfter status result }
+    ensures done { IsErr printed → result ≡ 3 }
 {
     match printed {
         Ok(()) => status,
