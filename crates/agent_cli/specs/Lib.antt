@@ -1,3 +1,4 @@
+pub mod Acts
 pub mod Command
 pub mod Faults
 pub mod Forms

@@ -1,5 +1,7 @@
 //! What an order does to the agent of a folder, and what is printed of it.
 ghost use Rattle.std.specs.Prelude.{◌≡◌, OnOk, IfSome, IsErr};
+ghost use Rattle.custody.specs.Answers.{init_error_text};
+ghost use Rattle.agent_cli.specs.Acts.{Acts};
 ghost use Rattle.agent_cli.specs.Lines.{line_text};
 ghost use Rattle.agent_cli.specs.Printed.{IsTold, Prints, line_of};
 ghost use Rattle.agent_cli.specs.Statuses.{IsStatus, IsStatusAfter, answer_status, init_status};
@@ -35,7 +37,8 @@ pub fn act<V: Volume, S: Alter, W: Write, E: Write>(
     out: &mut W,
     err: &mut E,
 ) -> u8
-    ensures { IsStatus result }
+    ensures acts { Acts order.now file.now now custody.old custody.new result (Prints (W.contents out.old) (W.contents out.new)) (Prints (E.contents err.old) (E.contents err.new)) }
+    ensures status { IsStatus result }
 {
     match order {
         Order::Init { .. } => tell_init(&InitError::AlreadyInitialised, err),
@@ -61,7 +64,8 @@ pub fn tell<E: Write>(fault: &Fault, err: &mut E) -> u8
 
 /// Prints why there is no new vault, and answers the status.
 pub fn tell_init<E: Write>(error: &InitError, err: &mut E) -> u8
-    ensures { IsStatusAfter (init_status error.now) result }
+    ensures status { IsStatusAfter (init_status error.now) result }
+    ensures printed { result ≡ 1 → Prints (E.contents err.old) (E.contents err.new) (init_error_text error.now) }
 {
     let status = match error {
         InitError::AlreadyInitialised | InitError::Size => REFUSED,
