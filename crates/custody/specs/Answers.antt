@@ -1,10 +1,16 @@
 -- The answers of a custody, as those of the machine, and their lines.
-use Rattle.std.specs.Prelude.{◌≡◌, ℕ, List, [], length, codes, Bool, Result, Ok, Err, IfOk}
+use Rattle.std.specs.Prelude.{◌≡◌, ℕ, List, [], length, codes, Bool, true, false, not, Result, Ok, Err}
 use Rattle.deposit_name.specs.Name.{Name}
 use Rattle.custody_records.specs.Records.{key_of}
+use Rattle.vault_volume.specs.declared.errors.StageError.{StageError}
+use Rattle.vault_volume.specs.declared.errors.StageError.TheVariants as stage
+use Rattle.vault_volume.specs.declared.errors.ReadError.{ReadError}
+use Rattle.vault_volume.specs.declared.errors.ReadError.TheVariants as read
 use Rattle.custody_machine.specs.State.{Held}
 use Rattle.custody_machine.specs.Machine as machine
 use Rattle.custody_machine.specs.Machine.{Command, Register, Receive, Answer, Accepted, Refused, Failed, OfRegistry, OfPart}
+use Rattle.custody_machine.specs.declared.answers.Refusal.TheVariants.{VolumeFull}
+use Rattle.custody_machine.specs.declared.answers.Fault.TheVariants.{NoMemory, VolumeFailed, StoreFailed, Closed, Damaged}
 use Rattle.custody_machine.specs.Texts.{refusal_text, fault_text}
 use Rattle.custody.specs.declared.answers.Record as code
 use Rattle.custody.specs.declared.answers.Record.TheVariants as record_of_kind
@@ -43,3 +49,34 @@ answer_of command (Err (refused.Fault fault)) = Failed fault
 abbrev pub TellsLength : List ℕ → code.Record → Type 0
 TellsLength bytes (record_of_kind.Registry tld first_day) = Unit {0}
 TellsLength bytes (record_of_kind.Part name received len) = len ≡ length bytes
+
+-- why a command is not accepted whose bytes were not staged
+abbrev pub unstaged : StageError → not_accepted.Refused
+unstaged stage.Full = refused.Refusal VolumeFull
+unstaged stage.NoMemory = refused.Fault NoMemory
+unstaged stage.VolumeFailed = refused.Fault VolumeFailed
+
+-- and one for which a part was not read
+abbrev pub unread : ReadError → not_accepted.Refused
+unread read.NoMemory = refused.Fault NoMemory
+unread read.VolumeFailed = refused.Fault VolumeFailed
+
+-- whether a custody is open after an answer
+abbrev pub stays_open : Result Reply not_accepted.Refused → Bool
+stays_open (Ok reply) = true
+stays_open (Err (refused.Refusal refusal)) = true
+stays_open (Err (refused.Fault NoMemory)) = true
+stays_open (Err (refused.Fault VolumeFailed)) = false
+stays_open (Err (refused.Fault StoreFailed)) = false
+stays_open (Err (refused.Fault Closed)) = false
+stays_open (Err (refused.Fault (Damaged damage))) = true
+
+-- whether a command is done that was not done before, or may be
+abbrev pub may_change : Result Reply not_accepted.Refused → Bool
+may_change (Ok reply) = not reply.is_repeat
+may_change (Err (refused.Refusal refusal)) = false
+may_change (Err (refused.Fault NoMemory)) = false
+may_change (Err (refused.Fault VolumeFailed)) = false
+may_change (Err (refused.Fault StoreFailed)) = true
+may_change (Err (refused.Fault Closed)) = false
+may_change (Err (refused.Fault (Damaged damage))) = false

@@ -1,2 +1,6 @@
 pub mod Answers
+pub mod Custody
+pub mod Holdings
+pub mod Compared
 pub mod Order
+pub mod Opening

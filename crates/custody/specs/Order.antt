@@ -1,6 +1,8 @@
 -- That what an open custody keeps in memory can be known in one way only: so it may stand in the type.
-use Rattle.std.specs.Prelude.{◌≡◌, ℕ, ◌×◌, List, [], ◌∷◌, Option, Some, None, All}
+use Rattle.std.specs.Prelude.{◌≡◌, ℕ, List, [], ◌∷◌, Option, Some, None, Bool, true}
+use mathlib.Core.HLevel.{⊥_prop}
 use Rattle.std.specs.Coded.{Coded, Coded-set, code_by, coded×, coded_list, coded_ℕ, coded_bool, ×_prop, Π_prop, Unit-prop, le_prop}
+use mathlib.Core.Path.{refl}
 use Rattle.vault_volume.specs.declared.extent.Extent.{Extent}
 use Rattle.vault_volume.specs.Extents.{IsExtentOf, AreApart, IsIn, IsInAny}
 use Rattle.custody_records.specs.Keys.{PartKey, NoticeKey}
@@ -19,7 +21,7 @@ is_true_prop {a} {b} = Coded-set coded_bool a b
 
 AreExtents-prop : (blocks len : ℕ) (extents : List Extent) → IsProp (AreExtents blocks len extents)
 AreExtents-prop blocks len extents = λ a b i. record {
-  each = (Π_prop λ k. Π_prop λ _. ×_prop le_prop (×_prop le_prop le_prop)) a.each b.each i;
+  each = λ k d lt. (le_prop (a.each k d lt).0 (b.each k d lt).0 i, le_prop (a.each k d lt).1 (b.each k d lt).1 i, le_prop (a.each k d lt).2 (b.each k d lt).2 i);
   counts = Coded-set coded_ℕ _ _ a.counts b.counts i;
 }
 
@@ -60,7 +62,7 @@ AreWhole-prop records = λ a b i. record {
 }
 
 IsPlaceable-prop : (records : Records) (b : ℕ) → IsProp (IsPlaceable records b)
-IsPlaceable-prop records b = ×_prop le_prop (×_prop le_prop (Π_prop λ _. Π_prop λ _. le_prop))
+IsPlaceable-prop records b = λ x y i. (le_prop x.0 y.0 i, le_prop x.1 y.1 i, λ n is. le_prop (x.2 n is) (y.2 n is) i)
 
 pub IsInOrder-prop : (records : Records) (size failures : ℕ) (free : ℕ → Type 0) → ((b : ℕ) → IsProp (free b)) → IsProp (IsInOrder records size failures free)
 IsInOrder-prop records size failures free each = λ a b i. record {

@@ -1,8 +1,13 @@
 //! What a custody answers.
+ghost use Rattle.std.specs.Prelude.{◌≡◌};
+ghost use Rattle.custody.specs.declared.answers.Record.TheVariants as of;
+
 use custody_machine::{Fault, Refusal};
+use custody_records::Part;
 use deposit_name::{DepositName, Tld};
 use schedule::{Day, Sec};
 use std::fmt;
+use vault_volume::{ReadError, StageError};
 
 /// The record that a command made, or found made.
 #[derive(Clone, Copy, Debug, PartialEq, Eq)]
@@ -17,6 +22,19 @@ pub enum Record {
         received: Sec,
         len: u32,
     },
+}
+
+impl Record {
+    /// The record of a part that is kept.
+    pub(crate) fn of_part(part: &Part) -> Record
+        ensures { result ≡ of.Part part.now.name part.now.received part.now.len }
+    {
+        Record::Part {
+            name: part.name,
+            received: part.received,
+            len: part.len,
+        }
+    }
 }
 
 /// A command was accepted.
@@ -44,23 +62,32 @@ pub enum InitError {
     Fault(Fault),
 }
 
-impl From<Refusal> for Refused {
-    ghost use Rattle.custody.specs.declared.answers.Refused.TheVariants as refused;
+impl From<StageError> for Refused {
+    ghost use Rattle.std.specs.Prelude.{◌≡◌};
+    ghost use Rattle.custody.specs.Answers.{unstaged};
 
-    ghost from_gives = { λ refusal r. r ≡ refused.Refusal refusal };
+    ghost from_gives = { λ error r. r ≡ unstaged error };
 
-    fn from(refusal: Refusal) -> Refused {
-        Refused::Refusal(refusal)
+    fn from(error: StageError) -> Refused {
+        match error {
+            StageError::Full => Refused::Refusal(Refusal::VolumeFull),
+            StageError::NoMemory => Refused::Fault(Fault::NoMemory),
+            StageError::VolumeFailed => Refused::Fault(Fault::VolumeFailed),
+        }
     }
 }
 
-impl From<Fault> for Refused {
-    ghost use Rattle.custody.specs.declared.answers.Refused.TheVariants as refused;
+impl From<ReadError> for Refused {
+    ghost use Rattle.std.specs.Prelude.{◌≡◌};
+    ghost use Rattle.custody.specs.Answers.{unread};
 
-    ghost from_gives = { λ fault r. r ≡ refused.Fault fault };
+    ghost from_gives = { λ error r. r ≡ unread error };
 
-    fn from(fault: Fault) -> Refused {
-        Refused::Fault(fault)
+    fn from(error: ReadError) -> Refused {
+        match error {
+            ReadError::NoMemory => Refused::Fault(Fault::NoMemory),
+            ReadError::VolumeFailed => Refused::Fault(Fault::VolumeFailed),
+        }
     }
 }
 

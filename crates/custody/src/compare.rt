@@ -1,4 +1,12 @@
 //! The bytes of a part that is kept, compared with others.
+ghost use Rattle.std.specs.Prelude.{◌≡◌, ◌+◌, ◌-◌, ◌<◌, ◌^◌, IfOk, OnOk, OnErr, IsErrOf};
+ghost use Rattle.vault_volume.specs.Disk.{LeavesOnly};
+ghost use Rattle.vault_volume.specs.Extents.{SameFree, part_bytes};
+ghost use Rattle.vault_volume.specs.Vault.{volume_of, IsFree};
+ghost use Rattle.custody_machine.specs.Stored.{AreExtents};
+ghost use Rattle.custody_machine.specs.Custody.{Compares};
+ghost use Rattle.custody.specs.Compared.{comparison_of};
+
 use custody_records::Part;
 use sha2::{Digest, Sha256};
 use std::alloc::Global;
@@ -21,7 +29,18 @@ pub fn compare<V: Volume>(
     part: &Part,
     extents: &[Extent],
     bytes: &[u8],
-) -> Result<Comparison, ReadError> {
+) -> Result<Comparison, ReadError>
+    requires held { AreExtents (V.size (volume_of vault.old)) part.now.len extents.now }
+    requires count { V.failures (volume_of vault.old) < 2 ^ 64 - 1 }
+    ensures compared { V.tells → IfOk result (λ found. Compares (comparison_of found) (part_bytes (V.image (volume_of vault.old)) extents.now part.now.len) bytes.now part.now.digest) }
+    ensures free { SameFree (IsFree vault.old) (IsFree vault.new) }
+    ensures size { V.size (volume_of vault.new) ≡ V.size (volume_of vault.old) }
+    ensures image { V.tells → V.image (volume_of vault.new) ≡ V.image (volume_of vault.old) }
+    ensures any_moment { V.tells → LeavesOnly V.moment V.left_at (volume_of vault.old) (volume_of vault.new) (V.left_at (volume_of vault.old) (V.moment (volume_of vault.old))) }
+    ensures failed { IsErrOf result ReadError.VolumeFailed → V.failures (volume_of vault.new) ≡ V.failures (volume_of vault.old) + 1 }
+    ensures no_memory { IsErrOf result ReadError.NoMemory → V.failures (volume_of vault.new) ≡ V.failures (volume_of vault.old) }
+    ensures no_failure { OnOk result (V.failures (volume_of vault.new) ≡ V.failures (volume_of vault.old)) }
+{
     let mut stored = Vec::new(alloc);
     vault.read_part(extents, part.len, &mut stored)?;
     if stored.as_slice() == bytes {

@@ -1,14 +1,28 @@
 //! The custody.
-ghost use Rattle.std.specs.Prelude.{◌≡◌, ◌-◌, ◌<◌, ◌^◌, true, false};
-ghost use Rattle.std.specs.Coded.{Π_prop, ×_prop, le_prop};
-ghost use Rattle.vault_volume.specs.Vault.{volume_of, IsFree};
+ghost use Rattle.std.specs.Prelude.{◌≡◌, ◌≢◌, ◌⊎◌, ℕ, List, ◌-◌, ◌<◌, ◌≤◌, ◌^◌, true, false, IfOk, IfErr, OnErr, MatchResult};
+ghost use Rattle.std.specs.Coded.{Π_prop};
+ghost use Rattle.vault_volume.specs.Disk.{LeavesOne, LeavesOnly};
+ghost use Rattle.vault_volume.specs.Vault.{volume_of};
+ghost use Rattle.custody_records.specs.Form.{form_of, InForm};
 ghost use Rattle.custody_records.specs.Held.{records_of};
-ghost use Rattle.custody_machine.specs.Custody.{IsInOrder};
-ghost use Rattle.custody.specs.Order.{IsInOrder-prop};
+ghost use Rattle.custody_records.specs.Records.{new_records};
+ghost use Rattle.custody_records.specs.Rows.{Rows};
+ghost use Rattle.custody_store.specs.Standing.{standing, Reads};
+ghost use Rattle.custody_machine.specs.declared.answers.Fault as why;
+ghost use Rattle.custody_machine.specs.declared.damage.Damage as wrong;
+ghost use Rattle.custody_machine.specs.declared.damage.Damage.TheVariants as damage;
+ghost use Rattle.custody_machine.specs.State.{empty};
+ghost use Rattle.custody_machine.specs.Damage.{IsDamaged};
+ghost use Rattle.custody_machine.specs.Stored.{IsGood};
+ghost use Rattle.custody_machine.specs.Moves.{Serving, Left, IsBegun};
+ghost use Rattle.custody_machine.specs.Custody.{MayInitialise};
+ghost use Rattle.custody_machine.specs.Plain.{command_of};
+ghost use Rattle.custody.specs.Answers.{stays_open};
+ghost use Rattle.custody.specs.Holdings.{recorded, stored, image_of, left_by, KeepsOrder, KeepsOrder-prop, KeepsImage, KeepsRows};
+ghost use Rattle.custody.specs.Opening.{HasNoRecord, IsRefused, free_blocks};
 
-use crate::opening::{has_record, identify, load_whole};
-use custody_rules::place_after;
-use crate::serving::{serve, stays_open};
+use crate::holdings::Holdings;
+use crate::opening::{hold, identify, load_whole, may_begin, prepare};
 use crate::{InitError, Refused, Reply};
 use custody_machine::{Command, Fault};
 use custody_records::Records;
@@ -16,20 +30,20 @@ use custody_store::Store;
 use schedule::Sec;
 use sqlite::{Alter, Connection};
 use std::alloc::{AllocError, Global};
-use vault_volume::{Vault, Volume, write_head};
+use vault_volume::Volume;
 
 /// What is kept for registries: a vault with the bytes of parts, a store with their records, and the
 /// records in memory. It is closed after a failure of the volume or the database.
 #[derive(Drop)]
 pub struct Custody<V: Volume, S: Alter> {
-    vault: Vault<V>,
-    store: Store<S>,
-    records: Records,
+    holdings: Holdings<V, S>,
     is_open: bool,
-    ghost order: { is_open ≡ true → IsInOrder (records_of records) (V.size (volume_of vault)) (V.failures (volume_of vault)) (IsFree vault) } by { Π_prop λ _. IsInOrder-prop (records_of records) (V.size (volume_of vault)) (V.failures (volume_of vault)) (IsFree vault) (λ b. ×_prop le_prop le_prop) },
+    ghost order: { is_open ≡ true → KeepsOrder holdings } by { Π_prop λ _. KeepsOrder-prop holdings },
 }
 
 impl<V: Volume, S: Alter> Custody<V, S> {
+    ghost use Rattle.custody.specs.Custody.{HasApplied, HasRun, entries_of};
+
     /// Begins a custody over a volume of 2 to 262,144 blocks and a database with no record of one:
     /// block 0 is written and synced, and then the records are made. Where it fails, volume and
     /// database are handed back.
@@ -38,28 +52,48 @@ impl<V: Volume, S: Alter> Custody<V, S> {
         volume: V,
         db: Connection<S>,
         number: u64,
-    ) -> Result<Custody<V, S>, (InitError, V, Connection<S>)> {
+    ) -> Result<Custody<V, S>, (InitError, V, Connection<S>)>
+        requires { V.failures volume < 2 ^ 64 - 1 }
+        ensures open { IfOk result (λ c. c.is_open ≡ true) }
+        ensures records { IfOk result (λ c. recorded c.holdings ≡ new_records number (V.size volume)) }
+        ensures begun { IfOk result (λ c. IsBegun empty (Serving (recorded c.holdings) (image_of c.holdings))) }
+        ensures image { V.tells → IfOk result (λ c. KeepsImage c.holdings) }
+        ensures rows { (standing S.Store db).IsBare → IfOk result (λ c. (stored S.Store c.holdings).IsHonest → KeepsRows S.Store c.holdings) }
+        ensures size { IfErr result (λ e. e.0 ≡ InitError.Size → ¬ ((2 ≤ V.size volume) × (V.size volume ≤ 262144))) }
+        ensures failed { IfErr result (λ e. e.0 ≡ InitError.Fault Fault.VolumeFailed → V.failures volume < V.failures e.1) }
+        ensures kind { IfErr result (λ e. (fault : why.Fault) → e.0 ≡ InitError.Fault fault → (fault ≡ Fault.VolumeFailed) ⊎ (fault ≡ Fault.StoreFailed)) }
+        // A database with a record is refused, and no other.
+        ensures taken { (standing S.Store db).IsReady ⊎ (standing S.Store db).IsBare
+            → IfErr result (λ e. (standing S.Store e.2).IsHonest → e.0 ≡ InitError.AlreadyInitialised → ¬ HasNoRecord (standing S.Store db).rows) }
+        ensures not_taken { (standing S.Store db).IsReady ⊎ (standing S.Store db).IsBare
+            → MatchResult result (λ c. (stored S.Store c.holdings).IsHonest → HasNoRecord (standing S.Store db).rows)
+            (λ e. (standing S.Store e.2).IsHonest → e.0 ≡ InitError.Size → HasNoRecord (standing S.Store db).rows) }
+        // A refusal writes nothing.
+        ensures unwritten { IfErr result (λ e. IsRefused e.0 → e.1 ≡ volume) }
+        ensures rows_left { (standing S.Store db).IsReady ⊎ (standing S.Store db).IsBare
+            → IfErr result (λ e. (standing S.Store e.2).IsHonest → IsRefused e.0 → (rows : Rows) → (standing S.Store e.2).may_leave rows → (standing S.Store db).may_leave rows) }
+        ensures trust { MatchResult result (λ c. (stored S.Store c.holdings).IsHonest → (standing S.Store db).IsHonest)
+            (λ e. (standing S.Store e.2).IsHonest → (standing S.Store db).IsHonest) }
+        // Before the commit a stop leaves no record, and at each exit no record or an empty custody.
+        ensures within { (standing S.Store db).IsBare → (rows : Rows) (image : List ℕ) → (standing S.Store db).may_leave rows → IsDamaged damage.NoRecord rows image }
+        ensures begins { V.tells → (standing S.Store db).IsBare → IfOk result (λ c. (stored S.Store c.holdings).IsHonest
+            → (rows : Rows) (image : List ℕ) → (stored S.Store c.holdings).may_leave rows → left_by c.holdings image → IsBegun empty (Left rows image)) }
+        ensures fails { V.tells → (standing S.Store db).IsBare → IfErr result (λ e. (standing S.Store e.2).IsHonest
+            → (rows : Rows) (image : List ℕ) → (standing S.Store e.2).may_leave rows → V.left_at e.1 (V.moment e.1) image → MayInitialise rows image) }
+    {
         let mut volume = volume;
         let mut db = db;
         let blocks = volume.size();
         if let Err(error) = may_begin(&mut db, blocks) {
             return Err((error, volume, db));
         }
-        if write_head(&mut volume, number).is_err() {
-            return Err((InitError::Fault(Fault::VolumeFailed), volume, db));
-        }
         let mut store = Store::over(db);
-        if store.create(number, blocks).is_err() {
-            return Err((
-                InitError::Fault(Fault::StoreFailed),
-                volume,
-                store.into_inner(),
-            ));
+        if let Err(fault) = prepare(&mut volume, &mut store, number, blocks) {
+            return Err((InitError::Fault(fault), volume, store.into_inner()));
         }
+        let records = Records::new(alloc, number, blocks);
         Ok(Custody {
-            vault: Vault::over(volume, 1),
-            store,
-            records: Records::new(alloc, number, blocks),
+            holdings: hold(volume, store, records),
             is_open: true,
         })
     }
@@ -70,7 +104,23 @@ impl<V: Volume, S: Alter> Custody<V, S> {
         alloc: Global,
         volume: V,
         db: Connection<S>,
-    ) -> Result<Custody<V, S>, (Fault, V, Connection<S>)> {
+    ) -> Result<Custody<V, S>, (Fault, V, Connection<S>)>
+        requires { V.failures volume < 2 ^ 64 - 1 }
+        ensures open { IfOk result (λ c. c.is_open ≡ true) }
+        ensures records { V.tells → (standing S.Store db).IsReady → IfOk result (λ c. (stored S.Store c.holdings).IsHonest
+            → (form_of (standing S.Store db).rows ≡ InForm (recorded c.holdings)) × IsGood (recorded c.holdings) (V.image volume) × (image_of c.holdings ≡ V.image volume)) }
+        ensures image { V.tells → LeavesOne (V.image volume) (V.left_at volume (V.moment volume)) → IfOk result (λ c. KeepsImage c.holdings) }
+        ensures rows { (standing S.Store db).IsReady → IfOk result (λ c. (stored S.Store c.holdings).IsHonest → KeepsRows S.Store c.holdings) }
+        ensures damaged { V.tells → (standing S.Store db).IsReady ⊎ (standing S.Store db).IsBare → IfErr result (λ e. (standing S.Store e.2).IsHonest
+            → (damage : wrong.Damage) → e.0 ≡ Fault.Damaged damage → IsDamaged damage (standing S.Store db).rows (V.image volume)) }
+        ensures failed { IfErr result (λ e. e.0 ≡ Fault.VolumeFailed → V.failures volume < V.failures e.1) }
+        ensures not_closed { IfErr result (λ e. e.0 ≢ Fault.Closed) }
+        // It only reads.
+        ensures during { V.tells → MatchResult result
+            (λ c. LeavesOnly V.moment V.left_at volume (volume_of c.holdings.vault) (V.left_at volume (V.moment volume)))
+            (λ e. LeavesOnly V.moment V.left_at volume e.1 (V.left_at volume (V.moment volume))) }
+        ensures reads { MatchResult result (λ c. Reads (standing S.Store db) (stored S.Store c.holdings) result) (λ e. Reads (standing S.Store db) (standing S.Store e.2) result) }
+    {
         let mut volume = volume;
         let mut db = db;
         let (number, blocks) = match identify(&mut volume, &mut db) {
@@ -78,22 +128,21 @@ impl<V: Volume, S: Alter> Custody<V, S> {
             Err(fault) => return Err((fault, volume, db)),
         };
         let mut store = Store::over(db);
-        let records = match load_whole(alloc, &mut store, number, blocks) {
-            Ok(records) => records,
-            Err(fault) => return Err((fault, volume, store.into_inner())),
-        };
-        let place = place_after(&records);
-        Ok(Custody {
-            vault: Vault::over(volume, place),
-            store,
-            records,
-            is_open: true,
-        })
+        match load_whole(alloc, &mut store, number, blocks) {
+            Ok(records) => Ok(Custody {
+                holdings: hold(volume, store, records),
+                is_open: true,
+            }),
+            Err(fault) => Err((fault, volume, store.into_inner())),
+        }
     }
 
     /// Hands the volume and the database back. It writes nothing.
-    pub fn close(self) -> (V, Connection<S>) {
-        let Custody { vault, store, .. } = self;
+    pub fn close(self) -> (V, Connection<S>)
+        ensures volume { result.0 ≡ volume_of self.holdings.vault }
+        ensures store { result.1 ≡ self.holdings.store }
+    {
+        let Holdings { vault, store, .. } = self.holdings;
         (vault.into_inner(), store.into_inner())
     }
 
@@ -103,18 +152,13 @@ impl<V: Volume, S: Alter> Custody<V, S> {
         alloc: Global,
         command: &Command<'_>,
         now: Sec,
-    ) -> Result<Reply, Refused> {
+    ) -> Result<Reply, Refused>
+        ensures { HasApplied self.old (command_of command.now) now result self.new }
+    {
         if !self.is_open {
             return Err(Refused::Fault(Fault::Closed));
         }
-        let answer = serve(
-            alloc,
-            &mut self.vault,
-            &mut self.store,
-            &mut self.records,
-            command,
-            now,
-        );
+        let answer = self.holdings.serve(alloc, command, now);
         self.is_open = stays_open(&answer);
         answer
     }
@@ -124,42 +168,56 @@ impl<V: Volume, S: Alter> Custody<V, S> {
         &mut self,
         alloc: Global,
         commands: &[(Command<'_>, Sec)],
-    ) -> Result<Vec<Result<Reply, Refused>>, AllocError> {
+    ) -> Result<Vec<Result<Reply, Refused>>, AllocError>
+        ensures run { IfOk result (λ answers. HasRun self.old (entries_of commands.now) answers.items self.new) }
+        ensures none { OnErr result (self.new ≡ self.old) }
+    {
         let mut answers = Vec::with_capacity(alloc, commands.len())?;
         for (command, now) in commands {
-            answers.push(self.apply(alloc, command, *now))?;
+            let answer = self.apply(alloc, command, *now);
+            answers.push_reserved(answer);
         }
         Ok(answers)
     }
 
     /// The records.
-    pub fn records(&self) -> Result<&Records, Fault> {
+    pub fn records(&self) -> Result<&Records, Fault>
+        ensures found { IfOk result (λ records. (self.now.is_open ≡ true) × (records_of records.now ≡ recorded self.now.holdings)) }
+        ensures closed { IfErr result (λ fault. (self.now.is_open ≡ false) × (fault ≡ Fault.Closed)) }
+    {
         if self.is_open {
-            Ok(&self.records)
+            Ok(&self.holdings.records)
         } else {
             Err(Fault::Closed)
         }
     }
 
     /// How many blocks are free, and how many there are but block 0.
-    pub fn room(&self) -> Result<(u32, u32), Fault> {
-        let records = self.records()?;
-        Ok((free_blocks(records), records.blocks().saturating_sub(1)))
+    pub fn room(&self) -> Result<(u32, u32), Fault>
+        ensures found { IfOk result (λ room. (self.now.is_open ≡ true) × (room.0 ≡ free_blocks (recorded self.now.holdings)) × (room.1 ≡ (recorded self.now.holdings).blocks - 1)) }
+        ensures closed { IfErr result (λ fault. (self.now.is_open ≡ false) × (fault ≡ Fault.Closed)) }
+    {
+        match self.records() {
+            Ok(records) => Ok((free_blocks(records), records.blocks().saturating_sub(1))),
+            Err(fault) => Err(fault),
+        }
     }
 }
 
-/// Whether a custody may be begun.
-fn may_begin<S: Alter>(db: &mut Connection<S>, blocks: u32) -> Result<(), InitError> {
-    match has_record(db) {
-        Ok(true) => Err(InitError::AlreadyInitialised),
-        Ok(false) if (2..=262_144).contains(&blocks) => Ok(()),
-        Ok(false) => Err(InitError::Size),
-        Err(fault) => Err(InitError::Fault(fault)),
-    }
+/// Whether a custody is open after an answer: it is closed where the volume or the database failed.
+fn stays_open(answer: &Result<Reply, Refused>) -> bool
+    ensures { result ≡ stays_open answer.now }
+{
+    !matches!(
+        answer,
+        Err(Refused::Fault(Fault::VolumeFailed | Fault::StoreFailed | Fault::Closed))
+    )
 }
 
 /// All blocks but block 0 and those of the parts that are held.
-fn free_blocks(records: &Records) -> u32 {
+fn free_blocks(records: &Records) -> u32
+    ensures { result ≡ free_blocks (records_of records.now) }
+{
     let mut free = records.blocks().saturating_sub(1);
     for part in records.parts() {
         if part.extents.is_some() {

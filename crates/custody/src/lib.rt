@@ -5,10 +5,9 @@
 mod answers;
 mod compare;
 mod custody;
+mod forms;
+mod holdings;
 mod opening;
-mod receiving;
-mod registering;
-mod serving;
 #[cfg(test)]
 mod tests;
 

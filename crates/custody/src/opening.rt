@@ -1,40 +1,132 @@
-//! What an opening looks at.
-use custody_rules::damage_in;
+//! What an opening and a beginning look at.
+ghost use Rattle.std.specs.Prelude.{◌≡◌, ◌≢◌, ◌⊎◌, ◌↔◌, ℕ, pos, IsTrue, List, ◌-◌, ◌<◌, ◌≤◌, ◌^◌, is_some, option_map, IfOk, IfErr, OnOk, MatchResult};
+ghost use Rattle.vault_volume.specs.Disk.{LeavesOne, LeavesOnly};
+ghost use Rattle.vault_volume.specs.Head.{head_of};
+ghost use Rattle.vault_volume.specs.Image.{bytes_at};
+ghost use Rattle.vault_volume.specs.Vault.{volume_of};
+ghost use Rattle.custody_records.specs.Form.{form_of, InForm};
+ghost use Rattle.custody_records.specs.Held.{records_of};
+ghost use Rattle.custody_records.specs.Rows.{Rows, fresh};
+ghost use Rattle.custody_records.specs.Written.{digits_of};
+ghost use Rattle.custody_records.specs.Typed as typed;
+ghost use Rattle.custody_store.specs.Reading.{first_meta};
+ghost use Rattle.custody_store.specs.Standing.{standing, Reads, Founds};
+ghost use Rattle.custody_machine.specs.declared.damage.Damage as wrong;
+ghost use Rattle.custody_machine.specs.Damage.{meta_of, IsDamaged};
+ghost use Rattle.custody_machine.specs.Stored.{AreWhole};
+ghost use Rattle.custody_machine.specs.Custody.{MayInitialise};
+ghost use Rattle.custody_machine.specs.declared.answers.Fault as why;
+ghost use Rattle.custody.specs.Holdings.{recorded, KeepsOrder};
+ghost use Rattle.custody.specs.Opening.{HasNoRecord, fault_of};
+
+use crate::InitError;
+use crate::holdings::Holdings;
 use custody_machine::{Damage, Fault};
-use custody_records::Records;
+use custody_records::{Meta, Records};
+use custody_rules::{damage_in, place_after};
 use custody_store::{Store, StoreFault, find_meta};
 use sqlite::{Alter, Connection};
 use std::alloc::Global;
-use vault_volume::{Volume, read_head};
+use vault_volume::{Vault, Volume, read_head, write_head};
 
-/// Whether a database has a record of a vault.
-pub fn has_record<S: Alter>(db: &mut Connection<S>) -> Result<bool, Fault> {
+/// The first row of meta.
+fn find_record<S: Alter>(db: &mut Connection<S>) -> Result<Option<Meta>, Fault>
+    ensures found { (standing S.Store db.new).IsHonest → (standing S.Store db.old).IsReady ⊎ (standing S.Store db.old).IsBare
+        → IfOk result (λ found. found ≡ option_map typed.meta_of (first_meta (standing S.Store db.old).rows)) }
+    ensures reads { Reads (standing S.Store db.old) (standing S.Store db.new) result }
+    ensures kind { IfErr result (λ fault. fault ≡ Fault.StoreFailed) }
+{
     match find_meta(db) {
-        Ok(meta) => Ok(meta.is_some()),
+        Ok(found) => Ok(found),
         Err(_) => Err(Fault::StoreFailed),
     }
+}
+
+/// Whether a database has a record of a vault.
+pub fn has_record<S: Alter>(db: &mut Connection<S>) -> Result<bool, Fault>
+    ensures found { (standing S.Store db.new).IsHonest → (standing S.Store db.old).IsReady ⊎ (standing S.Store db.old).IsBare
+        → IfOk result (λ is_there. is_there ≡ is_some (meta_of (standing S.Store db.old).rows)) }
+    ensures reads { Reads (standing S.Store db.old) (standing S.Store db.new) result }
+    ensures kind { IfErr result (λ fault. fault ≡ Fault.StoreFailed) }
+{
+    match find_record(db) {
+        Ok(found) => Ok(found.is_some()),
+        Err(fault) => Err(fault),
+    }
+}
+
+/// The number in block 0.
+fn read_number<V: Volume>(volume: &mut V) -> Result<u64, Fault>
+    requires { V.failures volume.old < 2 ^ 64 - 1 }
+    ensures size { V.size volume.new ≡ V.size volume.old }
+    ensures failed { IfErr result (λ fault. fault ≡ Fault.VolumeFailed → V.failures volume.old < V.failures volume.new) }
+    ensures no_failure { OnOk result (V.failures volume.new ≡ V.failures volume.old) }
+    ensures not_closed { IfErr result (λ fault. fault ≢ Fault.Closed) }
+    ensures head { V.tells → IfOk result (λ number. bytes_at (V.image volume.old) 0 4096 ≡ head_of number) }
+    ensures damaged { V.tells → IfErr result (λ fault. (damage : wrong.Damage) → fault ≡ Fault.Damaged damage → (rows : Rows) → IsDamaged damage rows (V.image volume.old)) }
+    ensures image { V.tells → V.image volume.new ≡ V.image volume.old }
+    ensures any_moment { V.tells → LeavesOnly V.moment V.left_at volume.old volume.new (V.left_at volume.old (V.moment volume.old)) }
+{
+    match read_head(volume) {
+        Ok(Some(number)) => Ok(number),
+        Ok(None) => Err(Fault::Damaged(Damage::Head)),
+        Err(_) => Err(Fault::VolumeFailed),
+    }
+}
+
+/// Whether the row is that of a volume of this number and so many blocks.
+fn is_of(meta: &Meta, number: u64, blocks: u32) -> bool
+    ensures { IsTrue result ↔ ((meta.now.number ≡ Some number) × (meta.now.blocks ≡ pos blocks)) }
+{
+    meta.number == Some(number) && meta.blocks == i64::from(blocks)
 }
 
 /// The number and the blocks of a volume, where it is the one of which the database has a record.
 pub fn identify<V: Volume, S: Alter>(
     volume: &mut V,
     db: &mut Connection<S>,
-) -> Result<(u64, u32), Fault> {
-    let meta = match find_meta(db) {
+) -> Result<(u64, u32), Fault>
+    requires { V.failures volume.old < 2 ^ 64 - 1 }
+    ensures size { V.size volume.new ≡ V.size volume.old }
+    ensures blocks { IfOk result (λ found. found.1 ≡ V.size volume.old) }
+    ensures failed { IfErr result (λ fault. fault ≡ Fault.VolumeFailed → V.failures volume.old < V.failures volume.new) }
+    ensures no_failure { OnOk result (V.failures volume.new ≡ V.failures volume.old) }
+    ensures not_closed { IfErr result (λ fault. fault ≢ Fault.Closed) }
+    ensures head { V.tells → IfOk result (λ found. bytes_at (V.image volume.old) 0 4096 ≡ head_of found.0) }
+    ensures row { (standing S.Store db.new).IsHonest → (standing S.Store db.old).IsReady ⊎ (standing S.Store db.old).IsBare
+        → OnOk result (¬ HasNoRecord (standing S.Store db.old).rows) }
+    ensures damaged { V.tells → (standing S.Store db.new).IsHonest → (standing S.Store db.old).IsReady ⊎ (standing S.Store db.old).IsBare
+        → IfErr result (λ fault. (damage : wrong.Damage) → fault ≡ Fault.Damaged damage → IsDamaged damage (standing S.Store db.old).rows (V.image volume.old)) }
+    ensures reads { Reads (standing S.Store db.old) (standing S.Store db.new) result }
+    ensures image { V.tells → V.image volume.new ≡ V.image volume.old }
+    ensures any_moment { V.tells → LeavesOnly V.moment V.left_at volume.old volume.new (V.left_at volume.old (V.moment volume.old)) }
+{
+    let meta = match find_record(db) {
         Ok(Some(meta)) => meta,
         Ok(None) => return Err(Fault::Damaged(Damage::NoRecord)),
-        Err(_) => return Err(Fault::StoreFailed),
+        Err(fault) => return Err(fault),
     };
-    let number = match read_head(volume) {
-        Ok(Some(number)) => number,
-        Ok(None) => return Err(Fault::Damaged(Damage::Head)),
-        Err(_) => return Err(Fault::VolumeFailed),
+    let number = match read_number(volume) {
+        Ok(number) => number,
+        Err(fault) => return Err(fault),
     };
     let blocks = volume.size();
-    if meta.number != Some(number) || meta.blocks != blocks as i64 {
-        return Err(Fault::Damaged(Damage::Volume));
+    if is_of(&meta, number, blocks) {
+        Ok((number, blocks))
+    } else {
+        Err(Fault::Damaged(Damage::Volume))
     }
-    Ok((number, blocks))
+}
+
+/// Why records were not loaded.
+fn fault_of(fault: StoreFault) -> Fault
+    ensures { result ≡ fault_of fault }
+{
+    match fault {
+        StoreFault::Failed => Fault::StoreFailed,
+        StoreFault::Damaged(custody_records::Damage::Schema) => Fault::Damaged(Damage::Schema),
+        StoreFault::Damaged(custody_records::Damage::Form) => Fault::Damaged(Damage::Form),
+    }
 }
 
 /// The records of a database, where they are whole.
@@ -43,16 +135,19 @@ pub fn load_whole<S: Alter>(
     store: &mut Store<S>,
     number: u64,
     blocks: u32,
-) -> Result<Records, Fault> {
+) -> Result<Records, Fault>
+    ensures whole { IfOk result (λ records. AreWhole (records_of records)) }
+    ensures volume { IfOk result (λ records. ((records_of records).number ≡ number) × ((records_of records).blocks ≡ blocks) × (1 ≤ blocks)) }
+    ensures kind { IfErr result (λ fault. (fault ≢ Fault.VolumeFailed) × (fault ≢ Fault.Closed)) }
+    ensures found { (standing S.Store store.new).IsHonest → (standing S.Store store.old).IsReady
+        → IfOk result (λ records. form_of (standing S.Store store.old).rows ≡ InForm (records_of records)) }
+    ensures damaged { (standing S.Store store.new).IsHonest → (standing S.Store store.old).IsReady
+        → IfErr result (λ fault. (damage : wrong.Damage) → fault ≡ Fault.Damaged damage → (image : List ℕ) → IsDamaged damage (standing S.Store store.old).rows image) }
+    ensures reads { Reads (standing S.Store store.old) (standing S.Store store.new) result }
+{
     let records = match store.load(alloc) {
         Ok(records) => records,
-        Err(StoreFault::Failed) => return Err(Fault::StoreFailed),
-        Err(StoreFault::Damaged(custody_records::Damage::Schema)) => {
-            return Err(Fault::Damaged(Damage::Schema));
-        }
-        Err(StoreFault::Damaged(custody_records::Damage::Form)) => {
-            return Err(Fault::Damaged(Damage::Form));
-        }
+        Err(fault) => return Err(fault_of(fault)),
     };
     // (One database has one row of the volume: another here is no answer of the one that was asked before.)
     if records.number() != number || records.blocks() != blocks || blocks == 0 {
@@ -62,5 +157,72 @@ pub fn load_whole<S: Alter>(
         Ok(None) => Ok(records),
         Ok(Some(damage)) => Err(Fault::Damaged(damage)),
         Err(_) => Err(Fault::NoMemory),
+    }
+}
+
+/// Whether a custody may be begun.
+pub fn may_begin<S: Alter>(db: &mut Connection<S>, blocks: u32) -> Result<(), InitError>
+    ensures fits { OnOk result ((2 ≤ blocks) × (blocks ≤ 262144)) }
+    ensures size { IfErr result (λ e. e ≡ InitError.Size → ¬ ((2 ≤ blocks) × (blocks ≤ 262144))) }
+    ensures taken { (standing S.Store db.new).IsHonest → (standing S.Store db.old).IsReady ⊎ (standing S.Store db.old).IsBare
+        → IfErr result (λ e. e ≡ InitError.AlreadyInitialised → ¬ HasNoRecord (standing S.Store db.old).rows) }
+    ensures not_taken { (standing S.Store db.new).IsHonest → (standing S.Store db.old).IsReady ⊎ (standing S.Store db.old).IsBare
+        → MatchResult result (λ _. HasNoRecord (standing S.Store db.old).rows) (λ e. e ≡ InitError.Size → HasNoRecord (standing S.Store db.old).rows) }
+    ensures kind { IfErr result (λ e. (fault : why.Fault) → e ≡ InitError.Fault fault → fault ≡ Fault.StoreFailed) }
+    ensures reads { Reads (standing S.Store db.old) (standing S.Store db.new) result }
+{
+    match has_record(db) {
+        Ok(true) => Err(InitError::AlreadyInitialised),
+        Ok(false) if (2..=262_144).contains(&blocks) => Ok(()),
+        Ok(false) => Err(InitError::Size),
+        Err(fault) => Err(InitError::Fault(fault)),
+    }
+}
+
+/// Writes block 0, and then makes the records.
+pub fn prepare<V: Volume, S: Alter>(
+    volume: &mut V,
+    store: &mut Store<S>,
+    number: u64,
+    blocks: u32,
+) -> Result<(), Fault>
+    requires count { V.failures volume.old < 2 ^ 64 - 1 }
+    requires fits { (2 ≤ blocks) × (blocks ≤ 262144) }
+    requires blocks { V.size volume.old ≡ blocks }
+    ensures size { V.size volume.new ≡ V.size volume.old }
+    ensures failed { IfErr result (λ fault. fault ≡ Fault.VolumeFailed → V.failures volume.old < V.failures volume.new) }
+    ensures no_failure { OnOk result (V.failures volume.new ≡ V.failures volume.old) }
+    ensures kind { IfErr result (λ fault. (fault ≡ Fault.VolumeFailed) ⊎ (fault ≡ Fault.StoreFailed)) }
+    ensures head { V.tells → OnOk result (bytes_at (V.image volume.new) 0 4096 ≡ head_of number) }
+    ensures settled { V.tells → OnOk result (LeavesOne (V.image volume.new) (V.left_at volume.new (V.moment volume.new))) }
+    ensures founds { Founds (standing S.Store store.old) (standing S.Store store.new) (fresh (digits_of number) (pos blocks)) result }
+    ensures at_exit { V.tells → (standing S.Store store.new).IsHonest → (standing S.Store store.old).IsBare
+        → (rows : Rows) (image : List ℕ) → (standing S.Store store.new).may_leave rows → V.left_at volume.new (V.moment volume.new) image → MayInitialise rows image }
+{
+    let Ok(()) = write_head(volume, number) else {
+        return Err(Fault::VolumeFailed);
+    };
+    match store.create(number, blocks) {
+        Ok(()) => Ok(()),
+        Err(_) => Err(Fault::StoreFailed),
+    }
+}
+
+/// Whole records with their volume and database.
+pub fn hold<V: Volume, S: Alter>(volume: V, store: Store<S>, records: Records) -> Holdings<V, S>
+    requires whole { AreWhole (records_of records) }
+    requires some { 1 ≤ (records_of records).blocks }
+    requires size { V.size volume ≡ (records_of records).blocks }
+    requires count { V.failures volume < 2 ^ 64 - 1 }
+    ensures volume { volume_of result.vault ≡ volume }
+    ensures store { result.store ≡ store }
+    ensures records { recorded result ≡ records_of records }
+    ensures order { KeepsOrder result }
+{
+    let place = place_after(&records);
+    Holdings {
+        vault: Vault::over(volume, place),
+        store,
+        records,
     }
 }

@@ -1,5 +1,5 @@
 -- When a field passes its test, and what a typed reader of the field then answers.
-use Rattle.std.proofs.Common.{◌≡◌, ◌≢◌, ℕ, ℤ, pos, negsuc, ◌*◌, ◌-◌, ◌≤◌, ◌<◌, List, [], ◌∷◌, ◌==◌, length, Bool, true, false, ◌&&◌, not, cond, nat_lt, eqb, Option, Some, None, refl, sym, ◌∙◌, ap, subst, arith}
+use Rattle.std.proofs.Common.{◌≡◌, ◌≢◌, ℕ, ℤ, pos, negsuc, ◌*◌, ◌-◌, ◌≤◌, List, [], ◌∷◌, ◌==◌, length, Bool, true, false, ◌&&◌, not, cond, nat_lt, Option, Some, None, refl, sym, ◌∙◌, ap, subst, arith}
 use Rattle.std.specs.Prelude.{IfSome, find, slice_index}
 use Rattle.std.specs.Str.{bytes_eq, IsUtf8}
 use Rattle.std.specs.List.{list_all}

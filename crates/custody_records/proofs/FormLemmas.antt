@@ -1,8 +1,6 @@
 -- What rows in form have, and how one row more stands for one record more.
-use Rattle.std.proofs.Common.{◌≡◌, ℕ, ℤ, pos, ◌≤◌, ◌<◌, ◌^◌, List, [], ◌∷◌, ◌++◌, Option, Some, None, Bool, true, false, ◌&&◌, not, cond, nat_lt, refl, sym, ◌∙◌, ap, arith}
-use Rattle.std.specs.Prelude.{option_map, Ok}
-use Rattle.std.specs.Option.{option_and_then}
-use Rattle.std.specs.FinMap.{FinMap, get, insert, empty}
+use Rattle.std.proofs.Common.{◌≡◌, ℕ, pos, ◌≤◌, ◌<◌, ◌^◌, List, [], ◌∷◌, Option, Some, None, Bool, true, false, ◌&&◌, cond, refl, sym, ◌∙◌, ap}
+use Rattle.std.specs.FinMap.{FinMap, get}
 use Rattle.std.specs.Int.{w64, to_be_bytes}
 use Rattle.std.proofs.lemmas.Nat.{from_be_bytes-to_be_bytes_8}
 use Rattle.std.proofs.lemmas.Slice.Eq.{bytes_eq-Decides}
@@ -13,7 +11,7 @@ use Rattle.custody_records.specs.declared.damage.Damage.TheVariants as damage
 use Rattle.custody_records.specs.Keys.{text_cmp, PartKey, part_cmp, NoticeKey, notice_cmp}
 use Rattle.custody_records.specs.Records.{PartRecord, Notice, Release, Records, new_records, with_registry, with_part, with_notice, with_release}
 use Rattle.custody_records.specs.Rows.{MetaRow, RegistryRow, PartRow, NoticeRow, HandoverRow, Rows, with_registry_row, with_part_row, with_notice_row, with_handover_row, fresh}
-use Rattle.custody_records.specs.Form.{natural, gathered, registry_in, part_in, notice_in, release_in, from_hex, number_in, is_meta, Form, NoVault, OutOfForm, InForm, all_records, records_in, in_form_or, is_known, are_none, form_after, form_by, form_of}
+use Rattle.custody_records.specs.Form.{natural, gathered, registry_in, part_in, notice_in, release_in, from_hex, number_in, is_meta, OutOfForm, InForm, all_records, records_in, in_form_or, is_known, form_by, form_of}
 use Rattle.std.specs.Str.{bytes_eq}
 use Rattle.custody_records.proofs.FieldLemmas.{within_passes}
 use Rattle.custody_records.proofs.Gathered.{gathered_push}

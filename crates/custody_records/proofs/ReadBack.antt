@@ -1,18 +1,14 @@
 -- The row that is written for a record is read back as that record.
-use Rattle.std.proofs.Common.{◌≡◌, ℕ, zero, suc, pos, ◌+◌, ◌<◌, ◌^◌, List, [], ◌∷◌, ◌++◌, ◌==◌, length, get_or, Bool, true, false, ◌&&◌, not, cond, Option, Some, None, refl, sym, ◌∙◌, ap, subst, arith, take, append_assoc, append-nil}
+use Rattle.std.proofs.Common.{◌≡◌, ℕ, suc, pos, ◌+◌, ◌<◌, List, [], ◌∷◌, ◌++◌, ◌==◌, length, get_or, Bool, true, false, ◌&&◌, not, cond, Option, Some, None, refl, sym, ◌∙◌, ap, arith, take, append_assoc, append-nil}
 use Rattle.std.specs.Prelude.{option_map, All}
 use Rattle.std.specs.List.{list_all}
 use Rattle.std.specs.Str.{bytes_eq}
 use Rattle.std.specs.Option.{option_and_then}
-use Rattle.std.specs.Int.{w32, to_be_bytes, from_be_bytes}
+use Rattle.std.specs.Int.{w32, to_be_bytes}
 use Rattle.std.proofs.lemmas.List.{take_more}
 use Rattle.std.proofs.lemmas.Nat.{from_be_bytes-to_be_bytes_4}
-use Rattle.std.proofs.lemmas.Bool.Decides.{nat_tests}
 use Rattle.deposit_name.specs.declared.kinds.Kind.{Kind}
-use Rattle.deposit_name.specs.Identifiers.{IsTld, IsDepositId}
-use Rattle.deposit_name.specs.Name.{kind_text}
-use Rattle.desk.specs.Checks.{check_number}
-use Rattle.desk.specs.Grounds.{ground_text}
+use Rattle.deposit_name.specs.Identifiers.{IsTld}
 use Rattle.desk.specs.declared.checks.Check.{Check}
 use Rattle.desk.specs.declared.grounds.Ground.{Ground}
 use Rattle.desk.specs.declared.notices.NoticeKind.{NoticeKind}
@@ -21,9 +17,8 @@ use Rattle.schedule.specs.Schedule.{IsDay, day_of, year_after}
 use Rattle.vault_volume.specs.declared.extent.Extent.{Extent}
 use Rattle.custody_records.specs.Keys.{PartKey, NoticeKey}
 use Rattle.custody_records.specs.Records.{PartRecord, Notice, Release}
-use Rattle.custody_records.specs.Rows.{RegistryRow, PartRow, NoticeRow, HandoverRow}
-use Rattle.custody_records.specs.Form.{natural, is_within, is_number, is_id, extents_of, extents_in, kind_in, registry_in, is_part, part_key, part_in, notice_kind_in, notice_in, check_in, ground_in, lines_from, lines_in, release_in}
-use Rattle.custody_records.specs.Written.{row_of_registry, blob_of, HasWords, AreWritable, row_of_part, IsPart, kind_number, kind_rev, kind_id, row_of_notice, IsNoticeKind, IsNotice, is_line, text_of, row_of_release, IsRelease}
+use Rattle.custody_records.specs.Form.{is_number, extents_of, extents_in, registry_in, is_part, part_in, notice_kind_in, notice_in, lines_from, lines_in, release_in}
+use Rattle.custody_records.specs.Written.{row_of_registry, blob_of, HasWords, AreWritable, row_of_part, IsPart, row_of_notice, IsNoticeKind, IsNotice, is_line, text_of, row_of_release, IsRelease}
 use Rattle.custody_records.proofs.FieldLemmas.{both_true, within_passes, number_passes, day_passes, deposit_day_passes, moment_passes, tld_passes, id_passes, reference_passes, kind_in-kind_text, ground_in-ground_text, check_in-check_number, check_apart}
 
 -- ---- registries

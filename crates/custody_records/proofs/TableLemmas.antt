@@ -1,14 +1,14 @@
 -- A table in the order of its keys is a finite map: what is found in it, and what a row more adds.
-use Rattle.std.proofs.Common.{◌≡◌, ◌⊎◌, inl, inr, ℕ, zero, suc, ◌+◌, ◌<◌, ◌≤◌, List, [], ◌∷◌, length, get_or, Bool, true, false, ◌&&◌, cond, Option, Some, None, Result, Ok, Err, refl, sym, ◌∙◌, ap, subst, arith, add-one}
+use Rattle.std.proofs.Common.{◌≡◌, ◌⊎◌, inl, inr, ℕ, zero, suc, ◌<◌, ◌≤◌, List, [], ◌∷◌, length, get_or, Bool, true, false, ◌&&◌, cond, Option, Some, None, Result, Ok, Err, refl, sym, ◌∙◌, ap, subst, arith, add-one}
 use Rattle.std.specs.Prelude.{T, option_map, is_some, OnOk, OnErr, IfSome, option_copied}
 use Rattle.std.specs.List as list
-use Rattle.std.specs.List.Sorted.{IsSearchInRange, IsBinarySearchResult, IsNonDecreasingBy}
+use Rattle.std.specs.List.Sorted.{IsBinarySearchResult, IsNonDecreasingBy}
 use Rattle.std.specs.Ordering.{is_lt, is_eq, ordering_reverse, ordering_index}
 use Rattle.std.specs.declared.cmp.Ordering.{Ordering}
 use Rattle.std.specs.declared.cmp.Ordering.TheVariants.{Less, Equal, Greater}
 use Rattle.std.specs.Cmp.{IsTotalOrder}
 use denote.Ref.{Bor}
-use Rattle.std.specs.FinMap.{FinMap, IsAntisymmetric, get, insert, empty, entries, entries-insert, entries-from_sorted, get-from_sorted, same_entries_map, empty_of_len, len-entries, from_sorted}
+use Rattle.std.specs.FinMap.{IsAntisymmetric, get, insert, empty, entries-insert, entries-from_sorted, get-from_sorted, same_entries_map, empty_of_len, len-entries, from_sorted}
 use Rattle.std.specs.FinMap.Entries.{find, put, is_sorted, below_all, by_order, is_sorted-put}
 use Rattle.std.proofs.lemmas.Bool.{cases_lt}
 use Rattle.std.proofs.lemmas.Cmp.{alike_right}
@@ -35,7 +35,7 @@ module _ {Row K : Type 0} (order : K → K → Ordering) (key : Row → K) where
   rising_entries value [] = refl
   rising_entries value (row ∷ rows) = λ i. below_entries value (key row) rows i && rising_entries value rows i
 
-  sorted_entries : {X : Type 0} (value : Row → X) (rows : List Row) → is_rising order key rows ≡ true → T (is_sorted order (entries_of key value rows))
+  pub sorted_entries : {X : Type 0} (value : Row → X) (rows : List Row) → is_rising order key rows ≡ true → T (is_sorted order (entries_of key value rows))
   sorted_entries value rows rising = subst T (sym (rising_entries value rows ∙ rising)) tt
 
   find_entries : {X : Type 0} (value : Row → X) (rows : List Row) (sought : K) → find order sought (entries_of key value rows) ≡ option_map value (row_at order key rows sought)

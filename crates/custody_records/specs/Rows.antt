@@ -1,5 +1,5 @@
 -- The tables of a custody as rows, in the order in which they were added. A table that is not there is None.
-use Rattle.std.specs.Prelude.{ℕ, ℤ, pos, List, [], ◌∷◌, ◌++◌, Option, Some, None, option_map}
+use Rattle.std.specs.Prelude.{ℕ, ℤ, pos, List, [], ◌∷◌, ◌++◌, Option, Some, option_map}
 
 pub record MetaRow : Type 0 where
   pub one : ℤ

@@ -1,8 +1,8 @@
 -- Extents that are apart, and their blocks in a map of blocks.
-use Rattle.std.proofs.Common.{◌≡◌, ◌⊎◌, inl, inr, ⊎_elim, ℕ, ◌+◌, ◌<◌, ◌≤◌, List, [], ◌∷◌, ◌++◌, length, get_or, take, drop, replicate, Bool, true, false, sym, ◌∙◌, subst, arith}
+use Rattle.std.proofs.Common.{◌≡◌, ◌⊎◌, inl, inr, ⊎_elim, ℕ, ◌+◌, ◌<◌, ◌≤◌, List, [], ◌∷◌, ◌++◌, length, get_or, take, drop, replicate, Bool, false, sym, ◌∙◌, subst, arith}
 use Rattle.std.proofs.lemmas.Bool.{cases_lt}
 use Rattle.std.proofs.lemmas.List.{take_more, take-append-drop, get_or-replicate, get_or_past, length-replicate}
-use Rattle.vault_volume.specs.Extents.{IsIn, IsInAny, AreApart}
+use Rattle.vault_volume.specs.Extents.{IsInAny, AreApart}
 use Rattle.vault_volume.specs.declared.extent.Extent.{Extent}
 use Rattle.custody_rules.specs.Blocks.{IsMarked, AreNew, Marks}
 

@@ -1,9 +1,9 @@
 -- The place behind the last block of extents.
-use Rattle.std.proofs.Common.{◌≡◌, ◌⊎◌, inl, inr, ⊎_elim, ℕ, ◌+◌, ◌-◌, ◌<◌, ◌≤◌, max, List, [], ◌∷◌, ◌++◌, ap, ◌∙◌, subst, sym, arith}
+use Rattle.std.proofs.Common.{◌≡◌, ◌⊎◌, inl, inr, ⊎_elim, ℕ, ◌+◌, ◌-◌, ◌<◌, ◌≤◌, max, List, [], ◌∷◌, ◌++◌, ◌∙◌, subst, sym, arith}
 use Rattle.std.specs.Prelude.{All}
 use Rattle.std.proofs.lemmas.Bool.{cases_lt}
 use Rattle.std.proofs.lemmas.List.Elements.{All-head, All-tail}
-use Rattle.vault_volume.specs.Extents.{IsExtentOf, IsIn, IsInAny}
+use Rattle.vault_volume.specs.Extents.{IsExtentOf, IsInAny}
 use Rattle.vault_volume.specs.declared.extent.Extent.{Extent}
 use Rattle.custody_rules.proofs.Apart.{in_left, in_right, in_either}
 

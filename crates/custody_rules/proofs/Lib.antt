@@ -1,4 +1,8 @@
-pub mod Tables
 pub mod Apart
 pub mod Behind
+pub mod EntryLemmas
+pub mod Judged
+pub mod LinkLemmas
+pub mod Notices
 pub mod PartBlocks
+pub mod Tables

@@ -71,6 +71,5 @@ module _ {Row K : Type 0} (order : K → K → Ordering) (key : Row → K) where
   pub keys_differ : IsTotalOrder order → (rows : List Row) → is_rising order key rows ≡ true → (i j : ℕ) (d : Row) → i < j → j < length rows → key (get_or rows i d) ≡ key (get_or rows j d) → ⊥
   keys_differ o rows rising i j d before within same =
       let less = rows_rise rows rising i j d before within in
-      let tied = tied_itself o (key (get_or rows i d)) ∙ refl in
-      let clash : Less ≡ Equal = sym less ∙ ap (order (key (get_or rows i d))) (sym same) ∙ tied in
+      let clash : Less ≡ Equal = sym less ∙ ap (order (key (get_or rows i d))) (sym same) ∙ tied_itself o (key (get_or rows i d)) in
       cc

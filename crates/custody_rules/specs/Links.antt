@@ -1,6 +1,6 @@
 -- What one record has to find among the others, as tests: records belong together where each record finds it.
 use Rattle.std.specs.Prelude.{ℕ, ◌-◌, List, Option, Some, None, is_some, Bool, true, false, not, ◌&&◌, ◌||◌, ◌==◌, nat_le}
-use Rattle.std.specs.List.{list_all, list_any}
+use Rattle.std.specs.List.{list_all}
 use Rattle.std.specs.FinMap.{FinMap, get, entries}
 use Rattle.std.specs.declared.cmp.Ordering.{Ordering}
 use Rattle.deposit_name.specs.declared.kinds.Kind.{Kind}
@@ -11,6 +11,10 @@ use Rattle.custody_machine.specs.Names.{is_same_text, read_name}
 use Rattle.custody_machine.specs.State.{at_place, has_notice}
 use Rattle.custody_machine.specs.Machine.{is_receipt, is_failure_of}
 use Rattle.custody_machine.specs.Stored.{is_part_of, names_part, revision_of, is_absence}
+
+-- each entry of a map passes a test
+abbrev pub each_passes : {K X : Type 0} {R : K → K → Ordering} → (K → X → Bool) → FinMap R X → Bool
+each_passes {K} {X} test m = list_all (λ (entry : K × X). test entry.0 entry.1) (entries m)
 
 -- a registry is recorded
 abbrev pub is_known : Records → List ℕ → Bool
@@ -55,7 +59,7 @@ are_rivals j m k n = is_same_text j.tld k.tld && (m.day == n.day && (not (j.numb
 
 -- a notice has no rival
 abbrev pub is_only : Records → NoticeKey → Notice → Bool
-is_only records key notice = list_all (λ (other : NoticeKey × Notice). not (are_rivals key notice other.0 other.1)) (entries records.notices)
+is_only records key notice = each_passes (λ k n. not (are_rivals key notice k n)) records.notices
 
 abbrev pub is_notice_linked : Records → NoticeKey → Notice → Bool
 is_notice_linked records key notice = is_known records key.tld && (is_numbered records key && (has_parts records key.tld notice.day (revision_of notice.kind) && is_only records key notice))
@@ -67,9 +71,3 @@ are_recorded records tld names = list_all (λ text. names_part records tld (read
 
 abbrev pub is_release_linked : Records → Release → Bool
 is_release_linked records release = is_known records release.tld && are_recorded records release.tld release.names
-
--- ---- all of them
-
--- each entry of a map passes
-abbrev pub each_passes : {K X : Type 0} {R : K → K → Ordering} → (K → X → Bool) → FinMap R X → Bool
-each_passes {K} {X} test m = list_all (λ (e : K × X). test e.0 e.1) (entries m)

@@ -1,9 +1,8 @@
 //! How a part is judged by the records, before its bytes are looked at.
-ghost use Rattle.std.specs.Prelude.{◌≡◌, ◌≤◌, ◌+◌, ◌-◌, ◌==◌, ◌&&◌, ◌||◌, ℕ, List, Ok, None, Some, not, nat_lt, length, find, count_by, is_some, IfSome, option_map, option_copied};
+ghost use Rattle.std.specs.Prelude.{◌≡◌, ◌≢◌, ◌≤◌, ◌+◌, ◌-◌, ◌==◌, ◌&&◌, ◌||◌, ℕ, List, Ok, None, Some, not, nat_lt, true, length, find, count_by, is_some, IfSome, option_map, option_copied};
 ghost use Rattle.std.specs.List.{list_any};
 ghost use Rattle.std.specs.FinMap.{get};
 ghost use Rattle.schedule.specs.Schedule.{day_of};
-ghost use Rattle.deposit_name.specs.Name.{Name};
 ghost use Rattle.custody_records.specs.Records.{key_of};
 ghost use Rattle.custody_records.specs.Held.{records_of};
 ghost use Rattle.custody_records.specs.Typed.{part_place, part_value};
@@ -11,10 +10,11 @@ ghost use Rattle.custody_machine.specs.Names.{is_same_text, read_name};
 ghost use Rattle.custody_machine.specs.SameValues.{is_same_kind};
 ghost use Rattle.custody_machine.specs.State.{places, at_place, has_notice};
 ghost use Rattle.custody_machine.specs.Stored.{state_in};
-ghost use Rattle.custody_machine.specs.Machine.{is_receipt, is_failure_of, is_verdict_of, has_other_kind, part_in, recorded, receive_stands, refusals, max_part_len};
+ghost use Rattle.custody_machine.specs.Machine.{is_receipt, is_failure_of, is_verdict_of, recorded, receive_stands, refusals, max_part_len};
+ghost use Rattle.custody_machine.specs.declared.answers.Refusal.TheVariants.{OtherBytes, VolumeFull};
 ghost use Rattle.custody_machine.specs.Custody.{Decides};
 ghost use Rattle.custody_rules.specs.Rulings.{ruling_of};
-ghost use Rattle.custody_rules.specs.Judged.{recorded_under, is_of_other_kind, RulesRecorded};
+ghost use Rattle.custody_rules.specs.Judged.{tells, recorded_under, is_of_other_kind, RulesRecorded};
 
 use custody_machine::Refusal;
 use custody_records::{Part, PartKey, Records};
@@ -44,12 +44,7 @@ const PLACES: [u8; 8] = [1, 2, 3, 4, 5, 6, 7, 8];
 const MAX_PART_LEN: usize = 1_048_576;
 
 /// Judges a part of so many bytes that is sent under a name.
-pub fn judge_part<'a>(
-    records: &'a Records,
-    name: &[u8],
-    len: usize,
-    now: Sec,
-) -> PartRuling<'a>
+pub fn judge_part<'a>(records: &'a Records, name: &[u8], len: usize, now: Sec) -> PartRuling<'a>
     ensures { Decides (ruling_of result) (records_of records.now) name.now len now }
 {
     match DepositName::parse(name) {
@@ -58,12 +53,7 @@ pub fn judge_part<'a>(
     }
 }
 
-fn judge_named<'a>(
-    records: &'a Records,
-    name: &DepositName,
-    len: usize,
-    now: Sec,
-) -> PartRuling<'a>
+fn judge_named<'a>(records: &'a Records, name: &DepositName, len: usize, now: Sec) -> PartRuling<'a>
     ensures { (text : List ℕ) → read_name text ≡ Ok name.now → Decides (ruling_of result) (records_of records.now) text len now }
 {
     let Some(first_day) = records.first_day(&name.tld) else {
@@ -99,8 +89,9 @@ fn refusal_of_new(
     len: usize,
     now: Sec,
 ) -> Option<Refusal>
-    ensures { (image bytes : List ℕ) → length bytes ≡ len → get (records_of records.now).registries name.now.tld ≡ Some first_day → recorded (state_in (records_of records.now) image) name.now ≡ None
+    ensures first { (image bytes : List ℕ) → length bytes ≡ len → get (records_of records.now).registries name.now.tld ≡ Some first_day → recorded (state_in (records_of records.now) image) name.now ≡ None
         → result ≡ find (receive_stands (state_in (records_of records.now) image) name.now bytes now) refusals }
+    ensures early { IfSome result (λ refusal. (refusal ≢ OtherBytes) × (refusal ≢ VolumeFull)) }
 {
     if is_outside(name, first_day, now) {
         return Some(Refusal::DateOutOfRange);
@@ -117,7 +108,7 @@ fn refusal_of_new(
     if has_other_kind(records, name) {
         return Some(Refusal::TypeDiffers);
     }
-    if count_parts(records, name) + 1 != usize::from(name.part) {
+    if is_out_of_order(records, name) {
         return Some(Refusal::PartOutOfOrder);
     }
     None
@@ -126,7 +117,7 @@ fn refusal_of_new(
 fn is_outside(name: &DepositName, first_day: Day, now: Sec) -> bool
     ensures { result ≡ (nat_lt name.now.day first_day || nat_lt (day_of now) name.now.day) }
 {
-    name.day.number() < first_day.number() || now.day().number() < name.day.number()
+    name.day < first_day || now.day() < name.day
 }
 
 fn is_out_of_size(len: usize) -> bool
@@ -149,7 +140,7 @@ fn day_has_receipt(records: &Records, name: &DepositName) -> bool
     records
         .notices()
         .iter()
-        .any(|notice| is_of_day(notice, name) && is_receipt(notice))
+        .any(|notice| is_receipt_of(notice, name))
 }
 
 fn revision_before_failed(records: &Records, name: &DepositName) -> bool
@@ -160,7 +151,7 @@ fn revision_before_failed(records: &Records, name: &DepositName) -> bool
     records
         .notices()
         .iter()
-        .any(|notice| is_of_day(notice, name) && is_failure_of(notice, before))
+        .any(|notice| is_failure_of(notice, name, before))
 }
 
 fn revision_has_verdict(records: &Records, name: &DepositName) -> bool
@@ -169,37 +160,36 @@ fn revision_has_verdict(records: &Records, name: &DepositName) -> bool
     records
         .notices()
         .iter()
-        .any(|notice| is_of_day(notice, name) && is_verdict_of(notice, name.rev))
+        .any(|notice| is_verdict_of(notice, name))
+}
+
+fn is_receipt_of(notice: &Notice, name: &DepositName) -> bool
+    ensures { result ≡ tells name.now is_receipt notice.now }
+{
+    is_of_day(notice, name) && matches!(notice.kind, NoticeKind::Receipt { .. })
+}
+
+fn is_failure_of(notice: &Notice, name: &DepositName, rev: u8) -> bool
+    ensures { result ≡ tells name.now (is_failure_of rev) notice.now }
+{
+    is_of_day(notice, name)
+        && matches!(notice.kind, NoticeKind::Failure { rev: of, .. } if of == rev)
+}
+
+fn is_verdict_of(notice: &Notice, name: &DepositName) -> bool
+    ensures { result ≡ tells name.now (is_verdict_of name.now.rev) notice.now }
+{
+    is_of_day(notice, name)
+        && match notice.kind {
+            NoticeKind::Receipt { rev, .. } | NoticeKind::Failure { rev, .. } => rev == name.rev,
+            NoticeKind::Absence => false,
+        }
 }
 
 fn is_of_day(notice: &Notice, name: &DepositName) -> bool
     ensures { result ≡ (is_same_text notice.now.tld name.now.tld && notice.now.day == name.now.day) }
 {
-    notice.tld.as_bytes() == name.tld.as_bytes() && notice.day == name.day
-}
-
-fn is_receipt(notice: &Notice) -> bool
-    ensures { result ≡ is_receipt notice.now.kind }
-{
-    matches!(notice.kind, NoticeKind::Receipt { .. })
-}
-
-fn is_failure_of(notice: &Notice, rev: u8) -> bool
-    ensures { result ≡ is_failure_of rev notice.now.kind }
-{
-    match notice.kind {
-        NoticeKind::Failure { rev: of, .. } => of == rev,
-        NoticeKind::Receipt { .. } | NoticeKind::Absence => false,
-    }
-}
-
-fn is_verdict_of(notice: &Notice, rev: u8) -> bool
-    ensures { result ≡ is_verdict_of rev notice.now.kind }
-{
-    match notice.kind {
-        NoticeKind::Receipt { rev: of, .. } | NoticeKind::Failure { rev: of, .. } => of == rev,
-        NoticeKind::Absence => false,
-    }
+    notice.tld == name.tld && notice.day == name.day
 }
 
 // The part that is recorded under a name: one of another kind in its place is not.
@@ -224,7 +214,7 @@ fn part_in<'a>(records: &'a Records, name: &DepositName, place: u8) -> Option<&'
 fn is_of_kind(part: &Part, kind: Kind) -> bool
     ensures { result ≡ is_same_kind part.now.name.kind kind }
 {
-    part.name.kind.as_bytes() == kind.as_bytes()
+    part.name.kind == kind
 }
 
 fn has_part(records: &Records, name: &DepositName, place: u8) -> bool
@@ -249,6 +239,12 @@ fn has_other_kind(records: &Records, name: &DepositName) -> bool
     PLACES
         .iter()
         .any(|place| is_other_kind(records, name, *place))
+}
+
+fn is_out_of_order(records: &Records, name: &DepositName) -> bool
+    ensures { result ≡ not (count_by (λ place. is_some (get (records_of records.now).parts (at_place (key_of name.now) place))) places + 1 == name.now.part) }
+{
+    count_parts(records, name) + 1 != usize::from(name.part)
 }
 
 // How many parts the revision has.

@@ -1,18 +1,21 @@
 //! Whether the records belong together: each record is held against the others.
-ghost use Rattle.std.specs.Prelude.{◌≡◌, ◌&&◌, ◌==◌, true, false, map, not};
+ghost use Rattle.std.specs.Prelude.{◌≡◌, ◌&&◌, ◌==◌, true, false, not, Ok};
 ghost use Rattle.std.specs.FinMap.{get};
 ghost use Rattle.std.specs.List.{list_all, list_any};
-ghost use Rattle.custody_machine.specs.Machine.{is_failure_of, is_receipt};
+ghost use Rattle.custody_machine.specs.Machine.{is_failure_of};
 ghost use Rattle.custody_machine.specs.Names.{is_same_text, read_name};
-ghost use Rattle.custody_machine.specs.Stored.{AreLinked, is_absence, is_part_of, names_part, revision_of};
+ghost use Rattle.custody_machine.specs.Stored.{AreLinked, is_part_of, names_part, revision_of};
 ghost use Rattle.custody_records.specs.Held.{records_of};
 ghost use Rattle.custody_records.specs.Typed.{notice_key, notice_value, part_place, part_value, release_value};
-ghost use Rattle.custody_rules.specs.Links.{are_exclusive, are_recorded, are_rivals, has_parts, is_due, is_in_series, is_known, is_notice_linked, is_numbered, is_only, is_part_linked, is_release_linked, is_same_revision};
+ghost use Rattle.custody_rules.specs.Links.{are_exclusive, are_rivals, has_parts, is_due, is_in_series, is_known, is_notice_linked, is_numbered, is_part_linked, is_release_linked, is_same_revision};
 
 use custody_records::{NoticeKey, Part, PartKey, Records, Release};
 use deposit_name::{DepositName, Kind, Tld};
 use desk::{Notice, NoticeKind};
 use schedule::Day;
+
+#[cfg(test)]
+mod tests;
 
 /// Whether the records belong together.
 pub(crate) fn are_linked(records: &Records) -> bool
@@ -97,6 +100,7 @@ fn is_due(records: &Records, place: &PartKey) -> bool
     has_failure(records.notices(), &place.tld, place.day, place.rev - 1)
 }
 
+/// Whether one of the notices tells that the revision has failed.
 fn has_failure(notices: &[Notice], tld: &Tld, day: Day, rev: u8) -> bool
     ensures { result ≡ list_any (λ n. is_same_text n.tld tld.now && (n.day == day && is_failure_of rev n.kind)) notices.now }
 {
@@ -109,9 +113,7 @@ fn has_failure(notices: &[Notice], tld: &Tld, day: Day, rev: u8) -> bool
 fn is_failure(notice: &Notice, tld: &Tld, day: Day, rev: u8) -> bool
     ensures { result ≡ (is_same_text notice.now.tld tld.now && (notice.now.day == day && is_failure_of rev notice.now.kind)) }
 {
-    notice.tld.as_bytes() == tld.as_bytes()
-        && notice.day == day
-        && is_failure_of(&notice.kind, rev)
+    notice.tld.as_bytes() == tld.as_bytes() && notice.day == day && is_failure_of(&notice.kind, rev)
 }
 
 fn is_failure_of(kind: &NoticeKind, rev: u8) -> bool
@@ -175,8 +177,8 @@ fn revision_of(kind: &NoticeKind) -> Option<u8>
     }
 }
 
-/// Whether a notice has no rival. It is held against each notice: this takes no memory, and for all
-/// notices time in the square of their number.
+/// Whether none of the notices is a rival of this one. Each is looked at: that takes no memory, and
+/// for all notices the square of their number in time.
 fn is_only(notice: &Notice, notices: &[Notice]) -> bool
     ensures { result ≡ list_all (λ n. not (are_rivals (notice_key notice.now) (notice_value notice.now) (notice_key n) (notice_value n))) notices.now }
 {
@@ -222,7 +224,7 @@ fn release_is_linked(records: &Records, release: &Release) -> bool
 }
 
 fn names_are_recorded(records: &Records, tld: &Tld, names: &[Vec<u8>]) -> bool
-    ensures { result ≡ are_recorded (records_of records.now) tld.now (map (λ n. n.items) names.now) }
+    ensures { result ≡ list_all (λ n. names_part (records_of records.now) tld.now (read_name n.items)) names.now }
 {
     names
         .iter()
@@ -234,10 +236,13 @@ fn is_name_recorded(records: &Records, tld: &Tld, text: &[u8]) -> bool
     ensures { result ≡ names_part (records_of records.now) tld.now (read_name text.now) }
 {
     match DepositName::parse(text) {
-        Ok(name) => {
-            name.tld.as_bytes() == tld.as_bytes()
-                && has_part_of(records, &PartKey::of(&name), name.kind)
-        }
+        Ok(name) => is_recorded(records, tld, &name),
         Err(_) => false,
     }
+}
+
+fn is_recorded(records: &Records, tld: &Tld, name: &DepositName) -> bool
+    ensures { result ≡ names_part (records_of records.now) tld.now (Ok name.now) }
+{
+    name.tld.as_bytes() == tld.as_bytes() && has_part_of(records, &PartKey::of(name), name.kind)
 }

@@ -15,6 +15,9 @@ use custody_records::{Part, Records};
 use std::alloc::{AllocError, Global};
 use vault_volume::Extent;
 
+#[cfg(test)]
+mod tests;
+
 /// What is wrong among the records: the first of H5, H6 and H7 that is, or `None` where they are whole.
 pub fn damage_in(alloc: Global, records: &Records) -> Result<Option<Damage>, AllocError>
     ensures none { IfOk result (λ found. IfNone found (AreWhole (records_of records.now))) }
@@ -39,6 +42,7 @@ pub fn place_after(records: &Records) -> u32
     ensures range { (1 ≤ result) × (result ≤ (records_of records.now).blocks) }
     ensures placeable { (b : ℕ) → (IsPlaceable (records_of records.now) b → result ≤ b) × (result ≤ b → b < (records_of records.now).blocks → IsPlaceable (records_of records.now) b) }
 {
+    // A volume has fewer than 2^32 blocks, so no sum below wraps.
     let _blocks = records.blocks();
     place_after_parts(records.parts())
 }

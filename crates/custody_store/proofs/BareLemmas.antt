@@ -1,15 +1,14 @@
 -- A database without tables.
-use Rattle.std.proofs.Common.{◌≡◌, ◌⊎◌, inl, inr, false, true, ◌||◌, ◌&&◌, codes, Result, Err, ℕ, List, filter, find, option_map, map, [], ◌∷◌, None, IsTrue, refl, sym, ap, subst, ◌∙◌}
+use Rattle.std.proofs.Common.{◌≡◌, ◌⊎◌, inl, inr, false, true, ◌||◌, ◌&&◌, codes, Err, ℕ, List, [], ◌∷◌, None, IsTrue, refl, sym, ap, subst, ◌∙◌}
 use Rattle.std.specs.List.{AllZip}
 use Rattle.sqlite.specs.Order.{Row}
 use Rattle.sqlite.specs.Tree.{Trees}
 use Rattle.sqlite.specs.Effect.{Database, IsDatabase}
 use Rattle.sqlite.specs.State.{State, IsUnchanged, IsRolledBack}
-use Rattle.sqlite_trees.specs.Objects.{catalog_tree}
-use Rattle.sqlite_catalog.specs.Listing.{is_table_row, IsTableRow, IsSound}
+use Rattle.sqlite_catalog.specs.Listing.{IsTableRow}
 use Rattle.custody_store.specs.Schema.{no_schema}
 use Rattle.custody_store.specs.Reading.{rows_in, no_rows, has_table}
-use Rattle.custody_store.specs.Standing.{IsBare, IsOneFounding, Founds, shown, has_any, has_all}
+use Rattle.custody_store.specs.Standing.{IsBare, Founds, shown, has_any, has_all}
 use Rattle.custody_records.specs.Rows.{Rows}
 use Rattle.custody_store.specs.Calls.{IsSettled}
 use Rattle.custody_store.proofs.TableLemmas.{named, named_in}

@@ -3,13 +3,13 @@ use Rattle.std.proofs.Common.{◌≡◌, ℕ, List, [], map, Some, Ok, Err, Opti
 use Rattle.std.specs.declared.alloc.Global.{Global}
 use Rattle.sqlite.specs.Order.{Row}
 use Rattle.sqlite.specs.Term.{Term}
-use Rattle.sqlite.specs.Tree.{Trees, IsTable}
+use Rattle.sqlite.specs.Tree.{IsTable}
 use Rattle.sqlite.specs.Program.{overlay}
-use Rattle.sqlite.specs.Effect.{Database, IsDatabase}
+use Rattle.sqlite.specs.Effect.{IsDatabase}
 use Rattle.sqlite.specs.State.{State, HasCleanDisk}
-use Rattle.custody_records.specs.Rows.{Rows, MetaRow, RegistryRow, PartRow, NoticeRow, HandoverRow}
+use Rattle.custody_records.specs.Rows.{Rows}
 use Rattle.custody_store.specs.Reading.{rows_in, meta_row, registry_row, part_row, notice_row, handover_row, answered_meta, answered_registry, answered_part, answered_notice, answered_handover}
-use Rattle.custody_store.specs.Standing.{IsReady, shown}
+use Rattle.custody_store.specs.Standing.{IsReady}
 use Rattle.custody_store.specs.Calls.{Asks, items_of}
 use Rattle.custody_store.proofs.TableLemmas.{rows_held, held_rows}
 use Rattle.custody_store.proofs.SelectLemmas.{finds, projected, then_map}

@@ -1,18 +1,17 @@
 -- What the rows of meta say, and the rows of a table as records of new keys.
-use Rattle.std.proofs.Common.{◌≡◌, ℕ, ◌+◌, ◌<◌, ◌≤◌, ◌&&◌, Bool, true, false, cond, List, [], ◌∷◌, ◌++◌, length, map, drop, get_or, Option, Some, None, Ok, Err, Result, refl, sym, ap, ◌∙◌, arith}
-use Rattle.std.specs.Prelude.{option_map, slice_get, OnOk, IsErrOf, IsSome}
+use Rattle.std.proofs.Common.{◌≡◌, ℕ, ◌+◌, ◌<◌, ◌≤◌, ◌&&◌, Bool, true, false, cond, List, [], ◌∷◌, length, map, drop, get_or, Option, Some, None, Ok, Err, Result, refl, sym, ap, ◌∙◌, arith}
+use Rattle.std.specs.Prelude.{option_map, slice_get, OnOk, IsSome}
 use Rattle.std.specs.Option.{option_and_then}
 use Rattle.std.specs.declared.cmp.Ordering.{Ordering}
 use Rattle.std.specs.FinMap.{FinMap, get, insert}
 use Rattle.std.proofs.lemmas.List.{drop_more}
 use Rattle.custody_records.specs.declared.damage.Damage.TheVariants as damage
 use Rattle.custody_records.specs.declared.errors.RowError.{RowError}
-use Rattle.custody_records.specs.declared.errors.RowError.TheVariants as row_error
 use Rattle.custody_records.specs.declared.meta.Meta.{Meta}
 use Rattle.custody_records.specs.Records.{Records}
 use Rattle.custody_records.specs.Rows.{MetaRow, Rows}
 use Rattle.custody_records.specs.Typed.{meta_of, volume_of}
-use Rattle.custody_records.specs.Form.{natural, number_in, is_number, is_meta, is_known, gather, records_in, in_form_or, Form, OutOfForm, InForm, form_after, form_of}
+use Rattle.custody_records.specs.Form.{natural, number_in, is_number, is_meta, is_known, gather, records_in, in_form_or, OutOfForm, form_after, form_of}
 use Rattle.custody_records.proofs.Gathered.{gather_append, gather_push, gather_unread, gather_twice}
 use Rattle.custody_records.proofs.MetaLemmas.{volume_of-meta_of}
 

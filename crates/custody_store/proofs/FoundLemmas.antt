@@ -1,5 +1,5 @@
 -- The ends of the transaction that makes the tables.
-use Rattle.std.proofs.Common.{◌≡◌, ◌⊎◌, inl, inr, ℕ, ℤ, List, Bool, true, false, Ok, Err, Result, IsTrue, OnOk, OnErr, refl, sym, ap, subst, ◌∙◌}
+use Rattle.std.proofs.Common.{◌≡◌, ◌⊎◌, inl, inr, ℕ, ℤ, List, true, false, Ok, Err, Result, IsTrue, refl, sym, ap, subst, ◌∙◌}
 use Rattle.std.specs.Result.{IsErr}
 use Rattle.sqlite.specs.Tree.{Trees}
 use Rattle.sqlite.specs.Effect.{Database}
@@ -13,7 +13,7 @@ use Rattle.custody_store.specs.Schema.{no_schema}
 use Rattle.custody_records.specs.Rows.{Rows, fresh}
 use Rattle.custody_store.specs.Reading.{rows_in}
 use Rattle.custody_store.specs.Making.{IsMaking, IsMade}
-use Rattle.custody_store.specs.Standing.{HasTables, IsReady, IsBare, IsOneFounding, Founds, shown, standing}
+use Rattle.custody_store.specs.Standing.{HasTables, IsBare, IsOneFounding, Founds, shown, standing}
 use Rattle.custody_store.specs.Calls.{IsSettled}
 use Rattle.custody_store.proofs.CommitLemmas.{ready_at, trusts}
 use Rattle.custody_store.proofs.BareLemmas.{bare_at}

@@ -1,9 +1,8 @@
 -- Five queries in a row.
-use Rattle.std.proofs.Common.{◌≡◌, Ok, Err, Result, Some, Option, List, OnOk, IsTrue, sym, ap, ◌∙◌}
+use Rattle.std.proofs.Common.{◌≡◌, Ok, Err, Result, Option, List}
 use Rattle.std.specs.Result.{IsErr}
 use Rattle.custody_records.specs.Rows.{Rows, MetaRow, RegistryRow, PartRow, NoticeRow, HandoverRow}
-use Rattle.custody_store.specs.Standing.{Standing, Keeps, Selects}
-use Rattle.custody_store.proofs.ReadLemmas.{selects_then, selected}
+use Rattle.custody_store.specs.Standing.{Standing, Selects}
 
 -- the same with another answer
 pub selects_err : {A B E F : Type 0} (a b : Standing) (x : E) (r : Result B F) → IsErr r → Selects {A = A} a b (Err x) → Selects a b r

@@ -1,10 +1,10 @@
 -- Calls that only read, one after another.
-use Rattle.std.proofs.Common.{◌≡◌, ◌⊎◌, ◌&&◌, inl, inr, false, true, codes, Ok, Err, Result, OnOk, IsTrue, refl, sym, ap, ◌∙◌}
+use Rattle.std.proofs.Common.{◌≡◌, ◌⊎◌, ◌&&◌, inl, inr, false, true, codes, Ok, Err, Result, OnOk, IsTrue, refl, ap, ◌∙◌}
 use Rattle.sqlite.specs.State.{State}
 use Rattle.sqlite_schema.specs.Names.{same_name}
 use Rattle.custody_store.specs.Schema.{record_schema}
 use Rattle.custody_store.specs.Reading.{has_table}
-use Rattle.custody_store.specs.Standing.{Standing, IsReady, IsBare, shown, has_all, Keeps, Selects, Reads}
+use Rattle.custody_store.specs.Standing.{Standing, IsReady, IsBare, shown, has_all, Selects, Reads}
 
 on_ok : {A E : Type 0} (r : Result A E) {P : Type 0} → P → OnOk r P
 on_ok (Ok x) p = p

@@ -1,5 +1,5 @@
 -- Each INSERT adds one row at the end of its table.
-use Rattle.std.proofs.Common.{◌≡◌, ℕ, ℤ, List, [], ◌∷◌, map, Bool, true, false, cond, Some, None, Ok, Option, Result, slice_get, refl, sym, ap, subst, ◌∙◌, arith}
+use Rattle.std.proofs.Common.{◌≡◌, ℕ, ℤ, List, [], ◌∷◌, Bool, true, false, cond, Some, None, Ok, Result, slice_get, refl, sym, ap, subst, ◌∙◌, arith}
 use Rattle.std.proofs.lemmas.List.{map-append}
 use Rattle.sqlite.specs.declared.types.Value.{Value}
 use Rattle.sqlite.specs.declared.types.Value.TheVariants.{Null, Int, Text, Blob}
@@ -9,7 +9,6 @@ use Rattle.sqlite.specs.Cast.{cast, cast_row}
 use Rattle.sqlite.specs.Kind.TheVariants.{Integer}
 use Rattle.sqlite.specs.Source.{Source}
 use Rattle.sqlite.specs.Command.TheVariants.{Insert}
-use Rattle.sqlite.specs.Tree.{Trees}
 use Rattle.sqlite.specs.Table.{Table}
 use Rattle.sqlite.specs.Effect.{Database, IsDatabase, IsSource}
 use Rattle.sqlite.specs.Does.{Tally, Does}
@@ -22,9 +21,9 @@ use Rattle.sqlite_rules.specs.Action.{works, Writes}
 use Rattle.sqlite.specs.Listing.{understood}
 use Rattle.sqlite.proofs.Callers.{statement_of}
 use Rattle.custody_store.specs.Schema.{record_schema, registry_table, part_table, notice_table, handover_table}
-use Rattle.custody_records.specs.Rows.{Rows, RegistryRow, PartRow, NoticeRow, HandoverRow, with_registry_row, with_part_row, with_notice_row, with_handover_row}
+use Rattle.custody_records.specs.Rows.{RegistryRow, PartRow, NoticeRow, HandoverRow, with_registry_row, with_part_row, with_notice_row, with_handover_row}
 use Rattle.custody_store.specs.Reading.{rows_in}
-use Rattle.custody_store.specs.Standing.{HasTables, IsReady, shown, Commits}
+use Rattle.custody_store.specs.Standing.{HasTables, shown, Commits}
 use Rattle.custody_store.specs.Calls.{Runs}
 use Rattle.custody_store.proofs.StatementLemmas.{insert_registry_text, registry_source, insert_registry_is, insert_part_text, part_source, insert_part_is, insert_notice_text, notice_source, insert_notice_is, insert_handover_text, handover_source, insert_handover_is}
 use Rattle.custody_store.proofs.TableLemmas.{rows_held, held_rows}

@@ -1,29 +1,24 @@
 -- What SELECT answers over a database that has the tables: the rows of the table, in their order.
-use Rattle.std.proofs.Common.{◌≡◌, ◌⊎◌, inl, inr, ℕ, List, [], ◌∷◌, pos, negsuc, map, None, Some, Ok, Err, Result, OnOk, OnErr, IfOk, IfErr, IsTrue, Less, false, refl, sym, ap, subst, ◌∙◌}
+use Rattle.std.proofs.Common.{◌≡◌, ◌⊎◌, inl, inr, ℕ, List, [], ◌∷◌, map, Ok, Err, Result, Less, refl, sym, ap, subst, ◌∙◌}
 use Rattle.std.proofs.lemmas.List.Concat.{flat_map_single}
-use Rattle.sqlite.specs.declared.types.Value.TheVariants.{Int}
 use Rattle.sqlite.specs.Order.{Row, value_cmp}
-use Rattle.sqlite.specs.Term.{Term, lit, col, eval_all}
-use Rattle.sqlite.specs.Query.{Query, inner, end, IsAnswer, output, output_cmp, Output}
+use Rattle.sqlite.specs.Term.{Term, eval_all}
+use Rattle.sqlite.specs.Query.{IsAnswer, output, output_cmp, Output}
 use Rattle.sqlite.specs.Program.{overlay}
 use Rattle.sqlite.specs.Tree.{Trees, rowid, IsTable}
-use Rattle.sqlite.specs.Collation.TheVariants.{Binary}
-use Rattle.sqlite_value.specs.Keys.{ascending}
 use Rattle.sqlite_value.specs.declared.value.Value.TheVariants.{Null}
 use Rattle.sqlite.specs.Command.TheVariants.{Select}
 use Rattle.sqlite.specs.Command.{Command}
 use Rattle.sqlite.specs.Effect.{Answers}
-use Rattle.sqlite.specs.Listing.{understood, reads_listing}
+use Rattle.sqlite.specs.Listing.{understood}
 use Rattle.sqlite.specs.declared.error.Error.{Error}
 use Rattle.sqlite.specs.State.{State, HasCleanDisk, Survives, Shown as Answered, FailsToQuery, IsNotRun, CommitsShowing, IsUnchanged, IsRolledBack}
-use Rattle.sqlite.proofs.Callers.{IsPlain, command_of, reads_as, never_commits}
+use Rattle.sqlite.proofs.Callers.{IsPlain, reads_as, never_commits}
 use Rattle.sqlite_sql.proofs.QueryLemmas.{output_cmp_total}
 use Rattle.sqlite_keyed.proofs.SortLemmas.{sorted_unique}
 use Rattle.sqlite_keyed.proofs.ListLemmas.{ascending-map, ascending_weaker}
 use Rattle.custody_store.specs.Schema.{record_schema}
-use Rattle.custody_store.specs.Reading.{rows_in}
-use Rattle.sqlite.specs.Effect.{IsDatabase, Database}
-use Rattle.custody_store.specs.Standing.{Standing, IsReady, shown, Keeps, Selects}
+use Rattle.custody_store.specs.Standing.{IsReady, shown, Keeps, Selects}
 use Rattle.custody_store.specs.Calls.{IsSettled, Asks}
 use Rattle.custody_store.proofs.StatementLemmas.{in_order, IsSelection}
 use Rattle.custody_store.proofs.CommitLemmas.{kept, trusts}

@@ -1,22 +1,21 @@
 -- The rows of a database that has the tables.
-use Rattle.std.proofs.Common.{◌≡◌, ◌⊎◌, inl, inr, ℕ, ◌+◌, ◌-◌, ℤ, pos, ◌+ℤ◌, ◌<ℤ◌, ◌&&◌, Bool, true, false, cond, List, [], ◌∷◌, ◌++◌, map, filter, find, fold, codes, bytes_eq, option_map, Option, Some, None, refl, sym, ap, subst, ◌∙◌, IsTrue, Ordering, Less, Equal, Greater, is_eq, int_cmp, arith}
+use Rattle.std.proofs.Common.{◌≡◌, inl, inr, ℕ, ◌-◌, ℤ, pos, ◌+ℤ◌, ◌<ℤ◌, ◌&&◌, Bool, List, [], ◌∷◌, ◌++◌, map, filter, find, fold, codes, bytes_eq, option_map, Option, Some, refl, ap, ◌∙◌, IsTrue, Less, int_cmp, arith}
 use Rattle.std.specs.List.{AllByRecursion, AllZip}
 use Rattle.std.proofs.lemmas.Int.{ints}
 use Rattle.std.proofs.lemmas.Bool.{cases_Bool}
 use Rattle.std.proofs.lemmas.Bool.Decides.{nat_tests}
-use Rattle.sqlite.specs.declared.types.Value.TheVariants.{Int, Text}
+use Rattle.sqlite.specs.declared.types.Value.TheVariants.{Int}
 use Rattle.sqlite.specs.Order.{Row, column, bytes, value_cmp}
 use Rattle.sqlite_value.proofs.OrderLemmas.{value_cmp-Int}
 use Rattle.sqlite.specs.Tree.{Trees, rowid, put_row, IsTable}
 use Rattle.sqlite_trees.specs.Objects.{catalog_tree, number_in}
-use Rattle.sqlite_trees.specs.View.{is_int, IsShaped}
+use Rattle.sqlite_trees.specs.View.{is_int}
 use Rattle.sqlite_rules.specs.Edit.{id_in, next_rowid}
 use Rattle.sqlite_rules.proofs.TableLemmas.{int_is}
 use Rattle.sqlite_catalog.specs.Listing.{is_table_row, IsTableRow, IsSound}
-use Rattle.sqlite.specs.Table.{Table}
 use Rattle.custody_store.specs.Schema.{record_schema}
 use Rattle.custody_records.specs.Rows.{Rows}
-use Rattle.custody_store.specs.Reading.{meta_row, registry_row, part_row, notice_row, handover_row, lists_table, tree_named, rows_named, rows_in}
+use Rattle.custody_store.specs.Reading.{meta_row, registry_row, part_row, notice_row, handover_row, tree_named, rows_in}
 
 -- ---- the table of a name
 

@@ -1,5 +1,6 @@
 //! Records that are added are read back, from memory and from a file, and rows out of form are damage.
 mod hostile;
+mod staged;
 
 use crate::Store;
 use crate::meta::find_meta;

@@ -56,32 +56,28 @@ fn with_part(alloc: Global, name: &[u8], is_held: bool) -> Result<Records, Fail>
     Ok(records)
 }
 
-fn told(kind: NoticeKind) -> Result<Notice, Fail> {
-    Ok(Notice {
+// The registry with its first part and a notice of the day.
+fn after(alloc: Global, kind: NoticeKind) -> Result<Records, Fail> {
+    let mut records = with_part(alloc, FIRST, true)?;
+    records.insert_notice(&Notice {
         number: 1,
         tld: Tld::parse(b"example").ok_or("a domain")?,
         day: day()?,
         at: moment()?,
         kind,
-    })
+    })?;
+    Ok(records)
 }
 
-fn receipt() -> Result<Notice, Fail> {
+fn after_receipt(alloc: Global) -> Result<Records, Fail> {
     let id = DepositId::parse(b"A1").ok_or("an id")?;
-    told(NoticeKind::Receipt { rev: 0, id })
+    after(alloc, NoticeKind::Receipt { rev: 0, id })
 }
 
-fn failure() -> Result<Notice, Fail> {
+fn after_failure(alloc: Global) -> Result<Records, Fail> {
     let id = DepositId::parse(b"A1").ok_or("an id")?;
     let check = Check::Counts;
-    told(NoticeKind::Failure { rev: 0, id, check })
-}
-
-// The registry with its first part and a notice of the day.
-fn with_notice(alloc: Global, notice: &Notice) -> Result<Records, Fail> {
-    let mut records = with_part(alloc, FIRST, true)?;
-    records.insert_notice(notice)?;
-    Ok(records)
+    after(alloc, NoticeKind::Failure { rev: 0, id, check })
 }
 
 // Why a part of five bytes is refused.
@@ -116,7 +112,10 @@ fn the_first_part_goes(rt: HostRuntime) -> Result<(), Fail> {
 fn a_text_that_is_no_name_is_refused(rt: HostRuntime) -> Result<(), Fail> {
     let records = registered(rt.alloc())?;
     let leading_zero = refusal(&records, b"example_2026-08-02_full_S1_R01.ryde")?;
-    assert_eq!(rt; leading_zero, Some(Refusal::NameRefused(NameError::Revision)));
+    assert_eq!(rt;
+        leading_zero,
+        Some(Refusal::NameRefused(NameError::Revision))
+    );
     let no_suffix = refusal(&records, b"example_2026-08-02_full_S1_R0")?;
     assert_eq!(rt; no_suffix, Some(Refusal::NameRefused(NameError::Suffix)));
     Ok(())
@@ -172,7 +171,7 @@ fn a_held_part_is_compared(rt: HostRuntime) -> Result<(), Fail> {
 
 #[test]
 fn a_part_that_is_recorded_is_compared_after_the_verdict(rt: HostRuntime) -> Result<(), Fail> {
-    let records = with_notice(rt.alloc(), &receipt()?)?;
+    let records = after_receipt(rt.alloc())?;
     let ruling = judge_part(&records, FIRST, 5, moment()?);
     assert!(rt; matches!(ruling, PartRuling::Compare(..)));
     Ok(())
@@ -181,7 +180,10 @@ fn a_part_that_is_recorded_is_compared_after_the_verdict(rt: HostRuntime) -> Res
 #[test]
 fn a_dropped_part_is_not_taken_again(rt: HostRuntime) -> Result<(), Fail> {
     let records = with_part(rt.alloc(), FIRST, false)?;
-    assert_eq!(rt; refusal(&records, FIRST)?, Some(Refusal::DroppedAfterKeeping));
+    assert_eq!(rt;
+        refusal(&records, FIRST)?,
+        Some(Refusal::DroppedAfterKeeping)
+    );
     Ok(())
 }
 
@@ -189,7 +191,7 @@ fn a_dropped_part_is_not_taken_again(rt: HostRuntime) -> Result<(), Fail> {
 fn a_revision_is_due_after_a_failure(rt: HostRuntime) -> Result<(), Fail> {
     let records = with_part(rt.alloc(), FIRST, true)?;
     assert_eq!(rt; refusal(&records, RESENT)?, Some(Refusal::RevisionNotDue));
-    let records = with_notice(rt.alloc(), &failure()?)?;
+    let records = after_failure(rt.alloc())?;
     assert!(rt; goes(&records, RESENT)?);
     // The failure is of revision 0.
     let later = refusal(&records, b"example_2026-08-02_full_S1_R2.ryde")?;
@@ -199,7 +201,7 @@ fn a_revision_is_due_after_a_failure(rt: HostRuntime) -> Result<(), Fail> {
 
 #[test]
 fn nothing_is_due_after_a_receipt(rt: HostRuntime) -> Result<(), Fail> {
-    let records = with_notice(rt.alloc(), &receipt()?)?;
+    let records = after_receipt(rt.alloc())?;
     assert_eq!(rt; refusal(&records, SECOND)?, Some(Refusal::RevisionNotDue));
     assert_eq!(rt; refusal(&records, RESENT)?, Some(Refusal::RevisionNotDue));
     Ok(())
@@ -207,14 +209,14 @@ fn nothing_is_due_after_a_receipt(rt: HostRuntime) -> Result<(), Fail> {
 
 #[test]
 fn a_stated_revision_takes_no_part(rt: HostRuntime) -> Result<(), Fail> {
-    let records = with_notice(rt.alloc(), &failure()?)?;
+    let records = after_failure(rt.alloc())?;
     assert_eq!(rt; refusal(&records, SECOND)?, Some(Refusal::AlreadyStated));
     Ok(())
 }
 
 #[test]
 fn an_absence_states_nothing(rt: HostRuntime) -> Result<(), Fail> {
-    let records = with_notice(rt.alloc(), &told(NoticeKind::Absence)?)?;
+    let records = after(rt.alloc(), NoticeKind::Absence)?;
     assert!(rt; goes(&records, SECOND)?);
     assert_eq!(rt; refusal(&records, RESENT)?, Some(Refusal::RevisionNotDue));
     Ok(())

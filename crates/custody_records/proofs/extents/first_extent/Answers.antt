@@ -1,4 +1,4 @@
-use Rattle.std.proofs.Common.{◌≡◌, ◌∷◌, List, sym, ◌∙◌, arith}
+use Rattle.std.proofs.Common.{◌∷◌, List, sym, ◌∙◌, arith}
 use Rattle.std.specs.Prelude.{option_map}
 use Rattle.vault_volume.specs.declared.extent.Extent.{Extent}
 use Rattle.custody_records.specs.Form.{extents_of}

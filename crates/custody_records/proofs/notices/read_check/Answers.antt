@@ -1,4 +1,4 @@
-use Rattle.std.proofs.Common.{◌≡◌, cond, None, Some, ◌∙◌, sym, ap, rules, SFits, w64, to_z-of_z}
+use Rattle.std.proofs.Common.{cond, None, Some, ◌∙◌, sym, ap, rules, SFits, w64, to_z-of_z}
 use Rattle.custody_records.specs.Form.{natural, is_within, check_in}
 use Rattle.custody_records.proofs.FieldLemmas.{check_read}
 use Rattle.custody_records.proofs.ReadLemmas.{cond_is, some_same}

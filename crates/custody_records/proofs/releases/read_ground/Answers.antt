@@ -1,4 +1,4 @@
-use Rattle.std.proofs.Common.{◌≡◌, ◌∙◌, ap, sym}
+use Rattle.std.proofs.Common.{◌∙◌, ap}
 use Rattle.custody_records.specs.Form.{ground_in}
 use Rattle.custody_records.proofs.FieldLemmas.{ground_read, ground_not_text}
 use Rattle.custody_records.proofs.releases.read_ground.Goals as goal

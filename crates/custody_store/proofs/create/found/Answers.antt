@@ -1,11 +1,10 @@
-use Rattle.std.proofs.Common.{◌≡◌, pos, arith, rules, sym, subst, ◌∙◌}
-use Rattle.sqlite.specs.State.{State, HasCleanDisk, Survives}
+use Rattle.std.proofs.Common.{◌≡◌, pos, arith, rules}
+use Rattle.sqlite.specs.State.{HasCleanDisk}
 use Rattle.sqlite.specs.Held.{state}
 use Rattle.sqlite.specs.Tree.{Trees}
 use Rattle.sqlite.proofs.StateLemmas.{survives_then}
 use Rattle.sqlite.proofs.InsideLemmas.{keeps_then}
 use Rattle.custody_records.specs.Rows.{fresh}
-use Rattle.custody_store.specs.Standing.{standing, Founds, IsBare}
 use Rattle.custody_store.proofs.FoundLemmas.{founds_at, founds_by, starts_at, keeps_at, survives_at, founded, founded_not, uncommitted}
 use Rattle.custody_store.proofs.create.found.Goals as goal
 

@@ -1,8 +1,7 @@
 use Rattle.std.proofs.Common.{arith}
-use Rattle.sqlite.specs.State.{State, HasCleanDisk}
+use Rattle.sqlite.specs.State.{HasCleanDisk}
 use Rattle.sqlite.specs.Held.{state}
-use Rattle.custody_store.specs.Schema.{no_schema, record_schema, meta_table, registry_table, part_table, notice_table, handover_table}
-use Rattle.custody_store.specs.Making.{IsMaking}
+use Rattle.custody_store.specs.Schema.{no_schema, meta_table, registry_table, part_table, notice_table, handover_table}
 use Rattle.custody_store.proofs.SchemaLemmas.{meta_text, registry_text, part_text, notice_text, handover_text, with_meta, with_registry, with_part, with_notice, makes_meta, makes_registry, makes_part, makes_notice, makes_handover}
 use Rattle.custody_store.proofs.MakingLemmas.{makes}
 use Rattle.custody_store.proofs.create.make_tables.Goals as goal

@@ -1,4 +1,4 @@
-use Rattle.std.proofs.Common.{◌≡◌, sym, subst, ◌∙◌, rules}
+use Rattle.std.proofs.Common.{◌≡◌, sym, subst, rules}
 use Rattle.std.specs.Prelude.{MatchResult}
 use Rattle.sqlite.specs.Held.{state}
 use Rattle.custody_records.specs.declared.damage.Damage.{Damage}

@@ -1,8 +1,7 @@
-use Rattle.std.proofs.Common.{◌≡◌, map, Some, None, Err, refl, sym, ap, subst, ◌∙◌, rules}
+use Rattle.std.proofs.Common.{◌≡◌, map, Err, refl, ap, ◌∙◌, rules}
 use Rattle.custody_records.specs.Records.{Records}
 use Rattle.custody_records.specs.declared.damage.Damage.TheVariants as damage
-use Rattle.custody_records.specs.Form.{records_in, in_form_or, OutOfForm}
-use Rattle.custody_records.specs.Held.{records_of}
+use Rattle.custody_records.specs.Form.{in_form_or, OutOfForm}
 use Rattle.custody_store.specs.Reading.{answered_meta}
 use Rattle.custody_store.specs.Loaded.{answered_rows}
 use Rattle.custody_store.proofs.FormLemmas.{form_is}

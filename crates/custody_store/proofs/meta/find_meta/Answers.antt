@@ -1,9 +1,9 @@
-use Rattle.std.proofs.Common.{◌≡◌, inl, inr, ◌∙◌, sym, ap, refl, codes, rules, option_map}
+use Rattle.std.proofs.Common.{inl, inr, sym, ap, rules, option_map}
 use Rattle.sqlite.specs.Held.{state}
 use Rattle.custody_store.specs.Reading.{first_meta}
 use Rattle.custody_records.specs.Typed.{meta_of}
 use Rattle.custody_store.proofs.BareLemmas.{rows_bare}
-use Rattle.custody_store.proofs.ReadLemmas.{reads_none, meta_there, no_meta}
+use Rattle.custody_store.proofs.ReadLemmas.{reads_none, meta_there}
 use Rattle.custody_store.proofs.meta.find_meta.Goals as goal
 
 pub returns-then-not-has_table-clause-found : goal.returns-then-not-has_table-clause-found

@@ -1,4 +1,4 @@
-use Rattle.std.proofs.Common.{pos, refl}
+use Rattle.std.proofs.Common.{refl}
 use Rattle.deposit_name.specs.Name.{Name}
 use Rattle.sqlite.specs.Held.{state}
 use Rattle.custody_store.specs.Records.{held_row}

@@ -1,4 +1,4 @@
-use Rattle.std.proofs.Common.{◌≡◌, ◌<◌, List, ℕ, [], ◌∷◌, ◌++◌, length, sym, ap, ◌∙◌, rules, arith}
+use Rattle.std.proofs.Common.{◌≡◌, List, ℕ, [], ◌∷◌, ◌++◌, sym, ap, ◌∙◌, rules, arith}
 use Rattle.custody_records.proofs.ReadLemmas.{text_of_step}
 use Rattle.custody_records.proofs.names.Names.to_text.Goals as goal
 

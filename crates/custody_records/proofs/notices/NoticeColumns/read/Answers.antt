@@ -1,4 +1,4 @@
-use Rattle.std.proofs.Common.{◌≡◌, cond, None, Some, ◌∙◌, sym, ap, rules, SFits, w64, to_z-of_z}
+use Rattle.std.proofs.Common.{cond, None, Some, ◌∙◌, sym, ap, rules, SFits, w64, to_z-of_z}
 use Rattle.std.specs.Prelude.{option_map}
 use Rattle.custody_records.specs.Typed.{notice_entry, notice_row}
 use Rattle.custody_records.specs.Form.{natural, is_within, is_tld}

@@ -1,4 +1,4 @@
-use Rattle.std.proofs.Common.{◌≡◌, cond, None, Some, ◌∙◌, sym, ap, subst, rules, SFits, w64, of_z, to_z-of_z}
+use Rattle.std.proofs.Common.{cond, None, Some, ◌∙◌, sym, ap, subst, rules, SFits, w64, of_z, to_z-of_z}
 use Rattle.deposit_name.specs.Identifiers.{IsDepositId}
 use Rattle.desk.specs.declared.notices.NoticeKind.TheVariants.{Failure}
 use Rattle.custody_records.specs.Typed.{notice_row}

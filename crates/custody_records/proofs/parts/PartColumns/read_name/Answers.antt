@@ -1,4 +1,4 @@
-use Rattle.std.proofs.Common.{◌≡◌, ◌∙◌, sym}
+use Rattle.std.proofs.Common.{◌∙◌, sym}
 use Rattle.custody_records.specs.Typed.{part_row}
 use Rattle.custody_records.proofs.FieldLemmas.{kind_read}
 use Rattle.custody_records.proofs.ReadLemmas.{name_without_kind}

@@ -2,7 +2,7 @@ use Rattle.std.proofs.Common.{◌≡◌, None, ap, ◌∙◌}
 use Rattle.std.specs.Prelude.{option_map}
 use Rattle.std.proofs.lemmas.Result.{on_ok_weaker}
 use Rattle.custody_records.specs.Keys.{text_cmp, part_cmp, notice_cmp}
-use Rattle.custody_records.specs.Orders.{text_total, part_total, notice_total}
+use Rattle.custody_records.specs.Orders.{text_total}
 use Rattle.custody_records.specs.Tables.{IsAdded, row_at, table_map}
 use Rattle.custody_records.specs.Typed.{registry_key, registry_value, part_place, part_value, notice_key, notice_value, release_key, release_value}
 use Rattle.custody_records.proofs.TableLemmas.{get_table, present_row, rising_either, map_added}

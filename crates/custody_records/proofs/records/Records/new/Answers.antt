@@ -1,7 +1,6 @@
 use Rattle.std.proofs.Common.{ap, ◌∙◌}
 use Rattle.custody_records.specs.Keys.{text_cmp, part_cmp, notice_cmp}
-use Rattle.custody_records.specs.Orders.{text_total, part_total, notice_total}
-use Rattle.custody_records.specs.Tables.{IsAdded, row_at, table_map}
+use Rattle.custody_records.specs.Tables.{table_map}
 use Rattle.custody_records.specs.Typed.{registry_key, registry_value, part_place, part_value, notice_key, notice_value, release_key, release_value}
 use Rattle.custody_records.proofs.TableLemmas.{empty_table}
 use Rattle.custody_records.proofs.records.Records.new.Goals as goal

@@ -1,10 +1,10 @@
 use Rattle.std.proofs.Common.{List, sym, ap, ◌∙◌}
 use Rattle.std.specs.Prelude.{option_map}
 use Rattle.desk.specs.declared.notices.Notice.{Notice}
-use Rattle.custody_records.specs.Keys.{text_cmp, part_cmp, notice_cmp}
-use Rattle.custody_records.specs.Orders.{text_exact, part_exact, notice_exact}
-use Rattle.custody_records.specs.Tables.{IsAdded, row_at, table_map}
-use Rattle.custody_records.specs.Typed.{registry_key, registry_value, part_place, part_value, notice_key, notice_value, release_key, release_value}
+use Rattle.custody_records.specs.Keys.{notice_cmp}
+use Rattle.custody_records.specs.Orders.{notice_exact}
+use Rattle.custody_records.specs.Tables.{row_at}
+use Rattle.custody_records.specs.Typed.{notice_key, notice_value}
 use Rattle.custody_records.proofs.TableLemmas.{get_table, lent_key}
 use Rattle.custody_records.proofs.records.Records.notice.Goals as goal
 

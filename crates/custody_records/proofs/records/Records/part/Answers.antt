@@ -1,10 +1,10 @@
 use Rattle.std.proofs.Common.{List, sym, ap, ◌∙◌}
 use Rattle.std.specs.Prelude.{option_map}
 use Rattle.custody_records.specs.declared.parts.Part.{Part}
-use Rattle.custody_records.specs.Keys.{text_cmp, part_cmp, notice_cmp}
-use Rattle.custody_records.specs.Orders.{text_exact, part_exact, notice_exact}
-use Rattle.custody_records.specs.Tables.{IsAdded, row_at, table_map}
-use Rattle.custody_records.specs.Typed.{registry_key, registry_value, part_place, part_value, notice_key, notice_value, release_key, release_value}
+use Rattle.custody_records.specs.Keys.{part_cmp}
+use Rattle.custody_records.specs.Orders.{part_exact}
+use Rattle.custody_records.specs.Tables.{row_at}
+use Rattle.custody_records.specs.Typed.{part_place, part_value}
 use Rattle.custody_records.proofs.TableLemmas.{get_table, lent_key}
 use Rattle.custody_records.proofs.records.Records.part.Goals as goal
 

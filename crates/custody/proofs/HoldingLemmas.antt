@@ -1,0 +1,148 @@
+-- How the calls of volume and database make up a command over holdings.
+use Rattle.std.proofs.Common.{◌≡◌, ◌≢◌, ◌⊎◌, inl, inr, ⊎_elim, ℕ, ◌-◌, ◌<◌, ◌≤◌, ◌^◌, List, [], ◌∷◌, length, Option, Some, None, Bool, true, false, not, refl, sym, ◌∙◌, ap, subst, arith, Result, Ok, Err}
+use Rattle.std.specs.Prelude.{is_err, OnOk, IsErrAnd}
+use Rattle.std.specs.FinMap.{get}
+use Rattle.schedule.specs.Schedule.{IsDay}
+use Rattle.deposit_name.specs.Identifiers.{IsTld}
+use Rattle.sqlite.specs.State.{State}
+use Rattle.vault_volume.specs.declared.volume.Volume as volume
+use Rattle.vault_volume.specs.Vault.{volume_of, IsFree}
+use Rattle.vault_volume.specs.Image.{DiffersOnlyIn}
+use Rattle.vault_volume.specs.Extents.{SameFree}
+use Rattle.vault_volume.proofs.ImageLemmas.{in_more}
+use Rattle.custody_records.specs.Records.{Records, with_registry}
+use Rattle.custody_records.specs.Rows.{Rows, with_registry_row}
+use Rattle.custody_records.specs.Form.{form_of, InForm}
+use Rattle.custody_records.specs.Written.{row_of_registry}
+use Rattle.custody_records.proofs.FormLemmas.{registry_inserted}
+use Rattle.custody_records.proofs.ReadBack.{registry_read_back}
+use Rattle.custody_store.specs.Standing.{Standing, shown, leaves, IsReady, IsOneCommit}
+use Rattle.sqlite.specs.Store.{Ghosts}
+use Rattle.custody_machine.specs.Machine as machine
+use Rattle.custody_machine.specs.Machine.{Command, Accept, step, Answer, Accepted, Answers}
+use Rattle.custody_machine.specs.History.{is_open_after}
+use Rattle.custody_machine.specs.Stored.{AreWhole, IsVolumeOf, IsGood, state_in}
+use Rattle.custody_machine.specs.Moves.{RestsOnBytes}
+use Rattle.custody_machine.specs.Custody.{IsPlaceable, HasRoomFor, IsInStore, LeftSince, Serves}
+use Rattle.custody_machine.specs.declared.answers.Fault.TheVariants.{VolumeFailed, StoreFailed, Closed}
+use Rattle.custody_machine.specs.declared.answers.Refusal.TheVariants.{VolumeFull}
+use Rattle.custody_machine.proofs.Composed.{IsChange, good_now, changes_nothing, accepts, in_doubt}
+use Rattle.custody.specs.declared.answers.Reply.{Reply}
+use Rattle.custody.specs.declared.answers.Refused.{Refused}
+use Rattle.custody.specs.declared.answers.Refused.TheVariants as refused
+use Rattle.custody.specs.declared.holdings.Holdings.{Holdings}
+use Rattle.custody.specs.Answers.{answer_of, stays_open}
+use Rattle.custody.specs.Holdings.{recorded, stored, image_of, failures_of, left_by, left_since, KeepsOrder, KeepsImage, KeepsRows, IsSafe, HasServed}
+
+-- ---- results
+
+pub on_ok : {T E : Type 0} (P : Type 0) (r : Result T E) (b : Bool) → b ≡ is_err r → b ≡ false → OnOk r P → P
+on_ok P (Ok x) b is good p = p
+on_ok P (Err e) b is good p = cc
+
+pub err_is : {T E : Type 0} (r : Result T E) (e : E) → IsErrAnd r (λ x. x ≡ e) → r ≡ Err e
+err_is (Ok x) e h = absurd h
+err_is (Err x) e h = ap Err h
+
+-- ---- a volume that was not called
+
+pub since_same : {V : Type 0} (moment : V → ℕ) (left_at : V → ℕ → List ℕ → Type 0) (v : V) (image : List ℕ) → LeftSince moment left_at v v image → left_at v (moment v) image
+since_same moment left_at v image h =
+    let from = h.1 in
+    let to = h.2 in
+    let same : h.0 ≡ moment v = omega arith in
+    subst (λ t. left_at v t image) same h.3
+
+-- ---- rows
+
+-- what a commit leaves, as records
+module _ (old new : State) (records changed : Records) (after : Rows) (was : IsInStore records (shown old).rows (shown old).IsReady (shown old).may_leave) (means : form_of after ≡ InForm changed) where
+  -- a stop leaves the records from before or the changed ones
+  pub either_form : {A E : Type 0} (r : Result A E) → IsOneCommit (shown old) (shown new) after r → (rows : Rows) → (shown new).may_leave rows → (form_of rows ≡ InForm records) ⊎ (form_of rows ≡ InForm changed)
+  either_form r commit rows left = ⊎_elim (λ (w : (shown old).may_leave rows). inl (ap form_of (was.settled rows w) ∙ was.in_form)) (λ (e : rows ≡ after). inr (ap form_of e ∙ means)) (commit.left rows left)
+
+  module _ (ready : IsReady new) (is : (shown new).rows ≡ after) where
+    pub form_then : (rows : Rows) → (shown new).may_leave rows → form_of rows ≡ InForm changed
+    form_then rows left = ap form_of (ready.only rows left ∙ is) ∙ means
+
+    pub rows_then : (records_then : Records) → records_then ≡ changed → IsInStore records_then (shown new).rows (shown new).IsReady (shown new).may_leave
+    rows_then records_then same = record { ready = ready; in_form = ap form_of is ∙ means ∙ ap InForm (sym same); settled = λ rows left. ready.only rows left }
+
+-- the row of a new registry
+pub registry_means : (rows : Rows) (records : Records) (tld : List ℕ) (day : ℕ) → form_of rows ≡ InForm records → IsTld tld → IsDay day → get records.registries tld ≡ None → form_of (with_registry_row (row_of_registry tld day) rows) ≡ InForm (with_registry records tld day)
+registry_means rows records tld day is form in_range new = registry_inserted rows records is (row_of_registry tld day) tld day (registry_read_back tld day form in_range) new
+
+-- ---- answers
+
+module _ {V S : Type 0} {g : volume.Ghosts V} (old new : Holdings V S g) (command : Command) where
+  -- a command is done
+  pub safe_done : (reply : Reply) → reply.is_repeat ≡ false → KeepsOrder new → IsSafe old command (Ok reply) new
+  safe_done reply first order = record {
+    answers = λ e. cc;
+    failed = λ e. cc;
+    full = λ e. cc;
+    unchanged = λ same. by reply.is_repeat first same;
+    order = λ _. order;
+  }
+    where
+      by : (b : Bool) → b ≡ false → not b ≡ false → (recorded new ≡ recorded old) × (new.store ≡ old.store)
+      by true e same = cc
+      by false e same = cc
+
+module _ {V S : Type 0} {g : volume.Ghosts V} (database : Ghosts S) (old new : Holdings V S g) (order : KeepsOrder old) (volume : KeepsImage old) (store : KeepsRows database old) (command : Command) (now : ℕ) where
+  pub good_before : IsGood (recorded old) (image_of old)
+  good_before = good_now (recorded old) (stored database old).rows (image_of old) _ _ (IsFree old.vault) (stored database old).IsReady (stored database old).may_leave (left_by old) order volume store
+
+  -- it is refused, it failed before the commit, or it is a repeat
+  pub does_nothing : (answer : Result Reply Refused) → Answers (state_in (recorded old) (image_of old)) command now (answer_of command answer) (state_in (recorded old) (image_of old)) → RestsOnBytes (recorded old) (image_of old) command now (answer_of command answer)
+      → stays_open answer ≡ is_open_after (answer_of command answer) → recorded new ≡ recorded old → (stays_open answer ≡ true → image_of new ≡ image_of old)
+      → ((j : List ℕ) → left_since old new j → DiffersOnlyIn (IsFree old.vault) (image_of old) j) → ((r : Rows) → (stored database new).may_leave r → (stored database old).may_leave r) → ((j : List ℕ) → left_by new j → DiffersOnlyIn (IsFree old.vault) (image_of old) j)
+      → HasServed database old command now answer new
+  does_nothing answer allowed rests opened same image during rows_same images_same =
+      changes_nothing (recorded old) (stored database old).rows (image_of old) _ _ (IsFree old.vault) (stored database old).IsReady (stored database old).may_leave (left_by old) order volume store
+      command now (answer_of command answer) (stays_open answer) (recorded new) (image_of new) (left_since old new) (stored database new).may_leave (left_by new) allowed rests opened (λ stays. (same, image stays)) during rows_same images_same
+
+  module _ (changed : Records) (change : IsChange (recorded old) (image_of old) (IsFree old.vault) changed (image_of new) (IsFree new.vault)) where
+    -- it is done, and answered
+    pub does_change : (reply : Reply) (shown_reply : machine.Reply) → answer_of command (Ok reply) ≡ Accepted shown_reply → step (state_in (recorded old) (image_of old)) command now ≡ Accept shown_reply (state_in changed (image_of new))
+        → RestsOnBytes (recorded old) (image_of old) command now (Accepted shown_reply) → recorded new ≡ changed
+        → ((j : List ℕ) → left_since old new j → DiffersOnlyIn (IsFree old.vault) (image_of old) j) → ((r : Rows) → (stored database new).may_leave r → form_of r ≡ InForm changed) → ((j : List ℕ) → left_by new j → DiffersOnlyIn (IsFree new.vault) (image_of new) j)
+        → HasServed database old command now (Ok reply) new
+    does_change reply shown_reply is ruled rests same during only images_same =
+        subst (λ a. Serves (recorded old) (image_of old) command now a true (recorded new) (image_of new) (stored database old).may_leave (left_since old new) (stored database new).may_leave (left_by new)) (sym is)
+        (accepts (recorded old) (stored database old).rows (image_of old) _ _ (IsFree old.vault) (stored database old).IsReady (stored database old).may_leave (left_by old) order volume store
+        changed (image_of new) (IsFree new.vault) change command now shown_reply ruled (recorded new) (image_of new) (left_since old new) (stored database new).may_leave (left_by new) rests (same, refl) during only images_same)
+
+    -- the commit failed: it is done or not
+    pub is_in_doubt : (shown_reply : machine.Reply) → step (state_in (recorded old) (image_of old)) command now ≡ Accept shown_reply (state_in changed (image_of new)) → shown_reply.is_repeat ≡ false
+        → ((j : List ℕ) → left_since old new j → DiffersOnlyIn (IsFree old.vault) (image_of old) j) → ((r : Rows) → (stored database new).may_leave r → (form_of r ≡ InForm (recorded old)) ⊎ (form_of r ≡ InForm changed)) → ((j : List ℕ) → left_by new j → DiffersOnlyIn (IsFree new.vault) (image_of new) j)
+        → HasServed database old command now (Err (refused.Fault StoreFailed)) new
+    is_in_doubt shown_reply ruled first during either images_same =
+        in_doubt (recorded old) (stored database old).rows (image_of old) _ _ (IsFree old.vault) (stored database old).IsReady (stored database old).may_leave (left_by old) order volume store
+        changed (image_of new) (IsFree new.vault) change command now shown_reply ruled (recorded new) (image_of new) (left_since old new) (stored database new).may_leave (left_by new) first during either images_same
+
+-- the volume has the size that is recorded
+pub recorded_size : {V S : Type 0} {g : volume.Ghosts V} (h : Holdings V S g) → KeepsOrder h → g.size (volume_of h.vault) ≡ (recorded h).blocks
+recorded_size h order = order.blocks
+
+-- ---- holdings whose blocks and records are as they were
+
+module _ {V S : Type 0} {g : volume.Ghosts V} (old new : Holdings V S g) (same : recorded new ≡ recorded old) (free : SameFree (IsFree old.vault) (IsFree new.vault)) where
+  pub order_same : g.size (volume_of new.vault) ≡ g.size (volume_of old.vault) → failures_of new ≡ failures_of old → KeepsOrder old → KeepsOrder new
+  order_same size failures order = record {
+    whole = subst AreWhole (sym same) order.whole;
+    blocks = size ∙ order.blocks ∙ ap (λ (r : Records). r.blocks) (sym same);
+    placeable = λ b. (λ f. subst (λ r. IsPlaceable r b) (sym same) ((order.placeable b).0 ((free b).0 f)), λ p. (free b).1 ((order.placeable b).1 (subst (λ r. IsPlaceable r b) same p)));
+    count = subst (λ n. n < 2 ^ 64 - 1) (sym failures) order.count;
+  }
+
+  pub image_same : image_of new ≡ image_of old → ((c : List ℕ) → left_by new c → DiffersOnlyIn (IsFree old.vault) (image_of old) c) → KeepsImage old → KeepsImage new
+  image_same image left volume = record {
+    volume = subst (λ r. IsVolumeOf r (image_of new)) (sym same) (subst (IsVolumeOf (recorded old)) (sym image) volume.volume);
+    elsewhere = λ c w. in_more (IsFree old.vault) (IsFree new.vault) (image_of new) c (λ b f. (free b).1 f) (subst (λ j. DiffersOnlyIn (IsFree old.vault) j c) (sym image) (left c w));
+  }
+
+  -- nothing was done
+  pub safe_undone : (command : Command) (answer : Result Reply Refused) → answer ≢ Err (refused.Fault Closed) → (answer ≡ Err (refused.Fault VolumeFailed) → failures_of old < failures_of new) → (answer ≡ Err (refused.Refusal VolumeFull) → ¬ HasRoomFor (recorded old) command)
+      → new.store ≡ old.store → (stays_open answer ≡ true → KeepsOrder new) → IsSafe old command answer new
+  safe_undone command answer closed failed full store order = record { answers = closed; failed = failed; full = full; unchanged = λ _. (same, store); order = order }

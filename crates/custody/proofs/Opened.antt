@@ -1,0 +1,228 @@
+-- What an opening finds of a database and a volume.
+use Rattle.std.proofs.Common.{◌≡◌, ◌≢◌, ◌⊎◌, inl, inr, ℕ, zero, suc, ℤ, pos, negsuc, ◌*◌, ◌<◌, ◌≤◌, ◌^◌, List, [], ◌∷◌, length, Option, Some, None, Bool, Result, Ok, Err, refl, sym, ◌∙◌, ap, subst, arith}
+use Rattle.std.specs.Prelude.{option_map, IfSome, IfNone}
+use Rattle.vault_volume.specs.Image.{bytes_at, DiffersOnlyIn}
+use Rattle.vault_volume.proofs.ImageLemmas.{same_in}
+use Rattle.vault_volume.specs.Disk.{LeavesOnly}
+use Rattle.vault_volume.specs.Head.{head_of}
+use Rattle.custody_records.specs.declared.meta.Meta.{Meta}
+use Rattle.custody_records.specs.Records.{Records}
+use Rattle.custody_records.specs.Rows.{MetaRow, Rows}
+use Rattle.custody_records.specs.Form.{form_of, InForm, natural}
+use Rattle.custody_records.specs.Typed as typed
+use Rattle.custody_records.proofs.MetaLemmas.{number_reads}
+use Rattle.custody_store.specs.Reading.{first_meta}
+use Rattle.custody_machine.specs.declared.damage.Damage.{Damage}
+use Rattle.custody_machine.specs.declared.damage.Damage.TheVariants as wrong
+use Rattle.custody_machine.specs.Damage.{meta_of, IsRowOf, IsDamaged}
+use Rattle.custody_rules.specs.Breaks.{Breaks}
+use Rattle.std.specs.FinMap.{FinMap, get, empty, get-empty, same_map}
+use Rattle.std.specs.declared.cmp.Ordering.{Ordering}
+use Rattle.sqlite.specs.State.{State, HasCleanDisk}
+use Rattle.custody_records.specs.Keys.{text_cmp, part_cmp, notice_cmp}
+use Rattle.custody_records.specs.Records.{new_records}
+use Rattle.custody_records.specs.Rows.{fresh}
+use Rattle.custody_records.specs.Written.{digits_of}
+use Rattle.custody_records.proofs.FormLemmas.{fresh_in_form}
+use Rattle.custody_store.specs.Reading.{rows_in}
+use Rattle.custody_store.specs.Standing.{Standing, shown, IsReady, IsBare, leaves, Founds, Reads}
+use Rattle.custody_store.proofs.BareLemmas.{rows_bare}
+use Rattle.custody_store.proofs.ReadLemmas.{reads_then}
+use Rattle.custody_machine.specs.State.{empty as nothing}
+use Rattle.custody_machine.specs.Stored.{AreWhole, part_of, state_in, HasDigests}
+use Rattle.custody_machine.specs.Moves.{Serving, Left, IsBegun}
+use Rattle.custody_machine.specs.Custody.{IsOnVolume, IsInStore, MayInitialise}
+use Rattle.custody_machine.proofs.MapValues.{get-map_values}
+use Rattle.custody_machine.proofs.Orders.{part_total, part_exact}
+use Rattle.custody_machine.proofs.Forms.{records_inj}
+use Rattle.custody.specs.Opening.{HasNoRecord}
+
+pub some_is : {T : Type 0} (P : T → Type 0) (o : Option T) (x : T) → o ≡ Some x → IfSome o P → P x
+some_is {T} P o x e h = subst (λ (o : Option T). IfSome o P) e h
+
+pub none_is : {T : Type 0} (P : Type 0) (o : Option T) → o ≡ None → IfNone o P → P
+none_is {T} P o e h = subst (λ (o : Option T). IfNone o P) e h
+
+-- a volume with a block 0 has a block
+pub has_block : (image : List ℕ) (size number : ℕ) → length image ≡ 4096 * size → bytes_at image 0 4096 ≡ head_of number → 1 ≤ size
+has_block [] size number long head = cc
+has_block (byte ∷ image) zero number long head = absurd (omega arith)
+has_block (byte ∷ image) (suc size) number long head = omega arith
+
+-- what is wrong among records in form
+pub broken_damaged : (damage : Damage) (records : Records) (rows : Rows) (image : List ℕ) → form_of rows ≡ InForm records → Breaks damage records → IsDamaged damage rows image
+broken_damaged wrong.NoRecord records rows image is breaks = absurd breaks
+broken_damaged wrong.Head records rows image is breaks = absurd breaks
+broken_damaged wrong.Volume records rows image is breaks = absurd breaks
+broken_damaged wrong.Schema records rows image is breaks = absurd breaks
+broken_damaged wrong.Form records rows image is breaks = absurd breaks
+broken_damaged wrong.Extent records rows image is breaks = (records, is, breaks)
+broken_damaged wrong.Overlap records rows image is breaks = (records, is, breaks)
+broken_damaged wrong.Link records rows image is breaks = (records, is, breaks)
+broken_damaged wrong.Digest records rows image is breaks = absurd breaks
+
+-- a row of meta that is of another volume
+pub other_volume : (rows : Rows) (found : Meta) (number size : ℕ) (image : List ℕ) → Some found ≡ option_map typed.meta_of (first_meta rows) → number < 2 ^ 64 → length image ≡ 4096 * size → bytes_at image 0 4096 ≡ head_of number
+    → ¬ ((found.number ≡ Some number) × (found.blocks ≡ pos size)) → IsDamaged wrong.Volume rows image
+other_volume rows found number size image is lt long head other = by rows.meta refl (is)
+  where
+    same_blocks : (blocks : ℤ) → 4096 * natural blocks ≡ 4096 * size → 1 ≤ size → blocks ≡ pos size
+    same_blocks (pos n) e le = let same : n ≡ size = omega arith in ap pos same
+    same_blocks (negsuc n) e le = absurd (omega arith)
+
+    by : (metas : Option (List MetaRow)) → rows.meta ≡ metas → Some found ≡ option_map typed.meta_of (first_meta (record rows { meta = metas })) → IsDamaged wrong.Volume rows image
+    by None at is = cc
+    by (Some []) at is = cc
+    by (Some (row ∷ others)) at is =
+        let same : found ≡ typed.meta_of row = cc in (
+          row,
+          number,
+          ap (λ metas. meta_of (record rows { meta = metas })) at,
+          head,
+          λ of. other (
+            ap (λ (m : Meta). m.number) same ∙ sym (number_reads row.number number lt of.number_is),
+            ap (λ (m : Meta). m.blocks) same ∙ same_blocks row.blocks (sym of.size ∙ long) (has_block image size number long head),
+          ),
+        )
+
+-- ---- a beginning
+
+-- a database without tables has no record
+pub bare_has_none : (s : State) → IsBare s → HasNoRecord (rows_in s.now.trees)
+bare_has_none s bare = ap meta_of (rows_bare s bare)
+
+-- nor has what a stop leaves of it
+pub none_left : (s : State) → IsBare s → (rows : Rows) → leaves s rows → HasNoRecord rows
+none_left s bare rows left = ap meta_of (bare.only rows left) ∙ bare_has_none s bare
+
+-- the tables were not made
+pub founds_nothing : {A E : Type 0} (s : Standing) (after : Rows) (e : E) → Founds {A = A} s s after (Err e)
+founds_nothing s after e = record {
+  trust = λ honest. honest;
+  mode = λ autocommit. autocommit;
+  effect = λ _ bare. record { done = tt; kept = λ _. (bare, refl); left = λ rows h. inl h };
+}
+
+-- the same with another fault
+pub founds_err : {A B E F : Type 0} (old new : Standing) (after : Rows) (e : E) (f : F) → Founds {A = A} old new after (Err e) → Founds {A = B} old new after (Err f)
+founds_err old new after e f p = record {
+  trust = p.trust;
+  mode = p.mode;
+  effect = λ honest bare. let did = p.effect honest bare in record { done = tt; kept = did.kept; left = did.left };
+}
+
+module _ (number blocks : ℕ) where
+  none_at : {K X : Type 0} (R : K → K → Ordering) (key : K) (x : X) → get (empty {X = X} {R = R}) key ≡ Some x → ⊥
+  none_at {X = X} R key x at = let none = get-empty {X = X} R key in let apart : Some x ≡ None = sym at ∙ none in cc
+
+  -- no records are whole
+  pub new_whole : AreWhole (new_records number blocks)
+  new_whole = record {
+    extents = λ key part at. absurd (none_at part_cmp key part at);
+    once = record {
+      within = λ key part at. absurd (none_at part_cmp key part at);
+      between = λ j k p q b at_j at_k in_p in_q. absurd (none_at part_cmp j p at_j);
+    };
+    linked = record {
+      part_registry = λ key part at. absurd (none_at part_cmp key part at);
+      notice_registry = λ key notice at. absurd (none_at notice_cmp key notice at);
+      release_registry = λ reference release at. absurd (none_at text_cmp reference release at);
+      released = λ reference release at. absurd (none_at text_cmp reference release at);
+      series = λ key part at n e. absurd (none_at part_cmp key part at);
+      numbers = λ key notice at n e. absurd (none_at notice_cmp key notice at);
+      verdict_parts = λ key notice rev at of. absurd (none_at notice_cmp key notice at);
+      one_verdict = λ j k m n rev at_j at_k day of_m of_n. absurd (none_at notice_cmp j m at_j);
+      due = λ key part at lt. absurd (none_at part_cmp key part at);
+      one_receipt = λ j k m n at_j at_k day is_m is_n. absurd (none_at notice_cmp j m at_j);
+      one_absence = λ j k m n at_j at_k day is_m is_n. absurd (none_at notice_cmp j m at_j);
+    };
+  }
+
+  -- and stand for the empty state, whatever the image is
+  pub new_empty : (image : List ℕ) → state_in (new_records number blocks) image ≡ nothing
+  new_empty image = ap (λ parts. record nothing { parts = parts }) (same_map part_total part_exact _ _ (λ key. get-map_values part_cmp (part_of image) empty key ∙ ap (option_map (part_of image)) (get-empty part_cmp key) ∙ sym (get-empty part_cmp key)))
+
+  pub new_digests : (image : List ℕ) → HasDigests image (new_records number blocks)
+  new_digests image key part extents at = absurd (none_at part_cmp key part at)
+
+  pub new_begun : (records : Records) (image : List ℕ) → records ≡ new_records number blocks → IsBegun nothing (Serving records image)
+  new_begun records image is = subst (λ r. IsBegun nothing (Serving r image)) (sym is) (new_empty image, new_digests image)
+
+  module _ (image : List ℕ) (lt : number < 2 ^ 64) (low : 2 ≤ blocks) (high : blocks ≤ 262_144) (head : bytes_at image 0 4096 ≡ head_of number) (long : length image ≡ 4096 * blocks) where
+    -- the rows that are made, with the volume that is begun, stand for it
+    fresh_begun : IsBegun nothing (Left (fresh (digits_of number) (pos blocks)) image)
+    fresh_begun = (
+      record {
+        records = new_records number blocks;
+        in_form = fresh_in_form number blocks lt low high;
+        good = record { whole = new_whole; volume = record { head = head; size = long } };
+        meaning = sym (new_empty image);
+      },
+      λ records is. subst (HasDigests image) (records_inj (new_records number blocks) records (sym (fresh_in_form number blocks lt low high) ∙ is)) (new_digests image),
+    )
+
+    pub begun_left : (rows : Rows) (left : List ℕ) → rows ≡ fresh (digits_of number) (pos blocks) → left ≡ image → IsBegun nothing (Left rows left)
+    begun_left rows left new is = subst (λ r. IsBegun nothing (Left r left)) (sym new) (subst (λ i. IsBegun nothing (Left (fresh (digits_of number) (pos blocks)) i)) (sym is) fresh_begun)
+
+    -- what a stop leaves after the volume is begun
+    pub may_be_begun : (s : State) → IsBare s → (rows : Rows) (left : List ℕ) → leaves s rows ⊎ (rows ≡ fresh (digits_of number) (pos blocks)) → left ≡ image → MayInitialise rows left
+    may_be_begun s bare rows left (inl old) is = inl (none_left s bare rows old)
+    may_be_begun s bare rows left (inr new) is = inr (begun_left rows left new is)
+
+-- ---- calls that only read
+
+-- a stop leaves nothing new
+pub reads_left : {A E : Type 0} (old new : Standing) (r : Result A E) → Reads old new r → new.IsHonest → old.IsReady ⊎ old.IsBare → (rows : Rows) → new.may_leave rows → old.may_leave rows
+reads_left old new r p honest (inl ready) rows left = (p.same honest ready).left rows left
+reads_left old new r p honest (inr bare) rows left = (p.bare honest bare).left rows left
+
+module _ {A E : Type 0} (old mid new : Standing) (x : A) (reads : Reads {E = E} old mid (Ok x)) (is : new ≡ mid) where
+  honest_mid : new.IsHonest → mid.IsHonest
+  honest_mid honest = subst (λ s. s.IsHonest) is honest
+
+  pub honest_back : new.IsHonest → old.IsHonest
+  honest_back honest = reads.trust (honest_mid honest)
+
+  -- without tables as before
+  pub bare_still : new.IsHonest → old.IsBare → new.IsBare
+  bare_still honest bare = subst (λ s. s.IsBare) (sym is) ((reads.bare (honest_mid honest) bare).kept (reads.still_open (honest_mid honest) (inr bare))).0
+
+  -- with its tables and rows as before
+  pub ready_still : new.IsHonest → old.IsReady → new.IsReady × (new.rows ≡ old.rows)
+  ready_still honest ready =
+      let kept = (reads.same (honest_mid honest) ready).kept (reads.still_open (honest_mid honest) (inl ready)) in
+      (subst (λ s. s.IsReady) (sym is) kept.0, ap (λ s. s.rows) is ∙ kept.1)
+
+  -- and then another such call
+  pub reads_on_ok : {B C F G : Type 0} (later end : Standing) (y : B) (z : C) → Reads {E = F} new later (Ok y) → end ≡ later → Reads {E = G} old end (Ok z)
+  reads_on_ok {F = F} {G = G} later end y z then at =
+      let from_mid = subst (λ s. Reads {E = F} s later (Ok y)) is then in
+      let all = reads_then old mid later x (Ok y) reads from_mid in
+      subst (λ s. Reads {E = G} old s (Ok z)) (sym at) (record { trust = all.trust; mode = all.mode; same = all.same; bare = all.bare; still_open = all.still_open })
+
+  pub reads_on_err : {B C F G : Type 0} (later end : Standing) (y : F) (z : G) → Reads {A = B} new later (Err y) → end ≡ later → Reads {A = C} old end (Err z)
+  reads_on_err {B = B} {C = C} later end y z then at =
+      let from_mid = subst (λ s. Reads {A = B} s later (Err y)) is then in
+      let all = reads_then old mid later x (Err y) reads from_mid in
+      subst (λ s. Reads {A = C} old s (Err z)) (sym at) (record { trust = all.trust; mode = all.mode; same = all.same; bare = all.bare; still_open = λ _ _. tt })
+
+-- ---- what is kept of the volume and the rows
+
+-- a stop leaves now what it could leave at the start
+pub left_now : {V : Type 0} (moment : V → ℕ) (left_at : V → ℕ → List ℕ → Type 0) (old new : V) (P : List ℕ → Type 0) → LeavesOnly moment left_at old new P → (c : List ℕ) → left_at new (moment new) c → P c
+left_now moment left_at old new P reads c left = reads.since (moment new) c reads.later (omega arith) left
+
+-- a volume that leaves only what a read gives
+pub on_volume : {V : Type 0} (image_in : V → List ℕ) (moment : V → ℕ) (left_at : V → ℕ → List ℕ → Type 0) (v w : V) → v ≡ w → (records : Records) (free : ℕ → Type 0) → bytes_at (image_in w) 0 4096 ≡ head_of records.number
+    → length (image_in w) ≡ 4096 * records.blocks → ((c : List ℕ) → left_at w (moment w) c → c ≡ image_in w) → IsOnVolume records (image_in v) free (left_at v (moment v))
+on_volume image_in moment left_at v w is records free head long one = subst (λ x. IsOnVolume records (image_in x) free (left_at x (moment x))) (sym is) (record {
+  volume = record { head = head; size = long };
+  elsewhere = λ c left. subst (DiffersOnlyIn free (image_in w)) (sym (one c left)) (same_in free (image_in w));
+})
+
+-- the tables with the row of meta, which were made at once
+pub fresh_in_store : {A E : Type 0} (old : Standing) (new : State) (x : A) (number blocks : ℕ) → number < 2 ^ 64 → 2 ≤ blocks → blocks ≤ 262_144 → Founds {E = E} old (shown new) (fresh (digits_of number) (pos blocks)) (Ok x)
+    → HasCleanDisk new → old.IsBare → (records : Records) → records ≡ new_records number blocks → IsInStore records (shown new).rows (IsReady new) (leaves new)
+fresh_in_store old new x number blocks lt low high founds honest bare records is =
+    let done = (founds.effect honest bare).done in
+    record { ready = done.0; in_form = ap form_of done.1 ∙ fresh_in_form number blocks lt low high ∙ ap InForm (sym is); settled = done.0.only }

@@ -1,0 +1,90 @@
+-- A part that was not staged.
+use Rattle.std.proofs.Common.{◌≡◌, ◌≢◌, ℕ, ◌+◌, ◌<◌, List, [], length, Option, None, Bool, true, false, refl, sym, ◌∙◌, ap, subst, arith, Result, Ok, Err}
+use Rattle.std.specs.FinMap.{get}
+use Rattle.sqlite.specs.Store.{Ghosts}
+use Rattle.deposit_name.specs.Name.{Name}
+use Rattle.vault_volume.specs.declared.errors.StageError.{StageError}
+use Rattle.vault_volume.specs.declared.errors.StageError.TheVariants.{Full, NoMemory, VolumeFailed}
+use Rattle.vault_volume.specs.declared.volume.Volume as volume
+use Rattle.vault_volume.specs.Disk.{LeavesOnly}
+use Rattle.vault_volume.specs.Image.{DiffersOnlyIn}
+use Rattle.vault_volume.specs.Extents.{SameFree, IsFreeRun, block_count}
+use Rattle.vault_volume.specs.Vault.{volume_of, IsFree}
+use Rattle.custody_records.specs.Records.{key_of}
+use Rattle.custody_machine.specs.Names.{read_name}
+use Rattle.custody_machine.specs.Machine.{Receive, OfPart, Accept, Refused, Failed, MayRefuse, MayFail, Answers, step, reads, received_part, with_part}
+use Rattle.custody_machine.specs.History.{is_open_after}
+use Rattle.custody_machine.specs.Moves.{RestsOnBytes}
+use Rattle.custody_machine.specs.Stored.{state_in}
+use Rattle.custody_store.specs.Standing.{standing}
+use Rattle.custody_machine.specs.Custody.{Decides, Goes}
+use Rattle.custody_machine.specs.declared.answers.Fault.TheVariants as fault
+use Rattle.custody_machine.specs.declared.answers.Refusal.TheVariants.{VolumeFull}
+use Rattle.custody_machine.proofs.Composed.{nothing_in, reads_nothing}
+use Rattle.custody_machine.proofs.Compared.{each_of, now_of}
+use Rattle.custody.specs.declared.answers.Reply.{Reply}
+use Rattle.custody.specs.declared.answers.Refused as not_accepted
+use Rattle.custody.specs.declared.answers.Refused.TheVariants as refused
+use Rattle.custody.specs.declared.holdings.Holdings.{Holdings}
+use Rattle.custody.specs.Answers.{answer_of, stays_open, unstaged}
+use Rattle.custody.specs.Holdings.{recorded, stored, image_of, failures_of, left_by, left_since, KeepsOrder, KeepsImage, KeepsRows, IsSafe, HasServed}
+use Rattle.custody.proofs.HoldingLemmas.{order_same, image_same, safe_undone, does_nothing}
+
+module _ {V S : Type 0} {g : volume.Ghosts V} (old new : Holdings V S g) (same : recorded new ≡ recorded old) (store_same : new.store ≡ old.store) (text bytes : List ℕ) (now : ℕ) (n : Name) (order : KeepsOrder old) (ruled : Decides (Goes n) (recorded old) text (length bytes) now)
+    (e : StageError) (free : SameFree (IsFree old.vault) (IsFree new.vault)) (full_same : e ≡ Full → volume_of new.vault ≡ volume_of old.vault) (memory_same : e ≡ NoMemory → volume_of new.vault ≡ volume_of old.vault) where
+  -- while it stays open, the volume was not called
+  volume_same : stays_open (Err (unstaged e)) ≡ true → volume_of new.vault ≡ volume_of old.vault
+  volume_same stays = by e refl stays
+    where
+      by : (d : StageError) → e ≡ d → stays_open (Err (unstaged d)) ≡ true → volume_of new.vault ≡ volume_of old.vault
+      by Full is stays = full_same is
+      by NoMemory is stays = memory_same is
+      by VolumeFailed is stays = cc
+
+  pub unstaged_safe : (e ≡ VolumeFailed → failures_of new ≡ failures_of old + 1) → (e ≡ Full → (start : ℕ) → ¬ IsFreeRun (IsFree old.vault) start (block_count (length bytes)))
+      → (answer : Result Reply not_accepted.Refused) → answer ≡ Err (unstaged e) → IsSafe old (Receive text bytes) answer new
+  unstaged_safe failed full answer is = subst (λ a. IsSafe old (Receive text bytes) a new) (sym is)
+      (safe_undone old new same free (Receive text bytes) (Err (unstaged e)) (answers e) (λ h. let one = failed (failing e h) in omega (arith, one)) (λ h room. full (filling e h) room.0 (λ b low high. (order.placeable b).1 (room.1 b low high))) store_same
+      (λ stays. order_same old new same free (ap g.size (volume_same stays)) (ap g.failures (volume_same stays)) order))
+    where
+      answers : (d : StageError) → ◌≢◌ {A = Result Reply not_accepted.Refused} (Err (unstaged d)) (Err (refused.Fault fault.Closed))
+      answers Full h = cc
+      answers NoMemory h = cc
+      answers VolumeFailed h = cc
+
+      failing : (d : StageError) → ◌≡◌ {A = Result Reply not_accepted.Refused} (Err (unstaged d)) (Err (refused.Fault fault.VolumeFailed)) → d ≡ VolumeFailed
+      failing Full h = cc
+      failing NoMemory h = cc
+      failing VolumeFailed h = refl
+
+      filling : (d : StageError) → ◌≡◌ {A = Result Reply not_accepted.Refused} (Err (unstaged d)) (Err (refused.Refusal VolumeFull)) → d ≡ Full
+      filling Full h = refl
+      filling NoMemory h = cc
+      filling VolumeFailed h = cc
+
+  module _ (volume : KeepsImage old) (leaves : LeavesOnly g.moment g.left_at (volume_of old.vault) (volume_of new.vault) (DiffersOnlyIn (IsFree old.vault) (image_of old))) where
+    pub unstaged_serves : (database : Ghosts S) → KeepsRows database old → (answer : Result Reply not_accepted.Refused) → answer ≡ Err (unstaged e) → HasServed database old (Receive text bytes) now answer new
+    unstaged_serves database store answer is = subst (λ a. HasServed database old (Receive text bytes) now a new) (sym is)
+        (does_nothing database old new order volume store (Receive text bytes) now (Err (unstaged e)) (may e) (rests e) (opened e) same (λ stays. ap g.image (volume_same stays))
+        (each_of g.moment g.left_at (volume_of old.vault) (volume_of new.vault) _ leaves) (λ r w. subst (λ s. (standing database s).may_leave r) store_same w) (now_of g.moment g.left_at (volume_of old.vault) (volume_of new.vault) _ leaves))
+      where
+        accepted : step (state_in (recorded old) (image_of old)) (Receive text bytes) now ≡ Accept (record { entry = OfPart (key_of n) (received_part n bytes now); is_repeat = false }) (with_part (state_in (recorded old) (image_of old)) (key_of n) (received_part n bytes now))
+        accepted = ruled.2 (image_of old) bytes refl
+
+        may : (d : StageError) → Answers (state_in (recorded old) (image_of old)) (Receive text bytes) now (answer_of (Receive text bytes) (Err (unstaged d))) (state_in (recorded old) (image_of old))
+        may Full = (subst (λ r. MayRefuse (Receive text bytes) r VolumeFull) (sym accepted) (refl, refl, refl), refl)
+        may NoMemory = (subst (λ r. MayFail r (reads (state_in (recorded old) (image_of old)) (Receive text bytes) now) fault.NoMemory) (sym accepted) tt, refl)
+        may VolumeFailed = (subst (λ r. MayFail r (reads (state_in (recorded old) (image_of old)) (Receive text bytes) now) fault.VolumeFailed) (sym accepted) tt, refl)
+
+        rests : (d : StageError) → RestsOnBytes (recorded old) (image_of old) (Receive text bytes) now (answer_of (Receive text bytes) (Err (unstaged d)))
+        rests Full = λ key within. absurd (nothing_in _ key (reads_nothing (recorded old) (image_of old) order.whole text bytes now n ruled.0 ruled.1 accepted) within)
+        rests NoMemory = tt
+        rests VolumeFailed = tt
+
+        opened : (d : StageError) → stays_open (Err (unstaged d)) ≡ is_open_after (answer_of (Receive text bytes) (Err (unstaged d)))
+        opened Full = refl
+        opened NoMemory = refl
+        opened VolumeFailed = refl
+
+    pub unstaged_image : (answer : Result Reply not_accepted.Refused) → answer ≡ Err (unstaged e) → stays_open answer ≡ true → KeepsImage new
+    unstaged_image answer is stays = image_same old new same free (ap g.image (volume_same (ap stays_open (sym is) ∙ stays))) (now_of g.moment g.left_at (volume_of old.vault) (volume_of new.vault) _ leaves) volume

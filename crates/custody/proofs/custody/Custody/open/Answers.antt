@@ -1,0 +1,83 @@
+use Rattle.std.proofs.Common.{◌≡◌, inl, inr, ℕ, List, ◌*◌, length, sym, ◌∙◌, ap, subst}
+use Rattle.vault_volume.specs.Disk.{LeavesOne}
+use Rattle.vault_volume.specs.Head.{head_of}
+use Rattle.vault_volume.specs.Image.{bytes_at}
+use Rattle.vault_volume.specs.Vault.{volume_of, IsFree}
+use Rattle.sqlite.specs.Held.{state}
+use Rattle.custody_records.specs.Form.{form_of, InForm}
+use Rattle.custody_records.specs.Records.{Records}
+use Rattle.custody_store.specs.Standing.{standing}
+use Rattle.custody_machine.specs.Damage.{IsDamaged}
+use Rattle.custody_machine.specs.Stored.{AreWhole}
+use Rattle.custody_machine.specs.Custody.{IsInStore}
+use Rattle.custody.specs.Holdings.{recorded, image_of}
+use Rattle.custody.proofs.Opened.{bare_has_none, ready_still, left_now, reads_on_ok, reads_on_err, on_volume}
+use Rattle.custody.proofs.custody.Custody.open.Goals as goal
+
+pub returns-in-Ok-load_whole-clause-records : goal.returns-in-Ok-load_whole-clause-records
+returns-in-Ok-load_whole-clause-records g c tells ready honest =
+    let volume = c.args.volume in
+    let clean = subst (λ db. (standing g.S.Store db).IsHonest) c.hold.ensures.store honest in
+    let then = c.in-Ok-load_whole.ensures.reads.trust clean in
+    let still = ready_still (standing g.S.Store c.args.db) (standing g.S.Store c.identify.new.db) (standing g.S.Store c.over-store.result) _ c.in-Ok.ensures.reads (ap (standing g.S.Store) c.over-store.ensures) then ready in
+    let is = sym c.hold.ensures.records in
+    let found = c.in-Ok-load_whole.ensures.found clean still.0 in
+    let of = c.in-Ok-load_whole.ensures.volume in (
+      ap form_of (sym still.1) ∙ found ∙ ap InForm is,
+      record {
+        whole = subst AreWhole is c.in-Ok-load_whole.ensures.whole;
+        volume = record {
+          head = c.in-Ok.ensures.head tells ∙ ap head_of (sym of.0 ∙ ap (λ (r : Records). r.number) is);
+          size = g.met.V.Volume.image_length volume tells ∙ ap (λ n. 4096 * n) (sym c.in-Ok.ensures.blocks ∙ sym of.1 ∙ ap (λ (r : Records). r.blocks) is);
+        };
+      },
+      ap g.V.Volume.image c.hold.ensures.volume ∙ c.in-Ok.ensures.image tells,
+    )
+
+pub returns-in-Ok-load_whole-clause-image : goal.returns-in-Ok-load_whole-clause-image
+returns-in-Ok-load_whole-clause-image g c tells one =
+    let volume = c.args.volume in
+    let later = c.identify.new.volume in
+    let same = c.in-Ok.ensures.image tells in
+    let is = sym c.hold.ensures.records in
+    let of = c.in-Ok-load_whole.ensures.volume in
+    let reads = c.in-Ok.ensures.any_moment tells in
+    on_volume g.V.Volume.image g.V.Volume.moment g.V.Volume.left_at (volume_of c.hold.result.vault) later c.hold.ensures.volume (recorded c.hold.result) (IsFree c.hold.result.vault)
+    (ap (λ (i : List ℕ). bytes_at i 0 4096) same ∙ c.in-Ok.ensures.head tells ∙ ap head_of (sym of.0 ∙ ap (λ (r : Records). r.number) is))
+    (g.met.V.Volume.image_length later tells ∙ ap (λ n. 4096 * n) (c.in-Ok.ensures.size ∙ sym c.in-Ok.ensures.blocks ∙ sym of.1 ∙ ap (λ (r : Records). r.blocks) is))
+    (λ i left. (one i).0 (left_now g.V.Volume.moment g.V.Volume.left_at volume later _ reads i left) ∙ sym same)
+
+pub returns-in-Ok-load_whole-clause-rows : goal.returns-in-Ok-load_whole-clause-rows
+returns-in-Ok-load_whole-clause-rows g c ready honest =
+    let at = c.hold.ensures.store in
+    let clean = subst (λ db. (standing g.S.Store db).IsHonest) at honest in
+    let then = c.in-Ok-load_whole.ensures.reads.trust clean in
+    let still = ready_still (standing g.S.Store c.args.db) (standing g.S.Store c.identify.new.db) (standing g.S.Store c.over-store.result) _ c.in-Ok.ensures.reads (ap (standing g.S.Store) c.over-store.ensures) then ready in
+    let on = ready_still (standing g.S.Store c.over-store.result) (standing g.S.Store c.load_whole.new.store) (standing g.S.Store c.hold.result.store) _ c.in-Ok-load_whole.ensures.reads (ap (standing g.S.Store) at) honest still.0 in
+    record {
+      ready = on.0;
+      in_form = ap form_of on.1 ∙ c.in-Ok-load_whole.ensures.found clean still.0 ∙ ap InForm (sym c.hold.ensures.records);
+      settled = on.0.only;
+    }
+
+pub returns-in-Ok-load_whole-clause-reads : goal.returns-in-Ok-load_whole-clause-reads
+returns-in-Ok-load_whole-clause-reads g c =
+    reads_on_ok (standing g.S.Store c.args.db) (standing g.S.Store c.identify.new.db) (standing g.S.Store c.over-store.result) _ c.in-Ok.ensures.reads (ap (standing g.S.Store) c.over-store.ensures)
+    (standing g.S.Store c.load_whole.new.store) (standing g.S.Store c.hold.result.store) _ _ c.in-Ok-load_whole.ensures.reads (ap (standing g.S.Store) c.hold.ensures.store)
+
+pub returns-in-Err-load_whole-clause-damaged : goal.returns-in-Err-load_whole-clause-damaged
+returns-in-Err-load_whole-clause-damaged g c tells either honest damage same =
+    let clean = subst (λ db. (standing g.S.Store db).IsHonest) c.into_inner.ensures honest in
+    let then = c.in-Err-load_whole.ensures.reads.trust clean in
+    let over = ap (standing g.S.Store) c.over-store.ensures in
+    elim either [
+      | inl ready ↦
+          let still = ready_still (standing g.S.Store c.args.db) (standing g.S.Store c.identify.new.db) (standing g.S.Store c.over-store.result) _ c.in-Ok.ensures.reads over then ready in
+          subst (λ rows. IsDamaged damage rows (g.V.Volume.image c.args.volume)) still.1 (c.in-Err-load_whole.ensures.damaged clean still.0 damage same (g.V.Volume.image c.args.volume))
+      | inr bare ↦ absurd (c.in-Ok.ensures.row (subst (λ s. s.IsHonest) over then) (inr bare) (bare_has_none (state g.S.Store c.args.db) bare))
+    ]
+
+pub returns-in-Err-load_whole-clause-reads : goal.returns-in-Err-load_whole-clause-reads
+returns-in-Err-load_whole-clause-reads g c =
+    reads_on_err (standing g.S.Store c.args.db) (standing g.S.Store c.identify.new.db) (standing g.S.Store c.over-store.result) _ c.in-Ok.ensures.reads (ap (standing g.S.Store) c.over-store.ensures)
+    (standing g.S.Store c.load_whole.new.store) (standing g.S.Store c.into_inner.result) _ _ c.in-Err-load_whole.ensures.reads (ap (standing g.S.Store) c.into_inner.ensures)

@@ -1,0 +1,50 @@
+-- What a custody shows, and what its commands do.
+use Rattle.std.specs.Prelude.{◌≡◌, ℕ, List, [], ◌∷◌, map, Bool, true, false, Result, Err}
+use Rattle.vault_volume.specs.declared.volume.Volume as volume
+use Rattle.sqlite.specs.Store.{Ghosts}
+use Rattle.custody_machine.specs.declared.command.Command as asked
+use Rattle.custody_machine.specs.Machine.{Command, Entry}
+use Rattle.custody_machine.specs.Plain.{command_of}
+use Rattle.custody_machine.specs.declared.answers.Fault.TheVariants.{Closed}
+use Rattle.custody.specs.declared.answers.Reply.{Reply}
+use Rattle.custody.specs.declared.answers.Refused.{Refused}
+use Rattle.custody.specs.declared.answers.Refused.TheVariants as refused
+use Rattle.custody.specs.declared.custody.Custody.{Custody}
+use Rattle.custody.specs.declared.holdings.Holdings.{Holdings}
+use Rattle.custody.specs.Answers.{stays_open}
+use Rattle.custody.specs.Holdings.{stored, KeepsImage, KeepsRows, IsSafe, HasServed}
+
+module _ {V S : Type 0} {g : volume.Ghosts V} {database : Ghosts S} where
+  abbrev pub held_by : Custody V S g database → Holdings V S g
+  held_by custody = custody.holdings
+
+  abbrev pub is_open : Custody V S g database → Bool
+  is_open custody = custody.is_open
+
+  -- What a command does to a custody.
+  pub record HasApplied (old : Custody V S g database) (command : Command) (now : ℕ) (answer : Result Reply Refused) (new : Custody V S g database) : Type 0 where
+    -- a closed one says so, and is as it was
+    pub closed : is_open old ≡ false → (answer ≡ Err (refused.Fault Closed)) × (new ≡ old)
+    -- whatever volume and database are
+    pub safe : is_open old ≡ true → IsSafe (held_by old) command answer (held_by new)
+    -- it is closed by a failure of the volume or the database, and by nothing else
+    pub opened : is_open old ≡ true → is_open new ≡ stays_open answer
+    -- a database that is honest was so before
+    pub trust : (stored database (held_by new)).IsHonest → (stored database (held_by old)).IsHonest
+    -- what it answers, does and leaves
+    pub serves : is_open old ≡ true → g.tells → (stored database (held_by new)).IsHonest → KeepsImage (held_by old) → KeepsRows database (held_by old) → HasServed database (held_by old) command now answer (held_by new)
+    -- what holds of image and rows goes on while it is open
+    pub image : is_open new ≡ true → g.tells → KeepsImage (held_by old) → KeepsImage (held_by new)
+    pub rows : is_open new ≡ true → (stored database (held_by new)).IsHonest → KeepsRows database (held_by old) → KeepsRows database (held_by new)
+
+-- commands, each with its moment
+abbrev pub entries_of : List (asked.Command × ℕ) → List Entry
+entries_of commands = map (λ (c : asked.Command × ℕ). (command_of c.0, c.1)) commands
+
+module _ {V S : Type 0} {g : volume.Ghosts V} {database : Ghosts S} where
+  -- What commands in order do: each to the custody that the one before left.
+  abbrev pub HasRun : Custody V S g database → List Entry → List (Result Reply Refused) → Custody V S g database → Type 0
+  HasRun old [] [] new = new ≡ old
+  HasRun old [] (answer ∷ answers) new = ⊥
+  HasRun old (entry ∷ entries) [] new = ⊥
+  HasRun old (entry ∷ entries) (answer ∷ answers) new = (mid : Custody V S g database) × HasApplied old entry.0 entry.1 answer mid × HasRun mid entries answers new

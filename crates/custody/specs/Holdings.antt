@@ -1,0 +1,81 @@
+-- What a custody holds: its records, and what its volume and its database have and may leave at a stop.
+use Rattle.std.specs.Prelude.{◌≡◌, ◌≢◌, ◌<◌, ℕ, List, Bool, true, false, Result, Ok, Err}
+use Rattle.std.specs.Coded.{×_prop, le_prop}
+use Rattle.vault_volume.specs.declared.volume.Volume as volume
+use Rattle.vault_volume.specs.Vault.{volume_of, IsFree}
+use Rattle.sqlite.specs.Store.{Ghosts}
+use Rattle.custody_records.specs.Held.{records_of}
+use Rattle.custody_records.specs.Records.{Records}
+use Rattle.custody_records.specs.Rows.{Rows}
+use Rattle.custody_store.specs.Standing.{Standing, standing}
+use Rattle.custody_machine.specs.Machine.{Command}
+use Rattle.custody_machine.specs.declared.answers.Refusal.TheVariants.{VolumeFull}
+use Rattle.custody_machine.specs.declared.answers.Fault.TheVariants.{VolumeFailed, Closed}
+use Rattle.custody_machine.specs.Custody.{IsInOrder, IsOnVolume, IsInStore, LeftSince, HasRoomFor, Serves}
+use Rattle.custody.specs.declared.answers.Reply.{Reply}
+use Rattle.custody.specs.declared.answers.Refused.{Refused}
+use Rattle.custody.specs.declared.answers.Refused.TheVariants as refused
+use Rattle.custody.specs.declared.holdings.Holdings.{Holdings}
+use Rattle.custody.specs.Answers.{answer_of, stays_open, may_change}
+use Rattle.custody.specs.Order.{IsInOrder-prop}
+
+module _ {V S : Type 0} {g : volume.Ghosts V} where
+  abbrev pub recorded : Holdings V S g → Records
+  recorded h = records_of h.records
+
+  -- what the database shows
+  abbrev pub stored : Ghosts S → Holdings V S g → Standing
+  stored database h = standing database h.store
+
+  -- the bytes of the volume, as a read gives them
+  abbrev pub image_of : Holdings V S g → List ℕ
+  image_of h = g.image (volume_of h.vault)
+
+  abbrev pub failures_of : Holdings V S g → ℕ
+  failures_of h = g.failures (volume_of h.vault)
+
+  -- the images that a stop may leave now
+  abbrev pub left_by : Holdings V S g → List ℕ → Type 0
+  left_by h = g.left_at (volume_of h.vault) (g.moment (volume_of h.vault))
+
+  -- and those that a stop may leave at a moment from the old ones to the new ones
+  abbrev pub left_since : Holdings V S g → Holdings V S g → List ℕ → Type 0
+  left_since old new = LeftSince g.moment g.left_at (volume_of old.vault) (volume_of new.vault)
+
+  -- ---- what holds while a custody is open
+
+  -- in memory, whatever volume and database are
+  abbrev pub KeepsOrder : Holdings V S g → Type 0
+  KeepsOrder h = IsInOrder (recorded h) (g.size (volume_of h.vault)) (failures_of h) (IsFree h.vault)
+
+  pub KeepsOrder-prop : (h : Holdings V S g) → IsProp (KeepsOrder h)
+  KeepsOrder-prop h = IsInOrder-prop (recorded h) (g.size (volume_of h.vault)) (failures_of h) (IsFree h.vault) (λ b. ×_prop le_prop le_prop)
+
+  -- on a volume that tells its images
+  abbrev pub KeepsImage : Holdings V S g → Type 0
+  KeepsImage h = IsOnVolume (recorded h) (image_of h) (IsFree h.vault) (left_by h)
+
+  -- in a database that is honest
+  abbrev pub KeepsRows : Ghosts S → Holdings V S g → Type 0
+  KeepsRows database h = IsInStore (recorded h) (stored database h).rows (stored database h).IsReady (stored database h).may_leave
+
+  -- ---- what a command does
+
+  -- What is known of a command that an open custody does, whatever volume and database are.
+  pub record IsSafe (old : Holdings V S g) (command : Command) (answer : Result Reply Refused) (new : Holdings V S g) : Type 0 where
+    -- it is open, and does not say that it is closed
+    pub answers : answer ≢ Err (refused.Fault Closed)
+    -- the volume has failed where it says so
+    pub failed : answer ≡ Err (refused.Fault VolumeFailed) → failures_of old < failures_of new
+    -- there is no room where it says so
+    pub full : answer ≡ Err (refused.Refusal VolumeFull) → ¬ HasRoomFor (recorded old) command
+    -- where nothing was done, nothing is recorded, and the database was not called
+    pub unchanged : may_change answer ≡ false → (recorded new ≡ recorded old) × (new.store ≡ old.store)
+    -- what is known in memory goes on
+    pub order : stays_open answer ≡ true → KeepsOrder new
+
+  -- What a command does and leaves, where the volume tells its images and the database was honest to the end.
+  abbrev pub HasServed : Ghosts S → Holdings V S g → Command → ℕ → Result Reply Refused → Holdings V S g → Type 0
+  HasServed database old command now answer new =
+      Serves (recorded old) (image_of old) command now (answer_of command answer) (stays_open answer) (recorded new) (image_of new)
+      (stored database old).may_leave (left_since old new) (stored database new).may_leave (left_by new)

@@ -1,0 +1,10 @@
+use Rattle.custody_records.specs.Held.{records_of}
+use Rattle.custody_machine.proofs.PlainSteps.{read_of}
+use Rattle.custody_rules.proofs.Judged.{refuses_text}
+use Rattle.custody_rules.proofs.judge.judge_part.Goals as goal
+
+pub returns-in-Ok : goal.returns-in-Ok
+returns-in-Ok c = c.judge_named.ensures c.args.name.now (read_of c.args.name.now c.in-Ok.name c.in-Ok.ensures.name)
+
+pub returns-in-Err : goal.returns-in-Err
+returns-in-Err c = refuses_text (records_of c.args.records.now) c.args.name.now c.args.len c.args.now c.in-Err.fault c.in-Err.ensures.fault

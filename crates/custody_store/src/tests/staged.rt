@@ -1,0 +1,110 @@
+//! Parts whose bytes a vault staged are read back as they were staged.
+use super::registry;
+use crate::{Store, StoreFault};
+use custody_records::{PartKey, Records};
+use deposit_name::DepositName;
+use schedule::Sec;
+use sqlite::{Alter, Connection};
+use std::alloc::Global;
+use std::test::Fail;
+use vault_volume::{Extent, MemVolume, Vault, Volume};
+
+/// A part that is inserted, and what is to be read back of it.
+#[derive(Clone, Copy)]
+struct Staging {
+    name: &'static [u8],
+    at: i64,
+    bytes: &'static [u8],
+    sha: &'static [u8],
+    extent: Extent,
+}
+
+// The digests are those that another program gave for these bytes.
+const SHORT: Staging = Staging {
+    name: b"example_2026-08-02_full_S1_R0.ryde",
+    at: 1785664800,
+    bytes: b"short",
+    sha: b"f9b0078b5df596d2ea19010c001bbd009e651de2c57e8fb7e355f31eb9d3f739",
+    extent: Extent { start: 1, count: 1 },
+};
+
+const LONG: Staging = Staging {
+    name: b"example_2026-08-02_full_S2_R0.ryde",
+    at: 1785664861,
+    bytes: &[b'l'; 9000],
+    sha: b"a568800b83b523403431fef02d6d742ee9dd732f2c12e73eb31ecebf4ce1a20f",
+    extent: Extent { start: 2, count: 3 },
+};
+
+type Inserted = Result<(Vec<Extent>, u32, [u8; 32]), StoreFault>;
+
+/// Stages the bytes and adds a part of them.
+fn insert<S: Alter>(
+    alloc: Global,
+    store: &mut Store<S>,
+    vault: &mut Vault<MemVolume>,
+    staging: &Staging,
+) -> Result<Inserted, Fail> {
+    let name = DepositName::parse(staging.name).ok().ok_or("a name")?;
+    let at = Sec::new(staging.at).ok_or("a moment")?;
+    let bytes = staging.bytes;
+    if bytes.is_empty() || bytes.len() > 1_048_576 || vault.volume().failures() > 0 {
+        return Err("not to be staged")?;
+    }
+    let staged = vault.stage(alloc, bytes)?;
+    Ok(store.insert_part(&name, at, staged))
+}
+
+/// Whether what was handed back is what was staged.
+fn is_handed_back(inserted: &Inserted, staging: &Staging) -> bool {
+    match inserted {
+        Ok(handed) => is_staged(&handed.0, handed.1, &handed.2, staging),
+        Err(_) => false,
+    }
+}
+
+fn is_staged(extents: &[Extent], len: u32, digest: &[u8; 32], staging: &Staging) -> bool {
+    let mut digits = [0; 64];
+    let is_shown = hex::encode_to_slice(digest, &mut digits).is_ok();
+    let is_whole = is_shown
+        & (digits.as_slice() == staging.sha)
+        & (len as usize == staging.bytes.len());
+    is_whole && extents == [staging.extent].as_slice()
+}
+
+/// Whether the records have the part.
+fn is_recorded(records: &Records, staging: &Staging) -> Result<bool, Fail> {
+    let name = DepositName::parse(staging.name).ok().ok_or("a name")?;
+    let at = Sec::new(staging.at).ok_or("a moment")?;
+    let part = records.part(&PartKey::of(&name)).ok_or("a part")?;
+    let extents = part.extents.as_ref().ok_or("extents")?;
+    let is_named = (part.name == name) & (part.received == at);
+    Ok(is_named && is_staged(extents, part.len, &part.digest, staging))
+}
+
+/// Whether the records are these two parts.
+fn are_both<S: Alter>(alloc: Global, store: &mut Store<S>) -> Result<bool, Fail> {
+    let records = store.load(alloc).ok().ok_or("records")?;
+    let are_recorded = is_recorded(&records, &SHORT)? & is_recorded(&records, &LONG)?;
+    Ok(are_recorded & (records.parts().len() == 2))
+}
+
+#[test]
+fn staged_parts(rt: HostRuntime) -> Result<(), Fail> {
+    let alloc = rt.alloc();
+    let mut store = Store::over(Connection::open_in_memory(alloc)?);
+    let is_made = store.create(0xab, 8).is_ok() & store.insert_registry(&registry()?).is_ok();
+    let mut vault = Vault::over(MemVolume::new(alloc, 8, 16, 8)?, 1);
+    let short = insert(alloc, &mut store, &mut vault, &SHORT)?;
+    let long = insert(alloc, &mut store, &mut vault, &LONG)?;
+    assert!(rt; is_made & is_handed_back(&short, &SHORT) & is_handed_back(&long, &LONG));
+    assert!(rt; are_both(alloc, &mut store)?);
+    let again = Staging {
+        bytes: b"other",
+        ..SHORT
+    };
+    let again = insert(alloc, &mut store, &mut vault, &again)?;
+    assert_eq!(rt; again.err(), Some(StoreFault::Failed));
+    assert!(rt; are_both(alloc, &mut store)?);
+    Ok(())
+}
