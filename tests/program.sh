@@ -3,6 +3,7 @@
 #
 #   tests/program.sh [PROGRAM]
 #
+# With KILLS=N in the environment N puts are killed, and N/4 calls of init; else 120 and 30.
 # PROGRAM is crates/escrow/out/escrow where it is not named. `./demo` builds it. Where there is no sqlite3 or
 # setpriv, or no tmpfs can be mounted, what needs it is left out, and a line says so.
 set -u
@@ -279,11 +280,11 @@ else
 fi
 
 echo "== killed at any moment"
-vault k 400
+kills=${KILLS:-120}
+vault k $((kills + 2))
 start=$(date +%s%N)
 "$program" state k > /dev/null
 span=$((($(date +%s%N) - start) / 1000000 + 5))
-kills=${KILLS:-120}
 day=20667
 acknowledged=0
 attempts=0
@@ -320,6 +321,24 @@ for n in $(seq 1 "$kills"); do
         expect 0 "received $part $(stat -c %s "in/$part") ${date}T12:00:00Z" "" put k "in/$part" --now 2030-01-01T00:00:00Z
     fi
     rm "in/$part"
+done
+
+for n in $(seq 1 $((kills / 4))); do
+    rm -rf n
+    mkdir n
+    "$program" init n --blocks 8 --number 0000000000000001 > reply 2> /dev/null &
+    child=$!
+    sleep "$(awk -v s=$span -v r=$RANDOM 'BEGIN { printf "%.4f", 2.5 * s * r / 32768 / 1000 }')"
+    kill -9 $child 2> /dev/null
+    wait $child 2> /dev/null
+    "$program" init n --blocks 8 --number 0000000000000001 > again 2> again.err
+    status=$?
+    if [ -s reply ]; then
+        check "a vault that was acknowledged is there" test $status = 1
+    else
+        check "an init that was killed is done again, or was done" grep -qx "ready 8 0000000000000001\|I1 already initialised" again again.err
+    fi
+    expect 0 "free 7 of 7" "" state n
 done
 
 echo "== the database is SQLite's"
