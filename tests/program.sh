@@ -115,12 +115,30 @@ part $name0 1048576 held $ten
 free 43 of 299" "" state big
 check "the bytes lie in the volume" cmp -s <(tail -c +4097 big/vault.vol | head -c 1048576) sizes/$name0
 
+echo "== the moment of the clock"
+today=$(date -u +%F)
+part=clock_${today}_full_S1_R0.ryde
+printf hello > "in/$part"
+expect 0 "registered clock $today" "" register d clock --first "$today"
+before=$(date -u +%FT%TZ)
+"$program" put d "in/$part" > reply
+after=$(date -u +%FT%TZ)
+moment=$(sed -n "s/^received $part 5 //p" reply)
+check "it is the moment of the call" test -n "$moment" -a ! "$moment" '<' "$before" -a ! "$moment" '>' "$after"
+"$program" state d > state.out
+check "it is recorded" grep -qx "part $part 5 held $moment" state.out
+rm -r d
+vault d 8
+expect 0 "$received" "" put d in/$name0 --now $ten
+
 echo "== words, and the order of faults"
 expect 2 "" "bad value for NOW" put nowhere nofile --now 10:00
 expect 3 "" "file failed: nofile: file missing" put nowhere nofile
 expect 3 "" "file failed: in: Is a directory (os error 21)" put nowhere in
-expect 3 "" "file failed: nowhere/vault.vol: file missing" put nowhere in/$name0
-expect 3 "" "file failed: nowhere/vault.vol: file missing" state nowhere
+expect 3 "" "file failed: nowhere: file missing" put nowhere in/$name0
+expect 3 "" "file failed: nowhere: file missing" state nowhere
+expect 3 "" "file failed: : file missing" state ""
+expect 3 "" "file failed: : file missing" init "" --blocks 8 --number 0000000000000001
 expect 3 "" "file failed: nowhere: file missing" init nowhere --blocks 8 --number 0000000000000001
 check "an init makes no folder" test ! -e nowhere
 compare 2 "" "error: an argument is no text" "words that are no text" "$program" $'\xff'

@@ -38,6 +38,7 @@ pub fn read_file(rt: &HostRuntime, path: &str) -> Result<Vec<u8>, Stop> {
 pub fn find(rt: &HostRuntime, folder: &str) -> Result<(FileVolume, Database), Stop>
     ensures { IfOk result (λ files. ⟦<FileVolume as Volume>⟧.failures files.0 ≡ 0) }
 {
+    there(rt, String::from_str(rt.alloc(), folder)?)?;
     let volume = open_volume(rt, folder)?;
     let path = there(rt, database_path(rt.alloc(), folder)?)?;
     let db = open_database(rt, path)?;

@@ -7,6 +7,7 @@ mod stop;
 
 use agent_cli::{Line, Order, VolumeNumber, WordFault, act, order_of, print_line, tell_init};
 use custody::Custody;
+use custody_machine::Fault;
 use files::{FileCustody, close, find, make, read_file};
 use schedule::Sec;
 use std::env;
@@ -39,7 +40,9 @@ fn tell_stop(rt: &HostRuntime, stop: &Stop) -> u8 {
 
 /// Makes the two files of a folder, and the vault in them.
 fn init(rt: &HostRuntime, folder: &str, blocks: u32, number: VolumeNumber) -> Result<u8, Stop> {
-    let mut out = BufWriter::new(rt.alloc(), io::writer(rt))?;
+    let mut out = BufWriter::new(rt.alloc(), io::writer(rt)).map_err(|_| Stop::Fault(
+        Fault::NoMemory,
+    ))?;
     let (volume, db) = make(rt, folder, blocks)?;
     match Custody::init(rt.alloc(), volume, db, number.get()) {
         Ok(custody) => {
@@ -68,7 +71,9 @@ fn work(
     file: &[u8],
     now: Sec,
 ) -> Result<u8, Stop> {
-    let mut out = BufWriter::new(rt.alloc(), io::writer(rt))?;
+    let mut out = BufWriter::new(rt.alloc(), io::writer(rt)).map_err(|_| Stop::Fault(
+        Fault::NoMemory,
+    ))?;
     let mut custody = open(rt, folder)?;
     let mut err = rt.stderr();
     let status = act(

@@ -62,9 +62,3 @@ impl From<AllocError> for Stop {
         Stop::Fault(Fault::NoMemory)
     }
 }
-
-impl From<io::Error> for Stop {
-    fn from(_error: io::Error) -> Stop {
-        Stop::Fault(Fault::NoMemory)
-    }
-}
