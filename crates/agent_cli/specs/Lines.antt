@@ -7,6 +7,9 @@ use Rattle.agent_cli.specs.Forms.{number_text}
 use Rattle.agent_cli.specs.declared.lines.Line.{Line}
 use Rattle.agent_cli.specs.declared.lines.Line.TheVariants.{Ready, Registered, Received, Registry, Part, Dropped, Room}
 
+abbrev pub room_text : ℕ → ℕ → List ℕ
+room_text free total = codes "free " ++ decimal free ++ codes " of " ++ decimal total
+
 abbrev pub line_text : Line → List ℕ
 line_text (Ready blocks number) = codes "ready " ++ decimal blocks ++ codes " " ++ number_text number
 line_text (Registered tld first) = codes "registered " ++ tld ++ codes " " ++ day_text first
@@ -17,4 +20,4 @@ line_text (Part name length at) =
     codes "part " ++ name_text name ++ codes " " ++ decimal length ++ codes " held " ++ moment_text at
 line_text (Dropped name length at) =
     codes "part " ++ name_text name ++ codes " " ++ decimal length ++ codes " dropped " ++ moment_text at
-line_text (Room free total) = codes "free " ++ decimal free ++ codes " of " ++ decimal total
+line_text (Room free total) = room_text free total

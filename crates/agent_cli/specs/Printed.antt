@@ -15,6 +15,14 @@ use Rattle.agent_cli.specs.declared.lines.Line.TheVariants as line
 abbrev pub Prints : Option (List ℕ) → Option (List ℕ) → List ℕ → Type 0
 Prints before after text = Appends before after (text ++ 10 ∷ [])
 
+-- what a writer holds grows
+abbrev pub Grows : Option (List ℕ) → Option (List ℕ) → Type 0
+Grows before after = (text : List ℕ) × Appends before after text
+
+-- what a writer holds grows, and ends in the text as a line
+abbrev pub EndsIn : List ℕ → Option (List ℕ) → Option (List ℕ) → Type 0
+EndsIn text before after = (first : List ℕ) × Prints before after (first ++ text)
+
 abbrev pub line_of : Record → Line
 line_of (record_of.Registry tld first_day) = line.Registered tld first_day
 line_of (record_of.Part name received len) = line.Received name len received

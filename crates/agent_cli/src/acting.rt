@@ -1,7 +1,7 @@
 //! What an order does to the agent of a folder, and what is printed of it.
 ghost use Rattle.std.specs.Prelude.{◌≡◌, OnOk, IfSome, IsErr};
 ghost use Rattle.custody.specs.Answers.{init_error_text};
-ghost use Rattle.agent_cli.specs.Acts.{Acts};
+ghost use Rattle.agent_cli.specs.Acts.{Acts, IsShown};
 ghost use Rattle.agent_cli.specs.Lines.{line_text};
 ghost use Rattle.agent_cli.specs.Printed.{IsTold, Prints, line_of};
 ghost use Rattle.agent_cli.specs.Statuses.{IsStatus, IsStatusAfter, answer_status, init_status};
@@ -118,7 +118,8 @@ fn show<V: Volume, S: Alter, W: Write, E: Write>(
     out: &mut W,
     err: &mut E,
 ) -> u8
-    ensures { IsStatus result }
+    ensures status { IsStatus result }
+    ensures shown { result ≡ 0 → IsShown custody.now (Prints (W.contents out.old) (W.contents out.new)) }
 {
     let records = match custody.records() {
         Ok(records) => records,

@@ -1,4 +1,9 @@
 //! The records, as they are printed.
+ghost use Rattle.std.specs.Prelude.{OnOk};
+ghost use Rattle.std.specs.Io.KnownBytes.{Appends};
+ghost use Rattle.agent_cli.specs.Lines.{room_text};
+ghost use Rattle.agent_cli.specs.Printed.{EndsIn, Grows};
+
 use crate::Line;
 use custody_records::{Part, Records};
 use deposit_name::Tld;
@@ -10,7 +15,9 @@ pub(crate) fn print_state<W: Write>(
     free: u32,
     total: u32,
     out: &mut W,
-) -> io::Result<()> {
+) -> io::Result<()>
+    ensures { OnOk result (EndsIn (room_text free total) (W.contents out.old) (W.contents out.new)) }
+{
     let mut parts = records.parts();
     for registry in records.registries() {
         let tld = registry.tld;
@@ -27,7 +34,9 @@ pub(crate) fn print_state<W: Write>(
 }
 
 /// Prints the parts of the registry, which come first, and answers the others.
-fn print_parts<'a, W: Write>(parts: &'a [Part], tld: &Tld, out: &mut W) -> io::Result<&'a [Part]> {
+fn print_parts<'a, W: Write>(parts: &'a [Part], tld: &Tld, out: &mut W) -> io::Result<&'a [Part]>
+    ensures { OnOk result (Grows (W.contents out.old) (W.contents out.new)) }
+{
     let mut count = 0;
     for part in parts {
         if part.name.tld != *tld {
