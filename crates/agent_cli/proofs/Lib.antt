@@ -3,3 +3,4 @@ pub mod FormLemmas
 pub mod OneReading
 pub mod PathLemmas
 pub mod Readings
+mod PrintLemmas

@@ -5,7 +5,10 @@ use Rattle.schedule.specs.Text.{day_text, moment_text}
 use Rattle.deposit_name.specs.Name.{name_text}
 use Rattle.agent_cli.specs.Forms.{number_text}
 use Rattle.agent_cli.specs.declared.lines.Line.{Line}
-use Rattle.agent_cli.specs.declared.lines.Line.TheVariants.{Ready, Registered, Received, Registry, Part, Room}
+use Rattle.agent_cli.specs.declared.lines.Line.TheVariants.{Ready, Registered, Received, Registry, Part, Dropped, Room}
+
+abbrev pub room_text : ℕ → ℕ → List ℕ
+room_text free total = codes "free " ++ decimal free ++ codes " of " ++ decimal total
 
 abbrev pub line_text : Line → List ℕ
 line_text (Ready blocks number) = codes "ready " ++ decimal blocks ++ codes " " ++ number_text number
@@ -15,4 +18,6 @@ line_text (Received name length at) =
 line_text (Registry tld first) = codes "registry " ++ tld ++ codes " " ++ day_text first
 line_text (Part name length at) =
     codes "part " ++ name_text name ++ codes " " ++ decimal length ++ codes " held " ++ moment_text at
-line_text (Room free total) = codes "free " ++ decimal free ++ codes " of " ++ decimal total
+line_text (Dropped name length at) =
+    codes "part " ++ name_text name ++ codes " " ++ decimal length ++ codes " dropped " ++ moment_text at
+line_text (Room free total) = room_text free total

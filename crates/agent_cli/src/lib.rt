@@ -1,17 +1,21 @@
-//! The command line of `escrow`: what the words of a call ask for, and the lines of replies.
+//! The command line of `escrow`: what the words of a call ask for, what is done for an order, and the
+//! lines that are printed.
 #![tactic(auto)]
 
+mod acting;
 mod commands;
 mod laws;
 mod lines;
 mod number;
 mod order;
 mod paths;
+mod state;
 #[cfg(test)]
 mod tests;
 mod values;
 mod words;
 
+pub use acting::{act, print_line, tell, tell_init};
 pub use laws::law_orders;
 pub use lines::Line;
 pub use number::VolumeNumber;

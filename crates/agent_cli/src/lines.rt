@@ -37,6 +37,12 @@ pub enum Line {
         length: u32,
         at: Sec,
     },
+    /// A part of the records whose bytes are dropped.
+    Dropped {
+        name: DepositName,
+        length: u32,
+        at: Sec,
+    },
     /// The free blocks, of all but the head's.
     Room {
         free: u32,
@@ -54,6 +60,7 @@ impl fmt::Display for Line {
             Line::Received { name, length, at } => write!(f, "received {name} {length} {at}"),
             Line::Registry { tld, first } => write!(f, "registry {tld} {first}"),
             Line::Part { name, length, at } => write!(f, "part {name} {length} held {at}"),
+            Line::Dropped { name, length, at } => write!(f, "part {name} {length} dropped {at}"),
             Line::Room { free, total } => write!(f, "free {free} of {total}"),
         }
     }

@@ -1,5 +1,6 @@
 //! Worked words, the texts of help, and lines.
 mod help;
+mod rows;
 
 use crate::{Argument, Line, Order, VolumeNumber, WordFault, last_part, order_of};
 use deposit_name::{DepositName, Tld};

@@ -22,3 +22,7 @@ returns-in-Registry-clause-writes g c = λ plain ok.
 pub returns-in-Part-clause-writes : goal.returns-in-Part-clause-writes
 returns-in-Part-clause-writes g c = λ plain ok.
     has_written_of_eq _ _ _ _ _ (ap line_text (sym c.in-Part.is)) (has_written_of_eq _ _ _ _ _ (simp append_assoc) (c.write-in-Part.ensures.writes plain ok))
+
+pub returns-in-Dropped-clause-writes : goal.returns-in-Dropped-clause-writes
+returns-in-Dropped-clause-writes g c = λ plain ok.
+    has_written_of_eq _ _ _ _ _ (ap line_text (sym c.in-Dropped.is)) (has_written_of_eq _ _ _ _ _ (simp append_assoc) (c.write-in-Dropped.ensures.writes plain ok))

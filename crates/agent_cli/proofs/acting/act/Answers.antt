@@ -1,0 +1,8 @@
+use Rattle.std.proofs.Common.{sym}
+use Rattle.agent_cli.proofs.acting.act.Goals as goal
+
+-- The name that the command has is the path's.
+pub returns-in-Put-clause-acts : goal.returns-in-Put-clause-acts
+returns-in-Put-clause-acts g c =
+    rw c.in-Put.is (rw (sym c.last_part.ensures)
+    (c.apply-answer-in-Put.result, c.apply-answer-in-Put.ensures, c.print_answer-in-Put.ensures.status, c.print_answer-in-Put.ensures.told))

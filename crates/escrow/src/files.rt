@@ -1,0 +1,140 @@
+//! The files: the two of a vault's folder, and the file that is put.
+ghost use Rattle.std.specs.Prelude.{◌≡◌, IfOk};
+ghost use Rattle.vault_volume.specs.declared.file.FileVolume.{FileVolume};
+
+use crate::stop::Stop;
+use custody::{Custody, has_record};
+use custody_machine::Fault;
+use sqlite::{Connection, Error, ErrorCode, File, FileStore};
+use std::alloc::{AllocError, Global};
+use std::fs;
+use std::io::Read;
+use vault_volume::{FileError, FileVolume, Volume};
+
+/// The database in a file.
+pub type Database = Connection<FileStore<File>>;
+
+/// A vault over two files.
+pub type FileCustody = Custody<FileVolume, FileStore<File>>;
+
+/// One byte more than a part may have: of a longer file no more is read, and it is refused for its size.
+const READ_BYTES: u64 = 1_048_577;
+
+/// Reads the file that is put.
+pub fn read_file(rt: &HostRuntime, path: &str) -> Result<Vec<u8>, Stop> {
+    let path = String::from_str(rt.alloc(), path)?;
+    let file = match fs::File::open(rt, path.as_str()) {
+        Ok(file) => file,
+        Err(error) => return Err(Stop::by_file(path, error)),
+    };
+    let mut bytes = Vec::new(rt.alloc());
+    match file.take(READ_BYTES).read_to_end(&mut bytes) {
+        Ok(_) => Ok(bytes),
+        Err(error) => Err(Stop::by_file(path, error)),
+    }
+}
+
+/// Opens the two files of a folder, which have to be there.
+pub fn find(rt: &HostRuntime, folder: &str) -> Result<(FileVolume, Database), Stop>
+    ensures { IfOk result (λ files. ⟦<FileVolume as Volume>⟧.failures files.0 ≡ 0) }
+{
+    there(rt, String::from_str(rt.alloc(), folder)?)?;
+    let volume = open_volume(rt, folder)?;
+    let path = there(rt, database_path(rt.alloc(), folder)?)?;
+    let db = open_database(rt, path)?;
+    Ok((volume, db))
+}
+
+/// Makes the two files of a folder. A volume of which the database has a record is left as it is.
+pub fn make(rt: &HostRuntime, folder: &str, blocks: u32) -> Result<(FileVolume, Database), Stop>
+    ensures { IfOk result (λ files. ⟦<FileVolume as Volume>⟧.failures files.0 ≡ 0) }
+{
+    there(rt, String::from_str(rt.alloc(), folder)?)?;
+    let path = database_path(rt.alloc(), folder)?;
+    let mut db = open_database(rt, path)?;
+    let volume = match has_record(&mut db) {
+        Ok(true) => open_volume(rt, folder)?,
+        Ok(false) => create_volume(rt, folder, blocks)?,
+        Err(fault) => return Err(Stop::Fault(fault)),
+    };
+    Ok((volume, db))
+}
+
+/// Closes a vault. What was acknowledged is kept also where the database's log cannot be copied.
+pub fn close(custody: FileCustody) {
+    let (volume, db) = custody.close();
+    let _ = db.close();
+    drop(volume);
+}
+
+/// The path, where something is there.
+fn there(rt: &HostRuntime, path: String) -> Result<String, Stop> {
+    match fs::metadata(rt, path.as_str()) {
+        Ok(_) => Ok(path),
+        Err(error) => Err(Stop::by_file(path, error)),
+    }
+}
+
+/// Settles the names of the files in a folder.
+fn sync_folder(rt: &HostRuntime, folder: &str) -> Result<(), Stop> {
+    let path = String::from_str(rt.alloc(), folder)?;
+    let synced = match fs::File::open(rt, folder) {
+        Ok(opened) => opened.sync_all(),
+        Err(error) => Err(error),
+    };
+    match synced {
+        Ok(()) => Ok(()),
+        Err(error) => Err(Stop::by_file(path, error)),
+    }
+}
+
+fn database_path(alloc: Global, folder: &str) -> Result<String, AllocError> {
+    format!(in alloc; "{folder}/custody.db")
+}
+
+fn volume_path(alloc: Global, folder: &str) -> Result<String, AllocError> {
+    format!(in alloc; "{folder}/vault.vol")
+}
+
+fn open_volume(rt: &HostRuntime, folder: &str) -> Result<FileVolume, Stop>
+    ensures { IfOk result (λ v. ⟦<FileVolume as Volume>⟧.failures v ≡ 0) }
+{
+    let path = volume_path(rt.alloc(), folder)?;
+    match FileVolume::open(rt, path.as_str()) {
+        Ok(volume) => Ok(volume),
+        Err(cause) => Err(Stop::File { path, cause }),
+    }
+}
+
+fn create_volume(rt: &HostRuntime, folder: &str, blocks: u32) -> Result<FileVolume, Stop>
+    ensures { IfOk result (λ v. ⟦<FileVolume as Volume>⟧.failures v ≡ 0) }
+{
+    let path = volume_path(rt.alloc(), folder)?;
+    match FileVolume::create(rt, path.as_str(), blocks) {
+        Ok(volume) => {
+            sync_folder(rt, folder)?;
+            Ok(volume)
+        }
+        Err(cause) => Err(Stop::File { path, cause }),
+    }
+}
+
+/// Opens a database, and makes it where it is not there.
+fn open_database(rt: &HostRuntime, path: String) -> Result<Database, Stop> {
+    match Connection::open(rt, path.as_str()) {
+        Ok(db) => Ok(db),
+        Err(error) => Err(stop_of(path, error)),
+    }
+}
+
+fn stop_of(path: String, error: Error) -> Stop {
+    match error {
+        Error::SqliteFailure(ErrorCode::DatabaseBusy) => Stop::File {
+            path,
+            cause: FileError::Locked,
+        },
+        Error::SqliteFailure(ErrorCode::CannotOpen) => Stop::Database { path, cause: error },
+        Error::SqliteFailure(ErrorCode::OutOfMemory) => Stop::Fault(Fault::NoMemory),
+        _ => Stop::Fault(Fault::StoreFailed),
+    }
+}

@@ -1,0 +1,130 @@
+//! The program `escrow`: a registry data escrow agent over the two files of a folder.
+#![tactic(auto)]
+
+mod clock;
+mod files;
+mod stop;
+
+use agent_cli::{Line, Order, VolumeNumber, WordFault, act, order_of, print_line, tell_init};
+use custody::Custody;
+use custody_machine::Fault;
+use files::{FileCustody, close, find, make, read_file};
+use schedule::Sec;
+use std::env;
+use std::io::{self, BufWriter};
+use std::process::ExitCode;
+use stop::Stop;
+
+/// The exit status of output that cannot be written.
+const UNWRITTEN: u8 = 3;
+
+/// Prints the text of words that are no order, help among them, and answers the status.
+fn tell_words(rt: &HostRuntime, fault: &WordFault) -> u8 {
+    let printed = match fault {
+        WordFault::Words(error) => error.print(rt),
+        _ => eprint!(rt; "{fault}"),
+    };
+    match printed {
+        Ok(()) => fault.status(),
+        Err(_) => UNWRITTEN,
+    }
+}
+
+/// Prints the line of a stop, and answers the status.
+fn tell_stop(rt: &HostRuntime, stop: &Stop) -> u8 {
+    match eprintln!(rt; "{stop}") {
+        Ok(()) => stop.status(),
+        Err(_) => UNWRITTEN,
+    }
+}
+
+/// Makes the two files of a folder, and the vault in them.
+fn init(rt: &HostRuntime, folder: &str, blocks: u32, number: VolumeNumber) -> Result<u8, Stop> {
+    let mut out = BufWriter::new(rt.alloc(), io::writer(rt)).map_err(|_| Stop::Fault(
+        Fault::NoMemory,
+    ))?;
+    let (volume, db) = make(rt, folder, blocks)?;
+    match Custody::init(rt.alloc(), volume, db, number.get()) {
+        Ok(custody) => {
+            let status = print_line(&Line::Ready { blocks, number }, &mut out);
+            close(custody);
+            Ok(status)
+        }
+        Err((error, _, _)) => Ok(tell_init(&error, &mut rt.stderr())),
+    }
+}
+
+/// Opens the vault of a folder, from its two files.
+fn open(rt: &HostRuntime, folder: &str) -> Result<FileCustody, Stop> {
+    let (volume, db) = find(rt, folder)?;
+    match Custody::open(rt.alloc(), volume, db) {
+        Ok(custody) => Ok(custody),
+        Err((fault, _, _)) => Err(Stop::Fault(fault)),
+    }
+}
+
+/// Carries out an order on the vault of a folder.
+fn work(
+    rt: &HostRuntime,
+    folder: &str,
+    order: &Order<'_>,
+    file: &[u8],
+    now: Sec,
+) -> Result<u8, Stop> {
+    let mut out = BufWriter::new(rt.alloc(), io::writer(rt)).map_err(|_| Stop::Fault(
+        Fault::NoMemory,
+    ))?;
+    let mut custody = open(rt, folder)?;
+    let mut err = rt.stderr();
+    let status = act(
+        rt.alloc(),
+        &mut custody,
+        order,
+        file,
+        now,
+        &mut out,
+        &mut err,
+    );
+    close(custody);
+    Ok(status)
+}
+
+fn carry_out(rt: &HostRuntime, order: &Order<'_>) -> Result<u8, Stop> {
+    match order {
+        Order::Init {
+            folder,
+            blocks,
+            number,
+        } => init(rt, folder, *blocks, *number),
+        Order::Register { folder, .. } | Order::State { folder } => {
+            work(rt, folder, order, &[], clock::now(rt)?)
+        }
+        Order::Put { folder, file, now } => {
+            let bytes = read_file(rt, file)?;
+            let now = match now {
+                Some(now) => *now,
+                None => clock::now(rt)?,
+            };
+            work(rt, folder, order, &bytes, now)
+        }
+    }
+}
+
+fn run(rt: &HostRuntime) -> Result<u8, Stop> {
+    let words = match env::args(rt) {
+        Ok(words) => words.collect::<Vec<String>>(rt.alloc())?,
+        Err(_) => return Err(Stop::Words),
+    };
+    match order_of(rt.alloc(), words.as_slice()) {
+        Ok(order) => carry_out(rt, &order),
+        Err(fault) => Ok(tell_words(rt, &fault)),
+    }
+}
+
+fn main(rt: HostRuntime) -> ExitCode {
+    let status = match run(&rt) {
+        Ok(status) => status,
+        Err(stop) => tell_stop(&rt, &stop),
+    };
+    ExitCode::from(status)
+}

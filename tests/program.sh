@@ -1,0 +1,396 @@
+#!/bin/bash
+# Runs the built program over real files, and compares what it prints and its exit status.
+#
+#   tests/program.sh [PROGRAM]
+#
+# With KILLS=N in the environment N puts are killed, and N/4 calls of init; else 120 and 30.
+# PROGRAM is crates/escrow/out/escrow where it is not named. `./demo` builds it. Where there is no sqlite3 or
+# setpriv, or no tmpfs can be mounted, what needs it is left out, and a line says so.
+set -u
+top=$(cd "$(dirname "$0")/.." && pwd)
+program=$(realpath "${1:-$top/crates/escrow/out/escrow}")
+[ -x "$program" ] || { echo "no program at $program: run ./demo"; exit 2; }
+work=$(mktemp -d)
+chmod 755 "$work"
+trap 'umount "$work/small" 2>/dev/null; rm -rf "$work"' EXIT
+cd "$work" || exit 2
+passed=0
+failed=0
+
+ok() { passed=$((passed + 1)); }
+
+no() {
+    failed=$((failed + 1))
+    printf 'FAILED: %s\n' "$1"
+    shift
+    printf '    %s\n' "$@"
+}
+
+skip() { echo "left out: $1"; }
+
+# expect STATUS OUT ERR WORDS..: runs the program on the words. OUT and ERR are the texts without their last line feed.
+expect() {
+    local status=$1 out=$2 err=$3
+    shift 3
+    compare "$status" "$out" "$err" "$*" "$program" "$@"
+}
+
+# compare STATUS OUT ERR TITLE COMMAND..
+compare() {
+    local status=$1 out=$2 err=$3 title=$4 got
+    shift 4
+    "$@" > "$work/out" 2> "$work/err"
+    got=$?
+    if [ "$got" = "$status" ] && same "$out" "$work/out" && same "$err" "$work/err"; then
+        ok
+    else
+        no "$title" "status $got, wanted $status" "out: $(cat "$work/out")" "err: $(cat "$work/err")" "wanted: $out$err"
+    fi
+}
+
+# Whether the file is the text and a line feed, or empty as the text is.
+same() { if [ -z "$1" ]; then [ ! -s "$2" ]; else printf '%s\n' "$1" | cmp -s - "$2"; fi; }
+
+check() {
+    local title=$1
+    shift
+    if "$@"; then ok; else no "$title" "$*"; fi
+}
+
+digest() { sha256sum "$@" | sha256sum; }
+
+# A vault in a new folder, with the registry example.
+vault() {
+    mkdir "$1"
+    expect 0 "ready $2 0000000000000001" "" init "$1" --blocks "$2" --number 0000000000000001
+    expect 0 "registered example 2026-08-02" "" register "$1" example --first 2026-08-02
+}
+
+name0=example_2026-08-02_full_S1_R0.ryde
+ten=2026-08-02T10:00:00Z
+received="received $name0 5 $ten"
+registry="registry example 2026-08-02"
+held="part $name0 5 held $ten"
+mkdir in other
+printf hello > in/$name0
+printf hellp > other/$name0
+
+echo "== one part, received once"
+vault d 8
+expect 0 "$received" "" put d in/$name0 --now $ten
+expect 0 "$registry
+$held
+free 6 of 7" "" state d
+expect 0 "$received" "" put d in/$name0 --now 2026-08-02T11:00:00Z
+expect 0 "$received" "" put d in/$name0
+expect 1 "" "Q5 other bytes under this name" put d other/$name0 --now $ten
+expect 0 "$registry
+$held
+free 6 of 7" "" state d
+expect 0 "registered example 2026-08-02" "" register d example --first 2027-01-01
+
+echo "== parts that are refused"
+printf world > in/example_2026-08-02_full_S3_R0.ryde
+printf world > in/example_2026-08-01_full_S1_R0.ryde
+printf world > in/other_2026-08-02_full_S1_R0.ryde
+printf world > in/example_2026-08-02_full_S1_R01.ryde
+expect 1 "" "Q10 part out of order" put d in/example_2026-08-02_full_S3_R0.ryde --now $ten
+expect 1 "" "Q3 date out of range" put d in/example_2026-08-01_full_S1_R0.ryde --now $ten
+expect 1 "" "Q2 registry unknown" put d in/other_2026-08-02_full_S1_R0.ryde --now $ten
+expect 1 "" "Q1 N6 name refused" put d in/example_2026-08-02_full_S1_R01.ryde --now $ten
+vault big 300
+mkdir sizes
+: > sizes/$name0
+expect 1 "" "Q4 size" put big sizes/$name0 --now $ten
+head -c 1048577 /dev/zero > sizes/$name0
+expect 1 "" "Q4 size" put big sizes/$name0 --now $ten
+truncate -s 20G sizes/$name0
+expect 1 "" "Q4 size" put big sizes/$name0 --now $ten
+rm sizes/$name0
+head -c 1048576 /dev/urandom > sizes/$name0
+expect 0 "received $name0 1048576 $ten" "" put big sizes/$name0 --now $ten
+expect 0 "received $name0 1048576 $ten" "" put big sizes/$name0 --now $ten
+expect 0 "$registry
+part $name0 1048576 held $ten
+free 43 of 299" "" state big
+check "the bytes lie in the volume" cmp -s <(tail -c +4097 big/vault.vol | head -c 1048576) sizes/$name0
+
+echo "== the moment of the clock"
+today=$(date -u +%F)
+part=clock_${today}_full_S1_R0.ryde
+printf hello > "in/$part"
+expect 0 "registered clock $today" "" register d clock --first "$today"
+before=$(date -u +%FT%TZ)
+"$program" put d "in/$part" > reply
+after=$(date -u +%FT%TZ)
+moment=$(sed -n "s/^received $part 5 //p" reply)
+check "it is the moment of the call" test -n "$moment" -a ! "$moment" '<' "$before" -a ! "$moment" '>' "$after"
+"$program" state d > state.out
+check "it is recorded" grep -qx "part $part 5 held $moment" state.out
+rm -r d
+vault d 8
+expect 0 "$received" "" put d in/$name0 --now $ten
+
+echo "== words, and the order of faults"
+expect 2 "" "bad value for NOW" put nowhere nofile --now 10:00
+expect 3 "" "file failed: nofile: file missing" put nowhere nofile
+expect 3 "" "file failed: in: Is a directory (os error 21)" put nowhere in
+expect 3 "" "file failed: nowhere: file missing" put nowhere in/$name0
+expect 3 "" "file failed: nowhere: file missing" state nowhere
+expect 3 "" "file failed: : file missing" state ""
+expect 3 "" "file failed: : file missing" init "" --blocks 8 --number 0000000000000001
+expect 3 "" "file failed: nowhere: file missing" init nowhere --blocks 8 --number 0000000000000001
+check "an init makes no folder" test ! -e nowhere
+compare 2 "" "error: an argument is no text" "words that are no text" "$program" $'\xff'
+compare 0 "$("$program" --help)" "" "help" "$program" --help
+compare 2 "" "$("$program" state 2>&1)" "no folder is named" "$program" state
+
+echo "== a folder that was never initialised"
+mkdir bare
+for words in "state bare" "register bare example --first 2026-08-02" "put bare in/$name0 --now $ten"; do
+    # shellcheck disable=SC2086
+    expect 3 "" "file failed: bare/vault.vol: file missing" $words
+done
+check "it is left as it was" test -z "$(ls -A bare)"
+cp d/vault.vol bare/
+expect 3 "" "file failed: bare/custody.db: file missing" state bare
+check "no database is made" test "$(ls -A bare)" = vault.vol
+
+echo "== a second init"
+before=$(digest d/vault.vol d/custody.db)
+expect 1 "" "I1 already initialised" init d --blocks 8 --number 0000000000000002
+expect 1 "" "I1 already initialised" init d --blocks 9 --number 0000000000000001
+check "both files are as they were" test "$before" = "$(digest d/vault.vol d/custody.db)"
+mkdir half
+cp d/custody.db half/
+expect 3 "" "file failed: half/vault.vol: file missing" init half --blocks 8 --number 0000000000000001
+check "no volume is made beside a record" test ! -e half/vault.vol
+
+echo "== an init that was cut short is done again"
+mkdir cut
+: > cut/custody.db
+head -c 5000 /dev/urandom > cut/vault.vol
+expect 3 "" "file failed: cut/vault.vol: 5000 bytes are no whole number of blocks" state cut
+expect 0 "ready 8 0000000000000001" "" init cut --blocks 8 --number 0000000000000001
+expect 0 "free 7 of 7" "" state cut
+
+echo "== a volume or a database that is not the vault's"
+# with_volume COMMAND..: a copy of the vault, on whose volume the command is run
+with_volume() {
+    rm -rf v
+    cp -r d v
+    "$@" v/vault.vol
+}
+with_volume rm
+expect 3 "" "file failed: v/vault.vol: file missing" state v
+with_volume truncate -s 16384
+expect 3 "" "C5 damaged H2" state v
+with_volume truncate -s 100
+expect 3 "" "file failed: v/vault.vol: 100 bytes are no whole number of blocks" state v
+with_volume truncate -s 0
+expect 3 "" "C5 damaged H1" put v in/$name0 --now $ten
+with_volume sed -i '1s/RDEVAULT1/RDEVAULT2/'
+expect 3 "" "C5 damaged H1" state v
+with_volume sed -i '2s/0000000000000001/0000000000000002/'
+expect 3 "" "C5 damaged H2" state v
+with_volume sed -i 's/hello/hellx/'
+expect 0 "$registry
+$held
+free 6 of 7" "" state v
+expect 3 "" "C5 damaged H8" put v in/$name0 --now $ten
+with_volume true
+echo "no database" > v/custody.db
+rm -f v/custody.db-wal
+before=$(digest v/vault.vol v/custody.db)
+expect 3 "" "C3 store failed" state v
+expect 3 "" "C3 store failed" init v --blocks 8 --number 0000000000000001
+check "both files are as they were" test "$before" = "$(digest v/vault.vol v/custody.db)"
+rm v/custody.db
+mkdir v/custody.db
+expect 3 "" "file failed: v/custody.db: unable to open database file" state v
+
+echo "== one program at a time"
+compare 3 "" "file failed: d/vault.vol: file in use" "a locked volume" flock d/vault.vol "$program" state d
+vault many 60
+for n in $(seq 1 12); do
+    "$program" register many "r$n" --first 2026-08-02 > "many.$n" 2> "many.$n.err"
+    echo $? > "many.$n.status"
+done &
+loop=$!
+for n in $(seq 13 24); do
+    "$program" register many "r$n" --first 2026-08-02 > "many.$n" 2> "many.$n.err"
+    echo $? > "many.$n.status"
+done
+wait $loop
+"$program" state many > many.state
+together=0
+for n in $(seq 1 24); do
+    case $(cat "many.$n.status") in
+        0) check "what was acknowledged is there" grep -qx "registry r$n 2026-08-02" many.state ;;
+        3) check "a second program is told" grep -qx "file failed: many/.*: file in use" "many.$n.err"
+            check "nothing is changed by it" test "$(grep -cx "registry r$n 2026-08-02" many.state)" = 0
+            together=$((together + 1)) ;;
+        *) no "two programs at once" "status $(cat "many.$n.status")" ;;
+    esac
+done
+echo "   $together of 24 met another program"
+
+echo "== output that cannot be written"
+compare 3 "" "" "a full device" sh -c "'$program' state d > /dev/full"
+vault quiet 8
+compare 3 "" "" "a full device" sh -c "'$program' put quiet in/$name0 --now $ten > /dev/full"
+expect 0 "$registry
+$held
+free 6 of 7" "" state quiet
+
+echo "== a folder that may not be written"
+if [ "$(id -u)" = 0 ] && ! command -v setpriv > /dev/null; then
+    skip "no setpriv"
+else
+    as=()
+    [ "$(id -u)" = 0 ] && as=(setpriv --reuid=65534 --regid=65534 --clear-groups)
+    mkdir closed
+    chmod 555 closed
+    compare 3 "" "file failed: closed/custody.db: unable to open database file" "init" \
+        "${as[@]}" "$program" init closed --blocks 8 --number 0000000000000001
+    check "nothing is made" test -z "$(ls -A closed)"
+    cp -r d shut
+    chmod 444 shut/*
+    chmod 555 shut
+    before=$(digest shut/*)
+    compare 3 "" "file failed: shut/vault.vol: Permission denied (os error 13)" "state" "${as[@]}" "$program" state shut
+    check "nothing is changed" test "$before" = "$(digest shut/*)"
+    chmod 755 shut
+fi
+
+echo "== a full disk"
+limited() { (trap '' XFSZ; ulimit -f "$1"; shift; exec "$@"); }
+mkdir narrow
+compare 3 "" "C3 store failed" "no room for the database" \
+    limited 8 "$program" init narrow --blocks 8 --number 0000000000000001
+compare 3 "" "file failed: narrow/vault.vol: File too large (os error 27)" "no room for the volume" \
+    limited 600 "$program" init narrow --blocks 262144 --number 0000000000000001
+expect 0 "ready 8 0000000000000001" "" init narrow --blocks 8 --number 0000000000000001
+if mkdir small && mount -t tmpfs -o size=400k tmpfs small 2> /dev/null; then
+    expect 0 "ready 100 0000000000000001" "" init small --blocks 100 --number 0000000000000001
+    expect 0 "registered example 2026-08-02" "" register small example --first 2026-08-02
+    expect 0 "$received" "" put small in/$name0 --now $ten
+    second=example_2026-08-02_full_S2_R0.ryde
+    head -c 390000 /dev/urandom > in/$second
+    expect 3 "" "C2 volume failed" put small in/$second --now $ten
+    expect 0 "$registry
+$held
+free 98 of 99" "" state small
+    mount -o remount,size=1200k small
+    expect 0 "received $second 390000 $ten" "" put small in/$second --now $ten
+    # A file takes what is left, so that the log of the database cannot grow.
+    cat /dev/zero > small/filler 2> /dev/null
+    "$program" put small in/example_2026-08-02_full_S3_R0.ryde --now $ten > last.out 2> last.err
+    status=$?
+    if [ $status = 0 ]; then ok; else check "a full disk is told" grep -qxE "C2 volume failed|C3 store failed|file failed: .*" last.err; fi
+    rm small/filler
+    "$program" state small > last.state
+    check "what was acknowledged is there" grep -qx "part $second 390000 held $ten" last.state
+    expect 0 "received example_2026-08-02_full_S3_R0.ryde 5 $ten" "" put small in/example_2026-08-02_full_S3_R0.ryde --now $ten
+    umount small
+else
+    skip "no tmpfs can be mounted"
+fi
+
+echo "== killed at any moment"
+kills=${KILLS:-120}
+vault k $((kills + 2))
+start=$(date +%s%N)
+"$program" state k > /dev/null
+span=$((($(date +%s%N) - start) / 1000000 + 5))
+day=20667
+acknowledged=0
+attempts=0
+: > told
+for n in $(seq 1 "$kills"); do
+    date=$(date -u -d @$(((day + n) * 86400)) +%F)
+    part=example_${date}_full_S1_R0.ryde
+    printf 'part %s' "$n" > "in/$part"
+    now=${date}T12:00:00Z
+    "$program" put k "in/$part" --now "$now" > reply 2> reply.err &
+    child=$!
+    sleep "$(awk -v s=$span -v r=$RANDOM 'BEGIN { printf "%.4f", 1.6 * s * r / 32768 / 1000 }')"
+    kill -9 $child 2> /dev/null
+    wait $child 2> /dev/null
+    attempts=$((attempts + 1))
+    if grep -qx "received $part [0-9]* $now" reply; then
+        acknowledged=$((acknowledged + 1))
+        sed 's/^received \(.*\) \([0-9]*\) \(.*\)$/part \1 \2 held \3/' reply >> told
+    fi
+    rm "in/$part"
+done
+compare 0 "" "" "a vault of killed programs opens" sh -c "'$program' state k > state.out"
+missing=$(grep -vxFf state.out told | wc -l)
+check "what was acknowledged is there" test "$missing" = 0
+found=$(grep -c '^part ' state.out)
+check "nothing is there that was not sent" test "$found" -le "$attempts"
+echo "   $attempts puts were killed: $acknowledged had answered, $found are there"
+# Each part that is there reads back as it was sent: a repeat is answered by its record.
+for n in $(seq 1 "$kills"); do
+    date=$(date -u -d @$(((day + n) * 86400)) +%F)
+    part=example_${date}_full_S1_R0.ryde
+    printf 'part %s' "$n" > "in/$part"
+    if grep -q "^part $part " state.out; then
+        expect 0 "received $part $(stat -c %s "in/$part") ${date}T12:00:00Z" "" put k "in/$part" --now 2030-01-01T00:00:00Z
+    fi
+    rm "in/$part"
+done
+
+for n in $(seq 1 $((kills / 4))); do
+    rm -rf n
+    mkdir n
+    "$program" init n --blocks 8 --number 0000000000000001 > reply 2> /dev/null &
+    child=$!
+    sleep "$(awk -v s=$span -v r=$RANDOM 'BEGIN { printf "%.4f", 2.5 * s * r / 32768 / 1000 }')"
+    kill -9 $child 2> /dev/null
+    wait $child 2> /dev/null
+    "$program" init n --blocks 8 --number 0000000000000001 > again 2> again.err
+    status=$?
+    if [ -s reply ]; then
+        check "a vault that was acknowledged is there" test $status = 1
+    else
+        check "an init that was killed is done again, or was done" grep -qx "ready 8 0000000000000001\|I1 already initialised" again again.err
+    fi
+    expect 0 "free 7 of 7" "" state n
+done
+
+echo "== the database is SQLite's"
+if command -v sqlite3 > /dev/null; then
+    for vault in d big many k; do
+        compare 0 ok "" "integrity of $vault" sqlite3 $vault/custody.db 'PRAGMA integrity_check'
+    done
+    compare 0 "1|1|0000000000000001|8" "" "meta" sqlite3 d/custody.db 'SELECT * FROM meta'
+    compare 0 "example|20667" "" "registry" sqlite3 d/custody.db 'SELECT * FROM registry'
+    compare 0 "example|20667|0|1|full|1785664800|21032|5|2CF24DBA5FB0A30E26E83B2AC5B9E29E1B161E5C1FA7425E73043362938B9824|0000000100000001" "" "part" \
+        sqlite3 d/custody.db 'SELECT tld, day, rev, part, kind, received, keep_day, len, hex(sha), hex(extents) FROM part'
+    compare 0 "0|0" "" "notice and handover" sqlite3 d/custody.db 'SELECT (SELECT count(*) FROM notice), (SELECT count(*) FROM handover)'
+    expect 0 "$registry
+$held
+free 6 of 7" "" state d
+    mkdir foreign
+    cp d/vault.vol foreign/
+    sqlite3 foreign/custody.db 'CREATE TABLE note (text TEXT NOT NULL) STRICT'
+    expect 3 "" "C5 damaged H0" state foreign
+    cp -r d altered
+    sqlite3 altered/custody.db "UPDATE meta SET number = '000000000000000A'"
+    expect 3 "" "C5 damaged H2" state altered
+    sqlite3 altered/custody.db "UPDATE meta SET number = '0000000000000001'; UPDATE part SET kind = 'Full'"
+    expect 3 "" "C5 damaged H4" state altered
+    sqlite3 altered/custody.db "UPDATE part SET kind = 'full', extents = x'0000000800000001'"
+    expect 3 "" "C5 damaged H5" state altered
+    sqlite3 altered/custody.db "UPDATE part SET extents = NULL"
+    expect 0 "$registry
+part $name0 5 dropped $ten
+free 7 of 7" "" state altered
+    expect 1 "" "Q6 dropped after keeping" put altered in/$name0 --now $ten
+else
+    skip "no sqlite3"
+fi
+
+echo "$passed passed, $failed failed"
+[ $failed = 0 ]
