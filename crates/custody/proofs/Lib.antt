@@ -5,4 +5,5 @@ pub mod PartLemmas
 pub mod Repeats
 pub mod Room
 pub mod RunLemmas
+pub mod RunMoves
 pub mod Unstaged

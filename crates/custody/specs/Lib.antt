@@ -4,3 +4,4 @@ pub mod Holdings
 pub mod Compared
 pub mod Order
 pub mod Opening
+pub mod Sessions

@@ -7,10 +7,12 @@ mod compare;
 mod custody;
 mod forms;
 mod holdings;
+mod laws;
 mod opening;
 #[cfg(test)]
 mod tests;
 
 pub use answers::{InitError, Record, Refused, Reply};
 pub use custody::Custody;
+pub use laws::{law_at_rest, law_run, law_stop};
 pub use opening::has_record;
