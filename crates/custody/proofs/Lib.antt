@@ -6,4 +6,5 @@ pub mod Repeats
 pub mod Room
 pub mod RunLemmas
 pub mod RunMoves
+pub mod SessionLemmas
 pub mod Unstaged

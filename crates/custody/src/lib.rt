@@ -4,6 +4,7 @@
 
 mod answers;
 mod compare;
+mod composed;
 mod custody;
 mod forms;
 mod holdings;
@@ -13,6 +14,7 @@ mod opening;
 mod tests;
 
 pub use answers::{InitError, Record, Refused, Reply};
+pub use composed::{Reopened, Session, open_run_and_reopen, serve_session};
 pub use custody::Custody;
 pub use laws::{law_at_rest, law_run, law_stop};
 pub use opening::has_record;
