@@ -10,7 +10,7 @@ use Rattle.custody_machine.specs.State.{State}
 use Rattle.custody_machine.specs.Machine.{Entry, after, Answer}
 use Rattle.custody_machine.specs.History.{Pair, Event, Opened, StoppedAtRest, OpenedWith, found}
 use Rattle.custody_machine.specs.Stored.{Stands, IsGood, HasDigests, state_in}
-use Rattle.custody_machine.specs.Moves.{Place, Serving, Shut, Left, MayLeave, Finds, MovesAlong, answered_all, IsIn}
+use Rattle.custody_machine.specs.Moves.{Place, Serving, Shut, Left, MayLeave, Finds, Moves, MovesAlong, answered_all, IsIn}
 use Rattle.custody_machine.proofs.Forms.{records_inj}
 use Rattle.custody_machine.proofs.Moves.{chains_move, pair_of, places_are_right, finds_some}
 use Rattle.custody_machine.proofs.Stored.{stands_for_one}
@@ -19,7 +19,7 @@ use Rattle.custody.specs.declared.answers.Refused as not_accepted
 use Rattle.custody.specs.declared.custody.Custody.{Custody}
 use Rattle.custody.specs.Holdings.{recorded, stored, image_of, left_by}
 use Rattle.custody.specs.Custody.{held_by, HasRun}
-use Rattle.custody.specs.Sessions.{answers_of, IsAfter, IsServing, place_of, IsSession, IsReopened}
+use Rattle.custody.specs.Sessions.{answers_of, IsAfter, IsServing, place_of, IsSession, IsReopened, SessionsJoin}
 use Rattle.custody.proofs.RunMoves.{along_join, runs_move}
 
 -- what a stop leaves of a place where each held part has its digest has them too
@@ -31,12 +31,22 @@ still_sound state (Left before image) rows left records here may is =
     let o = may s.records s.in_form s.good in
     subst (HasDigests left) (records_inj o.records records (sym o.in_form ∙ is)) (λ key. o.keeps.digests key (here.1 s.records s.in_form key))
 
--- a stop at rest, and an opening of what it left
+-- a stop at rest
+stops : (place : Place) (rows : Rows) (left : List ℕ) (pair : Pair) → MayLeave place rows left → Finds rows left pair → Moves place (StoppedAtRest pair) (Left rows left)
+stops (Serving before image) rows left pair may finds = (rows, left, may, finds, refl)
+stops (Shut before image doubt) rows left pair may finds = (rows, left, may, finds, refl)
+stops (Left before image) rows left pair may finds = (rows, left, may, finds, refl)
+
+-- and an opening of what it left
 stop_and_open : (place : Place) (rows : Rows) (left : List ℕ) (records : Records) (pair : Pair) → MayLeave place rows left → Finds rows left pair → form_of rows ≡ InForm records → IsGood records left
     → MovesAlong place (StoppedAtRest pair ∷ OpenedWith pair (Opened (state_in records left)) ∷ []) (Serving records left)
-stop_and_open (Serving before image) rows left records pair may finds is good = (Left rows left, (rows, left, may, finds, refl), (Serving records left, (finds, (records, is, good, refl, refl)), refl))
-stop_and_open (Shut before image doubt) rows left records pair may finds is good = (Left rows left, (rows, left, may, finds, refl), (Serving records left, (finds, (records, is, good, refl, refl)), refl))
-stop_and_open (Left before image) rows left records pair may finds is good = (Left rows left, (rows, left, may, finds, refl), (Serving records left, (finds, (records, is, good, refl, refl)), refl))
+stop_and_open place rows left records pair may finds is good = (Left rows left, stops place rows left pair may finds, (Serving records left, (finds, (records, is, good, refl, refl)), refl))
+
+-- one session after another
+pub sessions_join : (rows_left rows_then : Rows → Type 0) (images_left images_then : List ℕ → Type 0) → SessionsJoin rows_left rows_then images_left images_then
+sessions_join rows_left rows_then images_left images_then rows left image later entries others answers replies one other h w start events before pair finds =
+    along_join start events (StoppedAtRest pair ∷ OpenedWith pair (Opened other.first) ∷ answered_all others replies) one.end other.end before
+    (Left left later, stops one.end left later pair (one.leaves left later h w) finds, other.moves pair finds)
 
 -- a session, a stop that left these rows and this image, and their opening
 reopened : (rows : Rows) (image : List ℕ) (entries : List Entry) (answers : List Answer) (rows_left : Rows → Type 0) (images_left : List ℕ → Type 0) (session : IsSession rows image entries answers rows_left images_left)

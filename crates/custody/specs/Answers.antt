@@ -1,5 +1,5 @@
 -- The answers of a custody, as those of the machine, and their lines.
-use Rattle.std.specs.Prelude.{◌≡◌, ℕ, List, [], length, codes, Bool, true, false, not, Result, Ok, Err}
+use Rattle.std.specs.Prelude.{◌≡◌, ℕ, List, [], codes, Bool, true, false, not, Result, Ok, Err}
 use Rattle.deposit_name.specs.Name.{Name}
 use Rattle.custody_records.specs.Records.{key_of}
 use Rattle.vault_volume.specs.declared.errors.StageError.{StageError}
@@ -44,11 +44,6 @@ abbrev pub answer_of : Command → Result Reply not_accepted.Refused → Answer
 answer_of command (Ok reply) = Accepted (record { entry = record_shown (bytes_of command) reply.record; is_repeat = reply.is_repeat })
 answer_of command (Err (refused.Refusal refusal)) = Refused refusal
 answer_of command (Err (refused.Fault fault)) = Failed fault
-
--- the length told of a part is that of the bytes
-abbrev pub TellsLength : List ℕ → code.Record → Type 0
-TellsLength bytes (record_of_kind.Registry tld first_day) = Unit {0}
-TellsLength bytes (record_of_kind.Part name received len) = len ≡ length bytes
 
 -- why a command is not accepted whose bytes were not staged
 abbrev pub unstaged : StageError → not_accepted.Refused

@@ -8,7 +8,7 @@ use Rattle.custody_records.specs.Rows.{Rows}
 use Rattle.custody_records.specs.Form.{form_of, InForm}
 use Rattle.custody_machine.specs.State.{State}
 use Rattle.custody_machine.specs.Machine.{Command, Entry, after, Answer, Accepted, Refused, Failed}
-use Rattle.custody_machine.specs.History.{MayFind, Pair, Opened, StoppedAtRest, StoppedWithin, OpenedWith, doubt_of, or_else}
+use Rattle.custody_machine.specs.History.{MayFind, Pair, Event, Opened, StoppedAtRest, StoppedWithin, OpenedWith, doubt_of, or_else}
 use Rattle.custody_machine.specs.Stored.{IsNamed, Stands, HasDigests, IsSound, state_in}
 use Rattle.custody_machine.specs.Moves.{Place, Serving, Left, MayLeave, Finds, Chain, MovesBy, answered_all, MovesAlong}
 use Rattle.custody_machine.specs.Custody.{IsAt}
@@ -111,3 +111,10 @@ pub record IsReopened (rows : Rows) (image : List ℕ) (entries : List Entry) (a
   -- and these are moves, so that the laws of histories hold of them
   pub moves : (before then : Pair) → Finds rows image before → Finds left later then
       → MovesAlong (Left rows image) ((OpenedWith before (Opened first) ∷ answered_all entries answers) ++ StoppedAtRest then ∷ OpenedWith then (Opened (state_in records later)) ∷ []) (Serving records later)
+
+-- A session over what a stop has left of another goes on from where that ended, whatever was before.
+abbrev pub SessionsJoin : (rows_left rows_then : Rows → Type 0) → (images_left images_then : List ℕ → Type 0) → Type 0
+SessionsJoin rows_left rows_then images_left images_then = (rows left : Rows) (image later : List ℕ) (entries others : List Entry) (answers replies : List Answer)
+    (one : IsSession rows image entries answers rows_left images_left) (other : IsSession left later others replies rows_then images_then) → rows_left left → images_left later
+    → (start : Place) (events : List Event) → MovesAlong start events one.end → (pair : Pair) → Finds left later pair
+    → MovesAlong start (events ++ StoppedAtRest pair ∷ OpenedWith pair (Opened other.first) ∷ answered_all others replies) other.end

@@ -16,5 +16,5 @@ mod tests;
 pub use answers::{InitError, Record, Refused, Reply};
 pub use composed::{Reopened, Session, open_run_and_reopen, serve_session};
 pub use custody::Custody;
-pub use laws::{law_at_rest, law_run, law_stop};
+pub use laws::{law_at_rest, law_run, law_sessions, law_shown, law_stop};
 pub use opening::has_record;

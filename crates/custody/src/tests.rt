@@ -1,4 +1,7 @@
 //! Tests over a volume and a database in memory.
+mod opening;
+mod sessions;
+
 use crate::Custody;
 use sqlite::{Connection, MemStore};
 use std::alloc::Global;
