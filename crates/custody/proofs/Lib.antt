@@ -5,4 +5,6 @@ pub mod PartLemmas
 pub mod Repeats
 pub mod Room
 pub mod RunLemmas
+pub mod RunMoves
+pub mod SessionLemmas
 pub mod Unstaged

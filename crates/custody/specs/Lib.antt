@@ -5,3 +5,4 @@ pub mod Holdings
 pub mod Opening
 pub mod Order
 pub mod Ruled
+pub mod Sessions

@@ -4,13 +4,17 @@
 
 mod answers;
 mod compare;
+mod composed;
 mod custody;
 mod forms;
 mod holdings;
+mod laws;
 mod opening;
 #[cfg(test)]
 mod tests;
 
 pub use answers::{InitError, Record, Refused, Reply};
+pub use composed::{Reopened, Session, open_run_and_reopen, serve_session};
 pub use custody::Custody;
+pub use laws::{law_at_rest, law_run, law_sessions, law_shown, law_stop};
 pub use opening::has_record;

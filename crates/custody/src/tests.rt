@@ -1,5 +1,6 @@
 //! Tests over a volume and a database in memory.
 mod opening;
+mod sessions;
 
 use crate::Custody;
 use sqlite::{Connection, MemStore};

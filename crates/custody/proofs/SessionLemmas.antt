@@ -1,0 +1,110 @@
+-- Sessions of a custody, and one after another, as moves of the machine.
+use Rattle.std.proofs.Common.{◌≡◌, ◌↔◌, ℕ, List, [], ◌∷◌, refl, sym, ◌∙◌, subst, Result}
+use Rattle.vault_volume.specs.declared.volume.Volume as volume
+use Rattle.vault_volume.specs.Disk.{LeavesOne}
+use Rattle.sqlite.specs.Store.{Ghosts}
+use Rattle.custody_records.specs.Records.{Records}
+use Rattle.custody_records.specs.Rows.{Rows}
+use Rattle.custody_records.specs.Form.{form_of, InForm}
+use Rattle.custody_machine.specs.State.{State}
+use Rattle.custody_machine.specs.Machine.{Entry, after, Answer}
+use Rattle.custody_machine.specs.History.{Pair, Event, Opened, StoppedAtRest, OpenedWith, found}
+use Rattle.custody_machine.specs.Stored.{Stands, IsGood, HasDigests, state_in}
+use Rattle.custody_machine.specs.Moves.{Place, Serving, Shut, Left, MayLeave, Finds, Moves, MovesAlong, answered_all, IsIn}
+use Rattle.custody_machine.proofs.Forms.{records_inj}
+use Rattle.custody_machine.proofs.Moves.{chains_move, pair_of, places_are_right, finds_some}
+use Rattle.custody_machine.proofs.Stored.{stands_for_one}
+use Rattle.custody.specs.declared.answers.Reply.{Reply}
+use Rattle.custody.specs.declared.answers.Refused as not_accepted
+use Rattle.custody.specs.declared.custody.Custody.{Custody}
+use Rattle.custody.specs.Holdings.{recorded, stored, image_of, left_by}
+use Rattle.custody.specs.Custody.{held_by, HasRun}
+use Rattle.custody.specs.Sessions.{answers_of, IsAfter, IsServing, place_of, IsSession, IsReopened, SessionsJoin}
+use Rattle.custody.proofs.RunMoves.{along_join, runs_move}
+
+-- what a stop leaves of a place where each held part has its digest has them too
+still_sound : (state : State) (place : Place) (rows : Rows) (left : List ℕ) (records : Records) → IsIn state place → MayLeave place rows left → form_of rows ≡ InForm records → HasDigests left records
+still_sound state (Serving before image) rows left records here may is = subst (HasDigests left) (records_inj may.records records (sym may.in_form ∙ is)) (λ key. may.keeps.digests key (here.1 key))
+still_sound state (Shut before image doubt) rows left records here may is = subst (HasDigests left) (records_inj may.records records (sym may.in_form ∙ is)) (λ key. may.keeps.digests key (here.1 key))
+still_sound state (Left before image) rows left records here may is =
+    let s : Stands before image state = here.0 in
+    let o = may s.records s.in_form s.good in
+    subst (HasDigests left) (records_inj o.records records (sym o.in_form ∙ is)) (λ key. o.keeps.digests key (here.1 s.records s.in_form key))
+
+-- a stop at rest
+stops : (place : Place) (rows : Rows) (left : List ℕ) (pair : Pair) → MayLeave place rows left → Finds rows left pair → Moves place (StoppedAtRest pair) (Left rows left)
+stops (Serving before image) rows left pair may finds = (rows, left, may, finds, refl)
+stops (Shut before image doubt) rows left pair may finds = (rows, left, may, finds, refl)
+stops (Left before image) rows left pair may finds = (rows, left, may, finds, refl)
+
+-- and an opening of what it left
+stop_and_open : (place : Place) (rows : Rows) (left : List ℕ) (records : Records) (pair : Pair) → MayLeave place rows left → Finds rows left pair → form_of rows ≡ InForm records → IsGood records left
+    → MovesAlong place (StoppedAtRest pair ∷ OpenedWith pair (Opened (state_in records left)) ∷ []) (Serving records left)
+stop_and_open place rows left records pair may finds is good = (Left rows left, stops place rows left pair may finds, (Serving records left, (finds, (records, is, good, refl, refl)), refl))
+
+-- one session after another
+pub sessions_join : (rows_left rows_then : Rows → Type 0) (images_left images_then : List ℕ → Type 0) → SessionsJoin rows_left rows_then images_left images_then
+sessions_join rows_left rows_then images_left images_then rows left image later entries others answers replies one other h w start events before pair finds =
+    along_join start events (StoppedAtRest pair ∷ OpenedWith pair (Opened other.first) ∷ answered_all others replies) one.end other.end before
+    (Left left later, stops one.end left later pair (one.leaves left later h w) finds, other.moves pair finds)
+
+-- a session, a stop that left these rows and this image, and their opening
+reopened : (rows : Rows) (image : List ℕ) (entries : List Entry) (answers : List Answer) (rows_left : Rows → Type 0) (images_left : List ℕ → Type 0) (session : IsSession rows image entries answers rows_left images_left)
+    (left : Rows) (later : List ℕ) (records : Records) → rows_left left → images_left later → form_of left ≡ InForm records → IsGood records later → IsReopened rows image entries answers left records later
+reopened rows image entries answers rows_left images_left session left later records h w is good = record {
+  first = session.first;
+  stands = session.stands;
+  state = subst (IsAfter session.first entries answers) (stands_for_one left later state_found.0 (state_in records later) state_found.1 stands) state_found.2;
+  sound = λ sound.
+      let events : List Event = OpenedWith (pair_of session.first) (Opened session.first) ∷ answered_all entries answers in
+      let moves = session.moves (pair_of session.first) (finds_some rows image session.first session.stands sound) in
+      let here = places_are_right session.first (Left rows image) session.end events (session.stands, sound) moves in
+      still_sound (after session.first (found session.first events)) session.end left later records here may is;
+  moves = λ before then finds finds_then.
+      along_join (Left rows image) (OpenedWith before (Opened session.first) ∷ answered_all entries answers) (StoppedAtRest then ∷ OpenedWith then (Opened (state_in records later)) ∷ []) session.end (Serving records later)
+      (session.moves before finds) (stop_and_open session.end left later records then may finds_then is good);
+}
+  where
+    state_found : (state : State) × Stands left later state × IsAfter session.first entries answers state
+    state_found = session.finds left later h w
+
+    may : MayLeave session.end left later
+    may = session.leaves left later h w
+
+    stands : Stands left later (state_in records later)
+    stands = record { records = records; in_form = is; good = good; meaning = refl }
+
+-- the same, where the images are known by other names
+pub reopened_as : (rows : Rows) (image then : List ℕ) (entries : List Entry) (answers : List Answer) (rows_left : Rows → Type 0) (images_left : List ℕ → Type 0) → then ≡ image → IsSession rows then entries answers rows_left images_left
+    → (left : Rows) (later now : List ℕ) (records : Records) → now ≡ later → rows_left left → images_left later → form_of left ≡ InForm records → IsGood records later → IsReopened rows image entries answers left records now
+reopened_as rows image then entries answers rows_left images_left was session left later now records is h w form good =
+    subst (λ i. IsReopened rows i entries answers left records now) was
+    (subst (λ i. IsReopened rows then entries answers left records i) (sym is) (reopened rows then entries answers rows_left images_left session left later records h w form good))
+
+-- a volume that leaves one image still does
+pub still_one : (image then : List ℕ) (t now : ℕ) (left later : ℕ → List ℕ → Type 0) → then ≡ image → now ≡ t → ((s : ℕ) (c : List ℕ) → later s c ↔ left s c) → LeavesOne image (left t) → LeavesOne then (later now)
+still_one image then t now left later same_image same_moment same_left one c = (
+  λ h. (one c).0 (subst (λ s. left s c) same_moment ((same_left now c).0 h)) ∙ sym same_image,
+  λ e. (same_left now c).1 (subst (λ s. left s c) (sym same_moment) ((one c).1 (e ∙ same_image))),
+)
+
+module _ {V S : Type 0} {g : volume.Ghosts V} {database : Ghosts S} (tells : g.tells) where
+  -- an opening of rows and an image, and then commands
+  pub session_made : (old new : Custody V S g database) (rows : Rows) (image : List ℕ) (entries : List Entry) (answers : List (Result Reply not_accepted.Refused)) → IsServing database old
+      → form_of rows ≡ InForm (recorded (held_by old)) → IsGood (recorded (held_by old)) image → image_of (held_by old) ≡ image → HasRun old entries answers new → (stored database (held_by new)).IsHonest
+      → IsSession rows image entries (answers_of entries answers) (stored database (held_by new)).may_leave (left_by (held_by new))
+  session_made old new rows image entries answers serving is good same run honest =
+      let records = recorded (held_by old) in
+      let moved = runs_move tells old new serving honest entries answers run in
+      record {
+        first = state_in records image;
+        stands = record { records = records; in_form = is; good = good; meaning = refl };
+        end = moved.next;
+        moves = λ pair finds. (
+          Serving records image,
+          (finds, (records, is, good, refl, refl)),
+          subst (λ i. MovesAlong (Serving records i) (answered_all entries (answers_of entries answers)) moved.next) same (chains_move (place_of database old) moved.next entries (answers_of entries answers) moved.moves),
+        );
+        leaves = moved.leaves;
+        finds = λ r j h w. subst (λ i. (state : State) × Stands r j state × IsAfter (state_in records i) entries (answers_of entries answers) state) same (moved.finds r j h w);
+      }

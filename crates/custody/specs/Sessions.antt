@@ -1,0 +1,120 @@
+-- What an open custody leaves, and what it does from an opening to a stop, in the machine's words.
+use Rattle.std.specs.Prelude.{◌≡◌, ℕ, List, [], ◌∷◌, ◌++◌, Option, None, true, Result}
+use Rattle.vault_volume.specs.declared.volume.Volume as volume
+use Rattle.vault_volume.specs.Vault.{IsFree}
+use Rattle.sqlite.specs.Store.{Ghosts}
+use Rattle.custody_records.specs.Records.{Records}
+use Rattle.custody_records.specs.Rows.{Rows}
+use Rattle.custody_records.specs.Form.{form_of, InForm}
+use Rattle.custody_machine.specs.State.{State}
+use Rattle.custody_machine.specs.Machine.{Command, Entry, after, Answer, Accepted, Refused, Failed}
+use Rattle.custody_machine.specs.History.{MayFind, Pair, Event, Opened, StoppedAtRest, StoppedWithin, OpenedWith, doubt_of, or_else}
+use Rattle.custody_machine.specs.Stored.{IsNamed, Stands, HasDigests, IsSound, state_in}
+use Rattle.custody_machine.specs.Moves.{Place, Serving, Left, MayLeave, Finds, Chain, MovesBy, answered_all, MovesAlong}
+use Rattle.custody_machine.specs.Custody.{IsAt}
+use Rattle.custody.specs.declared.answers.Reply.{Reply}
+use Rattle.custody.specs.declared.answers.Refused as not_accepted
+use Rattle.custody.specs.declared.custody.Custody.{Custody}
+use Rattle.custody.specs.Answers.{answer_of}
+use Rattle.custody.specs.Holdings.{recorded, stored, image_of, left_by, left_since, KeepsImage, KeepsRows}
+use Rattle.custody.specs.Custody.{held_by, is_open, HasApplied, HasRun}
+
+-- ---- answers
+
+-- the answers of the machine
+abbrev pub answers_of : List Entry → List (Result Reply not_accepted.Refused) → List Answer
+answers_of [] answers = []
+answers_of (entry ∷ entries) [] = []
+answers_of (entry ∷ entries) (answer ∷ answers) = answer_of entry.0 answer ∷ answers_of entries answers
+
+-- the commands that were accepted, in order
+abbrev pub accepted : List Entry → List Answer → List Entry
+accepted [] answers = []
+accepted (entry ∷ entries) [] = []
+accepted (entry ∷ entries) (Accepted reply ∷ answers) = entry ∷ accepted entries answers
+accepted (entry ∷ entries) (Refused refusal ∷ answers) = accepted entries answers
+accepted (entry ∷ entries) (Failed fault ∷ answers) = accepted entries answers
+
+-- the one that is in doubt: it was answered that the store failed
+abbrev pub in_doubt : List Entry → List Answer → Option Entry
+in_doubt [] answers = None
+in_doubt (entry ∷ entries) [] = None
+in_doubt (entry ∷ entries) (answer ∷ answers) = or_else (doubt_of entry.0 entry.1 answer) (in_doubt entries answers)
+
+-- the state after the commands that were accepted, in order, and then at most the one in doubt
+abbrev pub IsAfter : State → List Entry → List Answer → State → Type 0
+IsAfter first entries answers state = MayFind (after first (accepted entries answers)) (in_doubt entries answers) state
+
+-- ---- an open custody
+
+module _ {V S : Type 0} {g : volume.Ghosts V} where
+  -- it is open, and volume and database are as it has them in memory
+  pub record IsServing (database : Ghosts S) (custody : Custody V S g database) : Type 0 where
+    pub opened : is_open custody ≡ true
+    pub image : KeepsImage (held_by custody)
+    pub rows : KeepsRows database (held_by custody)
+
+  -- where it is, if it is open
+  abbrev pub place_of : (database : Ghosts S) → Custody V S g database → Place
+  place_of database custody = Serving (recorded (held_by custody)) (image_of (held_by custody))
+
+  abbrev pub state_of : (database : Ghosts S) → Custody V S g database → State
+  state_of database custody = state_in (recorded (held_by custody)) (image_of (held_by custody))
+
+  -- what a stop may leave of both now
+  abbrev pub Leaves : (database : Ghosts S) → Custody V S g database → (Rows → List ℕ → Type 0) → Type 0
+  Leaves database custody P = (rows : Rows) (image : List ℕ) → (stored database (held_by custody)).may_leave rows → left_by (held_by custody) image → P rows image
+
+  -- no part of these rows names a block that is free
+  abbrev pub SparesFree : (database : Ghosts S) → Custody V S g database → Rows → Type 0
+  SparesFree database custody rows = (records : Records) → form_of rows ≡ InForm records → (b : ℕ) → IsNamed records b → ¬ IsFree (held_by custody).vault b
+
+  -- Commands have moved it: to where it is, and a stop leaves what it may leave there.
+  pub record HasMoved (database : Ghosts S) (old new : Custody V S g database) (entries : List Entry) (answers : List Answer) : Type 0 where
+    pub next : Place
+    pub moves : Chain MovesBy (place_of database old) entries answers next
+    pub is_at : IsAt (is_open new) (recorded (held_by new)) (image_of (held_by new)) next
+    pub leaves : Leaves database new (MayLeave next)
+    pub finds : Leaves database new (λ rows image. (state : State) × Stands rows image state × IsAfter (state_of database old) entries answers state)
+    pub serves : is_open new ≡ true → IsServing database new
+
+  -- where the database was honest to the end, commands in order move an open custody
+  abbrev pub RunsMove : (database : Ghosts S) → (old new : Custody V S g database) → Type 0
+  RunsMove database old new = IsServing database old → (stored database (held_by new)).IsHonest → (entries : List Entry) (answers : List (Result Reply not_accepted.Refused)) → HasRun old entries answers new → HasMoved database old new entries (answers_of entries answers)
+
+  -- a stop at any moment within a command, after others
+  abbrev pub StopsMove : (database : Ghosts S) → (old mid new : Custody V S g database) → Type 0
+  StopsMove database old mid new = IsServing database old → (stored database (held_by new)).IsHonest → (entries : List Entry) (answers : List (Result Reply not_accepted.Refused)) → HasRun old entries answers mid
+      → (command : Command) (now : ℕ) (answer : Result Reply not_accepted.Refused) → HasApplied mid command now answer new
+      → (rows : Rows) (image : List ℕ) (pair : Pair) → (stored database (held_by mid)).may_leave rows → left_since (held_by mid) (held_by new) image → Finds rows image pair
+      → MovesAlong (place_of database old) (answered_all entries (answers_of entries answers) ++ StoppedWithin command now pair ∷ []) (Left rows image)
+
+-- ---- sessions
+
+-- From an opening of rows and an image to the end of commands: the moves, and what a stop may leave then.
+pub record IsSession (rows : Rows) (image : List ℕ) (entries : List Entry) (answers : List Answer) (rows_left : Rows → Type 0) (images_left : List ℕ → Type 0) : Type 0 where
+  pub first : State
+  pub stands : Stands rows image first
+  pub end : Place
+  pub moves : (pair : Pair) → Finds rows image pair → MovesAlong (Left rows image) (OpenedWith pair (Opened first) ∷ answered_all entries answers) end
+  pub leaves : (r : Rows) (j : List ℕ) → rows_left r → images_left j → MayLeave end r j
+  pub finds : (r : Rows) (j : List ℕ) → rows_left r → images_left j → (state : State) × Stands r j state × IsAfter first entries answers state
+
+-- A session over rows and an image, a stop that left others, and an opening of those: it gives the records and the image.
+pub record IsReopened (rows : Rows) (image : List ℕ) (entries : List Entry) (answers : List Answer) (left : Rows) (records : Records) (later : List ℕ) : Type 0 where
+  pub first : State
+  pub stands : Stands rows image first
+  -- the state is that after the commands that were accepted, in order, and then at most the one in doubt
+  pub state : IsAfter first entries answers (state_in records later)
+  -- each part has its digest, where each had it before
+  pub sound : IsSound rows image → HasDigests later records
+  -- and these are moves, so that the laws of histories hold of them
+  pub moves : (before then : Pair) → Finds rows image before → Finds left later then
+      → MovesAlong (Left rows image) ((OpenedWith before (Opened first) ∷ answered_all entries answers) ++ StoppedAtRest then ∷ OpenedWith then (Opened (state_in records later)) ∷ []) (Serving records later)
+
+-- A session over what a stop has left of another goes on from where that ended, whatever was before.
+abbrev pub SessionsJoin : (rows_left rows_then : Rows → Type 0) → (images_left images_then : List ℕ → Type 0) → Type 0
+SessionsJoin rows_left rows_then images_left images_then = (rows left : Rows) (image later : List ℕ) (entries others : List Entry) (answers replies : List Answer)
+    (one : IsSession rows image entries answers rows_left images_left) (other : IsSession left later others replies rows_then images_then) → rows_left left → images_left later
+    → (start : Place) (events : List Event) → MovesAlong start events one.end → (pair : Pair) → Finds left later pair
+    → MovesAlong start (events ++ StoppedAtRest pair ∷ OpenedWith pair (Opened other.first) ∷ answered_all others replies) other.end

@@ -1,0 +1,104 @@
+//! Sessions of a custody, and one after another: a custody is opened, does commands, is stopped, and
+//! is opened again over what the stop has left.
+ghost use Rattle.std.specs.Prelude.{◌≡◌, ◌<◌, ◌-◌, ◌*◌, ◌^◌, length, IfOk, IsTrue};
+ghost use Rattle.vault_volume.specs.Disk.{LeavesOne};
+ghost use Rattle.custody_store.specs.Standing.{standing};
+ghost use Rattle.custody.specs.Custody.{entries_of, held_by};
+ghost use Rattle.custody.specs.Holdings.{recorded, stored, image_of};
+ghost use Rattle.custody.specs.Sessions.{answers_of, IsSession, IsReopened};
+
+use crate::{Custody, Refused, Reply};
+use custody_machine::{Command, Fault};
+use schedule::Sec;
+use sqlite::{Alter, Connection};
+use std::alloc::Global;
+use vault_volume::{MemVolume, Volume};
+
+/// What commands answered, with the volume and the database as they left them.
+#[derive(Drop)]
+pub struct Session<V: Volume, S: Alter + Drop> {
+    pub answers: Vec<Result<Reply, Refused>>,
+    pub volume: V,
+    pub db: Connection<S>,
+}
+
+/// A custody that is open again after a stop, what commands answered before it, and the database as
+/// they left it.
+#[derive(Drop)]
+pub struct Reopened<S: Alter + Drop> {
+    pub custody: Custody<MemVolume, S>,
+    pub answers: Vec<Result<Reply, Refused>>,
+    pub stopped: Connection<S>,
+}
+
+/// Opens what volume and database hold, does commands, and hands both back.
+pub fn serve_session<V: Volume, S: Alter + Drop>(
+    alloc: Global,
+    volume: V,
+    db: Connection<S>,
+    commands: &[(Command<'_>, Sec)],
+) -> Result<Session<V, S>, Fault>
+    requires { V.failures volume < 2 ^ 64 - 1 }
+    ensures { V.tells → LeavesOne (V.image volume) (V.left_at volume (V.moment volume)) → (standing S.Store db).IsReady
+        → IfOk result (λ s. (standing S.Store s.db).IsHonest → IsSession (standing S.Store db).rows (V.image volume) (entries_of commands.now) (answers_of (entries_of commands.now) s.answers.items) (standing S.Store s.db).may_leave (V.left_at s.volume (V.moment s.volume))) }
+{
+    let mut custody = match Custody::open(alloc, volume, db) {
+        Ok(custody) => custody,
+        Err(failed) => return Err(failed.0),
+    };
+    let Ok(answers) = custody.run(alloc, commands) else {
+        return Err(Fault::NoMemory);
+    };
+    let (volume, db) = custody.close();
+    Ok(Session {
+        answers,
+        volume,
+        db,
+    })
+}
+
+/// Opens what a volume in memory and a database hold, and does commands, until the volume stops at the
+/// call of a number. Then the volume is restarted over a filling, and opened again with `left`: the
+/// database as the stop has left it. A filling of another length than the volume is refused.
+pub fn open_run_and_reopen<S: Alter + Drop>(
+    alloc: Global,
+    volume: MemVolume,
+    db: Connection<S>,
+    commands: &[(Command<'_>, Sec)],
+    stop: u64,
+    fill: &[u8],
+    left: Connection<S>,
+) -> Result<Reopened<S>, Fault>
+    requires { ⟦<MemVolume as Volume>⟧.failures volume < 2 ^ 64 - 1 }
+    ensures { LeavesOne (⟦<MemVolume as Volume>⟧.image volume) (⟦<MemVolume as Volume>⟧.left_at volume (⟦<MemVolume as Volume>⟧.moment volume))
+        → (standing S.Store db).IsReady → (standing S.Store left).IsReady
+        → IfOk result (λ r. (standing S.Store r.stopped).IsHonest → (stored S.Store (held_by r.custody)).IsHonest
+        → (standing S.Store r.stopped).may_leave (standing S.Store left).rows
+        → IsReopened (standing S.Store db).rows (⟦<MemVolume as Volume>⟧.image volume) (entries_of commands.now) (answers_of (entries_of commands.now) r.answers.items)
+        (standing S.Store left).rows (recorded (held_by r.custody)) (image_of (held_by r.custody))) }
+{
+    let mut volume = volume;
+    volume.stop_at(stop);
+    let session = serve_session(alloc, volume, db, commands)?;
+    let mut volume = session.volume;
+    if !may_restart(&volume, fill) {
+        return Err(Fault::VolumeFailed);
+    }
+    volume.restart(fill);
+    match Custody::open(alloc, volume, left) {
+        Ok(custody) => Ok(Reopened {
+            custody,
+            answers: session.answers,
+            stopped: session.db,
+        }),
+        Err(failed) => Err(failed.0),
+    }
+}
+
+/// Whether a filling is as long as the volume, which can count a failure more.
+fn may_restart(volume: &MemVolume, fill: &[u8]) -> bool
+    ensures fits { IsTrue result → length fill.now ≡ 4096 * ⟦<MemVolume as Volume>⟧.size volume.now }
+    ensures count { IsTrue result → ⟦<MemVolume as Volume>⟧.failures volume.now < 2 ^ 64 - 1 }
+{
+    fill.len() as u64 == 4096 * u64::from(volume.size()) && volume.failures() < u64::MAX
+}

@@ -1,0 +1,87 @@
+//! One session and an opening over what a stop has left of it.
+use super::new_custody;
+use crate::{Refused, Reopened, open_run_and_reopen};
+use custody_machine::{Command, Fault};
+use deposit_name::Tld;
+use schedule::{Day, Sec, read_day, read_moment};
+use sqlite::{Connection, MemStore};
+use std::alloc::Global;
+use std::test::Fail;
+use vault_volume::Volume;
+
+type TestDatabase = Connection<MemStore>;
+
+const BLOCKS: u32 = 8;
+
+/// The call of the volume within the first upload: block 0 takes two at the beginning, and one at the
+/// opening.
+const UPLOAD: u64 = 3;
+
+fn registration() -> Result<(Command<'static>, Sec), Fail> {
+    let tld = Tld::parse(b"example").ok_or("a name")?;
+    let first_day: Day = read_day(b"2026-08-01").ok_or("a day")?;
+    let now = read_moment(b"2026-08-02T10:00:00Z").ok_or("a moment")?;
+    Ok((Command::Register(tld, first_day), now))
+}
+
+fn upload() -> Result<(Command<'static>, Sec), Fail> {
+    let now = read_moment(b"2026-08-02T10:00:00Z").ok_or("a moment")?;
+    let name = b"example_2026-08-02_full_S1_R0.ryde";
+    Ok((Command::Receive(name, b"hello"), now))
+}
+
+/// A database in which these commands were done.
+fn done(alloc: Global, commands: &[(Command<'_>, Sec)]) -> Result<TestDatabase, Fail> {
+    let mut custody = new_custody(alloc, BLOCKS)?;
+    let answers = custody.run(alloc, commands)?;
+    for answer in &answers {
+        if answer.is_err() {
+            return Err(Fail::from("not done"));
+        }
+    }
+    let (_, db) = custody.close();
+    Ok(db)
+}
+
+/// A registration and an upload, through a stop at a call of the volume.
+fn stopped_at(alloc: Global, stop: u64, left: TestDatabase) -> Result<Reopened<MemStore>, Fail> {
+    let (volume, db) = new_custody(alloc, BLOCKS)?.close();
+    if volume.failures() > 9 {
+        return Err(Fail::from("many failures"));
+    }
+    let commands = [registration()?, upload()?];
+    let fill = vec![in alloc; 255u8; 4096 * BLOCKS as usize]?;
+    match open_run_and_reopen(alloc, volume, db, &commands, stop, &fill, left) {
+        Ok(reopened) => Ok(reopened),
+        Err(_) => Err(Fail::from("not opened")),
+    }
+}
+
+/// Whether both answers are as wanted: the registration is accepted.
+fn are_answered(reopened: &Reopened<MemStore>, upload: Option<Fault>) -> bool {
+    match reopened.answers.as_slice() {
+        [Ok(_), Ok(_)] => upload.is_none(),
+        [Ok(_), Err(Refused::Fault(fault))] => upload == Some(*fault),
+        _ => false,
+    }
+}
+
+#[test]
+fn what_was_accepted_before_a_stop_is_found(rt: HostRuntime) -> Result<(), Fail> {
+    let alloc = rt.alloc();
+    let left = done(alloc, &[registration()?])?;
+    let reopened = stopped_at(alloc, UPLOAD, left)?;
+    assert!(rt; are_answered(&reopened, Some(Fault::VolumeFailed)));
+    assert_eq!(rt; reopened.custody.room(), Ok((7, 7)));
+    Ok(())
+}
+
+#[test]
+fn a_part_is_found_after_a_late_stop(rt: HostRuntime) -> Result<(), Fail> {
+    let alloc = rt.alloc();
+    let left = done(alloc, &[registration()?, upload()?])?;
+    let reopened = stopped_at(alloc, 60, left)?;
+    assert!(rt; are_answered(&reopened, None));
+    assert_eq!(rt; reopened.custody.room(), Ok((6, 7)));
+    Ok(())
+}
