@@ -1,5 +1,5 @@
 -- What an opening finds of a database and a volume.
-use Rattle.std.proofs.Common.{◌≡◌, ◌≢◌, ◌⊎◌, inl, inr, ℕ, zero, suc, ℤ, pos, negsuc, ◌*◌, ◌<◌, ◌≤◌, ◌^◌, List, [], ◌∷◌, length, Option, Some, None, Bool, Result, Ok, Err, refl, sym, ◌∙◌, ap, subst, arith}
+use Rattle.std.proofs.Common.{◌≡◌, ◌⊎◌, inl, inr, ℕ, zero, suc, ℤ, pos, negsuc, ◌*◌, ◌<◌, ◌≤◌, ◌^◌, List, [], ◌∷◌, length, Option, Some, None, Result, Ok, Err, refl, sym, ◌∙◌, ap, subst, arith}
 use Rattle.std.specs.Prelude.{option_map, IfSome, IfNone}
 use Rattle.vault_volume.specs.Image.{bytes_at, DiffersOnlyIn}
 use Rattle.vault_volume.proofs.ImageLemmas.{same_in}
@@ -14,9 +14,9 @@ use Rattle.custody_records.proofs.MetaLemmas.{number_reads}
 use Rattle.custody_store.specs.Reading.{first_meta}
 use Rattle.custody_machine.specs.declared.damage.Damage.{Damage}
 use Rattle.custody_machine.specs.declared.damage.Damage.TheVariants as wrong
-use Rattle.custody_machine.specs.Damage.{meta_of, IsRowOf, IsDamaged}
+use Rattle.custody_machine.specs.Damage.{meta_of, IsDamaged}
 use Rattle.custody_rules.specs.Breaks.{Breaks}
-use Rattle.std.specs.FinMap.{FinMap, get, empty, get-empty, same_map}
+use Rattle.std.specs.FinMap.{get, empty, get-empty, same_map}
 use Rattle.std.specs.declared.cmp.Ordering.{Ordering}
 use Rattle.sqlite.specs.State.{State, HasCleanDisk}
 use Rattle.custody_records.specs.Keys.{text_cmp, part_cmp, notice_cmp}

@@ -11,12 +11,12 @@ ghost use Rattle.custody_store.specs.Standing.{standing, Reads};
 ghost use Rattle.custody_machine.specs.declared.answers.Fault as why;
 ghost use Rattle.custody_machine.specs.declared.damage.Damage as wrong;
 ghost use Rattle.custody_machine.specs.declared.damage.Damage.TheVariants as damage;
+ghost use Rattle.custody_machine.specs.Plain.{command_of};
 ghost use Rattle.custody_machine.specs.State.{empty};
 ghost use Rattle.custody_machine.specs.Damage.{IsDamaged};
 ghost use Rattle.custody_machine.specs.Stored.{IsGood};
 ghost use Rattle.custody_machine.specs.Moves.{Serving, Left, IsBegun};
 ghost use Rattle.custody_machine.specs.Custody.{MayInitialise};
-ghost use Rattle.custody_machine.specs.Plain.{command_of};
 ghost use Rattle.custody.specs.Answers.{stays_open};
 ghost use Rattle.custody.specs.Holdings.{recorded, stored, image_of, failures_of, left_by, KeepsOrder, KeepsOrder-prop, KeepsImage, KeepsRows};
 ghost use Rattle.custody.specs.Opening.{HasNoRecord, IsRefused, free_blocks};
@@ -42,7 +42,7 @@ pub struct Custody<V: Volume, S: Alter> {
 }
 
 impl<V: Volume, S: Alter> Custody<V, S> {
-    ghost use Rattle.custody.specs.Custody.{HasApplied, HasRun, entries_of};
+    ghost use Rattle.custody.specs.Custody.{HasApplied, HasRun, held_by, is_open, entries_of};
 
     /// Begins a custody over a volume of 2 to 262,144 blocks and a database with no record of one:
     /// block 0 is written and synced, and then the records are made. Where it fails, volume and
@@ -54,11 +54,11 @@ impl<V: Volume, S: Alter> Custody<V, S> {
         number: u64,
     ) -> Result<Custody<V, S>, (InitError, V, Connection<S>)>
         requires { V.failures volume < 2 ^ 64 - 1 }
-        ensures open { IfOk result (λ c. c.is_open ≡ true) }
-        ensures records { IfOk result (λ c. recorded c.holdings ≡ new_records number (V.size volume)) }
-        ensures begun { IfOk result (λ c. IsBegun empty (Serving (recorded c.holdings) (image_of c.holdings))) }
-        ensures image { V.tells → IfOk result (λ c. KeepsImage c.holdings) }
-        ensures rows { (standing S.Store db).IsBare → IfOk result (λ c. (stored S.Store c.holdings).IsHonest → KeepsRows S.Store c.holdings) }
+        ensures open { IfOk result (λ c. is_open c ≡ true) }
+        ensures records { IfOk result (λ c. recorded (held_by c) ≡ new_records number (V.size volume)) }
+        ensures begun { IfOk result (λ c. IsBegun empty (Serving (recorded (held_by c)) (image_of (held_by c)))) }
+        ensures image { V.tells → IfOk result (λ c. KeepsImage (held_by c)) }
+        ensures rows { (standing S.Store db).IsBare → IfOk result (λ c. (stored S.Store (held_by c)).IsHonest → KeepsRows S.Store (held_by c)) }
         ensures size { IfErr result (λ e. e.0 ≡ InitError.Size → ¬ ((2 ≤ V.size volume) × (V.size volume ≤ 262144))) }
         ensures failed { IfErr result (λ e. e.0 ≡ InitError.Fault Fault.VolumeFailed → V.failures volume < V.failures e.1) }
         ensures not_failed { MatchResult result (λ c. failures_of c.holdings ≡ V.failures volume) (λ e. e.0 ≢ InitError.Fault Fault.VolumeFailed → V.failures e.1 ≡ V.failures volume) }
@@ -67,18 +67,18 @@ impl<V: Volume, S: Alter> Custody<V, S> {
         ensures taken { (standing S.Store db).IsReady ⊎ (standing S.Store db).IsBare
             → IfErr result (λ e. (standing S.Store e.2).IsHonest → e.0 ≡ InitError.AlreadyInitialised → ¬ HasNoRecord (standing S.Store db).rows) }
         ensures not_taken { (standing S.Store db).IsReady ⊎ (standing S.Store db).IsBare
-            → MatchResult result (λ c. (stored S.Store c.holdings).IsHonest → HasNoRecord (standing S.Store db).rows)
+            → MatchResult result (λ c. (stored S.Store (held_by c)).IsHonest → HasNoRecord (standing S.Store db).rows)
             (λ e. (standing S.Store e.2).IsHonest → e.0 ≡ InitError.Size → HasNoRecord (standing S.Store db).rows) }
         // A refusal writes nothing.
         ensures unwritten { IfErr result (λ e. IsRefused e.0 → e.1 ≡ volume) }
         ensures rows_left { (standing S.Store db).IsReady ⊎ (standing S.Store db).IsBare
             → IfErr result (λ e. (standing S.Store e.2).IsHonest → IsRefused e.0 → (rows : Rows) → (standing S.Store e.2).may_leave rows → (standing S.Store db).may_leave rows) }
-        ensures trust { MatchResult result (λ c. (stored S.Store c.holdings).IsHonest → (standing S.Store db).IsHonest)
+        ensures trust { MatchResult result (λ c. (stored S.Store (held_by c)).IsHonest → (standing S.Store db).IsHonest)
             (λ e. (standing S.Store e.2).IsHonest → (standing S.Store db).IsHonest) }
         // Before the commit a stop leaves no record, and at each exit no record or an empty custody.
         ensures within { (standing S.Store db).IsBare → (rows : Rows) (image : List ℕ) → (standing S.Store db).may_leave rows → IsDamaged damage.NoRecord rows image }
-        ensures begins { V.tells → (standing S.Store db).IsBare → IfOk result (λ c. (stored S.Store c.holdings).IsHonest
-            → (rows : Rows) (image : List ℕ) → (stored S.Store c.holdings).may_leave rows → left_by c.holdings image → IsBegun empty (Left rows image)) }
+        ensures begins { V.tells → (standing S.Store db).IsBare → IfOk result (λ c. (stored S.Store (held_by c)).IsHonest
+            → (rows : Rows) (image : List ℕ) → (stored S.Store (held_by c)).may_leave rows → left_by (held_by c) image → IsBegun empty (Left rows image)) }
         ensures fails { V.tells → (standing S.Store db).IsBare → IfErr result (λ e. (standing S.Store e.2).IsHonest
             → (rows : Rows) (image : List ℕ) → (standing S.Store e.2).may_leave rows → V.left_at e.1 (V.moment e.1) image → MayInitialise rows image) }
     {
@@ -107,11 +107,11 @@ impl<V: Volume, S: Alter> Custody<V, S> {
         db: Connection<S>,
     ) -> Result<Custody<V, S>, (Fault, V, Connection<S>)>
         requires { V.failures volume < 2 ^ 64 - 1 }
-        ensures open { IfOk result (λ c. c.is_open ≡ true) }
-        ensures records { V.tells → (standing S.Store db).IsReady → IfOk result (λ c. (stored S.Store c.holdings).IsHonest
-            → (form_of (standing S.Store db).rows ≡ InForm (recorded c.holdings)) × IsGood (recorded c.holdings) (V.image volume) × (image_of c.holdings ≡ V.image volume)) }
-        ensures image { V.tells → LeavesOne (V.image volume) (V.left_at volume (V.moment volume)) → IfOk result (λ c. KeepsImage c.holdings) }
-        ensures rows { (standing S.Store db).IsReady → IfOk result (λ c. (stored S.Store c.holdings).IsHonest → KeepsRows S.Store c.holdings) }
+        ensures open { IfOk result (λ c. is_open c ≡ true) }
+        ensures records { V.tells → (standing S.Store db).IsReady → IfOk result (λ c. (stored S.Store (held_by c)).IsHonest
+            → (form_of (standing S.Store db).rows ≡ InForm (recorded (held_by c))) × IsGood (recorded (held_by c)) (V.image volume) × (image_of (held_by c) ≡ V.image volume)) }
+        ensures image { V.tells → LeavesOne (V.image volume) (V.left_at volume (V.moment volume)) → IfOk result (λ c. KeepsImage (held_by c)) }
+        ensures rows { (standing S.Store db).IsReady → IfOk result (λ c. (stored S.Store (held_by c)).IsHonest → KeepsRows S.Store (held_by c)) }
         ensures damaged { V.tells → (standing S.Store db).IsReady ⊎ (standing S.Store db).IsBare → IfErr result (λ e. (standing S.Store e.2).IsHonest
             → (damage : wrong.Damage) → e.0 ≡ Fault.Damaged damage → IsDamaged damage (standing S.Store db).rows (V.image volume)) }
         // No record is told before any other damage.
@@ -122,9 +122,9 @@ impl<V: Volume, S: Alter> Custody<V, S> {
         ensures not_closed { IfErr result (λ e. e.0 ≢ Fault.Closed) }
         // It only reads.
         ensures during { V.tells → MatchResult result
-            (λ c. LeavesOnly V.moment V.left_at volume (volume_of c.holdings.vault) (V.left_at volume (V.moment volume)))
+            (λ c. LeavesOnly V.moment V.left_at volume (volume_of (held_by c).vault) (V.left_at volume (V.moment volume)))
             (λ e. LeavesOnly V.moment V.left_at volume e.1 (V.left_at volume (V.moment volume))) }
-        ensures reads { MatchResult result (λ c. Reads (standing S.Store db) (stored S.Store c.holdings) result) (λ e. Reads (standing S.Store db) (standing S.Store e.2) result) }
+        ensures reads { MatchResult result (λ c. Reads (standing S.Store db) (stored S.Store (held_by c)) result) (λ e. Reads (standing S.Store db) (standing S.Store e.2) result) }
     {
         let mut volume = volume;
         let mut db = db;
@@ -144,8 +144,8 @@ impl<V: Volume, S: Alter> Custody<V, S> {
 
     /// Hands the volume and the database back. It writes nothing.
     pub fn close(self) -> (V, Connection<S>)
-        ensures volume { result.0 ≡ volume_of self.holdings.vault }
-        ensures store { result.1 ≡ self.holdings.store }
+        ensures volume { result.0 ≡ volume_of (held_by self).vault }
+        ensures store { result.1 ≡ (held_by self).store }
     {
         let Holdings { vault, store, .. } = self.holdings;
         (vault.into_inner(), store.into_inner())
@@ -187,8 +187,8 @@ impl<V: Volume, S: Alter> Custody<V, S> {
 
     /// The records.
     pub fn records(&self) -> Result<&Records, Fault>
-        ensures found { IfOk result (λ records. (self.now.is_open ≡ true) × (records_of records.now ≡ recorded self.now.holdings)) }
-        ensures closed { IfErr result (λ fault. (self.now.is_open ≡ false) × (fault ≡ Fault.Closed)) }
+        ensures found { IfOk result (λ records. (is_open self.now ≡ true) × (records_of records.now ≡ recorded (held_by self.now))) }
+        ensures closed { IfErr result (λ fault. (is_open self.now ≡ false) × (fault ≡ Fault.Closed)) }
     {
         if self.is_open {
             Ok(&self.holdings.records)
@@ -199,8 +199,8 @@ impl<V: Volume, S: Alter> Custody<V, S> {
 
     /// How many blocks are free, and how many there are but block 0.
     pub fn room(&self) -> Result<(u32, u32), Fault>
-        ensures found { IfOk result (λ room. (self.now.is_open ≡ true) × (room.0 ≡ free_blocks (recorded self.now.holdings)) × (room.1 ≡ (recorded self.now.holdings).blocks - 1)) }
-        ensures closed { IfErr result (λ fault. (self.now.is_open ≡ false) × (fault ≡ Fault.Closed)) }
+        ensures found { IfOk result (λ room. (is_open self.now ≡ true) × (room.0 ≡ free_blocks (recorded (held_by self.now))) × (room.1 ≡ (recorded (held_by self.now)).blocks - 1)) }
+        ensures closed { IfErr result (λ fault. (is_open self.now ≡ false) × (fault ≡ Fault.Closed)) }
     {
         match self.records() {
             Ok(records) => Ok((free_blocks(records), records.blocks().saturating_sub(1))),

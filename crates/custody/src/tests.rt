@@ -1,4 +1,6 @@
 //! Tests over a volume and a database in memory.
+mod opening;
+
 use crate::Custody;
 use sqlite::{Connection, MemStore};
 use std::alloc::Global;

@@ -11,6 +11,66 @@ const AT_TEN: &[u8] = b"2026-08-02T10:00:00Z";
 
 const AT_ELEVEN: &[u8] = b"2026-08-02T11:00:00Z";
 
+// A name that is sent first, and why it is refused.
+const REFUSED: [(&[u8], Refusal); 14] = [
+    (
+        b"example_2026-08-02_full_S1_R01.ryde",
+        Refusal::NameRefused(NameError::Revision),
+    ),
+    (
+        b"example_2026-08-02_full_S0_R0.ryde",
+        Refusal::NameRefused(NameError::Part),
+    ),
+    (
+        b"example_2026-08-02_full_S9_R0.ryde",
+        Refusal::NameRefused(NameError::Part),
+    ),
+    (
+        b"example_2026-02-29_full_S1_R0.ryde",
+        Refusal::NameRefused(NameError::Date),
+    ),
+    (
+        b"-a_2026-08-02_full_S1_R0.ryde",
+        Refusal::NameRefused(NameError::Tld),
+    ),
+    (
+        b"example_2026-08-02_full_S1.ryde",
+        Refusal::NameRefused(NameError::Pieces),
+    ),
+    (
+        b"example_2026-08-02_full_S1_R0",
+        Refusal::NameRefused(NameError::Suffix),
+    ),
+    (
+        b"other_2026-08-02_full_S1_R0.ryde",
+        Refusal::RegistryUnknown,
+    ),
+    (
+        b"example_2026-08-01_full_S1_R0.ryde",
+        Refusal::DateOutOfRange,
+    ),
+    (
+        b"example_2026-08-03_diff_S1_R0.ryde",
+        Refusal::DateOutOfRange,
+    ),
+    (
+        b"example_2026-08-02_full_S1_R1.ryde",
+        Refusal::RevisionNotDue,
+    ),
+    (
+        b"example_2026-08-02_full_S2_R0.ryde",
+        Refusal::PartOutOfOrder,
+    ),
+    (
+        b"example_2026-08-02_full_S8_R0.ryde",
+        Refusal::PartOutOfOrder,
+    ),
+    (
+        b"example_2026-08-02_diff_S2_R0.ryde",
+        Refusal::PartOutOfOrder,
+    ),
+];
+
 fn ask(
     alloc: Global,
     state: &mut PlainState,
@@ -106,66 +166,8 @@ fn a_part_has_1_to_1048576_bytes(rt: HostRuntime) -> Result<(), Fail> {
 
 #[test]
 fn refuses_by_the_first_that_stands(rt: HostRuntime) -> Result<(), Fail> {
-    let rows: [(&[u8], Refusal); 14] = [
-        (
-            b"example_2026-08-02_full_S1_R01.ryde",
-            Refusal::NameRefused(NameError::Revision),
-        ),
-        (
-            b"example_2026-08-02_full_S0_R0.ryde",
-            Refusal::NameRefused(NameError::Part),
-        ),
-        (
-            b"example_2026-08-02_full_S9_R0.ryde",
-            Refusal::NameRefused(NameError::Part),
-        ),
-        (
-            b"example_2026-02-29_full_S1_R0.ryde",
-            Refusal::NameRefused(NameError::Date),
-        ),
-        (
-            b"-a_2026-08-02_full_S1_R0.ryde",
-            Refusal::NameRefused(NameError::Tld),
-        ),
-        (
-            b"example_2026-08-02_full_S1.ryde",
-            Refusal::NameRefused(NameError::Pieces),
-        ),
-        (
-            b"example_2026-08-02_full_S1_R0",
-            Refusal::NameRefused(NameError::Suffix),
-        ),
-        (
-            b"other_2026-08-02_full_S1_R0.ryde",
-            Refusal::RegistryUnknown,
-        ),
-        (
-            b"example_2026-08-01_full_S1_R0.ryde",
-            Refusal::DateOutOfRange,
-        ),
-        (
-            b"example_2026-08-03_diff_S1_R0.ryde",
-            Refusal::DateOutOfRange,
-        ),
-        (
-            b"example_2026-08-02_full_S1_R1.ryde",
-            Refusal::RevisionNotDue,
-        ),
-        (
-            b"example_2026-08-02_full_S2_R0.ryde",
-            Refusal::PartOutOfOrder,
-        ),
-        (
-            b"example_2026-08-02_full_S8_R0.ryde",
-            Refusal::PartOutOfOrder,
-        ),
-        (
-            b"example_2026-08-02_diff_S2_R0.ryde",
-            Refusal::PartOutOfOrder,
-        ),
-    ];
     let mut state = registered(rt.alloc())?;
-    for (name, refusal) in rows {
+    for (name, refusal) in REFUSED {
         let answer = put(rt.alloc(), &mut state, name, b"hello", AT_TEN)?;
         assert_eq!(rt; answer, PlainAnswer::Refused(refusal));
     }

@@ -84,7 +84,7 @@ fn reads_rows_in_form(rt: HostRuntime) -> Result<(), Fail> {
 }
 
 #[test]
-fn refuses_each_field_out_of_form(rt: HostRuntime) -> Result<(), Fail> {
+fn refuses_each_field_of_a_part_out_of_form(rt: HostRuntime) -> Result<(), Fail> {
     let good = part_columns();
     let bad = [
         PartColumns {
@@ -128,6 +128,11 @@ fn refuses_each_field_out_of_form(rt: HostRuntime) -> Result<(), Fail> {
         let result = columns.read(rt.alloc());
         assert_eq!(rt; result.err(), Some(RowError::OutOfForm));
     }
+    Ok(())
+}
+
+#[test]
+fn refuses_each_field_of_a_notice_out_of_form(rt: HostRuntime) {
     let good = notice_columns();
     let bad = [
         NoticeColumns { tld: b"", ..good },
@@ -145,6 +150,10 @@ fn refuses_each_field_out_of_form(rt: HostRuntime) -> Result<(), Fail> {
     for columns in &bad {
         assert_eq!(rt; columns.read(), None);
     }
+}
+
+#[test]
+fn refuses_each_field_of_a_release_out_of_form(rt: HostRuntime) -> Result<(), Fail> {
     let good = release_columns();
     let bad = [
         ReleaseColumns {

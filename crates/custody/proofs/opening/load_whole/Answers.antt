@@ -1,4 +1,4 @@
-use Rattle.std.proofs.Common.{◌≡◌, subst, rules}
+use Rattle.std.proofs.Common.{◌≡◌, subst}
 use Rattle.custody_records.specs.Held.{records_of}
 use Rattle.custody_rules.specs.Breaks.{Breaks}
 use Rattle.custody.proofs.Opened.{some_is, broken_damaged}

@@ -1,4 +1,4 @@
-use Rattle.std.proofs.Common.{◌≡◌, inl, inr, ℕ, ◌<◌, ◌^◌, ◌*◌, length, sym, ◌∙◌, ap, subst, arith}
+use Rattle.std.proofs.Common.{◌≡◌, inl, inr, ◌<◌, ◌^◌, ◌*◌, length, sym, ◌∙◌, ap, subst, arith}
 use Rattle.vault_volume.specs.Head.{head_of}
 use Rattle.vault_volume.specs.Vault.{volume_of, IsFree}
 use Rattle.sqlite.specs.Held.{state}

@@ -1,5 +1,4 @@
-use Rattle.std.proofs.Common.{◌≡◌, inl, inr, ℕ, List, ◌*◌, length, sym, ◌∙◌, ap, subst}
-use Rattle.vault_volume.specs.Disk.{LeavesOne}
+use Rattle.std.proofs.Common.{inl, inr, ℕ, List, ◌*◌, sym, ◌∙◌, ap, subst}
 use Rattle.vault_volume.specs.Head.{head_of}
 use Rattle.vault_volume.specs.Image.{bytes_at}
 use Rattle.vault_volume.specs.Vault.{volume_of, IsFree}
@@ -9,8 +8,7 @@ use Rattle.custody_records.specs.Records.{Records}
 use Rattle.custody_store.specs.Standing.{standing}
 use Rattle.custody_machine.specs.Damage.{IsDamaged}
 use Rattle.custody_machine.specs.Stored.{AreWhole}
-use Rattle.custody_machine.specs.Custody.{IsInStore}
-use Rattle.custody.specs.Holdings.{recorded, image_of}
+use Rattle.custody.specs.Holdings.{recorded}
 use Rattle.custody.proofs.Opened.{bare_has_none, ready_still, left_now, reads_on_ok, reads_on_err, on_volume}
 use Rattle.custody.proofs.custody.Custody.open.Goals as goal
 
