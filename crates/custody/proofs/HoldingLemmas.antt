@@ -76,10 +76,11 @@ registry_means rows records tld day is form in_range new = registry_inserted row
 
 module _ {V S : Type 0} {g : volume.Ghosts V} (old new : Holdings V S g) (command : Command) where
   -- a command is done
-  pub safe_done : (reply : Reply) → reply.is_repeat ≡ false → KeepsOrder new → IsSafe old command (Ok reply) new
-  safe_done reply first order = record {
+  pub safe_done : (reply : Reply) → reply.is_repeat ≡ false → failures_of new ≡ failures_of old → KeepsOrder new → IsSafe old command (Ok reply) new
+  safe_done reply first failures order = record {
     answers = λ e. cc;
     failed = λ e. cc;
+    not_failed = λ _. failures;
     full = λ e. cc;
     unchanged = λ same. by reply.is_repeat first same;
     order = λ _. order;
@@ -143,6 +144,6 @@ module _ {V S : Type 0} {g : volume.Ghosts V} (old new : Holdings V S g) (same :
   }
 
   -- nothing was done
-  pub safe_undone : (command : Command) (answer : Result Reply Refused) → answer ≢ Err (refused.Fault Closed) → (answer ≡ Err (refused.Fault VolumeFailed) → failures_of old < failures_of new) → (answer ≡ Err (refused.Refusal VolumeFull) → ¬ HasRoomFor (recorded old) command)
+  pub safe_undone : (command : Command) (answer : Result Reply Refused) → answer ≢ Err (refused.Fault Closed) → (answer ≡ Err (refused.Fault VolumeFailed) → failures_of old < failures_of new) → (answer ≢ Err (refused.Fault VolumeFailed) → failures_of new ≡ failures_of old) → (answer ≡ Err (refused.Refusal VolumeFull) → ¬ HasRoomFor (recorded old) command)
       → new.store ≡ old.store → (stays_open answer ≡ true → KeepsOrder new) → IsSafe old command answer new
-  safe_undone command answer closed failed full store order = record { answers = closed; failed = failed; full = full; unchanged = λ _. (same, store); order = order }
+  safe_undone command answer closed failed not_failed full store order = record { answers = closed; failed = failed; not_failed = not_failed; full = full; unchanged = λ _. (same, store); order = order }

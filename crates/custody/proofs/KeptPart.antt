@@ -40,7 +40,7 @@ module _ {V S : Type 0} {g : volume.Ghosts V} (old new : Holdings V S g) (text b
   kept_means moment rows is = part_means n now (g.size (volume_of old.vault)) (IsFree old.vault) (IsFree new.vault) bytes staged placed rows (recorded old) text is ruled.0 moment order.blocks kept_sized ruled.1
 
   pub kept_safe : recorded new ≡ records_then → g.size (volume_of new.vault) ≡ g.size (volume_of old.vault) → failures_of new ≡ failures_of old → (len : ℕ) → IsSafe old (Receive text bytes) (Ok (record { «record» = of.Part n now len; is_repeat = false })) new
-  kept_safe same size failures len = safe_done old new (Receive text bytes) (record { «record» = of.Part n now len; is_repeat = false }) refl
+  kept_safe same size failures len = safe_done old new (Receive text bytes) (record { «record» = of.Part n now len; is_repeat = false }) refl failures
       (subst (λ r. IsInOrder r (g.size (volume_of new.vault)) (failures_of new) (IsFree new.vault)) (sym same)
       (subst (λ s. IsInOrder records_then s (failures_of new) (IsFree new.vault)) (sym size)
       (part_in_order (recorded old) [] order.whole text bytes now n ruled.0 ruled.1 (ruled.2 [] bytes refl) (g.size (volume_of old.vault)) (failures_of old) (IsFree old.vault) order (IsFree new.vault) staged placed (failures_of new) (subst (λ k. k < 2 ^ 64 - 1) (sym failures) order.count))))

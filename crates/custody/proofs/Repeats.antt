@@ -41,7 +41,7 @@ module _ {V S : Type 0} {g : volume.Ghosts V} (old : Holdings V S g) (order : Ke
     -- ---- whatever volume and database are
 
     pub compared_safe : (answer : Result Reply not_accepted.Refused) → failures_of new ≡ failures_of old → answer ≢ Err (refused.Fault fault.Closed) → answer ≢ Err (refused.Fault fault.VolumeFailed) → answer ≢ Err (refused.Refusal VolumeFull) → IsSafe old (Receive text bytes) answer new
-    compared_safe answer failures closed failed full = safe_undone old new records_same free (Receive text bytes) answer closed (λ h. absurd (failed h)) (λ h. absurd (full h)) store_same (λ _. order_same old new records_same free size failures order)
+    compared_safe answer failures closed failed full = safe_undone old new records_same free (Receive text bytes) answer closed (λ h. absurd (failed h)) (λ _. failures) (λ h. absurd (full h)) store_same (λ _. order_same old new records_same free size failures order)
 
     pub repeat_safe : (reply : Reply) → reply.is_repeat ≡ true → failures_of new ≡ failures_of old → IsSafe old (Receive text bytes) (Ok reply) new
     repeat_safe reply repeat failures = compared_safe (Ok reply) failures (λ h. cc) (λ h. cc) (λ h. cc)
@@ -52,7 +52,7 @@ module _ {V S : Type 0} {g : volume.Ghosts V} (old : Holdings V S g) (order : Ke
         by : (e : ReadError) → (e ≡ read.NoMemory → failures_of new ≡ failures_of old) → (e ≡ read.VolumeFailed → failures_of new ≡ failures_of old + 1) → IsSafe old (Receive text bytes) (Err (unread e)) new
         by read.NoMemory memory failed = compared_safe (Err (refused.Fault fault.NoMemory)) (memory refl) (λ h. cc) (λ h. cc) (λ h. cc)
         by read.VolumeFailed memory failed = let one = failed refl in
-            safe_undone old new records_same free (Receive text bytes) (Err (refused.Fault fault.VolumeFailed)) (λ h. cc) (λ h. omega (arith, one)) (λ h. cc) store_same (λ h. cc)
+            safe_undone old new records_same free (Receive text bytes) (Err (refused.Fault fault.VolumeFailed)) (λ h. cc) (λ h. omega (arith, one)) (λ other. absurd (other refl)) (λ h. cc) store_same (λ h. cc)
 
     -- ---- where the volume tells its images
 

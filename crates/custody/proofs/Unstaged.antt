@@ -44,13 +44,18 @@ module _ {V S : Type 0} {g : volume.Ghosts V} (old new : Holdings V S g) (same :
   pub unstaged_safe : (e ≡ VolumeFailed → failures_of new ≡ failures_of old + 1) → (e ≡ Full → (start : ℕ) → ¬ IsFreeRun (IsFree old.vault) start (block_count (length bytes)))
       → (answer : Result Reply not_accepted.Refused) → answer ≡ Err (unstaged e) → IsSafe old (Receive text bytes) answer new
   unstaged_safe failed full answer is = subst (λ a. IsSafe old (Receive text bytes) a new) (sym is)
-      (safe_undone old new same free (Receive text bytes) (Err (unstaged e)) (answers e) (λ h. let one = failed (failing e h) in omega (arith, one)) (λ h room. full (filling e h) room.0 (λ b low high. (order.placeable b).1 (room.1 b low high))) store_same
+      (safe_undone old new same free (Receive text bytes) (Err (unstaged e)) (answers e) (λ h. let one = failed (failing e h) in omega (arith, one)) (λ other. ap g.failures (volume_same (still_open e other))) (λ h room. full (filling e h) room.0 (λ b low high. (order.placeable b).1 (room.1 b low high))) store_same
       (λ stays. order_same old new same free (ap g.size (volume_same stays)) (ap g.failures (volume_same stays)) order))
     where
       answers : (d : StageError) → ◌≢◌ {A = Result Reply not_accepted.Refused} (Err (unstaged d)) (Err (refused.Fault fault.Closed))
       answers Full h = cc
       answers NoMemory h = cc
       answers VolumeFailed h = cc
+
+      still_open : (d : StageError) → ◌≢◌ {A = Result Reply not_accepted.Refused} (Err (unstaged d)) (Err (refused.Fault fault.VolumeFailed)) → stays_open (Err (unstaged d)) ≡ true
+      still_open Full other = refl
+      still_open NoMemory other = refl
+      still_open VolumeFailed other = absurd (other refl)
 
       failing : (d : StageError) → ◌≡◌ {A = Result Reply not_accepted.Refused} (Err (unstaged d)) (Err (refused.Fault fault.VolumeFailed)) → d ≡ VolumeFailed
       failing Full h = cc

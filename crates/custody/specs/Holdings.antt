@@ -67,6 +67,8 @@ module _ {V S : Type 0} {g : volume.Ghosts V} where
     pub answers : answer ≢ Err (refused.Fault Closed)
     -- the volume has failed where it says so
     pub failed : answer ≡ Err (refused.Fault VolumeFailed) → failures_of old < failures_of new
+    -- and has not where it says anything else
+    pub not_failed : answer ≢ Err (refused.Fault VolumeFailed) → failures_of new ≡ failures_of old
     -- there is no room where it says so
     pub full : answer ≡ Err (refused.Refusal VolumeFull) → ¬ HasRoomFor (recorded old) command
     -- where nothing was done, nothing is recorded, and the database was not called

@@ -18,7 +18,7 @@ ghost use Rattle.custody_machine.specs.Stored.{IsGood};
 ghost use Rattle.custody_machine.specs.Moves.{Serving, Left, IsBegun};
 ghost use Rattle.custody_machine.specs.Custody.{MayInitialise};
 ghost use Rattle.custody.specs.Answers.{stays_open};
-ghost use Rattle.custody.specs.Holdings.{recorded, stored, image_of, left_by, KeepsOrder, KeepsOrder-prop, KeepsImage, KeepsRows};
+ghost use Rattle.custody.specs.Holdings.{recorded, stored, image_of, failures_of, left_by, KeepsOrder, KeepsOrder-prop, KeepsImage, KeepsRows};
 ghost use Rattle.custody.specs.Opening.{HasNoRecord, IsRefused, free_blocks};
 
 use crate::holdings::Holdings;
@@ -61,6 +61,7 @@ impl<V: Volume, S: Alter> Custody<V, S> {
         ensures rows { (standing S.Store db).IsBare → IfOk result (λ c. (stored S.Store (held_by c)).IsHonest → KeepsRows S.Store (held_by c)) }
         ensures size { IfErr result (λ e. e.0 ≡ InitError.Size → ¬ ((2 ≤ V.size volume) × (V.size volume ≤ 262144))) }
         ensures failed { IfErr result (λ e. e.0 ≡ InitError.Fault Fault.VolumeFailed → V.failures volume < V.failures e.1) }
+        ensures not_failed { MatchResult result (λ c. failures_of (held_by c) ≡ V.failures volume) (λ e. e.0 ≢ InitError.Fault Fault.VolumeFailed → V.failures e.1 ≡ V.failures volume) }
         ensures kind { IfErr result (λ e. (fault : why.Fault) → e.0 ≡ InitError.Fault fault → (fault ≡ Fault.VolumeFailed) ⊎ (fault ≡ Fault.StoreFailed)) }
         // A database with a record is refused, and no other.
         ensures taken { (standing S.Store db).IsReady ⊎ (standing S.Store db).IsBare
@@ -113,7 +114,11 @@ impl<V: Volume, S: Alter> Custody<V, S> {
         ensures rows { (standing S.Store db).IsReady → IfOk result (λ c. (stored S.Store (held_by c)).IsHonest → KeepsRows S.Store (held_by c)) }
         ensures damaged { V.tells → (standing S.Store db).IsReady ⊎ (standing S.Store db).IsBare → IfErr result (λ e. (standing S.Store e.2).IsHonest
             → (damage : wrong.Damage) → e.0 ≡ Fault.Damaged damage → IsDamaged damage (standing S.Store db).rows (V.image volume)) }
+        // No record is told before any other damage.
+        ensures first { (standing S.Store db).IsReady ⊎ (standing S.Store db).IsBare → IfErr result (λ e. (standing S.Store e.2).IsHonest
+            → (found : wrong.Damage) → e.0 ≡ Fault.Damaged found → found ≢ damage.NoRecord → ¬ HasNoRecord (standing S.Store db).rows) }
         ensures failed { IfErr result (λ e. e.0 ≡ Fault.VolumeFailed → V.failures volume < V.failures e.1) }
+        ensures not_failed { MatchResult result (λ c. failures_of (held_by c) ≡ V.failures volume) (λ e. e.0 ≢ Fault.VolumeFailed → V.failures e.1 ≡ V.failures volume) }
         ensures not_closed { IfErr result (λ e. e.0 ≢ Fault.Closed) }
         // It only reads.
         ensures during { V.tells → MatchResult result

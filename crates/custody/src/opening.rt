@@ -60,6 +60,7 @@ fn read_number<V: Volume>(volume: &mut V) -> Result<u64, Fault>
     requires { V.failures volume.old < 2 ^ 64 - 1 }
     ensures size { V.size volume.new ≡ V.size volume.old }
     ensures failed { IfErr result (λ fault. fault ≡ Fault.VolumeFailed → V.failures volume.old < V.failures volume.new) }
+    ensures not_failed { IfErr result (λ fault. fault ≢ Fault.VolumeFailed → V.failures volume.new ≡ V.failures volume.old) }
     ensures no_failure { OnOk result (V.failures volume.new ≡ V.failures volume.old) }
     ensures not_closed { IfErr result (λ fault. fault ≢ Fault.Closed) }
     ensures head { V.tells → IfOk result (λ number. bytes_at (V.image volume.old) 0 4096 ≡ head_of number) }
@@ -90,6 +91,7 @@ pub fn identify<V: Volume, S: Alter>(
     ensures size { V.size volume.new ≡ V.size volume.old }
     ensures blocks { IfOk result (λ found. found.1 ≡ V.size volume.old) }
     ensures failed { IfErr result (λ fault. fault ≡ Fault.VolumeFailed → V.failures volume.old < V.failures volume.new) }
+    ensures not_failed { IfErr result (λ fault. fault ≢ Fault.VolumeFailed → V.failures volume.new ≡ V.failures volume.old) }
     ensures no_failure { OnOk result (V.failures volume.new ≡ V.failures volume.old) }
     ensures not_closed { IfErr result (λ fault. fault ≢ Fault.Closed) }
     ensures head { V.tells → IfOk result (λ found. bytes_at (V.image volume.old) 0 4096 ≡ head_of found.0) }
@@ -97,6 +99,9 @@ pub fn identify<V: Volume, S: Alter>(
         → OnOk result (¬ HasNoRecord (standing S.Store db.old).rows) }
     ensures damaged { V.tells → (standing S.Store db.new).IsHonest → (standing S.Store db.old).IsReady ⊎ (standing S.Store db.old).IsBare
         → IfErr result (λ fault. (damage : wrong.Damage) → fault ≡ Fault.Damaged damage → IsDamaged damage (standing S.Store db.old).rows (V.image volume.old)) }
+    // No record is told before anything else.
+    ensures first { (standing S.Store db.new).IsHonest → (standing S.Store db.old).IsReady ⊎ (standing S.Store db.old).IsBare
+        → IfErr result (λ fault. (damage : wrong.Damage) → fault ≡ Fault.Damaged damage → damage ≢ Damage.NoRecord → ¬ HasNoRecord (standing S.Store db.old).rows) }
     ensures reads { Reads (standing S.Store db.old) (standing S.Store db.new) result }
     ensures image { V.tells → V.image volume.new ≡ V.image volume.old }
     ensures any_moment { V.tells → LeavesOnly V.moment V.left_at volume.old volume.new (V.left_at volume.old (V.moment volume.old)) }
@@ -191,6 +196,7 @@ pub fn prepare<V: Volume, S: Alter>(
     requires blocks { V.size volume.old ≡ blocks }
     ensures size { V.size volume.new ≡ V.size volume.old }
     ensures failed { IfErr result (λ fault. fault ≡ Fault.VolumeFailed → V.failures volume.old < V.failures volume.new) }
+    ensures not_failed { IfErr result (λ fault. fault ≢ Fault.VolumeFailed → V.failures volume.new ≡ V.failures volume.old) }
     ensures no_failure { OnOk result (V.failures volume.new ≡ V.failures volume.old) }
     ensures kind { IfErr result (λ fault. (fault ≡ Fault.VolumeFailed) ⊎ (fault ≡ Fault.StoreFailed)) }
     ensures head { V.tells → OnOk result (bytes_at (V.image volume.new) 0 4096 ≡ head_of number) }

@@ -79,3 +79,9 @@ pub returns-in-Err-load_whole-clause-reads : goal.returns-in-Err-load_whole-clau
 returns-in-Err-load_whole-clause-reads g c =
     reads_on_err (standing g.S.Store c.args.db) (standing g.S.Store c.identify.new.db) (standing g.S.Store c.over-store.result) _ c.in-Ok.ensures.reads (ap (standing g.S.Store) c.over-store.ensures)
     (standing g.S.Store c.load_whole.new.store) (standing g.S.Store c.into_inner.result) _ _ c.in-Err-load_whole.ensures.reads (ap (standing g.S.Store) c.into_inner.ensures)
+
+pub returns-in-Err-load_whole-clause-first : goal.returns-in-Err-load_whole-clause-first
+returns-in-Err-load_whole-clause-first g c either honest damage same other =
+    let clean = subst (λ db. (standing g.S.Store db).IsHonest) c.into_inner.ensures honest in
+    let then = c.in-Err-load_whole.ensures.reads.trust clean in
+    c.in-Ok.ensures.row (subst (λ s. s.IsHonest) (ap (standing g.S.Store) c.over-store.ensures) then) either

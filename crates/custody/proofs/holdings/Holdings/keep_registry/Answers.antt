@@ -37,7 +37,7 @@ returns-then-is_err-2-clause-serves g c = λ tells honest volume store.
 pub returns-clause-safe : goal.returns-clause-safe
 returns-clause-safe g c =
     let old = c.args.self.now in
-    safe_done old _ _ _ refl
+    safe_done old _ _ _ refl refl
     (subst (λ r. IsInOrder r (g.V.Volume.size (volume_of old.vault)) (failures_of old) (IsFree old.vault)) (sym (c.add_registry.ensures ∙ ap (λ r. with_registry r c.args.tld c.args.first_day) c.reserve_registry.ensures.same))
     (registry_in_order (recorded old) [] (g.V.Volume.size (volume_of old.vault)) (failures_of old) (failures_of old) (IsFree old.vault) (IsFree old.vault) c.requires.order c.args.tld c.args.first_day c.requires.order.count))
 
