@@ -1,5 +1,5 @@
 -- Sessions of a custody, and one after another, as moves of the machine.
-use Rattle.std.proofs.Common.{◌≡◌, ◌≢◌, ◌↔◌, inl, ℕ, suc, length, ap, List, [], ◌∷◌, refl, sym, ◌∙◌, subst, Result}
+use Rattle.std.proofs.Common.{◌≡◌, ◌≢◌, inl, ℕ, suc, length, ap, List, [], ◌∷◌, refl, sym, ◌∙◌, subst, Result}
 use Rattle.vault_volume.specs.declared.volume.Volume as volume
 use Rattle.vault_volume.specs.Disk.{LeavesOne}
 use Rattle.sqlite.specs.Store.{Ghosts}
@@ -114,19 +114,11 @@ reopened rows image entries answers rows_left images_left session left later rec
     stands : Stands left later (state_in records later)
     stands = record { records = records; in_form = is; good = good; meaning = refl }
 
--- the same, where the images are known by other names
-pub reopened_as : (rows : Rows) (image then : List ℕ) (entries : List Entry) (answers : List Answer) (rows_left : Rows → Type 0) (images_left : List ℕ → Type 0) → then ≡ image → IsSession rows then entries answers rows_left images_left
+-- the same, where the image is known by another name
+pub reopened_as : (rows : Rows) (image : List ℕ) (entries : List Entry) (answers : List Answer) (rows_left : Rows → Type 0) (images_left : List ℕ → Type 0) → IsSession rows image entries answers rows_left images_left
     → (left : Rows) (later now : List ℕ) (records : Records) → now ≡ later → rows_left left → images_left later → form_of left ≡ InForm records → IsGood records later → IsReopened rows image entries answers left records now
-reopened_as rows image then entries answers rows_left images_left was session left later now records is h w form good =
-    subst (λ i. IsReopened rows i entries answers left records now) was
-    (subst (λ i. IsReopened rows then entries answers left records i) (sym is) (reopened rows then entries answers rows_left images_left session left later records h w form good))
-
--- a volume that leaves one image still does
-pub still_one : (image then : List ℕ) (t now : ℕ) (left later : ℕ → List ℕ → Type 0) → then ≡ image → now ≡ t → ((s : ℕ) (c : List ℕ) → later s c ↔ left s c) → LeavesOne image (left t) → LeavesOne then (later now)
-still_one image then t now left later same_image same_moment same_left one c = (
-  λ h. (one c).0 (subst (λ s. left s c) same_moment ((same_left now c).0 h)) ∙ sym same_image,
-  λ e. (same_left now c).1 (subst (λ s. left s c) (sym same_moment) ((one c).1 (e ∙ same_image))),
-)
+reopened_as rows image entries answers rows_left images_left session left later now records is h w form good =
+    subst (λ i. IsReopened rows image entries answers left records i) (sym is) (reopened rows image entries answers rows_left images_left session left later records h w form good)
 
 module _ {V S : Type 0} {g : volume.Ghosts V} {database : Ghosts S} (tells : g.tells) where
   -- an opening of rows and an image, and then commands

@@ -42,7 +42,7 @@ pub fn serve_session<V: Volume, S: Alter + Drop>(
     requires { V.failures volume < 2 ^ 64 - 1 }
     ensures served { V.tells → LeavesOne (V.image volume) (V.left_at volume (V.moment volume)) → (standing S.Store db).IsReady
         → IfOk result (λ s. (standing S.Store s.db).IsHonest → IsSession (standing S.Store db).rows (V.image volume) (entries_of commands.now) (answers_of (entries_of commands.now) s.answers.items)
-            (standing S.Store s.db).may_leave (V.left_at s.volume (V.moment s.volume))) }
+        (standing S.Store s.db).may_leave (V.left_at s.volume (V.moment s.volume))) }
     ensures failed { V.tells → LeavesOne (V.image volume) (V.left_at volume (V.moment volume)) → (standing S.Store db).IsReady
         → IfErr result (λ e. (standing S.Store e.2).IsHonest → IsNotOpened (standing S.Store db).rows (V.image volume) e.0 (standing S.Store e.2).may_leave (V.left_at e.1 (V.moment e.1))) }
 {
@@ -62,15 +62,14 @@ pub fn serve_session<V: Volume, S: Alter + Drop>(
     }
 }
 
-/// Opens what a volume in memory and a database hold, and does commands, until the volume stops at the
-/// call of a number. Then the volume is restarted over a filling, and opened again with `left`: the
-/// database as the stop has left it. A filling of another length than the volume is refused.
+/// Opens what a volume in memory and a database hold, and does commands, wherever the volume's script
+/// stops it. Then the volume is restarted over a filling, and opened again with `left`: the database as
+/// the stop has left it. A filling of another length than the volume is refused.
 pub fn open_run_and_reopen<S: Alter + Drop>(
     alloc: Global,
     volume: MemVolume,
     db: Connection<S>,
     commands: &[(Command<'_>, Sec)],
-    stop: u64,
     fill: &[u8],
     left: Connection<S>,
 ) -> Result<Reopened<S>, Fault>
@@ -82,8 +81,6 @@ pub fn open_run_and_reopen<S: Alter + Drop>(
         → IsReopened (standing S.Store db).rows (⟦<MemVolume as Volume>⟧.image volume) (entries_of commands.now) (answers_of (entries_of commands.now) r.answers.items)
         (standing S.Store left).rows (recorded (held_by r.custody)) (image_of (held_by r.custody))) }
 {
-    let mut volume = volume;
-    volume.stop_at(stop);
     let session = match serve_session(alloc, volume, db, commands) {
         Ok(session) => session,
         Err(failed) => return Err(failed.0),

@@ -52,7 +52,7 @@ returns-in-Err-answers-clause-failed g c tells one ready honest =
     let same_store = c.close-volume.ensures.store ∙ ap (λ custody. (held_by custody).store) same in
     let clean = subst (λ db. (standing g.S.Store db).IsHonest) same_store honest in
     let made = not_opened (state g.S.Store db) (stored g.S.Store (held_by old)) image NoMemory _ (g.V.Volume.left_at there (g.V.Volume.moment there)) (g.V.Volume.left_at volume (g.V.Volume.moment volume)) tt ready c.in-Ok.ensures.reads clean one
-        (left_now g.V.Volume.moment g.V.Volume.left_at volume there _ (c.in-Ok.ensures.during tells)) in
+    (left_now g.V.Volume.moment g.V.Volume.left_at volume there _ (c.in-Ok.ensures.during tells)) in
     let left = (standing g.S.Store c.close-volume.result.1).may_leave in
     subst (λ v. IsNotOpened rows image NoMemory left (g.V.Volume.left_at v (g.V.Volume.moment v))) (sym same_volume)
     (subst (λ db. IsNotOpened rows image NoMemory (standing g.S.Store db).may_leave (g.V.Volume.left_at there (g.V.Volume.moment there))) (sym same_store) made)
