@@ -1,25 +1,32 @@
 -- Sessions of a custody, and one after another, as moves of the machine.
-use Rattle.std.proofs.Common.{◌≡◌, ◌↔◌, ℕ, List, [], ◌∷◌, refl, sym, ◌∙◌, subst, Result}
+use Rattle.std.proofs.Common.{◌≡◌, ◌≢◌, inl, ℕ, suc, length, ap, List, [], ◌∷◌, refl, sym, ◌∙◌, subst, Result}
 use Rattle.vault_volume.specs.declared.volume.Volume as volume
 use Rattle.vault_volume.specs.Disk.{LeavesOne}
 use Rattle.sqlite.specs.Store.{Ghosts}
+use Rattle.sqlite.specs.State as database_state
 use Rattle.custody_records.specs.Records.{Records}
 use Rattle.custody_records.specs.Rows.{Rows}
 use Rattle.custody_records.specs.Form.{form_of, InForm}
+use Rattle.custody_store.specs.Standing.{Standing, shown, IsReady, Reads}
+use Rattle.custody_machine.specs.declared.damage.Damage.{Damage}
+use Rattle.custody_machine.specs.declared.answers.Fault.{Fault}
+use Rattle.custody_machine.specs.declared.answers.Fault.TheVariants.{NoMemory, VolumeFailed, StoreFailed, Closed, Damaged}
+use Rattle.custody_machine.specs.Damage.{IsDamaged}
 use Rattle.custody_machine.specs.State.{State}
 use Rattle.custody_machine.specs.Machine.{Entry, after, Answer}
 use Rattle.custody_machine.specs.History.{Pair, Event, Opened, StoppedAtRest, OpenedWith, found}
-use Rattle.custody_machine.specs.Stored.{Stands, IsGood, HasDigests, state_in}
-use Rattle.custody_machine.specs.Moves.{Place, Serving, Shut, Left, MayLeave, Finds, Moves, MovesAlong, answered_all, IsIn}
+use Rattle.custody_machine.specs.Stored.{Stands, IsGood, HasDigests, KeepsParts, state_in}
+use Rattle.custody_machine.specs.Moves.{Place, Serving, Shut, Left, MayLeave, MayNotOpen, Finds, Moves, MovesAlong, Chain, MovesBy, answered_all, IsIn}
 use Rattle.custody_machine.proofs.Forms.{records_inj}
 use Rattle.custody_machine.proofs.Moves.{chains_move, pair_of, places_are_right, finds_some}
-use Rattle.custody_machine.proofs.Stored.{stands_for_one}
+use Rattle.custody_machine.proofs.Stored.{stands_for_one, keeps_itself}
 use Rattle.custody.specs.declared.answers.Reply.{Reply}
 use Rattle.custody.specs.declared.answers.Refused as not_accepted
 use Rattle.custody.specs.declared.custody.Custody.{Custody}
 use Rattle.custody.specs.Holdings.{recorded, stored, image_of, left_by}
 use Rattle.custody.specs.Custody.{held_by, HasRun}
-use Rattle.custody.specs.Sessions.{answers_of, IsAfter, IsServing, place_of, IsSession, IsReopened, SessionsJoin}
+use Rattle.custody.specs.Sessions.{answers_of, IsAfter, IsServing, place_of, IsSession, IsNotOpened, IsReopened, SessionsJoin}
+use Rattle.custody.proofs.Opened.{reads_left}
 use Rattle.custody.proofs.RunMoves.{along_join, runs_move}
 
 -- what a stop leaves of a place where each held part has its digest has them too
@@ -30,6 +37,38 @@ still_sound state (Left before image) rows left records here may is =
     let s : Stands before image state = here.0 in
     let o = may s.records s.in_form s.good in
     subst (HasDigests left) (records_inj o.records records (sym o.in_form ∙ is)) (λ key. o.keeps.digests key (here.1 s.records s.in_form key))
+
+-- commands that were answered one after the other
+same_length : (old new : Place) (entries : List Entry) (answers : List Answer) → Chain MovesBy old entries answers new → length answers ≡ length entries
+same_length old new [] [] c = refl
+same_length old new [] (a ∷ answers) c = absurd c
+same_length old new (e ∷ entries) [] c = absurd c
+same_length old new (e ∷ entries) (a ∷ answers) c = ap suc (same_length c.0 new entries answers c.2)
+
+-- why an opening failed
+pub may_not_open : (rows : Rows) (image : List ℕ) (fault : Fault) → fault ≢ Closed → ((damage : Damage) → fault ≡ Damaged damage → IsDamaged damage rows image) → MayNotOpen rows image fault
+may_not_open rows image NoMemory open_not damaged = tt
+may_not_open rows image VolumeFailed open_not damaged = tt
+may_not_open rows image StoreFailed open_not damaged = tt
+may_not_open rows image Closed open_not damaged = open_not refl
+may_not_open rows image (Damaged damage) open_not damaged = damaged damage refl
+
+-- and what it read is left as it was
+left_same : (rows : Rows) (image : List ℕ) (r : Rows) (j : List ℕ) → r ≡ rows → j ≡ image → MayLeave (Left rows image) r j
+left_same rows image r j same_rows same_image records is good = record {
+  records = records;
+  in_form = ap form_of same_rows ∙ is;
+  good = subst (IsGood records) (sym same_image) good;
+  keeps = subst (KeepsParts records image records) (sym same_image) (keeps_itself records image);
+  state = ap (state_in records) same_image;
+}
+
+pub not_opened : {A E : Type 0} (s : database_state.State) (new : Standing) (image : List ℕ) (fault : Fault) (result : Result A E) (images_left was_left : List ℕ → Type 0) → MayNotOpen (shown s).rows image fault → IsReady s → Reads (shown s) new result → new.IsHonest
+    → LeavesOne image was_left → ((j : List ℕ) → images_left j → was_left j) → IsNotOpened (shown s).rows image fault new.may_leave images_left
+not_opened s new image fault result images_left was_left cause ready reads honest one left = record {
+  cause = cause;
+  leaves = λ r j h w. left_same (shown s).rows image r j (ready.only r (reads_left (shown s) new result reads honest (inl ready) r h)) ((one j).0 (left j w));
+}
 
 -- a stop at rest
 stops : (place : Place) (rows : Rows) (left : List ℕ) (pair : Pair) → MayLeave place rows left → Finds rows left pair → Moves place (StoppedAtRest pair) (Left rows left)
@@ -52,6 +91,7 @@ sessions_join rows_left rows_then images_left images_then rows left image later 
 reopened : (rows : Rows) (image : List ℕ) (entries : List Entry) (answers : List Answer) (rows_left : Rows → Type 0) (images_left : List ℕ → Type 0) (session : IsSession rows image entries answers rows_left images_left)
     (left : Rows) (later : List ℕ) (records : Records) → rows_left left → images_left later → form_of left ≡ InForm records → IsGood records later → IsReopened rows image entries answers left records later
 reopened rows image entries answers rows_left images_left session left later records h w is good = record {
+  answered = session.answered;
   first = session.first;
   stands = session.stands;
   state = subst (IsAfter session.first entries answers) (stands_for_one left later state_found.0 (state_in records later) state_found.1 stands) state_found.2;
@@ -74,19 +114,11 @@ reopened rows image entries answers rows_left images_left session left later rec
     stands : Stands left later (state_in records later)
     stands = record { records = records; in_form = is; good = good; meaning = refl }
 
--- the same, where the images are known by other names
-pub reopened_as : (rows : Rows) (image then : List ℕ) (entries : List Entry) (answers : List Answer) (rows_left : Rows → Type 0) (images_left : List ℕ → Type 0) → then ≡ image → IsSession rows then entries answers rows_left images_left
+-- the same, where the image is known by another name
+pub reopened_as : (rows : Rows) (image : List ℕ) (entries : List Entry) (answers : List Answer) (rows_left : Rows → Type 0) (images_left : List ℕ → Type 0) → IsSession rows image entries answers rows_left images_left
     → (left : Rows) (later now : List ℕ) (records : Records) → now ≡ later → rows_left left → images_left later → form_of left ≡ InForm records → IsGood records later → IsReopened rows image entries answers left records now
-reopened_as rows image then entries answers rows_left images_left was session left later now records is h w form good =
-    subst (λ i. IsReopened rows i entries answers left records now) was
-    (subst (λ i. IsReopened rows then entries answers left records i) (sym is) (reopened rows then entries answers rows_left images_left session left later records h w form good))
-
--- a volume that leaves one image still does
-pub still_one : (image then : List ℕ) (t now : ℕ) (left later : ℕ → List ℕ → Type 0) → then ≡ image → now ≡ t → ((s : ℕ) (c : List ℕ) → later s c ↔ left s c) → LeavesOne image (left t) → LeavesOne then (later now)
-still_one image then t now left later same_image same_moment same_left one c = (
-  λ h. (one c).0 (subst (λ s. left s c) same_moment ((same_left now c).0 h)) ∙ sym same_image,
-  λ e. (same_left now c).1 (subst (λ s. left s c) (sym same_moment) ((one c).1 (e ∙ same_image))),
-)
+reopened_as rows image entries answers rows_left images_left session left later now records is h w form good =
+    subst (λ i. IsReopened rows image entries answers left records i) (sym is) (reopened rows image entries answers rows_left images_left session left later records h w form good)
 
 module _ {V S : Type 0} {g : volume.Ghosts V} {database : Ghosts S} (tells : g.tells) where
   -- an opening of rows and an image, and then commands
@@ -97,6 +129,7 @@ module _ {V S : Type 0} {g : volume.Ghosts V} {database : Ghosts S} (tells : g.t
       let records = recorded (held_by old) in
       let moved = runs_move tells old new serving honest entries answers run in
       record {
+        answered = same_length (place_of database old) moved.next entries (answers_of entries answers) moved.moves;
         first = state_in records image;
         stands = record { records = records; in_form = is; good = good; meaning = refl };
         end = moved.next;

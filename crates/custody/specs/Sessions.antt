@@ -1,5 +1,5 @@
 -- What an open custody leaves, and what it does from an opening to a stop, in the machine's words.
-use Rattle.std.specs.Prelude.{◌≡◌, ℕ, List, [], ◌∷◌, ◌++◌, Option, None, true, Result}
+use Rattle.std.specs.Prelude.{◌≡◌, ℕ, List, [], ◌∷◌, ◌++◌, length, Option, None, true, Result}
 use Rattle.vault_volume.specs.declared.volume.Volume as volume
 use Rattle.vault_volume.specs.Vault.{IsFree}
 use Rattle.sqlite.specs.Store.{Ghosts}
@@ -8,9 +8,10 @@ use Rattle.custody_records.specs.Rows.{Rows}
 use Rattle.custody_records.specs.Form.{form_of, InForm}
 use Rattle.custody_machine.specs.State.{State}
 use Rattle.custody_machine.specs.Machine.{Command, Entry, after, Answer, Accepted, Refused, Failed}
+use Rattle.custody_machine.specs.declared.answers.Fault.{Fault}
 use Rattle.custody_machine.specs.History.{MayFind, Pair, Event, Opened, StoppedAtRest, StoppedWithin, OpenedWith, doubt_of, or_else}
 use Rattle.custody_machine.specs.Stored.{IsNamed, Stands, HasDigests, IsSound, state_in}
-use Rattle.custody_machine.specs.Moves.{Place, Serving, Left, MayLeave, Finds, Chain, MovesBy, answered_all, MovesAlong}
+use Rattle.custody_machine.specs.Moves.{Place, Serving, Left, MayLeave, MayNotOpen, Finds, Chain, MovesBy, answered_all, MovesAlong}
 use Rattle.custody_machine.specs.Custody.{IsAt}
 use Rattle.custody.specs.declared.answers.Reply.{Reply}
 use Rattle.custody.specs.declared.answers.Refused as not_accepted
@@ -93,6 +94,8 @@ module _ {V S : Type 0} {g : volume.Ghosts V} where
 
 -- From an opening of rows and an image to the end of commands: the moves, and what a stop may leave then.
 pub record IsSession (rows : Rows) (image : List ℕ) (entries : List Entry) (answers : List Answer) (rows_left : Rows → Type 0) (images_left : List ℕ → Type 0) : Type 0 where
+  -- each command is answered
+  pub answered : length answers ≡ length entries
   pub first : State
   pub stands : Stands rows image first
   pub end : Place
@@ -100,8 +103,14 @@ pub record IsSession (rows : Rows) (image : List ℕ) (entries : List Entry) (an
   pub leaves : (r : Rows) (j : List ℕ) → rows_left r → images_left j → MayLeave end r j
   pub finds : (r : Rows) (j : List ℕ) → rows_left r → images_left j → (state : State) × Stands r j state × IsAfter first entries answers state
 
+-- An opening that failed: why, and what a stop may leave then.
+pub record IsNotOpened (rows : Rows) (image : List ℕ) (fault : Fault) (rows_left : Rows → Type 0) (images_left : List ℕ → Type 0) : Type 0 where
+  pub cause : MayNotOpen rows image fault
+  pub leaves : (r : Rows) (j : List ℕ) → rows_left r → images_left j → MayLeave (Left rows image) r j
+
 -- A session over rows and an image, a stop that left others, and an opening of those: it gives the records and the image.
 pub record IsReopened (rows : Rows) (image : List ℕ) (entries : List Entry) (answers : List Answer) (left : Rows) (records : Records) (later : List ℕ) : Type 0 where
+  pub answered : length answers ≡ length entries
   pub first : State
   pub stands : Stands rows image first
   -- the state is that after the commands that were accepted, in order, and then at most the one in doubt

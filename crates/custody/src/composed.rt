@@ -1,11 +1,11 @@
 //! Sessions of a custody, and one after another: a custody is opened, does commands, is stopped, and
 //! is opened again over what the stop has left.
-ghost use Rattle.std.specs.Prelude.{◌≡◌, ◌<◌, ◌-◌, ◌*◌, ◌^◌, length, IfOk, IsTrue};
+ghost use Rattle.std.specs.Prelude.{◌≡◌, ◌<◌, ◌-◌, ◌*◌, ◌^◌, length, IfOk, IfErr, IsTrue};
 ghost use Rattle.vault_volume.specs.Disk.{LeavesOne};
 ghost use Rattle.custody_store.specs.Standing.{standing};
 ghost use Rattle.custody.specs.Custody.{entries_of, held_by};
 ghost use Rattle.custody.specs.Holdings.{recorded, stored, image_of};
-ghost use Rattle.custody.specs.Sessions.{answers_of, IsSession, IsReopened};
+ghost use Rattle.custody.specs.Sessions.{answers_of, IsSession, IsNotOpened, IsReopened};
 
 use crate::{Custody, Refused, Reply};
 use custody_machine::{Command, Fault};
@@ -31,41 +31,45 @@ pub struct Reopened<S: Alter + Drop> {
     pub stopped: Connection<S>,
 }
 
-/// Opens what volume and database hold, does commands, and hands both back.
+/// Opens what volume and database hold, does commands, and hands both back. Where it fails, no command
+/// is done.
 pub fn serve_session<V: Volume, S: Alter + Drop>(
     alloc: Global,
     volume: V,
     db: Connection<S>,
     commands: &[(Command<'_>, Sec)],
-) -> Result<Session<V, S>, Fault>
+) -> Result<Session<V, S>, (Fault, V, Connection<S>)>
     requires { V.failures volume < 2 ^ 64 - 1 }
-    ensures { V.tells → LeavesOne (V.image volume) (V.left_at volume (V.moment volume)) → (standing S.Store db).IsReady
-        → IfOk result (λ s. (standing S.Store s.db).IsHonest → IsSession (standing S.Store db).rows (V.image volume) (entries_of commands.now) (answers_of (entries_of commands.now) s.answers.items) (standing S.Store s.db).may_leave (V.left_at s.volume (V.moment s.volume))) }
+    ensures served { V.tells → LeavesOne (V.image volume) (V.left_at volume (V.moment volume)) → (standing S.Store db).IsReady
+        → IfOk result (λ s. (standing S.Store s.db).IsHonest → IsSession (standing S.Store db).rows (V.image volume) (entries_of commands.now) (answers_of (entries_of commands.now) s.answers.items)
+        (standing S.Store s.db).may_leave (V.left_at s.volume (V.moment s.volume))) }
+    ensures failed { V.tells → LeavesOne (V.image volume) (V.left_at volume (V.moment volume)) → (standing S.Store db).IsReady
+        → IfErr result (λ e. (standing S.Store e.2).IsHonest → IsNotOpened (standing S.Store db).rows (V.image volume) e.0 (standing S.Store e.2).may_leave (V.left_at e.1 (V.moment e.1))) }
 {
     let mut custody = match Custody::open(alloc, volume, db) {
         Ok(custody) => custody,
-        Err(failed) => return Err(failed.0),
+        Err(failed) => return Err(failed),
     };
-    let Ok(answers) = custody.run(alloc, commands) else {
-        return Err(Fault::NoMemory);
-    };
+    let answers = custody.run(alloc, commands);
     let (volume, db) = custody.close();
-    Ok(Session {
-        answers,
-        volume,
-        db,
-    })
+    match answers {
+        Ok(answers) => Ok(Session {
+            answers,
+            volume,
+            db,
+        }),
+        Err(_) => Err((Fault::NoMemory, volume, db)),
+    }
 }
 
-/// Opens what a volume in memory and a database hold, and does commands, until the volume stops at the
-/// call of a number. Then the volume is restarted over a filling, and opened again with `left`: the
-/// database as the stop has left it. A filling of another length than the volume is refused.
+/// Opens what a volume in memory and a database hold, and does commands, wherever the volume's script
+/// stops it. Then the volume is restarted over a filling, and opened again with `left`: the database as
+/// the stop has left it. A filling of another length than the volume is refused.
 pub fn open_run_and_reopen<S: Alter + Drop>(
     alloc: Global,
     volume: MemVolume,
     db: Connection<S>,
     commands: &[(Command<'_>, Sec)],
-    stop: u64,
     fill: &[u8],
     left: Connection<S>,
 ) -> Result<Reopened<S>, Fault>
@@ -77,9 +81,10 @@ pub fn open_run_and_reopen<S: Alter + Drop>(
         → IsReopened (standing S.Store db).rows (⟦<MemVolume as Volume>⟧.image volume) (entries_of commands.now) (answers_of (entries_of commands.now) r.answers.items)
         (standing S.Store left).rows (recorded (held_by r.custody)) (image_of (held_by r.custody))) }
 {
-    let mut volume = volume;
-    volume.stop_at(stop);
-    let session = serve_session(alloc, volume, db, commands)?;
+    let session = match serve_session(alloc, volume, db, commands) {
+        Ok(session) => session,
+        Err(failed) => return Err(failed.0),
+    };
     let mut volume = session.volume;
     if !may_restart(&volume, fill) {
         return Err(Fault::VolumeFailed);

@@ -45,13 +45,14 @@ fn done(alloc: Global, commands: &[(Command<'_>, Sec)]) -> Result<TestDatabase, 
 
 /// A registration and an upload, through a stop at a call of the volume.
 fn stopped_at(alloc: Global, stop: u64, left: TestDatabase) -> Result<Reopened<MemStore>, Fail> {
-    let (volume, db) = new_custody(alloc, BLOCKS)?.close();
+    let (mut volume, db) = new_custody(alloc, BLOCKS)?.close();
+    volume.stop_at(stop);
     if volume.failures() > 9 {
         return Err(Fail::from("many failures"));
     }
     let commands = [registration()?, upload()?];
     let fill = vec![in alloc; 255u8; 4096 * BLOCKS as usize]?;
-    match open_run_and_reopen(alloc, volume, db, &commands, stop, &fill, left) {
+    match open_run_and_reopen(alloc, volume, db, &commands, &fill, left) {
         Ok(reopened) => Ok(reopened),
         Err(_) => Err(Fail::from("not opened")),
     }

@@ -2,16 +2,15 @@ use Rattle.custody_store.specs.Standing.{standing}
 use Rattle.custody.specs.Custody.{entries_of, held_by}
 use Rattle.custody.specs.Holdings.{recorded, image_of}
 use Rattle.custody.specs.Sessions.{answers_of}
-use Rattle.custody.proofs.SessionLemmas.{still_one, reopened_as}
+use Rattle.custody.proofs.SessionLemmas.{reopened_as}
 use Rattle.custody.proofs.composed.open_run_and_reopen.Goals as goal
 
-pub returns-in-Ok : goal.returns-in-Ok
-returns-in-Ok g c one ready ready_left honest honest_later may_leave =
-    let script = c.stop_at.ensures in
+pub returns-in-Ok-open : goal.returns-in-Ok-open
+returns-in-Ok-open g c one ready ready_left honest honest_later may_leave =
     let entries = entries_of c.args.commands.now in
-    let answers = answers_of entries c.in_ok-session.session.answers.items in
-    let session = c.in_ok-session.ensures tt (still_one _ _ _ _ _ _ script.image script.moment script.left one) ready honest in
-    let opened = c.in-Ok.ensures.records tt ready_left honest_later in
-    reopened_as (standing g.S.Store c.args.db).rows c.args.volume.image.items c.stop_at.new.self.image.items entries answers _ _ script.image session
-    (standing g.S.Store c.args.left).rows c.restart.new.self.image.items (image_of (held_by c.in-Ok.custody)) (recorded (held_by c.in-Ok.custody))
+    let answers = answers_of entries c.in-Ok.session.answers.items in
+    let session = c.in-Ok.ensures.served tt one ready honest in
+    let opened = c.in-Ok-open.ensures.records tt ready_left honest_later in
+    reopened_as (standing g.S.Store c.args.db).rows c.args.volume.image.items entries answers _ _ session
+    (standing g.S.Store c.args.left).rows c.restart.new.self.image.items (image_of (held_by c.in-Ok-open.custody)) (recorded (held_by c.in-Ok-open.custody))
     opened.2 may_leave c.restart.ensures.restarted.found opened.0 opened.1
