@@ -1,10 +1,10 @@
 #!/usr/bin/env python3
-"""Runs the program `refusals` once for each of its allocations, with that one refused, and compares the answers.
+"""Runs the program `text_answers` once for each of its allocations, with that one refused, and compares the answers.
 
 Each line that the program prints is an answer. With an allocation refused, a line has to be the one that is printed
 with none refused, or to end in a want of memory. Any other line, status or number of lines is a fault.
 
-Run `rt run` in crates/refusals first. It needs gdb, on x86-64. Then: python3 tests/refusals.py
+Run `rt run` in crates/text_answers first. It needs gdb, on x86-64. Then: python3 tests/memory.py
 """
 import json
 import os
@@ -18,7 +18,7 @@ try:
 except ImportError:
     gdb = None
 
-PROGRAM = pathlib.Path(__file__).resolve().parent.parent / "crates/refusals/out/refusals"
+PROGRAM = pathlib.Path(__file__).resolve().parent.parent / "crates/text_answers/out/text_answers"
 CALLS = ("malloc", "realloc")
 WANTS = (": out of memory", ": E2")
 PARTS = 3
@@ -71,7 +71,7 @@ def run_all(folder):
     """What each part tells."""
     command = ["gdb", "-q", "-batch", "-nx", "-x", __file__, "--args", PROGRAM]
     parts = [
-        subprocess.Popen(command, env={**os.environ, "REFUSALS": json.dumps([folder, part])}, stdout=subprocess.DEVNULL)
+        subprocess.Popen(command, env={**os.environ, "PART_OF_RUNS": json.dumps([folder, part])}, stdout=subprocess.DEVNULL)
         for part in range(PARTS)
     ]
     for part in parts:
@@ -106,6 +106,6 @@ def main():
 
 
 if gdb is not None:
-    run_within_gdb(*json.loads(os.environ["REFUSALS"]))
+    run_within_gdb(*json.loads(os.environ["PART_OF_RUNS"]))
 else:
     main()
