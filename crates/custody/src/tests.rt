@@ -1,9 +1,16 @@
 //! Tests over a volume and a database in memory.
+mod bench;
+mod failing;
+mod rows;
+mod script;
+
 use crate::Custody;
 use sqlite::{Connection, MemStore};
 use std::alloc::Global;
 use std::test::Fail;
 use vault_volume::MemVolume;
+
+type TestDatabase = Connection<MemStore>;
 
 type TestCustody = Custody<MemVolume, MemStore>;
 
