@@ -1,8 +1,11 @@
 //! Tests over a volume and a database in memory.
 mod bench;
+mod damaged;
 mod failing;
+mod opening;
 mod rows;
 mod script;
+mod stops;
 
 use crate::Custody;
 use sqlite::{Connection, MemStore};

@@ -60,8 +60,11 @@ pub fn register<V: Volume, S: Alter>(
     ask(alloc, custody, &Command::Register(tld, first_day), moment)
 }
 
-/// Whether the registry is recorded.
-fn is_registered(alloc: Global, custody: &mut TestCustody) -> Result<bool, Fail> {
+/// Whether the registry is accepted.
+pub fn is_registered<V: Volume, S: Alter>(
+    alloc: Global,
+    custody: &mut Custody<V, S>,
+) -> Result<bool, Fail> {
     let answer = register(alloc, custody, AT_TEN)?;
     Ok(answer.is_ok())
 }
@@ -76,6 +79,16 @@ pub fn registered(alloc: Global, blocks: u32) -> Result<TestCustody, Fail> {
     }
 }
 
+/// How a part that is sent is to be answered.
+#[derive(Clone, Copy)]
+pub enum Wanted {
+    New,
+    /// It is kept since ten.
+    Repeat,
+    Refused(Refusal),
+    Fault(Fault),
+}
+
 /// Whether a part that is sent is answered so.
 pub fn is_answered<V: Volume, S: Alter>(
     alloc: Global,
@@ -83,17 +96,22 @@ pub fn is_answered<V: Volume, S: Alter>(
     name: &[u8],
     bytes: &[u8],
     moment: &[u8],
-    wanted: &Answer,
+    wanted: Wanted,
 ) -> Result<bool, Fail> {
-    let answer = put(alloc, custody, name, bytes, moment)?;
-    Ok(answer == *wanted)
+    let len = bytes.len().min(1_048_577) as u32;
+    let wanted = match wanted {
+        Wanted::New => received(name, moment, len, false)?,
+        Wanted::Repeat => received(name, AT_TEN, len, true)?,
+        Wanted::Refused(refusal) => refused(refusal),
+        Wanted::Fault(fault) => Err(Refused::Fault(fault)),
+    };
+    Ok(put(alloc, custody, name, bytes, moment)? == wanted)
 }
 
 /// A custody of 8 blocks that keeps `hello` since ten.
 pub fn with_hello(alloc: Global) -> Result<TestCustody, Fail> {
     let mut custody = registered(alloc, 8)?;
-    let wanted = received(NAME, AT_TEN, 5, false)?;
-    if is_answered(alloc, &mut custody, NAME, b"hello", AT_TEN, &wanted)? {
+    if is_answered(alloc, &mut custody, NAME, b"hello", AT_TEN, Wanted::New)? {
         Ok(custody)
     } else {
         Err(Fail::from("not received"))

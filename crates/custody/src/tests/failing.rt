@@ -1,10 +1,11 @@
 //! Each call of the volume fails in turn: the command that made it is answered by that, the custody is
 //! closed, and what was kept before is kept when it is opened again.
 use super::bench::{Filling, opened, restart};
-use super::script::{Step, ask_custody, ask_plain, goes_on_as, plain_after};
+use super::script::{Step, ask_custody, ask_plain, goes_on_as};
 use super::{TestCustody, TestDatabase, new_custody};
-use crate::Refused;
+use crate::{Custody, Refused};
 use custody_machine::{Fault, PlainState};
+use sqlite::Alter;
 use std::alloc::Global;
 use std::test::Fail;
 use vault_volume::{MemVolume, Volume};
@@ -30,9 +31,9 @@ fn failing(alloc: Global, number: u64) -> Result<(MemVolume, TestDatabase), Fail
 }
 
 /// Sends all, where the call of this number fails, and answers how many answers were not as wanted.
-fn count_wrong(
+fn count_wrong<V: Volume, S: Alter>(
     alloc: Global,
-    custody: &mut TestCustody,
+    custody: &mut Custody<V, S>,
     plain: &mut PlainState,
     number: u64,
 ) -> Result<u64, Fail> {
@@ -99,7 +100,7 @@ fn opens_after_an_opening_that_fails(rt: HostRuntime) -> Result<(), Fail> {
     assert_eq!(rt; volume.failures(), 1);
     restart(alloc, &mut volume, Filling::Ones)?;
     let mut custody = opened(alloc, volume, db)?.ok().ok_or("not opened")?;
-    let mut plain = plain_after(alloc, &[])?;
+    let mut plain = PlainState::new(alloc);
     assert!(rt; goes_on_as(alloc, &mut custody, &mut plain)?);
     Ok(())
 }

@@ -1,7 +1,7 @@
 //! Parts that are sent once, again, and otherwise.
 use super::bench::{
-    AT_ELEVEN, AT_TEN, Answer, NAME, SECOND, ask, is_answered, keeps_hello, received, refused,
-    register, registered, registry, with_hello,
+    AT_ELEVEN, AT_TEN, Answer, NAME, SECOND, Wanted, ask, is_answered, keeps_hello, received,
+    refused, register, registered, registry, with_hello,
 };
 use super::{TestCustody, new_custody};
 use crate::{Record, Reply};
@@ -17,8 +17,7 @@ fn keeps_a_part_that_is_sent(rt: HostRuntime) -> Result<(), Fail> {
     let alloc = rt.alloc();
     let mut custody = registered(alloc, 8)?;
     assert_eq!(rt; custody.room(), Ok((7, 7)));
-    let kept = received(NAME, AT_TEN, 5, false)?;
-    assert!(rt; is_answered(alloc, &mut custody, NAME, b"hello", AT_TEN, &kept)?);
+    assert!(rt; is_answered(alloc, &mut custody, NAME, b"hello", AT_TEN, Wanted::New)?);
     assert!(rt; keeps_hello(&custody)?);
     assert_eq!(rt; custody.room(), Ok((6, 7)));
     Ok(())
@@ -28,8 +27,16 @@ fn keeps_a_part_that_is_sent(rt: HostRuntime) -> Result<(), Fail> {
 fn answers_a_repeat_by_the_part_that_is_kept(rt: HostRuntime) -> Result<(), Fail> {
     let alloc = rt.alloc();
     let mut custody = with_hello(alloc)?;
-    let repeat = received(NAME, AT_TEN, 5, true)?;
-    assert!(rt; is_answered(alloc, &mut custody, NAME, b"hello", AT_ELEVEN, &repeat)?);
+    assert!(rt;
+        is_answered(
+            alloc,
+            &mut custody,
+            NAME,
+            b"hello",
+            AT_ELEVEN,
+            Wanted::Repeat
+        )?
+    );
     assert!(rt; keeps_hello(&custody)?);
     assert_eq!(rt; custody.room(), Ok((6, 7)));
     Ok(())
@@ -39,10 +46,10 @@ fn answers_a_repeat_by_the_part_that_is_kept(rt: HostRuntime) -> Result<(), Fail
 fn refuses_other_bytes_under_a_name(rt: HostRuntime) -> Result<(), Fail> {
     let alloc = rt.alloc();
     let mut custody = with_hello(alloc)?;
-    let refusal = refused(Refusal::OtherBytes);
+    let refusal = Wanted::Refused(Refusal::OtherBytes);
     let others: [&[u8]; 4] = [b"hellp", b"iello", b"hell", b"hello "];
     for other in others {
-        assert!(rt; is_answered(alloc, &mut custody, NAME, other, AT_ELEVEN, &refusal)?);
+        assert!(rt; is_answered(alloc, &mut custody, NAME, other, AT_ELEVEN, refusal)?);
     }
     assert!(rt; keeps_hello(&custody)?);
     assert_eq!(rt; custody.room(), Ok((6, 7)));
@@ -54,16 +61,14 @@ fn keeps_parts_of_1_to_1048576_bytes(rt: HostRuntime) -> Result<(), Fail> {
     let alloc = rt.alloc();
     let mut custody = registered(alloc, 300)?;
     let bytes = vec![in alloc; b'a'; 1_048_577]?;
-    let size = refused(Refusal::Size);
-    assert!(rt; is_answered(alloc, &mut custody, NAME, b"", AT_TEN, &size)?);
-    assert!(rt; is_answered(alloc, &mut custody, NAME, &bytes, AT_TEN, &size)?);
+    let size = Wanted::Refused(Refusal::Size);
+    assert!(rt; is_answered(alloc, &mut custody, NAME, b"", AT_TEN, size)?);
+    assert!(rt; is_answered(alloc, &mut custody, NAME, &bytes, AT_TEN, size)?);
     assert_eq!(rt; custody.room(), Ok((299, 299)));
     let (_, most) = bytes.as_slice().split_last().ok_or("bytes")?;
-    let kept = received(NAME, AT_TEN, 1_048_576, false)?;
-    assert!(rt; is_answered(alloc, &mut custody, NAME, most, AT_TEN, &kept)?);
+    assert!(rt; is_answered(alloc, &mut custody, NAME, most, AT_TEN, Wanted::New)?);
     assert_eq!(rt; custody.room(), Ok((43, 299)));
-    let repeat = received(NAME, AT_TEN, 1_048_576, true)?;
-    assert!(rt; is_answered(alloc, &mut custody, NAME, most, AT_ELEVEN, &repeat)?);
+    assert!(rt; is_answered(alloc, &mut custody, NAME, most, AT_ELEVEN, Wanted::Repeat)?);
     Ok(())
 }
 
@@ -117,8 +122,8 @@ fn refuses_by_the_first_reason(rt: HostRuntime) -> Result<(), Fail> {
     let alloc = rt.alloc();
     let mut custody = registered(alloc, 8)?;
     for (name, refusal) in REFUSED {
-        let wanted = refused(refusal);
-        assert!(rt; is_answered(alloc, &mut custody, name, b"hello", AT_TEN, &wanted)?);
+        let wanted = Wanted::Refused(refusal);
+        assert!(rt; is_answered(alloc, &mut custody, name, b"hello", AT_TEN, wanted)?);
     }
     assert_eq!(rt; custody.room(), Ok((7, 7)));
     Ok(())
@@ -147,12 +152,11 @@ fn answers_a_known_registry_by_its_first_day(rt: HostRuntime) -> Result<(), Fail
 fn refuses_a_part_without_room(rt: HostRuntime) -> Result<(), Fail> {
     let alloc = rt.alloc();
     let mut custody = registered(alloc, 3)?;
-    let full = refused(Refusal::VolumeFull);
+    let full = Wanted::Refused(Refusal::VolumeFull);
     let bytes = [b'a'; 8193];
-    assert!(rt; is_answered(alloc, &mut custody, NAME, &bytes, AT_TEN, &full)?);
-    let kept = received(NAME, AT_TEN, 8192, false)?;
-    assert!(rt; is_answered(alloc, &mut custody, NAME, &bytes[1..], AT_TEN, &kept)?);
-    assert!(rt; is_answered(alloc, &mut custody, SECOND, b"a", AT_TEN, &full)?);
+    assert!(rt; is_answered(alloc, &mut custody, NAME, &bytes, AT_TEN, full)?);
+    assert!(rt; is_answered(alloc, &mut custody, NAME, &bytes[1..], AT_TEN, Wanted::New)?);
+    assert!(rt; is_answered(alloc, &mut custody, SECOND, b"a", AT_TEN, full)?);
     assert_eq!(rt; custody.room(), Ok((0, 2)));
     Ok(())
 }

@@ -23,6 +23,9 @@ pub enum Step {
     SecondOther,
 }
 
+/// A registry and two parts.
+pub const STEPS: [Step; 3] = [Step::Registry, Step::First, Step::Second];
+
 /// Each part that a custody may have, sent again and with other bytes.
 const PROBES: [Step; 5] = [
     Step::First,
@@ -109,10 +112,24 @@ fn answer_of(plain: PlainAnswer) -> Answer {
     }
 }
 
-/// What is kept after these were sent.
-pub fn plain_after(alloc: Global, steps: &[Step]) -> Result<PlainState, Fail> {
+/// Sends the first so many steps, to the first that is not accepted, and answers how many were.
+pub fn send<V: Volume, S: Alter>(
+    alloc: Global,
+    custody: &mut Custody<V, S>,
+    count: usize,
+) -> Result<usize, Fail> {
+    for (accepted, step) in STEPS.iter().take(count).enumerate() {
+        if ask_custody(alloc, custody, *step)?.is_err() {
+            return Ok(accepted);
+        }
+    }
+    Ok(count)
+}
+
+/// What is kept after the first so many steps.
+pub fn plain_after(alloc: Global, count: usize) -> Result<PlainState, Fail> {
     let mut plain = PlainState::new(alloc);
-    for step in steps {
+    for step in STEPS.iter().take(count) {
         ask_plain(alloc, &mut plain, *step)?
             .ok()
             .ok_or("a refusal")?;
