@@ -1,12 +1,21 @@
 //! Tests over a volume and a database in memory.
+mod bench;
+mod commits;
+mod damaged;
+mod failing;
 mod opening;
+mod rows;
+mod script;
 mod sessions;
+mod stops;
 
 use crate::Custody;
 use sqlite::{Connection, MemStore};
 use std::alloc::Global;
 use std::test::Fail;
 use vault_volume::MemVolume;
+
+type TestDatabase = Connection<MemStore>;
 
 type TestCustody = Custody<MemVolume, MemStore>;
 

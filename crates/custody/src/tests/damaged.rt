@@ -1,0 +1,60 @@
+//! A part whose bytes were changed on the volume: it is told where the part is sent again.
+use super::TestCustody;
+use super::bench::{AT_ELEVEN, NAME, Wanted, is_answered, keeps_hello, opened, with_hello};
+use custody_machine::{Damage, Fault};
+use std::alloc::Global;
+use std::test::Fail;
+use vault_volume::{MemVolume, Volume};
+
+/// Changes one bit of the volume.
+fn flip(volume: &mut MemVolume, at: u64) -> Result<(), Fail> {
+    let old = volume.bytes().get(at as usize).copied().ok_or("a byte")?;
+    if at >= 4096 * u64::from(volume.size()) || volume.failures() > 9 {
+        return Err(Fail::from("no byte"));
+    }
+    volume.write_at(at, &[old ^ 1]).ok().ok_or("not written")?;
+    volume.sync().ok().ok_or("not synced")?;
+    Ok(())
+}
+
+/// A custody that keeps `hello`, opened after one bit of the volume was changed.
+fn spoiled(alloc: Global, at: u64) -> Result<TestCustody, Fail> {
+    let (mut volume, db) = with_hello(alloc)?.close();
+    flip(&mut volume, at)?;
+    Ok(opened(alloc, volume, db)?.ok().ok_or("not opened")?)
+}
+
+#[test]
+fn tells_a_changed_bit_where_the_part_is_sent_again(rt: HostRuntime) -> Result<(), Fail> {
+    let alloc = rt.alloc();
+    let damaged = Wanted::Fault(Fault::Damaged(Damage::Digest));
+    for at in 4096..4101u64 {
+        let mut custody = spoiled(alloc, at)?;
+        let sent: [&[u8]; 3] = [b"hello", b"hellp", b"hell"];
+        for bytes in sent {
+            assert!(rt; is_answered(alloc, &mut custody, NAME, bytes, AT_ELEVEN, damaged)?);
+        }
+        assert!(rt; keeps_hello(&custody)?);
+        assert_eq!(rt; custody.room(), Ok((6, 7)));
+    }
+    Ok(())
+}
+
+#[test]
+fn compares_no_byte_behind_a_part(rt: HostRuntime) -> Result<(), Fail> {
+    let alloc = rt.alloc();
+    for at in [4101, 8191, 8192u64] {
+        let mut custody = spoiled(alloc, at)?;
+        assert!(rt;
+            is_answered(
+                alloc,
+                &mut custody,
+                NAME,
+                b"hello",
+                AT_ELEVEN,
+                Wanted::Repeat
+            )?
+        );
+    }
+    Ok(())
+}
