@@ -17,17 +17,17 @@ const BLOCKS: u32 = 8;
 /// opening.
 const UPLOAD: u64 = 3;
 
-fn registration() -> Result<(Command<'static>, Sec), Fail> {
+const NAME: &[u8] = b"example_2026-08-02_full_S1_R0.ryde";
+
+fn registry() -> Result<(Tld, Day), Fail> {
     let tld = Tld::parse(b"example").ok_or("a name")?;
-    let first_day: Day = read_day(b"2026-08-01").ok_or("a day")?;
-    let now = read_moment(b"2026-08-02T10:00:00Z").ok_or("a moment")?;
-    Ok((Command::Register(tld, first_day), now))
+    let first_day = read_day(b"2026-08-01").ok_or("a day")?;
+    Ok((tld, first_day))
 }
 
-fn upload() -> Result<(Command<'static>, Sec), Fail> {
+fn moment() -> Result<Sec, Fail> {
     let now = read_moment(b"2026-08-02T10:00:00Z").ok_or("a moment")?;
-    let name = b"example_2026-08-02_full_S1_R0.ryde";
-    Ok((Command::Receive(name, b"hello"), now))
+    Ok(now)
 }
 
 /// A database in which these commands were done.
@@ -50,7 +50,12 @@ fn stopped_at(alloc: Global, stop: u64, left: TestDatabase) -> Result<Reopened<M
     if volume.failures() > 9 {
         return Err(Fail::from("many failures"));
     }
-    let commands = [registration()?, upload()?];
+    let (tld, first_day) = registry()?;
+    let now = moment()?;
+    let commands = [
+        (Command::Register(tld, first_day), now),
+        (Command::Receive(NAME, b"hello"), now),
+    ];
     let fill = vec![in alloc; 255u8; 4096 * BLOCKS as usize]?;
     match open_run_and_reopen(alloc, volume, db, &commands, &fill, left) {
         Ok(reopened) => Ok(reopened),
@@ -70,7 +75,9 @@ fn are_answered(reopened: &Reopened<MemStore>, upload: Option<Fault>) -> bool {
 #[test]
 fn what_was_accepted_before_a_stop_is_found(rt: HostRuntime) -> Result<(), Fail> {
     let alloc = rt.alloc();
-    let left = done(alloc, &[registration()?])?;
+    let (tld, first_day) = registry()?;
+    let now = moment()?;
+    let left = done(alloc, &[(Command::Register(tld, first_day), now)])?;
     let reopened = stopped_at(alloc, UPLOAD, left)?;
     assert!(rt; are_answered(&reopened, Some(Fault::VolumeFailed)));
     assert_eq!(rt; reopened.custody.room(), Ok((7, 7)));
@@ -80,7 +87,13 @@ fn what_was_accepted_before_a_stop_is_found(rt: HostRuntime) -> Result<(), Fail>
 #[test]
 fn a_part_is_found_after_a_late_stop(rt: HostRuntime) -> Result<(), Fail> {
     let alloc = rt.alloc();
-    let left = done(alloc, &[registration()?, upload()?])?;
+    let (tld, first_day) = registry()?;
+    let now = moment()?;
+    let commands = [
+        (Command::Register(tld, first_day), now),
+        (Command::Receive(NAME, b"hello"), now),
+    ];
+    let left = done(alloc, &commands)?;
     let reopened = stopped_at(alloc, 60, left)?;
     assert!(rt; are_answered(&reopened, None));
     assert_eq!(rt; reopened.custody.room(), Ok((6, 7)));
