@@ -113,6 +113,9 @@ fn carry_out(rt: &HostRuntime, order: &Order<'_>) -> Result<u8, Stop> {
 fn run(rt: &HostRuntime) -> Result<u8, Stop> {
     let words = match env::args(rt) {
         Ok(words) => words.collect::<Vec<String>>(rt.alloc())?,
+        Err(error) if error.kind() == io::ErrorKind::OutOfMemory => {
+            return Err(Stop::Fault(Fault::NoMemory));
+        }
         Err(_) => return Err(Stop::Words),
     };
     match order_of(rt.alloc(), words.as_slice()) {
