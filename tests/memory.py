@@ -20,7 +20,7 @@ except ImportError:
 
 PROGRAM = pathlib.Path(__file__).resolve().parent.parent / "crates/text_answers/out/text_answers"
 CALLS = ("malloc", "realloc")
-WANTS = (": out of memory", ": E2")
+WANTS = (": K6", ": E2")
 PARTS = 3
 ALL = 2**31 - 1
 

@@ -14,7 +14,7 @@ use Rattle.custody_machine.specs.declared.answers.Fault.TheVariants.{NoMemory, V
 use Rattle.custody_machine.specs.Damage.{IsDamaged}
 use Rattle.custody_machine.specs.State.{State}
 use Rattle.custody_machine.specs.Machine.{Entry, after, Answer}
-use Rattle.custody_machine.specs.History.{Pair, Event, Opened, StoppedAtRest, OpenedWith, found}
+use Rattle.custody_machine.specs.History.{Pair, Event, Opened, NotOpened, StoppedAtRest, OpenedWith, found}
 use Rattle.custody_machine.specs.Stored.{Stands, IsGood, HasDigests, KeepsParts, state_in}
 use Rattle.custody_machine.specs.Moves.{Place, Serving, Shut, Left, MayLeave, MayNotOpen, Finds, Moves, MovesAlong, Chain, MovesBy, answered_all, IsIn}
 use Rattle.custody_machine.proofs.Forms.{records_inj}
@@ -25,7 +25,7 @@ use Rattle.custody.specs.declared.answers.Refused as not_accepted
 use Rattle.custody.specs.declared.custody.Custody.{Custody}
 use Rattle.custody.specs.Holdings.{recorded, stored, image_of, left_by}
 use Rattle.custody.specs.Custody.{held_by, HasRun}
-use Rattle.custody.specs.Sessions.{answers_of, IsAfter, IsServing, place_of, IsSession, IsNotOpened, IsReopened, SessionsJoin}
+use Rattle.custody.specs.Sessions.{answers_of, IsAfter, IsServing, place_of, IsSession, IsNotOpened, IsReopened, RestsMayStop, SessionsGoOn, OpeningsMayFail}
 use Rattle.custody.proofs.Opened.{reads_left}
 use Rattle.custody.proofs.RunMoves.{along_join, runs_move}
 
@@ -81,11 +81,17 @@ stop_and_open : (place : Place) (rows : Rows) (left : List ℕ) (records : Recor
     → MovesAlong place (StoppedAtRest pair ∷ OpenedWith pair (Opened (state_in records left)) ∷ []) (Serving records left)
 stop_and_open place rows left records pair may finds is good = (Left rows left, stops place rows left pair may finds, (Serving records left, (finds, (records, is, good, refl, refl)), refl))
 
--- one session after another
-pub sessions_join : (rows_left rows_then : Rows → Type 0) (images_left images_then : List ℕ → Type 0) → SessionsJoin rows_left rows_then images_left images_then
-sessions_join rows_left rows_then images_left images_then rows left image later entries others answers replies one other h w start events before pair finds =
-    along_join start events (StoppedAtRest pair ∷ OpenedWith pair (Opened other.first) ∷ answered_all others replies) one.end other.end before
-    (Left left later, stops one.end left later pair (one.leaves left later h w) finds, other.moves pair finds)
+-- whatever was before
+pub rests_may_stop : RestsMayStop
+rests_may_stop start place events before rows image pair may finds = along_join start events (StoppedAtRest pair ∷ []) place (Left rows image) before (Left rows image, stops place rows image pair may finds, refl)
+
+pub sessions_go_on : (rows_left : Rows → Type 0) (images_left : List ℕ → Type 0) → SessionsGoOn rows_left images_left
+sessions_go_on rows_left images_left start events rows image before pair finds entries answers session =
+    along_join start events (OpenedWith pair (Opened session.first) ∷ answered_all entries answers) (Left rows image) session.end before (session.moves pair finds)
+
+pub openings_may_fail : (rows_left : Rows → Type 0) (images_left : List ℕ → Type 0) → OpeningsMayFail rows_left images_left
+openings_may_fail rows_left images_left start events rows image before pair finds fault failed left later h w =
+    along_join start events (OpenedWith pair (NotOpened fault) ∷ []) (Left rows image) (Left left later) before (Left left later, (finds, failed.cause, (left, later, failed.leaves left later h w, refl)), refl)
 
 -- a session, a stop that left these rows and this image, and their opening
 reopened : (rows : Rows) (image : List ℕ) (entries : List Entry) (answers : List Answer) (rows_left : Rows → Type 0) (images_left : List ℕ → Type 0) (session : IsSession rows image entries answers rows_left images_left)

@@ -9,7 +9,7 @@ use Rattle.custody_records.specs.Form.{form_of, InForm}
 use Rattle.custody_machine.specs.State.{State}
 use Rattle.custody_machine.specs.Machine.{Command, Entry, after, Answer, Accepted, Refused, Failed}
 use Rattle.custody_machine.specs.declared.answers.Fault.{Fault}
-use Rattle.custody_machine.specs.History.{MayFind, Pair, Event, Opened, StoppedAtRest, StoppedWithin, OpenedWith, doubt_of, or_else}
+use Rattle.custody_machine.specs.History.{MayFind, Pair, Event, Opened, NotOpened, StoppedAtRest, StoppedWithin, OpenedWith, doubt_of, or_else}
 use Rattle.custody_machine.specs.Stored.{IsNamed, Stands, HasDigests, IsSound, state_in}
 use Rattle.custody_machine.specs.Moves.{Place, Serving, Left, MayLeave, MayNotOpen, Finds, Chain, MovesBy, answered_all, MovesAlong}
 use Rattle.custody_machine.specs.Custody.{IsAt}
@@ -121,9 +121,21 @@ pub record IsReopened (rows : Rows) (image : List ℕ) (entries : List Entry) (a
   pub moves : (before then : Pair) → Finds rows image before → Finds left later then
       → MovesAlong (Left rows image) ((OpenedWith before (Opened first) ∷ answered_all entries answers) ++ StoppedAtRest then ∷ OpenedWith then (Opened (state_in records later)) ∷ []) (Serving records later)
 
--- A session over what a stop has left of another goes on from where that ended, whatever was before.
-abbrev pub SessionsJoin : (rows_left rows_then : Rows → Type 0) → (images_left images_then : List ℕ → Type 0) → Type 0
-SessionsJoin rows_left rows_then images_left images_then = (rows left : Rows) (image later : List ℕ) (entries others : List Entry) (answers replies : List Answer)
-    (one : IsSession rows image entries answers rows_left images_left) (other : IsSession left later others replies rows_then images_then) → rows_left left → images_left later
-    → (start : Place) (events : List Event) → MovesAlong start events one.end → (pair : Pair) → Finds left later pair
-    → MovesAlong start (events ++ StoppedAtRest pair ∷ OpenedWith pair (Opened other.first) ∷ answered_all others replies) other.end
+-- ---- from any place on, whatever was before
+
+-- A stop at rest leaves what its place may leave.
+abbrev pub RestsMayStop : Type 0
+RestsMayStop = (start place : Place) (events : List Event) → MovesAlong start events place → (rows : Rows) (image : List ℕ) (pair : Pair) → MayLeave place rows image → Finds rows image pair
+    → MovesAlong start (events ++ StoppedAtRest pair ∷ []) (Left rows image)
+
+-- A session over what a stop has left goes on from there.
+abbrev pub SessionsGoOn : (rows_left : Rows → Type 0) → (images_left : List ℕ → Type 0) → Type 0
+SessionsGoOn rows_left images_left = (start : Place) (events : List Event) (rows : Rows) (image : List ℕ) → MovesAlong start events (Left rows image) → (pair : Pair) → Finds rows image pair
+    → (entries : List Entry) (answers : List Answer) (session : IsSession rows image entries answers rows_left images_left)
+    → MovesAlong start (events ++ OpenedWith pair (Opened session.first) ∷ answered_all entries answers) session.end
+
+-- And an opening that failed can be tried again, over what it has left.
+abbrev pub OpeningsMayFail : (rows_left : Rows → Type 0) → (images_left : List ℕ → Type 0) → Type 0
+OpeningsMayFail rows_left images_left = (start : Place) (events : List Event) (rows : Rows) (image : List ℕ) → MovesAlong start events (Left rows image) → (pair : Pair) → Finds rows image pair
+    → (fault : Fault) → IsNotOpened rows image fault rows_left images_left → (left : Rows) (later : List ℕ) → rows_left left → images_left later
+    → MovesAlong start (events ++ OpenedWith pair (NotOpened fault) ∷ []) (Left left later)

@@ -59,7 +59,9 @@ impl<V: Volume, S: Alter> Custody<V, S> {
         ensures begun { IfOk result (λ c. IsBegun empty (Serving (recorded (held_by c)) (image_of (held_by c)))) }
         ensures image { V.tells → IfOk result (λ c. KeepsImage (held_by c)) }
         ensures rows { (standing S.Store db).IsBare → IfOk result (λ c. (stored S.Store (held_by c)).IsHonest → KeepsRows S.Store (held_by c)) }
-        ensures size { IfErr result (λ e. e.0 ≡ InitError.Size → ¬ ((2 ≤ V.size volume) × (V.size volume ≤ 262144))) }
+        // A size out of range is refused, and no other.
+        ensures size { MatchResult result (λ _. (2 ≤ V.size volume) × (V.size volume ≤ 262144))
+            (λ e. e.0 ≡ InitError.Size → ¬ ((2 ≤ V.size volume) × (V.size volume ≤ 262144))) }
         ensures failed { IfErr result (λ e. e.0 ≡ InitError.Fault Fault.VolumeFailed → V.failures volume < V.failures e.1) }
         ensures not_failed { MatchResult result (λ c. failures_of (held_by c) ≡ V.failures volume) (λ e. e.0 ≢ InitError.Fault Fault.VolumeFailed → V.failures e.1 ≡ V.failures volume) }
         ensures kind { IfErr result (λ e. (fault : why.Fault) → e.0 ≡ InitError.Fault fault → (fault ≡ Fault.VolumeFailed) ⊎ (fault ≡ Fault.StoreFailed)) }

@@ -2,9 +2,9 @@
 ghost use Rattle.custody_store.specs.Standing.{standing};
 ghost use Rattle.custody_machine.specs.Stored.{Stands};
 ghost use Rattle.custody_machine.specs.Moves.{MayLeave};
-ghost use Rattle.custody.specs.Sessions.{IsServing, place_of, state_of, Leaves, SparesFree, RunsMove, StopsMove, SessionsJoin};
+ghost use Rattle.custody.specs.Sessions.{IsServing, place_of, state_of, Leaves, SparesFree, RunsMove, StopsMove, RestsMayStop, SessionsGoOn, OpeningsMayFail};
 
-use crate::{Custody, Session};
+use crate::Custody;
 use sqlite::{Alter, Connection};
 use vault_volume::Volume;
 
@@ -27,11 +27,13 @@ pub fn law_stop<V: Volume, S: Alter>(old: &Custody<V, S>, mid: &Custody<V, S>, n
     ensures { V.tells → StopsMove S.Store old.now mid.now new.now }
 {}
 
-/// A session over what a stop has left of another is moves that go on from it, whatever sessions were
-/// before.
-pub fn law_sessions<V: Volume, S: Alter + Drop>(one: &Session<V, S>, other: &Session<V, S>)
-    ensures { SessionsJoin (standing S.Store one.now.db).may_leave (standing S.Store other.now.db).may_leave
-        (V.left_at one.now.volume (V.moment one.now.volume)) (V.left_at other.now.volume (V.moment other.now.volume)) }
+/// A whole life is moves, whatever was before: a stop at rest leaves what may be left there; a session
+/// over what a stop has left goes on from it, and an opening that failed can be tried again, whatever
+/// volume and database they hand back.
+pub fn law_sessions<V: Volume, S: Alter>(volume: &V, db: &Connection<S>)
+    ensures stops { RestsMayStop }
+    ensures sessions { SessionsGoOn (standing S.Store db.now).may_leave (V.left_at volume.now (V.moment volume.now)) }
+    ensures not_opened { OpeningsMayFail (standing S.Store db.now).may_leave (V.left_at volume.now (V.moment volume.now)) }
 {}
 
 /// What a database shows at rest is what a stop may leave of it.

@@ -3,3 +3,4 @@ pub mod Reading
 pub mod Rows
 pub mod Table
 pub mod Text
+pub mod ErrorText

@@ -1,9 +1,12 @@
 use Rattle.custody_store.specs.Standing.{standing}
-use Rattle.custody.proofs.SessionLemmas.{sessions_join}
+use Rattle.custody.proofs.SessionLemmas.{rests_may_stop, sessions_go_on, openings_may_fail}
 use Rattle.custody.proofs.laws.law_sessions.Goals as goal
 
-pub returns : goal.returns
-returns g c =
-    let one = c.args.one.now in
-    let other = c.args.other.now in
-    sessions_join (standing g.S.Store one.db).may_leave (standing g.S.Store other.db).may_leave (g.V.Volume.left_at one.volume (g.V.Volume.moment one.volume)) (g.V.Volume.left_at other.volume (g.V.Volume.moment other.volume))
+pub returns-clause-stops : goal.returns-clause-stops
+returns-clause-stops g c = rests_may_stop
+
+pub returns-clause-sessions : goal.returns-clause-sessions
+returns-clause-sessions g c = sessions_go_on (standing g.S.Store c.args.db.now).may_leave (g.V.Volume.left_at c.args.volume.now (g.V.Volume.moment c.args.volume.now))
+
+pub returns-clause-not_opened : goal.returns-clause-not_opened
+returns-clause-not_opened g c = openings_may_fail (standing g.S.Store c.args.db.now).may_leave (g.V.Volume.left_at c.args.volume.now (g.V.Volume.moment c.args.volume.now))
