@@ -1,3 +1,4 @@
+pub mod FirstDamage
 pub mod HoldingLemmas
 pub mod KeptPart
 pub mod Opened

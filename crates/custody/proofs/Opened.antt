@@ -15,7 +15,7 @@ use Rattle.custody_store.specs.Reading.{first_meta}
 use Rattle.custody_machine.specs.declared.damage.Damage.{Damage}
 use Rattle.custody_machine.specs.declared.damage.Damage.TheVariants as wrong
 use Rattle.custody_machine.specs.Damage.{meta_of, IsDamaged}
-use Rattle.custody_rules.specs.Breaks.{Breaks}
+use Rattle.custody_rules.specs.Breaks.{BreaksFirst}
 use Rattle.std.specs.FinMap.{get, empty, get-empty, same_map}
 use Rattle.std.specs.declared.cmp.Ordering.{Ordering}
 use Rattle.sqlite.specs.State.{State, HasCleanDisk}
@@ -50,15 +50,15 @@ has_block (byte ∷ image) zero number long head = absurd (omega arith)
 has_block (byte ∷ image) (suc size) number long head = omega arith
 
 -- what is wrong among records in form
-pub broken_damaged : (damage : Damage) (records : Records) (rows : Rows) (image : List ℕ) → form_of rows ≡ InForm records → Breaks damage records → IsDamaged damage rows image
+pub broken_damaged : (damage : Damage) (records : Records) (rows : Rows) (image : List ℕ) → form_of rows ≡ InForm records → BreaksFirst damage records → IsDamaged damage rows image
 broken_damaged wrong.NoRecord records rows image is breaks = absurd breaks
 broken_damaged wrong.Head records rows image is breaks = absurd breaks
 broken_damaged wrong.Volume records rows image is breaks = absurd breaks
 broken_damaged wrong.Schema records rows image is breaks = absurd breaks
 broken_damaged wrong.Form records rows image is breaks = absurd breaks
 broken_damaged wrong.Extent records rows image is breaks = (records, is, breaks)
-broken_damaged wrong.Overlap records rows image is breaks = (records, is, breaks)
-broken_damaged wrong.Link records rows image is breaks = (records, is, breaks)
+broken_damaged wrong.Overlap records rows image is breaks = (records, is, breaks.1)
+broken_damaged wrong.Link records rows image is breaks = (records, is, breaks.2)
 broken_damaged wrong.Digest records rows image is breaks = absurd breaks
 
 -- a row of meta that is of another volume

@@ -11,7 +11,7 @@ use Rattle.custody_store.specs.Standing.{Standing, shown, IsReady, Reads}
 use Rattle.custody_machine.specs.declared.damage.Damage.{Damage}
 use Rattle.custody_machine.specs.declared.answers.Fault.{Fault}
 use Rattle.custody_machine.specs.declared.answers.Fault.TheVariants.{NoMemory, VolumeFailed, StoreFailed, Closed, Damaged}
-use Rattle.custody_machine.specs.Damage.{IsDamaged}
+use Rattle.custody_machine.specs.Damage.{IsFirstDamage}
 use Rattle.custody_machine.specs.State.{State}
 use Rattle.custody_machine.specs.Machine.{Entry, after, Answer}
 use Rattle.custody_machine.specs.History.{Pair, Event, Opened, NotOpened, StoppedAtRest, OpenedWith, found}
@@ -46,7 +46,7 @@ same_length old new (e ∷ entries) [] c = absurd c
 same_length old new (e ∷ entries) (a ∷ answers) c = ap suc (same_length c.0 new entries answers c.2)
 
 -- why an opening failed
-pub may_not_open : (rows : Rows) (image : List ℕ) (fault : Fault) → fault ≢ Closed → ((damage : Damage) → fault ≡ Damaged damage → IsDamaged damage rows image) → MayNotOpen rows image fault
+pub may_not_open : (rows : Rows) (image : List ℕ) (fault : Fault) → fault ≢ Closed → ((damage : Damage) → fault ≡ Damaged damage → IsFirstDamage damage rows image) → MayNotOpen rows image fault
 may_not_open rows image NoMemory open_not damaged = tt
 may_not_open rows image VolumeFailed open_not damaged = tt
 may_not_open rows image StoreFailed open_not damaged = tt

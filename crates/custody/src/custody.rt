@@ -13,7 +13,7 @@ ghost use Rattle.custody_machine.specs.declared.damage.Damage as wrong;
 ghost use Rattle.custody_machine.specs.declared.damage.Damage.TheVariants as damage;
 ghost use Rattle.custody_machine.specs.Plain.{command_of};
 ghost use Rattle.custody_machine.specs.State.{empty};
-ghost use Rattle.custody_machine.specs.Damage.{IsDamaged};
+ghost use Rattle.custody_machine.specs.Damage.{IsDamaged, IsFirstDamage};
 ghost use Rattle.custody_machine.specs.Stored.{IsGood};
 ghost use Rattle.custody_machine.specs.Moves.{Serving, Left, IsBegun};
 ghost use Rattle.custody_machine.specs.Custody.{MayInitialise};
@@ -115,8 +115,8 @@ impl<V: Volume, S: Alter> Custody<V, S> {
         ensures image { V.tells → LeavesOne (V.image volume) (V.left_at volume (V.moment volume)) → IfOk result (λ c. KeepsImage (held_by c)) }
         ensures rows { (standing S.Store db).IsReady → IfOk result (λ c. (stored S.Store (held_by c)).IsHonest → KeepsRows S.Store (held_by c)) }
         ensures damaged { V.tells → (standing S.Store db).IsReady ⊎ (standing S.Store db).IsBare → IfErr result (λ e. (standing S.Store e.2).IsHonest
-            → (damage : wrong.Damage) → e.0 ≡ Fault.Damaged damage → IsDamaged damage (standing S.Store db).rows (V.image volume)) }
-        // No record is told before any other damage.
+            → (damage : wrong.Damage) → e.0 ≡ Fault.Damaged damage → IsFirstDamage damage (standing S.Store db).rows (V.image volume)) }
+        // No record is told before any other damage, whatever the volume is.
         ensures first { (standing S.Store db).IsReady ⊎ (standing S.Store db).IsBare → IfErr result (λ e. (standing S.Store e.2).IsHonest
             → (found : wrong.Damage) → e.0 ≡ Fault.Damaged found → found ≢ damage.NoRecord → ¬ HasNoRecord (standing S.Store db).rows) }
         ensures failed { IfErr result (λ e. e.0 ≡ Fault.VolumeFailed → V.failures volume < V.failures e.1) }

@@ -12,7 +12,7 @@ ghost use Rattle.custody_records.specs.Typed as typed;
 ghost use Rattle.custody_store.specs.Reading.{first_meta};
 ghost use Rattle.custody_store.specs.Standing.{standing, Reads, Founds};
 ghost use Rattle.custody_machine.specs.declared.damage.Damage as wrong;
-ghost use Rattle.custody_machine.specs.Damage.{meta_of, IsDamaged};
+ghost use Rattle.custody_machine.specs.Damage.{meta_of, IsDamaged, IsFirstDamage, NoneBefore};
 ghost use Rattle.custody_machine.specs.Stored.{AreWhole};
 ghost use Rattle.custody_machine.specs.Custody.{MayInitialise};
 ghost use Rattle.custody_machine.specs.declared.answers.Fault as why;
@@ -64,6 +64,7 @@ fn read_number<V: Volume>(volume: &mut V) -> Result<u64, Fault>
     ensures no_failure { OnOk result (V.failures volume.new ≡ V.failures volume.old) }
     ensures not_closed { IfErr result (λ fault. fault ≢ Fault.Closed) }
     ensures head { V.tells → IfOk result (λ number. bytes_at (V.image volume.old) 0 4096 ≡ head_of number) }
+    ensures kind { IfErr result (λ fault. (damage : wrong.Damage) → fault ≡ Fault.Damaged damage → damage ≡ Damage.Head) }
     ensures damaged { V.tells → IfErr result (λ fault. (damage : wrong.Damage) → fault ≡ Fault.Damaged damage → (rows : Rows) → IsDamaged damage rows (V.image volume.old)) }
     ensures image { V.tells → V.image volume.new ≡ V.image volume.old }
     ensures any_moment { V.tells → LeavesOnly V.moment V.left_at volume.old volume.new (V.left_at volume.old (V.moment volume.old)) }
@@ -98,8 +99,10 @@ pub fn identify<V: Volume, S: Alter>(
     ensures row { (standing S.Store db.new).IsHonest → (standing S.Store db.old).IsReady ⊎ (standing S.Store db.old).IsBare
         → OnOk result (¬ HasNoRecord (standing S.Store db.old).rows) }
     ensures damaged { V.tells → (standing S.Store db.new).IsHonest → (standing S.Store db.old).IsReady ⊎ (standing S.Store db.old).IsBare
-        → IfErr result (λ fault. (damage : wrong.Damage) → fault ≡ Fault.Damaged damage → IsDamaged damage (standing S.Store db.old).rows (V.image volume.old)) }
-    // No record is told before anything else.
+        → IfErr result (λ fault. (damage : wrong.Damage) → fault ≡ Fault.Damaged damage → IsFirstDamage damage (standing S.Store db.old).rows (V.image volume.old)) }
+    ensures undamaged { V.tells → (standing S.Store db.new).IsHonest → (standing S.Store db.old).IsReady ⊎ (standing S.Store db.old).IsBare
+        → OnOk result (NoneBefore Damage.Schema (standing S.Store db.old).rows (V.image volume.old)) }
+    // No record is told before anything else, whatever the volume is.
     ensures first { (standing S.Store db.new).IsHonest → (standing S.Store db.old).IsReady ⊎ (standing S.Store db.old).IsBare
         → IfErr result (λ fault. (damage : wrong.Damage) → fault ≡ Fault.Damaged damage → damage ≢ Damage.NoRecord → ¬ HasNoRecord (standing S.Store db.old).rows) }
     ensures reads { Reads (standing S.Store db.old) (standing S.Store db.new) result }
@@ -148,6 +151,9 @@ pub fn load_whole<S: Alter>(
         → IfOk result (λ records. form_of (standing S.Store store.old).rows ≡ InForm (records_of records)) }
     ensures damaged { (standing S.Store store.new).IsHonest → (standing S.Store store.old).IsReady
         → IfErr result (λ fault. (damage : wrong.Damage) → fault ≡ Fault.Damaged damage → (image : List ℕ) → IsDamaged damage (standing S.Store store.old).rows image) }
+    ensures first { (standing S.Store store.new).IsHonest → (standing S.Store store.old).IsReady
+        → IfErr result (λ fault. (damage : wrong.Damage) → fault ≡ Fault.Damaged damage → (image : List ℕ)
+        → NoneBefore Damage.Schema (standing S.Store store.old).rows image → NoneBefore damage (standing S.Store store.old).rows image) }
     ensures reads { Reads (standing S.Store store.old) (standing S.Store store.new) result }
 {
     let records = match store.load(alloc) {

@@ -1,6 +1,6 @@
 -- What is damaged stands for no state, and what is not for one.
-use Rattle.std.proofs.Common.{◌≡◌, ℕ, ◌*◌, ◌≤◌, List, [], ◌∷◌, length, Option, Some, None, Bool, true, false, nat_lt, refl, sym, ◌∙◌, ap, subst, arith}
-use Rattle.std.specs.Prelude.{slice_index_or}
+use Rattle.std.proofs.Common.{◌≡◌, ℕ, suc, ◌*◌, ◌<◌, ◌≤◌, List, [], ◌∷◌, length, Option, Some, None, Bool, true, false, nat_lt, refl, sym, ◌∙◌, ap, subst, arith}
+use Rattle.std.specs.Prelude.{slice_get, slice_index_or}
 use Rattle.std.specs.Bool.{Decides}
 use Rattle.std.proofs.lemmas.Bool.Decides.{Decides-eqb, Decides-ltb}
 use Rattle.vault_volume.specs.declared.extent.Extent.{Extent}
@@ -17,7 +17,7 @@ use Rattle.custody_machine.specs.declared.damage.Damage.{Damage}
 use Rattle.custody_machine.specs.declared.damage.Damage.TheVariants.{NoRecord, Head, Volume, Schema, Form as FormDamage, Extent as ExtentDamage, Overlap, Link, Digest}
 use Rattle.custody_machine.specs.State.{State}
 use Rattle.custody_machine.specs.Stored.{ForExtents, AreExtents, AreInRange, AreOnce, AreLinked, state_in, Stands}
-use Rattle.custody_machine.specs.Damage.{meta_of, IsRowOf, IsDamaged, IsRefinement}
+use Rattle.custody_machine.specs.Damage.{meta_of, IsRowOf, IsDamaged, damage_number, NoneBefore, IsFirstDamage, IsRefinement}
 use Rattle.custody_machine.proofs.SameValues.{text_decides, key_decides, notice_key_decides}
 use Rattle.custody_machine.proofs.Forms.{IsRecordsOf, records_inj, meta_in_form, row_in_form}
 use Rattle.custody_machine.proofs.Heads.{head_by_digits, head_in_range, digits_by_head}
@@ -170,5 +170,41 @@ module _ (rows : Rows) (image : List ℕ) (undamaged : (damage : Damage) → ¬ 
       by (OutOfForm form.Form) e = absurd (undamaged FormDamage e)
       by (InForm records) e = in_form_stands records e
 
+-- ---- the first damage
+
+abbrev in_order : List Damage
+in_order = NoRecord ∷ Head ∷ Volume ∷ Schema ∷ FormDamage ∷ ExtentDamage ∷ Overlap ∷ Link ∷ Digest ∷ []
+
+at_its_number : (damage : Damage) → slice_get in_order (damage_number damage) ≡ Some damage
+at_its_number NoRecord = refl
+at_its_number Head = refl
+at_its_number Volume = refl
+at_its_number Schema = refl
+at_its_number FormDamage = refl
+at_its_number ExtentDamage = refl
+at_its_number Overlap = refl
+at_its_number Link = refl
+at_its_number Digest = refl
+
+one_of_number : (a b : Damage) → damage_number a ≡ damage_number b → a ≡ b
+one_of_number a b e = let same : Some a ≡ Some b = sym (at_its_number a) ∙ ap (slice_get in_order) e ∙ at_its_number b in cc
+
+-- nothing is before the first
+pub none_before_all : (rows : Rows) (image : List ℕ) → NoneBefore NoRecord rows image
+none_before_all rows image earlier lt = absurd (omega arith)
+
+-- and one step further, where the next is not true
+pub none_before_next : (damage next : Damage) (rows : Rows) (image : List ℕ) → damage_number next ≡ suc (damage_number damage) → NoneBefore damage rows image → ¬ IsDamaged damage rows image → NoneBefore next rows image
+none_before_next damage next rows image follows before none earlier lt wrong =
+    let not_before : ¬ (damage_number earlier < damage_number damage) = λ lt. before earlier lt wrong in
+    let same : damage_number earlier ≡ damage_number damage = omega arith in
+    none (subst (λ d. IsDamaged d rows image) (one_of_number earlier damage same) wrong)
+
+told_once : (rows : Rows) (image : List ℕ) (a b : Damage) → IsFirstDamage a rows image → IsFirstDamage b rows image → a ≡ b
+told_once rows image a b one other =
+    let not_before : ¬ (damage_number a < damage_number b) = λ lt. other.first a lt one.is_true in
+    let not_after : ¬ (damage_number b < damage_number a) = λ lt. one.first b lt other.is_true in
+    one_of_number a b (omega arith)
+
 pub is_refinement : IsRefinement
-is_refinement = record { none = damaged_stands; some = undamaged_stands; one = stands_for_one }
+is_refinement = record { none = damaged_stands; some = undamaged_stands; one = stands_for_one; told_once = told_once }

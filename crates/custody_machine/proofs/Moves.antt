@@ -150,7 +150,7 @@ move_happens (Left rows image) (Resting left) (OpenedWith pair (NotOpened fault)
     may_open rows image state opens VolumeFailed stands may = tt
     may_open rows image state opens StoreFailed stands may = tt
     may_open rows image state opens Closed stands may = may
-    may_open rows image state opens (Damaged damage) stands may = absurd (damaged_stands damage rows image state may stands)
+    may_open rows image state opens (Damaged damage) stands may = absurd (damaged_stands damage rows image state may.is_true stands)
 
     failed : (rows : Rows) (image : List ℕ) (left pair : Pair) (fault : Fault) (others : Rows) (other : List ℕ) (next : Place) → Follows (Left rows image) (Resting left) → Finds rows image pair → MayNotOpen rows image fault → MayLeave (Left rows image) others other → next ≡ Left others other → Goes (Resting left) (OpenedWith pair (NotOpened fault)) next
     failed rows image left pair fault others other next follows finds may leaves is =
@@ -224,7 +224,7 @@ tells_none state (Shut records image doubt) (Answered command now (Failed (Damag
     never : Failed (Damaged damage) ≡ Failed Closed → ⊥
     never e = cc
 tells_none state (Left rows image) (Answered command now (Failed (Damaged damage))) next here m told = absurd m
-tells_none state (Left rows image) (OpenedWith pair (NotOpened (Damaged damage))) next here m told = damaged_stands damage rows image state m.1 here.0
+tells_none state (Left rows image) (OpenedWith pair (NotOpened (Damaged damage))) next here m told = damaged_stands damage rows image state m.1.is_true here.0
 tells_none state (Serving records image) (OpenedWith pair (NotOpened (Damaged damage))) next here m told = absurd m
 tells_none state (Shut records image doubt) (OpenedWith pair (NotOpened (Damaged damage))) next here m told = absurd m
 tells_none state place (Answered command now (Accepted reply)) next here m told = absurd told

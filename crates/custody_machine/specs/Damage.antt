@@ -31,7 +31,7 @@ pub record IsRowOf (meta : MetaRow) (number : ℕ) (image : List ℕ) : Type 0 w
   pub number_is : meta.number ≡ number_text number
   pub size : length image ≡ 4096 * natural meta.blocks
 
--- What is wrong, in the order in which an opening finds it: each is said where those before it are not. An opening reads no part, so no digest is among them.
+-- What is wrong, in the order in which an opening looks for it. An opening reads no part, so no digest is among them.
 abbrev pub IsDamaged : Damage → Rows → List ℕ → Type 0
 IsDamaged NoRecord rows image = meta_of rows ≡ None
 IsDamaged Head rows image = (number : ℕ) → number < 2 ^ 64 → bytes_at image 0 4096 ≢ head_of number
@@ -43,8 +43,30 @@ IsDamaged Overlap rows image = (records : Records) × (form_of rows ≡ InForm r
 IsDamaged Link rows image = (records : Records) × (form_of rows ≡ InForm records) × (¬ AreLinked records)
 IsDamaged Digest rows image = ⊥
 
--- A pair that is damaged stands for no state, and one that is not for exactly one.
+-- the numbers H0 to H8
+abbrev pub damage_number : Damage → ℕ
+damage_number NoRecord = 0
+damage_number Head = 1
+damage_number Volume = 2
+damage_number Schema = 3
+damage_number Form = 4
+damage_number Extent = 5
+damage_number Overlap = 6
+damage_number Link = 7
+damage_number Digest = 8
+
+-- no damage with a lower number is true
+abbrev pub NoneBefore : Damage → Rows → List ℕ → Type 0
+NoneBefore damage rows image = (earlier : Damage) → damage_number earlier < damage_number damage → ¬ IsDamaged earlier rows image
+
+-- What an opening tells: the damage with the lowest number that is true.
+pub record IsFirstDamage (damage : Damage) (rows : Rows) (image : List ℕ) : Type 0 where
+  pub is_true : IsDamaged damage rows image
+  pub first : NoneBefore damage rows image
+
+-- A pair that is damaged stands for no state, and one that is not for exactly one. No two damages are the first of one pair.
 pub record IsRefinement : Type 0 where
   pub none : (damage : Damage) (rows : Rows) (image : List ℕ) (state : State) → IsDamaged damage rows image → ¬ Stands rows image state
   pub some : (rows : Rows) (image : List ℕ) → ((damage : Damage) → ¬ IsDamaged damage rows image) → (state : State) × Stands rows image state
   pub one : (rows : Rows) (image : List ℕ) (a b : State) → Stands rows image a → Stands rows image b → a ≡ b
+  pub told_once : (rows : Rows) (image : List ℕ) (a b : Damage) → IsFirstDamage a rows image → IsFirstDamage b rows image → a ≡ b

@@ -11,7 +11,7 @@ use Rattle.custody_machine.specs.State.{State}
 use Rattle.custody_machine.specs.Machine.{Command, Entry, after, reads, Answer, Accepted, Refused, Failed, Fault, NoMemory, VolumeFailed, StoreFailed, Closed, Damaged, Answers}
 use Rattle.custody_machine.specs.History.{IsFoundWithin, MayFind, doubt_of, is_open_after, Pair, Opened, NotOpened, Event, Answered, ShutDown, StoppedAtRest, StoppedWithin, OpenedWith, IsHistory, found, WasReceived}
 use Rattle.custody_machine.specs.Stored.{IsGood, part_of, state_in, Stands, HasDigestAt, HasDigests, IsSound, KeepsParts, OpensFrom}
-use Rattle.custody_machine.specs.Damage.{IsDamaged}
+use Rattle.custody_machine.specs.Damage.{IsFirstDamage}
 
 -- between two events
 pub data Place : Type 0 where
@@ -64,7 +64,7 @@ MayNotOpen rows image NoMemory = Unit {0}
 MayNotOpen rows image VolumeFailed = Unit {0}
 MayNotOpen rows image StoreFailed = Unit {0}
 MayNotOpen rows image Closed = ⊥
-MayNotOpen rows image (Damaged damage) = IsDamaged damage rows image
+MayNotOpen rows image (Damaged damage) = IsFirstDamage damage rows image
 
 -- ---- the moves
 

@@ -14,7 +14,8 @@ pub fn law_read_name()
     ensures { IsReading }
 {}
 
-/// A database and a volume that are damaged stand for no state, and any others for exactly one.
+/// A database and a volume that are damaged stand for no state, and any others for exactly one. No two
+/// damages are the first of them.
 pub fn law_damage()
     ensures { IsRefinement }
 {}

@@ -4,7 +4,7 @@ ghost use Rattle.vault_volume.specs.Extents.{IsExtentOf, IsInAny};
 ghost use Rattle.custody_records.specs.Held.{records_of};
 ghost use Rattle.custody_machine.specs.Stored.{AreInRange, AreWhole};
 ghost use Rattle.custody_machine.specs.Custody.{IsPlaceable};
-ghost use Rattle.custody_rules.specs.Breaks.{Breaks};
+ghost use Rattle.custody_rules.specs.Breaks.{BreaksFirst};
 ghost use Rattle.custody_rules.specs.Blocks.{all_extents};
 
 use crate::blocks::are_once;
@@ -21,7 +21,7 @@ mod tests;
 /// What is wrong among the records: the first of H5, H6 and H7 that is, or `None` where they are whole.
 pub fn damage_in(alloc: Global, records: &Records) -> Result<Option<Damage>, AllocError>
     ensures none { IfOk result (λ found. IfNone found (AreWhole (records_of records.now))) }
-    ensures some { IfOk result (λ found. IfSome found (λ damage. Breaks damage (records_of records.now))) }
+    ensures some { IfOk result (λ found. IfSome found (λ damage. BreaksFirst damage (records_of records.now))) }
 {
     if !are_in_range(records) {
         return Ok(Some(Damage::Extent));

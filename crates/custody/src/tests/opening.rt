@@ -18,7 +18,7 @@ const SAME_BLOCK: &str =
     "INSERT INTO part VALUES ('example', 20667, 0, 2, 'full', 1785664800, 21032, 5, x'0707070707070707070707070707070707070707070707070707070707070707', x'0000000100000001')";
 
 /// What is done to a database with a registry and a part, and the first damage that is then told.
-const DAMAGES: [(&str, Damage); 16] = [
+const DAMAGES: [(&str, Damage); 17] = [
     ("DELETE FROM meta", Damage::NoRecord),
     (
         "UPDATE meta SET number = '0000000000000002'",
@@ -34,6 +34,10 @@ const DAMAGES: [(&str, Damage); 16] = [
     ("UPDATE meta SET schema_no = 2", Damage::Schema),
     ("UPDATE registry SET first_day = -1", Damage::Form),
     ("DROP TABLE handover", Damage::Form),
+    (
+        "DROP TABLE handover; UPDATE meta SET schema_no = 2",
+        Damage::Form,
+    ),
     (
         "UPDATE part SET extents = x'0000000000000001'",
         Damage::Extent,

@@ -6,7 +6,8 @@ use Rattle.sqlite.specs.Held.{state}
 use Rattle.custody_records.specs.Form.{form_of, InForm}
 use Rattle.custody_records.specs.Records.{Records}
 use Rattle.custody_store.specs.Standing.{standing}
-use Rattle.custody_machine.specs.Damage.{IsDamaged}
+use Rattle.custody_machine.specs.declared.damage.Damage.TheVariants.{Schema}
+use Rattle.custody_machine.specs.Damage.{NoneBefore, IsFirstDamage}
 use Rattle.custody_machine.specs.Stored.{AreWhole}
 use Rattle.custody.specs.Holdings.{recorded}
 use Rattle.custody.proofs.Opened.{bare_has_none, ready_still, left_now, reads_on_ok, reads_on_err, on_volume}
@@ -63,16 +64,23 @@ returns-in-Ok-load_whole-clause-reads g c =
     reads_on_ok (standing g.S.Store c.args.db) (standing g.S.Store c.identify.new.db) (standing g.S.Store c.over-store.result) _ c.in-Ok.ensures.reads (ap (standing g.S.Store) c.over-store.ensures)
     (standing g.S.Store c.load_whole.new.store) (standing g.S.Store c.hold.result.store) _ _ c.in-Ok-load_whole.ensures.reads (ap (standing g.S.Store) c.hold.ensures.store)
 
+pub returns-in-Err-clause-damaged : goal.returns-in-Err-clause-damaged
+returns-in-Err-clause-damaged g c tells either honest damage same = c.in-Err.ensures.damaged tells honest either damage same
+
 pub returns-in-Err-load_whole-clause-damaged : goal.returns-in-Err-load_whole-clause-damaged
 returns-in-Err-load_whole-clause-damaged g c tells either honest damage same =
     let clean = subst (λ db. (standing g.S.Store db).IsHonest) c.into_inner.ensures honest in
     let then = c.in-Err-load_whole.ensures.reads.trust clean in
     let over = ap (standing g.S.Store) c.over-store.ensures in
+    let at_start = subst (λ s. s.IsHonest) over then in
+    let image = g.V.Volume.image c.args.volume in
     elim either [
       | inl ready ↦
           let still = ready_still (standing g.S.Store c.args.db) (standing g.S.Store c.identify.new.db) (standing g.S.Store c.over-store.result) _ c.in-Ok.ensures.reads over then ready in
-          subst (λ rows. IsDamaged damage rows (g.V.Volume.image c.args.volume)) still.1 (c.in-Err-load_whole.ensures.damaged clean still.0 damage same (g.V.Volume.image c.args.volume))
-      | inr bare ↦ absurd (c.in-Ok.ensures.row (subst (λ s. s.IsHonest) over then) (inr bare) (bare_has_none (state g.S.Store c.args.db) bare))
+          let before = subst (λ rows. NoneBefore Schema rows image) (sym still.1) (c.in-Ok.ensures.undamaged tells at_start (inl ready)) in
+          subst (λ rows. IsFirstDamage damage rows image) still.1
+          (record { is_true = c.in-Err-load_whole.ensures.damaged clean still.0 damage same image; first = c.in-Err-load_whole.ensures.first clean still.0 damage same image before })
+      | inr bare ↦ absurd (c.in-Ok.ensures.row at_start (inr bare) (bare_has_none (state g.S.Store c.args.db) bare))
     ]
 
 pub returns-in-Err-load_whole-clause-reads : goal.returns-in-Err-load_whole-clause-reads
