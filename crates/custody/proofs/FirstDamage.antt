@@ -7,7 +7,8 @@ use Rattle.vault_volume.specs.Image.{bytes_at}
 use Rattle.vault_volume.specs.Head.{head_of}
 use Rattle.custody_records.specs.declared.meta.Meta.{Meta}
 use Rattle.custody_records.specs.Rows.{MetaRow, Rows}
-use Rattle.custody_records.specs.Form.{natural, number_in}
+use Rattle.custody_records.specs.declared.damage.Damage.TheVariants as rows_damage
+use Rattle.custody_records.specs.Form.{natural, number_in, is_number, is_known, OutOfForm, form_by, form_of}
 use Rattle.custody_records.specs.Written.{digits_of}
 use Rattle.custody_records.specs.Typed as typed
 use Rattle.custody_store.specs.Reading.{first_meta}
@@ -25,6 +26,18 @@ has_record rows found is = by rows.meta refl is
     by None at is = cc
     by (Some []) at is = cc
     by (Some (row ∷ others)) at is = λ none. let some : meta_of rows ≡ Some row = ap (λ metas. meta_of (record rows { meta = metas })) at in cc
+
+-- a schema that is not known is told, whatever the tables are
+pub unknown_schema : (rows : Rows) (found : Meta) (image : List ℕ) → Some found ≡ option_map typed.meta_of (first_meta rows) → is_number 1 found.schema_no ≡ false → IsDamaged wrong.Schema rows image
+unfolding form_of
+unknown_schema rows found image is schema = by rows.meta refl is
+  where
+    by : (metas : Option (List MetaRow)) → rows.meta ≡ metas → Some found ≡ option_map typed.meta_of (first_meta (record rows { meta = metas })) → form_by metas rows ≡ OutOfForm rows_damage.Schema
+    by None at is = cc
+    by (Some []) at is = cc
+    by (Some (row ∷ others)) at is =
+        let same : found ≡ typed.meta_of row = cc in
+        let known : is_known row ≡ false = ap (λ (m : Meta). is_number 1 m.schema_no) (sym same) ∙ schema in rw known refl
 
 -- a number that was read is that of the digits
 digits_read : (text : List ℕ) (number : ℕ) → cond (bytes_eq text (digits_of (number_in text))) (Some (number_in text)) None ≡ Some number → text ≡ digits_of number

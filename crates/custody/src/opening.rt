@@ -119,11 +119,14 @@ pub fn identify<V: Volume, S: Alter>(
         Err(fault) => return Err(fault),
     };
     let blocks = volume.size();
-    if is_of(&meta, number, blocks) {
-        Ok((number, blocks))
-    } else {
-        Err(Fault::Damaged(Damage::Volume))
+    if !is_of(&meta, number, blocks) {
+        return Err(Fault::Damaged(Damage::Volume));
     }
+    // Tables are looked for only where their schema is known.
+    if !meta.is_known() {
+        return Err(Fault::Damaged(Damage::Schema));
+    }
+    Ok((number, blocks))
 }
 
 /// Why records were not loaded.

@@ -36,7 +36,7 @@ const DAMAGES: [(&str, Damage); 17] = [
     ("DROP TABLE handover", Damage::Form),
     (
         "DROP TABLE handover; UPDATE meta SET schema_no = 2",
-        Damage::Form,
+        Damage::Schema,
     ),
     (
         "UPDATE part SET extents = x'0000000000000001'",
