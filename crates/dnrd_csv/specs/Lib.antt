@@ -1,3 +1,4 @@
+pub mod FaultText
 pub mod Form
 pub mod Reading
 pub mod Rows
