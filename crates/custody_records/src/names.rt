@@ -3,7 +3,7 @@ ghost use Rattle.std.specs.Prelude.{◌≡◌, false, true, map, IfOk, MatchResu
 ghost use Rattle.std.specs.List.{list_all};
 ghost use Rattle.custody_records.specs.Form.{lines_in};
 ghost use Rattle.custody_records.specs.Written.{is_line, text_of};
-ghost use Rattle.custody_records.specs.declared.errors.RowError.TheVariants.{OutOfForm};
+ghost use Rattle.custody_records.specs.declared.errors.RowError.TheVariants.{OutOfForm, NoMemory};
 
 use crate::RowError;
 use std::alloc::{AllocError, Global};
@@ -62,6 +62,7 @@ impl Names {
     pub fn push(&mut self, alloc: Global, name: &[u8]) -> Result<(), RowError>
         ensures added { OnOk result (self.new ≡ self.old ++ name.now ∷ []) }
         ensures line { IsErrOf result OutOfForm → is_line name.now ≡ false }
+        ensures no_memory { IsErrOf result NoMemory → is_line name.now ≡ true }
         ensures same { OnErr result (self.new ≡ self.old) }
     {
         if !is_a_line(name) {

@@ -33,7 +33,7 @@ pub struct Records {
 impl Records {
     ghost use Rattle.custody_records.specs.Records.{new_records, with_registry, with_part, with_notice, with_release};
     ghost use Rattle.custody_records.specs.Held.{records_of, HasRegistryRoom, HasPartRoom, HasNoticeRoom, HasReleaseRoom};
-    ghost use Rattle.custody_records.specs.declared.errors.RowError.TheVariants.{OutOfForm};
+    ghost use Rattle.custody_records.specs.declared.errors.RowError.TheVariants.{OutOfForm, NoMemory};
 
     /// No records yet, for a volume of this number and so many blocks.
     pub fn new(alloc: Global, number: u64, blocks: u32) -> Records
@@ -107,6 +107,7 @@ impl Records {
     pub fn reserve_registry(&mut self) -> Result<(), AllocError>
         ensures same { records_of self.new ≡ records_of self.old }
         ensures room { OnOk result (HasRegistryRoom self.new) }
+        ensures no_memory { OnErr result (¬ HasRegistryRoom self.old) }
     {
         self.registries.try_reserve(1)
     }
@@ -125,6 +126,7 @@ impl Records {
         ensures added { OnOk result (records_of self.new ≡ with_registry (records_of self.old) (registry_key registry) (registry_value registry)) }
         ensures new { OnOk result (get (records_of self.old).registries (registry_key registry) ≡ None) }
         ensures taken { IsErrOf result OutOfForm → IsSome (get (records_of self.old).registries (registry_key registry)) }
+        ensures no_memory { IsErrOf result NoMemory → (get (records_of self.old).registries (registry_key registry) ≡ None) × ¬ HasRegistryRoom self.old }
         ensures same { OnErr result (records_of self.new ≡ records_of self.old) }
     {
         insert(&mut self.registries, registry)
@@ -142,6 +144,7 @@ impl Records {
     pub fn reserve_part(&mut self) -> Result<(), AllocError>
         ensures same { records_of self.new ≡ records_of self.old }
         ensures room { OnOk result (HasPartRoom self.new) }
+        ensures no_memory { OnErr result (¬ HasPartRoom self.old) }
     {
         self.parts.try_reserve(1)
     }
@@ -160,6 +163,7 @@ impl Records {
         ensures added { OnOk result (records_of self.new ≡ with_part (records_of self.old) (part_place part) (part_value part)) }
         ensures new { OnOk result (get (records_of self.old).parts (part_place part) ≡ None) }
         ensures taken { IsErrOf result OutOfForm → IsSome (get (records_of self.old).parts (part_place part)) }
+        ensures no_memory { IsErrOf result NoMemory → (get (records_of self.old).parts (part_place part) ≡ None) × ¬ HasPartRoom self.old }
         ensures same { OnErr result (records_of self.new ≡ records_of self.old) }
     {
         insert(&mut self.parts, part)
@@ -177,6 +181,7 @@ impl Records {
     pub fn reserve_notice(&mut self) -> Result<(), AllocError>
         ensures same { records_of self.new ≡ records_of self.old }
         ensures room { OnOk result (HasNoticeRoom self.new) }
+        ensures no_memory { OnErr result (¬ HasNoticeRoom self.old) }
     {
         self.notices.try_reserve(1)
     }
@@ -196,6 +201,7 @@ impl Records {
         ensures added { OnOk result (records_of self.new ≡ with_notice (records_of self.old) (notice_key notice.now) (notice_value notice.now)) }
         ensures new { OnOk result (get (records_of self.old).notices (notice_key notice.now) ≡ None) }
         ensures taken { IsErrOf result OutOfForm → IsSome (get (records_of self.old).notices (notice_key notice.now)) }
+        ensures no_memory { IsErrOf result NoMemory → (get (records_of self.old).notices (notice_key notice.now) ≡ None) × ¬ HasNoticeRoom self.old }
         ensures same { OnErr result (records_of self.new ≡ records_of self.old) }
     {
         let kind: NoticeKind = notice.kind;
@@ -214,6 +220,7 @@ impl Records {
     pub fn reserve_release(&mut self) -> Result<(), AllocError>
         ensures same { records_of self.new ≡ records_of self.old }
         ensures room { OnOk result (HasReleaseRoom self.new) }
+        ensures no_memory { OnErr result (¬ HasReleaseRoom self.old) }
     {
         self.releases.try_reserve(1)
     }
@@ -232,6 +239,7 @@ impl Records {
         ensures added { OnOk result (records_of self.new ≡ with_release (records_of self.old) (release_key release) (release_value release)) }
         ensures new { OnOk result (get (records_of self.old).releases (release_key release) ≡ None) }
         ensures taken { IsErrOf result OutOfForm → IsSome (get (records_of self.old).releases (release_key release)) }
+        ensures no_memory { IsErrOf result NoMemory → (get (records_of self.old).releases (release_key release) ≡ None) × ¬ HasReleaseRoom self.old }
         ensures same { OnErr result (records_of self.new ≡ records_of self.old) }
     {
         insert(&mut self.releases, release)

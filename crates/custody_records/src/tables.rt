@@ -1,10 +1,10 @@
 //! Tables in memory: rows in the order of their keys.
-ghost use Rattle.std.specs.Prelude.{◌≡◌, ◌<◌, true, length, vec_len, vec_capacity, None, IsSome, OnOk, OnErr, option_copied, IsErrOf};
+ghost use Rattle.std.specs.Prelude.{◌≡◌, ◌<◌, ◌≤◌, true, length, vec_len, vec_capacity, None, IsSome, OnOk, OnErr, option_copied, IsErrOf};
 ghost use Rattle.std.specs.Cmp.{IsTotalOrder};
 ghost use Rattle.std.specs.declared.cmp.Ordering.{Ordering};
 ghost use Rattle.std.specs.List.Sorted.{IsSearchInRange, IsBinarySearchResult};
 ghost use Rattle.custody_records.specs.Tables.{IsAdded, is_rising, row_at};
-ghost use Rattle.custody_records.specs.declared.errors.RowError.TheVariants.{OutOfForm};
+ghost use Rattle.custody_records.specs.declared.errors.RowError.TheVariants.{OutOfForm, NoMemory};
 
 use crate::RowError;
 use std::cmp::Ordering;
@@ -68,6 +68,7 @@ pub(crate) fn insert<T: Keyed>(rows: &mut Vec<T>, row: T) -> Result<(), RowError
     ensures added { OnOk result (IsAdded T.order T.key_of rows.old.items rows.new.items row) }
     ensures new { OnOk result (row_at T.order T.key_of rows.old.items (T.key_of row) ≡ None) }
     ensures taken { IsErrOf result OutOfForm → IsSome (row_at T.order T.key_of rows.old.items (T.key_of row)) }
+    ensures no_memory { IsErrOf result NoMemory → (row_at T.order T.key_of rows.old.items (T.key_of row) ≡ None) × (vec_capacity rows.old ≤ vec_len rows.old) }
     ensures same { OnErr result (rows.new.items ≡ rows.old.items) }
 {
     match place_of(rows, &row.key()) {

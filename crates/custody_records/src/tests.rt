@@ -1,6 +1,6 @@
 //! The records and their rows at work: hostile rows, a key twice, and memory that runs out.
 use crate::{
-    Names, NoticeColumns, Part, PartColumns, PartKey, Records, ReleaseColumns, RowError,
+    Names, NoticeColumns, NoticeKey, Part, PartColumns, PartKey, Records, ReleaseColumns, RowError,
     read_registry, write_blob,
 };
 use desk::{Check, NoticeKind};
@@ -230,5 +230,54 @@ fn names_are_lines(rt: HostRuntime) -> Result<(), Fail> {
     );
     let text = names.to_text(rt.alloc())?;
     assert_eq!(rt; text.as_slice(), b"one\ntwo\n".as_slice());
+    Ok(())
+}
+
+#[test]
+fn adds_a_registry_and_a_part_in_the_room_made(rt: HostRuntime) -> Result<(), Fail> {
+    let mut records = Records::new(rt.alloc(), 7, 1000);
+    let registry = read_registry(b"example", 20667).ok_or("no registry")?;
+    records.reserve_registry()?;
+    if records.first_day(&registry.tld).is_none() {
+        records.add_registry(registry);
+    }
+    assert_eq!(rt; records.registries(), [registry].as_slice());
+    let part = part_columns().read(rt.alloc())?;
+    let place = PartKey::of(&part.name);
+    records.reserve_part()?;
+    if records.part(&place).is_none() {
+        records.add_part(part);
+    }
+    assert!(rt; records.part(&place).is_some());
+    assert_eq!(rt; records.parts().len(), 1);
+    Ok(())
+}
+
+#[test]
+fn adds_a_notice_and_a_release_in_the_room_made(rt: HostRuntime) -> Result<(), Fail> {
+    let mut records = Records::new(rt.alloc(), 7, 1000);
+    let notice = notice_columns().read().ok_or("no notice")?;
+    let key = NoticeKey {
+        tld: notice.tld,
+        number: notice.number,
+    };
+    records.reserve_notice()?;
+    if records.notice(&key).is_none() {
+        records.add_notice(&notice);
+    }
+    assert_eq!(rt; records.notices(), [notice].as_slice());
+    assert_eq!(rt;
+        records.insert_notice(&notice).err(),
+        Some(RowError::OutOfForm)
+    );
+    let release = release_columns().read(rt.alloc())?;
+    let reference = release.reference;
+    records.reserve_release()?;
+    if records.release(&reference).is_none() {
+        records.add_release(release);
+    }
+    assert!(rt; records.release(&reference).is_some());
+    let again = records.insert_release(release_columns().read(rt.alloc())?);
+    assert_eq!(rt; again.err(), Some(RowError::OutOfForm));
     Ok(())
 }

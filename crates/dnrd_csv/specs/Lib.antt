@@ -1,6 +1,6 @@
+pub mod ErrorText
 pub mod Form
 pub mod Reading
 pub mod Rows
 pub mod Table
 pub mod Text
-pub mod ErrorText

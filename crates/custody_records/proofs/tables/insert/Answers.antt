@@ -28,3 +28,12 @@ returns-in-Ok-clause-taken g c = λ e.
     let key = g.T.Keyed.key_of in
     let rising : is_rising order key c.deref.result.now ≡ true = ap (is_rising order key) c.deref.ensures.value ∙ c.requires.rising in
     ap is_some (sym (λ i. row_at order key (c.deref.ensures.value i) (c.key.ensures i)) ∙ found_at order key g.met.T.Keyed.total c.deref.result.now c.key.result c.in-Ok.field-0 c.args.row rising c.in-Ok.ensures.range (c.in-Ok.ensures.place c.args.row))
+
+pub returns-in_err-insert-in-Err-clause-no_memory : goal.returns-in_err-insert-in-Err-clause-no_memory
+returns-in_err-insert-in-Err-clause-no_memory g c = λ e.
+    let order = g.T.Keyed.order in
+    let key = g.T.Keyed.key_of in
+    let rising : is_rising order key c.deref.result.now ≡ true = ap (is_rising order key) c.deref.ensures.value ∙ c.requires.rising in (
+      sym (λ i. row_at order key (c.deref.ensures.value i) (c.key.ensures i)) ∙ absent_at order key g.met.T.Keyed.total c.deref.result.now rising c.key.result c.in-Err.place c.in-Err.ensures.place,
+      c.in_err-insert-in-Err.ensures.full,
+    )

@@ -1,4 +1,4 @@
-use Rattle.std.proofs.Common.{◌≡◌, None, ap, ◌∙◌}
+use Rattle.std.proofs.Common.{◌≡◌, None, ap, ◌∙◌, arith}
 use Rattle.std.specs.Prelude.{option_map}
 use Rattle.std.proofs.lemmas.Result.{on_ok_weaker}
 use Rattle.custody_records.specs.Keys.{text_cmp, part_cmp, notice_cmp}
@@ -27,3 +27,10 @@ returns-clause-new c = on_ok_weaker c.insert.result (λ (new : row_at part_cmp p
 
 pub returns-clause-taken : goal.returns-clause-taken
 returns-clause-taken c = λ e. present_row part_cmp part_place part_total c.args.self.now.parts.items c.args.self.now.parts_rise part_value (part_place c.args.part) (c.insert.ensures.taken e)
+
+pub returns-clause-no_memory : goal.returns-clause-no_memory
+returns-clause-no_memory c = λ e.
+    let none = c.insert.ensures.no_memory e in (
+      get_table part_cmp part_place part_value c.args.self.now.parts.items (part_place c.args.part) c.args.self.now.parts_rise ∙ ap (option_map part_value) none.0,
+      λ room. omega (arith, none.1, room),
+    )

@@ -1,4 +1,4 @@
-use Rattle.std.proofs.Common.{◌≡◌, None, ap, ◌∙◌}
+use Rattle.std.proofs.Common.{◌≡◌, None, ap, ◌∙◌, arith}
 use Rattle.std.specs.Prelude.{option_map}
 use Rattle.std.proofs.lemmas.Result.{on_ok_weaker}
 use Rattle.custody_records.specs.Keys.{text_cmp, part_cmp, notice_cmp}
@@ -27,3 +27,10 @@ returns-clause-new c = on_ok_weaker c.insert.result (λ (new : row_at text_cmp r
 
 pub returns-clause-taken : goal.returns-clause-taken
 returns-clause-taken c = λ e. present_row text_cmp registry_key text_total c.args.self.now.registries.items c.args.self.now.registries_rise registry_value (registry_key c.args.registry) (c.insert.ensures.taken e)
+
+pub returns-clause-no_memory : goal.returns-clause-no_memory
+returns-clause-no_memory c = λ e.
+    let none = c.insert.ensures.no_memory e in (
+      get_table text_cmp registry_key registry_value c.args.self.now.registries.items (registry_key c.args.registry) c.args.self.now.registries_rise ∙ ap (option_map registry_value) none.0,
+      λ room. omega (arith, none.1, room),
+    )
