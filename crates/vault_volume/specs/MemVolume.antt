@@ -1,6 +1,7 @@
--- The script of a volume in memory.
+-- The script of a volume in memory, and its room.
 use Rattle.std.specs.Prelude.{◌⊎◌, ℕ, ◌≤◌, length, nat_eq, IsSomeAnd, IsTrue}
 use Rattle.std.specs.List.{list_any}
+use Rattle.std.specs.Vec.{vec_capacity}
 use Rattle.vault_volume.specs.declared.memory.MemVolume.{MemVolume}
 
 -- how many calls it has kept, which is the number of the next
@@ -17,3 +18,11 @@ IsStopped volume number = IsSomeAnd volume.stop_at (λ stop. stop ≤ number)
 
 abbrev pub WillFail : MemVolume → ℕ → Type 0
 WillFail volume number = IsListed volume number ⊎ IsStopped volume number
+
+-- how many calls it has room for
+abbrev pub call_room : MemVolume → ℕ
+call_room volume = vec_capacity volume.calls
+
+-- how many more syncs it has a buffer for
+abbrev pub sync_room : MemVolume → ℕ
+sync_room volume = length volume.spare.items
