@@ -1,4 +1,3 @@
-pub mod Builders
 pub mod FormLemmas
 pub mod OneReading
 pub mod PathLemmas

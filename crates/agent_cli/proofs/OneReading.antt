@@ -8,7 +8,7 @@ use Rattle.agent_cli.specs.Command.{escrow_app}
 use Rattle.agent_cli.specs.Forms.{ShowsMoment}
 use Rattle.agent_cli.specs.Order.{Asks, InitReading, IsOneReading, MetReading, NamedReading, PutReading, ReadsValue, Reading, RegisterReading, StateReading, refused}
 use Rattle.agent_cli.specs.declared.order.Argument.{Argument}
-use Rattle.agent_cli.proofs.FormLemmas.{if_given_one, number_text-injective}
+use Rattle.agent_cli.proofs.FormLemmas.{if_given_one, digits_of-injective}
 use Rattle.schedule.proofs.TextLemmas.{day_text-injective, moment_text-injective}
 
 abbrev IsOne : (Reading → Type 0) → Type 0
@@ -23,7 +23,7 @@ value_one a Shows Next one next r s (inr p) (inl q) = absurd (p.0 q.0 q.1)
 value_one a Shows Next one next r s (inr p) (inr q) = p.1 ∙ sym q.1
 
 init_one : (rows : List Row) → IsOne (InitReading rows)
-init_one rows = value_one _ _ _ (λ x y h k. number_text-injective x y h.0 k.0 (sym h.1 ∙ k.1)) (λ x r s h k. h ∙ sym k)
+init_one rows = value_one _ _ _ (λ x y h k. digits_of-injective x y h.0 k.0 (sym h.1 ∙ k.1)) (λ x r s h k. h ∙ sym k)
 
 register_one : (rows : List Row) → IsOne (RegisterReading rows)
 register_one rows =

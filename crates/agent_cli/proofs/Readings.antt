@@ -1,16 +1,11 @@
 -- What the matches of a parse give, and where a parse that passes has met a subcommand.
-use Rattle.std.proofs.Common.{◌∙◌, ◌≡◌, arith, refl, sym, inl, inr, List, ℕ, [], ◌∷◌, Bool, true, false, Option, Some, None, Result, Ok, Err, option_map, unwrap_or, is_some, not, IfSome, cond, find, length}
-use Rattle.std.specs.Prelude.{◌&&◌}
+use Rattle.std.proofs.Common.{◌∙◌, ◌≡◌, arith, refl, sym, inl, inr, List, ℕ, [], ◌∷◌, Bool, true, false, Option, Some, None, Result, Ok, Err, option_map, unwrap_or, IfSome, cond, find, length}
 use Rattle.std.specs.Borrow.{Bor}
-use Rattle.std.specs.List.{list_all, list_any}
+use Rattle.std.specs.List.{list_all}
 use Rattle.std.specs.Str.Parse.{ParsesUnsigned}
 use Rattle.clap.specs.Words.{Row, Shape, Text, kind_of, subcommand_of, fault_of, built, HasKind, IsAmong, Kinds}
-use Rattle.clap.specs.Walk.{Held, Names, answers_to, finished, is_empty, nothing_held, settled, stop_after, walk, walk_from}
+use Rattle.clap.specs.Walk.{answers_to, is_empty, stop_after}
 use Rattle.clap.specs.Simple.{argument_words, entered, label_of, names_of, rows_at}
-use Rattle.clap.specs.Kinds.{check_kinds, or_else}
-use Rattle.clap.specs.Faults.{check_fault, defaults_fault, entered_fault, level_fault, settle_fault, walk_fault}
-use Rattle.clap.specs.Facts.{explicit_source}
-use Rattle.clap.specs.Takes.{is_given}
 use Rattle.clap.specs.Matches.{subcommand_name_of}
 use Rattle.clap.specs.Words.{subcommand_rows_of}
 use Rattle.clap.specs.declared.parser.ArgMatches.{ArgMatches}
@@ -70,42 +65,6 @@ fault_answers words e (fault.Bad a) h k = absurd h
 fault_answers words e fault.NoMemory h k = tt
 
 -- ---- a subcommand
-
-or_else_none : (a b : Kinds) → or_else a b ≡ [] → b ≡ []
-or_else_none [] b e = e
-or_else_none (k ∷ ks) b e = absurd (cc)
-
-check_passes : (a b c : Bool) → check_kinds a b c ≡ [] → b ≡ false
-check_passes true b c e = absurd (cc)
-check_passes false true c e = absurd (cc)
-check_passes false false c e = refl
-
-is_met : (has : Bool) → (not has && true) ≡ false → has ≡ true
-is_met true e = refl
-is_met false e = absurd (cc)
-
-check_meets : (s : Shape) (rows : List Row) (has : Bool) → s.subcommand_required ≡ true → check_fault s rows has ≡ [] → has ≡ true
-check_meets s rows has needs e =
-    let met : (not has && s.subcommand_required) ≡ false =
-    check_passes (not has && (s.arg_required_else_help && not (list_any (λ r. explicit_source r.source) rows)))
-    (not has && s.subcommand_required)
-    (not (s.subcommand_negates_reqs && has) && list_any (λ a. a.required && not (is_given a.id rows)) s.rules) e in
-    is_met has (rw needs at met)
-
-level_meets : (s : Shape) (names : Names) (h : Held) (words : List Text) (has : Bool) (below : Kinds) → s.subcommand_required ≡ true
-    → level_fault s names h words has below ≡ [] → has ≡ true
-level_meets s names h words has below needs e =
-    let end = (walk s.rules names h words).held in
-    let after_walk = or_else_none (walk_fault s names (walk_from h) words) _ e in
-    let after_below = or_else_none below _ after_walk in
-    let after_pending = or_else_none (settle_fault s.rules s.args_override_self end) _ after_below in
-    check_meets s (finished s.rules end) has needs (or_else_none (defaults_fault (settled s.rules end).rows s.rules) _ after_pending)
-
-pub meets_subcommand : (words : List Text) → fault_of escrow_app words ≡ [] → is_some (subcommand_of escrow_app words) ≡ true
-meets_subcommand words e =
-    let stop = stop_after (built escrow_app).top.rules (names_of (built escrow_app)) (argument_words escrow_app words) in
-    level_meets (built escrow_app).top (names_of (built escrow_app)) nothing_held (argument_words escrow_app words)
-    (is_some (entered (built escrow_app) stop)) (entered_fault (built escrow_app) stop) refl e
 
 at_test : {X : Type 0} (p q : X → Bool) (x : X) (rest : Option X) (b : Bool) → q x ≡ true → IfSome rest (λ y. q y ≡ true) → IfSome (cond b (Some x) rest) (λ y. q y ≡ true)
 at_test p q x rest true here later = here

@@ -1,8 +1,10 @@
 //! The numbers of volumes.
 ghost use Rattle.std.specs.Prelude.{◌≡◌, ℕ, ◌^◌, ◌<◌, Some, IfSome};
 ghost use Rattle.std.specs.Str.{IsAscii};
-ghost use Rattle.agent_cli.specs.Forms.{ShowsNumber, number_text};
+ghost use Rattle.custody_records.specs.Written.{digits_of};
+ghost use Rattle.agent_cli.specs.Forms.{ShowsNumber};
 
+use custody_records::{read_number, write_number};
 use std::marker::Model;
 use std::{fmt, str};
 
@@ -44,23 +46,9 @@ impl VolumeNumber {
         ensures text { IfSome result (ShowsNumber t.now) }
         ensures only { (n : ℕ) → ShowsNumber t.now n → result ≡ Some n }
     {
-        let mut bytes = [0; 8];
-        hex::decode_to_slice(t, &mut bytes).ok()?;
-        let number = u64::from_be_bytes(bytes);
-        if t == write_number(number).as_slice() {
-            Some(VolumeNumber::new(number))
-        } else {
-            None
-        }
+        let number = read_number(t)?;
+        Some(VolumeNumber::new(number))
     }
-}
-
-fn write_number(number: u64) -> [u8; 16]
-    ensures { result ≡ number_text number }
-{
-    let mut digits = [0; 16];
-    let _ = hex::encode_to_slice(number.to_be_bytes(), &mut digits);
-    digits
 }
 
 fn ascii_str(text: &[u8]) -> &str
@@ -71,7 +59,7 @@ fn ascii_str(text: &[u8]) -> &str
 }
 
 impl fmt::Display for VolumeNumber {
-    ghost output = { λ n. Some (number_text n) };
+    ghost output = { λ n. Some (digits_of n) };
 
     fn fmt<W: fmt::Write>(&self, f: &mut fmt::Formatter<W>) -> fmt::Result {
         f.pad(ascii_str(&write_number(self.get())))

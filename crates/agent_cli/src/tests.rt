@@ -103,6 +103,11 @@ fn names_the_first_argument_out_of_form(rt: HostRuntime) -> Result<(), Fail> {
         let text = fault_text(rt.alloc(), texts)?;
         assert_eq!(rt; text.as_str(), wanted);
     }
+    Ok(())
+}
+
+#[test]
+fn tells_arguments_and_want_of_memory(rt: HostRuntime) -> Result<(), Fail> {
     let alloc = rt.alloc();
     let arguments = [
         (Argument::Tld, "TLD"),
@@ -126,7 +131,7 @@ fn names_the_first_argument_out_of_form(rt: HostRuntime) -> Result<(), Fail> {
 
 #[test]
 fn other_words_are_faults_of_the_command(rt: HostRuntime) -> Result<(), Fail> {
-    let rows: [(&[&str], &str); 9] = [
+    let rows: [(&[&str], &str); 5] = [
         (
             &[],
             "error: 'escrow' requires a subcommand but one was not provided\n  [subcommands: init, register, put, state]\n\nUsage: escrow <COMMAND>\n\nFor more information, try '--help'.\n",
@@ -139,6 +144,27 @@ fn other_words_are_faults_of_the_command(rt: HostRuntime) -> Result<(), Fail> {
             &["help"],
             "error: unrecognized subcommand 'help'\n\nUsage: escrow <COMMAND>\n\nFor more information, try '--help'.\n",
         ),
+        (
+            &["state", "d", "--now", "2026-08-02T10:00:00Z"],
+            "error: unexpected argument '--now' found\n\n  tip: to pass '--now' as a value, use '-- --now'\n\nUsage: escrow state <DIR>\n\nFor more information, try '--help'.\n",
+        ),
+        (
+            &["state", "d", "e"],
+            "error: unexpected argument 'e' found\n\nUsage: escrow state <DIR>\n\nFor more information, try '--help'.\n",
+        ),
+    ];
+    for (texts, wanted) in rows {
+        let text = fault_text(rt.alloc(), texts)?;
+        assert_eq!(rt; text.as_str(), wanted);
+    }
+    Ok(())
+}
+
+#[test]
+fn missing_arguments_and_block_counts_are_faults_of_the_command(
+    rt: HostRuntime,
+) -> Result<(), Fail> {
+    let rows: [(&[&str], &str); 4] = [
         (
             &["state"],
             "error: the following required arguments were not provided:\n  <DIR>\n\nUsage: escrow state <DIR>\n\nFor more information, try '--help'.\n",
@@ -161,14 +187,6 @@ fn other_words_are_faults_of_the_command(rt: HostRuntime) -> Result<(), Fail> {
                 "0000000000000001",
             ],
             "error: invalid value '262145' for '--blocks <N>': 262145 is not in 2..=262144\n\nFor more information, try '--help'.\n",
-        ),
-        (
-            &["state", "d", "--now", "2026-08-02T10:00:00Z"],
-            "error: unexpected argument '--now' found\n\n  tip: to pass '--now' as a value, use '-- --now'\n\nUsage: escrow state <DIR>\n\nFor more information, try '--help'.\n",
-        ),
-        (
-            &["state", "d", "e"],
-            "error: unexpected argument 'e' found\n\nUsage: escrow state <DIR>\n\nFor more information, try '--help'.\n",
         ),
     ];
     for (texts, wanted) in rows {

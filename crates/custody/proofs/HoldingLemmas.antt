@@ -1,5 +1,5 @@
 -- How the calls of volume and database make up a command over holdings.
-use Rattle.std.proofs.Common.{◌≡◌, ◌≢◌, ◌⊎◌, inl, inr, ⊎_elim, ℕ, ◌-◌, ◌<◌, ◌≤◌, ◌^◌, List, [], ◌∷◌, length, Option, Some, None, Bool, true, false, not, refl, sym, ◌∙◌, ap, subst, arith, Result, Ok, Err}
+use Rattle.std.proofs.Common.{◌≡◌, ◌≢◌, ◌⊎◌, inl, inr, ⊎_elim, ℕ, ◌-◌, ◌<◌, ◌^◌, List, None, Bool, true, false, not, refl, sym, ◌∙◌, ap, subst, arith, Result, Ok, Err}
 use Rattle.std.specs.Prelude.{is_err, OnOk, IsErrAnd}
 use Rattle.std.specs.FinMap.{get}
 use Rattle.schedule.specs.Schedule.{IsDay}
@@ -16,10 +16,10 @@ use Rattle.custody_records.specs.Form.{form_of, InForm}
 use Rattle.custody_records.specs.Written.{row_of_registry}
 use Rattle.custody_records.proofs.FormLemmas.{registry_inserted}
 use Rattle.custody_records.proofs.ReadBack.{registry_read_back}
-use Rattle.custody_store.specs.Standing.{Standing, shown, leaves, IsReady, IsOneCommit}
+use Rattle.custody_store.specs.Standing.{shown, IsReady, IsOneCommit}
 use Rattle.sqlite.specs.Store.{Ghosts}
 use Rattle.custody_machine.specs.Machine as machine
-use Rattle.custody_machine.specs.Machine.{Command, Accept, step, Answer, Accepted, Answers}
+use Rattle.custody_machine.specs.Machine.{Command, Accept, step, Accepted, Answers}
 use Rattle.custody_machine.specs.History.{is_open_after}
 use Rattle.custody_machine.specs.Stored.{AreWhole, IsVolumeOf, IsGood, state_in}
 use Rattle.custody_machine.specs.Moves.{RestsOnBytes}
@@ -121,10 +121,6 @@ module _ {V S : Type 0} {g : volume.Ghosts V} (database : Ghosts S) (old new : H
     is_in_doubt shown_reply ruled first during either images_same =
         in_doubt (recorded old) (stored database old).rows (image_of old) _ _ (IsFree old.vault) (stored database old).IsReady (stored database old).may_leave (left_by old) order volume store
         changed (image_of new) (IsFree new.vault) change command now shown_reply ruled (recorded new) (image_of new) (left_since old new) (stored database new).may_leave (left_by new) first during either images_same
-
--- the volume has the size that is recorded
-pub recorded_size : {V S : Type 0} {g : volume.Ghosts V} (h : Holdings V S g) → KeepsOrder h → g.size (volume_of h.vault) ≡ (recorded h).blocks
-recorded_size h order = order.blocks
 
 -- ---- holdings whose blocks and records are as they were
 

@@ -33,8 +33,8 @@ use Rattle.custody_machine.specs.Stored.{AreWhole, part_of, state_in, HasDigests
 use Rattle.custody_machine.specs.Moves.{Serving, Left, IsBegun}
 use Rattle.custody_machine.specs.Custody.{IsOnVolume, IsInStore, MayInitialise}
 use Rattle.custody_machine.proofs.MapValues.{get-map_values}
-use Rattle.custody_machine.proofs.Orders.{part_total, part_exact}
-use Rattle.custody_machine.proofs.Forms.{records_inj}
+use Rattle.custody_records.specs.Orders.{part_total, part_exact}
+use Rattle.custody_records.proofs.FormLemmas.{InForm-injective}
 use Rattle.custody.specs.Opening.{HasNoRecord}
 
 pub some_is : {T : Type 0} (P : T → Type 0) (o : Option T) (x : T) → o ≡ Some x → IfSome o P → P x
@@ -95,14 +95,6 @@ bare_has_none s bare = ap meta_of (rows_bare s bare)
 pub none_left : (s : State) → IsBare s → (rows : Rows) → leaves s rows → HasNoRecord rows
 none_left s bare rows left = ap meta_of (bare.only rows left) ∙ bare_has_none s bare
 
--- the tables were not made
-pub founds_nothing : {A E : Type 0} (s : Standing) (after : Rows) (e : E) → Founds {A = A} s s after (Err e)
-founds_nothing s after e = record {
-  trust = λ honest. honest;
-  mode = λ autocommit. autocommit;
-  effect = λ _ bare. record { done = tt; kept = λ _. (bare, refl); left = λ rows h. inl h };
-}
-
 -- the same with another fault
 pub founds_err : {A B E F : Type 0} (old new : Standing) (after : Rows) (e : E) (f : F) → Founds {A = A} old new after (Err e) → Founds {A = B} old new after (Err f)
 founds_err old new after e f p = record {
@@ -158,7 +150,7 @@ module _ (number blocks : ℕ) where
         good = record { whole = new_whole; volume = record { head = head; size = long } };
         meaning = sym (new_empty image);
       },
-      λ records is. subst (HasDigests image) (records_inj (new_records number blocks) records (sym (fresh_in_form number blocks lt low high) ∙ is)) (new_digests image),
+      λ records is. subst (HasDigests image) (InForm-injective (new_records number blocks) records (sym (fresh_in_form number blocks lt low high) ∙ is)) (new_digests image),
     )
 
     pub begun_left : (rows : Rows) (left : List ℕ) → rows ≡ fresh (digits_of number) (pos blocks) → left ≡ image → IsBegun nothing (Left rows left)
@@ -179,9 +171,6 @@ reads_left old new r p honest (inr bare) rows left = (p.bare honest bare).left r
 module _ {A E : Type 0} (old mid new : Standing) (x : A) (reads : Reads {E = E} old mid (Ok x)) (is : new ≡ mid) where
   honest_mid : new.IsHonest → mid.IsHonest
   honest_mid honest = subst (λ s. s.IsHonest) is honest
-
-  pub honest_back : new.IsHonest → old.IsHonest
-  honest_back honest = reads.trust (honest_mid honest)
 
   -- without tables as before
   pub bare_still : new.IsHonest → old.IsBare → new.IsBare

@@ -1,24 +1,23 @@
 -- A new part, as it is staged and recorded.
-use Rattle.std.proofs.Common.{◌≡◌, ◌≢◌, ◌⊎◌, inl, inr, ℕ, ℤ, zero, suc, pos, negsuc, ◌-◌, ◌+◌, ◌<◌, ◌≤◌, ◌^◌, List, [], ◌∷◌, length, Option, Some, None, Bool, true, false, ◌&&◌, refl, sym, ◌∙◌, ap, subst, arith, Result, Ok, Err}
+use Rattle.std.proofs.Common.{◌≡◌, ℕ, ℤ, pos, negsuc, ◌-◌, ◌<◌, ◌≤◌, List, [], ◌∷◌, length, Some, None, true, sym, ◌∙◌, ap, subst, arith, Ok}
 use Rattle.std.specs.Prelude.{All}
 use Rattle.std.specs.FinMap.{get}
 use Rattle.std.specs.Str.{bytes_eq}
-use Rattle.std.specs.Int.{w64, to_be_bytes, IsInRange}
+use Rattle.std.specs.Int.{w64, to_be_bytes}
+use Rattle.std.proofs.lemmas.Bool.{and_parts}
 use Rattle.std.proofs.lemmas.Bool.Decides.{nat_tests}
 use Rattle.hex.specs.Hex.{encode_lower}
-use Rattle.sha2.specs.Sha256.{sha256}
 use Rattle.sha2.proofs.Facts256.{length-sha256}
 use Rattle.schedule.specs.Schedule.{IsMoment}
-use Rattle.deposit_name.specs.Name.{Name, IsName}
+use Rattle.deposit_name.specs.Name.{Name}
 use Rattle.vault_volume.specs.declared.extent.Extent.{Extent}
 use Rattle.vault_volume.specs.Extents.{IsExtentOf, block_count, blocks_of}
 use Rattle.vault_volume.specs.Staged.{StagedPart}
-use Rattle.custody_records.specs.Records.{PartRecord, Records, key_of, with_part}
+use Rattle.custody_records.specs.Records.{Records, key_of, with_part}
 use Rattle.custody_records.specs.Rows.{Rows, with_part_row}
-use Rattle.custody_records.specs.Form.{natural, is_number, is_within, number_in, is_meta, form_of, InForm}
+use Rattle.custody_records.specs.Form.{natural, is_number, is_within, number_in, form_of, InForm}
 use Rattle.custody_records.specs.Written.{HasWords, AreWritable, IsPart, row_of_part}
-use Rattle.custody_records.proofs.FieldLemmas.{both_true}
-use Rattle.custody_records.proofs.FormLemmas.{AreRecords, in_form_has, part_inserted}
+use Rattle.custody_records.proofs.FormLemmas.{in_form_has, part_inserted}
 use Rattle.custody_records.proofs.ReadBack.{part_read_back}
 use Rattle.custody_machine.specs.Names.{read_name}
 use Rattle.custody_machine.specs.Custody.{IsPlaced, staged_record}
@@ -30,8 +29,8 @@ use Rattle.custody_machine.proofs.NameReading.{read_is}
 pub blocks_bound : (rows : Rows) (records : Records) → form_of rows ≡ InForm records → records.blocks ≤ 262_144
 blocks_bound rows records e =
     let h = in_form_has rows records e in
-    let later = (both_true (is_number 1 h.meta.one) _ h.in_form).1 in
-    let within = (both_true (bytes_eq h.meta.number (encode_lower (to_be_bytes w64 (number_in h.meta.number)))) (is_within 2 262_144 h.meta.blocks) later).1 in
+    let later = (and_parts (is_number 1 h.meta.one) _ h.in_form).1 in
+    let within = (and_parts (bytes_eq h.meta.number (encode_lower (to_be_bytes w64 (number_in h.meta.number)))) (is_within 2 262_144 h.meta.blocks) later).1 in
     subst (λ n. n ≤ 262_144) h.blocks (bound h.meta.blocks within)
   where
     bound : (z : ℤ) → is_within 2 262_144 z ≡ true → natural z ≤ 262_144

@@ -1,23 +1,21 @@
 -- A part that is compared with the bytes of a command.
-use Rattle.std.proofs.Common.{◌≡◌, ◌≢◌, ℕ, ◌+◌, ◌<◌, List, [], length, Option, Some, Bool, true, false, refl, sym, ◌∙◌, ap, subst, arith, Result, Ok, Err}
-use Rattle.std.specs.FinMap.{get}
+use Rattle.std.proofs.Common.{◌≡◌, ◌≢◌, ℕ, ◌+◌, List, length, true, refl, sym, ◌∙◌, ap, subst, arith, Result, Ok, Err}
 use Rattle.sqlite.specs.Store.{Ghosts}
 use Rattle.vault_volume.specs.declared.errors.ReadError.{ReadError}
 use Rattle.vault_volume.specs.declared.errors.ReadError.TheVariants as read
 use Rattle.vault_volume.specs.declared.extent.Extent.{Extent}
 use Rattle.vault_volume.specs.declared.volume.Volume as volume
 use Rattle.vault_volume.specs.Disk.{LeavesOnly}
-use Rattle.vault_volume.specs.Image.{DiffersOnlyIn}
 use Rattle.vault_volume.specs.Extents.{SameFree, part_bytes}
 use Rattle.vault_volume.specs.Vault.{volume_of, IsFree}
 use Rattle.custody_records.specs.declared.parts.Part.{Part}
 use Rattle.custody_records.specs.Typed.{part_place, part_value}
 use Rattle.custody_store.specs.Standing.{standing}
 use Rattle.custody_machine.specs.State.{Held}
-use Rattle.custody_machine.specs.Machine.{Receive, OfPart, Accept, Answer, Accepted, Refused, Failed, Refuse, Answers, MayRefuse, MayFail, step, reads}
+use Rattle.custody_machine.specs.Machine.{Receive, OfPart, Accept, Refused, Answers, MayRefuse}
 use Rattle.custody_machine.specs.History.{is_open_after}
 use Rattle.custody_machine.specs.Moves.{RestsOnBytes}
-use Rattle.custody_machine.specs.Stored.{ForExtents, AreExtents, content_of, part_of, state_in}
+use Rattle.custody_machine.specs.Stored.{ForExtents, AreExtents, content_of, state_in}
 use Rattle.custody_machine.specs.Custody.{ByBytes, Decides, Compares, Same, Other, Broken}
 use Rattle.custody_machine.specs.declared.answers.Fault.TheVariants as fault
 use Rattle.custody_machine.specs.declared.answers.Refusal.TheVariants.{OtherBytes, VolumeFull}
@@ -29,7 +27,7 @@ use Rattle.custody.specs.declared.answers.Refused as not_accepted
 use Rattle.custody.specs.declared.answers.Refused.TheVariants as refused
 use Rattle.custody.specs.declared.holdings.Holdings.{Holdings}
 use Rattle.custody.specs.Answers.{answer_of, stays_open, unread}
-use Rattle.custody.specs.Holdings.{recorded, stored, image_of, failures_of, left_by, left_since, KeepsOrder, KeepsImage, KeepsRows, IsSafe, HasServed}
+use Rattle.custody.specs.Holdings.{recorded, image_of, failures_of, left_by, KeepsOrder, KeepsImage, KeepsRows, IsSafe, HasServed}
 use Rattle.custody.proofs.HoldingLemmas.{order_same, image_same, safe_undone, does_nothing}
 
 module _ {V S : Type 0} {g : volume.Ghosts V} (old : Holdings V S g) (order : KeepsOrder old) (text bytes : List ℕ) (now : ℕ) (part : Part) (extents : List Extent) (d : Decides (ByBytes (part_place part) (part_value part) extents) (recorded old) text (length bytes) now) where

@@ -8,14 +8,14 @@ use Rattle.custody_records.specs.Rows.{Rows}
 use Rattle.custody_records.specs.Form.{form_of}
 use Rattle.custody_machine.specs.State.{State}
 use Rattle.custody_machine.specs.Machine as machine
-use Rattle.custody_machine.specs.Machine.{Command, Entry, after, Answer, Accepted, Refused, Failed}
+use Rattle.custody_machine.specs.Machine.{Entry, after, Answer, Accepted, Refused, Failed}
 use Rattle.custody_machine.specs.declared.answers.Fault.TheVariants.{NoMemory, VolumeFailed, StoreFailed, Closed, Damaged}
 use Rattle.custody_machine.specs.History.{MayFind, Event, StoppedWithin}
 use Rattle.custody_machine.specs.Stored.{IsNamed, Stands, state_in}
 use Rattle.custody_machine.specs.Moves.{Place, Serving, Shut, Left, MayLeave, MovesAlong, Chain, MovesBy, answered_all}
 use Rattle.custody_machine.specs.Custody.{IsAt}
 use Rattle.custody_machine.proofs.Composed.{at_rest, named_used}
-use Rattle.custody_machine.proofs.Forms.{records_inj}
+use Rattle.custody_records.proofs.FormLemmas.{InForm-injective}
 use Rattle.custody_machine.proofs.Moves.{chains_move}
 use Rattle.custody_machine.proofs.Stored.{stands_of}
 use Rattle.custody.specs.declared.answers.Reply.{Reply}
@@ -137,7 +137,7 @@ module _ {V S : Type 0} {g : volume.Ghosts V} {database : Ghosts S} where
     rests_apart rows left h w records is b named =
         let held = held_by c in
         let form = ap form_of (serving.rows.settled rows h) ∙ serving.rows.in_form in
-        let same : recorded held ≡ records = records_inj (recorded held) records (sym form ∙ is) in
+        let same : recorded held ≡ records = InForm-injective (recorded held) records (sym form ∙ is) in
         named_used (recorded held) (g.size (volume_of held.vault)) (failures_of held) (IsFree held.vault) order b (subst (λ r. IsNamed r b) (sym same) named)
 
   -- ---- commands in order

@@ -17,7 +17,7 @@ use Rattle.custody_machine.specs.Machine.{Entry, after, Answer}
 use Rattle.custody_machine.specs.History.{Pair, Event, Opened, NotOpened, StoppedAtRest, OpenedWith, found}
 use Rattle.custody_machine.specs.Stored.{Stands, IsGood, HasDigests, KeepsParts, state_in}
 use Rattle.custody_machine.specs.Moves.{Place, Serving, Shut, Left, MayLeave, MayNotOpen, Finds, Moves, MovesAlong, Chain, MovesBy, answered_all, IsIn}
-use Rattle.custody_machine.proofs.Forms.{records_inj}
+use Rattle.custody_records.proofs.FormLemmas.{InForm-injective}
 use Rattle.custody_machine.proofs.Moves.{chains_move, pair_of, places_are_right, finds_some}
 use Rattle.custody_machine.proofs.Stored.{stands_for_one, keeps_itself}
 use Rattle.custody.specs.declared.answers.Reply.{Reply}
@@ -31,12 +31,12 @@ use Rattle.custody.proofs.RunMoves.{along_join, runs_move}
 
 -- what a stop leaves of a place where each held part has its digest has them too
 still_sound : (state : State) (place : Place) (rows : Rows) (left : List ℕ) (records : Records) → IsIn state place → MayLeave place rows left → form_of rows ≡ InForm records → HasDigests left records
-still_sound state (Serving before image) rows left records here may is = subst (HasDigests left) (records_inj may.records records (sym may.in_form ∙ is)) (λ key. may.keeps.digests key (here.1 key))
-still_sound state (Shut before image doubt) rows left records here may is = subst (HasDigests left) (records_inj may.records records (sym may.in_form ∙ is)) (λ key. may.keeps.digests key (here.1 key))
+still_sound state (Serving before image) rows left records here may is = subst (HasDigests left) (InForm-injective may.records records (sym may.in_form ∙ is)) (λ key. may.keeps.digests key (here.1 key))
+still_sound state (Shut before image doubt) rows left records here may is = subst (HasDigests left) (InForm-injective may.records records (sym may.in_form ∙ is)) (λ key. may.keeps.digests key (here.1 key))
 still_sound state (Left before image) rows left records here may is =
     let s : Stands before image state = here.0 in
     let o = may s.records s.in_form s.good in
-    subst (HasDigests left) (records_inj o.records records (sym o.in_form ∙ is)) (λ key. o.keeps.digests key (here.1 s.records s.in_form key))
+    subst (HasDigests left) (InForm-injective o.records records (sym o.in_form ∙ is)) (λ key. o.keeps.digests key (here.1 s.records s.in_form key))
 
 -- commands that were answered one after the other
 same_length : (old new : Place) (entries : List Entry) (answers : List Answer) → Chain MovesBy old entries answers new → length answers ≡ length entries

@@ -1,6 +1,5 @@
 -- A part that was not staged.
-use Rattle.std.proofs.Common.{◌≡◌, ◌≢◌, ℕ, ◌+◌, ◌<◌, List, [], length, Option, None, Bool, true, false, refl, sym, ◌∙◌, ap, subst, arith, Result, Ok, Err}
-use Rattle.std.specs.FinMap.{get}
+use Rattle.std.proofs.Common.{◌≡◌, ◌≢◌, ℕ, ◌+◌, List, length, true, false, refl, sym, ◌∙◌, ap, subst, arith, Result, Err}
 use Rattle.sqlite.specs.Store.{Ghosts}
 use Rattle.deposit_name.specs.Name.{Name}
 use Rattle.vault_volume.specs.declared.errors.StageError.{StageError}
@@ -11,8 +10,7 @@ use Rattle.vault_volume.specs.Image.{DiffersOnlyIn}
 use Rattle.vault_volume.specs.Extents.{SameFree, IsFreeRun, block_count}
 use Rattle.vault_volume.specs.Vault.{volume_of, IsFree}
 use Rattle.custody_records.specs.Records.{key_of}
-use Rattle.custody_machine.specs.Names.{read_name}
-use Rattle.custody_machine.specs.Machine.{Receive, OfPart, Accept, Refused, Failed, MayRefuse, MayFail, Answers, step, reads, received_part, with_part}
+use Rattle.custody_machine.specs.Machine.{Receive, OfPart, Accept, Refused, MayRefuse, MayFail, Answers, step, reads, received_part, with_part}
 use Rattle.custody_machine.specs.History.{is_open_after}
 use Rattle.custody_machine.specs.Moves.{RestsOnBytes}
 use Rattle.custody_machine.specs.Stored.{state_in}
@@ -27,7 +25,7 @@ use Rattle.custody.specs.declared.answers.Refused as not_accepted
 use Rattle.custody.specs.declared.answers.Refused.TheVariants as refused
 use Rattle.custody.specs.declared.holdings.Holdings.{Holdings}
 use Rattle.custody.specs.Answers.{answer_of, stays_open, unstaged}
-use Rattle.custody.specs.Holdings.{recorded, stored, image_of, failures_of, left_by, left_since, KeepsOrder, KeepsImage, KeepsRows, IsSafe, HasServed}
+use Rattle.custody.specs.Holdings.{recorded, image_of, failures_of, KeepsOrder, KeepsImage, KeepsRows, IsSafe, HasServed}
 use Rattle.custody.proofs.HoldingLemmas.{order_same, image_same, safe_undone, does_nothing}
 
 module _ {V S : Type 0} {g : volume.Ghosts V} (old new : Holdings V S g) (same : recorded new ≡ recorded old) (store_same : new.store ≡ old.store) (text bytes : List ℕ) (now : ℕ) (n : Name) (order : KeepsOrder old) (ruled : Decides (Goes n) (recorded old) text (length bytes) now)

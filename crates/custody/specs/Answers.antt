@@ -1,6 +1,5 @@
 -- The answers of a custody, as those of the machine, and their lines.
-use Rattle.std.specs.Prelude.{◌≡◌, ℕ, List, [], codes, Bool, true, false, not, Result, Ok, Err}
-use Rattle.deposit_name.specs.Name.{Name}
+use Rattle.std.specs.Prelude.{ℕ, List, [], codes, Bool, true, false, not, Result, Ok, Err}
 use Rattle.custody_records.specs.Records.{key_of}
 use Rattle.vault_volume.specs.declared.errors.StageError.{StageError}
 use Rattle.vault_volume.specs.declared.errors.StageError.TheVariants as stage

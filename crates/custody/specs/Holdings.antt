@@ -1,12 +1,11 @@
 -- What a custody holds: its records, and what its volume and its database have and may leave at a stop.
-use Rattle.std.specs.Prelude.{◌≡◌, ◌≢◌, ◌<◌, ℕ, List, Bool, true, false, Result, Ok, Err}
+use Rattle.std.specs.Prelude.{◌≡◌, ◌≢◌, ◌<◌, ℕ, List, true, false, Result, Err}
 use Rattle.std.specs.Coded.{×_prop, le_prop}
 use Rattle.vault_volume.specs.declared.volume.Volume as volume
 use Rattle.vault_volume.specs.Vault.{volume_of, IsFree}
 use Rattle.sqlite.specs.Store.{Ghosts}
 use Rattle.custody_records.specs.Held.{records_of}
 use Rattle.custody_records.specs.Records.{Records}
-use Rattle.custody_records.specs.Rows.{Rows}
 use Rattle.custody_store.specs.Standing.{Standing, standing}
 use Rattle.custody_machine.specs.Machine.{Command}
 use Rattle.custody_machine.specs.declared.answers.Refusal.TheVariants.{VolumeFull}

@@ -1,6 +1,5 @@
 -- A part that is kept, compared with the bytes of a command; and what a call leaves at its moments.
-use Rattle.std.proofs.Common.{◌≡◌, ◌≢◌, ◌⊎◌, inl, inr, ℕ, List, [], ◌∷◌, length, Option, Some, Bool, true, false, refl, sym, ◌∙◌, ap, subst, arith, Result, Ok, Err}
-use Rattle.std.specs.Prelude.{is_err, MatchResult}
+use Rattle.std.proofs.Common.{◌≡◌, ◌≢◌, ◌⊎◌, inl, inr, ℕ, List, [], ◌∷◌, length, Option, Some, Bool, true, false, refl, sym, ◌∙◌, ap, subst, arith}
 use Rattle.std.specs.FinMap.{get}
 use Rattle.sha2.specs.Sha256.{sha256}
 use Rattle.vault_volume.specs.declared.extent.Extent.{Extent}
@@ -20,9 +19,6 @@ use Rattle.custody_machine.proofs.Keeping.{step_accepts}
 use Rattle.custody_machine.proofs.Composed.{nothing_in, one_in, first_in, reads_accepted, reads_other}
 
 module _ (records : Records) (i : List ℕ) (text bytes : List ℕ) (now : ℕ) (key : PartKey) (part : PartRecord) (extents : List Extent) (d : Decides (ByBytes key part extents) records text (length bytes) now) where
-  stored : List ℕ
-  stored = part_bytes i extents part.len
-
   pub same_rules : Compares Same (part_bytes i extents part.len) bytes part.digest → step (state_in records i) (Receive text bytes) now ≡ Accept (record { entry = OfPart key (part_of i part); is_repeat = true }) (state_in records i)
   same_rules same = (d.5 i bytes refl).0 same
 
@@ -94,13 +90,3 @@ module _ {V : Type 0} (moment : V → ℕ) (left_at : V → ℕ → List ℕ →
 
   pub now_of : (image : List ℕ) → left_at new (moment new) image → P image
   now_of image h = let later = l.later in l.since (moment new) image later (omega arith) h
-
--- ---- what a call's result tells
-
-pub at_err : {T E : Type 0} (P Q : Type 0) (r : Result T E) (b : Bool) → b ≡ is_err r → b ≡ true → MatchResult r (λ _. P) (λ _. Q) → Q
-at_err P Q (Ok x) b e t m = cc
-at_err P Q (Err x) b e t m = m
-
-pub at_ok : {T E : Type 0} (P Q : Type 0) (r : Result T E) (b : Bool) → b ≡ is_err r → b ≡ false → MatchResult r (λ _. P) (λ _. Q) → P
-at_ok P Q (Ok x) b e t m = m
-at_ok P Q (Err x) b e t m = cc

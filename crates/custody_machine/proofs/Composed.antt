@@ -29,7 +29,7 @@ use Rattle.custody_machine.specs.Custody.{IsPlaceable, IsInOrder, IsOnVolume, Is
 use Rattle.custody_machine.proofs.MapValues.{get-map_values}
 use Rattle.custody_machine.proofs.Series.{prior_taken, is_place}
 use Rattle.custody_machine.proofs.Keeping.{NoneStands, refused_name, step_none, step_accepts, registered, receives, place_passes, insert_here}
-use Rattle.custody_machine.proofs.Orders.{part_total}
+use Rattle.custody_records.specs.Orders.{part_total}
 use Rattle.custody_machine.proofs.Stored.{state_in-elsewhere, digest-elsewhere, good-elsewhere, keeps_same, keeps_itself, keeps_on, whole-with_registry, good-with_registry, keeps-with_registry, state_in-with_part, inserted, part_still, IsInPlace, whole-with_part, good-with_part, keeps-with_part}
 
 -- ---- which parts are read

@@ -19,7 +19,8 @@ use Rattle.custody_machine.specs.State.{State}
 use Rattle.custody_machine.specs.Stored.{ForExtents, AreExtents, AreInRange, AreOnce, AreLinked, state_in, Stands}
 use Rattle.custody_machine.specs.Damage.{meta_of, IsRowOf, IsDamaged, damage_number, NoneBefore, IsFirstDamage, IsRefinement}
 use Rattle.custody_machine.proofs.SameValues.{text_decides, key_decides, notice_key_decides}
-use Rattle.custody_machine.proofs.Forms.{IsRecordsOf, records_inj, meta_in_form, row_in_form}
+use Rattle.custody_records.proofs.FormLemmas.{InForm-injective}
+use Rattle.custody_machine.proofs.Forms.{IsRecordsOf, meta_in_form, row_in_form}
 use Rattle.custody_machine.proofs.Heads.{head_by_digits, head_in_range, digits_by_head}
 use Rattle.custody_machine.proofs.Stored.{stands_for_one}
 
@@ -119,9 +120,9 @@ damaged_stands Head rows image state denied s = let m = head_in_range s.records.
 damaged_stands Volume rows image state d s = d.4 (volume_stands rows image state s d.0 d.1 d.2 d.3)
 damaged_stands Schema rows image state out s = not_both _ form.Schema s.records out s.in_form
 damaged_stands FormDamage rows image state out s = not_both _ form.Form s.records out s.in_form
-damaged_stands ExtentDamage rows image state d s = d.2 (subst AreInRange (records_inj s.records d.0 (sym s.in_form ∙ d.1)) s.good.whole.extents)
-damaged_stands Overlap rows image state d s = d.2 (subst AreOnce (records_inj s.records d.0 (sym s.in_form ∙ d.1)) s.good.whole.once)
-damaged_stands Link rows image state d s = d.2 (subst AreLinked (records_inj s.records d.0 (sym s.in_form ∙ d.1)) s.good.whole.linked)
+damaged_stands ExtentDamage rows image state d s = d.2 (subst AreInRange (InForm-injective s.records d.0 (sym s.in_form ∙ d.1)) s.good.whole.extents)
+damaged_stands Overlap rows image state d s = d.2 (subst AreOnce (InForm-injective s.records d.0 (sym s.in_form ∙ d.1)) s.good.whole.once)
+damaged_stands Link rows image state d s = d.2 (subst AreLinked (InForm-injective s.records d.0 (sym s.in_form ∙ d.1)) s.good.whole.linked)
 damaged_stands Digest rows image state none s = absurd none
 
 -- ---- not damaged: one state

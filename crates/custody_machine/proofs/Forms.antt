@@ -1,29 +1,23 @@
 -- What it tells that rows are in form.
-use Rattle.std.proofs.Common.{◌≡◌, ℕ, List, [], ◌∷◌, Option, Some, None, Bool, true, false, ◌&&◌, if◌then◌else◌, refl, ◌∙◌, ap}
+use Rattle.std.proofs.Common.{◌≡◌, List, [], ◌∷◌, Option, Some, None, Bool, true, false, ◌&&◌, if◌then◌else◌, refl, ◌∙◌, ap}
 use Rattle.std.specs.Str.{bytes_eq}
-use Rattle.std.specs.Prelude.{option_map}
 use Rattle.std.specs.Option.{option_and_then}
-use Rattle.std.specs.FinMap.{FinMap}
 use Rattle.std.proofs.lemmas.Slice.Eq.{bytes_eq-Decides}
-use Rattle.custody_records.specs.Keys.{text_cmp, part_cmp, notice_cmp}
-use Rattle.custody_records.specs.declared.damage.Damage as rows_damage
 use Rattle.custody_records.specs.declared.damage.Damage.TheVariants as damage
-use Rattle.custody_records.specs.Records.{PartRecord, Notice, Release, Records}
+use Rattle.custody_records.specs.Records.{Records}
 use Rattle.custody_records.specs.Rows.{MetaRow, Rows}
-use Rattle.custody_records.specs.Form.{NoVault, OutOfForm, InForm, form_of, form_after, records_in, in_form_or, is_meta, is_number, number_in, natural, is_within, gathered, registry_in, part_in, notice_in, release_in}
+use Rattle.custody_records.specs.Form.{NoVault, OutOfForm, InForm, form_of, form_after, records_in, in_form_or, is_meta, is_number, number_in, natural, is_within}
+use Rattle.custody_records.specs.Written.{digits_of}
 use Rattle.custody_records.proofs.FormLemmas.{in_form_has}
-use Rattle.custody_machine.specs.Damage.{first_of, meta_of, number_text}
+use Rattle.custody_machine.specs.Damage.{first_of, meta_of}
 
 -- the number and the blocks of the volume are those of the row of `meta`
 pub record IsRecordsOf (meta : MetaRow) (records : Records) : Type 0 where
-  pub digits : meta.number ≡ number_text records.number
+  pub digits : meta.number ≡ digits_of records.number
   pub blocks : natural meta.blocks ≡ records.blocks
 
-pub records_inj : (r q : Records) → InForm r ≡ InForm q → r ≡ q
-records_inj r q e = cc
-
-digits_of : (meta : MetaRow) → is_meta meta ≡ true → meta.number ≡ number_text (number_in meta.number)
-digits_of meta e = (bytes_eq-Decides _ _).0 (second (is_number 1 meta.one) (bytes_eq meta.number (number_text (number_in meta.number))) (is_within 2 262_144 meta.blocks) e)
+digits_in_form : (meta : MetaRow) → is_meta meta ≡ true → meta.number ≡ digits_of (number_in meta.number)
+digits_in_form meta e = (bytes_eq-Decides _ _).0 (second (is_number 1 meta.one) (bytes_eq meta.number (digits_of (number_in meta.number))) (is_within 2 262_144 meta.blocks) e)
   where
     second : (a b c : Bool) → (a && (b && c)) ≡ true → b ≡ true
     second true true c e = refl
@@ -34,7 +28,7 @@ digits_of meta e = (bytes_eq-Decides _ _).0 (second (is_number 1 meta.one) (byte
 pub meta_in_form : (rows : Rows) (records : Records) → form_of rows ≡ InForm records → (meta : MetaRow) × (meta_of rows ≡ Some meta) × IsRecordsOf meta records
 meta_in_form rows records e =
     let h = in_form_has rows records e in
-    (h.meta, ap (option_and_then first_of) h.alone, record { digits = digits_of h.meta h.in_form ∙ ap number_text h.number; blocks = h.blocks })
+    (h.meta, ap (option_and_then first_of) h.alone, record { digits = digits_in_form h.meta h.in_form ∙ ap digits_of h.number; blocks = h.blocks })
 
 -- rows with a row of `meta` are not nothing
 pub row_in_form : (rows : Rows) (meta : MetaRow) → meta_of rows ≡ Some meta → form_of rows ≡ NoVault → ⊥
@@ -59,16 +53,3 @@ row_in_form rows meta is e = by_meta rows.meta is e
     by_meta : (o : Option (List MetaRow)) → option_and_then first_of o ≡ Some meta → form_of (record rows { meta = o }) ≡ NoVault → ⊥
     by_meta None is e = cc
     by_meta (Some others) is e = by_row others is e
-
--- rows without one are
-pub no_row_in_form : (rows : Rows) → meta_of rows ≡ None → form_of rows ≡ NoVault
-unfolding form_of
-no_row_in_form rows is = by_meta rows.meta is
-  where
-    by_row : (others : List MetaRow) → first_of others ≡ None → form_after others (record rows { meta = Some others }) ≡ NoVault
-    by_row [] is = refl
-    by_row (row ∷ others) is = cc
-
-    by_meta : (o : Option (List MetaRow)) → option_and_then first_of o ≡ None → form_of (record rows { meta = o }) ≡ NoVault
-    by_meta None is = refl
-    by_meta (Some others) is = by_row others is

@@ -23,7 +23,7 @@ use Rattle.custody_machine.specs.Machine.{Command, Register, Receive, Refusal, N
 use Rattle.custody_machine.specs.Retries.{has_same_key, AsksAgain, IsDroppedSince, IsKeptPart, without_bytes, KeepsRecords, NothingIsRemoved, RepliesAreRecords, IsOfCommand, StillHas}
 use Rattle.custody_machine.proofs.NameReading.{read_is}
 use Rattle.custody_machine.proofs.SameValues.{text_decides, kind_decides}
-use Rattle.custody_machine.proofs.Orders.{text_total, part_total}
+use Rattle.custody_records.specs.Orders.{text_total, part_total}
 use Rattle.custody_machine.proofs.Series.{is_place}
 
 -- ---- what acceptance tells
@@ -62,11 +62,6 @@ module _ (s : State) (name : Name) (bytes : List ℕ) (now : ℕ) where
 abbrev pub part_refusals : (RegistryUnknown DateOutOfRange Size OtherBytes DroppedAfterKeeping RevisionNotDue AlreadyStated TypeDiffers PartOutOfOrder : Bool) → Option Refusal
 part_refusals a b c d e f g h i = cond a (Some RegistryUnknown) (cond b (Some DateOutOfRange) (cond c (Some Size) (cond d (Some OtherBytes) (cond e (Some DroppedAfterKeeping)
     (cond f (Some RevisionNotDue) (cond g (Some AlreadyStated) (cond h (Some TypeDiffers) (cond i (Some PartOutOfOrder) None))))))))
-
-pub find_part : (s : State) (name : Name) (bytes : List ℕ) (now : ℕ) → find (receive_stands s name bytes now) refusals
-    ≡ part_refusals (receive_stands s name bytes now RegistryUnknown) (receive_stands s name bytes now DateOutOfRange) (receive_stands s name bytes now Size) (receive_stands s name bytes now OtherBytes) (receive_stands s name bytes now DroppedAfterKeeping)
-    (receive_stands s name bytes now RevisionNotDue) (receive_stands s name bytes now AlreadyStated) (receive_stands s name bytes now TypeDiffers) (receive_stands s name bytes now PartOutOfOrder)
-find_part s name bytes now = refl
 
 nine_none : (a b c d e f g h i : Bool) → a ≡ false → b ≡ false → c ≡ false → d ≡ false → e ≡ false → f ≡ false → g ≡ false → h ≡ false → i ≡ false → part_refusals a b c d e f g h i ≡ None
 nine_none a b c d e f g h i p q r t u v w x y = rw (p, q, r, t, u, v, w, x, y) refl

@@ -1,5 +1,4 @@
 pub mod NameReading
-pub mod Orders
 pub mod MapValues
 pub mod Series
 pub mod SameValues

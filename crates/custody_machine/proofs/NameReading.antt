@@ -1,23 +1,25 @@
 -- The name that is read in a text is the one whose text it is.
-use Rattle.std.proofs.Common.{◌≡◌, ◌≢◌, ◌⊎◌, ⊎_elim, inl, inr, ℕ, zero, suc, ◌+◌, ◌-◌, ◌<◌, ◌≤◌, List, [], ◌∷◌, ◌++◌, length, take, drop, Option, Some, None, Bool, true, false, not, ◌||◌, ◌==◌, cond, if◌then◌else◌, codes, refl, sym, ◌∙◌, ap, subst, arith, Result, Ok, Err, IfOk, IfErr, append_assoc, length-append, Decides}
-use Rattle.std.specs.Prelude.{option_map, pos, slice_index}
-use Rattle.std.specs.List.{list_all}
+use Rattle.std.proofs.Common.{◌≡◌, ◌≢◌, ◌⊎◌, ⊎_elim, inl, inr, ℕ, zero, suc, ◌+◌, ◌-◌, ◌<◌, ◌≤◌, List, [], ◌∷◌, ◌++◌, length, take, drop, Option, Some, None, Bool, true, false, ◌||◌, ◌==◌, cond, if◌then◌else◌, codes, refl, sym, ◌∙◌, ap, subst, arith, Result, Ok, Err, IfOk, IfErr, append_assoc, length-append}
+use Rattle.std.specs.Prelude.{option_map}
 use Rattle.std.specs.Option.{option_and_then}
 use Rattle.std.specs.Int.{IsInRange}
 use Rattle.std.specs.Cmp.Lexicographic.{bytes_decides}
 use Rattle.std.proofs.lemmas.List.{take-append-drop, drop_at}
-use Rattle.std.proofs.lemmas.Bool.Decides.{Decides-eqb, Decides-and, Decides-like, Decides-not, not_from_Decides, nat_tests}
+use Rattle.std.proofs.lemmas.Bool.Decides.{Decides-eqb, not_from_Decides}
 use Rattle.schedule.specs.Text.{day_text}
 use Rattle.deposit_name.specs.declared.kinds.Kind.{Kind}
 use Rattle.deposit_name.specs.declared.kinds.Kind.TheVariants.{Full, Diff}
 use Rattle.deposit_name.specs.declared.faults.NameError.{NameError}
 use Rattle.deposit_name.specs.declared.faults.NameError.TheVariants.{Tld}
-use Rattle.deposit_name.specs.Identifiers.{IsTld, is_tld_byte}
+use Rattle.deposit_name.specs.Identifiers.{IsTld, is_tld}
 use Rattle.deposit_name.specs.Name.{Name, IsName, IsNameDay, name_text, kind_text, part_text, rev_text}
 use Rattle.deposit_name.specs.Fault.{HasNoUnderscore, NamePieces, IsSplit, HasPieces, IsDateText, IsKindText, IsPartText, IsRevText, IsFault}
+use Rattle.deposit_name.proofs.IdentifierLemmas.{is_tld-IsTld}
 use Rattle.deposit_name.proofs.NameLemmas.{no_fault, name_text-injective}
 use Rattle.deposit_name.proofs.FaultLemmas.{one_fault}
-use Rattle.custody_records.specs.Form.{is_tld, is_within, kind_in}
+use Rattle.deposit_name.proofs.PiecesLemmas.{regroup}
+use Rattle.custody_records.specs.Form.{kind_in}
+use Rattle.custody_records.proofs.FieldLemmas.{kind_in-kind_text}
 use Rattle.custody_machine.specs.Names.{is_same_text, before_suffix, cut, has_underscore, pieces_in, number_with, read_day, read_part, read_rev, with_rev, with_part, with_kind, with_date, with_pieces, with_stem, read_name, IsReading}
 
 -- ---- the ending
@@ -95,9 +97,6 @@ none_underscore (byte ∷ text) h = by (byte == 95) refl (none_underscore text h
     by false same rest = rest
 
 -- ---- five pieces
-
-regroup : (a b c d e : List ℕ) → a ++ codes "_" ++ b ++ codes "_" ++ c ++ codes "_" ++ d ++ codes "_" ++ e ≡ a ++ 95 ∷ (b ++ 95 ∷ (c ++ 95 ∷ (d ++ 95 ∷ e)))
-regroup a b c d e = simp append_assoc
 
 pieces_found : (stem : List ℕ) (p : NamePieces) → pieces_in stem ≡ Some p → IsSplit stem p
 pieces_found stem p e = by (cut stem) refl e
@@ -203,10 +202,6 @@ rev_missing : (text : List ℕ) → read_rev text ≡ None → IsRevText text �
 unfolding read_rev
 rev_missing text e h = let high = h.1 in number_missing rev_text 100 0 text e h.0 (omega arith) (omega arith) h.2
 
-pub kind_in-text : (kind : Kind) → kind_in (kind_text kind) ≡ Some kind
-kind_in-text Full = refl
-kind_in-text Diff = refl
-
 pub kind_found : (text : List ℕ) (kind : Kind) → kind_in text ≡ Some kind → text ≡ kind_text kind
 kind_found text kind e = by (is_same_text text (codes "full")) refl e
   where
@@ -219,24 +214,7 @@ kind_found text kind e = by (is_same_text text (codes "full")) refl e
     by false same e = by_diff (is_same_text text (codes "diff")) refl e
 
 kind_missing : (text : List ℕ) → kind_in text ≡ None → IsKindText text → ⊥
-kind_missing text e h = let some = ap kind_in h.1 ∙ kind_in-text h.0 in cc
-
-is_within_decides : (low high n : ℕ) → Decides (is_within low high (pos n)) (IsInRange low high n)
-is_within_decides low high n = (λ e. grind (arith, nat_tests), λ h. let a = h.0 in let b = h.1 in grind (arith, nat_tests))
-
-not_decides : (a b : ℕ) → Decides (not (a == b)) (a ≢ b)
-not_decides a b = Decides-not (a == b) (Decides-eqb a b)
-
-pub tld_decides : (text : List ℕ) → Decides (is_tld text) (IsTld text)
-tld_decides text = Decides-like (is_tld text)
-    (λ (h : (IsInRange 1 63 (length text) × (list_all is_tld_byte text ≡ true)) × ((slice_index text 0 ≢ 45) × (slice_index text (length text - 1) ≢ 45))).
-    record { length_in = h.0.0; bytes = h.0.1; first = h.1.0; last = h.1.1 })
-    (λ h. ((h.length_in, h.bytes), (h.first, h.last)))
-    (Decides-and _ _ (Decides-and _ _ (is_within_decides 1 63 (length text)) (itself (list_all is_tld_byte text)))
-    (Decides-and _ _ (not_decides (slice_index text 0) 45) (not_decides (slice_index text (length text - 1)) 45)))
-  where
-    itself : (b : Bool) → Decides b (b ≡ true)
-    itself b = (λ e. e, λ e. e)
+kind_missing text e h = let some = ap kind_in h.1 ∙ kind_in-kind_text h.0 in cc
 
 -- ---- names
 
@@ -279,8 +257,8 @@ reads_pieces text stem is (Some p) e = by (is_tld p.tld) refl
     pieces = (stem, is, pieces_found stem p e)
 
     by : (b : Bool) → is_tld p.tld ≡ b → Reads text (if b then with_date p (read_day p.date) else Err Tld)
-    by true e = reads_date text p pieces ((tld_decides p.tld).0 e) (read_day p.date) refl
-    by false e = (tt, (p, pieces, not_from_Decides _ (tld_decides p.tld) e))
+    by true e = reads_date text p pieces ((is_tld-IsTld p.tld).0 e) (read_day p.date) refl
+    by false e = (tt, (p, pieces, not_from_Decides _ (is_tld-IsTld p.tld) e))
 
 reads_stem : (text : List ℕ) (o : Option (List ℕ)) → before_suffix (codes ".ryde") text ≡ o → Reads text (with_stem o)
 reads_stem text None e = (tt, suffix_missing (codes ".ryde") text e)

@@ -8,6 +8,7 @@ use Rattle.std.specs.Cmp.{IsTotalOrder, tied_itself, Equal-is}
 use Rattle.std.specs.FinMap as fin
 use Rattle.std.specs.FinMap.{IsAntisymmetric, get, from_entries, get-from_entries}
 use Rattle.std.specs.declared.cmp.Ordering.{Ordering}
+use Rattle.std.proofs.Math.Bool.{and-false}
 use Rattle.std.proofs.lemmas.Bool.Decides.{same_from_decides}
 use Rattle.custody_records.specs.Keys.{PartKey, text_cmp, part_cmp, NoticeKey, notice_cmp}
 use Rattle.custody_records.specs.Records.{Notice, key_of}
@@ -18,7 +19,7 @@ use Rattle.custody_machine.specs.State.{has_notice}
 use Rattle.custody_machine.specs.Names.{is_same_text}
 use Rattle.custody_machine.specs.Machine.{TypeDiffers, PartOutOfOrder}
 use Rattle.custody_machine.proofs.Keeping.{part_refusals}
-use Rattle.custody_machine.proofs.Orders.{text_total, part_total, part_exact}
+use Rattle.custody_records.specs.Orders.{text_total, part_total, part_exact}
 use Rattle.custody_machine.proofs.SameValues.{text_decides, key_decides}
 use Rattle.std.proofs.lemmas.Map.Lookups.{exact_bytes}
 
@@ -72,11 +73,7 @@ not_due new later tld day receipt failure = sym (ap (λ r. new && (r || (later &
     last false b = refl
 
 pub not_stated : (new : Bool) (tld : List ℕ) (day : ℕ) (verdict : NoticeKind → Bool) → (new && has_notice fin.empty tld day verdict) ≡ false
-not_stated new tld day verdict = ap (λ v. new && v) (no_notice tld day verdict) ∙ last new
-  where
-    last : (a : Bool) → (a && false) ≡ false
-    last true = refl
-    last false = refl
+not_stated new tld day verdict = ap (λ v. new && v) (no_notice tld day verdict) ∙ and-false new
 
 -- the first of the refusals that stand
 module _ (a b c d e f g h i : Bool) (p : a ≡ false) (q : b ≡ false) (r : c ≡ false) (s : d ≡ false) (t : e ≡ false) (u : f ≡ false) (v : g ≡ false) where

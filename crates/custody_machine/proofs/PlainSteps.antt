@@ -20,7 +20,7 @@ use Rattle.custody_machine.specs.Retries.{content_len}
 use Rattle.custody_machine.specs.State.{State, Part, places}
 use Rattle.custody_machine.specs.Machine.{Register, Receive, Refusal, NameRefused, refusals, OfRegistry, OfPart, Ruling, Accept, first_day_of, part_at, part_in, recorded, has_other_kind, holds_other, is_dropped, receive_stands, named_stands, refusal_of, step, with_registry, with_part, received_part}
 use Rattle.custody_machine.proofs.NameReading.{is_reading}
-use Rattle.custody_machine.proofs.Orders.{text_total, part_total, part_exact}
+use Rattle.custody_records.specs.Orders.{text_total, part_total, part_exact}
 use Rattle.custody_machine.proofs.SameValues.{kind_decides}
 use Rattle.custody_machine.proofs.Keeping.{none_stand, refused_name, step_none, step_refuses, registered, answered, rules_part, held_bytes, recorded_is, place_is_empty}
 use Rattle.custody_machine.proofs.Composed.{register_repeats}

@@ -10,7 +10,7 @@ use Rattle.custody_machine.specs.Names.{read_name}
 use Rattle.custody_machine.specs.State.{State, Part, Held}
 use Rattle.custody_machine.specs.Machine.{Command, Register, Receive, Entry, Ruling, Refuse, Accept, Reply, step, state_of, state_after, recorded, received_part, with_part, first_day_of}
 use Rattle.custody_machine.specs.History.{WasReceived, HeldAsReceived}
-use Rattle.custody_machine.proofs.Orders.{part_total, part_exact}
+use Rattle.custody_records.specs.Orders.{part_total, part_exact}
 use Rattle.custody_machine.proofs.Keeping.{Receives, receives, answered, registered, step_accepts, accept_inj}
 
 -- a new part is the one received, or another that was kept

@@ -10,9 +10,7 @@ use Rattle.deposit_name.specs.Name.{kind_text}
 use Rattle.desk.specs.Checks.{check_number}
 use Rattle.desk.specs.Grounds.{ground_text}
 use Rattle.desk.specs.declared.checks.Check.{Check}
-use Rattle.desk.specs.declared.checks.Check.TheVariants as check
 use Rattle.desk.specs.declared.grounds.Ground.{Ground}
-use Rattle.desk.specs.declared.grounds.Ground.TheVariants as reason
 use Rattle.desk.specs.declared.notices.NoticeKind.{NoticeKind}
 use Rattle.desk.specs.declared.notices.NoticeKind.TheVariants.{Receipt, Failure, Absence}
 use Rattle.custody_records.specs.Keys.{PartKey, NoticeKey}
@@ -21,7 +19,7 @@ use Rattle.custody_records.specs.Form.{kind_in, check_in, ground_in}
 use Rattle.custody_machine.specs.Names.{is_same_text}
 use Rattle.custody_machine.specs.State.{State, Part, Content, Held, Dropped}
 use Rattle.custody_machine.specs.SameValues.{is_same_kind, is_same_key, is_same_notice_key, is_same_content, is_same_part, is_same_notice_kind, is_same_notice, is_same_release, is_same_map, is_same_state}
-use Rattle.custody_machine.proofs.NameReading.{kind_in-text}
+use Rattle.custody_records.proofs.FieldLemmas.{kind_in-kind_text, ground_in-ground_text, check_in-check_number}
 
 pub text_decides : (a b : List ℕ) → Decides (is_same_text a b) (a ≡ b)
 text_decides = bytes_decides
@@ -31,39 +29,13 @@ by_text : {X T : Type 0} (text : X → T) (read : T → Option X) → ((x : X) �
 by_text text read back a b e = let both : Some a ≡ Some b = sym (back a) ∙ ap read e ∙ back b in cc
 
 pub kind_decides : (a b : Kind) → Decides (is_same_kind a b) (a ≡ b)
-kind_decides a b = Decides-like _ (by_text kind_text kind_in kind_in-text a b) (ap kind_text) (text_decides (kind_text a) (kind_text b))
-
-check_back : (c : Check) → check_in (check_number c) ≡ Some c
-check_back check.Frame = refl
-check_back check.Envelope = refl
-check_back check.Name = refl
-check_back check.Statement = refl
-check_back check.Weekday = refl
-check_back check.PrevId = refl
-check_back check.IdTaken = refl
-check_back check.Menu = refl
-check_back check.Files = refl
-check_back check.Table = refl
-check_back check.Counts = refl
-check_back check.References = refl
-check_back check.Deletes = refl
+kind_decides a b = Decides-like _ (by_text kind_text kind_in kind_in-kind_text a b) (ap kind_text) (text_decides (kind_text a) (kind_text b))
 
 check_decides : (a b : Check) → Decides (check_number a == check_number b) (a ≡ b)
-check_decides a b = Decides-like _ (by_text check_number check_in check_back a b) (ap check_number) (Decides-eqb (check_number a) (check_number b))
-
-ground_back : (g : Ground) → ground_in (ground_text g) ≡ Some g
-ground_back reason.Operator = refl
-ground_back reason.Termination = refl
-ground_back reason.NoNotices = refl
-ground_back reason.SundayFailed = refl
-ground_back reason.FiveFailed = refl
-ground_back reason.Insolvency = refl
-ground_back reason.Critical = refl
-ground_back reason.Order = refl
-ground_back reason.Audit = refl
+check_decides a b = Decides-like _ (by_text check_number check_in check_in-check_number a b) (ap check_number) (Decides-eqb (check_number a) (check_number b))
 
 ground_decides : (a b : Ground) → Decides (is_same_text (ground_text a) (ground_text b)) (a ≡ b)
-ground_decides a b = Decides-like _ (by_text ground_text ground_in ground_back a b) (ap ground_text) (text_decides (ground_text a) (ground_text b))
+ground_decides a b = Decides-like _ (by_text ground_text ground_in ground_in-ground_text a b) (ap ground_text) (text_decides (ground_text a) (ground_text b))
 
 pub key_decides : (a b : PartKey) → Decides (is_same_key a b) (a ≡ b)
 key_decides a b = Decides-like _ (λ p i. record { tld = p.0 i; day = p.1.0 i; rev = p.1.1.0 i; part = p.1.1.1 i })

@@ -14,7 +14,7 @@ use Rattle.vault_volume.specs.Image.{DiffersOnlyIn}
 use Rattle.vault_volume.specs.Extents.{AreApart, IsInAny, part_bytes}
 use Rattle.vault_volume.proofs.ImageLemmas.{bytes_at-same, part_bytes-same}
 use Rattle.custody_records.specs.Keys.{PartKey, part_cmp, text_cmp}
-use Rattle.custody_records.specs.Records.{PartRecord, Notice, Release, Records, key_of}
+use Rattle.custody_records.specs.Records.{PartRecord, Records, key_of}
 use Rattle.custody_records.specs.Records as recorded
 use Rattle.custody_records.specs.Rows.{Rows}
 use Rattle.custody_machine.specs.Names.{is_same_text, read_name}
@@ -22,13 +22,13 @@ use Rattle.custody_machine.specs.State.{State, Held, at_place, has_notice}
 use Rattle.custody_machine.specs.Machine.{is_failure_of, with_part}
 use Rattle.custody_machine.specs.Stored.{ForExtents, AreNaming, IsNamed, AreExtents, is_part_of, names_part, AreWhole, IsGood, content_of, part_of, state_in, Stands, HasDigestAt, HasDigests, IsSound, IsKeptRecord, KeepsParts, OpensFrom}
 use Rattle.custody_machine.proofs.MapValues.{get-map_values, map_values-insert}
-use Rattle.custody_machine.proofs.Orders.{text_total, part_total, part_exact}
+use Rattle.custody_records.specs.Orders.{text_total, part_total, part_exact}
 use Rattle.custody_machine.proofs.Keeping.{insert_new}
-use Rattle.custody_machine.proofs.Forms.{records_inj}
+use Rattle.custody_records.proofs.FormLemmas.{InForm-injective}
 
 -- rows and image determine the state
 pub stands_for_one : (rows : Rows) (image : List ℕ) (a b : State) → Stands rows image a → Stands rows image b → a ≡ b
-stands_for_one rows image a b s t = s.meaning ∙ ap (λ r. state_in r image) (records_inj s.records t.records (sym s.in_form ∙ t.in_form)) ∙ sym t.meaning
+stands_for_one rows image a b s t = s.meaning ∙ ap (λ r. state_in r image) (InForm-injective s.records t.records (sym s.in_form ∙ t.in_form)) ∙ sym t.meaning
 
 -- ---- blocks that no part names
 
@@ -92,7 +92,7 @@ pub stands_of : (old : Records) (image : List ℕ) (P : State → Type 0) (rows 
 stands_of old image P rows left o = record { records = o.records; in_form = o.in_form; good = o.good; meaning = refl }
 
 pub sound_of : (old : Records) (image : List ℕ) (P : State → Type 0) (rows : Rows) (left : List ℕ) → OpensFrom old image P rows left → HasDigests image old → IsSound rows left
-sound_of old image P rows left o has records e = subst (HasDigests left) (records_inj o.records records (sym o.in_form ∙ e)) (sound_from old o.records image left o.keeps has)
+sound_of old image P rows left o has records e = subst (HasDigests left) (InForm-injective o.records records (sym o.in_form ∙ e)) (sound_from old o.records image left o.keeps has)
 
 -- ---- a new registry
 

@@ -1,5 +1,5 @@
 -- What holds of an open custody, and what its calls do. The volume's and the database's words come as sets: the blocks that are free, and the images and rows that a stop may leave.
-use Rattle.std.specs.Prelude.{◌≡◌, ◌≢◌, ◌⊎◌, ℕ, ◌-◌, ◌<◌, ◌≤◌, ◌^◌, All, List, length, Some, None, Bool, true, false, Result, MatchResult, Ok}
+use Rattle.std.specs.Prelude.{◌≡◌, ◌≢◌, ◌⊎◌, ℕ, ◌-◌, ◌<◌, ◌≤◌, ◌^◌, All, List, length, Some, None, Bool, true, false, Ok}
 use Rattle.std.specs.FinMap.{get}
 use Rattle.sha2.specs.Sha256.{sha256}
 use Rattle.deposit_name.specs.Name.{Name}
@@ -82,12 +82,6 @@ pub record IsSettled (old new : List ℕ) (was_free : ℕ → Type 0) (left : Li
 -- the record of a staged part
 abbrev pub staged_record : Name → ℕ → StagedPart → PartRecord
 staged_record name now staged = record { kind = name.kind; received = now; len = staged.len; digest = staged.digest; extents = Some staged.extents }
-
--- One commit: at `Ok` the database stands ready and a stop leaves the changed records, at `Err` those before or the changed ones.
-abbrev pub Commits : {A E : Type 0} → Type 0 → Rows → Rows → (Rows → Type 0) → (Rows → Type 0) → (Records → Records) → Result A E → Type 0
-Commits is_ready old new might_leave may_leave change result = (records : Records) → form_of old ≡ InForm records → ((r : Rows) → might_leave r → r ≡ old) →
-    MatchResult result (λ _. (form_of new ≡ InForm (change records)) × ((r : Rows) → may_leave r → r ≡ new) × is_ready)
-    (λ _. (r : Rows) → may_leave r → (form_of r ≡ InForm records) ⊎ (form_of r ≡ InForm (change records)))
 
 -- ---- what the records decide of a part, whatever its bytes
 

@@ -1,13 +1,12 @@
 -- What may be wrong with database and volume, each a sentence over the rows of the tables and the image; and that what is not damaged stands for one state.
 use Rattle.std.specs.Prelude.{◌≡◌, ◌≢◌, ℕ, ◌*◌, ◌<◌, ◌^◌, List, [], ◌∷◌, length, Option, Some, None}
 use Rattle.std.specs.Option.{option_and_then}
-use Rattle.std.specs.Int.{w64, to_be_bytes}
-use Rattle.hex.specs.Hex.{encode_lower}
 use Rattle.vault_volume.specs.Image.{bytes_at}
 use Rattle.vault_volume.specs.Head.{head_of}
 use Rattle.custody_records.specs.declared.damage.Damage.TheVariants as rows_damage
 use Rattle.custody_records.specs.Records.{Records}
 use Rattle.custody_records.specs.Rows.{MetaRow, Rows}
+use Rattle.custody_records.specs.Written.{digits_of}
 use Rattle.custody_records.specs.Form.{form_of, OutOfForm, InForm, natural}
 use Rattle.custody_machine.specs.declared.damage.Damage.{Damage}
 use Rattle.custody_machine.specs.declared.damage.Damage.TheVariants.{NoRecord, Head, Volume, Schema, Form, Extent, Overlap, Link, Digest}
@@ -22,13 +21,9 @@ first_of (meta ∷ others) = Some meta
 abbrev pub meta_of : Rows → Option MetaRow
 meta_of rows = option_and_then first_of rows.meta
 
--- a volume's number as 16 lower-case hexadecimal digits
-abbrev pub number_text : ℕ → List ℕ
-number_text number = encode_lower (to_be_bytes w64 number)
-
 -- a row of `meta` is of a volume with this number and this image
 pub record IsRowOf (meta : MetaRow) (number : ℕ) (image : List ℕ) : Type 0 where
-  pub number_is : meta.number ≡ number_text number
+  pub number_is : meta.number ≡ digits_of number
   pub size : length image ≡ 4096 * natural meta.blocks
 
 -- What is wrong, in the order in which an opening looks for it. An opening reads no part, so no digest is among them.

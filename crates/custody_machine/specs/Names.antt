@@ -7,9 +7,10 @@ use Rattle.schedule.specs.Text.{day_text}
 use Rattle.deposit_name.specs.declared.kinds.Kind.{Kind}
 use Rattle.deposit_name.specs.declared.faults.NameError.{NameError}
 use Rattle.deposit_name.specs.declared.faults.NameError.TheVariants.{Suffix, Pieces, Tld, Date, Kind as KindFault, Part, Revision}
+use Rattle.deposit_name.specs.Identifiers.{is_tld}
 use Rattle.deposit_name.specs.Name.{Name, IsName, name_text, part_text, rev_text}
 use Rattle.deposit_name.specs.Fault.{NamePieces, IsFault}
-use Rattle.custody_records.specs.Form.{is_tld, kind_in}
+use Rattle.custody_records.specs.Form.{kind_in}
 
 -- whether two texts are the same
 abbrev pub is_same_text : List ℕ → List ℕ → Bool

@@ -1,17 +1,15 @@
 -- When a field passes its test, and what a typed reader of the field then answers.
-use Rattle.std.proofs.Common.{◌≡◌, ◌≢◌, ℕ, ℤ, pos, negsuc, ◌*◌, ◌-◌, ◌≤◌, List, [], ◌∷◌, ◌==◌, length, Bool, true, false, ◌&&◌, not, cond, nat_lt, Option, Some, None, refl, sym, ◌∙◌, ap, subst, arith}
-use Rattle.std.specs.Prelude.{IfSome, find, slice_index}
+use Rattle.std.proofs.Common.{◌≡◌, ℕ, pos, ◌*◌, ◌-◌, ◌≤◌, List, [], ◌∷◌, ◌==◌, Bool, true, false, cond, Option, Some, None, refl, sym, ◌∙◌, ap, subst, arith}
+use Rattle.std.specs.Prelude.{IfSome, find}
 use Rattle.std.specs.Str.{bytes_eq, IsUtf8}
-use Rattle.std.specs.List.{list_all}
-use Rattle.std.specs.Char.{is_ascii_alphanumeric}
-use Rattle.std.specs.Int.{IsInRange}
-use Rattle.std.proofs.lemmas.Bool.{ne_eqb, eqb-false, eqb-true}
+use Rattle.std.proofs.lemmas.Bool.{eqb-true}
 use Rattle.std.proofs.lemmas.Bool.Decides.{nat_tests}
 use Rattle.std.proofs.lemmas.Slice.Eq.{bytes_eq-Decides}
 use Rattle.schedule.specs.Schedule.{IsDay, IsMoment}
 use Rattle.deposit_name.specs.declared.kinds.Kind.{Kind}
 use Rattle.deposit_name.specs.declared.kinds.Kind.TheVariants.{Full, Diff}
-use Rattle.deposit_name.specs.Identifiers.{is_tld_byte, is_reference_byte, IsTld, IsDepositId, IsReference}
+use Rattle.deposit_name.specs.Identifiers.{is_tld, is_reference, IsTld, IsReference}
+use Rattle.deposit_name.proofs.IdentifierLemmas.{is_tld-IsTld, is_reference-IsReference}
 use Rattle.deposit_name.specs.Name.{kind_text, IsNameDay}
 use Rattle.desk.specs.Checks.{check_number}
 use Rattle.desk.specs.Grounds.{ground_text}
@@ -19,11 +17,7 @@ use Rattle.desk.specs.declared.checks.Check.{Check}
 use Rattle.desk.specs.declared.checks.Check.TheVariants.{Frame, Envelope, Name, Statement, Weekday, PrevId, IdTaken, Menu, Files, Table, Counts, References, Deletes}
 use Rattle.desk.specs.declared.grounds.Ground.{Ground}
 use Rattle.desk.specs.declared.grounds.Ground.TheVariants.{Operator, Termination, NoNotices, SundayFailed, FiveFailed, Insolvency, Critical, Order, Audit}
-use Rattle.custody_records.specs.Form.{natural, is_within, is_number, is_day, is_deposit_day, is_moment, is_tld, is_id, is_reference, kind_in, check_in, checks, ground_in, grounds}
-
-pub both_true : (a b : Bool) → (a && b) ≡ true → (a ≡ true) × (b ≡ true)
-both_true true b e = (refl, e)
-both_true false b e = cc
+use Rattle.custody_records.specs.Form.{is_within, is_number, is_day, is_deposit_day, is_moment, kind_in, check_in, checks, ground_in, grounds}
 
 -- ---- numbers
 
@@ -32,30 +26,6 @@ within_passes low high n above below = grind (arith, nat_tests)
 
 pub number_passes : (n : ℕ) → is_number n (pos n) ≡ true
 number_passes n = within_passes n n n (omega arith) (omega arith)
-
-within_is : (low high n : ℕ) → is_within low high (pos n) ≡ true → IsInRange low high n
-within_is low high n e = let h : (not (nat_lt n low) ≡ true) × (not (nat_lt high n) ≡ true) = both_true (not (nat_lt n low)) (not (nat_lt high n)) e in (grind (arith, nat_tests), grind (arith, nat_tests))
-
--- a reader that answers just the numbers of a range
-pub number_read : (low high : ℕ) (P : ℕ → Type 0) (z : ℤ) (o : Option ℕ) → ((n : ℕ) → P n → IsInRange low high n) → ((n : ℕ) → IsInRange low high n → P n)
-    → IfSome o (λ n. P n × (z ≡ pos n)) → ((n : ℕ) → P n → z ≡ pos n → o ≡ Some n) → o ≡ cond (is_within low high z) (Some (natural z)) None
-number_read low high P (pos n) (Some m) from to value only =
-    let same : n ≡ m = cc (value.1) in
-    let passes : is_within low high (pos n) ≡ true = let r = from m value.0 in rw same (within_passes low high m r.0 r.1) in
-    ap Some (sym same) ∙ ap (λ b. cond b (Some n) None) (sym passes)
-number_read low high P (pos n) None from to value only = by (is_within low high (pos n)) refl
-  where
-    by : (b : Bool) → is_within low high (pos n) ≡ b → None ≡ cond b (Some n) None
-    by true e = only n (to n (within_is low high n e)) refl
-    by false e = refl
-number_read low high P (negsuc n) (Some m) from to value only = let clash = value.1 in cc
-number_read low high P (negsuc n) None from to value only = refl
-
-pub day_read : (z : ℤ) (o : Option ℕ) → IfSome o (λ d. IsDay d × (z ≡ pos d)) → ((d : ℕ) → IsDay d → z ≡ pos d → o ≡ Some d) → o ≡ cond (is_day z) (Some (natural z)) None
-day_read z o = number_read 0 2_932_531 IsDay z o (λ n h. (omega arith, h)) (λ n h. h.1)
-
-pub moment_read : (z : ℤ) (o : Option ℕ) → IfSome o (λ s. IsMoment s × (z ≡ pos s)) → ((s : ℕ) → IsMoment s → z ≡ pos s → o ≡ Some s) → o ≡ cond (is_moment z) (Some (natural z)) None
-moment_read z o = number_read 0 (86_400 * 2_932_532 - 1) IsMoment z o (λ n h. (omega arith, omega arith)) (λ n h. omega (arith, h.1))
 
 pub day_passes : (d : ℕ) → IsDay d → is_day (pos d) ≡ true
 day_passes d h = within_passes 0 2_932_531 d (omega arith) h
@@ -68,39 +38,6 @@ moment_passes s h = within_passes 0 (86_400 * 2_932_532 - 1) s (omega arith) (om
 
 -- ---- texts
 
-not_same : (a b : ℕ) → a ≢ b → not (a == b) ≡ true
-not_same a b apart = ap not (ne_eqb a b apart)
-
-apart_from : (a b : ℕ) → not (a == b) ≡ true → a ≢ b
-apart_from a b e = by (a == b) refl e
-  where
-    by : (t : Bool) → (a == b) ≡ t → not t ≡ true → a ≢ b
-    by true is e = cc
-    by false is e = eqb-false a b is
-
-pub tld_passes : (t : List ℕ) → IsTld t → is_tld t ≡ true
-tld_passes t h = λ i. (within_passes 1 63 (length t) h.length_in.0 h.length_in.1 i && h.bytes i)
-    && (not_same (slice_index t 0) 45 h.first i && not_same (slice_index t (length t - 1)) 45 h.last i)
-
-tld_is : (t : List ℕ) → is_tld t ≡ true → IsTld t
-tld_is t e =
-    let whole = both_true (is_within 1 63 (pos (length t)) && list_all is_tld_byte t) (not (slice_index t 0 == 45) && not (slice_index t (length t - 1) == 45)) e in
-    let text = both_true (is_within 1 63 (pos (length t))) (list_all is_tld_byte t) whole.0 in
-    let ends = both_true (not (slice_index t 0 == 45)) (not (slice_index t (length t - 1) == 45)) whole.1 in
-    record { length_in = within_is 1 63 (length t) text.0; bytes = text.1; first = apart_from _ _ ends.0; last = apart_from _ _ ends.1 }
-
-pub id_passes : (t : List ℕ) → IsDepositId t → is_id t ≡ true
-id_passes t h = λ i. within_passes 1 13 (length t) h.length_in.0 h.length_in.1 i && h.bytes i
-
-id_is : (t : List ℕ) → is_id t ≡ true → IsDepositId t
-id_is t e = let text = both_true (is_within 1 13 (pos (length t))) (list_all is_ascii_alphanumeric t) e in record { length_in = within_is 1 13 (length t) text.0; bytes = text.1 }
-
-pub reference_passes : (t : List ℕ) → IsReference t → is_reference t ≡ true
-reference_passes t h = λ i. within_passes 1 32 (length t) h.length_in.0 h.length_in.1 i && h.bytes i
-
-reference_is : (t : List ℕ) → is_reference t ≡ true → IsReference t
-reference_is t e = let text = both_true (is_within 1 32 (pos (length t))) (list_all is_reference_byte t) e in record { length_in = within_is 1 32 (length t) text.0; bytes = text.1 }
-
 -- a reader that answers just the texts of a form
 text_read : (b : Bool) (P : List ℕ → Type 0) (t : List ℕ) (o : Option (List ℕ)) → (b ≡ true → P t) → (P t → b ≡ true)
     → IfSome o (λ d. (d ≡ t) × P d) → (P t → o ≡ Some t) → o ≡ cond b (Some t) None
@@ -109,13 +46,10 @@ text_read true P t None to from value only = only (to refl)
 text_read false P t None to from value only = refl
 
 pub tld_read : (t : List ℕ) (o : Option (List ℕ)) → IfSome o (λ d. (d ≡ t) × IsTld d) → (IsTld t → o ≡ Some t) → o ≡ cond (is_tld t) (Some t) None
-tld_read t o = text_read (is_tld t) IsTld t o (tld_is t) (tld_passes t)
-
-pub id_read : (t : List ℕ) (o : Option (List ℕ)) → IfSome o (λ d. (d ≡ t) × IsDepositId d) → (IsDepositId t → o ≡ Some t) → o ≡ cond (is_id t) (Some t) None
-id_read t o = text_read (is_id t) IsDepositId t o (id_is t) (id_passes t)
+tld_read t o = text_read (is_tld t) IsTld t o (is_tld-IsTld t).0 (is_tld-IsTld t).1
 
 pub reference_read : (t : List ℕ) (o : Option (List ℕ)) → IfSome o (λ d. (d ≡ t) × IsReference d) → (IsReference t → o ≡ Some t) → o ≡ cond (is_reference t) (Some t) None
-reference_read t o = text_read (is_reference t) IsReference t o (reference_is t) (reference_passes t)
+reference_read t o = text_read (is_reference t) IsReference t o (is_reference-IsReference t).0 (is_reference-IsReference t).1
 
 -- ---- words of a list
 

@@ -29,8 +29,9 @@ pub record AreRecords (rows : Rows) (records : Records) : Type 0 where
   pub notices : gathered notice_in rows.notices ≡ Some records.notices
   pub releases : gathered release_in rows.handovers ≡ Some records.releases
 
-form_same : (a b : Records) → InForm a ≡ InForm b → a ≡ b
-form_same a b e = cc
+-- rows in form stand for one set of records
+pub InForm-injective : (a b : Records) → InForm a ≡ InForm b → a ≡ b
+InForm-injective a b e = cc
 
 -- ---- what rows in form have
 
@@ -44,7 +45,7 @@ module _ (number blocks : ℕ) (rows : Rows) (records : Records) (meta : MetaRow
   tables alone known form n b (Some registries) (Some parts) None releases r p o h e = cc
   tables alone known form n b (Some registries) (Some parts) (Some notices) None r p o h e = cc
   tables alone known form n b (Some registries) (Some parts) (Some notices) (Some releases) r p o h e =
-      let same = form_same _ records e in
+      let same = InForm-injective _ records e in
       record {
         meta = meta;
         alone = alone;

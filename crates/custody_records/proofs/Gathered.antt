@@ -31,22 +31,6 @@ gather_push {X} {K} {R} {order} read so_far rows all row key value before reads 
     ∙ ap (option_and_then (λ (entry : K × R). cond (is_some (get all entry.0)) None (gather read (insert all entry.0 entry.1) []))) reads
     ∙ ap (λ (o : Option R). cond (is_some o) None (Some (insert all key value))) new
 
--- a row more that does not read, or whose key is there, leaves the table out of form
-pub gather_unread : {X K R : Type 0} {order : K → K → Ordering} (read : X → Option (K × R)) (so_far : FinMap order R) (rows : List X) (all : FinMap order R) (row : X)
-    → gather read so_far rows ≡ Some all → read row ≡ None → gather read so_far (rows ++ row ∷ []) ≡ None
-gather_unread {X} {K} {R} {order} read so_far rows all row before reads =
-    gather_append read so_far rows (row ∷ [])
-    ∙ ap (option_and_then (λ (m : FinMap order R). gather read m (row ∷ []))) before
-    ∙ ap (option_and_then (λ (entry : K × R). cond (is_some (get all entry.0)) None (gather read (insert all entry.0 entry.1) []))) reads
-
-pub gather_twice : {X K R : Type 0} {order : K → K → Ordering} (read : X → Option (K × R)) (so_far : FinMap order R) (rows : List X) (all : FinMap order R) (row : X) (key : K) (value old : R)
-    → gather read so_far rows ≡ Some all → read row ≡ Some (key, value) → get all key ≡ Some old → gather read so_far (rows ++ row ∷ []) ≡ None
-gather_twice {X} {K} {R} {order} read so_far rows all row key value old before reads there =
-    gather_append read so_far rows (row ∷ [])
-    ∙ ap (option_and_then (λ (m : FinMap order R). gather read m (row ∷ []))) before
-    ∙ ap (option_and_then (λ (entry : K × R). cond (is_some (get all entry.0)) None (gather read (insert all entry.0 entry.1) []))) reads
-    ∙ ap (λ (o : Option R). cond (is_some o) None (Some (insert all key value))) there
-
 -- a table that is there, and one row more
 pub gathered_push : {X K R : Type 0} {order : K → K → Ordering} (read : X → Option (K × R)) (table : Option (List X)) (all : FinMap order R) (row : X) (key : K) (value : R)
     → gathered read table ≡ Some all → read row ≡ Some (key, value) → get all key ≡ None → gathered read (and_then row table) ≡ Some (insert all key value)

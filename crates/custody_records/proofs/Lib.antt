@@ -1,4 +1,3 @@
-pub mod Orders
 pub mod FieldLemmas
 pub mod Gathered
 pub mod FormLemmas

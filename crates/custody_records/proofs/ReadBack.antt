@@ -5,10 +5,12 @@ use Rattle.std.specs.List.{list_all}
 use Rattle.std.specs.Str.{bytes_eq}
 use Rattle.std.specs.Option.{option_and_then}
 use Rattle.std.specs.Int.{w32, to_be_bytes}
+use Rattle.std.proofs.lemmas.Bool.{and_parts}
 use Rattle.std.proofs.lemmas.List.{take_more}
 use Rattle.std.proofs.lemmas.Nat.{from_be_bytes-to_be_bytes_4}
 use Rattle.deposit_name.specs.declared.kinds.Kind.{Kind}
 use Rattle.deposit_name.specs.Identifiers.{IsTld}
+use Rattle.deposit_name.proofs.IdentifierLemmas.{is_tld-IsTld, is_deposit_id-IsDepositId, is_reference-IsReference}
 use Rattle.desk.specs.declared.checks.Check.{Check}
 use Rattle.desk.specs.declared.grounds.Ground.{Ground}
 use Rattle.desk.specs.declared.notices.NoticeKind.{NoticeKind}
@@ -19,12 +21,12 @@ use Rattle.custody_records.specs.Keys.{PartKey, NoticeKey}
 use Rattle.custody_records.specs.Records.{PartRecord, Notice, Release}
 use Rattle.custody_records.specs.Form.{is_number, extents_of, extents_in, registry_in, is_part, part_in, notice_kind_in, notice_in, lines_from, lines_in, release_in}
 use Rattle.custody_records.specs.Written.{row_of_registry, blob_of, HasWords, AreWritable, row_of_part, IsPart, row_of_notice, IsNoticeKind, IsNotice, is_line, text_of, row_of_release, IsRelease}
-use Rattle.custody_records.proofs.FieldLemmas.{both_true, within_passes, number_passes, day_passes, deposit_day_passes, moment_passes, tld_passes, id_passes, reference_passes, kind_in-kind_text, ground_in-ground_text, check_in-check_number, check_apart}
+use Rattle.custody_records.proofs.FieldLemmas.{within_passes, number_passes, day_passes, deposit_day_passes, moment_passes, kind_in-kind_text, ground_in-ground_text, check_in-check_number, check_apart}
 
 -- ---- registries
 
 pub registry_read_back : (tld : List ℕ) (first_day : ℕ) → IsTld tld → IsDay first_day → registry_in (row_of_registry tld first_day) ≡ Some (tld, first_day)
-registry_read_back tld first_day text day = λ i. cond (tld_passes tld text i && day_passes first_day day i) (Some (tld, first_day)) None
+registry_read_back tld first_day text day = λ i. cond ((is_tld-IsTld tld).1 text i && day_passes first_day day i) (Some (tld, first_day)) None
 
 -- ---- parts
 
@@ -50,7 +52,7 @@ extents_read_back (Some (e ∷ extents)) h = ap (option_map Some) (extents_of-bl
 pub part_read_back : (key : PartKey) (part : PartRecord) → IsPart key part → part_in (row_of_part key part) ≡ Some (key, part)
 part_read_back key part h =
     let passes : is_part (row_of_part key part) ≡ true = λ i.
-    tld_passes key.tld h.tld i && (deposit_day_passes key.day h.day i && (within_passes 0 99 key.rev (omega arith) h.rev i && (within_passes 1 8 key.part h.place.0 h.place.1 i && (moment_passes part.received h.received i
+    (is_tld-IsTld key.tld).1 h.tld i && (deposit_day_passes key.day h.day i && (within_passes 0 99 key.rev (omega arith) h.rev i && (within_passes 1 8 key.part h.place.0 h.place.1 i && (moment_passes part.received h.received i
     && (number_passes (year_after (day_of part.received)) i && (within_passes 1 1_048_576 part.len h.len.0 h.len.1 i && is_32 (length part.digest) h.digest i)))))) in
     λ i. cond (passes i) (option_and_then (λ (kind : Kind). option_map (λ (extents : Option (List Extent)). (key, record { kind = kind; received = part.received; len = part.len; digest = part.digest; extents = extents })) (extents_read_back part.extents h.extents i)) (kind_in-kind_text part.kind i)) None
   where
@@ -60,16 +62,16 @@ part_read_back key part h =
 -- ---- notices
 
 kind_read_back : (tld : List ℕ) (number day at : ℕ) (kind : NoticeKind) → IsNoticeKind kind → notice_kind_in (row_of_notice (record { tld = tld; number = number }) (record { day = day; at = at; kind = kind })) ≡ Some kind
-kind_read_back tld number day at (Receipt rev id) h = λ i. cond (within_passes 0 99 rev (omega arith) h.0 i && id_passes id h.1 i) (Some (Receipt rev id)) None
+kind_read_back tld number day at (Receipt rev id) h = λ i. cond (within_passes 0 99 rev (omega arith) h.0 i && (is_deposit_id-IsDepositId id).1 h.1 i) (Some (Receipt rev id)) None
 kind_read_back tld number day at (Failure rev id check) h =
     let apart = check_apart check in
     λ i. cond (apart.0 i) (cond (is_number 0 (pos rev) && bytes_eq id []) (Some Absence) None)
-    (cond (within_passes 0 99 rev (omega arith) h.0 i && id_passes id h.1 i) (cond (apart.1 i) (Some (Receipt rev id)) (option_map (λ (c : Check). Failure rev id c) (check_in-check_number check i))) None)
+    (cond (within_passes 0 99 rev (omega arith) h.0 i && (is_deposit_id-IsDepositId id).1 h.1 i) (cond (apart.1 i) (Some (Receipt rev id)) (option_map (λ (c : Check). Failure rev id c) (check_in-check_number check i))) None)
 kind_read_back tld number day at Absence h = refl
 
 pub notice_read_back : (key : NoticeKey) (notice : Notice) → IsNotice key notice → notice_in (row_of_notice key notice) ≡ Some (key, notice)
 notice_read_back key notice h =
-    λ i. cond (tld_passes key.tld h.tld i && (within_passes 1 9_223_372_036_854_775_807 key.number h.number.0 h.number.1 i && (day_passes notice.day h.day i && moment_passes notice.at h.at i)))
+    λ i. cond ((is_tld-IsTld key.tld).1 h.tld i && (within_passes 1 9_223_372_036_854_775_807 key.number h.number.0 h.number.1 i && (day_passes notice.day h.day i && moment_passes notice.at h.at i)))
     (option_map (λ (kind : NoticeKind). (key, record { day = notice.day; at = notice.at; kind = kind })) (kind_read_back key.tld key.number notice.day notice.at notice.kind h.kind i)) None
 
 -- ---- releases
@@ -78,7 +80,7 @@ notice_read_back key notice h =
 pub lines_from-line : (front line text : List ℕ) → is_line line ≡ true → lines_from (line ++ 10 ∷ text) front ≡ option_map (λ lines. (front ++ line) ∷ lines) (lines_in text)
 lines_from-line front [] text e = ap (λ (l : List ℕ). option_map (λ lines. l ∷ lines) (lines_in text)) (sym (append-nil front))
 lines_from-line front (byte ∷ line) text e =
-    let both = both_true (not (byte == 10)) (is_line line) e in
+    let both = and_parts (not (byte == 10)) (is_line line) e in
     ap (λ b. cond b (option_map (λ lines. front ∷ lines) (lines_from (line ++ 10 ∷ text) [])) (lines_from (line ++ 10 ∷ text) (front ++ byte ∷ []))) (off (byte == 10) both.0)
     ∙ lines_from-line (front ++ byte ∷ []) line text both.1
     ∙ ap (λ (l : List ℕ). option_map (λ lines. l ∷ lines) (lines_in text)) (append_assoc front (byte ∷ []) line)
@@ -90,10 +92,10 @@ lines_from-line front (byte ∷ line) text e =
 pub lines_in-text_of : (lines : List (List ℕ)) → list_all is_line lines ≡ true → lines_in (text_of lines) ≡ Some lines
 lines_in-text_of [] e = refl
 lines_in-text_of (line ∷ lines) e =
-    let both = both_true (is_line line) (list_all is_line lines) e in
+    let both = and_parts (is_line line) (list_all is_line lines) e in
     lines_from-line [] line (text_of lines) both.0 ∙ ap (option_map (λ (rest : List (List ℕ)). line ∷ rest)) (lines_in-text_of lines both.1)
 
 pub release_read_back : (reference : List ℕ) (release : Release) → IsRelease reference release → release_in (row_of_release reference release) ≡ Some (reference, release)
 release_read_back reference release h =
-    λ i. cond (reference_passes reference h.named i && (tld_passes release.tld h.tld i && moment_passes release.at h.at i))
+    λ i. cond ((is_reference-IsReference reference).1 h.named i && ((is_tld-IsTld release.tld).1 h.tld i && moment_passes release.at h.at i))
     (option_and_then (λ (reason : Ground). option_map (λ (names : List (List ℕ)). (reference, record { tld = release.tld; reason = reason; at = release.at; names = names })) (lines_in-text_of release.names h.names i)) (ground_in-ground_text release.reason i)) None

@@ -1,11 +1,10 @@
 -- What a row stands for, from what its fields are read as.
-use Rattle.std.proofs.Common.{◌≡◌, ◌≢◌, ℕ, zero, suc, ℤ, pos, negsuc, ◌-◌, ◌+◌, ◌≤◌, ◌<◌, ◌==◌, List, [], ◌∷◌, ◌++◌, length, get_or, take, drop, Bool, true, false, ◌&&◌, not, cond, Option, Some, None, refl, sym, ◌∙◌, ap, arith, append_assoc, length-drop, add-one, drop-cons}
+use Rattle.std.proofs.Common.{◌≡◌, ◌≢◌, ℕ, zero, suc, ℤ, pos, negsuc, ◌-◌, ◌+◌, ◌≤◌, ◌<◌, ◌==◌, List, [], ◌∷◌, ◌++◌, length, get_or, take, drop, Bool, true, false, ◌&&◌, cond, Option, Some, None, refl, sym, ◌∙◌, ap, arith, append_assoc, length-drop}
 use Rattle.std.specs.Prelude.{option_map, map}
 use Rattle.std.proofs.lemmas.List.{take_more}
 use Rattle.std.specs.Option.{option_and_then}
 use Rattle.std.proofs.lemmas.Bool.Decides.{nat_tests}
 use Rattle.std.specs.Str.{bytes_eq}
-use Rattle.std.specs.List.{list_all}
 use Rattle.std.specs.Int.{w32, from_be_bytes}
 use Rattle.deposit_name.specs.declared.kinds.Kind.{Kind}
 use Rattle.deposit_name.specs.Name.{Name}
@@ -18,10 +17,10 @@ use Rattle.vault_volume.specs.declared.extent.Extent.{Extent}
 use Rattle.custody_records.specs.Keys.{PartKey, NoticeKey}
 use Rattle.custody_records.specs.Records.{PartRecord, Notice, Release, key_of}
 use Rattle.custody_records.specs.Rows.{PartRow, NoticeRow, HandoverRow}
-use Rattle.custody_records.specs.Form.{natural, is_within, is_number, is_day, is_deposit_day, is_moment, is_tld, is_id, kind_in, extents_of, extents_in, is_part, part_key, part_in, check_in, notice_kind_in, notice_in, is_reference, ground_in, lines_from, lines_in, release_in}
-use Rattle.custody_records.specs.Written.{is_line, text_of}
+use Rattle.deposit_name.specs.Identifiers.{is_tld, is_deposit_id, is_reference}
+use Rattle.custody_records.specs.Form.{natural, is_within, is_number, is_day, is_deposit_day, is_moment, kind_in, extents_of, extents_in, is_part, part_key, part_in, check_in, notice_kind_in, notice_in, ground_in, lines_in, release_in}
+use Rattle.custody_records.specs.Written.{text_of}
 use Rattle.custody_records.specs.Typed.{name_in, received_in}
-use Rattle.custody_records.proofs.FieldLemmas.{both_true}
 
 pub first_false : (a b : Bool) → a ≡ false → (a && b) ≡ false
 first_false a b e = ap (λ t. t && b) e
@@ -73,7 +72,7 @@ module _ (row : NoticeRow) where
   notice_without_number e = ap notice_if (second_false (is_tld row.tld) (is_within 1 9_223_372_036_854_775_807 row.number && (is_day row.day && is_moment row.at)) (first_false (is_within 1 9_223_372_036_854_775_807 row.number) (is_day row.day && is_moment row.at) e))
 
   -- a failure of a check
-  pub failure_in : (check : Check) → is_number 20 row.kind ≡ false → is_number 0 row.kind ≡ false → is_within 0 99 row.rev ≡ true → is_id row.id ≡ true → check_in (natural row.kind) ≡ Some check
+  pub failure_in : (check : Check) → is_number 20 row.kind ≡ false → is_number 0 row.kind ≡ false → is_within 0 99 row.rev ≡ true → is_deposit_id row.id ≡ true → check_in (natural row.kind) ≡ Some check
       → notice_kind_in row ≡ Some (Failure (natural row.rev) row.id check)
   failure_in check a b c d e = λ i. cond (a i) (cond (is_number 0 row.rev && bytes_eq row.id []) (Some Absence) None)
       (cond (c i && d i) (cond (b i) (Some (Receipt (natural row.rev) row.id)) (option_map (λ (check : Check). Failure (natural row.rev) row.id check) (e i))) None)
@@ -188,11 +187,6 @@ extents_first (a ∷ b ∷ c ∷ d ∷ e ∷ f ∷ []) le = absurd (omega arith)
 extents_first (a ∷ b ∷ c ∷ d ∷ e ∷ f ∷ g ∷ []) le = absurd (omega arith)
 extents_first (a ∷ b ∷ c ∷ d ∷ e ∷ f ∷ g ∷ h ∷ bytes) le = refl
 
--- an extent more in front of the rest is one more after those before
-pub extents_more : (before : List Extent) (extent : Extent) (rest : Option (List Extent)) → option_map (λ more. before ++ more) (option_map (λ more. extent ∷ more) rest) ≡ option_map (λ more. (before ++ extent ∷ []) ++ more) rest
-extents_more before extent None = refl
-extents_more before extent (Some more) = ap Some (sym (append_assoc before (extent ∷ []) more))
-
 -- ---- releases
 
 module _ (row : HandoverRow) where
@@ -211,9 +205,6 @@ module _ (row : HandoverRow) where
   pub release_without_tld : is_tld row.tld ≡ false → release_in row ≡ None
   release_without_tld e = release_not (second_false (is_reference row.reference) (is_tld row.tld && is_moment row.at) (first_false (is_tld row.tld) (is_moment row.at) e))
 
-  pub release_without_moment : is_moment row.at ≡ false → release_in row ≡ None
-  release_without_moment e = release_not (second_false (is_reference row.reference) (is_tld row.tld && is_moment row.at) (second_false (is_tld row.tld) (is_moment row.at) e))
-
   pub release_without_ground : ground_in row.reason ≡ None → release_in row ≡ None
   release_without_ground e = ap (λ (o : Option Ground). release_if release_passes o (lines_in row.names)) e ∙ by release_passes
     where
@@ -230,41 +221,7 @@ module _ (row : HandoverRow) where
       by (Some g) true = refl
       by (Some g) false = refl
 
-  pub release_found : (reference tld : List ℕ) (reason : Ground) (at : ℕ) (names : List (List ℕ)) → cond (is_reference row.reference) (Some row.reference) None ≡ Some reference → cond (is_tld row.tld) (Some row.tld) None ≡ Some tld
-      → ground_in row.reason ≡ Some reason → cond (is_moment row.at) (Some (natural row.at)) None ≡ Some at → lines_in row.names ≡ Some names
-      → release_in row ≡ Some (reference, record { tld = tld; reason = reason; at = at; names = names })
-  release_found reference tld reason at names r t g a n =
-      let named = cond_is (is_reference row.reference) (Some row.reference) reference r in
-      let of = cond_is (is_tld row.tld) (Some row.tld) tld t in
-      let moment = cond_is (is_moment row.at) (Some (natural row.at)) at a in
-      let reference_same = some_same _ _ named.1 in
-      let tld_same = some_same _ _ of.1 in
-      let at_same = some_same _ _ moment.1 in
-      (λ i. release_if (named.0 i && (of.0 i && moment.0 i)) (g i) (n i))
-      ∙ (λ i. Some (reference_same i, record { tld = tld_same i; reason = reason; at = at_same i; names = names }))
-
 -- ---- lines
-
--- a byte more is the end of a line, or a byte of it
-pub lines_step : (text line : List ℕ) (i : ℕ) → i < length text → lines_from (drop i text) line
-    ≡ cond (get_or text i 0 == 10) (option_map (λ lines. line ∷ lines) (lines_from (drop (i + 1) text) [])) (lines_from (drop (i + 1) text) (line ++ get_or text i 0 ∷ []))
-lines_step text line i lt = rw (add-one, drop-cons text i 0)
-
-pub lines_more : (before : List (List ℕ)) (line : List ℕ) (rest : Option (List (List ℕ))) → option_map (λ more. before ++ more) (option_map (λ lines. line ∷ lines) rest) ≡ option_map (λ more. (before ++ line ∷ []) ++ more) rest
-lines_more before line None = refl
-lines_more before line (Some more) = ap Some (sym (append_assoc before (line ∷ []) more))
-
-pub is_line_more : (line : List ℕ) (byte : ℕ) → is_line line ≡ true → (byte == 10) ≡ false → is_line (line ++ byte ∷ []) ≡ true
-is_line_more [] byte e off = ap (λ b. not b && true) off
-is_line_more (x ∷ line) byte e off =
-    let both = both_true (not (x == 10)) (is_line line) e in
-    λ i. both.0 i && is_line_more line byte both.1 off i
-
-pub are_lines_more : (lines : List (List ℕ)) (line : List ℕ) → list_all is_line lines ≡ true → is_line line ≡ true → list_all is_line (lines ++ line ∷ []) ≡ true
-are_lines_more [] line all e = ap (λ b. b && true) e
-are_lines_more (x ∷ lines) line all e =
-    let both = both_true (is_line x) (list_all is_line lines) all in
-    λ i. both.0 i && are_lines_more lines line both.1 e i
 
 pub text_of_more : (lines : List (List ℕ)) (line : List ℕ) → text_of (lines ++ line ∷ []) ≡ (text_of lines ++ line) ++ 10 ∷ []
 text_of_more [] line = refl

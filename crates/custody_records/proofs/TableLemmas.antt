@@ -8,21 +8,21 @@ use Rattle.std.specs.declared.cmp.Ordering.{Ordering}
 use Rattle.std.specs.declared.cmp.Ordering.TheVariants.{Less, Equal, Greater}
 use Rattle.std.specs.Cmp.{IsTotalOrder}
 use denote.Ref.{Bor}
-use Rattle.std.specs.FinMap.{IsAntisymmetric, get, insert, empty, entries-insert, entries-from_sorted, get-from_sorted, same_entries_map, empty_of_len, len-entries, from_sorted}
+use Rattle.std.specs.FinMap.{FinMap, IsAntisymmetric, get, insert, empty, entries, entries_sorted, entries-insert, entries-from_sorted, get-from_sorted, same_entries_map, empty_of_len, len-entries, from_sorted}
 use Rattle.std.specs.FinMap.Entries.{find, put, is_sorted, below_all, by_order, is_sorted-put}
-use Rattle.std.proofs.lemmas.Bool.{cases_lt}
+use Rattle.std.proofs.lemmas.Bool.{and_parts, cases_lt}
 use Rattle.std.proofs.lemmas.Cmp.{alike_right}
 use Rattle.std.proofs.lemmas.List.Sorted.{searchable_from_sorted}
 use Rattle.custody_records.specs.Tables.{entries_of, is_below_all, is_rising, row_at, table_map, IsAdded}
-
-both_true : (a b : Bool) → (a && b) ≡ true → (a ≡ true) × (b ≡ true)
-both_true true b e = (refl, e)
-both_true false b e = cc
 
 less_is : (o : Ordering) → is_lt o ≡ true → o ≡ Less
 less_is Less e = refl
 less_is Equal e = cc
 less_is Greater e = cc
+
+T_true : (b : Bool) → T b → b ≡ true
+T_true true h = refl
+T_true false h = absurd h
 
 module _ {Row K : Type 0} (order : K → K → Ordering) (key : Row → K) where
   -- ---- the entries
@@ -35,8 +35,13 @@ module _ {Row K : Type 0} (order : K → K → Ordering) (key : Row → K) where
   rising_entries value [] = refl
   rising_entries value (row ∷ rows) = λ i. below_entries value (key row) rows i && rising_entries value rows i
 
-  pub sorted_entries : {X : Type 0} (value : Row → X) (rows : List Row) → is_rising order key rows ≡ true → T (is_sorted order (entries_of key value rows))
+  sorted_entries : {X : Type 0} (value : Row → X) (rows : List Row) → is_rising order key rows ≡ true → T (is_sorted order (entries_of key value rows))
   sorted_entries value rows rising = subst T (sym (rising_entries value rows ∙ rising)) tt
+
+  -- the entries of the map are those of the rows
+  pub entries-table_map : {X : Type 0} (value : Row → X) (rows : List Row) → is_rising order key rows ≡ true → entries (table_map order key value rows) ≡ entries_of key value rows
+  unfolding table_map
+  entries-table_map value rows rising = entries-from_sorted order (entries_of key value rows) (sorted_entries value rows rising)
 
   find_entries : {X : Type 0} (value : Row → X) (rows : List Row) (sought : K) → find order sought (entries_of key value rows) ≡ option_map value (row_at order key rows sought)
   find_entries value [] sought = refl
@@ -58,15 +63,16 @@ module _ {Row K : Type 0} (order : K → K → Ordering) (key : Row → K) where
 
   -- ---- what a search finds
 
-  below_at : (low : K) (rows : List Row) (i : ℕ) (d : Row) → is_below_all order key low rows ≡ true → i < length rows → order low (key (get_or rows i d)) ≡ Less
+  -- a key below all has below it that of each row
+  pub below_at : (low : K) (rows : List Row) (i : ℕ) (d : Row) → is_below_all order key low rows ≡ true → i < length rows → order low (key (get_or rows i d)) ≡ Less
   below_at low [] i d below lt = absurd (omega arith)
-  below_at low (row ∷ rows) zero d below lt = less_is _ (both_true _ _ below).0
-  below_at low (row ∷ rows) (suc i) d below lt = below_at low rows i d (both_true (is_lt (order low (key row))) _ below).1 (omega arith)
+  below_at low (row ∷ rows) zero d below lt = less_is _ (and_parts _ _ below).0
+  below_at low (row ∷ rows) (suc i) d below lt = below_at low rows i d (and_parts (is_lt (order low (key row))) _ below).1 (omega arith)
 
   rises : (rows : List Row) (i : ℕ) (d : Row) → is_rising order key rows ≡ true → suc i < length rows → order (key (get_or rows i d)) (key (get_or rows (suc i) d)) ≡ Less
   rises [] i d rising lt = absurd (omega arith)
-  rises (row ∷ rows) zero d rising lt = below_at (key row) rows 0 d (both_true _ _ rising).0 (omega arith)
-  rises (row ∷ rows) (suc i) d rising lt = rises rows i d (both_true (is_below_all order key (key row) rows) _ rising).1 (omega arith)
+  rises (row ∷ rows) zero d rising lt = below_at (key row) rows 0 d (and_parts _ _ rising).0 (omega arith)
+  rises (row ∷ rows) (suc i) d rising lt = rises rows i d (and_parts (is_below_all order key (key row) rows) _ rising).1 (omega arith)
 
   module _ (o : IsTotalOrder order) where
     turned : (x y : K) (r : Ordering) → order x y ≡ r → order y x ≡ ordering_reverse r
@@ -83,7 +89,7 @@ module _ {Row K : Type 0} (order : K → K → Ordering) (key : Row → K) where
     found_at [] sought i d rising lt e = absurd (omega arith)
     found_at (row ∷ rows) sought zero d rising lt e = ap (λ r. cond (is_eq r) (Some row) (row_at order key rows sought)) (turned _ _ Equal e)
     found_at (row ∷ rows) sought (suc i) d rising lt e =
-        let split = both_true (is_below_all order key (key row) rows) (is_rising order key rows) rising in
+        let split = and_parts (is_below_all order key (key row) rows) (is_rising order key rows) rising in
         let less : order (key row) sought ≡ Less = sym (alike_right o (key (get_or rows i d)) sought (key row) e) ∙ below_at (key row) rows i d split.0 (omega arith) in
         ap (λ r. cond (is_eq r) (Some row) (row_at order key rows sought)) (turned _ _ Less less) ∙ found_at rows sought i d split.1 (omega arith) e
 
@@ -120,10 +126,6 @@ module _ {Row K : Type 0} (order : K → K → Ordering) (key : Row → K) where
       -- the keys still rise
       pub rising_added : is_rising order key new ≡ true
       rising_added = sym (rising_entries (λ r. r) new) ∙ T_true _ (subst (λ es. T (is_sorted order es)) (entries_added (λ r. r)) (is_sorted-put order o (key row) row (entries_of key (λ r. r) old) (sorted_entries (λ r. r) old rising)))
-        where
-          T_true : (b : Bool) → T b → b ≡ true
-          T_true true h = refl
-          T_true false h = absurd h
 
       -- and the map has one entry more
       pub map_added : {X : Type 0} (value : Row → X) → table_map order key value new ≡ insert (table_map order key value old) (key row) (value row)
@@ -132,6 +134,21 @@ module _ {Row K : Type 0} (order : K → K → Ordering) (key : Row → K) where
           entries-from_sorted order (entries_of key value new) (sorted_entries value new rising_added)
           ∙ sym (entries_added value)
           ∙ sym (entries-insert o (from_sorted (entries_of key value old)) (key row) (value row) ∙ ap (put order (key row) (value row)) (entries-from_sorted order (entries_of key value old) (sorted_entries value old rising))))
+
+-- ---- a map, as the table of its entries
+
+module _ {K X : Type 0} {R : K → K → Ordering} (m : FinMap R X) where
+  own_entries : (es : List (K × X)) → entries_of (λ (e : K × X). e.0) (λ (e : K × X). e.1) es ≡ es
+  own_entries [] = refl
+  own_entries (e ∷ es) = ap (λ (l : List (K × X)). e ∷ l) (own_entries es)
+
+  pub entries_rise : is_rising R (λ (e : K × X). e.0) (entries m) ≡ true
+  entries_rise =
+      sym (rising_entries R (λ (e : K × X). e.0) (λ (e : K × X). e.1) (entries m)) ∙ ap (is_sorted R) (own_entries (entries m)) ∙ T_true _ (entries_sorted m)
+
+  pub table_map-entries : table_map R (λ (e : K × X). e.0) (λ (e : K × X). e.1) (entries m) ≡ m
+  table_map-entries =
+      same_entries_map _ _ (entries-table_map R (λ (e : K × X). e.0) (λ (e : K × X). e.1) (entries m) entries_rise ∙ own_entries (entries m))
 
 -- ---- what a binary search answers
 

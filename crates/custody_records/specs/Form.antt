@@ -1,9 +1,7 @@
 -- What the rows of the tables stand for: whether they are in form, and the records that they make.
-use Rattle.std.specs.Prelude.{ℕ, ℤ, pos, negsuc, ◌*◌, ◌-◌, List, [], ◌∷◌, ◌++◌, length, slice_index, Option, Some, None, Bool, true, false, not, ◌&&◌, ◌==◌, nat_lt, if◌then◌else◌, is_some, option_map, find, Result, Ok, Err}
+use Rattle.std.specs.Prelude.{ℕ, ℤ, pos, negsuc, ◌*◌, ◌-◌, List, [], ◌∷◌, ◌++◌, length, Option, Some, None, Bool, true, false, not, ◌&&◌, ◌==◌, nat_lt, if◌then◌else◌, is_some, option_map, find, Result, Ok, Err}
 use Rattle.std.specs.Option.{option_and_then}
 use Rattle.std.specs.Str.{bytes_eq}
-use Rattle.std.specs.List.{list_all}
-use Rattle.std.specs.Char.{is_ascii_alphanumeric}
 use Rattle.std.specs.declared.cmp.Ordering.{Ordering}
 use Rattle.std.specs.FinMap.{FinMap, get, insert, empty}
 use Rattle.std.specs.Int.{w32, w64, to_be_bytes, from_be_bytes}
@@ -12,7 +10,7 @@ use Rattle.hex.specs.declared.FromHexError.{FromHexError}
 use Rattle.schedule.specs.Schedule.{day_of, year_after}
 use Rattle.deposit_name.specs.declared.kinds.Kind.{Kind}
 use Rattle.deposit_name.specs.declared.kinds.Kind.TheVariants.{Full, Diff}
-use Rattle.deposit_name.specs.Identifiers.{is_tld_byte, is_reference_byte}
+use Rattle.deposit_name.specs.Identifiers.{is_tld, is_deposit_id, is_reference}
 use Rattle.deposit_name.specs.Name.{kind_text}
 use Rattle.desk.specs.Checks.{check_number}
 use Rattle.desk.specs.Grounds.{ground_text}
@@ -55,19 +53,6 @@ is_deposit_day = is_within 10_957 2_932_531
 -- a moment of these days
 abbrev pub is_moment : ℤ → Bool
 is_moment = is_within 0 (86_400 * 2_932_532 - 1)
-
--- a text of so many bytes at least and at most, of which each passes the test
-abbrev pub is_text : ℕ → ℕ → (ℕ → Bool) → List ℕ → Bool
-is_text low high test text = is_within low high (pos (length text)) && list_all test text
-
-abbrev pub is_tld : List ℕ → Bool
-is_tld text = is_text 1 63 is_tld_byte text && (not (slice_index text 0 == 45) && not (slice_index text (length text - 1) == 45))
-
-abbrev pub is_id : List ℕ → Bool
-is_id = is_text 1 13 is_ascii_alphanumeric
-
-abbrev pub is_reference : List ℕ → Bool
-is_reference = is_text 1 32 is_reference_byte
 
 -- ---- a table: each row has its record, and no two rows have one key
 
@@ -126,7 +111,7 @@ check_in number = find (λ check. check_number check == number) checks
 abbrev pub notice_kind_in : NoticeRow → Option NoticeKind
 notice_kind_in row =
     if is_number 20 row.kind then (if is_number 0 row.rev && bytes_eq row.id [] then Some Absence else None)
-    else if is_within 0 99 row.rev && is_id row.id then
+    else if is_within 0 99 row.rev && is_deposit_id row.id then
     (if is_number 0 row.kind then Some (Receipt (natural row.rev) row.id) else option_map (λ (check : Check). Failure (natural row.rev) row.id check) (check_in (natural row.kind)))
     else None
 

@@ -3,6 +3,7 @@ use Rattle.std.specs.Prelude.{ℕ, ◌&&◌, if◌then◌else◌, List, Option, 
 use Rattle.std.specs.Str.{bytes_eq}
 use Rattle.schedule.specs.Schedule.{day_of, year_after}
 use Rattle.deposit_name.specs.declared.kinds.Kind.{Kind}
+use Rattle.deposit_name.specs.Identifiers.{is_tld}
 use Rattle.deposit_name.specs.Name.{Name}
 use Rattle.desk.specs.declared.notices.Notice as told
 use Rattle.custody_records.specs.declared.meta.Meta.{Meta}
@@ -15,7 +16,7 @@ use Rattle.custody_records.specs.declared.releases.ReleaseColumns.{ReleaseColumn
 use Rattle.custody_records.specs.Keys.{PartKey, NoticeKey}
 use Rattle.custody_records.specs.Records.{PartRecord, Notice, Release, key_of}
 use Rattle.custody_records.specs.Rows.{MetaRow, PartRow, NoticeRow, HandoverRow}
-use Rattle.custody_records.specs.Form.{natural, is_within, is_number, is_deposit_day, is_moment, is_tld, kind_in, number_in}
+use Rattle.custody_records.specs.Form.{natural, is_within, is_number, is_deposit_day, is_moment, kind_in, number_in}
 use Rattle.custody_records.specs.Written.{digits_of}
 
 -- ---- registries

@@ -22,7 +22,7 @@ pub use damage::Damage;
 pub use errors::RowError;
 pub use extents::write_blob;
 pub use keys::{NoticeKey, PartKey};
-pub use meta::{Meta, write_number};
+pub use meta::{Meta, read_number, write_number};
 pub use names::Names;
 pub use notices::NoticeColumns;
 pub use parts::{Part, PartColumns};

@@ -60,7 +60,7 @@ pub fn write_number(number: u64) -> [u8; 16]
 }
 
 /// The number of 16 lower-case hexadecimal digits.
-fn read_number(text: &[u8]) -> Option<u64>
+pub fn read_number(text: &[u8]) -> Option<u64>
     ensures { result ≡ (if bytes_eq text.now (digits_of (number_in text.now)) then Some (number_in text.now) else None) }
 {
     let mut bytes = [0u8; 8];

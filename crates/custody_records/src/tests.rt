@@ -84,7 +84,7 @@ fn reads_rows_in_form(rt: HostRuntime) -> Result<(), Fail> {
 }
 
 #[test]
-fn refuses_each_field_of_a_part_out_of_form(rt: HostRuntime) -> Result<(), Fail> {
+fn refuses_each_field_of_a_part_name_out_of_form(rt: HostRuntime) -> Result<(), Fail> {
     let good = part_columns();
     let bad = [
         PartColumns {
@@ -98,6 +98,18 @@ fn refuses_each_field_of_a_part_out_of_form(rt: HostRuntime) -> Result<(), Fail>
             kind: b"incr",
             ..good
         },
+    ];
+    for columns in &bad {
+        let result = columns.read(rt.alloc());
+        assert_eq!(rt; result.err(), Some(RowError::OutOfForm));
+    }
+    Ok(())
+}
+
+#[test]
+fn refuses_each_other_field_of_a_part_out_of_form(rt: HostRuntime) -> Result<(), Fail> {
+    let good = part_columns();
+    let bad = [
         PartColumns {
             received: -1,
             ..good

@@ -46,12 +46,6 @@ apart_append (x ∷ xs) ys first second between = (
 
 -- ---- blocks that are marked
 
-pub new_nil : (marks : List Bool) → AreNew marks []
-new_nil marks = record { apart = tt; unmarked = λ b none mark. none }
-
-pub marks_nil : (marks : List Bool) → Marks marks [] marks
-marks_nil marks b = (λ mark. inl mark, λ either. ⊎_elim (λ (mark : IsMarked marks b). mark) (λ (none : ⊥). absurd none) either)
-
 -- in a map without marks, extents are new that are apart
 pub new_unmarked : (n : ℕ) (es : List Extent) → AreApart es → AreNew (replicate n false) es
 new_unmarked n es apart = record { apart = apart; unmarked = λ b there mark. let clash = sym (none b) ∙ mark in cc }

@@ -1,6 +1,5 @@
 pub mod Apart
 pub mod Behind
-pub mod EntryLemmas
 pub mod Judged
 pub mod LinkLemmas
 pub mod Notices

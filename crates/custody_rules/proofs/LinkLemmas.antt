@@ -2,7 +2,7 @@
 use Rattle.std.proofs.Common.{◌≡◌, ◌≢◌, ◌⊎◌, inl, inr, ℕ, suc, ◌-◌, ◌<◌, List, Bool, true, false, not, ◌&&◌, ◌||◌, ◌==◌, Option, Some, None, refl, sym, ◌∙◌, ap, subst, arith}
 use Rattle.std.specs.Prelude.{is_some, nat_le}
 use Rattle.std.specs.Bool.{Decides}
-use Rattle.std.specs.List.{list_all, list_any}
+use Rattle.std.specs.List.{list_all}
 use Rattle.std.specs.FinMap.{get}
 use Rattle.std.proofs.lemmas.Bool.Decides.{Decides-eqb, Decides-and, Decides-or, Decides-not, Decides-like, not_from_Decides, nat_tests}
 use Rattle.desk.specs.declared.notices.NoticeKind.{NoticeKind}
@@ -14,13 +14,13 @@ use Rattle.custody_records.specs.Orders.{text_total, text_exact, part_total, par
 use Rattle.custody_records.specs.Records.{PartRecord, Notice, Release, Records}
 use Rattle.custody_records.specs.Tables.{is_rising, table_map}
 use Rattle.custody_records.specs.Typed.{part_place, part_value, notice_key, notice_value, release_key, release_value}
-use Rattle.custody_machine.specs.Names.{is_same_text, read_name}
+use Rattle.custody_machine.specs.Names.{read_name}
 use Rattle.custody_machine.specs.State.{at_place, has_notice}
 use Rattle.custody_machine.specs.Machine.{is_receipt, is_failure_of}
 use Rattle.custody_machine.specs.Stored.{AreLinked, is_part_of, names_part, revision_of, is_absence, AreOfOneDay}
 use Rattle.custody_machine.proofs.SameValues.{text_decides}
 use Rattle.custody_rules.specs.Links.{is_part_linked, has_parts, is_same_revision, are_exclusive, are_rivals, is_only, is_notice_linked, is_release_linked, each_passes}
-use Rattle.custody_rules.proofs.EntryLemmas.{each_decides, all_rows, any_rows}
+use Rattle.custody_rules.proofs.Tables.{each_decides, all_rows}
 
 itself : (b : Bool) → Decides b (b ≡ true)
 itself b = (λ e. e, λ e. e)
@@ -220,9 +220,6 @@ module _ (records : Records) (rows : List told.Notice) (is : records.notices ≡
 
   pub none_rivals : (key : NoticeKey) (notice : Notice) → list_all (λ (n : told.Notice). not (are_rivals key notice (notice_key n) (notice_value n))) rows ≡ is_only records key notice
   none_rivals key notice = all_rows notice_cmp notice_key notice_value rows records.notices is rising (λ (e : NoticeKey × Notice). not (are_rivals key notice e.0 e.1))
-
-  pub some_notice : (tld : List ℕ) (day : ℕ) (test : NoticeKind → Bool) → list_any (λ (n : told.Notice). is_same_text n.tld tld && (n.day == day && test n.kind)) rows ≡ has_notice records.notices tld day test
-  some_notice tld day test = any_rows notice_cmp notice_key notice_value rows records.notices is rising (λ (e : NoticeKey × Notice). is_same_text e.0.tld tld && (e.1.day == day && test e.1.kind))
 
 pub parts_pass : (records : Records) (rows : List Part) → records.parts ≡ table_map part_cmp part_place part_value rows → is_rising part_cmp part_place rows ≡ true
     → list_all (λ (p : Part). is_part_linked records (part_place p) (part_value p)) rows ≡ each_passes (is_part_linked records) records.parts

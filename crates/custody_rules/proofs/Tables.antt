@@ -1,15 +1,19 @@
--- A table in memory and the map that it stands for: the rows are what the map has.
-use Rattle.std.proofs.Common.{◌≡◌, ℕ, zero, suc, ◌<◌, List, [], ◌∷◌, length, get_or, Bool, true, false, cond, Option, Some, None, refl, sym, ◌∙◌, ap, arith}
+-- A table in memory and the map that it stands for: the rows are what the map has, and a test of the rows is one of its entries.
+use Rattle.std.proofs.Common.{◌≡◌, ℕ, zero, suc, ◌<◌, List, [], ◌∷◌, length, get_or, Bool, true, false, ◌&&◌, ◌||◌, cond, Option, Some, None, sym, ◌∙◌, ap, refl, arith}
 use Rattle.std.specs.Prelude.{option_map}
-use Rattle.std.specs.Ordering.{is_lt, is_eq}
+use Rattle.std.specs.Bool.{Decides}
+use Rattle.std.specs.List.{list_all, list_any}
+use Rattle.std.specs.Ordering.{is_eq}
 use Rattle.std.specs.declared.cmp.Ordering.{Ordering}
-use Rattle.std.specs.declared.cmp.Ordering.TheVariants.{Less, Equal, Greater}
+use Rattle.std.specs.declared.cmp.Ordering.TheVariants.{Less, Equal}
 use Rattle.std.specs.Cmp.{IsTotalOrder}
-use Rattle.std.specs.FinMap.{IsAntisymmetric, get}
+use Rattle.std.specs.FinMap.{FinMap, IsAntisymmetric, entries, get}
 use Rattle.std.proofs.lemmas.Bool.{and_parts}
 use Rattle.std.proofs.lemmas.Cmp.{tied_itself}
-use Rattle.custody_records.specs.Tables.{is_below_all, is_rising, row_at, table_map}
-use Rattle.custody_records.proofs.TableLemmas.{get_table, found_at, key_found}
+use Rattle.std.proofs.lemmas.List.Sums.{AllPass-from_list_all, list_all-from_AllPass}
+use Rattle.custody_records.specs.Tables.{entries_of, is_below_all, is_rising, row_at, table_map}
+use Rattle.custody_records.proofs.TableLemmas.{get_table, found_at, key_found, below_at, entries-table_map, entries_rise, table_map-entries}
+use Rattle.custody_rules.specs.Links.{each_passes}
 
 -- a row of this key and value, and where it stands
 pub record IsRowOf {Row K X : Type 0} (key : Row → K) (value : Row → X) (rows : List Row) (sought : K) (x : X) : Type 0 where
@@ -50,22 +54,12 @@ module _ {Row K X : Type 0} (order : K → K → Ordering) (key : Row → K) (va
 
 -- ---- no two rows have one key
 
-less_is : (o : Ordering) → is_lt o ≡ true → o ≡ Less
-less_is Less e = refl
-less_is Equal e = cc
-less_is Greater e = cc
-
 module _ {Row K : Type 0} (order : K → K → Ordering) (key : Row → K) where
-  below_row : (low : K) (rows : List Row) (i : ℕ) (d : Row) → is_below_all order key low rows ≡ true → i < length rows → order low (key (get_or rows i d)) ≡ Less
-  below_row low [] i d below within = absurd (omega arith)
-  below_row low (row ∷ rows) zero d below within = less_is _ (and_parts _ _ below).0
-  below_row low (row ∷ rows) (suc i) d below within = below_row low rows i d (and_parts (is_lt (order low (key row))) _ below).1 (omega arith)
-
   -- a row's key is below that of each row after it
-  pub rows_rise : (rows : List Row) → is_rising order key rows ≡ true → (i j : ℕ) (d : Row) → i < j → j < length rows → order (key (get_or rows i d)) (key (get_or rows j d)) ≡ Less
+  rows_rise : (rows : List Row) → is_rising order key rows ≡ true → (i j : ℕ) (d : Row) → i < j → j < length rows → order (key (get_or rows i d)) (key (get_or rows j d)) ≡ Less
   rows_rise [] rising i j d before within = absurd (omega arith)
   rows_rise (row ∷ rows) rising i zero d before within = absurd (omega arith)
-  rows_rise (row ∷ rows) rising zero (suc j) d before within = below_row (key row) rows j d (and_parts (is_below_all order key (key row) rows) _ rising).0 (omega arith)
+  rows_rise (row ∷ rows) rising zero (suc j) d before within = below_at order key (key row) rows j d (and_parts (is_below_all order key (key row) rows) _ rising).0 (omega arith)
   rows_rise (row ∷ rows) rising (suc i) (suc j) d before within = rows_rise rows (and_parts (is_below_all order key (key row) rows) _ rising).1 i j d (omega arith) (omega arith)
 
   pub keys_differ : IsTotalOrder order → (rows : List Row) → is_rising order key rows ≡ true → (i j : ℕ) (d : Row) → i < j → j < length rows → key (get_or rows i d) ≡ key (get_or rows j d) → ⊥
@@ -73,3 +67,42 @@ module _ {Row K : Type 0} (order : K → K → Ordering) (key : Row → K) where
       let less = rows_rise rows rising i j d before within in
       let clash : Less ≡ Equal = sym less ∙ ap (order (key (get_or rows i d))) (sym same) ∙ tied_itself o (key (get_or rows i d)) in
       cc
+
+-- ---- tests
+
+-- a test passes at each entry where it passes at each key
+pub each_decides : {K X : Type 0} {R : K → K → Ordering} → IsTotalOrder R → IsAntisymmetric R → (test : K → X → Bool) (P : K → X → Type 0) → ((k : K) (x : X) → Decides (test k x) (P k x)) → (m : FinMap R X)
+    → Decides (each_passes test m) ((k : K) (x : X) → get m k ≡ Some x → P k x)
+each_decides {K} {X} {R} total exact test P decides m = (there, back)
+  where
+    there : each_passes test m ≡ true → (k : K) (x : X) → get m k ≡ Some x → P k x
+    there all k x at =
+        let row = table_has_row R (λ (e : K × X). e.0) (λ (e : K × X). e.1) exact (entries m) (entries_rise m) k x (ap (λ (n : FinMap R X). get n k) (table_map-entries m) ∙ at) in
+        let passes = AllPass-from_list_all (λ (e : K × X). test e.0 e.1) (entries m) all row.place row.row row.within in
+        (decides k x).0 ((λ i. test (sym row.key_is i) (sym row.value_is i)) ∙ ap (λ (e : K × X). test e.0 e.1) (sym (row.at row.row)) ∙ passes)
+
+    back : ((k : K) (x : X) → get m k ≡ Some x → P k x) → each_passes test m ≡ true
+    back each = list_all-from_AllPass (λ (e : K × X). test e.0 e.1) (entries m) (λ i d within.
+        let entry = get_or (entries m) i d in
+        (decides entry.0 entry.1).1 (each entry.0 entry.1
+        (ap (λ (n : FinMap R X). get n entry.0) (sym (table_map-entries m)) ∙ row_in_table R (λ (e : K × X). e.0) (λ (e : K × X). e.1) total (entries m) (entries_rise m) i d within)))
+
+module _ {Row K X : Type 0} (order : K → K → Ordering) (key : Row → K) (value : Row → X) where
+  all_entries : (p : K × X → Bool) (rows : List Row) → list_all (λ row. p (key row, value row)) rows ≡ list_all p (entries_of key value rows)
+  all_entries p [] = refl
+  all_entries p (row ∷ rows) = ap (λ b. p (key row, value row) && b) (all_entries p rows)
+
+  any_entries : (p : K × X → Bool) (rows : List Row) → list_any (λ row. p (key row, value row)) rows ≡ list_any p (entries_of key value rows)
+  any_entries p [] = refl
+  any_entries p (row ∷ rows) = ap (λ b. p (key row, value row) || b) (any_entries p rows)
+
+  module _ (rows : List Row) (m : FinMap order X) (is : m ≡ table_map order key value rows) (rising : is_rising order key rows ≡ true) where
+    entries_are : entries_of key value rows ≡ entries m
+    entries_are = sym (ap entries is ∙ entries-table_map order key value rows rising)
+
+    -- a test of each row, or of some row, is that of the map's entries
+    pub all_rows : (p : K × X → Bool) → list_all (λ row. p (key row, value row)) rows ≡ list_all p (entries m)
+    all_rows p = all_entries p rows ∙ ap (list_all p) entries_are
+
+    pub any_rows : (p : K × X → Bool) → list_any (λ row. p (key row, value row)) rows ≡ list_any p (entries m)
+    any_rows p = any_entries p rows ∙ ap (list_any p) entries_are

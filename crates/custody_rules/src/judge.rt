@@ -16,6 +16,7 @@ ghost use Rattle.custody_machine.specs.Custody.{Decides};
 ghost use Rattle.custody_rules.specs.Rulings.{ruling_of};
 ghost use Rattle.custody_rules.specs.Judged.{tells, recorded_under, is_of_other_kind, RulesRecorded};
 
+use crate::linked::has_failed;
 use custody_machine::Refusal;
 use custody_records::{Part, PartKey, Records};
 use deposit_name::{DepositName, Kind};
@@ -131,7 +132,8 @@ fn is_not_due(records: &Records, name: &DepositName) -> bool
     ensures { result ≡ (has_notice (records_of records.now).notices name.now.tld name.now.day is_receipt
         || (nat_lt 0 name.now.rev && not (has_notice (records_of records.now).notices name.now.tld name.now.day (is_failure_of (name.now.rev - 1))))) }
 {
-    day_has_receipt(records, name) || name.rev > 0 && !revision_before_failed(records, name)
+    day_has_receipt(records, name)
+        || name.rev > 0 && !has_failed(records, &name.tld, name.day, name.rev - 1)
 }
 
 fn day_has_receipt(records: &Records, name: &DepositName) -> bool
@@ -141,17 +143,6 @@ fn day_has_receipt(records: &Records, name: &DepositName) -> bool
         .notices()
         .iter()
         .any(|notice| is_receipt_of(notice, name))
-}
-
-fn revision_before_failed(records: &Records, name: &DepositName) -> bool
-    requires { nat_lt 0 name.now.rev ≡ true }
-    ensures { result ≡ has_notice (records_of records.now).notices name.now.tld name.now.day (is_failure_of (name.now.rev - 1)) }
-{
-    let before = name.rev - 1;
-    records
-        .notices()
-        .iter()
-        .any(|notice| is_failure_of(notice, name, before))
 }
 
 fn revision_has_verdict(records: &Records, name: &DepositName) -> bool
@@ -167,13 +158,6 @@ fn is_receipt_of(notice: &Notice, name: &DepositName) -> bool
     ensures { result ≡ tells name.now is_receipt notice.now }
 {
     is_of_day(notice, name) && matches!(notice.kind, NoticeKind::Receipt { .. })
-}
-
-fn is_failure_of(notice: &Notice, name: &DepositName, rev: u8) -> bool
-    ensures { result ≡ tells name.now (is_failure_of rev) notice.now }
-{
-    is_of_day(notice, name)
-        && matches!(notice.kind, NoticeKind::Failure { rev: of, .. } if of == rev)
 }
 
 fn is_verdict_of(notice: &Notice, name: &DepositName) -> bool

@@ -4,6 +4,7 @@ ghost use Rattle.std.specs.FinMap.{get};
 ghost use Rattle.std.specs.List.{list_all, list_any};
 ghost use Rattle.custody_machine.specs.Machine.{is_failure_of};
 ghost use Rattle.custody_machine.specs.Names.{is_same_text, read_name};
+ghost use Rattle.custody_machine.specs.State.{has_notice};
 ghost use Rattle.custody_machine.specs.Stored.{AreLinked, is_part_of, names_part, revision_of};
 ghost use Rattle.custody_records.specs.Held.{records_of};
 ghost use Rattle.custody_records.specs.Typed.{notice_key, notice_value, part_place, part_value, release_value};
@@ -97,10 +98,16 @@ fn is_due(records: &Records, place: &PartKey) -> bool
     if place.rev == 0 {
         return true;
     }
-    has_failure(records.notices(), &place.tld, place.day, place.rev - 1)
+    has_failed(records, &place.tld, place.day, place.rev - 1)
 }
 
-/// Whether one of the notices tells that the revision has failed.
+/// Whether a notice tells that the revision has failed.
+pub(crate) fn has_failed(records: &Records, tld: &Tld, day: Day, rev: u8) -> bool
+    ensures { result ≡ has_notice (records_of records.now).notices tld.now day (is_failure_of rev) }
+{
+    has_failure(records.notices(), tld, day, rev)
+}
+
 fn has_failure(notices: &[Notice], tld: &Tld, day: Day, rev: u8) -> bool
     ensures { result ≡ list_any (λ n. is_same_text n.tld tld.now && (n.day == day && is_failure_of rev n.kind)) notices.now }
 {

@@ -1,15 +1,14 @@
 -- A database without tables.
-use Rattle.std.proofs.Common.{◌≡◌, ◌⊎◌, inl, inr, false, true, ◌||◌, ◌&&◌, codes, Err, ℕ, List, [], ◌∷◌, None, IsTrue, refl, sym, ap, subst, ◌∙◌}
+use Rattle.std.proofs.Common.{◌≡◌, false, ◌&&◌, codes, ℕ, List, [], ◌∷◌, None, IsTrue, refl, sym, ap, subst, ◌∙◌}
 use Rattle.std.specs.List.{AllZip}
 use Rattle.sqlite.specs.Order.{Row}
 use Rattle.sqlite.specs.Tree.{Trees}
 use Rattle.sqlite.specs.Effect.{Database, IsDatabase}
-use Rattle.sqlite.specs.State.{State, IsUnchanged, IsRolledBack}
+use Rattle.sqlite.specs.State.{State}
 use Rattle.sqlite_catalog.specs.Listing.{IsTableRow}
 use Rattle.custody_store.specs.Schema.{no_schema}
 use Rattle.custody_store.specs.Reading.{rows_in, no_rows, has_table}
-use Rattle.custody_store.specs.Standing.{IsBare, Founds, shown, has_any, has_all}
-use Rattle.custody_records.specs.Rows.{Rows}
+use Rattle.custody_store.specs.Standing.{IsBare, shown, has_all}
 use Rattle.custody_store.specs.Calls.{IsSettled}
 use Rattle.custody_store.proofs.TableLemmas.{named, named_in}
 
@@ -27,12 +26,6 @@ bare_at old new bare settled d is is_open autocommit both =
       ap (λ (x : Database). rows_in x.trees) now,
     )
 
--- a call that changed nothing, or that rolled back
-pub bare_kept : (old new : State) → IsBare old → IsSettled new → IsUnchanged old new ⊎ IsRolledBack old new → IsTrue new.is_open → IsBare new × (rows_in new.now.trees ≡ rows_in old.now.trees)
-bare_kept old new bare settled (inl same) is_open =
-    bare_at old new bare settled old.committed refl is_open (same.0.mode ∙ bare.autocommit) (same.0.now_is ∙ sym bare.committed, same.0.committed_is)
-bare_kept old new bare settled (inr undone) is_open = bare_at old new bare settled old.committed refl is_open undone.autocommit (undone.undone is_open)
-
 -- no table is listed
 unlisted : (trees : Trees) (name : List ℕ) → (objects : List Row) → AllZip IsTableRow objects no_schema.tables → named_in name objects ≡ None
 unlisted trees name [] h = refl
@@ -44,14 +37,6 @@ rows_bare s bare =
     let sound = subst (λ t. IsDatabase (record s.now { schema = t })) bare.schema bare.sound in
     let none = λ (name : List ℕ). named name s.now.trees ∙ unlisted s.now.trees name _ sound.lists.listed.tables in
     rw (none (codes "meta"), none (codes "registry"), none (codes "part"), none (codes "notice"), none (codes "handover"))
-
-pub has_none : (s : State) → IsBare s → has_any (shown s) ≡ false
-has_none s bare =
-    ap (λ t. has_table (codes "meta") t || has_table (codes "registry") t || has_table (codes "part") t || has_table (codes "notice") t || has_table (codes "handover") t) bare.schema
-
--- where a table is there, no call is made
-pub founds_none : {A E : Type 0} (s : State) (after : Rows) (e : E) → has_any (shown s) ≡ true → Founds {A = A} (shown s) (shown s) after (Err e)
-founds_none s after e there = record { trust = λ honest. honest; mode = λ autocommit. autocommit; effect = λ _ bare. absurd (let none = has_none s bare in cc) }
 
 pub not_all : (s : State) → IsBare s → has_all (shown s) ≡ false
 not_all s bare =

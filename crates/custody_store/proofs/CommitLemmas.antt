@@ -105,10 +105,6 @@ module _ (sql : List ℕ) (params : Row) (at : ℕ) (from : Source) (means : IsI
 pub commits_none : {A E : Type 0} (s : State) (after : Rows) (e : E) → Commits {A = A} (shown s) (shown s) after (Err e)
 commits_none s after e = record { trust = λ honest. honest; effect = λ _ ready. record { done = tt; kept = λ _. (ready, refl); left = λ rows h. inl h; ended = ready.autocommit } }
 
--- the same with another answer
-pub commits_ok : {A B E F : Type 0} (old new : Standing) (after : Rows) (x : A) (y : B) → Commits {E = E} old new after (Ok x) → Commits {E = F} old new after (Ok y)
-commits_ok old new after x y p = record { trust = p.trust; effect = λ honest ready. let it = p.effect honest ready in record { done = it.done; kept = tt; left = it.left; ended = it.ended } }
-
 pub commits_err : {A B E F : Type 0} (old new : Standing) (after : Rows) (x : E) (r : Result B F) → IsErr r → Commits {A = A} old new after (Err x) → Commits old new after r
 commits_err old new after x (Ok y) is p = absurd (let e = is in cc)
 commits_err old new after x (Err y) is p = record { trust = p.trust; effect = λ honest ready. let it = p.effect honest ready in record { done = tt; kept = it.kept; left = it.left; ended = it.ended } }

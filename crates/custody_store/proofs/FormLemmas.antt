@@ -1,56 +1,31 @@
 -- What the rows of meta say, and the rows of a table as records of new keys.
-use Rattle.std.proofs.Common.{◌≡◌, ℕ, ◌+◌, ◌<◌, ◌≤◌, ◌&&◌, Bool, true, false, cond, List, [], ◌∷◌, length, map, drop, get_or, Option, Some, None, Ok, Err, Result, refl, sym, ap, ◌∙◌, arith}
-use Rattle.std.specs.Prelude.{option_map, slice_get, OnOk, IsSome}
+use Rattle.std.proofs.Common.{◌≡◌, ℕ, ◌+◌, ◌<◌, ◌≤◌, Bool, true, false, cond, List, [], ◌∷◌, length, map, drop, get_or, Option, Some, None, refl, sym, ap, ◌∙◌, arith}
+use Rattle.std.specs.Prelude.{option_map, slice_get}
 use Rattle.std.specs.Option.{option_and_then}
 use Rattle.std.specs.declared.cmp.Ordering.{Ordering}
-use Rattle.std.specs.FinMap.{FinMap, get, insert}
+use Rattle.std.specs.FinMap.{FinMap}
+use Rattle.std.proofs.Math.Bool.{and-false}
 use Rattle.std.proofs.lemmas.List.{drop_more}
 use Rattle.custody_records.specs.declared.damage.Damage.TheVariants as damage
-use Rattle.custody_records.specs.declared.errors.RowError.{RowError}
 use Rattle.custody_records.specs.declared.meta.Meta.{Meta}
-use Rattle.custody_records.specs.Records.{Records}
 use Rattle.custody_records.specs.Rows.{MetaRow, Rows}
 use Rattle.custody_records.specs.Typed.{meta_of, volume_of}
 use Rattle.custody_records.specs.Form.{natural, number_in, is_number, is_meta, is_known, gather, records_in, in_form_or, OutOfForm, form_after, form_of}
-use Rattle.custody_records.proofs.Gathered.{gather_append, gather_push, gather_unread, gather_twice}
+use Rattle.custody_records.proofs.Gathered.{gather_append}
+use Rattle.custody_records.proofs.ReadLemmas.{some_same}
 use Rattle.custody_records.proofs.MetaLemmas.{volume_of-meta_of}
 
 -- ---- the rows of meta
-
-and_false : (b : Bool) → (b && false) ≡ false
-and_false true = refl
-and_false false = refl
-
-no_value : {X : Type 0} (b : Bool) (x : X) → cond b (Some x) None ≡ None → b ≡ false
-no_value true x e = absurd (let clash = e in cc)
-no_value false x e = refl
 
 value : {X : Type 0} (b : Bool) (x y : X) → cond b (Some x) None ≡ Some y → (b ≡ true) × (x ≡ y)
 value true x y e = (refl, (let same = e in cc))
 value false x y e = absurd (let clash = e in cc)
 
-some_same : {X : Type 0} (x y : X) → ◌≡◌ {A = Option X} (Some x) (Some y) → x ≡ y
-some_same x y e = cc
-
-pub unknown : (metas : List MetaRow) (m : Meta) (rest : Rows) → option_map meta_of (slice_get metas 0) ≡ Some m → is_number 1 m.schema_no ≡ false → form_after metas rest ≡ OutOfForm damage.Schema
-unknown [] m rest first other = absurd (let clash = first in cc)
-unknown (meta ∷ others) m rest first other =
-    let known : is_known meta ≡ false = ap (λ (x : Meta). is_number 1 x.schema_no) (some_same (meta_of meta) m first) ∙ other in rw known refl
-
 pub many : (metas : List MetaRow) (m : Meta) (rest : Rows) → option_map meta_of (slice_get metas 0) ≡ Some m → is_number 1 m.schema_no ≡ true → 1 < length metas → form_after metas rest ≡ OutOfForm damage.Form
 many [] m rest first good more = absurd (let clash = first in cc)
 many (meta ∷ []) m rest first good more = absurd (omega arith)
 many (meta ∷ (other ∷ others)) m rest first good more =
-    let known : is_known meta ≡ true = ap (λ (x : Meta). is_number 1 x.schema_no) (some_same (meta_of meta) m first) ∙ good in rw (known, and_false (is_meta meta)) refl
-
-pub no_volume : (metas : List MetaRow) (m : Meta) (rest : Rows) → option_map meta_of (slice_get metas 0) ≡ Some m → is_number 1 m.schema_no ≡ true → length metas ≤ 1 → volume_of m ≡ None → form_after metas rest ≡ OutOfForm damage.Form
-no_volume [] m rest first good few none = absurd (let clash = first in cc)
-no_volume (meta ∷ (other ∷ others)) m rest first good few none = absurd (omega arith)
-no_volume (meta ∷ []) m rest first good few none =
-    let same = some_same (meta_of meta) m first in
-    let known : is_known meta ≡ true = ap (λ (x : Meta). is_number 1 x.schema_no) same ∙ good in
-    let out : is_meta meta ≡ false = no_value (is_meta meta) (number_in meta.number, natural meta.blocks) (sym (volume_of-meta_of meta) ∙ ap volume_of same ∙ none) in
-    rw (known, out) refl
+    let known : is_known meta ≡ true = ap (λ (x : Meta). is_number 1 x.schema_no) (some_same (meta_of meta) m first) ∙ good in rw (known, and-false (is_meta meta)) refl
 
 pub volume : (metas : List MetaRow) (m : Meta) (v : ℕ × ℕ) (rest : Rows) → option_map meta_of (slice_get metas 0) ≡ Some m → is_number 1 m.schema_no ≡ true → length metas ≤ 1 → volume_of m ≡ Some v
     → form_after metas rest ≡ in_form_or damage.Form (records_in v.0 v.1 rest)
@@ -65,31 +40,6 @@ volume (meta ∷ []) m v rest first good few some =
 pub form_is : (metas : List MetaRow) (rows : Rows) → rows.meta ≡ Some metas → form_of rows ≡ form_after metas rows
 unfolding form_of
 form_is metas rows is = rw is refl
-
--- ---- one row
-
-on_ok : {A E : Type 0} {P Q S : Type 0} (r : Result A E) → (P → Q → S) → OnOk r P → OnOk r Q → OnOk r S
-on_ok (Ok x) f p q = f p q
-on_ok (Err e) f p q = tt
-
-module _ {X K R : Type 0} {order : K → K → Ordering} (read : X → Option (K × R)) (field : Records → FinMap order R) (set : FinMap order R → Records → Records) (old new : Records)
-    (kept : (m : FinMap order R) → field (set m old) ≡ m) (row : X) (key : K) (value : R) (reads : read row ≡ Some (key, value)) where
-  pub one_gathered : {A : Type 0} (r : Result A RowError) → OnOk r (new ≡ set (insert (field old) key value) old) → OnOk r (get (field old) key ≡ None) → OnOk r (gather read (field old) (row ∷ []) ≡ Some (field new))
-  one_gathered r added fresh =
-      on_ok r (λ is none. gather_push read (field old) [] (field old) row key value refl reads none ∙ ap Some (sym (ap field is ∙ kept (insert (field old) key value)))) added fresh
-
-  pub one_others : {A : Type 0} (r : Result A RowError) → OnOk r (new ≡ set (insert (field old) key value) old) → OnOk r (new ≡ set (field new) old)
-  one_others r added = on_ok r (λ is _. is ∙ ap (λ m. set m old) (sym (ap field is ∙ kept (insert (field old) key value)))) added added
-
-  pub one_refused : IsSome (get (field old) key) → gather read (field old) (row ∷ []) ≡ None
-  one_refused there = by (get (field old) key) refl there
-    where
-      by : (o : Option R) → get (field old) key ≡ o → IsSome o → gather read (field old) (row ∷ []) ≡ None
-      by None is some = absurd (let clash = some in cc)
-      by (Some was) is some = gather_twice read (field old) [] (field old) row key value was refl reads is
-
-pub one_unread : {X K R : Type 0} {order : K → K → Ordering} (read : X → Option (K × R)) (m : FinMap order R) (row : X) → read row ≡ None → gather read m (row ∷ []) ≡ None
-one_unread read m row none = gather_unread read m [] m row refl none
 
 -- ---- the rows in turn
 

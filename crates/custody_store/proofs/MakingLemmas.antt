@@ -1,5 +1,5 @@
 -- CREATE TABLE inside a transaction.
-use Rattle.std.proofs.Common.{◌≡◌, ◌⊎◌, inl, inr, ℕ, List, [], ◌∷◌, ◌++◌, false, None, Ok, Err, Result, IsTrue, refl, sym, ap, subst, ◌∙◌}
+use Rattle.std.proofs.Common.{◌≡◌, ℕ, List, [], ◌∷◌, ◌++◌, false, None, Ok, Err, Result, refl, sym, ap, subst, ◌∙◌}
 use Rattle.std.specs.List.{AllByRecursion}
 use Rattle.sqlite.specs.Table.{Table}
 use Rattle.sqlite.specs.Schema.{Schema}
@@ -13,22 +13,17 @@ use Rattle.sqlite.specs.Does.{Tally, lacks_sequence}
 use Rattle.sqlite.specs.State.{State, Writes, ExecutesInside}
 use Rattle.sqlite.proofs.Callers.{command_of, statement_of, runs_as}
 use Rattle.std.proofs.Common.{ℤ, pos, arith}
-use Rattle.std.proofs.lemmas.Bool.{cases_Bool}
 use Rattle.sqlite.specs.declared.types.Value.TheVariants.{Null, Int, Text}
 use Rattle.sqlite.specs.Order.{Row}
-use Rattle.sqlite.specs.Store.{Ghosts}
-use Rattle.sqlite.specs.Held.{Held, state}
 use Rattle.sqlite.specs.Cast.{cast_row}
 use Rattle.sqlite.specs.Command.TheVariants.{Insert}
 use Rattle.sqlite.specs.Edit.{edit_of}
 use Rattle.sqlite.specs.Rowids.TheVariants.{Chosen}
 use Rattle.sqlite.specs.Tree.{put_row}
-use Rattle.sqlite.specs.declared.error.Error.{Error}
 use Rattle.sqlite.specs.Effect.{IsDatabase}
 use Rattle.sqlite.specs.Does.{Does}
-use Rattle.sqlite.specs.State.{KeepsCommit, mode_of}
+use Rattle.sqlite.specs.State.{mode_of}
 use Rattle.sqlite.proofs.Callers.{one_step}
-use Rattle.sqlite.proofs.InsideLemmas.{inside_keeps}
 use Rattle.sqlite_rules.specs.Action.{Writes as EditWrites}
 use Rattle.sqlite_rules.specs.Edit.{with_rowid}
 use Rattle.custody_store.specs.Schema.{record_schema, meta_table}
@@ -37,18 +32,11 @@ use Rattle.custody_store.specs.Reading.{rows_in}
 use Rattle.custody_store.specs.Making.{IsMade}
 use Rattle.custody_store.proofs.StatementLemmas.{insert_meta_text, meta_source, insert_meta_is}
 use Rattle.custody_store.proofs.TableLemmas.{rows_held, held_rows}
-use Rattle.custody_store.proofs.InsertLemmas.{puts}
+use Rattle.custody_store.proofs.InsertLemmas.{went, same_value, puts}
 use Rattle.custody_store.proofs.RowLemmas.{cast_null, cast_int, at_tree}
 use Rattle.sqlite_resolve.specs.declared.compiled.Compiled.{Compiled}
 use Rattle.sqlite_resolve.specs.declared.error.CompileError.{CompileError}
 use Rattle.custody_store.specs.Making.{IsMaking, IsTextOf, MakesOf}
-
-went : {B E R : Type 0} {b : B} {Stops : E → Type 0} → ((stop : E) × Stops stop × (Ok b ≡ Err stop)) ⊎ R → R
-went (inl stopped) = absurd (let e = stopped.2 in cc)
-went (inr on) = on
-
-same_value : {B E : Type 0} {a b : B} → ◌≡◌ {A = Result B E} (Ok a) (Ok b) → a ≡ b
-same_value e = cc
 
 all_push : {X : Type 0} (P : X → Type 0) (xs : List X) (x : X) → AllByRecursion P xs → P x → AllByRecursion P (xs ++ x ∷ [])
 all_push P [] x all h = (h, tt)
@@ -86,13 +74,6 @@ makes sql old new count h schema table first text making =
       sound = w.sound;
       empty = subst (λ (t : Trees). AllByRecursion (λ u. t u.tree ≡ []) (created schema table).tables) (sym trees) (all_push (λ t. one.0.trees t.tree ≡ []) schema.tables _ (still_empty old.now.trees one.0.trees schema.tables others making.empty) fresh);
     }
-
-pub keeps_inside : {S : Type 0} (g : Ghosts S) (old new : Held S) (sql : List ℕ) (params : Row) (r : Result ℕ Error) → (old.in_transaction ≡ false → new ≡ old) → (IsTrue old.in_transaction → ExecutesInside 0 sql params (state g old) (state g new) r)
-    → KeepsCommit (state g old) (state g new)
-keeps_inside g old new sql params r ended runs = elim (cases_Bool old.in_transaction) [
-  | inl inside ↦ inside_keeps (state g old) (state g new) 0 false sql params r (runs inside)
-  | inr outside ↦ subst (λ h. KeepsCommit (state g old) (state g h)) (sym (ended outside)) (record { was_open = λ is_open. is_open; committed = λ _. refl })
-]
 
 -- ---- the row of meta
 

@@ -1,5 +1,5 @@
 -- Calls that only read, one after another.
-use Rattle.std.proofs.Common.{◌≡◌, ◌⊎◌, ◌&&◌, inl, inr, false, true, codes, Ok, Err, Result, OnOk, IsTrue, refl, ap, ◌∙◌}
+use Rattle.std.proofs.Common.{◌≡◌, ◌⊎◌, ◌&&◌, inl, inr, true, codes, Ok, Err, Result, OnOk, IsTrue, refl, ap, ◌∙◌}
 use Rattle.sqlite.specs.State.{State}
 use Rattle.sqlite_schema.specs.Names.{same_name}
 use Rattle.custody_store.specs.Schema.{record_schema}
@@ -37,10 +37,6 @@ selects_then a b c x r p q = record {
   still_open = λ honest ready. q.still_open honest ((p.same (q.trust honest) ready).kept (p.still_open (q.trust honest) ready)).0;
 }
 
--- the tables and their rows after a query that answered
-pub selected : {A E : Type 0} (a b : Standing) (x : A) → Selects {E = E} a b (Ok x) → b.IsHonest → a.IsReady → b.IsReady × (b.rows ≡ a.rows)
-selected a b x p honest ready = (p.same honest ready).kept (p.still_open honest ready)
-
 -- A call that reads, after one that answered.
 pub reads_then : {A B E F : Type 0} (a b c : Standing) (x : A) (r : Result B F) → Reads {E = E} a b (Ok x) → Reads b c r → Reads a c r
 reads_then a b c x r p q = record {
@@ -72,9 +68,6 @@ reads_there old new r q there still p = record {
   still_open = λ honest either. elim either [ inl ready ↦ still (p.still_open honest ready) | inr bare ↦ absurd (there bare) ];
 }
 
-pub reads_failed : {A B E F : Type 0} (old new : State) (e : E) (f : F) → (IsBare old → ⊥) → Selects {A = A} (shown old) (shown new) (Err e) → Reads {A = B} (shown old) (shown new) (Err f)
-reads_failed old new e f there p = reads_there old new (Err e) (Err f) there (λ _. tt) p
-
 pub reads_on : {A B E F : Type 0} (old new : State) (x : A) (q : Result B F) → (IsBare old → ⊥) → Selects {E = E} (shown old) (shown new) (Ok x) → Reads (shown old) (shown new) q
 reads_on old new x q there p = reads_there old new (Ok x) q there (λ is_open. on_ok q is_open) p
 
@@ -95,6 +88,3 @@ has_meta = refl
 
 pub meta_there : (s : State) → IsReady s → has_table (codes "meta") s.now.schema ≡ true
 meta_there s ready = ap (has_table (codes "meta")) ready.tables.schema ∙ has_meta
-
-pub no_meta : (s : State) → IsBare s → has_table (codes "meta") s.now.schema ≡ false
-no_meta s bare = ap (has_table (codes "meta")) bare.schema

@@ -1,5 +1,5 @@
 -- A table is read from its name, and from no other text.
-use Rattle.std.proofs.Common.{◌≡◌, ℕ, List, Bool, true, false, cond, Option, None, Some, IfSome, refl, sym, ap, ◌∙◌}
+use Rattle.std.proofs.Common.{◌≡◌, ℕ, List, Bool, true, false, cond, Option, None, Some, IfSome, refl}
 use Rattle.std.specs.Str.{bytes_eq}
 use Rattle.std.proofs.lemmas.Slice.Eq.{bytes_eq-Decides}
 use Rattle.deposit_name.specs.declared.table.TableName.{TableName}
@@ -17,13 +17,6 @@ table_at-table_text Host = refl
 table_at-table_text HostAddresses = refl
 table_at-table_text Contact = refl
 table_at-table_text Registrar = refl
-
-some_same : (m n : TableName) → Some m ≡ Some n → m ≡ n
-some_same m n e = cc
-
--- tables with one name are one table
-pub table_text-injective : (m n : TableName) → table_text m ≡ table_text n → m ≡ n
-table_text-injective m n e = some_same m n (sym (table_at-table_text m) ∙ ap table_at e ∙ table_at-table_text n)
 
 tested : (b : Bool) (t : List ℕ) (m : TableName) (rest : Option TableName) → (b ≡ true → t ≡ table_text m) → IfSome rest (λ n. t ≡ table_text n) → IfSome (cond b (Some m) rest) (λ n. t ≡ table_text n)
 tested true t m rest is h = is refl

@@ -1,8 +1,8 @@
 -- The records of a text are its only rows.
-use Rattle.std.specs.Prelude.{◌&&◌, Bool, nat_eq, false, true}
+use Rattle.std.specs.Prelude.{nat_eq, false, true}
 use Rattle.std.proofs.Common.{Bor, ◌≡◌, ◌≢◌, ◌++◌, ◌∷◌, ◌∙◌, [], ℕ, List, Option, Some, None, refl, ap, sym, inl, inr, All, append_assoc}
 use Rattle.std.specs.List.{AllByRecursion, starts_with}
-use Rattle.std.proofs.lemmas.Bool.{cases_Bool, eqb-true}
+use Rattle.std.proofs.lemmas.Bool.{and_parts, cases_Bool, eqb-true}
 use Rattle.std.proofs.lemmas.List.Elements.{recursion_from_All}
 use Rattle.csv.specs.Machine.{Read, next_record}
 use Rattle.csv.specs.Reading.{AreRecords, ReadRecord, Reached, default_config, is_bom, source_of, strip_bom, took_first}
@@ -14,15 +14,10 @@ use Rattle.dnrd_csv.specs.Reading.{IsAt}
 use Rattle.dnrd_csv.specs.Text.{IsRow, IsTextOf, byte_order_mark, row_text, table_text}
 use Rattle.dnrd_csv.proofs.SpellingLemmas.{reads_row}
 
-both : (a b : Bool) → (a && b) ≡ true → (a ≡ true) × (b ≡ true)
-both true true e = (refl, refl)
-both true false e = cc e
-both false b e = cc e
-
 mark_found : (a b c : ℕ) (rest : List ℕ) → is_bom a b c ≡ true → starts_with nat_eq (a ∷ b ∷ c ∷ rest) byte_order_mark ≡ true
 mark_found a b c rest e =
-    let last = both _ _ e in
-    let first = both _ _ last.0 in
+    let last = and_parts _ _ e in
+    let first = and_parts _ _ last.0 in
     rw (eqb-true a 0xEF first.0, eqb-true b 0xBB first.1, eqb-true c 0xBF last.1) refl
 
 -- a text that begins with no mark is read as it stands

@@ -1,9 +1,10 @@
 -- How long the text of an envelope in form may be.
-use Rattle.std.proofs.Common.{◌≡◌, ℕ, suc, ◌+◌, ◌*◌, ◌≤◌, ◌<◌, ◌&&◌, nat_le, List, [], ◌∷◌, ◌++◌, length, map, codes, decimal, Option, Some, None, refl, ap, arith, length-append, IsTrue}
+use Rattle.std.proofs.Common.{◌≡◌, ℕ, ◌+◌, ◌*◌, ◌≤◌, ◌<◌, ◌&&◌, nat_le, List, [], ◌∷◌, ◌++◌, length, map, codes, decimal, Option, Some, None, arith, length-append, IsTrue}
 use Rattle.std.specs.Prelude.{IfSome, All}
 use Rattle.std.specs.List.{AllByRecursion, join_with_byte, list_all}
 use Rattle.std.proofs.lemmas.Bool.{and_parts, leb-true}
 use Rattle.std.proofs.lemmas.Fmt.{length-decimal-le}
+use Rattle.std.proofs.lemmas.List.{length-map}
 use Rattle.std.proofs.lemmas.List.Elements.{recursion_from_All}
 use Rattle.hex.specs.Hex.{encode_lower, lower_digits}
 use Rattle.hex.proofs.HexLemmas.{length-encode_with}
@@ -54,15 +55,11 @@ each_short : {X : Type 0} (P : X → Type 0) (text : X → List ℕ) → ((x : X
 each_short P text h [] p = tt
 each_short P text h (x ∷ xs) p = (h x p.0, each_short P text h xs p.1)
 
-length-map : {X : Type 0} (f : X → List ℕ) (xs : List X) → length (map f xs) ≡ length xs
-length-map f [] = refl
-length-map f (x ∷ xs) = ap suc (length-map f xs)
-
 -- a list between two brackets
 list_most : {X : Type 0} (P : X → Type 0) (text : X → List ℕ) → ((x : X) → P x → length (text x) < 128) → (xs : List X) → All P xs
     → length (join_with_byte 44 (map text xs) ++ 93 ∷ []) ≤ 1 + 128 * length xs
 list_most P text h xs p =
-    omega (arith, length-append (join_with_byte 44 (map text xs)) (93 ∷ []), items_most (map text xs) (each_short P text h xs (recursion_from_All P xs p)), length-map text xs)
+    omega (arith, length-append (join_with_byte 44 (map text xs)) (93 ∷ []), items_most (map text xs) (each_short P text h xs (recursion_from_All P xs p)), length-map xs text)
 
 -- ---- the parts of an envelope
 
@@ -95,7 +92,7 @@ count_most c h =
 
 counts_most : (cs : List Count) → All IsCount cs → length (count_text cs) ≤ 2 + 128 * length cs
 counts_most cs h =
-    omega (arith, length-append (join_with_byte 44 (map count_member cs)) (125 ∷ []), items_most (map count_member cs) (each_short IsCount count_member count_most cs (recursion_from_All IsCount cs h)), length-map count_member cs)
+    omega (arith, length-append (join_with_byte 44 (map count_member cs)) (125 ∷ []), items_most (map count_member cs) (each_short IsCount count_member count_most cs (recursion_from_All IsCount cs h)), length-map cs count_member)
 
 uris_most : (us : List (List ℕ)) → All (λ u. IsTrue (is_uri u)) us → length (array_text (map quoted us)) ≤ 2 + 128 * length us
 uris_most us h = omega (arith, list_most (λ u. IsTrue (is_uri u)) quoted (λ u g. omega (arith, length-quoted u, uri_most u g)) us h)

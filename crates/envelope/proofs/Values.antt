@@ -6,7 +6,6 @@ use Rattle.hex.specs.Hex.{encode_lower}
 use Rattle.schedule.specs.Text.{day_text}
 use Rattle.deposit_name.specs.Tables.{table_text}
 use Rattle.json.specs.Print as print
-use Rattle.json.specs.Print.{escape_byte}
 use Rattle.serde_json.specs.Data.{unsigned, Data, number, string, array, object, Members, no_members, member}
 use Rattle.serde_json.specs.View.{items_of}
 use Rattle.serde_json.specs.Written.{compact_text, items_text, members_text}
@@ -202,11 +201,7 @@ chain_no_deletes a c d e f g h i = simp append_assoc
 chain_no_prev : (a b c d f g h i : List ℕ) → 123 ∷ (join_with_byte 44 (a ∷ b ∷ c ∷ d ∷ f ∷ g ∷ h ∷ i ∷ []) ++ 125 ∷ [])
     ≡ (123 ∷ (a ++ (44 ∷ b ++ (44 ∷ c ++ (44 ∷ d ++ []))))) ++ (44 ∷ f ++ (44 ∷ g ++ (44 ∷ h ++ (44 ∷ i ++ 125 ∷ []))))
 chain_no_prev a b c d f g h i =
-    short a b c d f g h i ∙ ap (λ x. (123 ∷ (a ++ (44 ∷ b ++ (44 ∷ c ++ x)))) ++ (44 ∷ f ++ (44 ∷ g ++ (44 ∷ h ++ (44 ∷ i ++ 125 ∷ []))))) (sym (append-nil (44 ∷ d)))
-  where
-    short : (a b c d f g h i : List ℕ) → 123 ∷ (join_with_byte 44 (a ∷ b ∷ c ∷ d ∷ f ∷ g ∷ h ∷ i ∷ []) ++ 125 ∷ [])
-        ≡ (123 ∷ (a ++ (44 ∷ b ++ (44 ∷ c ++ 44 ∷ d)))) ++ (44 ∷ f ++ (44 ∷ g ++ (44 ∷ h ++ (44 ∷ i ++ 125 ∷ []))))
-    short a b c d f g h i = simp append_assoc
+    chain_no_deletes a b c d f g h i ∙ ap (λ x. (123 ∷ (a ++ (44 ∷ b ++ (44 ∷ c ++ x)))) ++ (44 ∷ f ++ (44 ∷ g ++ (44 ∷ h ++ (44 ∷ i ++ 125 ∷ []))))) (sym (append-nil (44 ∷ d)))
 
 chain_neither : (a c d f g h i : List ℕ) → 123 ∷ (join_with_byte 44 (a ∷ c ∷ d ∷ f ∷ g ∷ h ∷ i ∷ []) ++ 125 ∷ [])
     ≡ (123 ∷ (a ++ (44 ∷ c ++ (44 ∷ d ++ [])))) ++ (44 ∷ f ++ (44 ∷ g ++ (44 ∷ h ++ (44 ∷ i ++ 125 ∷ []))))

@@ -32,7 +32,7 @@ fn print_deletes(rt: &HostRuntime, alloc: Global) -> io::Result<()> {
     Ok(())
 }
 
-fn print_envelopes(rt: &HostRuntime, alloc: Global) -> io::Result<()> {
+fn print_spelled(rt: &HostRuntime, alloc: Global) -> io::Result<()> {
     for text in SPELLED {
         match reads_back(alloc, text) {
             Ok(true) => println!(rt; "envelope of {} bytes: read and written", text.len())?,
@@ -40,6 +40,10 @@ fn print_envelopes(rt: &HostRuntime, alloc: Global) -> io::Result<()> {
             Err(fault) => println!(rt; "envelope of {} bytes: {fault}", text.len())?,
         }
     }
+    Ok(())
+}
+
+fn print_edited(rt: &HostRuntime, alloc: Global) -> io::Result<()> {
     for (old, new) in EDITS {
         match reads_edited(alloc, old, new) {
             Ok(_) => println!(rt; "envelope with {new:?} for {old:?}: read")?,
@@ -53,5 +57,6 @@ fn main(rt: HostRuntime) -> io::Result<()> {
     let alloc = rt.alloc();
     print_tables(&rt, alloc)?;
     print_deletes(&rt, alloc)?;
-    print_envelopes(&rt, alloc)
+    print_spelled(&rt, alloc)?;
+    print_edited(&rt, alloc)
 }

@@ -11,7 +11,7 @@ use Rattle.vault_volume.specs.declared.memory.Noted.{Noted}
 use Rattle.vault_volume.specs.declared.memory.Noted.TheVariants.{Answered, Failed, NoRoom}
 use Rattle.vault_volume.proofs.ImageLemmas.{within_written, bytes_inside}
 use Rattle.vault_volume.proofs.ExtentLemmas.{length-bytes_at}
-use Rattle.vault_volume.proofs.Moments.{lt_or_le}
+use Rattle.std.proofs.lemmas.Bool.{cases_lt}
 use Rattle.vault_volume.proofs.MemoryLemmas.{past_all, left_whole, left_part, before_next, opens, kept, settles}
 
 -- where no call has written yet, the image is the same
@@ -145,8 +145,8 @@ module _ (start : List ℕ) (calls : List Call) (opened : List ℕ) (r : ℕ) (b
                   (λ (above : at ≤ i). ⊎_elim
                   (λ (there : i < at + n). bytes_inside c (bytes_at d at n) at fits i above (omega arith) ∙ get_or-take n (drop at d) (i - at) 0 (omega arith) ∙ get_or-drop at d (i - at) 0 ∙ ap (λ (k : ℕ). get_or d k 0) (omega arith))
                   (λ (past : at + n ≤ i). written.above i (omega arith) ∙ other i out (λ here. let high = here.1 in omega arith))
-                  (lt_or_le i (at + n)))
-                  (lt_or_le i at);
+                  (cases_lt i (at + n)))
+                  (cases_lt i at);
             },
             record {
               same_length = sym written.same_length;
@@ -172,8 +172,8 @@ module _ (start : List ℕ) (calls : List Call) (opened : List ℕ) (r : ℕ) (b
                     let before : get_or d i 0 ≡ get_or h.kept i 0 = was.elsewhere i (λ here. out (opened_since r (r + 1) (omega arith) i here)) in
                     ⊎_elim
                     (λ (below : i < at). differs.below i below ∙ before)
-                    (λ (above : at ≤ i). ⊎_elim (λ (there : i < at + n). absurd (out (opened_there i above there))) (λ (past : at + n ≤ i). differs.above i past ∙ before) (lt_or_le i (at + n)))
-                    (lt_or_le i at);
+                    (λ (above : at ≤ i). ⊎_elim (λ (there : i < at + n). absurd (out (opened_there i above there))) (λ (past : at + n ≤ i). differs.above i past ∙ before) (cases_lt i (at + n)))
+                    (cases_lt i at);
               });
             };
       }

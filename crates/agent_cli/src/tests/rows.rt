@@ -184,7 +184,7 @@ fn sevens(alloc: Global, count: usize) -> Result<Vec<u8>, AllocError> {
 }
 
 #[test]
-fn parts_are_refused_by_name_day_and_size(rt: HostRuntime) -> Result<(), Fail> {
+fn parts_are_refused_by_name_and_day(rt: HostRuntime) -> Result<(), Fail> {
     let alloc = rt.alloc();
     let (mut custody, _) = vault_of(alloc, "300")?;
     assert!(rt; register(alloc, &mut custody, "example")?.status == 0);
@@ -220,6 +220,14 @@ fn parts_are_refused_by_name_day_and_size(rt: HostRuntime) -> Result<(), Fail> {
         let refused = put(alloc, &mut custody, name, b"hello", TEN)?;
         assert!(rt; refused.is("", wanted, 1), "{name} {refused:?}");
     }
+    Ok(())
+}
+
+#[test]
+fn parts_are_refused_by_size(rt: HostRuntime) -> Result<(), Fail> {
+    let alloc = rt.alloc();
+    let (mut custody, _) = vault_of(alloc, "300")?;
+    assert!(rt; register(alloc, &mut custody, "example")?.status == 0);
     for count in [0, 1_048_577] {
         let file = sevens(alloc, count)?;
         let refused = put(alloc, &mut custody, NAME0, &file, TEN)?;

@@ -1,14 +1,12 @@
-use Rattle.std.proofs.Common.{◌∙◌, rules, tests, ap, sym}
+use Rattle.std.proofs.Common.{◌∙◌, rules, tests}
 use Rattle.std.proofs.lemmas.Iterator.{YieldsList-from_slice}
 use Rattle.std.proofs.lemmas.Iterator.Search.{any_from_yields_List}
 use Rattle.custody_machine.specs.Machine.{is_verdict_of}
-use Rattle.custody_machine.specs.State.{has_notice}
 use Rattle.custody_rules.specs.Judged.{tells}
-use Rattle.custody_rules.proofs.Notices.{has_notice_row}
+use Rattle.custody_rules.proofs.Notices.{some_notice}
 use Rattle.custody_rules.proofs.judge.revision_has_verdict.Goals as goal
 
 pub returns : goal.returns
 returns c =
     any_from_yields_List (tells c.args.name.now (is_verdict_of c.args.name.now.rev)) _ _ _ c.any.ensures.ran (YieldsList-from_slice c.notices.result.now cc) (λ x b q k. search (rules, tests))
-    ∙ has_notice_row c.notices.result.now c.notices.ensures.rising c.args.name.now _
-    ∙ ap (λ notices. has_notice notices c.args.name.now.tld c.args.name.now.day (is_verdict_of c.args.name.now.rev)) (sym c.notices.ensures.all)
+    ∙ some_notice _ c.notices.result.now c.notices.ensures.all c.notices.ensures.rising c.args.name.now.tld c.args.name.now.day (is_verdict_of c.args.name.now.rev)

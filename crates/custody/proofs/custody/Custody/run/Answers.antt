@@ -1,4 +1,4 @@
-use Rattle.std.proofs.Common.{◌≡◌, ◌≤◌, ◌+◌, [], sym, subst, refl, arith, length, take, rules}
+use Rattle.std.proofs.Common.{◌≤◌, ◌+◌, [], sym, subst, refl, arith, length, take, rules}
 use Rattle.std.proofs.lemmas.List.{take_all}
 use Rattle.custody.specs.Custody.{HasApplied, HasRun, entries_of}
 use Rattle.custody_machine.specs.Plain.{command_of}

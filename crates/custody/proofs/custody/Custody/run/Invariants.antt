@@ -1,4 +1,4 @@
-use Rattle.std.proofs.Common.{◌≡◌, ◌+◌, take, length, vec_len, vec_capacity}
+use Rattle.std.proofs.Common.{◌≡◌, take, length, vec_len, vec_capacity}
 use Rattle.custody.specs.Custody.{HasRun, entries_of}
 use Rattle.custody.proofs.custody.Custody.run.Given as goal
 

@@ -1,4 +1,4 @@
-use Rattle.std.proofs.Common.{refl, sym, ◌∙◌, ap, subst, [], Ok, Err, false}
+use Rattle.std.proofs.Common.{refl, sym, ◌∙◌, ap, subst, [], Err, false}
 use Rattle.vault_volume.specs.Vault.{volume_of, IsFree}
 use Rattle.custody_records.specs.Records.{with_registry}
 use Rattle.custody_machine.specs.Machine.{Register, OfRegistry, MayFail}

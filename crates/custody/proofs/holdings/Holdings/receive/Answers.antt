@@ -1,4 +1,4 @@
-use Rattle.std.proofs.Common.{◌≡◌, true, refl, sym, ap, subst, Ok, Err}
+use Rattle.std.proofs.Common.{true, refl, sym, ap, subst, Ok, Err}
 use Rattle.vault_volume.specs.Vault.{volume_of}
 use Rattle.vault_volume.specs.Extents.{part_bytes}
 use Rattle.custody_machine.specs.Machine.{Receive, MayRefuse}
@@ -10,7 +10,6 @@ use Rattle.custody_machine.specs.Stored.{state_in}
 use Rattle.custody_machine.proofs.Composed.{nothing_in, reads_refused}
 use Rattle.custody.specs.Compared.{comparison_of}
 use Rattle.custody.specs.declared.answers.Refused.TheVariants as refused
-use Rattle.custody.specs.declared.holdings.Holdings.{Holdings}
 use Rattle.custody.specs.Holdings.{recorded, image_of, HasServed}
 use Rattle.custody.proofs.HoldingLemmas.{err_is, since_same, does_nothing}
 use Rattle.custody.proofs.Repeats.{held_in_range, repeat_safe, compared_safe, unread_safe, compared_image, repeat_serves, other_serves, broken_serves, unread_serves}

@@ -1,7 +1,9 @@
-use Rattle.std.proofs.Common.{cond, None, Some, ◌∙◌, sym, ap, rules, SFits, w64, to_z-of_z}
+use Rattle.std.proofs.Common.{◌≡◌, cond, None, Some, true, ◌∙◌, sym, ap, subst, rules, SFits, w64, to_z-of_z}
 use Rattle.std.specs.Prelude.{option_map}
 use Rattle.custody_records.specs.Typed.{notice_entry, notice_row}
-use Rattle.custody_records.specs.Form.{natural, is_within, is_tld}
+use Rattle.deposit_name.specs.Identifiers.{IsTld, is_tld}
+use Rattle.deposit_name.proofs.IdentifierLemmas.{is_tld-IsTld}
+use Rattle.custody_records.specs.Form.{natural, is_within}
 use Rattle.custody_records.proofs.FieldLemmas.{tld_read}
 use Rattle.custody_records.proofs.ReadLemmas.{cond_none, notice_without_tld, notice_without_number}
 use Rattle.custody_records.proofs.notices.NoticeColumns.read.Goals as goal
@@ -19,3 +21,9 @@ returns-in_err-number c =
     let absent = c.in_err-number.ensures ∙ ap (λ z. cond (is_within 1 9_223_372_036_854_775_807 z) (Some (natural z)) None) (to_z-of_z fits) in
     ap (option_map notice_entry) c.from_residual-in_err-number.ensures
     ∙ sym (notice_without_number (notice_row c.args.self.now) (cond_none (is_within 1 9_223_372_036_854_775_807 number) (natural number) absent))
+
+pub returns : goal.returns
+returns c =
+    let text = c.in_ok-tld.ensures.text in
+    let passes : is_tld c.args.self.now.tld.now ≡ true = (is_tld-IsTld c.args.self.now.tld.now).1 (subst IsTld text.0 text.1) in
+    search (rules, passes)

@@ -3,7 +3,7 @@ use Rattle.deposit_name.specs.Identifiers.{IsDepositId}
 use Rattle.desk.specs.declared.notices.NoticeKind.TheVariants.{Failure}
 use Rattle.custody_records.specs.Typed.{notice_row}
 use Rattle.custody_records.specs.Form.{natural, is_within, check_in}
-use Rattle.custody_records.proofs.FieldLemmas.{id_passes}
+use Rattle.deposit_name.proofs.IdentifierLemmas.{is_deposit_id-IsDepositId}
 use Rattle.custody_records.proofs.ReadLemmas.{cond_is, some_same, number_not, failure_in}
 use Rattle.custody_records.proofs.notices.NoticeColumns.read_kind.Goals as goal
 
@@ -19,5 +19,5 @@ returns c =
     let check = sym (c.in_ok-check.ensures ∙ ap (λ z. check_in (natural z)) (to_z-of_z kind_fits)) in
     let same = some_same _ _ within.1 in
     sym (failure_in row c.in_ok-check.check (number_not 20 kind (λ e. c.if-self-eq-ABSENCE.false (ap (of_z w64) e))) (number_not 0 kind (λ e. c.if-self-eq-RECEIPT.false (ap (of_z w64) e)))
-    within.0 (id_passes c.args.self.now.id.now (subst IsDepositId text.0 text.1)) check
+    within.0 ((is_deposit_id-IsDepositId c.args.self.now.id.now).1 (subst IsDepositId text.0 text.1)) check
     ∙ (λ i. Some (Failure (same i) (sym text.0 i) c.in_ok-check.check)))
