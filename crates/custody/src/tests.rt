@@ -1,5 +1,6 @@
 //! Tests over a volume and a database in memory.
 mod bench;
+mod commits;
 mod damaged;
 mod failing;
 mod opening;

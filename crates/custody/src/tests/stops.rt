@@ -1,6 +1,8 @@
 //! A stop before, within and after each call of the volume, and before and after each commit. What was
 //! open at the stop holds any bytes.
-use super::bench::{FILLINGS, Filling, opened, restart};
+use super::bench::{
+    AT_TEN, FILLINGS, Filling, NAME, Wanted, is_answered, keeps_hello, opened, restart,
+};
 use super::script::{STEPS, goes_on_as, plain_after, send};
 use super::{TestDatabase, new_custody};
 use crate::Custody;
@@ -87,6 +89,23 @@ fn keeps_a_step_whole_or_not_at_all(rt: HostRuntime) -> Result<(), Fail> {
                 "after commit {before}"
             );
         }
+    }
+    Ok(())
+}
+
+#[test]
+fn keeps_one_part_that_is_sent_again_after_a_stop(rt: HostRuntime) -> Result<(), Fail> {
+    let alloc = rt.alloc();
+    for filling in FILLINGS {
+        // The bytes of `hello` are synced, and its record is not committed.
+        let (mut volume, _) = left_after(alloc, 2)?;
+        let (_, db) = left_after(alloc, 1)?;
+        restart(alloc, &mut volume, filling)?;
+        let mut custody = opened(alloc, volume, db)?.ok().ok_or("not opened")?;
+        assert_eq!(rt; custody.room(), Ok((7, 7)));
+        assert!(rt; is_answered(alloc, &mut custody, NAME, b"hello", AT_TEN, Wanted::New)?);
+        assert!(rt; keeps_hello(&custody)?);
+        assert_eq!(rt; custody.room(), Ok((6, 7)));
     }
     Ok(())
 }
