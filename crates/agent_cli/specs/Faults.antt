@@ -1,5 +1,5 @@
--- Faults of words: the names of arguments, and exit statuses.
-use Rattle.std.specs.Prelude.{◌≡◌, ◌≢◌, ℕ, List, codes}
+-- Faults of words: the names of arguments, the texts, and exit statuses.
+use Rattle.std.specs.Prelude.{◌≡◌, ◌≢◌, ℕ, List, [], ◌∷◌, ◌++◌, Option, None, Some, codes}
 use Rattle.clap.specs.Words.{kind_of}
 use Rattle.clap.specs.declared.error.ErrorKind.TheVariants.{DisplayHelp, DisplayVersion}
 use Rattle.agent_cli.specs.declared.order.Argument.{Argument}
@@ -17,6 +17,12 @@ argument_text Reference = codes "REF"
 argument_text Ground = codes "GROUND"
 argument_text Number = codes "NUMBER"
 argument_text Now = codes "NOW"
+
+-- the text of a fault with its last line feed, which for words that `clap` does not take is that of `clap`
+abbrev pub fault_text : WordFault → Option (List ℕ)
+fault_text (fault.Words e) = None
+fault_text (fault.Bad a) = Some (codes "bad value for " ++ argument_text a ++ 10 ∷ [])
+fault_text fault.NoMemory = Some (codes "C1 no memory" ++ 10 ∷ [])
 
 -- help is asked for and no mistake; the command has no version to show
 abbrev pub IsStatusOf : WordFault → ℕ → Type 0

@@ -1,6 +1,6 @@
 //! What a command line asks for.
 ghost use Rattle.std.specs.Prelude.{◌≡◌, Some};
-ghost use Rattle.agent_cli.specs.Faults.{IsStatusOf, argument_text};
+ghost use Rattle.agent_cli.specs.Faults.{IsStatusOf, argument_text, fault_text};
 ghost use Rattle.agent_cli.specs.declared.order.WordFault.TheVariants.{NoMemory};
 
 use crate::VolumeNumber;
@@ -90,6 +90,8 @@ impl WordFault {
 }
 
 impl fmt::Display for WordFault {
+    ghost output = { fault_text };
+
     fn fmt<W: fmt::Write>(&self, f: &mut fmt::Formatter<W>) -> fmt::Result {
         match self {
             WordFault::Words(error) => write!(f, "{error}"),
