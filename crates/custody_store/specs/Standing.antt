@@ -55,8 +55,6 @@ pub record Standing : Type 1 where
   pub in_transaction : Bool
   -- a table of this name is there
   pub has_table : List ℕ → Bool
-  -- how often its files have failed
-  pub faults : ℕ
 
 abbrev pub shown : State → Standing
 shown s = record {
@@ -68,7 +66,6 @@ shown s = record {
   is_open = s.is_open;
   in_transaction = s.in_transaction;
   has_table = λ name. has_table name s.now.schema;
-  faults = s.faults;
 }
 
 abbrev pub standing : {S : Type 0} → Ghosts S → Held S → Standing
