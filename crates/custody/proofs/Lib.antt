@@ -3,6 +3,7 @@ pub mod HoldingLemmas
 pub mod KeptPart
 pub mod Opened
 pub mod PartLemmas
+pub mod PurgeLemmas
 pub mod Repeats
 pub mod Room
 pub mod RunLemmas

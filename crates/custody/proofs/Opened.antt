@@ -195,6 +195,12 @@ module _ {A E : Type 0} (old mid new : Standing) (x : A) (reads : Reads {E = E} 
       let all = reads_then old mid later x (Err y) reads from_mid in
       subst (λ s. Reads {A = C} old s (Err z)) (sym at) (record { trust = all.trust; mode = all.mode; same = all.same; bare = all.bare; still_open = λ _ _. tt })
 
+  pub reads_on_late : {B C F G : Type 0} (later end : Standing) (y : B) (z : G) → Reads {E = F} new later (Ok y) → end ≡ later → Reads {A = C} old end (Err z)
+  reads_on_late {C = C} {F = F} later end y z then at =
+      let from_mid = subst (λ s. Reads {E = F} s later (Ok y)) is then in
+      let all = reads_then old mid later x (Ok y) reads from_mid in
+      subst (λ s. Reads {A = C} old s (Err z)) (sym at) (record { trust = all.trust; mode = all.mode; same = all.same; bare = all.bare; still_open = λ _ _. tt })
+
 -- ---- what is kept of the volume and the rows
 
 -- a stop leaves now what it could leave at the start

@@ -10,7 +10,7 @@ use Rattle.hex.specs.Hex.{encode_lower}
 use Rattle.sha2.proofs.Facts256.{length-sha256}
 use Rattle.schedule.specs.Schedule.{IsMoment}
 use Rattle.deposit_name.specs.Name.{Name}
-use Rattle.vault_volume.specs.declared.extent.Extent.{Extent}
+use Rattle.extent_map.specs.declared.extent.Extent.{Extent}
 use Rattle.vault_volume.specs.Extents.{IsExtentOf, block_count, blocks_of}
 use Rattle.vault_volume.specs.Staged.{StagedPart}
 use Rattle.custody_records.specs.Records.{Records, key_of, with_part}

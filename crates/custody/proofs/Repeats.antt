@@ -3,7 +3,7 @@ use Rattle.std.proofs.Common.{◌≡◌, ◌≢◌, ℕ, ◌+◌, List, length, 
 use Rattle.sqlite.specs.Store.{Ghosts}
 use Rattle.vault_volume.specs.declared.errors.ReadError.{ReadError}
 use Rattle.vault_volume.specs.declared.errors.ReadError.TheVariants as read
-use Rattle.vault_volume.specs.declared.extent.Extent.{Extent}
+use Rattle.extent_map.specs.declared.extent.Extent.{Extent}
 use Rattle.vault_volume.specs.declared.volume.Volume as volume
 use Rattle.vault_volume.specs.Disk.{LeavesOnly}
 use Rattle.vault_volume.specs.Extents.{SameFree, part_bytes}

@@ -1,8 +1,7 @@
 -- What a custody holds: its records, and what its volume and its database have and may leave at a stop.
 use Rattle.std.specs.Prelude.{◌≡◌, ◌≢◌, ◌<◌, ℕ, List, true, false, Result, Err}
-use Rattle.std.specs.Coded.{×_prop, le_prop}
 use Rattle.vault_volume.specs.declared.volume.Volume as volume
-use Rattle.vault_volume.specs.Vault.{volume_of, IsFree}
+use Rattle.vault_volume.specs.Vault.{volume_of, IsFree, IsFree-prop}
 use Rattle.sqlite.specs.Store.{Ghosts}
 use Rattle.custody_records.specs.Held.{records_of}
 use Rattle.custody_records.specs.Records.{Records}
@@ -48,7 +47,7 @@ module _ {V S : Type 0} {g : volume.Ghosts V} where
   KeepsOrder h = IsInOrder (recorded h) (g.size (volume_of h.vault)) (failures_of h) (IsFree h.vault)
 
   pub KeepsOrder-prop : (h : Holdings V S g) → IsProp (KeepsOrder h)
-  KeepsOrder-prop h = IsInOrder-prop (recorded h) (g.size (volume_of h.vault)) (failures_of h) (IsFree h.vault) (λ b. ×_prop le_prop le_prop)
+  KeepsOrder-prop h = IsInOrder-prop (recorded h) (g.size (volume_of h.vault)) (failures_of h) (IsFree h.vault) (IsFree-prop h.vault)
 
   -- on a volume that tells its images
   abbrev pub KeepsImage : Holdings V S g → Type 0

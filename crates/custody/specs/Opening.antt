@@ -1,7 +1,7 @@
 -- What an opening and a beginning find.
 use Rattle.std.specs.Prelude.{◌≡◌, ◌⊎◌, ℕ, ◌-◌, List, Option, Some, None, sum_by}
 use Rattle.std.specs.FinMap.{entries}
-use Rattle.vault_volume.specs.declared.extent.Extent.{Extent}
+use Rattle.extent_map.specs.declared.extent.Extent.{Extent}
 use Rattle.vault_volume.specs.Extents.{block_count}
 use Rattle.custody_records.specs.Keys.{PartKey}
 use Rattle.custody_records.specs.Records.{PartRecord, Records}

@@ -3,7 +3,7 @@ use Rattle.std.specs.Prelude.{◌≡◌, ℕ, List, [], ◌∷◌, Option, Some,
 use mathlib.Core.HLevel.{⊥_prop}
 use Rattle.std.specs.Coded.{Coded, Coded-set, code_by, coded×, coded_list, coded_ℕ, coded_bool, ×_prop, Π_prop, Unit-prop, le_prop}
 use mathlib.Core.Path.{refl}
-use Rattle.vault_volume.specs.declared.extent.Extent.{Extent}
+use Rattle.extent_map.specs.declared.extent.Extent.{Extent}
 use Rattle.vault_volume.specs.Extents.{AreApart}
 use Rattle.custody_records.specs.Keys.{PartKey, NoticeKey}
 use Rattle.custody_records.specs.Records.{Records}
@@ -62,7 +62,7 @@ AreWhole-prop records = λ a b i. record {
 }
 
 IsPlaceable-prop : (records : Records) (b : ℕ) → IsProp (IsPlaceable records b)
-IsPlaceable-prop records b = λ x y i. (le_prop x.0 y.0 i, le_prop x.1 y.1 i, λ n is. le_prop (x.2 n is) (y.2 n is) i)
+IsPlaceable-prop records b = λ x y i. (le_prop x.0 y.0 i, le_prop x.1 y.1 i, (Π_prop λ _. ⊥_prop) x.2 y.2 i)
 
 pub IsInOrder-prop : (records : Records) (size failures : ℕ) (free : ℕ → Type 0) → ((b : ℕ) → IsProp (free b)) → IsProp (IsInOrder records size failures free)
 IsInOrder-prop records size failures free each = λ a b i. record {

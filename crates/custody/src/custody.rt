@@ -26,6 +26,7 @@ use crate::opening::{hold, identify, load_whole, may_begin, prepare};
 use crate::{InitError, Refused, Reply};
 use custody_machine::{Command, Fault};
 use custody_records::Records;
+use custody_rules::map_of;
 use custody_store::Store;
 use schedule::Sec;
 use sqlite::{Alter, Connection};
@@ -64,7 +65,7 @@ impl<V: Volume, S: Alter> Custody<V, S> {
             (λ e. e.0 ≡ InitError.Size → ¬ ((2 ≤ V.size volume) × (V.size volume ≤ 262144))) }
         ensures failed { IfErr result (λ e. e.0 ≡ InitError.Fault Fault.VolumeFailed → V.failures volume < V.failures e.1) }
         ensures not_failed { MatchResult result (λ c. failures_of (held_by c) ≡ V.failures volume) (λ e. e.0 ≢ InitError.Fault Fault.VolumeFailed → V.failures e.1 ≡ V.failures volume) }
-        ensures kind { IfErr result (λ e. (fault : why.Fault) → e.0 ≡ InitError.Fault fault → (fault ≡ Fault.VolumeFailed) ⊎ (fault ≡ Fault.StoreFailed)) }
+        ensures kind { IfErr result (λ e. (fault : why.Fault) → e.0 ≡ InitError.Fault fault → (fault ≡ Fault.NoMemory) ⊎ ((fault ≡ Fault.VolumeFailed) ⊎ (fault ≡ Fault.StoreFailed))) }
         // A database with a record is refused, and no other.
         ensures taken { (standing S.Store db).IsReady ⊎ (standing S.Store db).IsBare
             → IfErr result (λ e. (standing S.Store e.2).IsHonest → e.0 ≡ InitError.AlreadyInitialised → ¬ HasNoRecord (standing S.Store db).rows) }
@@ -90,13 +91,16 @@ impl<V: Volume, S: Alter> Custody<V, S> {
         if let Err(error) = may_begin(&mut db, blocks) {
             return Err((error, volume, db));
         }
+        let records = Records::new(alloc, number, blocks);
+        let Ok(map) = map_of(alloc, &records) else {
+            return Err((InitError::Fault(Fault::NoMemory), volume, db));
+        };
         let mut store = Store::over(db);
         if let Err(fault) = prepare(&mut volume, &mut store, number, blocks) {
             return Err((InitError::Fault(fault), volume, store.into_inner()));
         }
-        let records = Records::new(alloc, number, blocks);
         Ok(Custody {
-            holdings: hold(volume, store, records),
+            holdings: hold(volume, store, records, map),
             is_open: true,
         })
     }
@@ -136,10 +140,13 @@ impl<V: Volume, S: Alter> Custody<V, S> {
         };
         let mut store = Store::over(db);
         match load_whole(alloc, &mut store, number, blocks) {
-            Ok(records) => Ok(Custody {
-                holdings: hold(volume, store, records),
-                is_open: true,
-            }),
+            Ok(records) => match map_of(alloc, &records) {
+                Ok(map) => Ok(Custody {
+                    holdings: hold(volume, store, records, map),
+                    is_open: true,
+                }),
+                Err(_) => Err((Fault::NoMemory, volume, store.into_inner())),
+            },
             Err(fault) => Err((fault, volume, store.into_inner())),
         }
     }

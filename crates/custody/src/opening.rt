@@ -17,17 +17,18 @@ ghost use Rattle.custody_machine.specs.Stored.{AreWhole};
 ghost use Rattle.custody_machine.specs.Custody.{MayInitialise};
 ghost use Rattle.custody_machine.specs.declared.answers.Fault as why;
 ghost use Rattle.custody.specs.Holdings.{recorded, KeepsOrder};
+ghost use Rattle.custody_rules.specs.Blocks.{IsMapOf};
 ghost use Rattle.custody.specs.Opening.{HasNoRecord, fault_of};
 
 use crate::InitError;
 use crate::holdings::Holdings;
 use custody_machine::{Damage, Fault};
 use custody_records::{Meta, Records};
-use custody_rules::{damage_in, place_after};
+use custody_rules::damage_in;
 use custody_store::{Store, StoreFault, find_meta};
 use sqlite::{Alter, Connection};
 use std::alloc::Global;
-use vault_volume::{Vault, Volume, read_head, write_head};
+use vault_volume::{ExtentMap, Vault, Volume, read_head, write_head};
 
 /// The first row of meta.
 fn find_record<S: Alter>(db: &mut Connection<S>) -> Result<Option<Meta>, Fault>
@@ -223,10 +224,15 @@ pub fn prepare<V: Volume, S: Alter>(
     }
 }
 
-/// Whole records with their volume and database.
-pub fn hold<V: Volume, S: Alter>(volume: V, store: Store<S>, records: Records) -> Holdings<V, S>
+/// Whole records with their volume and database, and the map of their free blocks.
+pub fn hold<V: Volume, S: Alter>(
+    volume: V,
+    store: Store<S>,
+    records: Records,
+    map: ExtentMap,
+) -> Holdings<V, S>
     requires whole { AreWhole (records_of records) }
-    requires some { 1 ≤ (records_of records).blocks }
+    requires map { IsMapOf (records_of records) map }
     requires size { V.size volume ≡ (records_of records).blocks }
     requires count { V.failures volume < 2 ^ 64 - 1 }
     ensures volume { volume_of result.vault ≡ volume }
@@ -234,9 +240,8 @@ pub fn hold<V: Volume, S: Alter>(volume: V, store: Store<S>, records: Records) -
     ensures records { recorded result ≡ records_of records }
     ensures order { KeepsOrder result }
 {
-    let place = place_after(&records);
     Holdings {
-        vault: Vault::over(volume, place),
+        vault: Vault::over(volume, map),
         store,
         records,
     }

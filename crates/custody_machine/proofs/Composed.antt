@@ -112,7 +112,7 @@ module _ (records : Records) (free : ℕ → Type 0) (i : List ℕ) (good : IsGo
 
 module _ (records : Records) (size failures : ℕ) (free : ℕ → Type 0) (order : IsInOrder records size failures free) where
   pub named_used : (b : ℕ) → IsNamed records b → ¬ free b
-  named_used b named f = let lt = ((order.placeable b).0 f).2 b named in absurd (omega (arith, lt))
+  named_used b named f = ((order.placeable b).0 f).2 named
 
   pub head_used : ¬ free 0
   head_used f = let low = ((order.placeable 0).0 f).0 in absurd (omega (arith, low))
@@ -355,18 +355,14 @@ module _ (records : Records) (i : List ℕ) (whole : AreWhole records) (text byt
       count = count;
     }
       where
-        below : (b : ℕ) → g b → (m : ℕ) → IsNamed records m ⊎ IsInAny staged.extents m → m < b
-        below b f m (inl is) = ((kept_order.placeable b).0 ((p.taken b).0 f).0).2 m is
-        below b f m (inr within) = p.behind b m f within
-
         to : (b : ℕ) → g b → IsPlaceable (recorded_in.with_part records (key_of n) (staged_record n now staged)) b
-        to b f = let was = (kept_order.placeable b).0 ((p.taken b).0 f).0 in (was.0, was.1, λ m is. below b f m (named_then m is))
+        to b f = let was = (kept_order.placeable b).0 ((p.taken b).0 f).0 in (was.0, was.1, λ is. elim (named_then b is) [ inl before ↦ was.2 before | inr within ↦ ((p.taken b).0 f).1 within ])
 
         still : (m : ℕ) → IsNamed records m → IsNamed (recorded_in.with_part records (key_of n) (staged_record n now staged)) m
         still m is = (is.0, is.1, part_still records.parts (key_of n) (staged_record n now staged) empty_place is.0 is.1 is.2, is.3)
 
         from : (b : ℕ) → IsPlaceable (recorded_in.with_part records (key_of n) (staged_record n now staged)) b → g b
-        from b q = (p.taken b).1 ((kept_order.placeable b).1 (q.0, q.1, λ m is. q.2 m (still m is))) (λ within. let lt = q.2 b (key_of n, staged_record n now staged, insert_here part_total records.parts (key_of n) (staged_record n now staged), within) in absurd (omega (arith, lt)))
+        from b q = (p.taken b).1 ((kept_order.placeable b).1 (q.0, q.1, λ is. q.2 (still b is))) (λ within. q.2 (key_of n, staged_record n now staged, insert_here part_total records.parts (key_of n) (staged_record n now staged), within))
 
     module _ (volume : IsVolumeOf records i) (j : List ℕ) (images_then : List ℕ → Type 0) (s : IsSettled i j free images_then bytes staged) where
       -- the state after the command

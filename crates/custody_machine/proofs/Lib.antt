@@ -12,6 +12,7 @@ pub mod Stored
 pub mod Damages
 pub mod Moves
 pub mod Composed
+pub mod Purged
 pub mod Compared
 pub mod PlainMaps
 pub mod PlainSteps

@@ -3,7 +3,7 @@ use Rattle.std.specs.Prelude.{◌≡◌, ◌≢◌, ◌⊎◌, ℕ, ◌-◌, ◌
 use Rattle.std.specs.FinMap.{get}
 use Rattle.sha2.specs.Sha256.{sha256}
 use Rattle.deposit_name.specs.Name.{Name}
-use Rattle.vault_volume.specs.declared.extent.Extent.{Extent}
+use Rattle.extent_map.specs.declared.extent.Extent.{Extent}
 use Rattle.vault_volume.specs.Image.{DiffersOnlyIn}
 use Rattle.vault_volume.specs.Extents.{IsExtentOf, AreApart, IsInAny, IsFreeRun, AllIn, Takes, block_count, blocks_of, part_bytes}
 use Rattle.vault_volume.specs.Staged.{StagedPart}
@@ -22,9 +22,9 @@ use Rattle.custody_machine.specs.Moves.{Place, Serving, Shut, Left, MayLeave, Ma
 
 -- ---- free blocks
 
--- A block that may be placed, as the records have it. Until blocks are used again, it is one behind each that is named.
+-- a block that may be placed, as the records have it: one that no part names, but block 0
 abbrev pub IsPlaceable : Records → ℕ → Type 0
-IsPlaceable records b = (1 ≤ b) × (b < records.blocks) × ((n : ℕ) → IsNamed records n → n < b)
+IsPlaceable records b = (1 ≤ b) × (b < records.blocks) × (¬ IsNamed records b)
 
 -- so many bytes can be placed
 abbrev pub HasRoom : Records → ℕ → Type 0
@@ -70,8 +70,6 @@ pub record IsPlaced (size : ℕ) (was_free is_free : ℕ → Type 0) (bytes : Li
   pub apart : AreApart staged.extents
   pub from_free : AllIn was_free staged.extents
   pub taken : Takes was_free staged.extents is_free
-  -- until blocks are used again: the blocks that are still free lie behind those that were taken
-  pub behind : (b n : ℕ) → is_free b → IsInAny staged.extents n → n < b
 
 -- They hold the bytes, and a stop leaves this image.
 pub record IsSettled (old new : List ℕ) (was_free : ℕ → Type 0) (left : List ℕ → Type 0) (bytes : List ℕ) (staged : StagedPart) : Type 0 where

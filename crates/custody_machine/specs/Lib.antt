@@ -7,6 +7,7 @@ pub mod History
 pub mod Retries
 pub mod MapValues
 pub mod Stored
+pub mod Purge
 pub mod Damage
 pub mod Moves
 pub mod Custody

@@ -8,7 +8,7 @@ use Rattle.deposit_name.specs.declared.faults.NameError.{NameError}
 use Rattle.deposit_name.specs.Name.{Name}
 use Rattle.desk.specs.declared.notices.NoticeKind.{NoticeKind}
 use Rattle.desk.specs.declared.notices.NoticeKind.TheVariants.{Receipt, Failure, Absence}
-use Rattle.vault_volume.specs.declared.extent.Extent.{Extent}
+use Rattle.extent_map.specs.declared.extent.Extent.{Extent}
 use Rattle.vault_volume.specs.Image.{bytes_at}
 use Rattle.vault_volume.specs.Extents.{IsExtentOf, AreApart, IsInAny, block_count, blocks_of, part_bytes}
 use Rattle.vault_volume.specs.Head.{head_of}

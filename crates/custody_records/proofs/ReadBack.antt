@@ -16,7 +16,7 @@ use Rattle.desk.specs.declared.grounds.Ground.{Ground}
 use Rattle.desk.specs.declared.notices.NoticeKind.{NoticeKind}
 use Rattle.desk.specs.declared.notices.NoticeKind.TheVariants.{Receipt, Failure, Absence}
 use Rattle.schedule.specs.Schedule.{IsDay, day_of, year_after}
-use Rattle.vault_volume.specs.declared.extent.Extent.{Extent}
+use Rattle.extent_map.specs.declared.extent.Extent.{Extent}
 use Rattle.custody_records.specs.Keys.{PartKey, NoticeKey}
 use Rattle.custody_records.specs.Records.{PartRecord, Notice, Release}
 use Rattle.custody_records.specs.Form.{is_number, extents_of, extents_in, registry_in, is_part, part_in, notice_kind_in, notice_in, lines_from, lines_in, release_in}

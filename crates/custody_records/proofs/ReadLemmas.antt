@@ -13,7 +13,7 @@ use Rattle.desk.specs.declared.grounds.Ground.{Ground}
 use Rattle.desk.specs.declared.notices.NoticeKind.{NoticeKind}
 use Rattle.desk.specs.declared.notices.NoticeKind.TheVariants.{Receipt, Failure, Absence}
 use Rattle.schedule.specs.Schedule.{day_of, year_after}
-use Rattle.vault_volume.specs.declared.extent.Extent.{Extent}
+use Rattle.extent_map.specs.declared.extent.Extent.{Extent}
 use Rattle.custody_records.specs.Keys.{PartKey, NoticeKey}
 use Rattle.custody_records.specs.Records.{PartRecord, Notice, Release, key_of}
 use Rattle.custody_records.specs.Rows.{PartRow, NoticeRow, HandoverRow}

@@ -4,6 +4,7 @@ pub mod Records
 pub mod Rows
 pub mod Form
 pub mod Written
+pub mod Purge
 pub mod Tables
 pub mod Typed
 pub mod Held

@@ -10,7 +10,7 @@ use Rattle.desk.specs.Checks.{check_number}
 use Rattle.desk.specs.Grounds.{ground_text}
 use Rattle.desk.specs.declared.notices.NoticeKind.{NoticeKind}
 use Rattle.desk.specs.declared.notices.NoticeKind.TheVariants.{Receipt, Failure, Absence}
-use Rattle.vault_volume.specs.declared.extent.Extent.{Extent}
+use Rattle.extent_map.specs.declared.extent.Extent.{Extent}
 use Rattle.custody_records.specs.Keys.{PartKey, NoticeKey}
 use Rattle.custody_records.specs.Records.{PartRecord, Notice, Release}
 use Rattle.custody_records.specs.Rows.{RegistryRow, PartRow, NoticeRow, HandoverRow}

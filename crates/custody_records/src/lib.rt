@@ -11,6 +11,7 @@ mod meta;
 mod names;
 mod notices;
 mod parts;
+mod purge;
 mod records;
 mod registries;
 mod releases;

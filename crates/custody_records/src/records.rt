@@ -1,11 +1,13 @@
 //! The records of a custody in memory.
 ghost use Rattle.std.specs.Prelude.{◌≡◌, true, None, IsSome, IfSome, OnOk, OnErr, IsErrOf, option_map, option_copied};
-ghost use Rattle.std.specs.FinMap.{get};
+ghost use Rattle.std.specs.FinMap.{get, entries};
+ghost use Rattle.custody_records.specs.Purge.{entries_without_due};
 ghost use Rattle.custody_records.specs.Keys.{text_cmp, part_cmp, notice_cmp};
 ghost use Rattle.custody_records.specs.Orders.{text_total, part_total, notice_total};
 ghost use Rattle.custody_records.specs.Tables.{is_rising, table_map};
 ghost use Rattle.custody_records.specs.Typed.{registry_key, registry_value, part_place, part_value, notice_key, notice_value, release_key, release_value};
 
+use crate::purge::drop_due;
 use crate::tables::{Keyed, add, find, insert};
 use crate::{NoticeKey, Part, PartKey, Registry, Release, RowError};
 use deposit_name::{Reference, Tld};
@@ -156,6 +158,14 @@ impl Records {
         ensures { records_of self.new ≡ with_part (records_of self.old) (part_place part) (part_value part) }
     {
         add(&mut self.parts, part);
+    }
+
+    /// Drops the bytes of the parts whose last day of keeping is before today, without taking memory.
+    pub fn drop_due(&mut self, today: Day)
+        ensures parts { entries (records_of self.new).parts ≡ entries_without_due today (entries (records_of self.old).parts) }
+        ensures others { records_of self.new ≡ record (records_of self.old) { parts = (records_of self.new).parts } }
+    {
+        drop_due(&mut self.parts, today);
     }
 
     /// Adds a part, or refuses one that is there.

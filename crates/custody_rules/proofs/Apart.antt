@@ -3,7 +3,7 @@ use Rattle.std.proofs.Common.{◌≡◌, ◌⊎◌, inl, inr, ⊎_elim, ℕ, ◌
 use Rattle.std.proofs.lemmas.Bool.{cases_lt}
 use Rattle.std.proofs.lemmas.List.{take_more, take-append-drop, get_or-replicate, get_or_past, length-replicate}
 use Rattle.vault_volume.specs.Extents.{IsInAny, AreApart}
-use Rattle.vault_volume.specs.declared.extent.Extent.{Extent}
+use Rattle.extent_map.specs.declared.extent.Extent.{Extent}
 use Rattle.custody_rules.specs.Blocks.{IsMarked, AreNew, Marks}
 
 -- ---- the blocks of two lists of extents

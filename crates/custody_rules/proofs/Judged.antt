@@ -11,7 +11,7 @@ use Rattle.schedule.specs.Schedule.{day_of}
 use Rattle.deposit_name.specs.declared.faults.NameError.{NameError}
 use Rattle.deposit_name.specs.Fault.{IsFault}
 use Rattle.deposit_name.specs.Name.{Name}
-use Rattle.vault_volume.specs.declared.extent.Extent.{Extent}
+use Rattle.extent_map.specs.declared.extent.Extent.{Extent}
 use Rattle.vault_volume.specs.Extents.{part_bytes}
 use Rattle.custody_records.specs.declared.parts.Part as typed
 use Rattle.custody_records.specs.Keys.{part_cmp}

@@ -1,5 +1,4 @@
 pub mod Apart
-pub mod Behind
 pub mod Judged
 pub mod LinkLemmas
 pub mod Notices

@@ -6,8 +6,8 @@ use Rattle.std.proofs.lemmas.Bool.{cases_order}
 use Rattle.std.proofs.lemmas.List.{take_more, take-append-drop, flat_map_more}
 use Rattle.std.proofs.lemmas.Grind.{flat_map-append}
 use Rattle.std.proofs.lemmas.List.Elements.{All-nil, All-cons, All-head, All-tail, All-append}
-use Rattle.vault_volume.specs.Extents.{IsExtentOf, IsInAny, AreApart}
-use Rattle.vault_volume.specs.declared.extent.Extent.{Extent}
+use Rattle.vault_volume.specs.Extents.{IsExtentOf, IsInAny, AreApart, IsFreeOf}
+use Rattle.extent_map.specs.declared.extent.Extent.{Extent}
 use Rattle.custody_records.specs.declared.parts.Part.{Part}
 use Rattle.custody_records.specs.Keys.{PartKey, part_cmp}
 use Rattle.custody_records.specs.Orders.{part_total, part_exact}
@@ -18,7 +18,6 @@ use Rattle.custody_machine.specs.Stored.{ForExtents, AreNaming, IsNamed, AreExte
 use Rattle.custody_machine.specs.Custody.{IsPlaceable}
 use Rattle.custody_rules.specs.Blocks.{IsInRange, held, extents_of, all_extents, AreNew, Marks}
 use Rattle.custody_rules.proofs.Apart.{in_left, in_right, in_either, apart_left, apart_right, apart_between, apart_append, new_left, new_append, new_rest, marks_append}
-use Rattle.custody_rules.proofs.Behind.{block_within}
 use Rattle.custody_rules.proofs.Tables.{IsRowOf, row_in_table, table_has_row, keys_differ}
 
 -- ---- the extents that are held, and those that may not be
@@ -175,24 +174,11 @@ module _ (records : Records) (rows : List Part) (all : records.parts ≡ table_m
         (cases_order first.place second.place);
   }
 
-  -- ---- the place behind the last block
+  -- ---- the map of the volume
 
-  module _ (place : ℕ) (behind : (b : ℕ) → IsInAny (all_extents rows) b → b < place) (last : (place ≡ 1) ⊎ IsInAny (all_extents rows) (place - 1)) where
-    pub place_within : AreInRange records → 1 ≤ records.blocks → (1 ≤ place) × (place ≤ records.blocks)
-    place_within range some = ⊎_elim
-        (λ (first : place ≡ 1). (omega arith, omega arith))
-        (λ (there : IsInAny (all_extents rows) (place - 1)).
-        let block = block_within records.blocks (all_extents rows) (each_extent records.blocks rows (in_range_rows range)) (place - 1) there in
-        let low = block.0 in
-        let high = block.1 in
-        (omega arith, omega arith))
-        last
-
-    pub at_least_place : (b : ℕ) → IsPlaceable records b → place ≤ b
-    at_least_place b placeable = ⊎_elim
-        (λ (first : place ≡ 1). let low = placeable.0 in omega arith)
-        (λ (there : IsInAny (all_extents rows) (place - 1)). let before = placeable.2 (place - 1) (rows_named (place - 1) there) in omega arith)
-        last
-
-    pub placeable_from : 1 ≤ place → (b : ℕ) → place ≤ b → b < records.blocks → IsPlaceable records b
-    placeable_from one b from within = (omega arith, within, λ n named. let before = behind n (named_rows n named) in omega arith)
+  -- where just the blocks of all rows are used, just those that may be placed are free
+  pub free_placeable : (free : ℕ → Type 0) → IsFreeOf records.blocks (all_extents rows) free → (b : ℕ) → (free b → IsPlaceable records b) × (IsPlaceable records b → free b)
+  free_placeable free exact b = (
+    λ is. let h = (exact b).0 is in (h.0, h.1, λ named. h.2 (named_rows b named)),
+    λ p. (exact b).1 p.0 p.1 (λ there. p.2 (rows_named b there)),
+  )

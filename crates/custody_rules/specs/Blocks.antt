@@ -2,10 +2,14 @@
 use Rattle.std.specs.Prelude.{◌≡◌, ◌⊎◌, ℕ, List, [], Option, None, Some, Bool, true, false, slice_index_or}
 use Rattle.std.specs.List.{flat_map}
 use Rattle.vault_volume.specs.Extents.{IsInAny, AreApart}
-use Rattle.vault_volume.specs.declared.extent.Extent.{Extent}
+use Rattle.extent_map.specs.declared.extent.Extent.{Extent}
 use Rattle.custody_records.specs.declared.parts.Part.{Part}
 use Rattle.custody_records.specs.Typed.{part_value}
+use Rattle.extent_map.specs.Map.{IsFree, size_of}
+use Rattle.extent_map.specs.declared.map.ExtentMap.{ExtentMap}
+use Rattle.custody_records.specs.Records.{Records}
 use Rattle.custody_machine.specs.Stored.{ForExtents, AreExtents}
+use Rattle.custody_machine.specs.Custody.{IsPlaceable}
 
 -- the extents of a part may hold its bytes, in a volume of so many blocks
 abbrev pub IsInRange : ℕ → Part → Type 0
@@ -37,3 +41,10 @@ pub record AreNew (marks : List Bool) (extents : List Extent) : Type 0 where
 -- the blocks of the extents are marked, and those that were
 abbrev pub Marks : List Bool → List Extent → List Bool → Type 0
 Marks old extents new = (b : ℕ) → (IsMarked new b → IsMarked old b ⊎ IsInAny extents b) × (IsMarked old b ⊎ IsInAny extents b → IsMarked new b)
+
+-- ---- the map of a volume
+
+-- just the blocks that may be placed are free in the map
+pub record IsMapOf (records : Records) (map : ExtentMap) : Type 0 where
+  pub size : size_of map ≡ records.blocks
+  pub free : (b : ℕ) → (IsFree map b → IsPlaceable records b) × (IsPlaceable records b → IsFree map b)

@@ -8,4 +8,4 @@ mod linked;
 mod whole;
 
 pub use judge::{PartRuling, judge_part};
-pub use whole::{damage_in, place_after};
+pub use whole::{damage_in, map_of};

@@ -1,15 +1,17 @@
--- A statement that inserts, alone and outside a transaction, as one change of the rows.
+-- A statement that writes rows, alone and outside a transaction, as one change of the rows.
 use Rattle.std.proofs.Common.{◌≡◌, ◌⊎◌, inl, inr, ℕ, List, None, false, Ok, Err, Result, IsTrue, refl, sym, ap, subst, subst₂, ◌∙◌, append-nil, arith}
 use Rattle.std.specs.Result.{IsErr}
 use Rattle.sqlite.specs.Order.{Row}
+use Rattle.sqlite.specs.Command.{Command}
+use Rattle.sqlite.specs.Command.TheVariants.{Insert, Update, Commit, Release}
 use Rattle.sqlite.specs.Source.{Source}
-use Rattle.sqlite.specs.Command.TheVariants.{Insert}
+use Rattle.sqlite_schema.specs.declared.program.Program.{Program}
 use Rattle.sqlite.specs.Tree.{Trees}
 use Rattle.sqlite.specs.declared.error.Error.{Error}
 use Rattle.sqlite.specs.Effect.{Database, IsDatabase}
 use Rattle.sqlite.specs.Does.{Tally, Does}
 use Rattle.sqlite.specs.Listing.{understood}
-use Rattle.sqlite.specs.State.{State, HasCleanDisk, Survives, Executes, CommitsBy, MayCommit, IsUnchanged, IsRolledBack, Writes, mode_of}
+use Rattle.sqlite.specs.State.{State, HasCleanDisk, Survives, Executes, CommitsBy, MayCommit, IsUnchanged, IsRolledBack, Writes, mode_of, Runs as RunsTo}
 use Rattle.sqlite.proofs.Callers.{IsPlain, command_of, statement_of, runs_as}
 use Rattle.sqlite.proofs.InsideLemmas.{fails_whole}
 use Rattle.custody_store.specs.Schema.{record_schema}
@@ -17,7 +19,7 @@ use Rattle.custody_records.specs.Rows.{Rows}
 use Rattle.custody_store.specs.Reading.{rows_in}
 use Rattle.custody_store.specs.Standing.{Standing, HasTables, IsReady, shown, IsOneCommit, Commits}
 use Rattle.custody_store.specs.Calls.{IsSettled, Runs}
-use Rattle.custody_store.proofs.StatementLemmas.{IsInsertion}
+use Rattle.custody_store.proofs.StatementLemmas.{IsMeaning}
 
 pub ready_at : (s : State) → IsTrue s.is_open → s.in_transaction ≡ false → s.committed ≡ s.now → IsSettled s → HasTables s.now → IsReady s
 ready_at s is_open autocommit committed settled tables = record {
@@ -47,30 +49,45 @@ ended old new autocommit (inr undone) = undone.autocommit
 pub trusts : (old new : State) (P : Trees → Type 0) → Survives old new P → HasCleanDisk new → HasCleanDisk old
 trusts old new P survives clean = omega (arith, clean, survives.clean)
 
+-- a command that writes rows, and ends no transaction
+pub record WritesRows (command : Command) : Type 1 where
+  pub runs : (old new : State) (text : List ℕ) (params : Row) (count : ℕ) → RunsTo old new None command text params count → Writes old new None command text params count
+  pub commits : command ≡ Commit → ⊥
+  pub releases : (name : List ℕ) → command ≡ Release name → ⊥
+
+pub insert_writes : (at : ℕ) (from : Source) → WritesRows (Insert at from)
+insert_writes at from = record { runs = λ old new text params count h. h; commits = λ e. cc; releases = λ name e. cc }
+
+pub update_writes : (at : ℕ) (q : Program) → WritesRows (Update at q)
+update_writes at q = record { runs = λ old new text params count h. h; commits = λ e. cc; releases = λ name e. cc }
+
 -- what the statement would make of the rows
-abbrev pub Makes : State → List ℕ → Row → ℕ → Source → Trees → Type 0
-Makes s sql params at from db =
-    (tally : Tally) × (after : Database) × Does s.step_limit (mode_of s) params s.now (statement_of sql (understood record_schema sql)) None (Insert at from) (Ok (tally, after)) × IsDatabase after × (db ≡ after.trees)
+abbrev pub Makes : State → List ℕ → Row → Command → Trees → Type 0
+Makes s sql params command db =
+    (tally : Tally) × (after : Database) × Does s.step_limit (mode_of s) params s.now (statement_of sql (understood record_schema sql)) None command (Ok (tally, after)) × IsDatabase after × (db ≡ after.trees)
 
 -- the statement makes this change of the rows, and the tables stay as they are made
-abbrev pub Changes : State → List ℕ → Row → ℕ → Source → (Rows → Rows) → Type 0
-Changes s sql params at from change =
-    (tally : Tally) (after : Database) → Does s.step_limit (mode_of s) params s.now (statement_of sql (understood record_schema sql)) None (Insert at from) (Ok (tally, after)) → IsDatabase after
+abbrev pub Changes : State → List ℕ → Row → Command → (Rows → Rows) → Type 0
+Changes s sql params command change =
+    (tally : Tally) (after : Database) → Does s.step_limit (mode_of s) params s.now (statement_of sql (understood record_schema sql)) None command (Ok (tally, after)) → IsDatabase after
     → HasTables after × (rows_in after.trees ≡ change (rows_in s.now.trees))
 
-module _ (sql : List ℕ) (params : Row) (at : ℕ) (from : Source) (means : IsInsertion sql at from) where
-  commits_as : (s : State) (db : Trees) → s.now.schema ≡ record_schema → CommitsBy sql params s db → Makes s sql params at from db
+module _ (sql : List ℕ) (params : Row) (command : Command) (means : IsMeaning sql command) (writes : WritesRows command) where
+  commits_as : (s : State) (db : Trees) → s.now.schema ≡ record_schema → CommitsBy sql params s db → Makes s sql params command db
   unfolding CommitsBy
   commits_as s db has h =
       let known = sym h.1.is ∙ ap (λ t. understood t sql) has in
       let bare = subst IsPlain (sym known) means.plain in
       let may = subst₂ (λ k t. MayCommit s None k t params db) (ap command_of known ∙ means.is) (ap (statement_of sql) known) (rw (bare.0, bare.1, append-nil params) at h.2) in
       elim may [
-        | inl ends ↦ absurd (elim ends.0 [ inl commit ↦ cc | inr release ↦ let e = release.2 in cc ])
-        | inr writes ↦ (writes.1, writes.2, writes.3, writes.4, writes.5)
+        | inl ends ↦ absurd (elim ends.0 [ inl commit ↦ writes.commits commit | inr release ↦ writes.releases release.0 release.2 ])
+        | inr wrote ↦ (wrote.1, wrote.2, wrote.3, wrote.4, wrote.5)
       ]
 
-  module _ (old new : State) (change : Rows → Rows) (effect : IsReady old → Changes old sql params at from change) (settled : IsSettled new) (survives : Survives old new (CommitsBy sql params old)) where
+  pub written : (old new : State) (count : ℕ) → Executes sql params old new (Ok count) → IsReady old → Writes old new None command (statement_of sql (understood record_schema sql)) params count
+  written old new count h ready = writes.runs old new _ params count (runs_as sql params old new record_schema ready.tables.schema command means.is means.plain count h)
+
+  module _ (old new : State) (change : Rows → Rows) (effect : IsReady old → Changes old sql params command change) (settled : IsSettled new) (survives : Survives old new (CommitsBy sql params old)) where
     left : IsReady old → HasCleanDisk new → (rows : Rows) → (shown new).may_leave rows → (shown old).may_leave rows ⊎ (rows ≡ change (rows_in old.now.trees))
     left ready clean rows h = elim (survives.crash clean h.0 h.1) [
       | inl before ↦ inl (h.0, before, h.2)
@@ -79,7 +96,7 @@ module _ (sql : List ℕ) (params : Row) (at : ℕ) (from : Source) (means : IsI
 
     wrote : {A E : Type 0} (x : A) (count : ℕ) → Executes sql params old new (Ok count) → HasCleanDisk new → IsReady old → IsOneCommit {E = E} (shown old) (shown new) (change (rows_in old.now.trees)) (Ok x)
     wrote x count h clean ready =
-        let w : Writes old new None (Insert at from) (statement_of sql (understood record_schema sql)) params count = runs_as sql params old new record_schema ready.tables.schema (Insert at from) means.is means.plain count h in
+        let w = written old new count h ready in
         let made = effect ready w.tally new.now w.changed w.sound in
         let committed : new.committed ≡ new.now = rw ready.autocommit at w.shown.committed_is in
         let autocommit = w.shown.mode ∙ ready.autocommit in
@@ -90,13 +107,13 @@ module _ (sql : List ℕ) (params : Row) (at : ℕ) (from : Source) (means : IsI
         let whole = fails_whole old new false sql params e h in
         record { done = tt; kept = kept old new ready settled whole; left = left ready clean; ended = ended old new ready.autocommit whole }
 
-  -- One statement that inserts is one commit.
-  pub inserts : {A E : Type 0} (old new : State) (change : Rows → Rows) (r : Result A E) → (IsReady old → Changes old sql params at from change) → Runs sql params old new r → Commits (shown old) (shown new) (change (rows_in old.now.trees)) r
-  inserts old new change (Ok x) effect runs = record {
+  -- One statement that writes rows is one commit.
+  pub commits_change : {A E : Type 0} (old new : State) (change : Rows → Rows) (r : Result A E) → (IsReady old → Changes old sql params command change) → Runs sql params old new r → Commits (shown old) (shown new) (change (rows_in old.now.trees)) r
+  commits_change old new change (Ok x) effect runs = record {
     trust = trusts old new _ runs.survives;
     effect = λ clean ready. let ran = runs.ran clean in wrote old new change effect runs.settled runs.survives x ran.0 ran.1 clean ready;
   }
-  inserts old new change (Err x) effect runs = record {
+  commits_change old new change (Err x) effect runs = record {
     trust = trusts old new _ runs.survives;
     effect = λ clean ready. let ran = runs.ran clean in failed old new change effect runs.settled runs.survives x ran.0 ran.1 clean ready;
   }

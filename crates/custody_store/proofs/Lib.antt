@@ -2,8 +2,11 @@ pub mod SchemaLemmas
 pub mod StatementLemmas
 pub mod TableLemmas
 pub mod InsertLemmas
+pub mod EditLemmas
+pub mod UpdateLemmas
 pub mod CommitLemmas
 pub mod RowLemmas
+pub mod DropLemmas
 pub mod BareLemmas
 pub mod SelectLemmas
 pub mod FindLemmas

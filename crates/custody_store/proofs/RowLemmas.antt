@@ -28,7 +28,7 @@ use Rattle.custody_store.specs.Calls.{Runs}
 use Rattle.custody_store.proofs.StatementLemmas.{insert_registry_text, registry_source, insert_registry_is, insert_part_text, part_source, insert_part_is, insert_notice_text, notice_source, insert_notice_is, insert_handover_text, handover_source, insert_handover_is}
 use Rattle.custody_store.proofs.TableLemmas.{rows_held, held_rows}
 use Rattle.custody_store.proofs.InsertLemmas.{puts, put_one, PutsLast, plain_table}
-use Rattle.custody_store.proofs.CommitLemmas.{Changes, inserts}
+use Rattle.custody_store.proofs.CommitLemmas.{Changes, commits_change, insert_writes}
 
 either : (b : Bool) (x : Value) → cond b x x ≡ x
 either true x = refl
@@ -79,7 +79,7 @@ module _ (s : State) (tables : HasTables s.now) (at tree : ℕ) (t : Table) (fro
 abbrev pub registry_columns : RegistryRow → Row
 registry_columns row = Text row.tld ∷ Int row.first_day ∷ []
 
-adds_registry : (s : State) (row : RegistryRow) → HasTables s.now → Changes s insert_registry_text (registry_columns row) 1 registry_source (with_registry_row row)
+adds_registry : (s : State) (row : RegistryRow) → HasTables s.now → Changes s insert_registry_text (registry_columns row) (Insert 1 registry_source) (with_registry_row row)
 adds_registry s row tables tally after does sound =
     let typed : cast_row (at_tree 1 registry_table) (Null ∷ registry_columns row) ≡ Null ∷ registry_columns row = rw (cast_null, cast_int row.first_day) refl in
     let it = puts_row s tables 1 1 registry_table registry_source (registry_columns row) (statement_of insert_registry_text (understood record_schema insert_registry_text)) refl (λ rows is. is.1) tables.ordered.1.0 typed refl tally after does sound in
@@ -94,14 +94,14 @@ adds_registry s row tables tally after does sound =
     )
 
 pub inserts_registry : {A E : Type 0} (old new : State) (row : RegistryRow) (r : Result A E) → Runs insert_registry_text (registry_columns row) old new r → Commits (shown old) (shown new) (with_registry_row row (rows_in old.now.trees)) r
-inserts_registry old new row r = inserts insert_registry_text (registry_columns row) 1 registry_source insert_registry_is old new (with_registry_row row) r (λ ready. adds_registry old row ready.tables)
+inserts_registry old new row r = commits_change insert_registry_text (registry_columns row) (Insert 1 registry_source) insert_registry_is (insert_writes 1 registry_source) old new (with_registry_row row) r (λ ready. adds_registry old row ready.tables)
 
 -- ---- part
 
 abbrev pub part_columns : PartRow → List ℕ → Row
 part_columns row extents = Text row.tld ∷ Int row.day ∷ Int row.rev ∷ Int row.part ∷ Text row.kind ∷ Int row.received ∷ Int row.keep_day ∷ Int row.len ∷ Blob row.sha ∷ Blob extents ∷ []
 
-adds_part : (s : State) (row : PartRow) (extents : List ℕ) → HasTables s.now → row.extents ≡ Some extents → Changes s insert_part_text (part_columns row extents) 2 part_source (with_part_row row)
+adds_part : (s : State) (row : PartRow) (extents : List ℕ) → HasTables s.now → row.extents ≡ Some extents → Changes s insert_part_text (part_columns row extents) (Insert 2 part_source) (with_part_row row)
 adds_part s row extents tables held tally after does sound =
     let typed : cast_row (at_tree 3 part_table) (Null ∷ part_columns row extents) ≡ Null ∷ part_columns row extents = rw (cast_null, cast_int row.day, cast_int row.rev, cast_int row.part, cast_int row.received, cast_int row.keep_day, cast_int row.len) refl in
     let it = puts_row s tables 2 3 part_table part_source (part_columns row extents) (statement_of insert_part_text (understood record_schema insert_part_text)) refl (λ rows is. is.1) tables.ordered.1.1.0 typed refl tally after does sound in
@@ -116,14 +116,14 @@ adds_part s row extents tables held tally after does sound =
     )
 
 pub inserts_part : {A E : Type 0} (old new : State) (row : PartRow) (extents : List ℕ) (r : Result A E) → row.extents ≡ Some extents → Runs insert_part_text (part_columns row extents) old new r → Commits (shown old) (shown new) (with_part_row row (rows_in old.now.trees)) r
-inserts_part old new row extents r held = inserts insert_part_text (part_columns row extents) 2 part_source insert_part_is old new (with_part_row row) r (λ ready. adds_part old row extents ready.tables held)
+inserts_part old new row extents r held = commits_change insert_part_text (part_columns row extents) (Insert 2 part_source) insert_part_is (insert_writes 2 part_source) old new (with_part_row row) r (λ ready. adds_part old row extents ready.tables held)
 
 -- ---- notice
 
 abbrev pub notice_columns : NoticeRow → Row
 notice_columns row = Text row.tld ∷ Int row.number ∷ Int row.kind ∷ Int row.day ∷ Int row.rev ∷ Text row.id ∷ Int row.at ∷ []
 
-adds_notice : (s : State) (row : NoticeRow) → HasTables s.now → Changes s insert_notice_text (notice_columns row) 3 notice_source (with_notice_row row)
+adds_notice : (s : State) (row : NoticeRow) → HasTables s.now → Changes s insert_notice_text (notice_columns row) (Insert 3 notice_source) (with_notice_row row)
 adds_notice s row tables tally after does sound =
     let typed : cast_row (at_tree 5 notice_table) (Null ∷ notice_columns row) ≡ Null ∷ notice_columns row = rw (cast_null, cast_int row.number, cast_int row.kind, cast_int row.day, cast_int row.rev, cast_int row.at) refl in
     let it = puts_row s tables 3 5 notice_table notice_source (notice_columns row) (statement_of insert_notice_text (understood record_schema insert_notice_text)) refl (λ rows is. is.1) tables.ordered.1.1.1.0 typed refl tally after does sound in
@@ -138,14 +138,14 @@ adds_notice s row tables tally after does sound =
     )
 
 pub inserts_notice : {A E : Type 0} (old new : State) (row : NoticeRow) (r : Result A E) → Runs insert_notice_text (notice_columns row) old new r → Commits (shown old) (shown new) (with_notice_row row (rows_in old.now.trees)) r
-inserts_notice old new row r = inserts insert_notice_text (notice_columns row) 3 notice_source insert_notice_is old new (with_notice_row row) r (λ ready. adds_notice old row ready.tables)
+inserts_notice old new row r = commits_change insert_notice_text (notice_columns row) (Insert 3 notice_source) insert_notice_is (insert_writes 3 notice_source) old new (with_notice_row row) r (λ ready. adds_notice old row ready.tables)
 
 -- ---- handover
 
 abbrev pub handover_columns : HandoverRow → Row
 handover_columns row = Text row.reference ∷ Text row.tld ∷ Text row.reason ∷ Int row.at ∷ Text row.names ∷ []
 
-adds_handover : (s : State) (row : HandoverRow) → HasTables s.now → Changes s insert_handover_text (handover_columns row) 4 handover_source (with_handover_row row)
+adds_handover : (s : State) (row : HandoverRow) → HasTables s.now → Changes s insert_handover_text (handover_columns row) (Insert 4 handover_source) (with_handover_row row)
 adds_handover s row tables tally after does sound =
     let typed : cast_row (at_tree 7 handover_table) (Null ∷ handover_columns row) ≡ Null ∷ handover_columns row = rw (cast_null, cast_int row.at) refl in
     let it = puts_row s tables 4 7 handover_table handover_source (handover_columns row) (statement_of insert_handover_text (understood record_schema insert_handover_text)) refl (λ rows is. is.1) tables.ordered.1.1.1.1.0 typed refl tally after does sound in
@@ -160,4 +160,4 @@ adds_handover s row tables tally after does sound =
     )
 
 pub inserts_handover : {A E : Type 0} (old new : State) (row : HandoverRow) (r : Result A E) → Runs insert_handover_text (handover_columns row) old new r → Commits (shown old) (shown new) (with_handover_row row (rows_in old.now.trees)) r
-inserts_handover old new row r = inserts insert_handover_text (handover_columns row) 4 handover_source insert_handover_is old new (with_handover_row row) r (λ ready. adds_handover old row ready.tables)
+inserts_handover old new row r = commits_change insert_handover_text (handover_columns row) (Insert 4 handover_source) insert_handover_is (insert_writes 4 handover_source) old new (with_handover_row row) r (λ ready. adds_handover old row ready.tables)

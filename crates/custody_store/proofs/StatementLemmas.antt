@@ -1,11 +1,16 @@
 -- What the texts of the statements mean over the schema that `create` makes.
 use Rattle.std.proofs.Common.{◌≡◌, List, [], ◌∷◌, ℕ, pos, negsuc, codes, false, None, refl}
 use Rattle.sqlite.specs.declared.types.Value.TheVariants.{Null, Int}
-use Rattle.sqlite.specs.Term.{Term, lit, col}
+use Rattle.sqlite.specs.Term.{Term, lit, col, op1, op2}
 use Rattle.sqlite.specs.Query.{Query, inner, end}
 use Rattle.sqlite.specs.Source.{Source}
 use Rattle.sqlite.specs.Source.TheVariants.{Values}
-use Rattle.sqlite.specs.Command.TheVariants.{Insert, Select}
+use Rattle.sqlite.specs.Command.{Command}
+use Rattle.sqlite.specs.Command.TheVariants.{Insert, Select, Update}
+use Rattle.sqlite_schema.specs.declared.program.Program.{Program}
+use Rattle.sqlite_sql.specs.declared.ops.UnaryOp.TheVariants.{Not}
+use Rattle.sqlite_sql.specs.declared.ops.BinaryOp.TheVariants.{Is, Compare}
+use Rattle.sqlite_sql.specs.declared.ops.CompareOp.TheVariants.{Lt}
 use Rattle.sqlite.specs.Listing.{understood, reads_listing}
 use Rattle.sqlite.specs.Collation.TheVariants.{Binary}
 use Rattle.sqlite_value.specs.Keys.{ascending}
@@ -13,10 +18,14 @@ use Rattle.sqlite_tied.specs.Compute.{everything}
 use Rattle.sqlite.proofs.Callers.{IsPlain, command_of}
 use Rattle.custody_store.specs.Schema.{record_schema}
 
--- a statement that puts rows of this source into the table at this place
-pub record IsInsertion (sql : List ℕ) (at : ℕ) (from : Source) : Type 0 where
-  pub is : command_of (understood record_schema sql) ≡ Insert at from
+-- a statement that is this command
+pub record IsMeaning (sql : List ℕ) (command : Command) : Type 0 where
+  pub is : command_of (understood record_schema sql) ≡ command
   pub plain : IsPlain (understood record_schema sql)
+
+-- a statement that puts rows of this source into the table at this place
+abbrev pub IsInsertion : List ℕ → ℕ → Source → Type 0
+IsInsertion sql at from = IsMeaning sql (Insert at from)
 
 -- these columns of the rows of one table, in the order of the rowids
 abbrev pub in_order : ℕ → List Term → Query
@@ -154,3 +163,34 @@ handover_names = codes "reference" ∷ codes "tld" ∷ codes "ground" ∷ codes 
 pub select_handover_is : IsSelection select_handover_text 7 handover_places handover_names
 unfolding understood everything
 select_handover_is = record { is = refl; plain = (refl, refl); unlisted = refl }
+
+abbrev pub drop_due_text : List ℕ
+drop_due_text = codes "UPDATE part SET extents = NULL WHERE extents IS NOT NULL AND keep_day < ?1"
+
+abbrev pub due_tests : List Term
+due_tests = op1 Not (op2 (Is Binary) (col 1 10) (lit Null)) ∷ op2 (Compare Lt Binary) (col 1 7) (col 0 0) ∷ []
+
+-- the rowid of the row that goes, and then the row that comes
+abbrev pub dropped_places : List Term
+dropped_places = col 1 0 ∷ col 1 0 ∷ col 1 1 ∷ col 1 2 ∷ col 1 3 ∷ col 1 4 ∷ col 1 5 ∷ col 1 6 ∷ col 1 7 ∷ col 1 8 ∷ col 1 9 ∷ lit Null ∷ []
+
+-- what each row of one table that passes the tests shows
+abbrev pub picked : ℕ → List Term → List Term → Query
+picked tree tests project = record {
+  from = inner tree end;
+  filter = tests;
+  group = None;
+  project = project;
+  distinct = false;
+  collations = [];
+  order = [];
+  limit = lit (Int (negsuc 0));
+  offset = lit (Int (pos 0));
+}
+
+abbrev pub due_program : Program
+due_program = record { lets = []; body = picked 3 due_tests dropped_places }
+
+pub drop_due_is : IsMeaning drop_due_text (Update 2 due_program)
+unfolding understood everything
+drop_due_is = record { is = refl; plain = (refl, refl) }

@@ -5,3 +5,4 @@ pub mod Calls
 pub mod Records
 pub mod Making
 pub mod Loaded
+pub mod Dropping

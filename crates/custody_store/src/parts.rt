@@ -2,6 +2,7 @@
 ghost use Rattle.std.specs.Prelude.{◌≡◌, ◌≤◌, [], ◌∷◌, length, None, map, Some, IfOk, IfErr, OnOk, IsErrOf};
 ghost use Rattle.custody_records.specs.Rows.{with_part_row};
 ghost use Rattle.custody_store.specs.Records.{held_row, staged_row};
+ghost use Rattle.custody_store.specs.Dropping.{without_due, count_due};
 ghost use Rattle.custody_records.specs.Form.{gather, part_in};
 ghost use Rattle.custody_records.specs.Held.{records_of};
 ghost use Rattle.custody_records.specs.declared.errors.RowError.TheVariants.{OutOfForm};
@@ -9,13 +10,13 @@ ghost use Rattle.custody_records.specs.Typed.{part_row};
 ghost use Rattle.custody_store.specs.Reading.{answered_part};
 ghost use Rattle.custody_store.specs.Standing.{standing, Commits, Selects};
 
-use crate::calls::{ask, run};
+use crate::calls::{ask, change, run};
 use crate::columns::{bytes_at, bytes_or_null_at, integer_at};
 use crate::faults::StoreFault;
 use crate::values::{blob, day, kept_until, moment, number, small, text};
 use custody_records::{PartColumns, Records, RowError, write_blob};
 use deposit_name::DepositName;
-use schedule::Sec;
+use schedule::{Day, Sec};
 use sqlite::{Alter, Connection, Row};
 use std::alloc::Global;
 use vault_volume::{Extent, Staged};
@@ -69,6 +70,20 @@ pub fn insert_part<S: Alter>(
     let size = write_blob(&extents, &mut blob);
     add_part(db, name, received, len, &digest, &blob[..size])?;
     Ok((extents, len, digest))
+}
+
+/// Drops the bytes of the parts whose last day of keeping is before today, commits it, and answers how
+/// many they were. Their rows stay, each at its place.
+pub fn drop_due<S: Alter>(db: &mut Connection<S>, today: Day) -> Result<u64, StoreFault>
+    ensures commits { Commits (standing S.Store db.old) (standing S.Store db.new) (without_due today (standing S.Store db.old).rows) result }
+    ensures count { (standing S.Store db.new).IsHonest → (standing S.Store db.old).IsReady → IfOk result (λ count. count ≡ count_due today (standing S.Store db.old).rows) }
+    ensures kind { IfErr result (λ e. e ≡ StoreFault.Failed) }
+{
+    change(
+        db,
+        "UPDATE part SET extents = NULL WHERE extents IS NOT NULL AND keep_day < ?1",
+        &[day(today)],
+    )
 }
 
 /// The rows of part, in the order in which they were added.

@@ -6,6 +6,7 @@ ghost use Rattle.custody_records.specs.Held.{records_of};
 ghost use Rattle.custody_records.specs.declared.damage.Damage.{Damage};
 ghost use Rattle.custody_records.specs.declared.damage.Damage.TheVariants as damage;
 ghost use Rattle.custody_records.specs.Written.{digits_of, row_of_registry};
+ghost use Rattle.custody_store.specs.Dropping.{without_due, count_due};
 ghost use Rattle.custody_store.specs.Records.{staged_row, notice_row_of, release_row_of};
 ghost use Rattle.custody_store.specs.Standing.{standing, Commits, Founds, Reads, has_any, has_all};
 
@@ -13,13 +14,13 @@ use crate::create::create;
 use crate::faults::StoreFault;
 use crate::loading::load;
 use crate::notices::add_notice;
-use crate::parts::insert_part;
+use crate::parts::{drop_due, insert_part};
 use crate::registries::add_registry;
 use crate::releases::add_release;
 use custody_records::{Records, Registry, Release, write_number};
 use deposit_name::DepositName;
 use desk::Notice;
-use schedule::Sec;
+use schedule::{Day, Sec};
 use sqlite::{Alter, Connection};
 use std::alloc::Global;
 use std::marker::Model;
@@ -109,6 +110,16 @@ impl<S: Alter> Store<S> {
         ensures kind { IfErr result (λ e. e ≡ StoreFault.Failed) }
     {
         add_release(&mut self.db, alloc, release)
+    }
+
+    /// Drops the bytes of the parts whose last day of keeping is before today, and commits it. It answers
+    /// how many they were. Their records stay.
+    pub fn drop_bytes(&mut self, today: Day) -> Result<u64, StoreFault>
+        ensures commits { Commits (standing S.Store self.old) (standing S.Store self.new) (without_due today (standing S.Store self.old).rows) result }
+        ensures count { (standing S.Store self.new).IsHonest → (standing S.Store self.old).IsReady → IfOk result (λ count. count ≡ count_due today (standing S.Store self.old).rows) }
+        ensures kind { IfErr result (λ e. e ≡ StoreFault.Failed) }
+    {
+        drop_due(&mut self.db, today)
     }
 
     /// The records, where meta has a row. It fails where meta has none.

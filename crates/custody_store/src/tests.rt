@@ -1,4 +1,5 @@
 //! Records that are added are read back, from memory and from a file, and rows out of form are damage.
+mod dropping;
 mod hostile;
 mod staged;
 

@@ -68,12 +68,24 @@ fn keep<V: Volume>(alloc: Global, vault: &mut Vault<V>, bytes: &[u8]) -> bool {
     }
 }
 
+// The map of a volume whose blocks are free from a place on.
+fn map_from(alloc: Global, blocks: u32, place: u32) -> Option<ExtentMap> {
+    if place < 2 {
+        return ExtentMap::from_used(alloc, blocks, &[]).ok();
+    }
+    let used = Extent {
+        start: 1,
+        count: place - 1,
+    };
+    ExtentMap::from_used(alloc, blocks, &[used]).ok()
+}
+
 // Stages the bytes from a block on, and says whether that was done.
 fn keep_from<V: Volume>(alloc: Global, volume: V, place: u32, bytes: &[u8]) -> (V, bool) {
-    if place == 0 || place > volume.size() {
+    let Some(map) = map_from(alloc, volume.size(), place) else {
         return (volume, false);
-    }
-    let mut vault = Vault::over(volume, place);
+    };
+    let mut vault = Vault::over(volume, map);
     let kept = keep(alloc, &mut vault, bytes);
     (vault.into_inner(), kept)
 }
@@ -96,7 +108,10 @@ fn held<V: Volume>(alloc: Global, volume: V) -> (V, Vec<u8>) {
     if volume.size() < 2 || volume.failures() > 9 {
         return (volume, out);
     }
-    let mut vault = Vault::over(volume, 2);
+    let Some(map) = map_from(alloc, volume.size(), 2) else {
+        return (volume, out);
+    };
+    let mut vault = Vault::over(volume, map);
     let _ = vault.read_part(&[extent], 3, &mut out);
     (vault.into_inner(), out)
 }
@@ -172,7 +187,8 @@ fn stage_held(alloc: Global, place: u32) -> Result<(Vault<MemVolume>, Staged), F
     if place == 0 || place > volume.size() || volume.failures() > 9 {
         return Err(Fail::from("no place"));
     }
-    let mut vault = Vault::over(volume, place);
+    let map = map_from(alloc, volume.size(), place).ok_or("a map")?;
+    let mut vault = Vault::over(volume, map);
     let staged = vault.stage(alloc, &HELD)?;
     Ok((vault, staged))
 }
@@ -200,7 +216,8 @@ enum Fate {
 
 fn has_room_after(alloc: Global, fate: Fate) -> Result<bool, Fail> {
     let volume = MemVolume::new(alloc, 4, 12, 6)?;
-    let mut vault = Vault::over(volume, 3);
+    let map = map_from(alloc, volume.size(), 3).ok_or("a map")?;
+    let mut vault = Vault::over(volume, map);
     let staged = vault.stage(alloc, &HELD)?;
     match fate {
         Fate::Cancelled => vault.cancel(staged),

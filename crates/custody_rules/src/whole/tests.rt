@@ -1,5 +1,5 @@
-//! Damage among the records of a volume of 16 blocks, and the place behind what they name.
-use super::{damage_in, place_after};
+//! Damage among the records of a volume of 16 blocks, and the blocks that they leave free.
+use super::{damage_in, map_of};
 use custody_machine::Damage;
 use custody_records::{Part, Records, Registry};
 use deposit_name::{DepositName, Kind, Tld};
@@ -64,13 +64,15 @@ fn with_parts(alloc: Global, parts: &[Lying]) -> Result<Records, Fail> {
     Ok(records)
 }
 
-// The place behind the parts, where the records are whole.
-fn place_behind(alloc: Global, parts: &[Lying]) -> Result<Option<u32>, Fail> {
+// The first free block, and how many are free, where the records are whole.
+fn free_beside(alloc: Global, parts: &[Lying]) -> Result<Option<(u32, u32)>, Fail> {
     let records = with_parts(alloc, parts)?;
-    match damage_in(alloc, &records)? {
-        None if records.blocks() >= 1 => Ok(Some(place_after(&records))),
-        _ => Ok(None),
+    if damage_in(alloc, &records)?.is_some() {
+        return Ok(None);
     }
+    let mut map = map_of(alloc, &records)?;
+    let free = map.free_blocks();
+    Ok(map.place(1).map(|extent| (extent.start, free)))
 }
 
 #[test]
@@ -154,22 +156,22 @@ fn the_first_damage_is_told(rt: HostRuntime) -> Result<(), Fail> {
 }
 
 #[test]
-fn the_place_is_behind_the_last_block(rt: HostRuntime) -> Result<(), Fail> {
-    assert_eq!(rt; place_behind(rt.alloc(), &[])?, Some(1));
-    assert_eq!(rt; place_behind(rt.alloc(), &[(BLOCK, &[(1, 1)])])?, Some(2));
-    // a gap stays one
-    let gap = place_behind(
+fn the_blocks_beside_the_parts_are_free(rt: HostRuntime) -> Result<(), Fail> {
+    assert_eq!(rt; free_beside(rt.alloc(), &[])?, Some((1, 15)));
+    assert_eq!(rt;
+        free_beside(rt.alloc(), &[(BLOCK, &[(1, 1)])])?,
+        Some((2, 14))
+    );
+    // a gap is free
+    let gap = free_beside(
         rt.alloc(),
         &[(2 * BLOCK, &[(1, 2)]), (3 * BLOCK, &[(6, 3)])],
     )?;
-    assert_eq!(rt; gap, Some(9));
-    // the last block is that of an earlier part, and of an earlier extent
-    let early = place_behind(
-        rt.alloc(),
-        &[(4 * BLOCK, &[(6, 3), (4, 1)]), (2 * BLOCK, &[(1, 2)])],
-    )?;
-    assert_eq!(rt; early, Some(9));
-    // a volume that is full to its end
-    assert_eq!(rt; place_behind(rt.alloc(), &[(BLOCK, &[(15, 1)])])?, Some(16));
+    assert_eq!(rt; gap, Some((3, 10)));
+    // a volume that is used to its end
+    assert_eq!(rt;
+        free_beside(rt.alloc(), &[(BLOCK, &[(15, 1)])])?,
+        Some((1, 14))
+    );
     Ok(())
 }

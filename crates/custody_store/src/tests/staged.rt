@@ -7,7 +7,7 @@ use schedule::Sec;
 use sqlite::{Alter, Connection};
 use std::alloc::Global;
 use std::test::Fail;
-use vault_volume::{Extent, MemVolume, Vault, Volume};
+use vault_volume::{Extent, ExtentMap, MemVolume, Vault, Volume};
 
 /// A part that is inserted, and what is to be read back of it.
 #[derive(Clone, Copy)]
@@ -94,7 +94,9 @@ fn staged_parts(rt: HostRuntime) -> Result<(), Fail> {
     let alloc = rt.alloc();
     let mut store = Store::over(Connection::open_in_memory(alloc)?);
     let is_made = store.create(0xab, 8).is_ok() & store.insert_registry(&registry()?).is_ok();
-    let mut vault = Vault::over(MemVolume::new(alloc, 8, 16, 8)?, 1);
+    let volume = MemVolume::new(alloc, 8, 16, 8)?;
+    let map = ExtentMap::from_used(alloc, volume.size(), &[])?;
+    let mut vault = Vault::over(volume, map);
     let short = insert(alloc, &mut store, &mut vault, &SHORT)?;
     let long = insert(alloc, &mut store, &mut vault, &LONG)?;
     assert!(rt; is_made & is_handed_back(&short, &SHORT) & is_handed_back(&long, &LONG));

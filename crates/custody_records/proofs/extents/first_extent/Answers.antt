@@ -1,6 +1,6 @@
 use Rattle.std.proofs.Common.{◌∷◌, List, sym, ◌∙◌, arith}
 use Rattle.std.specs.Prelude.{option_map}
-use Rattle.vault_volume.specs.declared.extent.Extent.{Extent}
+use Rattle.extent_map.specs.declared.extent.Extent.{Extent}
 use Rattle.custody_records.specs.Form.{extents_of}
 use Rattle.custody_records.proofs.ReadLemmas.{drop_range, extents_short, extents_first}
 use Rattle.custody_records.proofs.extents.first_extent.Goals as goal

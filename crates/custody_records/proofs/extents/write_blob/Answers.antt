@@ -1,6 +1,6 @@
 use Rattle.std.proofs.Common.{ℕ, List, ◌++◌, get_or, take, sym, ◌∙◌, ap, arith}
 use Rattle.std.specs.Int.{w32, to_be_bytes}
-use Rattle.vault_volume.specs.declared.extent.Extent.{Extent}
+use Rattle.extent_map.specs.declared.extent.Extent.{Extent}
 use Rattle.custody_records.proofs.ReadBack.{blob_of_more}
 use Rattle.custody_records.proofs.extents.write_blob.Goals as goal
 

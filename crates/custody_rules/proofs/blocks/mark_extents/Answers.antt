@@ -1,5 +1,5 @@
 use Rattle.std.proofs.lemmas.Bool.{iff_false}
-use Rattle.vault_volume.specs.declared.extent.Extent.{Extent}
+use Rattle.extent_map.specs.declared.extent.Extent.{Extent}
 use Rattle.custody_rules.proofs.Apart.{next_is_new, new_more, marks_more}
 use Rattle.custody_rules.proofs.blocks.mark_extents.Goals as goal
 

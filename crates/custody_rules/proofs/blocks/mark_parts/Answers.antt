@@ -2,7 +2,7 @@ use Rattle.std.proofs.Common.{List, length, get_or, sym, ◌∙◌, ap, subst}
 use Rattle.std.specs.Prelude.{All}
 use Rattle.std.proofs.lemmas.Bool.{iff_false}
 use Rattle.vault_volume.specs.Extents.{IsExtentOf}
-use Rattle.vault_volume.specs.declared.extent.Extent.{Extent}
+use Rattle.extent_map.specs.declared.extent.Extent.{Extent}
 use Rattle.custody_rules.specs.Blocks.{AreNew, Marks, extents_of}
 use Rattle.custody_rules.proofs.PartBlocks.{all_of_row, next_row_is_new, new_more_rows, marks_more_rows}
 use Rattle.custody_rules.proofs.blocks.mark_parts.Goals as goal

@@ -1,6 +1,6 @@
 use Rattle.std.proofs.Common.{Some, Vec, Global, ◌∙◌, sym, ap}
 use Rattle.std.specs.Prelude.{option_map}
-use Rattle.vault_volume.specs.declared.extent.Extent.{Extent}
+use Rattle.extent_map.specs.declared.extent.Extent.{Extent}
 use Rattle.custody_rules.proofs.Judged.{refuses_size, refuses_dropped, compares}
 use Rattle.custody_rules.proofs.judge.judge_recorded.Goals as goal
 

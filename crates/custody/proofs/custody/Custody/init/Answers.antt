@@ -74,3 +74,16 @@ returns-clause-begins g c tells bare honest rows image left there =
     begun_left c.args.number c.size-blocks.result (g.V.Volume.image volume) fits room.0 room.1 (c.in_default-prepare.ensures.head tells) long rows image
     (done.0.only rows (subst (λ db. (standing g.S.Store db).may_leave rows) at left) ∙ done.1)
     ((c.in_default-prepare.ensures.settled tells image).0 (subst (λ v. g.V.Volume.left_at v (g.V.Volume.moment v) image) c.hold.ensures.volume there))
+
+pub map_of-requires-clause-range : goal.map_of-requires-clause-range
+map_of-requires-clause-range g c = (subst AreWhole (sym c.new-records.ensures) (new_whole c.args.number c.size-blocks.result)).extents
+
+pub map_of-requires-clause-once : goal.map_of-requires-clause-once
+map_of-requires-clause-once g c = (subst AreWhole (sym c.new-records.ensures) (new_whole c.args.number c.size-blocks.result)).once
+
+pub returns-in_default-map_of-clause-within : goal.returns-in_default-map_of-clause-within
+returns-in_default-map_of-clause-within g c bare rows image left = none_left (state g.S.Store c.args.db) bare rows left
+
+pub returns-in_default-map_of-clause-fails : goal.returns-in_default-map_of-clause-fails
+returns-in_default-map_of-clause-fails g c tells bare honest rows image left _ =
+    inl (none_left (state g.S.Store c.args.db) bare rows (reads_left (standing g.S.Store c.args.db) (standing g.S.Store c.may_begin.new.db) _ c.in_default.ensures.reads honest (inr bare) rows left))

@@ -10,11 +10,11 @@ use Rattle.custody_machine.specs.declared.damage.Damage.TheVariants.{Schema}
 use Rattle.custody_machine.specs.Damage.{NoneBefore, IsFirstDamage}
 use Rattle.custody_machine.specs.Stored.{AreWhole}
 use Rattle.custody.specs.Holdings.{recorded}
-use Rattle.custody.proofs.Opened.{bare_has_none, ready_still, left_now, reads_on_ok, reads_on_err, on_volume}
+use Rattle.custody.proofs.Opened.{bare_has_none, ready_still, left_now, reads_on_ok, reads_on_err, reads_on_late, on_volume}
 use Rattle.custody.proofs.custody.Custody.open.Goals as goal
 
-pub returns-in-Ok-load_whole-clause-records : goal.returns-in-Ok-load_whole-clause-records
-returns-in-Ok-load_whole-clause-records g c tells ready honest =
+pub returns-in-Ok-map_of-clause-records : goal.returns-in-Ok-map_of-clause-records
+returns-in-Ok-map_of-clause-records g c tells ready honest =
     let volume = c.args.volume in
     let clean = subst (λ db. (standing g.S.Store db).IsHonest) c.hold.ensures.store honest in
     let then = c.in-Ok-load_whole.ensures.reads.trust clean in
@@ -33,8 +33,8 @@ returns-in-Ok-load_whole-clause-records g c tells ready honest =
       ap g.V.Volume.image c.hold.ensures.volume ∙ c.in-Ok.ensures.image tells,
     )
 
-pub returns-in-Ok-load_whole-clause-image : goal.returns-in-Ok-load_whole-clause-image
-returns-in-Ok-load_whole-clause-image g c tells one =
+pub returns-in-Ok-map_of-clause-image : goal.returns-in-Ok-map_of-clause-image
+returns-in-Ok-map_of-clause-image g c tells one =
     let volume = c.args.volume in
     let later = c.identify.new.volume in
     let same = c.in-Ok.ensures.image tells in
@@ -46,8 +46,8 @@ returns-in-Ok-load_whole-clause-image g c tells one =
     (g.met.V.Volume.image_length later tells ∙ ap (λ n. 4096 * n) (c.in-Ok.ensures.size ∙ sym c.in-Ok.ensures.blocks ∙ sym of.1 ∙ ap (λ (r : Records). r.blocks) is))
     (λ i left. (one i).0 (left_now g.V.Volume.moment g.V.Volume.left_at volume later _ reads i left) ∙ sym same)
 
-pub returns-in-Ok-load_whole-clause-rows : goal.returns-in-Ok-load_whole-clause-rows
-returns-in-Ok-load_whole-clause-rows g c ready honest =
+pub returns-in-Ok-map_of-clause-rows : goal.returns-in-Ok-map_of-clause-rows
+returns-in-Ok-map_of-clause-rows g c ready honest =
     let at = c.hold.ensures.store in
     let clean = subst (λ db. (standing g.S.Store db).IsHonest) at honest in
     let then = c.in-Ok-load_whole.ensures.reads.trust clean in
@@ -59,8 +59,8 @@ returns-in-Ok-load_whole-clause-rows g c ready honest =
       settled = on.0.only;
     }
 
-pub returns-in-Ok-load_whole-clause-reads : goal.returns-in-Ok-load_whole-clause-reads
-returns-in-Ok-load_whole-clause-reads g c =
+pub returns-in-Ok-map_of-clause-reads : goal.returns-in-Ok-map_of-clause-reads
+returns-in-Ok-map_of-clause-reads g c =
     reads_on_ok (standing g.S.Store c.args.db) (standing g.S.Store c.identify.new.db) (standing g.S.Store c.over-store.result) _ c.in-Ok.ensures.reads (ap (standing g.S.Store) c.over-store.ensures)
     (standing g.S.Store c.load_whole.new.store) (standing g.S.Store c.hold.result.store) _ _ c.in-Ok-load_whole.ensures.reads (ap (standing g.S.Store) c.hold.ensures.store)
 
@@ -69,7 +69,7 @@ returns-in-Err-clause-damaged g c tells either honest damage same = c.in-Err.ens
 
 pub returns-in-Err-load_whole-clause-damaged : goal.returns-in-Err-load_whole-clause-damaged
 returns-in-Err-load_whole-clause-damaged g c tells either honest damage same =
-    let clean = subst (λ db. (standing g.S.Store db).IsHonest) c.into_inner.ensures honest in
+    let clean = subst (λ db. (standing g.S.Store db).IsHonest) c.into_inner-in-Err-load_whole.ensures honest in
     let then = c.in-Err-load_whole.ensures.reads.trust clean in
     let over = ap (standing g.S.Store) c.over-store.ensures in
     let at_start = subst (λ s. s.IsHonest) over then in
@@ -86,10 +86,15 @@ returns-in-Err-load_whole-clause-damaged g c tells either honest damage same =
 pub returns-in-Err-load_whole-clause-reads : goal.returns-in-Err-load_whole-clause-reads
 returns-in-Err-load_whole-clause-reads g c =
     reads_on_err (standing g.S.Store c.args.db) (standing g.S.Store c.identify.new.db) (standing g.S.Store c.over-store.result) _ c.in-Ok.ensures.reads (ap (standing g.S.Store) c.over-store.ensures)
-    (standing g.S.Store c.load_whole.new.store) (standing g.S.Store c.into_inner.result) _ _ c.in-Err-load_whole.ensures.reads (ap (standing g.S.Store) c.into_inner.ensures)
+    (standing g.S.Store c.load_whole.new.store) (standing g.S.Store c.into_inner-in-Err-load_whole.result) _ _ c.in-Err-load_whole.ensures.reads (ap (standing g.S.Store) c.into_inner-in-Err-load_whole.ensures)
 
 pub returns-in-Err-load_whole-clause-first : goal.returns-in-Err-load_whole-clause-first
 returns-in-Err-load_whole-clause-first g c either honest damage same other =
-    let clean = subst (λ db. (standing g.S.Store db).IsHonest) c.into_inner.ensures honest in
+    let clean = subst (λ db. (standing g.S.Store db).IsHonest) c.into_inner-in-Err-load_whole.ensures honest in
     let then = c.in-Err-load_whole.ensures.reads.trust clean in
     c.in-Ok.ensures.row (subst (λ s. s.IsHonest) (ap (standing g.S.Store) c.over-store.ensures) then) either
+
+pub returns-in-Err-map_of-clause-reads : goal.returns-in-Err-map_of-clause-reads
+returns-in-Err-map_of-clause-reads g c =
+    reads_on_late (standing g.S.Store c.args.db) (standing g.S.Store c.identify.new.db) (standing g.S.Store c.over-store.result) _ c.in-Ok.ensures.reads (ap (standing g.S.Store) c.over-store.ensures)
+    (standing g.S.Store c.load_whole.new.store) (standing g.S.Store c.into_inner.result) _ _ c.in-Ok-load_whole.ensures.reads (ap (standing g.S.Store) c.into_inner.ensures)

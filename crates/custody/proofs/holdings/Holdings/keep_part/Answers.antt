@@ -58,7 +58,7 @@ returns-in_default-clause-serves g c = λ tells honest volume store.
     let h = c.in_ok-staged.ensures in
     let staged = c.in_ok-staged.staged in
     let placed : IsPlaced (g.V.Volume.size (volume_of old.vault)) (IsFree old.vault) (IsFree new.vault) c.args.bytes.now staged =
-    record { len = h.part.0; digest = h.part.1; each = h.each; counts = h.counts; apart = h.apart; from_free = h.were_free; taken = h.taken; behind = h.behind } in
+    record { len = h.part.0; digest = h.part.1; each = h.each; counts = h.counts; apart = h.apart; from_free = h.were_free; taken = h.taken } in
     let settled : IsSettled (image_of old) (image_of new) (IsFree old.vault) (left_by new) c.args.bytes.now staged = record { holds = h.bytes tells; elsewhere = h.image tells; settled = λ j w. (h.settled tells j).0 w } in
     kept_in_doubt old new c.args.text.now c.args.bytes.now c.args.now c.args.name.now c.requires.order c.requires.ruled staged placed volume settled g.S.Store store (h.any_moment tells volume.elsewhere)
     (either_form _ _ (recorded old) _ _ store (kept_means old new c.args.text.now c.args.bytes.now c.args.now c.args.name.now c.requires.order c.requires.ruled staged placed c.show_range_of_moment.ensures (stored g.S.Store old).rows store.in_form) c.insert_part.result (c.insert_part.ensures.commits.effect honest store.ready))
@@ -70,7 +70,7 @@ returns-clause-safe g c =
     let h = c.in_ok-staged.ensures in
     let staged = c.in_ok-staged.staged in
     let placed : IsPlaced (g.V.Volume.size (volume_of old.vault)) (IsFree old.vault) (IsFree new.vault) c.args.bytes.now staged =
-    record { len = h.part.0; digest = h.part.1; each = h.each; counts = h.counts; apart = h.apart; from_free = h.were_free; taken = h.taken; behind = h.behind } in
+    record { len = h.part.0; digest = h.part.1; each = h.each; counts = h.counts; apart = h.apart; from_free = h.were_free; taken = h.taken } in
     let handed = c.in-Ok.ensures.handed in
     let same : recorded new ≡ with_part (recorded old) (key_of c.args.name.now) (staged_record c.args.name.now c.args.now staged) = c.add_part.ensures
     ∙ (λ i. with_part (c.reserve_part.ensures.same i) (key_of c.args.name.now) (record { kind = c.args.name.now.kind; received = c.args.now; len = handed.1 i; digest = handed.2 i; extents = Some (handed.0 i) })) in
@@ -83,7 +83,7 @@ returns-clause-serves g c = λ tells honest volume store.
     let h = c.in_ok-staged.ensures in
     let staged = c.in_ok-staged.staged in
     let placed : IsPlaced (g.V.Volume.size (volume_of old.vault)) (IsFree old.vault) (IsFree new.vault) c.args.bytes.now staged =
-    record { len = h.part.0; digest = h.part.1; each = h.each; counts = h.counts; apart = h.apart; from_free = h.were_free; taken = h.taken; behind = h.behind } in
+    record { len = h.part.0; digest = h.part.1; each = h.each; counts = h.counts; apart = h.apart; from_free = h.were_free; taken = h.taken } in
     let settled : IsSettled (image_of old) (image_of new) (IsFree old.vault) (left_by new) c.args.bytes.now staged = record { holds = h.bytes tells; elsewhere = h.image tells; settled = λ j w. (h.settled tells j).0 w } in
     let handed = c.in-Ok.ensures.handed in
     let same : recorded new ≡ with_part (recorded old) (key_of c.args.name.now) (staged_record c.args.name.now c.args.now staged) = c.add_part.ensures
@@ -99,7 +99,7 @@ returns-clause-image g c = λ _ tells volume.
     let h = c.in_ok-staged.ensures in
     let staged = c.in_ok-staged.staged in
     let placed : IsPlaced (g.V.Volume.size (volume_of old.vault)) (IsFree old.vault) (IsFree new.vault) c.args.bytes.now staged =
-    record { len = h.part.0; digest = h.part.1; each = h.each; counts = h.counts; apart = h.apart; from_free = h.were_free; taken = h.taken; behind = h.behind } in
+    record { len = h.part.0; digest = h.part.1; each = h.each; counts = h.counts; apart = h.apart; from_free = h.were_free; taken = h.taken } in
     let settled : IsSettled (image_of old) (image_of new) (IsFree old.vault) (left_by new) c.args.bytes.now staged = record { holds = h.bytes tells; elsewhere = h.image tells; settled = λ j w. (h.settled tells j).0 w } in
     let handed = c.in-Ok.ensures.handed in
     let same : recorded new ≡ with_part (recorded old) (key_of c.args.name.now) (staged_record c.args.name.now c.args.now staged) = c.add_part.ensures
@@ -113,7 +113,7 @@ returns-clause-rows g c = λ _ honest store.
     let h = c.in_ok-staged.ensures in
     let staged = c.in_ok-staged.staged in
     let placed : IsPlaced (g.V.Volume.size (volume_of old.vault)) (IsFree old.vault) (IsFree new.vault) c.args.bytes.now staged =
-    record { len = h.part.0; digest = h.part.1; each = h.each; counts = h.counts; apart = h.apart; from_free = h.were_free; taken = h.taken; behind = h.behind } in
+    record { len = h.part.0; digest = h.part.1; each = h.each; counts = h.counts; apart = h.apart; from_free = h.were_free; taken = h.taken } in
     let handed = c.in-Ok.ensures.handed in
     let same : recorded new ≡ with_part (recorded old) (key_of c.args.name.now) (staged_record c.args.name.now c.args.now staged) = c.add_part.ensures
     ∙ (λ i. with_part (c.reserve_part.ensures.same i) (key_of c.args.name.now) (record { kind = c.args.name.now.kind; received = c.args.now; len = handed.1 i; digest = handed.2 i; extents = Some (handed.0 i) })) in

@@ -1,0 +1,255 @@
+-- What holds of an open custody after the bytes of parts were dropped and their blocks given back.
+use Rattle.std.proofs.Common.{◌≡◌, ◌⊎◌, inl, inr, ⊎_elim, ℕ, suc, ◌+◌, ◌-◌, ◌<◌, ◌≤◌, ◌^◌, ◌&&◌, List, [], ◌∷◌, length, get_or, Option, Some, None, is_some, Bool, true, false, cond, Result, Ok, Err, refl, sym, ◌∙◌, ap, subst, arith}
+use Rattle.std.specs.Prelude.{All}
+use Rattle.std.specs.List.{list_all}
+use Rattle.std.specs.Option.{option_map}
+use Rattle.std.specs.FinMap.{get}
+use Rattle.std.proofs.lemmas.Bool.{cases_Bool, cases_lt}
+use Rattle.deposit_name.specs.declared.kinds.Kind.{Kind}
+use Rattle.deposit_name.specs.declared.faults.NameError.{NameError}
+use Rattle.deposit_name.specs.Name.{Name}
+use Rattle.extent_map.specs.declared.extent.Extent.{Extent}
+use Rattle.sha2.specs.Sha256.{sha256}
+use Rattle.vault_volume.specs.Image.{DiffersOnlyIn}
+use Rattle.vault_volume.specs.Extents.{IsExtentOf, IsIn, IsInAny, AreApart, GivesBack, part_bytes}
+use Rattle.custody_records.specs.Keys.{PartKey, part_cmp}
+use Rattle.custody_records.specs.Records.{PartRecord, Records, key_of}
+use Rattle.custody_records.specs.Rows.{Rows}
+use Rattle.custody_records.specs.Form.{form_of, InForm}
+use Rattle.custody_machine.specs.Names.{is_same_text, read_name}
+use Rattle.custody_machine.specs.State.{State}
+use Rattle.custody_machine.specs.Stored.{ForExtents, AreNaming, IsNamed, AreExtents, AreWhole, is_part_of, names_part, IsGood, IsKeptRecord, KeepsParts, OpensFrom, state_in}
+use Rattle.custody_machine.specs.Custody.{IsPlaceable, IsInOrder, IsOnVolume}
+use Rattle.custody_machine.specs.Purge.{is_due, dropped_if_due, without_due, IsDueBlock}
+use Rattle.custody_machine.proofs.MapValues.{get-map_values}
+use Rattle.custody_machine.proofs.Composed.{opens_later, named_used, head_used}
+
+-- ---- blocks in extents, or not
+
+in_or_not : (e : Extent) (b : ℕ) → IsIn e b ⊎ (IsIn e b → ⊥)
+in_or_not e b = ⊎_elim
+    (λ (below : b < e.start). inr (λ h. let low = h.0 in omega arith))
+    (λ (from : e.start ≤ b). ⊎_elim
+    (λ (here : b < e.start + e.count). inl (from, here))
+    (λ (past : e.start + e.count ≤ b). inr (λ h. let high = h.1 in omega arith))
+    (cases_lt b (e.start + e.count)))
+    (cases_lt b e.start)
+
+in_any_or_not : (es : List Extent) (b : ℕ) → IsInAny es b ⊎ (IsInAny es b → ⊥)
+in_any_or_not [] b = inr (λ none. none)
+in_any_or_not (e ∷ es) b = ⊎_elim
+    (λ (here : IsIn e b). inl (inl here))
+    (λ (out : IsIn e b → ⊥). ⊎_elim
+    (λ (there : IsInAny es b). inl (inr there))
+    (λ (none : IsInAny es b → ⊥). inr (λ h. ⊎_elim out none h))
+    (in_any_or_not es b))
+    (in_or_not e b)
+
+-- a block of extents that lie in a volume lies in it, and is not block 0
+in_volume : (blocks : ℕ) (es : List Extent) (b : ℕ) → All (IsExtentOf blocks) es → IsInAny es b → (1 ≤ b) × (b < blocks)
+in_volume blocks [] b each none = absurd none
+in_volume blocks (e ∷ es) b each (inl here) =
+    let within = each 0 e (omega arith) in
+    let first = within.0 in
+    let last = within.2 in
+    let low = here.0 in
+    let high = here.1 in
+    (omega arith, omega arith)
+in_volume blocks (e ∷ es) b each (inr there) = in_volume blocks es b (λ k d lt. each (suc k) d (omega (arith, lt))) there
+
+-- ---- one part
+
+some_same : {X : Type 0} (x y : X) → Some x ≡ Some y → x ≡ y
+some_same x y e = cc
+
+kind_kept : (today : ℕ) (part : PartRecord) → (dropped_if_due today part).kind ≡ part.kind
+kind_kept today part = elim (is_due today part) as (λ b. (cond b (record part { extents = None }) part).kind ≡ part.kind) [ true ↦ refl | false ↦ refl ]
+
+-- what a part names then it named before, and is not due
+still_names : (today : ℕ) (part : PartRecord) (b : ℕ) → AreNaming (dropped_if_due today part).extents b → (is_due today part ≡ false) × AreNaming part.extents b
+still_names today part b names = by (is_due today part) refl names
+  where
+    by : (d : Bool) → is_due today part ≡ d → AreNaming (cond d (record part { extents = None }) part).extents b → (is_due today part ≡ false) × AreNaming part.extents b
+    by true is none = absurd none
+    by false is names = (is, names)
+
+names_still : (today : ℕ) (part : PartRecord) (b : ℕ) → is_due today part ≡ false → AreNaming part.extents b → AreNaming (dropped_if_due today part).extents b
+names_still today part b not_due names = subst (λ d. AreNaming (cond d (record part { extents = None }) part).extents b) (sym not_due) names
+
+for_kept : (today : ℕ) (part : PartRecord) (P : List Extent → Type 0) → ForExtents part.extents P → ForExtents (dropped_if_due today part).extents P
+for_kept today part P h = elim (is_due today part) as (λ d. ForExtents (cond d (record part { extents = None }) part).extents P) [ true ↦ tt | false ↦ h ]
+
+len_kept : (today : ℕ) (part : PartRecord) → (dropped_if_due today part).len ≡ part.len
+len_kept today part = elim (is_due today part) as (λ b. (cond b (record part { extents = None }) part).len ≡ part.len) [ true ↦ refl | false ↦ refl ]
+
+-- ---- all parts
+
+module _ (today : ℕ) (records : Records) where
+  abbrev then : Records
+  then = without_due today records
+
+  got : (key : PartKey) → get then.parts key ≡ option_map (dropped_if_due today) (get records.parts key)
+  got key = get-map_values part_cmp (dropped_if_due today) records.parts key
+
+  -- each part then is one from before
+  was : (key : PartKey) (part : PartRecord) → get then.parts key ≡ Some part → (old : PartRecord) × (get records.parts key ≡ Some old) × (part ≡ dropped_if_due today old)
+  was key part has = by (get records.parts key) refl (sym (got key) ∙ has)
+    where
+      by : (o : Option PartRecord) → get records.parts key ≡ o → option_map (dropped_if_due today) o ≡ Some part → (old : PartRecord) × (get records.parts key ≡ Some old) × (part ≡ dropped_if_due today old)
+      by None is e = absurd (let clash = e in cc)
+      by (Some old) is e = (old, is, sym (some_same (dropped_if_due today old) part e))
+
+  now : (key : PartKey) (old : PartRecord) → get records.parts key ≡ Some old → get then.parts key ≡ Some (dropped_if_due today old)
+  now key old has = got key ∙ ap (option_map (dropped_if_due today)) has
+
+  kind_same : (kind : Kind) (key : PartKey) → is_part_of kind (get then.parts key) ≡ is_part_of kind (get records.parts key)
+  kind_same kind key = ap (is_part_of kind) (got key) ∙ by (get records.parts key)
+    where
+      by : (o : Option PartRecord) → is_part_of kind (option_map (dropped_if_due today) o) ≡ is_part_of kind o
+      by None = refl
+      by (Some part) = ap (λ k. Rattle.custody_machine.specs.SameValues.is_same_kind k kind) (kind_kept today part)
+
+  some_still : (key : PartKey) → is_some (get then.parts key) ≡ is_some (get records.parts key)
+  some_still key = ap is_some (got key) ∙ by (get records.parts key)
+    where
+      by : (o : Option PartRecord) → is_some (option_map (dropped_if_due today) o) ≡ is_some o
+      by None = refl
+      by (Some part) = refl
+
+  names_same : (tld : List ℕ) (r : Result Name NameError) → names_part then tld r ≡ names_part records tld r
+  names_same tld (Err fault) = refl
+  names_same tld (Ok name) = ap (λ b. is_same_text name.tld tld && b) (kind_same name.kind (key_of name))
+
+  -- the records stay whole
+  pub whole-without_due : AreWhole records → AreWhole then
+  whole-without_due whole = record {
+    extents = λ key part has.
+        let old = was key part has in
+        subst (λ (p : PartRecord). ForExtents p.extents (AreExtents records.blocks p.len)) (sym old.2)
+        (subst (λ n. ForExtents (dropped_if_due today old.0).extents (AreExtents records.blocks n)) (sym (len_kept today old.0))
+        (for_kept today old.0 (AreExtents records.blocks old.0.len) (whole.extents key old.0 old.1)));
+    once = record {
+      within = λ key part has. let old = was key part has in subst (λ (p : PartRecord). ForExtents p.extents AreApart) (sym old.2) (for_kept today old.0 AreApart (whole.once.within key old.0 old.1));
+      between = λ j k p q b has has_too here there.
+          let first = was j p has in
+          let second = was k q has_too in
+          whole.once.between j k first.0 second.0 b first.1 second.1
+          (still_names today first.0 b (subst (λ (r : PartRecord). AreNaming r.extents b) first.2 here)).1
+          (still_names today second.0 b (subst (λ (r : PartRecord). AreNaming r.extents b) second.2 there)).1;
+    };
+    linked = record {
+      part_registry = λ key part has. let old = was key part has in whole.linked.part_registry key old.0 old.1;
+      notice_registry = whole.linked.notice_registry;
+      release_registry = whole.linked.release_registry;
+      released = λ reference release has. (λ i. list_all (λ text. names_same release.tld (read_name text) i) release.names) ∙ whole.linked.released reference release has;
+      series = λ key part has n is.
+          let old = was key part has in
+          kind_same part.kind _ ∙ ap (λ (p : PartRecord). is_part_of p.kind (get records.parts (Rattle.custody_machine.specs.State.at_place key (suc n)))) old.2
+          ∙ ap (λ k. is_part_of k (get records.parts (Rattle.custody_machine.specs.State.at_place key (suc n)))) (kind_kept today old.0) ∙ whole.linked.series key old.0 old.1 n is;
+      numbers = whole.linked.numbers;
+      verdict_parts = λ key notice rev has is. some_still _ ∙ whole.linked.verdict_parts key notice rev has is;
+      one_verdict = whole.linked.one_verdict;
+      due = λ key part has. let old = was key part has in whole.linked.due key old.0 old.1;
+      one_receipt = whole.linked.one_receipt;
+      one_absence = whole.linked.one_absence;
+    };
+  }
+
+  -- ---- free blocks: those that were free, and those of the parts that were due
+
+  named_before : (b : ℕ) → IsNamed then b → IsNamed records b
+  named_before b named =
+      let old = was named.0 named.1 named.2 in
+      (named.0, old.0, old.1, (still_names today old.0 b (subst (λ (p : PartRecord). AreNaming p.extents b) old.2 named.3)).1)
+
+  -- a block of a part that is due is named by no part then
+  due_unnamed : AreWhole records → (b : ℕ) → IsDueBlock today records b → ¬ IsNamed then b
+  due_unnamed whole b due named =
+      let old = was named.0 named.1 named.2 in
+      let kept = still_names today old.0 b (subst (λ (p : PartRecord). AreNaming p.extents b) old.2 named.3) in
+      let one = whole.once.between due.0 named.0 due.1 old.0 b due.2 old.1 due.4 kept.1 in
+      let same : due.1 ≡ old.0 = some_same due.1 old.0 (sym due.2 ∙ ap (get records.parts) one ∙ old.1) in
+      let clash : true ≡ false = sym due.3 ∙ ap (is_due today) same ∙ kept.0 in
+      cc
+
+  due_in_volume : AreWhole records → (b : ℕ) → IsDueBlock today records b → (1 ≤ b) × (b < records.blocks)
+  due_in_volume whole b due = by due.1.extents (whole.extents due.0 due.1 due.2) due.4
+    where
+      by : (o : Option (List Extent)) → ForExtents o (AreExtents records.blocks due.1.len) → AreNaming o b → (1 ≤ b) × (b < records.blocks)
+      by None range none = absurd none
+      by (Some es) range there = in_volume records.blocks es b range.each there
+
+  module _ (size failures : ℕ) (free : ℕ → Type 0) (order : IsInOrder records size failures free) (es : List Extent) (exact : (b : ℕ) → (IsInAny es b → IsDueBlock today records b) × (IsDueBlock today records b → IsInAny es b)) where
+    -- the blocks of the parts that are due are not free
+    pub due_used : (b : ℕ) → IsInAny es b → ¬ free b
+    due_used b there is = let due = (exact b).0 there in ((order.placeable b).0 is).2 (due.0, due.1, due.2, due.4)
+
+    -- what is known in memory goes on, where just these blocks were given back
+    pub purged_in_order : (later : ℕ → Type 0) → GivesBack free es later → IsInOrder then size failures later
+    purged_in_order later gives = record {
+      whole = whole-without_due order.whole;
+      blocks = order.blocks;
+      placeable = λ b. (to b, from b);
+      count = order.count;
+    }
+      where
+        to : (b : ℕ) → later b → IsPlaceable then b
+        to b is = ⊎_elim
+            (λ (before : free b). let p = (order.placeable b).0 before in (p.0, p.1, λ named. p.2 (named_before b named)))
+            (λ (there : IsInAny es b).
+            let due = (exact b).0 there in
+            let in_range = due_in_volume order.whole b due in
+            (in_range.0, in_range.1, due_unnamed order.whole b due))
+            ((gives b).0 is)
+
+        unnamed : (b : ℕ) → IsPlaceable then b → (IsInAny es b → ⊥) → (named : IsNamed records b) (d : Bool) → is_due today named.1 ≡ d → ⊥
+        unnamed b p out named true is = out ((exact b).1 (named.0, named.1, named.2, is, named.3))
+        unnamed b p out named false is = p.2 (named.0, dropped_if_due today named.1, now named.0 named.1 named.2, names_still today named.1 b is named.3)
+
+        from : (b : ℕ) → IsPlaceable then b → later b
+        from b p = ⊎_elim
+            (λ (there : IsInAny es b). (gives b).1 (inr there))
+            (λ (out : IsInAny es b → ⊥). (gives b).1 (inl ((order.placeable b).1 (p.0, p.1, λ named. unnamed b p out named (is_due today named.1) refl))))
+            (in_any_or_not es b)
+
+-- ---- what a stop leaves of it
+
+is_kept : (today : ℕ) (part : PartRecord) → IsKeptRecord part (dropped_if_due today part)
+is_kept today part = elim (is_due today part) as (λ d. IsKeptRecord part (cond d (record part { extents = None }) part)) [ true ↦ inr refl | false ↦ inl refl ]
+
+-- a part that is held then was held before, as it is
+still_held : (today : ℕ) (part : PartRecord) (extents : List Extent) → (dropped_if_due today part).extents ≡ Some extents → dropped_if_due today part ≡ part
+still_held today part extents held = by (is_due today part) refl held
+  where
+    by : (d : Bool) → is_due today part ≡ d → (cond d (record part { extents = None }) part).extents ≡ Some extents → dropped_if_due today part ≡ part
+    by true is e = absurd (let clash = e in cc)
+    by false is e = ap (λ d. cond d (record part { extents = None }) part) is
+
+-- no part's record is lost or changed but by dropping its bytes
+pub keeps-without_due : (today : ℕ) (records : Records) (image : List ℕ) → KeepsParts records image (without_due today records) image
+keeps-without_due today records image = record {
+  kept = λ key part at. (dropped_if_due today part, now today records key part at, is_kept today part);
+  digests = λ key has part extents at held.
+      let old = was today records key part at in
+      let same : part ≡ old.0 = old.2 ∙ still_held today old.0 extents (ap (λ (p : PartRecord). p.extents) (sym old.2) ∙ held) in
+      subst (λ (p : PartRecord). sha256 (part_bytes image extents p.len) ≡ p.digest) (sym same) (has old.0 extents old.1 (ap (λ (p : PartRecord). p.extents) (sym same) ∙ held));
+}
+
+module _ (today : ℕ) (records : Records) (image : List ℕ) (good : IsGood records image) (size failures : ℕ) (free : ℕ → Type 0) (order : IsInOrder records size failures free) where
+  good_then : IsGood (without_due today records) image
+  good_then = record { whole = whole-without_due today records order.whole; volume = record { head = good.volume.head; size = good.volume.size } }
+
+  -- Rows of after the commit, with an image that differs in blocks that were free before it alone, open as the records after it.
+  pub purge_opens : (P : State → Type 0) (r : Rows) (j : List ℕ) → form_of r ≡ InForm (without_due today records) → DiffersOnlyIn free image j → P (state_in (without_due today records) image) → OpensFrom records image P r j
+  purge_opens P r j is differs p =
+      opens_later (without_due today records) free image good_then (λ b named. named_used records size failures free order b (named_before today records b named)) (head_used records size failures free order)
+      records image P r j (keeps-without_due today records image) is differs p
+
+  -- where blocks are given back, a stop leaves all but the blocks that are free then as they are read
+  pub purged_image : (left : List ℕ → Type 0) → IsOnVolume records image free left → (es : List Extent) (later : ℕ → Type 0) → GivesBack free es later → IsOnVolume (without_due today records) image later left
+  purged_image left on es later gives = record {
+    volume = record { head = good.volume.head; size = good.volume.size };
+    elsewhere = λ c h.
+        let differs = on.elsewhere c h in
+        record { same_length = differs.same_length; elsewhere = λ i out. differs.elsewhere i (λ f. out ((gives _).1 (inl f))) };
+  }

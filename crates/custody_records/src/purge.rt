@@ -1,0 +1,34 @@
+//! Bytes of parts that are dropped.
+ghost use Rattle.std.specs.Prelude.{◌≡◌, length};
+ghost use Rattle.custody_records.specs.Purge.{is_due, dropped_if_due, entries_without_due};
+ghost use Rattle.custody_records.specs.Tables.{entries_of};
+ghost use Rattle.custody_records.specs.Typed.{part_place, part_value};
+
+use crate::Part;
+use schedule::{Day, keep_until};
+
+/// Whether the bytes of a part are held, and the last day of their keeping is before today.
+pub fn is_due(part: &Part, today: Day) -> bool
+    ensures { result ≡ is_due today (part_value part.now) }
+{
+    part.extents.is_some() && keep_until(part.received.day()) < today.number()
+}
+
+/// Drops the bytes of the part, if it is due.
+fn drop_if_due(part: &mut Part, today: Day)
+    ensures place { part_place part.new ≡ part_place part.old }
+    ensures value { part_value part.new ≡ dropped_if_due today (part_value part.old) }
+{
+    if is_due(part, today) {
+        part.extents = None;
+    }
+}
+
+/// Drops the bytes of the parts that are due.
+pub(crate) fn drop_due(parts: &mut Vec<Part>, today: Day)
+    ensures { entries_of part_place part_value parts.new.items ≡ entries_without_due today (entries_of part_place part_value parts.old.items) }
+{
+    for part in parts.iter_mut() {
+        drop_if_due(part, today);
+    }
+}

@@ -1,0 +1,11 @@
+use Rattle.std.proofs.Common.{◌≡◌, take}
+use Rattle.extent_map.specs.Extents.{AreApart, IsFreeOf}
+use Rattle.extent_map.specs.Map.{IsFree, size_of}
+use Rattle.extent_map.proofs.map.ExtentMap.use_all.Given as goal
+
+abbrev pub invariant-loop-extent : goal.invariant-loop-extent
+invariant-loop-extent l = record {
+  size : size_of l.self ≡ size_of l.initial.self;
+  taken : IsFreeOf (size_of l.initial.self) (take l.extent-index l.extents) (IsFree l.self);
+  apart : AreApart (take l.extent-index l.extents);
+}

@@ -1,0 +1,12 @@
+use Rattle.std.proofs.Common.{◌≡◌, ℕ, ◌+◌, ◌-◌, ◌<◌, ◌≤◌, length}
+use Rattle.extent_map.specs.Words.{bit, ones}
+use Rattle.extent_map.proofs.words.set_run.Given as goal
+
+abbrev pub invariant-loop-b : goal.invariant-loop-b
+invariant-loop-b l = record {
+  length : length l.words ≡ length l.initial.words;
+  done : (c : ℕ) → l.start ≤ c → c < l.b → bit l.words c ≡ 1;
+  below : (c : ℕ) → c < l.start → bit l.words c ≡ bit l.initial.words c;
+  above : (c : ℕ) → l.b ≤ c → bit l.words c ≡ bit l.initial.words c;
+  count : (n : ℕ) → l.start + l.count ≤ n → ones l.words n ≡ ones l.initial.words n + (l.b - l.start);
+}
