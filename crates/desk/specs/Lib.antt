@@ -1,2 +1,4 @@
 pub mod Checks
 pub mod Grounds
+pub mod Lines
+pub mod Standing

@@ -4,10 +4,16 @@
 
 mod checks;
 mod grounds;
+mod lines;
 mod notices;
+mod reports;
+mod standing;
 #[cfg(test)]
 mod tests;
 
 pub use checks::Check;
 pub use grounds::Ground;
+pub use lines::{LINE_MAX, write_line};
 pub use notices::{Notice, NoticeKind};
+pub use reports::{Fault, report};
+pub use standing::ground_stands;

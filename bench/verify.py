@@ -1,0 +1,190 @@
+#!/usr/bin/env python3
+"""Times the verification of a full deposit against a Python program that makes the same checks.
+
+Run `rt run` in crates/verify_bench first. Then: python3 bench/verify.py
+"""
+import csv
+import datetime
+import hashlib
+import io
+import json
+import pathlib
+import random
+import re
+import subprocess
+import tempfile
+import time
+import os
+
+PROGRAM = pathlib.Path(__file__).resolve().parent.parent / "crates/verify_bench/out/verify_bench"
+SIZE = 8 * 1024 * 1024
+TIMES = 10
+RUNS = 5
+SPACE = "urn:ietf:params:xml:ns:"
+URIS = [SPACE + name for name in ("csvContact-1.0", "csvDomain-1.0", "csvHost-1.0", "csvRegistrar-1.0", "rdeHeader-1.0")]
+TABLES = ["domain", "domainContacts", "domainStatuses", "domainNameServers", "host", "hostAddresses", "contact", "registrar"]
+COUNTED = ["contact", "domain", "host", "registrar"]
+NAME = "example_2026-08-02_full_S1_R0.ryde"
+ID = "20260802001"
+
+MOMENT = r"\d{4}-\d{2}-\d{2}T\d{2}:\d{2}:\d{2}Z"
+HOST = r"[a-z0-9.-]{1,253}"
+ROID = r"[A-Za-z0-9_-]{1,89}"
+IDENT = r"[!-~]{1,16}"
+FORMS = {
+    "domain": [HOST, ROID, f"(?:{IDENT})?", IDENT, MOMENT, MOMENT],
+    "domainContacts": [HOST, "admin|billing|tech", IDENT],
+    "domainStatuses": [HOST, "[A-Za-z]{1,30}"],
+    "domainNameServers": [HOST, HOST],
+    "host": [HOST, ROID, IDENT, MOMENT],
+    "hostAddresses": [HOST, "[0-9a-fA-F.:]{1,45}", "v4|v6"],
+    "contact": [IDENT, ROID, IDENT, MOMENT],
+    "registrar": [IDENT, r"[^\0]{1,255}", r"(?:[1-9]\d{0,8})?", "[A-Za-z]{1,30}"],
+}
+PATTERNS = {table: [re.compile(f"(?:{form})", re.ASCII) for form in forms] for table, forms in FORMS.items()}
+KEYS = {"domain": 1, "domainContacts": 3, "domainStatuses": 2, "domainNameServers": 2, "host": 1, "hostAddresses": 3, "contact": 1, "registrar": 1}
+
+
+def is_moment(text):
+    try:
+        datetime.datetime.fromisoformat(text)
+        return True
+    except ValueError:
+        return False
+
+
+def read_table(table, data):
+    """The rows of a table in its one spelling, or None."""
+    text = data.decode("utf-8")
+    rows = list(csv.reader(io.StringIO(text, newline="")))
+    spelled = io.StringIO()
+    csv.writer(spelled, lineterminator="\n").writerows(rows)
+    if spelled.getvalue() != text:
+        return None
+    patterns = PATTERNS[table]
+    moments = [column for column, form in enumerate(FORMS[table]) if form is MOMENT]
+    width, key = len(patterns), KEYS[table]
+    seen = set()
+    for row in rows:
+        if len(row) != width:
+            return None
+        for pattern, field in zip(patterns, row):
+            if not pattern.fullmatch(field):
+                return None
+        for column in moments:
+            if not is_moment(row[column]):
+                return None
+        seen.add(tuple(row[:key]))
+    return rows if len(seen) == len(rows) else None
+
+
+def verify(joined):
+    """The verdict on a full deposit, by the same checks in the same order."""
+    if joined[:5] != b"RDE1 " or not joined[5:13].isdigit() or joined[13:14] != b"\n":
+        return "FAILURE-01"
+    length = int(joined[5:13])
+    envelope, rest = joined[14 : 14 + length], joined[14 + length :]
+    if len(envelope) < length:
+        return "FAILURE-01"
+    said = json.loads(envelope)
+    if json.dumps(said, separators=(",", ":"), sort_keys=True).encode() != envelope:
+        return "FAILURE-02"
+    if (said["type"], said["header"]["tld"], said["watermark"], said["resend"]) != ("FULL", "example", "2026-08-02T00:00:00Z", 0):
+        return "FAILURE-03"
+    if said["id"] != ID:
+        return "FAILURE-04"
+    if "prevId" in said:
+        return "FAILURE-06"
+    if said["rdeMenu"]["objURI"] != URIS or list(said["header"]["count"]) != URIS[:4] or [f["name"] for f in said["contents"]] != TABLES:
+        return "FAILURE-08"
+    files, at = {}, 0
+    view = memoryview(rest)
+    if sum(f["length"] for f in said["contents"]) != len(rest):
+        return "FAILURE-09"
+    for entry in said["contents"]:
+        data = view[at : at + entry["length"]]
+        at += entry["length"]
+        if hashlib.sha256(data).hexdigest() != entry["sha256"]:
+            return "FAILURE-09"
+        files[entry["name"]] = bytes(data)
+    tables = {}
+    for table in TABLES:
+        tables[table] = read_table(table, files[table])
+        if tables[table] is None:
+            return "FAILURE-10"
+    for uri, table in zip(URIS, COUNTED):
+        if said["header"]["count"][uri] != len(tables[table]):
+            return "FAILURE-11"
+    keys = {table: {row[0] for row in tables[table]} for table in COUNTED}
+    rules = [("domain", 3, "registrar"), ("host", 2, "registrar"), ("contact", 2, "registrar"), ("domainContacts", 0, "domain"),
+             ("domainContacts", 2, "contact"), ("domainStatuses", 0, "domain"), ("domainNameServers", 0, "domain"),
+             ("domainNameServers", 1, "host"), ("hostAddresses", 0, "host")]
+    for table, column, of in rules:
+        known = keys[of]
+        if not all(row[column] in known for row in tables[table]):
+            return "FAILURE-12"
+    if not all(row[2] == "" or row[2] in keys["contact"] for row in tables["domain"]):
+        return "FAILURE-12"
+    return "PASS"
+
+
+def deposit(shuffled):
+    """A full deposit of about 8 MiB: a registry of many domains."""
+    domains = 21000
+    rows = {
+        "domain": [f"name-{i:06}.example,D{i:06}-EX,C{i % 20000:05},R{i % 97:03},2020-01-01T00:00:00Z,2027-01-01T00:00:00Z\n" for i in range(domains)],
+        "domainContacts": [f"name-{i:06}.example,{kind},C{(i * 7) % 20000:05}\n" for i in range(domains) for kind in ("admin", "tech")],
+        "domainStatuses": [f"name-{i:06}.example,ok\n" for i in range(domains)],
+        "domainNameServers": [f"name-{i:06}.example,ns{k}.host-{i % 10000:05}.example\n" for i in range(domains) for k in (1, 2)],
+        "host": [f"ns{k}.host-{i:05}.example,H{i:05}-{k},R{i % 97:03},2020-01-01T00:00:00Z\n" for i in range(10000) for k in (1, 2)],
+        "hostAddresses": [f"ns{k}.host-{i:05}.example,192.0.2.{i % 250},v4\n" for i in range(10000) for k in (1, 2)],
+        "contact": [f"C{i:05},C{i:05}-EX,R{i % 97:03},2020-01-01T00:00:00Z\n" for i in range(20000)],
+        "registrar": [f'R{i:03},"Registrar {i}, Inc.",{i + 1},ok\n' for i in range(97)],
+    }
+    if shuffled:
+        for table in rows.values():
+            random.Random(7).shuffle(table)
+    else:
+        for table in rows.values():
+            table.sort()
+    files = {table: "".join(lines).encode() for table, lines in rows.items()}
+    said = {
+        "contents": [{"length": len(files[t]), "name": t, "sha256": hashlib.sha256(files[t]).hexdigest()} for t in TABLES],
+        "header": {"count": {uri: len(rows[table]) for uri, table in zip(URIS, COUNTED)}, "tld": "example"},
+        "id": ID,
+        "rdeMenu": {"objURI": URIS, "version": "1.0"},
+        "resend": 0,
+        "type": "FULL",
+        "watermark": "2026-08-02T00:00:00Z",
+    }
+    envelope = json.dumps(said, separators=(",", ":"), sort_keys=True).encode()
+    return b"RDE1 %08d\n" % len(envelope) + envelope + b"".join(files[t] for t in TABLES)
+
+
+def run(path, times):
+    start = time.perf_counter()
+    child = subprocess.Popen([PROGRAM, NAME, ID, "-", path, str(times)], stdout=subprocess.PIPE)
+    answer = child.stdout.read().decode().strip()
+    _, _, used = os.wait4(child.pid, 0)
+    child.returncode = 0
+    return answer, time.perf_counter() - start, used.ru_maxrss
+
+
+def main():
+    with tempfile.TemporaryDirectory() as folder:
+        for kind in ("in order", "shuffled"):
+            joined = deposit(kind == "shuffled")
+            path = pathlib.Path(folder) / "deposit"
+            path.write_bytes(joined)
+            answer, _, memory = run(path, 1)
+            ours = min((run(path, 1 + TIMES)[1] - run(path, 1)[1]) / TIMES for _ in range(RUNS))
+            theirs = []
+            for _ in range(RUNS):
+                start = time.perf_counter()
+                verdict = verify(joined)
+                theirs.append(time.perf_counter() - start)
+            print(f"keys {kind}: {len(joined)} bytes, {answer} and {verdict}, verify {ours * 1000:.1f} ms, Python {min(theirs) * 1000:.1f} ms, ratio {min(theirs) / ours:.1f}, peak {memory // 1024} MiB")
+
+
+if __name__ == "__main__":
+    main()

@@ -1,0 +1,9 @@
+pub mod Columns
+pub mod Searches
+pub mod Lists
+pub mod TableLemmas
+pub mod Verdicts
+pub mod Uniques
+pub mod Judged
+pub mod Lifted
+pub mod CutLemmas

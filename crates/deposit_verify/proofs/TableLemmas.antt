@@ -1,0 +1,73 @@
+-- Tables that are read one after the other.
+use Rattle.std.proofs.lemmas.List.{get_or-map, length-map}
+use Rattle.std.proofs.Common.{◌-◌, map, refl, zero, suc, ◌≡◌, ◌<◌, ◌≤◌, ◌+◌, ◌++◌, ◌∷◌, ◌∙◌, [], Bor, List, ℕ, ap, arith, get_or, length, subst, sym}
+use Rattle.std.proofs.Math.ListN.{get_or-append}
+use Rattle.std.proofs.Math.Seq.{get_or-append_seam}
+use Rattle.deposit_name.specs.declared.table.TableName.{TableName}
+use Rattle.envelope.specs.declared.envelope.FileEntry.{FileEntry}
+use Rattle.deposit_verify.specs.Checks.{all_tables, table_place}
+use Rattle.deposit_verify.specs.Deposit.{IsTableOf}
+use Rattle.deposit_verify.specs.Index.{texts_of}
+use Rattle.deposit_verify.proofs.Lists.{below_next, file_at}
+
+-- the tables of the files below a place
+abbrev pub AreReadBelow : List FileEntry → List (List ℕ) → List (List (List (List ℕ))) → ℕ → Type 0
+AreReadBelow entries files tables i = (k : ℕ) (e : FileEntry) → k < i → IsTableOf (get_or entries k e).name (get_or files k []) (get_or tables k [])
+
+pub read_more : (entries : List FileEntry) (files : List (Bor (List ℕ))) (tables : List (List (List (List ℕ)))) (rows : List (List (List ℕ))) (i : ℕ) (d : FileEntry) (b : Bor (List ℕ))
+    → length tables ≡ i → i < length entries → i < length files → AreReadBelow entries (texts_of files) tables i → IsTableOf (get_or entries i d).name (get_or files i b).now rows
+    → AreReadBelow entries (texts_of files) (tables ++ rows ∷ []) (i + 1)
+read_more entries files tables rows i d b count inside within before here = λ k e below.
+    let R : ℕ → FileEntry → List (List (List ℕ)) → Type 0 = λ k e rows. IsTableOf (get_or entries k e).name (get_or (texts_of files) k []) rows in
+    let last : get_or (tables ++ rows ∷ []) i [] ≡ rows = ap (λ (n : ℕ). get_or (tables ++ rows ∷ []) n []) (sym count) ∙ get_or-append_seam tables rows [] [] in
+    below_next (λ (k : ℕ). (e : FileEntry) → R k e (get_or (tables ++ rows ∷ []) k [])) i
+    (λ k below e. subst (R k e) (sym (get_or-append tables (rows ∷ []) [] k (omega (arith, below, count)))) (before k e below))
+    (λ e. subst (R i e) (sym last) (file_at (λ entry file. IsTableOf entry.name file rows) entries files i d b inside within here e))
+    k below e
+
+-- the tables stand at their places
+pub place_at : (i : ℕ) (d : TableName) → i < 8 → table_place (get_or all_tables i d) ≡ i
+place_at zero d h = refl
+place_at (suc zero) d h = refl
+place_at (suc (suc zero)) d h = refl
+place_at (suc (suc (suc zero))) d h = refl
+place_at (suc (suc (suc (suc zero)))) d h = refl
+place_at (suc (suc (suc (suc (suc zero))))) d h = refl
+place_at (suc (suc (suc (suc (suc (suc zero)))))) d h = refl
+place_at (suc (suc (suc (suc (suc (suc (suc zero))))))) d h = refl
+place_at (suc (suc (suc (suc (suc (suc (suc (suc i)))))))) d h = absurd (omega arith)
+
+-- the place of the file at a place, where all tables are there
+pub listed_at : (files : List FileEntry) (i : ℕ) (e : FileEntry) → i < length files → i < 8 → map (λ f. f.name) files ≡ all_tables → table_place (get_or files i e).name ≡ i
+listed_at files i e inside within same =
+    ap table_place (sym (get_or-map (λ (f : FileEntry). f.name) files i e e.name inside) ∙ ap (λ (names : List TableName). get_or names i e.name) same) ∙ place_at i e.name within
+
+-- the places of files
+pub place_of : (files : List FileEntry) (i : ℕ) (e : FileEntry) → i < length files → get_or (map table_place (map (λ f. f.name) files)) i 0 ≡ table_place (get_or files i e).name
+place_of files i e inside =
+    let named : i < length (map (λ (f : FileEntry). f.name) files) = omega (arith, length-map files (λ (f : FileEntry). f.name)) in
+    get_or-map table_place (map (λ (f : FileEntry). f.name) files) i e.name 0 named ∙ ap table_place (get_or-map (λ (f : FileEntry). f.name) files i e e.name inside)
+
+pub length-places : (files : List FileEntry) → length (map table_place (map (λ f. f.name) files)) ≡ length files
+length-places files = length-map (map (λ (f : FileEntry). f.name) files) table_place ∙ length-map files (λ (f : FileEntry). f.name)
+
+-- the numbers at two places that follow each other
+abbrev pub RisesAt : List FileEntry → ℕ → ℕ → Type 0
+RisesAt files m n = get_or (map table_place (map (λ f. f.name) files)) m 0 < get_or (map table_place (map (λ f. f.name) files)) n 0
+
+-- places that rise, one more
+pub rise_more : (files : List FileEntry) (i : ℕ) (d e : FileEntry) (before here : ℕ) → before ≡ table_place (get_or files (i - 1) d).name → here ≡ table_place (get_or files i e).name
+    → 1 ≤ i → i < length files → before < here → (k : ℕ) → k + 1 ≡ i → RisesAt files k (k + 1)
+rise_more files i d e before here p q some inside rises k same =
+    let at : RisesAt files (i - 1) i = omega (arith, place_of files (i - 1) d (omega arith), place_of files i e inside, rises, p, q) in
+    let last : i - 1 ≡ k = omega arith in
+    let next : i ≡ k + 1 = sym same in
+    subst (λ (n : ℕ). RisesAt files k n) next (subst (λ (m : ℕ). RisesAt files m i) last at)
+
+-- and that do not
+pub no_rise : (files : List FileEntry) (i : ℕ) (d e : FileEntry) (before here : ℕ) → before ≡ table_place (get_or files (i - 1) d).name → here ≡ table_place (get_or files i e).name
+    → 1 ≤ i → i < length files → here ≤ before → RisesAt files (i - 1) (i - 1 + 1) → ⊥
+no_rise files i d e before here p q some inside falls rises =
+    let next : i - 1 + 1 ≡ i = omega arith in
+    let at : RisesAt files (i - 1) i = subst (λ (n : ℕ). RisesAt files (i - 1) n) next rises in
+    omega (arith, place_of files (i - 1) d (omega arith), place_of files i e inside, at, p, q)

@@ -1,0 +1,70 @@
+-- The least check that fails.
+use Rattle.std.proofs.Common.{◌≡◌, ◌+◌, ◌∙◌, List, [], ◌∷◌, ℕ, ap, arith, get_or, inl, inr, refl, subst, sym}
+use Rattle.std.proofs.lemmas.Bool.Decides.{eqb_tells}
+use Rattle.desk.specs.Checks.{check_number}
+use Rattle.desk.specs.declared.checks.Check.{Check}
+use Rattle.desk.specs.declared.checks.Check.TheVariants.{Frame, Envelope, Name, Statement, Weekday, PrevId, IdTaken, Menu, Files, Table, Counts, References, Deletes}
+use Rattle.deposit_verify.specs.Checks.{Below}
+
+-- all checks, each at its number
+abbrev numbered : List Check
+numbered =
+    Frame ∷ Frame ∷ Envelope ∷ Name ∷ Statement ∷ Weekday ∷ PrevId ∷ IdTaken ∷ Menu ∷ Files ∷ Table ∷ Counts ∷ References ∷ Deletes ∷ []
+
+numbered_right : (c : Check) → get_or numbered (check_number c) Frame ≡ c
+numbered_right Frame = refl
+numbered_right Envelope = refl
+numbered_right Name = refl
+numbered_right Statement = refl
+numbered_right Weekday = refl
+numbered_right PrevId = refl
+numbered_right IdTaken = refl
+numbered_right Menu = refl
+numbered_right Files = refl
+numbered_right Table = refl
+numbered_right Counts = refl
+numbered_right References = refl
+numbered_right Deletes = refl
+
+-- no two checks have one number
+pub same_check : (c d : Check) → check_number c ≡ check_number d → c ≡ d
+same_check c d same = sym (numbered_right c) ∙ ap (λ (n : ℕ). get_or numbered n Frame) same ∙ numbered_right d
+
+-- no check is below the first
+pub below_none : (P : Check → Type 0) → Below P 1
+below_none P Frame h = absurd (omega arith)
+below_none P Envelope h = absurd (omega arith)
+below_none P Name h = absurd (omega arith)
+below_none P Statement h = absurd (omega arith)
+below_none P Weekday h = absurd (omega arith)
+below_none P PrevId h = absurd (omega arith)
+below_none P IdTaken h = absurd (omega arith)
+below_none P Menu h = absurd (omega arith)
+below_none P Files h = absurd (omega arith)
+below_none P Table h = absurd (omega arith)
+below_none P Counts h = absurd (omega arith)
+below_none P References h = absurd (omega arith)
+below_none P Deletes h = absurd (omega arith)
+
+-- one check more
+pub below_more : (P : Check → Type 0) (c : Check) → Below P (check_number c) → P c → Below P (check_number c + 1)
+below_more P c before here d h = elim (eqb_tells (check_number d) (check_number c)) [
+  | inl same ↦ subst P (sym (same_check d c same.1)) here
+  | inr other ↦ before d (omega (arith, h, other.1))
+]
+
+-- all checks
+pub below_all : (P : Check → Type 0) → Below P 14 → (c : Check) → P c
+below_all P all Frame = all Frame (omega arith)
+below_all P all Envelope = all Envelope (omega arith)
+below_all P all Name = all Name (omega arith)
+below_all P all Statement = all Statement (omega arith)
+below_all P all Weekday = all Weekday (omega arith)
+below_all P all PrevId = all PrevId (omega arith)
+below_all P all IdTaken = all IdTaken (omega arith)
+below_all P all Menu = all Menu (omega arith)
+below_all P all Files = all Files (omega arith)
+below_all P all Table = all Table (omega arith)
+below_all P all Counts = all Counts (omega arith)
+below_all P all References = all References (omega arith)
+below_all P all Deletes = all Deletes (omega arith)

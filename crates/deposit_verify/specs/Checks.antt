@@ -1,0 +1,139 @@
+-- The thirteen checks of a deposit, each said by what the deposit reads as, and the verdict.
+use Rattle.std.specs.Prelude.{◌≡◌, ◌<◌, ⊤, ℕ, List, [], ◌∷◌, Contains, Option, Some, None, codes, length, map, take}
+use Rattle.std.specs.List.{AllZip}
+use Rattle.std.specs.List.Sorted.{IsStrictlyIncreasing}
+use Rattle.schedule.specs.Schedule.{IsSunday}
+use Rattle.deposit_name.specs.Name.{Name}
+use Rattle.deposit_name.specs.declared.kinds.Kind.{Kind}
+use Rattle.deposit_name.specs.declared.kinds.Kind.TheVariants.{Full, Diff}
+use Rattle.deposit_name.specs.declared.table.TableName.{TableName}
+use Rattle.deposit_name.specs.declared.table.TableName.TheVariants.{Domain, DomainContacts, DomainStatuses, DomainNameServers, Host, HostAddresses, Contact, Registrar}
+use Rattle.desk.specs.Checks.{check_number}
+use Rattle.desk.specs.declared.checks.Check.{Check}
+use Rattle.desk.specs.declared.checks.Check.TheVariants as check
+use Rattle.envelope.specs.Frame.{IsFrame}
+use Rattle.envelope.specs.Envelope.{Env}
+use Rattle.envelope.specs.declared.envelope.Count.{Count}
+use Rattle.deposit_verify.specs.declared.verdict.Verdict.{Verdict}
+use Rattle.deposit_verify.specs.declared.verdict.Verdict.TheVariants.{Pass, Fail}
+use Rattle.deposit_verify.specs.Known.{Known}
+use Rattle.deposit_verify.specs.Deposit.{IsDeposit, AreFiles, AreTables, IsKeyFile, IsTableFile, contents_files, deletes_files, deletes_of, entries_of}
+use Rattle.deposit_verify.specs.References.{AreReferencesKept}
+
+-- ---- what the envelope has to say
+
+-- the deposit is the one that its name tells
+pub record AgreesWithName (v : Env) (name : Name) : Type 0 where
+  pub kind : v.kind ≡ name.kind
+  pub tld : v.tld ≡ name.tld
+  pub day : v.watermark ≡ name.day
+  pub resend : v.resend ≡ name.rev
+
+-- a full deposit follows none, and a differential one the latest that passed
+abbrev pub FollowsLatest : Kind → Option (List ℕ) → Option (List ℕ) → Type 0
+FollowsLatest Full prev_id latest = prev_id ≡ None
+FollowsLatest Diff prev_id latest = (id : List ℕ) × (prev_id ≡ Some id) × (latest ≡ Some id)
+
+-- the objects of a deposit, by the URIs of their namespaces (RFC 9022)
+abbrev pub object_uris : List (List ℕ)
+object_uris =
+    codes "urn:ietf:params:xml:ns:csvContact-1.0"
+    ∷ codes "urn:ietf:params:xml:ns:csvDomain-1.0"
+    ∷ codes "urn:ietf:params:xml:ns:csvHost-1.0"
+    ∷ codes "urn:ietf:params:xml:ns:csvRegistrar-1.0"
+    ∷ codes "urn:ietf:params:xml:ns:rdeHeader-1.0"
+    ∷ []
+
+-- those that are counted, and their tables
+abbrev pub counted_uris : List (List ℕ)
+counted_uris = take 4 object_uris
+
+abbrev pub counted_tables : List TableName
+counted_tables = Contact ∷ Domain ∷ Host ∷ Registrar ∷ []
+
+-- all tables, in the order of a deposit
+abbrev pub all_tables : List TableName
+all_tables = Domain ∷ DomainContacts ∷ DomainStatuses ∷ DomainNameServers ∷ Host ∷ HostAddresses ∷ Contact ∷ Registrar ∷ []
+
+-- the place of a table among all, from 0
+abbrev pub table_place : TableName → ℕ
+table_place Domain = 0
+table_place DomainContacts = 1
+table_place DomainStatuses = 2
+table_place DomainNameServers = 3
+table_place Host = 4
+table_place HostAddresses = 5
+table_place Contact = 6
+table_place Registrar = 7
+
+-- some tables in that order, each at most once
+abbrev pub StandInOrder : List TableName → Type 0
+StandInOrder names = IsStrictlyIncreasing (map table_place names)
+
+-- a full deposit has all tables, and a differential one some of them, in order
+abbrev pub HasContents : Kind → List TableName → Type 0
+HasContents Full names = names ≡ all_tables
+HasContents Diff names = StandInOrder names
+
+pub record HasMenu (v : Env) : Type 0 where
+  pub objects : v.object_uris ≡ object_uris
+  pub counted : map (λ c. c.uri) v.count ≡ counted_uris
+  pub contents : HasContents v.kind (map (λ f. f.name) v.contents)
+  pub deletes : StandInOrder (map (λ f. f.name) (deletes_of v))
+
+-- ---- what the files have to say
+
+-- the bytes behind the envelope are its files, of which this holds
+abbrev pub HasFiles : Env → List ℕ → (List (List ℕ) → Type 0) → Type 0
+HasFiles v rest P = (files : List (List ℕ)) × AreFiles (entries_of v) rest files × P files
+
+-- the files of contents are tables, of which this holds
+abbrev pub HasTables : Env → List ℕ → ((TableName → List (List (List ℕ))) → Type 0) → Type 0
+HasTables v rest P = HasFiles v rest (λ files. (tables : TableName → List (List (List ℕ))) × AreTables v.contents (contents_files v files) tables × P tables)
+
+-- the header's counts, in the order of the counted tables, are the numbers of their rows
+abbrev pub AreCounts : List Count → (TableName → List (List (List ℕ))) → Type 0
+AreCounts counts tables = map (λ c. c.count) counts ≡ map (λ name. length (tables name)) counted_tables
+
+-- ---- the checks
+
+-- what a check says of the deposit that has this envelope, and these bytes behind it
+abbrev pub Says : Env → List ℕ → Known → Check → Type 0
+Says v rest known check.Frame = ⊤
+Says v rest known check.Envelope = ⊤
+Says v rest known check.Name = AgreesWithName v known.name
+Says v rest known check.Statement = v.id ≡ known.id
+Says v rest known check.Weekday = IsSunday v.watermark → v.kind ≡ Full
+Says v rest known check.PrevId = FollowsLatest v.kind v.prev_id known.latest
+Says v rest known check.IdTaken = ¬ Contains known.passed v.id
+Says v rest known check.Menu = HasMenu v
+Says v rest known check.Files = HasFiles v rest (λ files. ⊤)
+Says v rest known check.Table = HasFiles v rest (λ files. AllZip IsTableFile v.contents (contents_files v files))
+Says v rest known check.Counts = v.kind ≡ Full → HasTables v rest (AreCounts v.count)
+Says v rest known check.References = v.kind ≡ Full → HasTables v rest AreReferencesKept
+Says v rest known check.Deletes = HasFiles v rest (λ files. AllZip IsKeyFile (deletes_of v) (deletes_files v files))
+
+-- the deposit has an envelope, of which this holds
+abbrev pub HasEnvelope : List ℕ → (Env → List ℕ → Type 0) → Type 0
+HasEnvelope joined P = (v : Env) × (rest : List ℕ) × IsDeposit joined v rest × P v rest
+
+-- the deposit passes a check
+abbrev pub Holds : List ℕ → Known → Check → Type 0
+Holds joined known check.Frame = (envelope : List ℕ) × (rest : List ℕ) × IsFrame joined envelope rest
+Holds joined known c = HasEnvelope joined (λ v rest. Says v rest known c)
+
+-- each check below this one holds
+abbrev pub Below : (Check → Type 0) → ℕ → Type 0
+Below P n = (c : Check) → check_number c < n → P c
+
+-- this check is the least that fails
+abbrev pub IsLeastFailing : (Check → Type 0) → Check → Type 0
+IsLeastFailing P c = (¬ P c) × Below P (check_number c)
+
+-- the verdict names the least check that fails, or is a pass where none does
+abbrev pub IsLeast : (Check → Type 0) → Verdict → Type 0
+IsLeast P Pass = (c : Check) → P c
+IsLeast P (Fail c) = IsLeastFailing P c
+
+abbrev pub IsVerdict : List ℕ → Known → Verdict → Type 0
+IsVerdict joined known v = IsLeast (Holds joined known) v

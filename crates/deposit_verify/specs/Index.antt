@@ -1,0 +1,21 @@
+-- Keys in order, for private clauses.
+use Rattle.std.specs.Borrow.{Bor}
+use Rattle.std.specs.Prelude.{◌↔◌, ℕ, List, Contains, map}
+use Rattle.std.specs.Cmp.Lexicographic.{slice_cmp}
+use Rattle.std.specs.List.Sorted.{IsSorted}
+use Rattle.std.specs.Ordering.{nat_cmp}
+use Rattle.std.specs.declared.cmp.Ordering.{Ordering}
+use Rattle.deposit_verify.specs.References.{column}
+
+-- the order of borrowed texts
+abbrev pub text_cmp : Bor (List ℕ) → Bor (List ℕ) → Ordering
+text_cmp one other = slice_cmp nat_cmp one.now other.now
+
+-- borrowed texts
+abbrev pub texts_of : List (Bor (List ℕ)) → List (List ℕ)
+texts_of keys = map (λ key. key.now) keys
+
+-- the keys of rows, in order
+pub record AreSortedKeys (keys : List (Bor (List ℕ))) (rows : List (List (List ℕ))) : Type 0 where
+  pub sorted : IsSorted text_cmp keys
+  pub same : (text : List ℕ) → Contains (texts_of keys) text ↔ Contains (column 0 rows) text

@@ -1,0 +1,80 @@
+//! What an envelope says, against what is known of its deposit.
+ghost use Rattle.std.specs.Prelude.{◌≡◌, ◌↔◌, IsTrue, Contains, MatchOption, ℕ, List, Some};
+ghost use Rattle.envelope.specs.Envelope.{view};
+ghost use Rattle.schedule.specs.Schedule.{IsSunday};
+ghost use Rattle.deposit_name.specs.declared.kinds.Kind.TheVariants.{Full};
+ghost use Rattle.deposit_verify.specs.Checks.{AgreesWithName, Below, FollowsLatest, IsLeastFailing, Says};
+ghost use Rattle.deposit_verify.specs.Known.{known};
+
+use crate::about::About;
+use crate::menu::has_menu;
+use deposit_name::{DepositId, DepositName, Kind};
+use desk::Check;
+use envelope::Envelope;
+use schedule::is_sunday;
+
+fn agrees_with_name(envelope: &Envelope, name: &DepositName) -> bool
+    ensures { IsTrue result ↔ AgreesWithName (view envelope.now) name.now }
+{
+    envelope.kind == name.kind
+        && envelope.header.tld == name.tld
+        && envelope.watermark == name.day
+        && envelope.resend == name.rev
+}
+
+// Whether a deposit of a Sunday is a full one (Specification 2, Part A section 2).
+fn is_full_on_sunday(envelope: &Envelope) -> bool
+    ensures { IsTrue result ↔ (IsSunday envelope.now.watermark → envelope.now.kind ≡ Full) }
+{
+    !is_sunday(envelope.watermark) || envelope.kind == Kind::Full
+}
+
+fn is_same_id(one: Option<DepositId>, other: Option<DepositId>) -> bool
+    ensures { IsTrue result ↔ ((id : List ℕ) × (one ≡ Some id) × (other ≡ Some id)) }
+{
+    match (one, other) {
+        (Some(one), Some(other)) => one == other,
+        _ => false,
+    }
+}
+
+fn follows_latest(envelope: &Envelope, latest: Option<DepositId>) -> bool
+    ensures { IsTrue result ↔ FollowsLatest envelope.now.kind envelope.now.prev_id latest }
+{
+    match envelope.kind {
+        Kind::Full => envelope.prev_id.is_none(),
+        Kind::Diff => is_same_id(envelope.prev_id, latest),
+    }
+}
+
+fn has_passed(id: DepositId, passed: &[DepositId]) -> bool
+    ensures { IsTrue result ↔ Contains passed.now id }
+{
+    passed.contains(&id)
+}
+
+/// Of the checks from that of the name to that of the menu, the first that the envelope fails.
+pub fn header_fault(envelope: &Envelope, about: &About) -> Option<Check>
+    ensures { (rest : List ℕ) → MatchOption result (Below (Says (view envelope.now) rest (known about.now)) 9)
+        (IsLeastFailing (Says (view envelope.now) rest (known about.now))) }
+{
+    if !agrees_with_name(envelope, &about.name) {
+        return Some(Check::Name);
+    }
+    if envelope.id != about.id {
+        return Some(Check::Statement);
+    }
+    if !is_full_on_sunday(envelope) {
+        return Some(Check::Weekday);
+    }
+    if !follows_latest(envelope, about.latest) {
+        return Some(Check::PrevId);
+    }
+    if has_passed(envelope.id, &about.passed) {
+        return Some(Check::IdTaken);
+    }
+    if !has_menu(envelope) {
+        return Some(Check::Menu);
+    }
+    None
+}

@@ -1,0 +1,38 @@
+//! The keys of a table, in order.
+ghost use Rattle.std.specs.Prelude.{◌≡◌, ◌<◌, ◌↔◌, [], All, Contains, IfOk, IsTrue, get_or, length};
+ghost use Rattle.std.specs.List.Sorted.{IsSorted};
+ghost use Rattle.deposit_verify.specs.References.{column};
+ghost use Rattle.deposit_verify.specs.Index.{AreSortedKeys, text_cmp, texts_of};
+
+use dnrd_csv::Rows;
+use std::alloc::{AllocError, Global};
+
+// The first fields of rows, in their order.
+fn first_fields<'t>(alloc: Global, rows: &'t Rows) -> Result<Vec<&'t [u8]>, AllocError>
+    requires { All (λ row. 0 < length row) rows.now }
+    ensures { IfOk result (λ keys. texts_of keys.items ≡ column 0 rows.now) }
+{
+    let mut keys = Vec::with_capacity(alloc, rows.len())?;
+    for i in 0..rows.len() {
+        keys.push(rows.field(i, 0))?;
+    }
+    Ok(keys)
+}
+
+/// The keys of a table whose key is the first column, in ascending order.
+pub fn sorted_keys<'t>(alloc: Global, rows: &'t Rows) -> Result<Vec<&'t [u8]>, AllocError>
+    requires { All (λ row. 0 < length row) rows.now }
+    ensures { IfOk result (λ keys. AreSortedKeys keys.items rows.now) }
+{
+    let mut keys = first_fields(alloc, rows)?;
+    keys.sort_unstable();
+    Ok(keys)
+}
+
+/// Whether a text is one of the keys, which ascend.
+pub fn has_key(keys: &[&[u8]], text: &[u8]) -> bool
+    requires { IsSorted text_cmp keys.now }
+    ensures { IsTrue result ↔ Contains (texts_of keys.now) text.now }
+{
+    keys.binary_search(&text).is_ok()
+}

@@ -1,0 +1,126 @@
+//! Whether whatever an object names is there.
+ghost use Rattle.std.specs.Prelude.{◌<◌, ◌↔◌, IfOk, IsTrue, length};
+ghost use Rattle.dnrd_csv.specs.Table.{columns_of};
+ghost use Rattle.deposit_verify.specs.Index.{AreSortedKeys};
+ghost use Rattle.deposit_verify.specs.References.{AreKeysOf, AreKeysOrEmpty, AreReferencesKept, ContactsAreThere, DomainsAreThere, HostsAreThere, RegistrarsAreThere, column as texts_in};
+ghost use Rattle.deposit_verify.specs.Tables.{AreAllTables, table_of};
+
+use crate::keys::{has_key, sorted_keys};
+use crate::places::table;
+use deposit_name::TableName;
+use dnrd_csv::Rows;
+use std::alloc::{AllocError, Global};
+
+// The keys of a table, in ascending order.
+fn keys_of<'t>(
+    alloc: Global,
+    tables: &'t [Rows],
+    name: TableName,
+) -> Result<Vec<&'t [u8]>, AllocError>
+    requires { AreAllTables tables.now }
+    ensures { IfOk result (λ keys. AreSortedKeys keys.items (table_of tables.now name)) }
+{
+    sorted_keys(alloc, table(tables, name))
+}
+
+// Whether each text of a column is a key of a table, whose keys are given in ascending order.
+fn are_keys(tables: &[Rows], of: TableName, keys: &[&[u8]], name: TableName, column: usize) -> bool
+    requires tables { AreAllTables tables.now }
+    requires keys { AreSortedKeys keys.now (table_of tables.now of) }
+    requires column { column < length (columns_of name) }
+    ensures { IsTrue result ↔ AreKeysOf (table_of tables.now of) (texts_in column (table_of tables.now name)) }
+{
+    let rows = table(tables, name);
+    for i in 0..rows.len() {
+        if !has_key(keys, rows.field(i, column)) {
+            return false;
+        }
+    }
+    true
+}
+
+// The same where a text may be empty.
+fn are_keys_or_empty(
+    tables: &[Rows],
+    of: TableName,
+    keys: &[&[u8]],
+    name: TableName,
+    column: usize,
+) -> bool
+    requires tables { AreAllTables tables.now }
+    requires keys { AreSortedKeys keys.now (table_of tables.now of) }
+    requires column { column < length (columns_of name) }
+    ensures { IsTrue result ↔ AreKeysOrEmpty (table_of tables.now of) (texts_in column (table_of tables.now name)) }
+{
+    let rows = table(tables, name);
+    for i in 0..rows.len() {
+        let text = rows.field(i, column);
+        if !text.is_empty() && !has_key(keys, text) {
+            return false;
+        }
+    }
+    true
+}
+
+fn registrars_are_there(alloc: Global, tables: &[Rows]) -> Result<bool, AllocError>
+    requires { AreAllTables tables.now }
+    ensures { IfOk result (λ there. IsTrue there ↔ RegistrarsAreThere (table_of tables.now)) }
+{
+    let of = TableName::Registrar;
+    let keys = keys_of(alloc, tables, of)?;
+    Ok(
+        are_keys(tables, of, &keys, TableName::Domain, 3)
+            && are_keys(tables, of, &keys, TableName::Host, 2)
+            && are_keys(tables, of, &keys, TableName::Contact, 2),
+    )
+}
+
+fn contacts_are_there(alloc: Global, tables: &[Rows]) -> Result<bool, AllocError>
+    requires { AreAllTables tables.now }
+    ensures { IfOk result (λ there. IsTrue there ↔ ContactsAreThere (table_of tables.now)) }
+{
+    let of = TableName::Contact;
+    let keys = keys_of(alloc, tables, of)?;
+    Ok(
+        are_keys_or_empty(tables, of, &keys, TableName::Domain, 2)
+            && are_keys(tables, of, &keys, TableName::DomainContacts, 2),
+    )
+}
+
+fn domains_are_there(alloc: Global, tables: &[Rows]) -> Result<bool, AllocError>
+    requires { AreAllTables tables.now }
+    ensures { IfOk result (λ there. IsTrue there ↔ DomainsAreThere (table_of tables.now)) }
+{
+    let of = TableName::Domain;
+    let keys = keys_of(alloc, tables, of)?;
+    Ok(
+        are_keys(tables, of, &keys, TableName::DomainContacts, 0)
+            && are_keys(tables, of, &keys, TableName::DomainStatuses, 0)
+            && are_keys(tables, of, &keys, TableName::DomainNameServers, 0),
+    )
+}
+
+fn hosts_are_there(alloc: Global, tables: &[Rows]) -> Result<bool, AllocError>
+    requires { AreAllTables tables.now }
+    ensures { IfOk result (λ there. IsTrue there ↔ HostsAreThere (table_of tables.now)) }
+{
+    let of = TableName::Host;
+    let keys = keys_of(alloc, tables, of)?;
+    Ok(
+        are_keys(tables, of, &keys, TableName::DomainNameServers, 1)
+            && are_keys(tables, of, &keys, TableName::HostAddresses, 0),
+    )
+}
+
+/// Whether whatever an object of a full deposit names is there.
+pub fn are_references_kept(alloc: Global, tables: &[Rows]) -> Result<bool, AllocError>
+    requires { AreAllTables tables.now }
+    ensures { IfOk result (λ kept. IsTrue kept ↔ AreReferencesKept (table_of tables.now)) }
+{
+    Ok(
+        registrars_are_there(alloc, tables)?
+            && contacts_are_there(alloc, tables)?
+            && domains_are_there(alloc, tables)?
+            && hosts_are_there(alloc, tables)?,
+    )
+}

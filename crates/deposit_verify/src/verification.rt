@@ -1,0 +1,114 @@
+//! The verdict on a deposit.
+ghost use Rattle.std.specs.Prelude.{◌≡◌, ℕ, List, IfOk, IsTrue, MatchOption, map, length, ◌↔◌};
+ghost use Rattle.envelope.specs.Envelope.{IsEnvelope, view};
+ghost use Rattle.deposit_name.specs.declared.kinds.Kind.TheVariants.{Full};
+ghost use Rattle.deposit_verify.specs.Checks.{AreCounts, Below, HasMenu, IsLeast, IsVerdict, Says};
+ghost use Rattle.deposit_verify.specs.Known.{Known, known};
+ghost use Rattle.deposit_verify.specs.Tables.{AreAllTables, FullSays, TablesSay, table_of};
+
+use crate::about::About;
+use crate::files::{all_entries, cut_files};
+use crate::header::header_fault;
+use crate::references::are_references_kept;
+use crate::tables::{are_key_files, read_tables};
+use crate::verdict::{NoMemory, Verdict};
+use deposit_name::Kind;
+use desk::Check;
+use dnrd_csv::{Rows, law_one_text};
+use envelope::{Count, EnvError, Envelope, law_one_reading, read_envelope, split_frame};
+use std::alloc::Global;
+
+// Whether counts are the numbers of rows of their tables.
+fn are_counts(counts: &[Count], tables: &[Rows]) -> bool
+    requires { length tables.now ≡ 8 }
+    ensures { IsTrue result ↔ AreCounts counts.now (table_of tables.now) }
+{
+    match counts {
+        [contact, domain, host, registrar] => {
+            contact.count as usize == tables[6].len()
+                && domain.count as usize == tables[0].len()
+                && host.count as usize == tables[4].len()
+                && registrar.count as usize == tables[7].len()
+        }
+        _ => false,
+    }
+}
+
+// Of a full deposit with these tables, the first of the checks of counts and references that it fails.
+fn tables_fault(
+    alloc: Global,
+    envelope: &Envelope,
+    tables: &[Rows],
+) -> Result<Option<Check>, NoMemory>
+    requires { envelope.now.kind ≡ Full → AreAllTables tables.now }
+    ensures { IfOk result (TablesSay (view envelope.now) tables.now) }
+{
+    match envelope.kind {
+        Kind::Diff => Ok(None),
+        Kind::Full => full_fault(alloc, &envelope.header.count, tables),
+    }
+}
+
+fn full_fault(alloc: Global, counts: &[Count], tables: &[Rows]) -> Result<Option<Check>, NoMemory>
+    requires { AreAllTables tables.now }
+    ensures { IfOk result (FullSays counts.now tables.now) }
+{
+    if !are_counts(counts, tables) {
+        return Ok(Some(Check::Counts));
+    }
+    if !are_references_kept(alloc, tables)? {
+        return Ok(Some(Check::References));
+    }
+    Ok(None)
+}
+
+// The verdict on a deposit that passes the checks up to that of the menu, from the bytes behind its envelope.
+fn judge_files(alloc: Global, envelope: &Envelope, rest: &[u8]) -> Result<Verdict, NoMemory>
+    requires form { IsEnvelope (view envelope.now) }
+    requires menu { HasMenu (view envelope.now) }
+    ensures { IfOk result (λ verdict. (k : Known) → Below (Says (view envelope.now) rest.now k) 9
+        → IsLeast (Says (view envelope.now) rest.now k) verdict) }
+{
+    law_one_text();
+    let entries = all_entries(alloc, envelope)?;
+    let Some(files) = cut_files(alloc, &entries, rest)? else {
+        return Ok(Verdict::Fail(Check::Files));
+    };
+    let named = envelope.contents.as_slice();
+    let (contents, deletes) = files.split_at(named.len());
+    let Some(tables) = read_tables(alloc, named, contents)? else {
+        return Ok(Verdict::Fail(Check::Table));
+    };
+    if let Some(fault) = tables_fault(alloc, envelope, &tables)? {
+        return Ok(Verdict::Fail(fault));
+    }
+    let (_, deleted) = entries.split_at(named.len());
+    if !are_key_files(alloc, deleted, deletes)? {
+        return Ok(Verdict::Fail(Check::Deletes));
+    }
+    Ok(Verdict::Pass)
+}
+
+/// Verifies a deposit: its parts, joined in order, against what is known of it.
+///
+/// # Errors
+///
+/// Want of memory, and nothing else.
+pub fn verify(alloc: Global, joined: &[u8], about: &About) -> Result<Verdict, NoMemory>
+    // The verdict names the least of the thirteen checks that fails, or is a pass where none does.
+    ensures { IfOk result (IsVerdict joined.now (known about.now)) }
+{
+    law_one_reading();
+    let Ok(frame) = split_frame(joined) else {
+        return Ok(Verdict::Fail(Check::Frame));
+    };
+    let envelope = match read_envelope(alloc, frame.envelope) {
+        Ok(envelope) => envelope,
+        Err(EnvError::Spelling) => return Ok(Verdict::Fail(Check::Envelope)),
+        Err(EnvError::Memory) => return Err(NoMemory),
+    };
+    if let Some(fault) = header_fault(&envelope, about) {
+        return Ok(Verdict::Fail(fault));
+    }
+    judge_files(alloc, &envelope, frame.rest)
+}
