@@ -66,8 +66,8 @@ module _ (rows : Rows) (found : Meta) (image : List ℕ) (is : Some found ≡ op
             let same : found ≡ typed.meta_of row = cc in
             let some : meta_of rows ≡ Some row = ap (λ metas. meta_of (record rows { meta = metas })) at in
             let at_row : other.0 ≡ row = cc in
-            other.4 (record {
-              number_is = ap (λ (m : MetaRow). m.number) at_row ∙ digits_read row.number number (ap (λ (m : Meta). m.number) (sym same) ∙ same_number) ∙ digits_by_head number other.1 (sym head ∙ other.3);
+            other.5 (record {
+              number_is = ap (λ (m : MetaRow). m.number) at_row ∙ digits_read row.number number (ap (λ (m : Meta). m.number) (sym same) ∙ same_number) ∙ digits_by_head number other.1 (sym head ∙ other.4);
               size = long ∙ ap (λ b. 4096 * natural b) (sym same_blocks ∙ ap (λ (m : Meta). m.blocks) same) ∙ ap (λ (m : MetaRow). 4096 * natural m.blocks) (sym at_row);
             })
 

@@ -1,9 +1,9 @@
 -- What an opening finds of a database and a volume.
 use Rattle.std.proofs.Common.{◌≡◌, ◌⊎◌, inl, inr, ℕ, zero, suc, ℤ, pos, negsuc, ◌*◌, ◌<◌, ◌≤◌, ◌^◌, List, [], ◌∷◌, length, Option, Some, None, Result, Ok, Err, refl, sym, ◌∙◌, ap, subst, arith}
-use Rattle.std.specs.Prelude.{option_map, IfSome, IfNone}
+use Rattle.std.specs.Prelude.{◌||◌, codes, true, false, option_map, IfSome, IfNone}
 use Rattle.vault_volume.specs.Image.{bytes_at, DiffersOnlyIn}
 use Rattle.vault_volume.proofs.ImageLemmas.{same_in}
-use Rattle.vault_volume.specs.Disk.{LeavesOnly}
+use Rattle.vault_volume.specs.Disk.{LeavesOne, LeavesOnly}
 use Rattle.vault_volume.specs.Head.{head_of}
 use Rattle.custody_records.specs.declared.meta.Meta.{Meta}
 use Rattle.custody_records.specs.Records.{Records}
@@ -24,15 +24,16 @@ use Rattle.custody_records.specs.Records.{new_records}
 use Rattle.custody_records.specs.Rows.{fresh}
 use Rattle.custody_records.specs.Written.{digits_of}
 use Rattle.custody_records.proofs.FormLemmas.{fresh_in_form}
-use Rattle.custody_store.specs.Reading.{rows_in}
-use Rattle.custody_store.specs.Standing.{Standing, shown, IsReady, IsBare, leaves, Founds, Reads}
+use Rattle.custody_store.specs.Reading.{rows_in, has_table}
+use Rattle.custody_store.specs.Standing.{Standing, shown, IsReady, IsBare, leaves, has_any, has_all, Founds, Reads}
 use Rattle.custody_store.proofs.BareLemmas.{rows_bare}
-use Rattle.custody_store.proofs.ReadLemmas.{reads_then}
+use Rattle.custody_store.proofs.ReadLemmas.{reads_then, meta_there, all_there}
 use Rattle.custody_machine.specs.State.{empty as nothing}
-use Rattle.custody_machine.specs.Stored.{AreWhole, part_of, state_in, HasDigests}
-use Rattle.custody_machine.specs.Moves.{Serving, Left, IsBegun}
-use Rattle.custody_machine.specs.Custody.{IsOnVolume, IsInStore, MayInitialise}
+use Rattle.custody_machine.specs.Stored.{AreWhole, IsGood, KeepsParts, part_of, state_in, HasDigests}
+use Rattle.custody_machine.specs.Moves.{Serving, Left, MayLeave, IsBegun}
+use Rattle.custody_machine.specs.Custody.{IsOnVolume, IsInStore, LeftSince, Leaves, MayInitialise}
 use Rattle.custody_machine.proofs.MapValues.{get-map_values}
+use Rattle.custody_machine.proofs.Stored.{keeps_itself}
 use Rattle.custody_records.specs.Orders.{part_total, part_exact}
 use Rattle.custody_records.proofs.FormLemmas.{InForm-injective}
 use Rattle.custody.specs.Opening.{HasNoRecord}
@@ -77,6 +78,7 @@ other_volume rows found number size image is lt long head other = by rows.meta r
         let same : found ≡ typed.meta_of row = cc in (
           row,
           number,
+          lt,
           ap (λ metas. meta_of (record rows { meta = metas })) at,
           head,
           λ of. other (
@@ -94,6 +96,28 @@ bare_has_none s bare = ap meta_of (rows_bare s bare)
 -- nor has what a stop leaves of it
 pub none_left : (s : State) → IsBare s → (rows : Rows) → leaves s rows → HasNoRecord rows
 none_left s bare rows left = ap meta_of (bare.only rows left) ∙ bare_has_none s bare
+
+-- where there is no record, what a stop leaves has none
+pub still_none : (s : State) → IsReady s ⊎ IsBare s → HasNoRecord (rows_in s.now.trees) → (rows : Rows) → leaves s rows → HasNoRecord rows
+still_none s (inl ready) none rows left = ap meta_of (ready.only rows left) ∙ none
+still_none s (inr bare) none rows left = none_left s bare rows left
+
+-- where all tables are there, one is
+any_there : (s : State) → IsReady s → has_any (shown s) ≡ true
+any_there s ready = ap (λ b. b || has_table (codes "registry") s.now.schema || has_table (codes "part") s.now.schema || has_table (codes "notice") s.now.schema || has_table (codes "handover") s.now.schema) (meta_there s ready)
+
+pub none_ready : (s : State) → false ≡ has_any (shown s) → IsReady s → ⊥
+none_ready s none ready = let some : false ≡ true = none ∙ any_there s ready in cc
+
+-- where none is there, there is no table at all
+pub bare_where_none : (s : State) → false ≡ has_any (shown s) → IsReady s ⊎ IsBare s → IsBare s
+bare_where_none s none (inl ready) = absurd (none_ready s none ready)
+bare_where_none s none (inr bare) = bare
+
+-- where one is missing, and there is a record, there are others than those that are made
+pub some_missing : (s : State) → false ≡ has_all (shown s) → IsReady s ⊎ IsBare s → ¬ HasNoRecord (rows_in s.now.trees) → ⊥
+some_missing s missing (inl ready) has = let all : false ≡ true = missing ∙ all_there s ready in cc
+some_missing s missing (inr bare) has = has (bare_has_none s bare)
 
 -- the same with another fault
 pub founds_err : {A B E F : Type 0} (old new : Standing) (after : Rows) (e : E) (f : F) → Founds {A = A} old new after (Err e) → Founds {A = B} old new after (Err f)
@@ -200,6 +224,32 @@ module _ {A E : Type 0} (old mid new : Standing) (x : A) (reads : Reads {E = E} 
       let from_mid = subst (λ s. Reads {E = F} s later (Ok y)) is then in
       let all = reads_then old mid later x (Ok y) reads from_mid in
       subst (λ s. Reads {A = C} old s (Err z)) (sym at) (record { trust = all.trust; mode = all.mode; same = all.same; bare = all.bare; still_open = λ _ _. tt })
+
+-- ---- what an opening leaves
+
+-- the same rows and image
+pub left_same : (rows : Rows) (image : List ℕ) (r : Rows) (j : List ℕ) → r ≡ rows → j ≡ image → MayLeave (Left rows image) r j
+left_same rows image r j same_rows same_image records is good = record {
+  records = records;
+  in_form = ap form_of same_rows ∙ is;
+  good = subst (IsGood records) (sym same_image) good;
+  keeps = subst (KeepsParts records image records) (sym same_image) (keeps_itself records image);
+  state = ap (state_in records) same_image;
+}
+
+rows_same : (s : State) → IsReady s ⊎ IsBare s → (rows : Rows) → leaves s rows → rows ≡ rows_in s.now.trees
+rows_same s (inl ready) rows left = ready.only rows left
+rows_same s (inr bare) rows left = bare.only rows left
+
+-- a stop within it, or after it
+pub leaves_start : {A E V : Type 0} (s : State) (new : Standing) (r : Result A E) (moment : V → ℕ) (left_at : V → ℕ → List ℕ → Type 0) (old later : V) (image : List ℕ) → IsReady s ⊎ IsBare s → Reads (shown s) new r → new.IsHonest
+    → LeavesOne image (left_at old (moment old)) → LeavesOnly moment left_at old later (left_at old (moment old))
+    → Leaves (leaves s) (LeftSince moment left_at old later) new.may_leave (left_at later (moment later)) (MayLeave (Left (rows_in s.now.trees) image)) (MayLeave (Left (rows_in s.now.trees) image))
+leaves_start s new r moment left_at old later image either reads honest one only = record {
+  within = λ rows j h since. left_same (rows_in s.now.trees) image rows j (rows_same s either rows h) ((one j).0 (only.since since.0 j since.1 since.2 since.3));
+  at_exit = λ rows j h left. left_same (rows_in s.now.trees) image rows j (rows_same s either rows (reads_left (shown s) new r reads honest either rows h))
+      ((one j).0 (only.since (moment later) j only.later (omega arith) left));
+}
 
 -- ---- what is kept of the volume and the rows
 

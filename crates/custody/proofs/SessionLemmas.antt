@@ -15,18 +15,18 @@ use Rattle.custody_machine.specs.Damage.{IsFirstDamage}
 use Rattle.custody_machine.specs.State.{State}
 use Rattle.custody_machine.specs.Machine.{Entry, after, Answer}
 use Rattle.custody_machine.specs.History.{Pair, Event, Opened, NotOpened, StoppedAtRest, OpenedWith, found}
-use Rattle.custody_machine.specs.Stored.{Stands, IsGood, HasDigests, KeepsParts, state_in}
+use Rattle.custody_machine.specs.Stored.{Stands, IsGood, HasDigests, state_in}
 use Rattle.custody_machine.specs.Moves.{Place, Serving, Shut, Left, MayLeave, MayNotOpen, Finds, Moves, MovesAlong, Chain, MovesBy, answered_all, IsIn}
 use Rattle.custody_records.proofs.FormLemmas.{InForm-injective}
 use Rattle.custody_machine.proofs.Moves.{chains_move, pair_of, places_are_right, finds_some}
-use Rattle.custody_machine.proofs.Stored.{stands_for_one, keeps_itself}
+use Rattle.custody_machine.proofs.Stored.{stands_for_one}
 use Rattle.custody.specs.declared.answers.Reply.{Reply}
 use Rattle.custody.specs.declared.answers.Refused as not_accepted
 use Rattle.custody.specs.declared.custody.Custody.{Custody}
 use Rattle.custody.specs.Holdings.{recorded, stored, image_of, left_by}
 use Rattle.custody.specs.Custody.{held_by, HasRun}
 use Rattle.custody.specs.Sessions.{answers_of, IsAfter, IsServing, place_of, IsSession, IsNotOpened, IsReopened, RestsMayStop, SessionsGoOn, OpeningsMayFail}
-use Rattle.custody.proofs.Opened.{reads_left}
+use Rattle.custody.proofs.Opened.{reads_left, left_same}
 use Rattle.custody.proofs.RunMoves.{along_join, runs_move}
 
 -- what a stop leaves of a place where each held part has its digest has them too
@@ -54,15 +54,6 @@ may_not_open rows image Closed open_not damaged = open_not refl
 may_not_open rows image (Damaged damage) open_not damaged = damaged damage refl
 
 -- and what it read is left as it was
-left_same : (rows : Rows) (image : List ℕ) (r : Rows) (j : List ℕ) → r ≡ rows → j ≡ image → MayLeave (Left rows image) r j
-left_same rows image r j same_rows same_image records is good = record {
-  records = records;
-  in_form = ap form_of same_rows ∙ is;
-  good = subst (IsGood records) (sym same_image) good;
-  keeps = subst (KeepsParts records image records) (sym same_image) (keeps_itself records image);
-  state = ap (state_in records) same_image;
-}
-
 pub not_opened : {A E : Type 0} (s : database_state.State) (new : Standing) (image : List ℕ) (fault : Fault) (result : Result A E) (images_left was_left : List ℕ → Type 0) → MayNotOpen (shown s).rows image fault → IsReady s → Reads (shown s) new result → new.IsHonest
     → LeavesOne image was_left → ((j : List ℕ) → images_left j → was_left j) → IsNotOpened (shown s).rows image fault new.may_leave images_left
 not_opened s new image fault result images_left was_left cause ready reads honest one left = record {

@@ -12,13 +12,13 @@ ghost use Rattle.custody_records.specs.Typed as typed;
 ghost use Rattle.custody_store.specs.Reading.{first_meta};
 ghost use Rattle.custody_store.specs.Standing.{standing, Reads, Founds};
 ghost use Rattle.custody_machine.specs.declared.damage.Damage as wrong;
-ghost use Rattle.custody_machine.specs.Damage.{meta_of, IsDamaged, IsFirstDamage, NoneBefore};
+ghost use Rattle.custody_machine.specs.Damage.{meta_of, IsDamaged, IsFirstDamage, NoneBefore, damage_number};
 ghost use Rattle.custody_machine.specs.Stored.{AreWhole};
 ghost use Rattle.custody_machine.specs.Custody.{MayInitialise};
 ghost use Rattle.custody_machine.specs.declared.answers.Fault as why;
 ghost use Rattle.custody.specs.Holdings.{recorded, KeepsOrder};
 ghost use Rattle.custody_rules.specs.Blocks.{IsMapOf};
-ghost use Rattle.custody.specs.Opening.{HasNoRecord, fault_of};
+ghost use Rattle.custody.specs.Opening.{HasAllOrNone, HasNoRecord, fault_of};
 
 use crate::InitError;
 use crate::holdings::Holdings;
@@ -32,7 +32,7 @@ use vault_volume::{ExtentMap, Vault, Volume, read_head, write_head};
 
 /// The first row of meta.
 fn find_record<S: Alter>(db: &mut Connection<S>) -> Result<Option<Meta>, Fault>
-    ensures found { (standing S.Store db.new).IsHonest → (standing S.Store db.old).IsReady ⊎ (standing S.Store db.old).IsBare
+    ensures found { (standing S.Store db.new).IsHonest → HasAllOrNone (standing S.Store db.old)
         → IfOk result (λ found. found ≡ option_map typed.meta_of (first_meta (standing S.Store db.old).rows)) }
     ensures reads { Reads (standing S.Store db.old) (standing S.Store db.new) result }
     ensures kind { IfErr result (λ fault. fault ≡ Fault.StoreFailed) }
@@ -45,7 +45,7 @@ fn find_record<S: Alter>(db: &mut Connection<S>) -> Result<Option<Meta>, Fault>
 
 /// Whether a database has a record of a vault.
 pub fn has_record<S: Alter>(db: &mut Connection<S>) -> Result<bool, Fault>
-    ensures found { (standing S.Store db.new).IsHonest → (standing S.Store db.old).IsReady ⊎ (standing S.Store db.old).IsBare
+    ensures found { (standing S.Store db.new).IsHonest → HasAllOrNone (standing S.Store db.old)
         → IfOk result (λ is_there. is_there ≡ is_some (meta_of (standing S.Store db.old).rows)) }
     ensures reads { Reads (standing S.Store db.old) (standing S.Store db.new) result }
     ensures kind { IfErr result (λ fault. fault ≡ Fault.StoreFailed) }
@@ -97,15 +97,20 @@ pub fn identify<V: Volume, S: Alter>(
     ensures no_failure { OnOk result (V.failures volume.new ≡ V.failures volume.old) }
     ensures not_closed { IfErr result (λ fault. fault ≢ Fault.Closed) }
     ensures head { V.tells → IfOk result (λ found. bytes_at (V.image volume.old) 0 4096 ≡ head_of found.0) }
-    ensures row { (standing S.Store db.new).IsHonest → (standing S.Store db.old).IsReady ⊎ (standing S.Store db.old).IsBare
+    ensures row { (standing S.Store db.new).IsHonest → HasAllOrNone (standing S.Store db.old)
         → OnOk result (¬ HasNoRecord (standing S.Store db.old).rows) }
-    ensures damaged { V.tells → (standing S.Store db.new).IsHonest → (standing S.Store db.old).IsReady ⊎ (standing S.Store db.old).IsBare
+    ensures damaged { V.tells → (standing S.Store db.new).IsHonest → HasAllOrNone (standing S.Store db.old)
         → IfErr result (λ fault. (damage : wrong.Damage) → fault ≡ Fault.Damaged damage → IsFirstDamage damage (standing S.Store db.old).rows (V.image volume.old)) }
-    ensures undamaged { V.tells → (standing S.Store db.new).IsHonest → (standing S.Store db.old).IsReady ⊎ (standing S.Store db.old).IsBare
+    ensures undamaged { V.tells → (standing S.Store db.new).IsHonest → HasAllOrNone (standing S.Store db.old)
         → OnOk result (NoneBefore Damage.Schema (standing S.Store db.old).rows (V.image volume.old)) }
     // No record is told before anything else, whatever the volume is.
-    ensures first { (standing S.Store db.new).IsHonest → (standing S.Store db.old).IsReady ⊎ (standing S.Store db.old).IsBare
+    ensures first { (standing S.Store db.new).IsHonest → HasAllOrNone (standing S.Store db.old)
         → IfErr result (λ fault. (damage : wrong.Damage) → fault ≡ Fault.Damaged damage → damage ≢ Damage.NoRecord → ¬ HasNoRecord (standing S.Store db.old).rows) }
+    ensures told { IfErr result (λ fault. (damage : wrong.Damage) → fault ≡ Fault.Damaged damage → damage_number damage ≤ 3) }
+    // What is told of the rows alone is true, whatever the volume is.
+    ensures rows_damaged { (standing S.Store db.new).IsHonest → HasAllOrNone (standing S.Store db.old)
+        → IfErr result (λ fault. (damage : wrong.Damage) → fault ≡ Fault.Damaged damage → damage ≢ Damage.Head → damage ≢ Damage.Volume
+        → (image : List ℕ) → IsDamaged damage (standing S.Store db.old).rows image) }
     ensures reads { Reads (standing S.Store db.old) (standing S.Store db.new) result }
     ensures image { V.tells → V.image volume.new ≡ V.image volume.old }
     ensures any_moment { V.tells → LeavesOnly V.moment V.left_at volume.old volume.new (V.left_at volume.old (V.moment volume.old)) }
@@ -150,7 +155,7 @@ pub fn load_whole<S: Alter>(
 ) -> Result<Records, Fault>
     ensures whole { IfOk result (λ records. AreWhole (records_of records)) }
     ensures volume { IfOk result (λ records. ((records_of records).number ≡ number) × ((records_of records).blocks ≡ blocks) × (1 ≤ blocks)) }
-    ensures kind { IfErr result (λ fault. (fault ≢ Fault.VolumeFailed) × (fault ≢ Fault.Closed)) }
+    ensures kind { IfErr result (λ fault. (fault ≢ Fault.VolumeFailed) × (fault ≢ Fault.Closed) × (fault ≢ Fault.Damaged Damage.Digest)) }
     ensures found { (standing S.Store store.new).IsHonest → (standing S.Store store.old).IsReady
         → IfOk result (λ records. form_of (standing S.Store store.old).rows ≡ InForm (records_of records)) }
     ensures damaged { (standing S.Store store.new).IsHonest → (standing S.Store store.old).IsReady
@@ -179,9 +184,9 @@ pub fn load_whole<S: Alter>(
 pub fn may_begin<S: Alter>(db: &mut Connection<S>, blocks: u32) -> Result<(), InitError>
     ensures fits { OnOk result ((2 ≤ blocks) × (blocks ≤ 262144)) }
     ensures size { IfErr result (λ e. e ≡ InitError.Size → ¬ ((2 ≤ blocks) × (blocks ≤ 262144))) }
-    ensures taken { (standing S.Store db.new).IsHonest → (standing S.Store db.old).IsReady ⊎ (standing S.Store db.old).IsBare
+    ensures taken { (standing S.Store db.new).IsHonest → HasAllOrNone (standing S.Store db.old)
         → IfErr result (λ e. e ≡ InitError.AlreadyInitialised → ¬ HasNoRecord (standing S.Store db.old).rows) }
-    ensures not_taken { (standing S.Store db.new).IsHonest → (standing S.Store db.old).IsReady ⊎ (standing S.Store db.old).IsBare
+    ensures not_taken { (standing S.Store db.new).IsHonest → HasAllOrNone (standing S.Store db.old)
         → MatchResult result (λ _. HasNoRecord (standing S.Store db.old).rows) (λ e. e ≡ InitError.Size → HasNoRecord (standing S.Store db.old).rows) }
     ensures kind { IfErr result (λ e. (fault : why.Fault) → e ≡ InitError.Fault fault → fault ≡ Fault.StoreFailed) }
     ensures reads { Reads (standing S.Store db.old) (standing S.Store db.new) result }

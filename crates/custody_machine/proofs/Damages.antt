@@ -117,7 +117,7 @@ damaged_stands NoRecord rows image state none s = let row = meta_in_form rows s.
     denied : (a : MetaRow) (o : Option MetaRow) → o ≡ Some a → o ≡ None → ⊥
     denied a o p q = cc
 damaged_stands Head rows image state denied s = let m = head_in_range s.records.number in denied m.0 m.1 (s.good.volume.head ∙ sym m.2)
-damaged_stands Volume rows image state d s = d.4 (volume_stands rows image state s d.0 d.1 d.2 d.3)
+damaged_stands Volume rows image state d s = d.5 (volume_stands rows image state s d.0 d.1 d.3 d.4)
 damaged_stands Schema rows image state out s = not_both _ form.Schema s.records out s.in_form
 damaged_stands FormDamage rows image state out s = not_both _ form.Form s.records out s.in_form
 damaged_stands ExtentDamage rows image state d s = d.2 (subst AreInRange (InForm-injective s.records d.0 (sym s.in_form ∙ d.1)) s.good.whole.extents)
@@ -134,11 +134,11 @@ module _ (rows : Rows) (image : List ℕ) (undamaged : (damage : Damage) → ¬ 
 
     head : bytes_at image 0 4096 ≡ head_of records.number
     head = stable _ (text_decides (bytes_at image 0 4096) (head_of records.number)) (λ other.
-        undamaged Head (λ number lt e. undamaged Volume (row.0, number, row.1, e, λ of. other (e ∙ head_by_digits number records.number (sym of.number_is ∙ row.2.digits)))))
+        undamaged Head (λ number lt e. undamaged Volume (row.0, number, lt, row.1, e, λ of. other (e ∙ head_by_digits number records.number (sym of.number_is ∙ row.2.digits)))))
 
     size : length image ≡ 4096 * records.blocks
     size = stable _ (Decides-eqb (length image) (4096 * records.blocks)) (λ other.
-        undamaged Volume (row.0, records.number, row.1, head, λ of. other (of.size ∙ ap (λ n. 4096 * n) row.2.blocks)))
+        let m = head_in_range records.number in undamaged Volume (row.0, m.0, m.1, row.1, head ∙ sym m.2, λ of. other (of.size ∙ ap (λ n. 4096 * n) row.2.blocks)))
 
     in_form_stands : (state : State) × Stands rows image state
     in_form_stands = (

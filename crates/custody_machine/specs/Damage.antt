@@ -30,7 +30,7 @@ pub record IsRowOf (meta : MetaRow) (number : ℕ) (image : List ℕ) : Type 0 w
 abbrev pub IsDamaged : Damage → Rows → List ℕ → Type 0
 IsDamaged NoRecord rows image = meta_of rows ≡ None
 IsDamaged Head rows image = (number : ℕ) → number < 2 ^ 64 → bytes_at image 0 4096 ≢ head_of number
-IsDamaged Volume rows image = (meta : MetaRow) × (number : ℕ) × (meta_of rows ≡ Some meta) × (bytes_at image 0 4096 ≡ head_of number) × (¬ IsRowOf meta number image)
+IsDamaged Volume rows image = (meta : MetaRow) × (number : ℕ) × (number < 2 ^ 64) × (meta_of rows ≡ Some meta) × (bytes_at image 0 4096 ≡ head_of number) × (¬ IsRowOf meta number image)
 IsDamaged Schema rows image = form_of rows ≡ OutOfForm rows_damage.Schema
 IsDamaged Form rows image = form_of rows ≡ OutOfForm rows_damage.Form
 IsDamaged Extent rows image = (records : Records) × (form_of rows ≡ InForm records) × (¬ AreInRange records)

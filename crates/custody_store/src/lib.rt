@@ -20,3 +20,4 @@ mod values;
 pub use faults::StoreFault;
 pub use meta::find_meta;
 pub use store::Store;
+pub use tables::{has_all, has_any};

@@ -1,6 +1,6 @@
 use Rattle.std.proofs.Common.{◌≡◌, ◌<◌, ◌^◌, pos, refl, subst, ◌∙◌, sym, ap, arith}
 use Rattle.custody_machine.specs.declared.damage.Damage.TheVariants.{Volume, Schema}
-use Rattle.custody_machine.specs.Damage.{IsFirstDamage}
+use Rattle.custody_machine.specs.Damage.{IsDamaged, IsFirstDamage}
 use Rattle.custody_store.specs.Standing.{standing}
 use Rattle.custody.proofs.Opened.{other_volume}
 use Rattle.custody.proofs.FirstDamage.{none_before_volume, none_before_schema, unknown_schema}
@@ -47,3 +47,10 @@ returns-clause-undamaged g c tells honest either =
     let of = c.if-not-is_of.ensures.0 refl in
     none_before_schema (standing g.S.Store c.args.db.now).rows c.in-Ok-Some.meta (g.V.Volume.image volume) found c.in-Ok.number fits (c.in-Ok.ensures.head tells)
     (g.V.Volume.size volume) (g.met.V.Volume.image_length volume tells) of.0 (of.1 ∙ ap pos size)
+
+pub returns-then-not-is_known-clause-rows_damaged : goal.returns-then-not-is_known-clause-rows_damaged
+returns-then-not-is_known-clause-rows_damaged g c honest either damage same not_head not_volume image =
+    let rows = (standing g.S.Store c.args.db.now).rows in
+    let is : Schema ≡ damage = cc in
+    let found = rw c.in-Ok-Some.field-0-is at (c.in-Ok-Some.ensures.found honest either) in
+    subst (λ damage. IsDamaged damage rows image) is (unknown_schema rows c.in-Ok-Some.meta image found (sym c.if-not-is_known.ensures))

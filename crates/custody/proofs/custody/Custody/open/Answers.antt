@@ -1,4 +1,4 @@
-use Rattle.std.proofs.Common.{inl, inr, ℕ, List, ◌*◌, sym, ◌∙◌, ap, subst}
+use Rattle.std.proofs.Common.{inl, inr, ℕ, ◌≤◌, arith, List, ◌*◌, sym, ◌∙◌, ap, subst}
 use Rattle.vault_volume.specs.Head.{head_of}
 use Rattle.vault_volume.specs.Image.{bytes_at}
 use Rattle.vault_volume.specs.Vault.{volume_of, IsFree}
@@ -6,11 +6,12 @@ use Rattle.sqlite.specs.Held.{state}
 use Rattle.custody_records.specs.Form.{form_of, InForm}
 use Rattle.custody_records.specs.Records.{Records}
 use Rattle.custody_store.specs.Standing.{standing}
-use Rattle.custody_machine.specs.declared.damage.Damage.TheVariants.{Schema}
-use Rattle.custody_machine.specs.Damage.{NoneBefore, IsFirstDamage}
+use Rattle.vault_volume.specs.Disk.{LeavesOnly}
+use Rattle.custody_machine.specs.declared.damage.Damage.TheVariants.{Schema, Digest}
+use Rattle.custody_machine.specs.Damage.{NoneBefore, IsDamaged, IsFirstDamage}
 use Rattle.custody_machine.specs.Stored.{AreWhole}
 use Rattle.custody.specs.Holdings.{recorded}
-use Rattle.custody.proofs.Opened.{bare_has_none, ready_still, left_now, reads_on_ok, reads_on_err, reads_on_late, on_volume}
+use Rattle.custody.proofs.Opened.{bare_has_none, some_missing, leaves_start, ready_still, left_now, reads_on_ok, reads_on_err, reads_on_late, on_volume}
 use Rattle.custody.proofs.custody.Custody.open.Goals as goal
 
 pub returns-in-Ok-map_of-clause-records : goal.returns-in-Ok-map_of-clause-records
@@ -98,3 +99,57 @@ pub returns-in-Err-map_of-clause-reads : goal.returns-in-Err-map_of-clause-reads
 returns-in-Err-map_of-clause-reads g c =
     reads_on_late (standing g.S.Store c.args.db) (standing g.S.Store c.identify.new.db) (standing g.S.Store c.over-store.result) _ c.in-Ok.ensures.reads (ap (standing g.S.Store) c.over-store.ensures)
     (standing g.S.Store c.load_whole.new.store) (standing g.S.Store c.into_inner.result) _ _ c.in-Ok-load_whole.ensures.reads (ap (standing g.S.Store) c.into_inner.ensures)
+
+pub returns-in-Err-clause-no_digest : goal.returns-in-Err-clause-no_digest
+returns-in-Err-clause-no_digest g c same = let low : 8 ≤ 3 = c.in-Err.ensures.told Digest same in absurd (omega arith)
+
+pub returns-then-not-has_tables-clause-damaged : goal.returns-then-not-has_tables-clause-damaged
+returns-then-not-has_tables-clause-damaged g c tells either honest damage same = absurd (some_missing (state g.S.Store c.args.db) c.if-not-has_tables.ensures either (c.in-Ok.ensures.row honest either))
+
+pub returns-then-not-has_tables-clause-rows_damaged : goal.returns-then-not-has_tables-clause-rows_damaged
+returns-then-not-has_tables-clause-rows_damaged g c either honest damage same = absurd (some_missing (state g.S.Store c.args.db) c.if-not-has_tables.ensures either (c.in-Ok.ensures.row honest either))
+
+pub returns-in-Err-load_whole-clause-rows_damaged : goal.returns-in-Err-load_whole-clause-rows_damaged
+returns-in-Err-load_whole-clause-rows_damaged g c either honest damage same not_head not_volume image =
+    let clean = subst (λ db. (standing g.S.Store db).IsHonest) c.into_inner-in-Err-load_whole.ensures honest in
+    let then = c.in-Err-load_whole.ensures.reads.trust clean in
+    let over = ap (standing g.S.Store) c.over-store.ensures in
+    elim either [
+      | inl ready ↦
+          let still = ready_still (standing g.S.Store c.args.db) (standing g.S.Store c.identify.new.db) (standing g.S.Store c.over-store.result) _ c.in-Ok.ensures.reads over then ready in
+          subst (λ rows. IsDamaged damage rows image) still.1 (c.in-Err-load_whole.ensures.damaged clean still.0 damage same image)
+      | inr bare ↦ absurd (c.in-Ok.ensures.row (subst (λ s. s.IsHonest) over then) (inr bare) (bare_has_none (state g.S.Store c.args.db) bare))
+    ]
+
+pub returns-in-Err-clause-leaves : goal.returns-in-Err-clause-leaves
+returns-in-Err-clause-leaves g c tells one either honest =
+    leaves_start (state g.S.Store c.args.db) (standing g.S.Store c.identify.new.db) _ g.V.Volume.moment g.V.Volume.left_at c.args.volume c.identify.new.volume (g.V.Volume.image c.args.volume) either
+    c.in-Err.ensures.reads honest one (c.in-Err.ensures.any_moment tells)
+
+pub returns-then-not-has_tables-clause-leaves : goal.returns-then-not-has_tables-clause-leaves
+returns-then-not-has_tables-clause-leaves g c tells one either honest =
+    leaves_start (state g.S.Store c.args.db) (standing g.S.Store c.identify.new.db) _ g.V.Volume.moment g.V.Volume.left_at c.args.volume c.identify.new.volume (g.V.Volume.image c.args.volume) either
+    c.in-Ok.ensures.reads honest one (c.in-Ok.ensures.any_moment tells)
+
+pub returns-in-Ok-map_of-clause-leaves : goal.returns-in-Ok-map_of-clause-leaves
+returns-in-Ok-map_of-clause-leaves g c tells one either honest =
+    let moment = g.V.Volume.moment in
+    let left_at = g.V.Volume.left_at in
+    let reads = reads_on_ok (standing g.S.Store c.args.db) (standing g.S.Store c.identify.new.db) (standing g.S.Store c.over-store.result) _ c.in-Ok.ensures.reads (ap (standing g.S.Store) c.over-store.ensures) {G = Unit {0}}
+    (standing g.S.Store c.load_whole.new.store) (standing g.S.Store c.hold.result.store) _ (tt {0}) c.in-Ok-load_whole.ensures.reads (ap (standing g.S.Store) c.hold.ensures.store) in
+    let during = subst (λ v. LeavesOnly moment left_at c.args.volume v (left_at c.args.volume (moment c.args.volume))) (sym c.hold.ensures.volume) (c.in-Ok.ensures.any_moment tells) in
+    leaves_start (state g.S.Store c.args.db) (standing g.S.Store c.hold.result.store) _ moment left_at c.args.volume (volume_of c.hold.result.vault) (g.V.Volume.image c.args.volume) either reads honest one during
+
+pub returns-in-Err-map_of-clause-leaves : goal.returns-in-Err-map_of-clause-leaves
+returns-in-Err-map_of-clause-leaves g c tells one either honest =
+    let reads = reads_on_late (standing g.S.Store c.args.db) (standing g.S.Store c.identify.new.db) (standing g.S.Store c.over-store.result) _ c.in-Ok.ensures.reads (ap (standing g.S.Store) c.over-store.ensures) {C = Unit {0}}
+    (standing g.S.Store c.load_whole.new.store) (standing g.S.Store c.into_inner.result) _ (tt {0}) c.in-Ok-load_whole.ensures.reads (ap (standing g.S.Store) c.into_inner.ensures) in
+    leaves_start (state g.S.Store c.args.db) (standing g.S.Store c.into_inner.result) _ g.V.Volume.moment g.V.Volume.left_at c.args.volume c.identify.new.volume (g.V.Volume.image c.args.volume) either
+    reads honest one (c.in-Ok.ensures.any_moment tells)
+
+pub returns-in-Err-load_whole-clause-leaves : goal.returns-in-Err-load_whole-clause-leaves
+returns-in-Err-load_whole-clause-leaves g c tells one either honest =
+    let reads = reads_on_err (standing g.S.Store c.args.db) (standing g.S.Store c.identify.new.db) (standing g.S.Store c.over-store.result) _ c.in-Ok.ensures.reads (ap (standing g.S.Store) c.over-store.ensures) {C = Unit {0}}
+    (standing g.S.Store c.load_whole.new.store) (standing g.S.Store c.into_inner-in-Err-load_whole.result) _ (tt {0}) c.in-Err-load_whole.ensures.reads (ap (standing g.S.Store) c.into_inner-in-Err-load_whole.ensures) in
+    leaves_start (state g.S.Store c.args.db) (standing g.S.Store c.into_inner-in-Err-load_whole.result) _ g.V.Volume.moment g.V.Volume.left_at c.args.volume c.identify.new.volume (g.V.Volume.image c.args.volume) either
+    reads honest one (c.in-Ok.ensures.any_moment tells)
