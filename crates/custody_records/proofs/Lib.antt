@@ -5,3 +5,4 @@ pub mod TableLemmas
 pub mod ReadBack
 pub mod ReadLemmas
 pub mod MetaLemmas
+pub mod RegistryLemmas

@@ -19,7 +19,9 @@ use Rattle.custody_records.specs.Records.{PartRecord, Notice, Release, key_of}
 use Rattle.custody_records.specs.Rows.{PartRow, NoticeRow, HandoverRow}
 use Rattle.deposit_name.specs.Identifiers.{is_tld, is_deposit_id, is_reference}
 use Rattle.custody_records.specs.Form.{natural, is_within, is_number, is_day, is_deposit_day, is_moment, kind_in, extents_of, extents_in, is_part, part_key, part_in, check_in, notice_kind_in, notice_in, ground_in, lines_in, release_in}
-use Rattle.custody_records.specs.Written.{text_of}
+use Rattle.std.specs.List.{list_all}
+use Rattle.std.proofs.lemmas.List.Folds.{list_all-append}
+use Rattle.custody_records.specs.Written.{is_line, text_of}
 use Rattle.custody_records.specs.Typed.{name_in, received_in}
 
 pub first_false : (a b : Bool) → a ≡ false → (a && b) ≡ false
@@ -235,10 +237,10 @@ map_push f [] x = refl
 map_push f (y ∷ xs) x = ap (λ l. f y ∷ l) (map_push f xs x)
 
 -- one line more in a text
-pub text_of_step : {V : Type 0} (bytes : V → List ℕ) (lines : List V) (i : ℕ) (line : V) → i < length lines → line ≡ get_or lines i line
-    → text_of (map bytes (take (i + 1) lines)) ≡ (text_of (map bytes (take i lines)) ++ bytes line) ++ 10 ∷ []
-text_of_step bytes lines i line lt is =
-    ap (λ l. text_of (map bytes l)) (take_more lines i line lt)
-    ∙ ap text_of (map_push bytes (take i lines) (get_or lines i line))
-    ∙ text_of_more (map bytes (take i lines)) (bytes (get_or lines i line))
-    ∙ ap (λ v. (text_of (map bytes (take i lines)) ++ bytes v) ++ 10 ∷ []) (sym is)
+pub text_of_push : {V : Type 0} (bytes : V → List ℕ) (lines : List V) (line : V) → text_of (map bytes (lines ++ line ∷ [])) ≡ (text_of (map bytes lines) ++ bytes line) ++ 10 ∷ []
+text_of_push bytes lines line = ap text_of (map_push bytes lines line) ∙ text_of_more (map bytes lines) (bytes line)
+
+-- one line more, which has no line feed within it
+pub lines_push : {V : Type 0} (bytes : V → List ℕ) (lines : List V) (line : V) → list_all is_line (map bytes lines) ≡ true → is_line (bytes line) ≡ true → list_all is_line (map bytes (lines ++ line ∷ [])) ≡ true
+lines_push bytes lines line all one =
+    ap (list_all is_line) (map_push bytes lines line) ∙ list_all-append is_line (map bytes lines) (bytes line ∷ []) ∙ (λ i. all i && (one i && true))

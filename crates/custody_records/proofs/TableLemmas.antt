@@ -69,7 +69,7 @@ module _ {Row K : Type 0} (order : K → K → Ordering) (key : Row → K) where
   below_at low (row ∷ rows) zero d below lt = less_is _ (and_parts _ _ below).0
   below_at low (row ∷ rows) (suc i) d below lt = below_at low rows i d (and_parts (is_lt (order low (key row))) _ below).1 (omega arith)
 
-  rises : (rows : List Row) (i : ℕ) (d : Row) → is_rising order key rows ≡ true → suc i < length rows → order (key (get_or rows i d)) (key (get_or rows (suc i) d)) ≡ Less
+  pub rises : (rows : List Row) (i : ℕ) (d : Row) → is_rising order key rows ≡ true → suc i < length rows → order (key (get_or rows i d)) (key (get_or rows (suc i) d)) ≡ Less
   rises [] i d rising lt = absurd (omega arith)
   rises (row ∷ rows) zero d rising lt = below_at (key row) rows 0 d (and_parts _ _ rising).0 (omega arith)
   rises (row ∷ rows) (suc i) d rising lt = rises rows i d (and_parts (is_below_all order key (key row) rows) _ rising).1 (omega arith)

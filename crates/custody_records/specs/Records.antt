@@ -2,6 +2,8 @@
 use Rattle.std.specs.Prelude.{ℕ, List, Option}
 use Rattle.std.specs.FinMap as map
 use Rattle.std.specs.FinMap.{FinMap}
+use Rattle.std.specs.List.{filter}
+use Rattle.std.specs.Ordering.{is_eq}
 use Rattle.deposit_name.specs.declared.kinds.Kind.{Kind}
 use Rattle.deposit_name.specs.Name.{Name}
 use Rattle.desk.specs.declared.notices.NoticeKind.{NoticeKind}
@@ -49,6 +51,10 @@ new_records number blocks = record { number = number; blocks = blocks; registrie
 -- the key of the part of a name
 abbrev pub key_of : Name → PartKey
 key_of name = record { tld = name.tld; day = name.day; rev = name.rev; part = name.part }
+
+-- the parts of a registry with their places, by day, revision and place in the series
+abbrev pub parts_of : Records → List ℕ → List (PartKey × PartRecord)
+parts_of records tld = filter (λ (e : PartKey × PartRecord). is_eq (text_cmp e.0.tld tld)) (map.entries records.parts)
 
 -- ---- one record more
 

@@ -2,6 +2,7 @@
 //! of their tables.
 #![tactic(auto)]
 
+mod by_registry;
 mod damage;
 mod errors;
 mod extents;

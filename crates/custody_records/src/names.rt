@@ -14,18 +14,20 @@ use std::mem;
 #[derive(Debug, Drop)]
 pub struct Names {
     lines: Vec<Vec<u8>>,
+    /// Their text, as a row has it, so that a row is written without taking memory.
+    text: Vec<u8>,
 }
 
 impl Model for Names {
-    ghost use Rattle.std.specs.Prelude.{ℕ, List, map, IsTrue};
+    ghost use Rattle.std.specs.Prelude.{◌≡◌, ℕ, List, map, IsTrue};
     ghost use Rattle.std.specs.List.{list_all};
-    ghost use Rattle.custody_records.specs.Written.{is_line};
+    ghost use Rattle.custody_records.specs.Written.{is_line, text_of};
 
     ghost Value = { List (List ℕ) };
 
     ghost view = { λ n. map (λ line. line.items) n.lines.items };
 
-    ghost invariant = { λ n. IsTrue (list_all is_line (map (λ line. line.items) n.lines.items)) };
+    ghost invariant = { λ n. IsTrue (list_all is_line (map (λ line. line.items) n.lines.items)) × (n.text.items ≡ text_of (map (λ line. line.items) n.lines.items)) };
 }
 
 impl Names {
@@ -35,6 +37,7 @@ impl Names {
     {
         Names {
             lines: Vec::new(alloc),
+            text: Vec::new(alloc),
         }
     }
 
@@ -77,7 +80,9 @@ impl Names {
         ensures added { OnOk result (self.new ≡ self.old ++ line.items ∷ []) }
         ensures same { OnErr result (self.new ≡ self.old) }
     {
-        self.lines.push(line)?;
+        self.lines.try_reserve(1)?;
+        append_line(&mut self.text, &line)?;
+        self.lines.push_reserved(line);
         Ok(())
     }
 
@@ -90,16 +95,25 @@ impl Names {
     }
 
     /// The text of the names, in which each is followed by a line feed.
-    pub fn to_text(&self, alloc: Global) -> Result<Vec<u8>, AllocError>
-        ensures { IfOk result (λ text. text.items ≡ text_of self.now) }
+    pub fn as_text(&self) -> &[u8]
+        ensures { result.now ≡ text_of self.now }
     {
-        let mut text = Vec::new(alloc);
-        for line in &self.lines {
-            text.extend_from_slice(line)?;
-            text.push(b'\n')?;
-        }
-        Ok(text)
+        &self.text
     }
+}
+
+/// Appends the line and a line feed.
+fn append_line(text: &mut Vec<u8>, line: &[u8]) -> Result<(), AllocError>
+    ensures appended { OnOk result (text.new.items ≡ (text.old.items ++ line.now) ++ 10 ∷ []) }
+    ensures same { OnErr result (text.new.items ≡ text.old.items) }
+{
+    let before = text.len();
+    text.extend_from_slice(line)?;
+    if let Err(full) = text.push(b'\n') {
+        text.truncate(before);
+        return Err(full.into());
+    }
+    Ok(())
 }
 
 fn is_a_line(text: &[u8]) -> bool

@@ -4,9 +4,10 @@ ghost use Rattle.std.specs.FinMap.{get, entries};
 ghost use Rattle.custody_records.specs.Purge.{entries_without_due};
 ghost use Rattle.custody_records.specs.Keys.{text_cmp, part_cmp, notice_cmp};
 ghost use Rattle.custody_records.specs.Orders.{text_total, part_total, notice_total};
-ghost use Rattle.custody_records.specs.Tables.{is_rising, table_map};
+ghost use Rattle.custody_records.specs.Tables.{entries_of, is_rising, table_map};
 ghost use Rattle.custody_records.specs.Typed.{registry_key, registry_value, part_place, part_value, notice_key, notice_value, release_key, release_value};
 
+use crate::by_registry::parts_of;
 use crate::purge::drop_due;
 use crate::tables::{Keyed, add, find, insert};
 use crate::{NoticeKey, Part, PartKey, Registry, Release, RowError};
@@ -33,7 +34,7 @@ pub struct Records {
 }
 
 impl Records {
-    ghost use Rattle.custody_records.specs.Records.{new_records, with_registry, with_part, with_notice, with_release};
+    ghost use Rattle.custody_records.specs.Records.{new_records, parts_of, with_registry, with_part, with_notice, with_release};
     ghost use Rattle.custody_records.specs.Held.{records_of, HasRegistryRoom, HasPartRoom, HasNoticeRoom, HasReleaseRoom};
     ghost use Rattle.custody_records.specs.declared.errors.RowError.TheVariants.{OutOfForm, NoMemory};
 
@@ -140,6 +141,13 @@ impl Records {
         ensures rising { is_rising part_cmp part_place result.now ≡ true }
     {
         &self.parts
+    }
+
+    /// The parts of a registry, by day, revision and place.
+    pub fn parts_of(&self, tld: &Tld) -> &[Part]
+        ensures { entries_of part_place part_value result.now ≡ parts_of (records_of self.now) tld.now }
+    {
+        parts_of(&self.parts, tld)
     }
 
     /// Makes room for one more part.

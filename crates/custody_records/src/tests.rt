@@ -240,8 +240,7 @@ fn names_are_lines(rt: HostRuntime) -> Result<(), Fail> {
         names.push(rt.alloc(), b"th\nree").err(),
         Some(RowError::OutOfForm)
     );
-    let text = names.to_text(rt.alloc())?;
-    assert_eq!(rt; text.as_slice(), b"one\ntwo\n".as_slice());
+    assert_eq!(rt; names.as_text(), b"one\ntwo\n".as_slice());
     Ok(())
 }
 

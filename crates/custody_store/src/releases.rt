@@ -25,14 +25,9 @@ fn ground_of(ground: &Ground) -> &'static [u8]
     ground.as_str().as_bytes()
 }
 
-/// Adds a release of these names, and commits it.
-fn add_lines<'v, S: Alter>(
-    db: &mut Connection<S>,
-    release: &'v Release,
-    names: &'v [u8],
-) -> Result<(), StoreFault>
-    ensures commits { Commits (standing S.Store db.old) (standing S.Store db.new)
-        (with_handover_row (record (release_row_of release.now) { names = names.now }) (standing S.Store db.old).rows) result }
+/// Adds a release, and commits it.
+pub fn add_release<S: Alter>(db: &mut Connection<S>, release: &Release) -> Result<(), StoreFault>
+    ensures commits { Commits (standing S.Store db.old) (standing S.Store db.new) (with_handover_row (release_row_of release.now) (standing S.Store db.old).rows) result }
     ensures kind { IfErr result (λ e. e ≡ StoreFault.Failed) }
 {
     run(
@@ -43,24 +38,9 @@ fn add_lines<'v, S: Alter>(
             text(release.tld.as_bytes()),
             text(ground_of(&release.reason)),
             moment(release.at),
-            text(names),
+            text(release.names.as_text()),
         ],
     )
-}
-
-/// Adds a release, and commits it. The text of its names takes memory, before the database is called.
-pub fn add_release<S: Alter>(
-    db: &mut Connection<S>,
-    alloc: Global,
-    release: &Release,
-) -> Result<(), StoreFault>
-    ensures commits { Commits (standing S.Store db.old) (standing S.Store db.new) (with_handover_row (release_row_of release.now) (standing S.Store db.old).rows) result }
-    ensures kind { IfErr result (λ e. e ≡ StoreFault.Failed) }
-{
-    match release.names.to_text(alloc) {
-        Ok(names) => add_lines(db, release, &names),
-        Err(_) => Err(StoreFault::Failed),
-    }
 }
 
 /// The rows of handover, in the order in which they were added.

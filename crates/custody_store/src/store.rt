@@ -104,12 +104,12 @@ impl<S: Alter> Store<S> {
     }
 
     /// Adds a release, and commits it.
-    pub fn insert_release(&mut self, alloc: Global, release: &Release) -> Result<(), StoreFault>
+    pub fn insert_release(&mut self, release: &Release) -> Result<(), StoreFault>
         ensures commits { Commits (standing S.Store self.old) (standing S.Store self.new)
             (with_handover_row (release_row_of release.now) (standing S.Store self.old).rows) result }
         ensures kind { IfErr result (λ e. e ≡ StoreFault.Failed) }
     {
-        add_release(&mut self.db, alloc, release)
+        add_release(&mut self.db, release)
     }
 
     /// Drops the bytes of the parts whose last day of keeping is before today, and commits it. It answers

@@ -77,7 +77,7 @@ fn add_told<S: Alter>(store: &mut Store<S>, alloc: Global) -> Result<usize, Fail
         store.insert_notice(&notice(1, NoticeKind::Receipt { rev: 0, id })?),
         store.insert_notice(&notice(2, failure)?),
         store.insert_notice(&notice(3, NoticeKind::Absence)?),
-        store.insert_release(alloc, &release(alloc)?),
+        store.insert_release(&release(alloc)?),
     ];
     Ok(added.iter().filter(|answer| answer.is_ok()).count())
 }

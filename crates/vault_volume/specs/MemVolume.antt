@@ -1,5 +1,5 @@
 -- The script of a volume in memory, and its room.
-use Rattle.std.specs.Prelude.{◌⊎◌, ℕ, ◌≤◌, length, nat_eq, IsSomeAnd, IsTrue}
+use Rattle.std.specs.Prelude.{◌≡◌, ◌↔◌, ◌⊎◌, ℕ, ◌+◌, ◌<◌, ◌≤◌, length, nat_eq, IsSomeAnd, IsTrue}
 use Rattle.std.specs.List.{list_any}
 use Rattle.std.specs.Vec.{vec_capacity}
 use Rattle.vault_volume.specs.declared.memory.MemVolume.{MemVolume}
@@ -26,3 +26,12 @@ call_room volume = vec_capacity volume.calls
 -- how many more syncs it has a buffer for
 abbrev pub sync_room : MemVolume → ℕ
 sync_room volume = length volume.spare.items
+
+-- A call answers where the script does not fail it and it finds room, and one that the script fails does not answer. The script and the room for calls stay, and one buffer at most is taken.
+pub record FollowsScript (old new : MemVolume) (FindsRoom Answers : Type 0) : Type 0 where
+  pub fails : WillFail old (call_count old) → ¬ Answers
+  pub answers : ¬ WillFail old (call_count old) → FindsRoom → Answers
+  pub next : call_count old < call_room old → call_count new ≡ call_count old + 1
+  pub same_room : call_room new ≡ call_room old
+  pub buffers : sync_room old ≤ sync_room new + 1
+  pub same_script : (number : ℕ) → WillFail new number ↔ WillFail old number

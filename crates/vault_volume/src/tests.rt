@@ -292,6 +292,20 @@ fn without_room_each_call_fails(rt: HostRuntime) -> Result<(), Fail> {
     Ok(())
 }
 
+fn answers(volume: &mut MemVolume) -> bool {
+    volume.size() > 0 && volume.failures() < 9 && volume.read(0, &mut [0]).is_ok()
+}
+
+#[test]
+fn with_room_for_three_calls_the_fourth_fails(rt: HostRuntime) -> Result<(), Fail> {
+    let mut volume = MemVolume::new(rt.alloc(), 1, 3, 3)?;
+    for wanted in [true, true, true, false, false] {
+        assert_eq!(rt; answers(&mut volume), wanted);
+    }
+    assert_eq!(rt; (volume.calls(), volume.failures()), (3, 2));
+    Ok(())
+}
+
 fn has_kind(opened: Result<FileVolume, FileError>, kind: &str) -> bool {
     let found = match opened {
         Ok(_) => "opened",

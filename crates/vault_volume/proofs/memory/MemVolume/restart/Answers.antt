@@ -16,7 +16,7 @@ returns-clause-restarted c =
       found = found old.start.items old.calls.items old.opened.items old.refused old.opened_by_then c.leave.new.image c.copy_from_slice.new.self.items left
           (ap length (start ∙ second) ∙ c.leave_opened.auto.image ∙ ap length (c.deref_mut-2.ensures.value ∙ first))
           (λ i none. ap (λ (l : List ℕ). get_or l i 0) (start ∙ second) ∙ c.leave_opened.ensures.elsewhere i (ap (λ (l : List ℕ). get_or l i 0) c.deref-2.ensures.value ∙ none) ∙ ap (λ (l : List ℕ). get_or l i 0) (c.deref_mut-2.ensures.value ∙ first));
-      settled = settled_anew _ c.recycle.new.calls.items c.fill.new.self.items 0 c.copy_from_slice.new.self.items c.recycle.ensures refl start;
+      settled = settled_anew _ c.recycle.new.calls.items c.fill.new.self.items 0 c.copy_from_slice.new.self.items c.recycle.ensures.none refl start;
       same_size = refl;
     }
 
