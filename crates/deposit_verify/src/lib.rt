@@ -10,8 +10,6 @@ mod menu;
 mod places;
 mod references;
 mod tables;
-#[cfg(test)]
-mod tests;
 mod verdict;
 mod verification;
 

@@ -8,8 +8,6 @@ mod lines;
 mod notices;
 mod reports;
 mod standing;
-#[cfg(test)]
-mod tests;
 
 pub use checks::Check;
 pub use grounds::Ground;

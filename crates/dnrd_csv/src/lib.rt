@@ -11,8 +11,6 @@ mod reading;
 mod rows;
 mod spelling;
 mod table;
-#[cfg(test)]
-mod tests;
 
 pub use crate::error::TableError;
 pub use crate::form::Form;

@@ -1,6 +1,6 @@
 //! The texts of checks and grounds.
-use crate::{Check, Ground, Notice, NoticeKind, ground_stands, report};
 use deposit_name::{DepositId, Tld};
+use desk::{Check, Ground, Notice, NoticeKind, ground_stands, report};
 use schedule::{read_day, read_moment};
 use std::test::Fail;
 

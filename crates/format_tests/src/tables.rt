@@ -1,6 +1,6 @@
 //! Tables from outside, with their answers.
-use crate::{Keys, TableError, read_keys, read_table, write_table};
 use deposit_name::TableName;
+use dnrd_csv::{Keys, TableError, read_keys, read_table, write_table};
 use std::alloc::Global;
 use std::fs;
 use std::process::Abort;

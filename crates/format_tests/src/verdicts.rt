@@ -1,6 +1,6 @@
 //! Worked deposits with their verdicts.
-use crate::{About, Verdict, law_one_verdict, verify};
 use deposit_name::{DepositId, DepositName, Kind, TableName, Tld};
+use deposit_verify::{About, Verdict, law_one_verdict, verify};
 use desk::Check;
 use envelope::{Count, Envelope, FileEntry, Header, Menu, Uri, write_envelope};
 use schedule::read_day;

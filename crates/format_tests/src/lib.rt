@@ -1,0 +1,17 @@
+//! Tests of the formats of deposits: days, names, lines, envelopes, tables and verdicts. They stand
+//! apart from the crates that they are of, since a crate that has tests is proved a second time with
+//! them.
+#![tactic(auto)]
+
+#[cfg(test)]
+mod days;
+#[cfg(test)]
+mod envelopes;
+#[cfg(test)]
+mod lines;
+#[cfg(test)]
+mod names;
+#[cfg(test)]
+mod tables;
+#[cfg(test)]
+mod verdicts;
