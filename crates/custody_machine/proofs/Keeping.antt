@@ -20,7 +20,7 @@ use Rattle.custody_machine.specs.Names.{is_same_text, read_name}
 use Rattle.custody_machine.specs.SameValues.{is_same_kind}
 use Rattle.custody_machine.specs.State.{State, Part, Content, Held, Dropped, places}
 use Rattle.custody_machine.specs.Machine.{Command, Register, Receive, Refusal, NameRefused, RegistryUnknown, DateOutOfRange, Size, OtherBytes, DroppedAfterKeeping, RevisionNotDue, AlreadyStated, TypeDiffers, PartOutOfOrder, refusals, Record, OfRegistry, OfPart, Reply, Ruling, Refuse, Accept, first_day_of, part_at, of_kind, recorded, has_other_kind, max_part_len, is_held_with, is_held_with_other, holds_other, is_dropped, is_gone, part_in, receive_stands, named_stands, refusal_of, with_registry, with_part, received_part, held_with, kept_under, kept, effect, received, unless_kept, unless_refused, step, state_of, reads, read_by, HasRecord}
-use Rattle.custody_machine.specs.Retries.{has_same_key, AsksAgain, IsDroppedSince, IsKeptPart, without_bytes, KeepsRecords, NothingIsRemoved, RepliesAreRecords, IsOfCommand, StillHas}
+use Rattle.custody_machine.specs.Retries.{has_same_key, asked, IsDroppedSince, without_bytes, IsKeptAs, StillHas, KeepsRecords, NothingIsRemoved, RepliesAreRecords, IsOfCommand}
 use Rattle.custody_machine.proofs.NameReading.{read_is}
 use Rattle.custody_machine.proofs.SameValues.{text_decides, kind_decides}
 use Rattle.custody_records.specs.Orders.{text_total, part_total}
@@ -204,29 +204,24 @@ receives s text bytes now reply new e =
 
 -- ---- nothing is removed
 
+pub kept_itself : (entry : Record) → IsKeptAs entry entry
+kept_itself (OfPart key part) = inl refl
+kept_itself entry = refl
+
+-- a record of the state is one that it still has
+still : (s : State) (entry : Record) → HasRecord s entry → StillHas s entry
+still s entry has = (entry, has, kept_itself entry)
+
 keeps_itself : (s : State) → KeepsRecords s s
-keeps_itself s = record {
-  registries = λ tld day e. e;
-  parts = λ key part e. (part, e, inl refl);
-  notices = λ key notice e. e;
-  releases = λ reference release e. e;
-}
+keeps_itself = still
 
 keeps_registering : (s : State) (tld : List ℕ) (day : ℕ) → first_day_of s tld ≡ None → KeepsRecords s (with_registry s tld day)
-keeps_registering s tld day none = record {
-  registries = λ q x e. insert_new text_total s.registries tld day q x none e;
-  parts = λ key part e. (part, e, inl refl);
-  notices = λ key notice e. e;
-  releases = λ reference release e. e;
-}
+keeps_registering s tld day none (OfRegistry q x) e = still (with_registry s tld day) (OfRegistry q x) (insert_new text_total s.registries tld day q x none e)
+keeps_registering s tld day none entry e = still (with_registry s tld day) entry e
 
 keeps_adding : (s : State) (key : PartKey) (part : Part) → part_at s key ≡ None → KeepsRecords s (with_part s key part)
-keeps_adding s key part none = record {
-  registries = λ q x e. e;
-  parts = λ q x e. (x, insert_new part_total s.parts key part q x none e, inl refl);
-  notices = λ key notice e. e;
-  releases = λ reference release e. e;
-}
+keeps_adding s key part none (OfPart q x) e = still (with_part s key part) (OfPart q x) (insert_new part_total s.parts key part q x none e)
+keeps_adding s key part none entry e = still (with_part s key part) entry e
 
 -- the ruling of a registration, by what is known of its registry
 abbrev pub registered : State → List ℕ → ℕ → ℕ → Option ℕ → Ruling
@@ -253,6 +248,20 @@ nothing_is_removed old command now = by (step old command now) refl
     by (Accept reply new) e = step_keeps old command now reply new e
 
 -- ---- a command that comes again
+
+-- a part is as it was, or its bytes are dropped
+abbrev IsKeptPart : Part → Part → Type 0
+IsKeptPart old new = (new ≡ old) ⊎ (new ≡ without_bytes old)
+
+registry_is_kept : (s new : State) (tld : List ℕ) (day : ℕ) → KeepsRecords s new → first_day_of s tld ≡ Some day → first_day_of new tld ≡ Some day
+registry_is_kept s new tld day k at = let h = k (OfRegistry tld day) at in subst (HasRecord new) h.2 h.1
+
+part_is_kept : (s new : State) (key : PartKey) (part : Part) → KeepsRecords s new → part_at s key ≡ Some part → (kept : Part) × (part_at new key ≡ Some kept) × IsKeptPart part kept
+part_is_kept s new key part k at = let h = k (OfPart key part) at in by h.0 h.1 h.2
+  where
+    by : (kept : Record) → HasRecord new kept → IsKeptAs (OfPart key part) kept → (kept : Part) × (part_at new key ≡ Some kept) × IsKeptPart part kept
+    by kept has (inl p) = (part, subst (HasRecord new) p has, inl refl)
+    by kept has (inr p) = (without_bytes part, subst (HasRecord new) p has, inr refl)
 
 -- what is kept of an accepted part
 pub record KeepsPart (s : State) (text bytes : List ℕ) (entry : Record) : Type 0 where
@@ -285,12 +294,12 @@ is_known s new tld k e = by (first_day_of s tld) refl e
   where
     by : (o : Option ℕ) → first_day_of s tld ≡ o → is_none o ≡ false → is_none (first_day_of new tld) ≡ false
     by None at e = cc
-    by (Some day) at e = ap is_none (k.registries tld day at)
+    by (Some day) at e = ap is_none (registry_is_kept s new tld day k at)
 
 pub keeps_on : (s new : State) (c : Command) (entry : Record) → KeepsRecords s new → Keeps s c entry → Keeps new c entry
-keeps_on s new (Register tld day) entry k h = (h.0, k.registries tld h.0 h.1, h.2)
+keeps_on s new (Register tld day) entry k h = (h.0, registry_is_kept s new tld h.0 k h.1, h.2)
 keeps_on s new (Receive text bytes) entry k h =
-    let on = k.parts (key_of h.name) h.kept h.at in
+    let on = part_is_kept s new (key_of h.name) h.kept k h.at in
     record {
       name = h.name;
       part = h.part;
@@ -378,9 +387,13 @@ replies_are_records old new (Receive text bytes) now reply e = let r = receives 
 
 -- what is kept is of its command, and is there
 pub kept_is_there : (s : State) (c : Command) (entry : Record) → Keeps s c entry → IsOfCommand c entry × StillHas s entry
-kept_is_there s (Register tld day) entry h = subst (λ e. IsOfCommand (Register tld day) e × StillHas s e) (sym h.2) (refl, h.1)
+kept_is_there s (Register tld day) entry h = subst (λ e. IsOfCommand (Register tld day) e × StillHas s e) (sym h.2) (refl, still s (OfRegistry tld h.0) h.1)
 kept_is_there s (Receive text bytes) entry h = subst (λ e. IsOfCommand (Receive text bytes) e × StillHas s e) (sym h.made)
-    ((h.name, h.named, refl, (kind_decides h.part.kind h.name.kind).0 h.kind, h.content), (h.kept, h.at, h.same))
+    ((h.name, h.named, refl, (kind_decides h.part.kind h.name.kind).0 h.kind, h.content), (OfPart (key_of h.name) h.kept, h.at, by h.same))
+  where
+    by : IsKeptPart h.part h.kept → IsKeptAs (OfPart (key_of h.name) h.part) (OfPart (key_of h.name) h.kept)
+    by (inl p) = inl (ap (OfPart (key_of h.name)) p)
+    by (inr p) = inr (ap (OfPart (key_of h.name)) p)
 
 -- the kind of what is kept
 kept_kind : (part kept : Part) (kind : Kind) → IsKeptPart part kept → is_same_kind part.kind kind ≡ true → is_same_kind kept.kind kind ≡ true
@@ -394,8 +407,6 @@ same_key_is_kept s (Register tld day) (Register other first) entry now reply new
     let at : first_day_of s other ≡ Some h.0 = ap (first_day_of s) is ∙ h.1 in
     let ruling : registered s other first now (Some h.0) ≡ Accept reply new = ap (registered s other first now) (sym at) ∙ (step_accepts s (Register other first) now reply new e).1 in
     ((h.0, at, h.2 ∙ ap (λ t. OfRegistry t h.0) (sym is)), sym (accept_inj _ _ _ _ ruling).1)
-same_key_is_kept s (Register tld day) (Receive text bytes) entry now reply new h same e = cc
-same_key_is_kept s (Receive text bytes) (Register tld day) entry now reply new h same e = cc
 same_key_is_kept s (Receive text bytes) (Receive other others) entry now reply new h same e =
     let is : other ≡ text = (text_decides other text).0 same in
     let r = receives s other others now reply new e in
@@ -425,27 +436,32 @@ same_key_is_kept s (Receive text bytes) (Receive other others) entry now reply n
     undropped : (part kept : Part) (bytes : List ℕ) → IsKeptPart part kept → kept.content ≡ Held bytes → part.content ≡ Held bytes
     undropped part kept bytes (inl p) e = ap (λ (q : Part). q.content) (sym p) ∙ e
     undropped part kept bytes (inr p) e = let gone = ap (λ (q : Part). q.content) (sym p) ∙ e in cc
+same_key_is_kept s c d entry now reply new h same e = cc
 
 -- the ruling of a command that asks again
 abbrev pub Again : State → Command → Record → ℕ → Type 0
 Again s d entry now = (step s d now ≡ Accept (record { entry = entry; is_repeat = true }) s) ⊎ ((step s d now ≡ Refuse DroppedAfterKeeping) × IsDroppedSince s d)
 
--- A command that asks again is answered by what is kept, or that its bytes are dropped; and no bytes decide it.
-pub asked_again : (s : State) (c d : Command) (entry : Record) (now : ℕ) → Keeps s c entry → AsksAgain c d → Again s d entry now × (reads s d now ≡ [])
-asked_again s (Register tld day) (Register other first) entry now h again =
-    (inl (step_none s (Register other first) now refl ∙ ap (registered s other first now) (ap (first_day_of s) (sym again) ∙ h.1) ∙ ap (λ e. Accept (record { entry = e; is_repeat = true }) s) (ap (λ t. OfRegistry t h.0) (sym again) ∙ sym h.2)), refl)
-asked_again s (Register tld day) (Receive text bytes) entry now h again = absurd again
-asked_again s (Receive text bytes) (Register tld day) entry now h again = absurd again
-asked_again s (Receive text bytes) (Receive other others) entry now h again = by h.same
-  where
-    named : read_name other ≡ Ok h.name
-    named = ap read_name (sym again.0) ∙ h.named
+-- What is kept does not rest on what is not compared.
+as_asked : (s : State) (c : Command) (entry : Record) → Keeps s c entry → Keeps s (asked c) entry
+as_asked s (Register tld day) entry h = h
+as_asked s c entry h = h
 
+of_asked : (s : State) (c : Command) (entry : Record) → Keeps s (asked c) entry → Keeps s c entry
+of_asked s (Register tld day) entry h = h
+of_asked s c entry h = h
+
+pub kept_again : (s : State) (c d : Command) (entry : Record) → Keeps s c entry → asked c ≡ asked d → Keeps s d entry
+kept_again s c d entry h again = of_asked s d entry (subst (λ a. Keeps s a entry) again (as_asked s c entry h))
+
+-- A command of which a record is kept is answered by it, or that its bytes are dropped; and no bytes decide it.
+pub asked_again : (s : State) (d : Command) (entry : Record) (now : ℕ) → Keeps s d entry → Again s d entry now × (reads s d now ≡ [])
+asked_again s (Register tld day) entry now h =
+    (inl (step_none s (Register tld day) now refl ∙ ap (registered s tld day now) h.1 ∙ ap (λ e. Accept (record { entry = e; is_repeat = true }) s) (sym h.2)), refl)
+asked_again s (Receive text bytes) entry now h = by h.same
+  where
     at : recorded s h.name ≡ Some h.kept
     at = recorded_of s h.name h.kept h.at (kept_kind h.part h.kept h.name.kind h.same h.kind)
-
-    size : receive_stands s h.name others now Size ≡ false
-    size = ap (λ (b : List ℕ). length b == 0 || nat_lt max_part_len (length b)) (sym again.1) ∙ h.size
 
     is_new : is_none (recorded s h.name) ≡ false
     is_new = ap is_none at
@@ -453,21 +469,21 @@ asked_again s (Receive text bytes) (Receive other others) entry now h again = by
     not_new : (b : Bool) → (is_none (recorded s h.name) && b) ≡ false
     not_new b = ap (λ a. a && b) is_new
 
-    refusal_by : (o : Option Refusal) → find (receive_stands s h.name others now) refusals ≡ o → refusal_of s (Receive other others) now ≡ o
-    refusal_by o e = ap (λ r. find (named_stands s r others now) refusals) named ∙ e
+    refusal_by : (o : Option Refusal) → find (receive_stands s h.name bytes now) refusals ≡ o → refusal_of s (Receive text bytes) now ≡ o
+    refusal_by o e = ap (λ r. find (named_stands s r bytes now) refusals) h.named ∙ e
 
-    reads_by : (o : Option Refusal) → find (receive_stands s h.name others now) refusals ≡ o → read_by o (Ok h.name) ≡ [] → reads s (Receive other others) now ≡ []
-    reads_by o e none = (λ i. read_by (refusal_by o e i) (named i)) ∙ none
+    reads_by : (o : Option Refusal) → find (receive_stands s h.name bytes now) refusals ≡ o → read_by o (Ok h.name) ≡ [] → reads s (Receive text bytes) now ≡ []
+    reads_by o e none = (λ i. read_by (refusal_by o e i) (h.named i)) ∙ none
 
-    by : IsKeptPart h.part h.kept → Again s (Receive other others) entry now × (reads s (Receive other others) now ≡ [])
+    by : IsKeptPart h.part h.kept → Again s (Receive text bytes) entry now × (reads s (Receive text bytes) now ≡ [])
     by (inl p) =
-        let content : h.kept.content ≡ Held others = ap (λ (q : Part). q.content) p ∙ h.content ∙ ap Held again.1 in
-        let other_bytes : receive_stands s h.name others now OtherBytes ≡ false = ap (holds_other others) at ∙ ap (is_held_with_other others) content ∙ ap not ((text_decides others others).1 refl) in
-        let dropped : receive_stands s h.name others now DroppedAfterKeeping ≡ false = ap is_dropped at ∙ ap is_gone content in
-        let none : NoneStands s h.name others now = record {
+        let content : h.kept.content ≡ Held bytes = ap (λ (q : Part). q.content) p ∙ h.content in
+        let other_bytes : receive_stands s h.name bytes now OtherBytes ≡ false = ap (holds_other bytes) at ∙ ap (is_held_with_other bytes) content ∙ ap not ((text_decides bytes bytes).1 refl) in
+        let dropped : receive_stands s h.name bytes now DroppedAfterKeeping ≡ false = ap is_dropped at ∙ ap is_gone content in
+        let none : NoneStands s h.name bytes now = record {
           registry = h.registry;
           date = not_new _;
-          size = size;
+          size = h.size;
           bytes = other_bytes;
           dropped = dropped;
           due = not_new _;
@@ -475,14 +491,14 @@ asked_again s (Receive text bytes) (Receive other others) entry now h again = by
           kind = not_new _;
           order = not_new _;
         } in
-        let nothing = find_none s h.name others now none in (
-          inl (step_none s (Receive other others) now (refusal_by None nothing) ∙ rules_part s other others now h.name named other_bytes dropped ∙ ap (answered s h.name others now) at
+        let nothing = find_none s h.name bytes now none in (
+          inl (step_none s (Receive text bytes) now (refusal_by None nothing) ∙ rules_part s text bytes now h.name h.named other_bytes dropped ∙ ap (answered s h.name bytes now) at
               ∙ ap (λ e. Accept (record { entry = e; is_repeat = true }) s) (ap (OfPart (key_of h.name)) p ∙ sym h.made)),
           reads_by None nothing refl,
         )
     by (inr p) =
         let content : is_gone h.kept.content ≡ true = ap (λ (q : Part). is_gone q.content) p in
-        let other_bytes : receive_stands s h.name others now OtherBytes ≡ false = ap (holds_other others) at ∙ ap (λ (q : Part). is_held_with_other others q.content) p in
-        let dropped : receive_stands s h.name others now DroppedAfterKeeping ≡ true = ap is_dropped at ∙ content in
-        let stands = find_dropped s h.name others now h.registry (not_new _) size other_bytes dropped in
-        (inr (step_refuses s (Receive other others) now DroppedAfterKeeping (refusal_by (Some DroppedAfterKeeping) stands), (h.name, named, dropped)), reads_by (Some DroppedAfterKeeping) stands refl)
+        let other_bytes : receive_stands s h.name bytes now OtherBytes ≡ false = ap (holds_other bytes) at ∙ ap (λ (q : Part). is_held_with_other bytes q.content) p in
+        let dropped : receive_stands s h.name bytes now DroppedAfterKeeping ≡ true = ap is_dropped at ∙ content in
+        let stands = find_dropped s h.name bytes now h.registry (not_new _) h.size other_bytes dropped in
+        (inr (step_refuses s (Receive text bytes) now DroppedAfterKeeping (refusal_by (Some DroppedAfterKeeping) stands), (h.name, h.named, dropped)), reads_by (Some DroppedAfterKeeping) stands refl)

@@ -1,14 +1,14 @@
 -- The laws of commands that come again. They rest on four facts of the machine, `step_keeps`, `accepted_is_kept`, `same_key_is_kept` and `asked_again`.
-use Rattle.std.proofs.Common.{◌≡◌, ℕ, List, [], ◌∷◌, ◌++◌, Option, Some, None, Bool, true, false, ◌||◌, inl, inr, refl, sym, ◌∙◌, ap, subst, cond, if◌then◌else◌, append_assoc}
+use Rattle.std.proofs.Common.{◌≡◌, ℕ, List, [], ◌∷◌, ◌++◌, Option, Some, None, is_some, Bool, true, false, ◌||◌, inl, inr, refl, sym, ◌∙◌, ap, subst, cond, if◌then◌else◌, append_assoc}
 use Rattle.std.specs.List.{list_any}
 use Rattle.custody_machine.specs.State.{State}
-use Rattle.custody_machine.specs.Machine.{Register, Receive, Command, Entry, Record, Reply, Ruling, Refuse, Accept, step, state_of, state_after, after, reads, Answer, Accepted, Refused, Failed, NoMemory, VolumeFailed, StoreFailed, Closed, Damaged, Answers, MayRefuse, MayFail}
+use Rattle.custody_machine.specs.Machine.{Command, Entry, Record, Reply, Ruling, Refuse, Accept, step, state_of, state_after, after, reads, Answer, Accepted, Refused, Failed, NoMemory, VolumeFailed, StoreFailed, Closed, Damaged, Answers, MayRefuse, MayFail}
 use Rattle.custody_machine.specs.SameValues.{is_same_state}
 use Rattle.custody_machine.specs.History.{Pair, Opened, Event, Answered, ShutDown, StoppedAtRest, StoppedWithin, OpenedWith, Condition, Running, Halted, Resting, Happens, Run, Found, leads_to, settled, or_else, found_then, found_after, found, none_found}
-use Rattle.custody_machine.specs.Retries.{has_same_key, once_after, ActsOnce, AsksAgain, record_of, first_record, IsAnsweredAgain, RepeatsAreAnswered, IsOfCommand, StillHas, AcknowledgedIsKept}
+use Rattle.custody_machine.specs.Retries.{Key, OfTld, OfName, key, are_same_keys, has_same_key, KeysAreCompared, once_after, ActsOnce, AsksAgain, record_of, first_record, IsAnsweredAgain, RepeatsAreAnswered, IsOfCommand, StillHas, AcknowledgedIsKept}
 use Rattle.custody_machine.proofs.SameValues.{text_decides}
 use Rattle.custody_machine.proofs.Histories.{after-append, Fits, fits_then, fits_after, fits_first, run_split, found_after-append, all_more, openings_are_right}
-use Rattle.custody_machine.proofs.Keeping.{Keeps, keeps_on, step_keeps, accepted_is_kept, same_key_is_kept, asked_again, Again, kept_is_there}
+use Rattle.custody_machine.proofs.Keeping.{accept_inj, kept_itself, Keeps, keeps_on, step_keeps, accepted_is_kept, same_key_is_kept, kept_again, asked_again, Again, kept_is_there}
 
 -- ---- the commands found were accepted, one after the other
 
@@ -139,25 +139,34 @@ first_is_kept s (x ∷ before) behind e own all = by (has_same_key e.0 x.0) refl
     )
     by false same later = (later.0, ap (λ t. first_record t rest e.0) to ∙ later.1, subst (λ t. Keeps (after t rest) e.0 later.0) (sym to) later.2)
 
-own_key : (c d : Command) → AsksAgain c d → has_same_key c c ≡ true
-own_key (Register a _) (Register b _) h = (text_decides a a).1 refl
-own_key (Receive a _) (Receive b _) h = (text_decides a a).1 refl
-own_key (Register _ _) (Receive _ _) h = absurd h
-own_key (Receive _ _) (Register _ _) h = absurd h
+own_key : (k : Option Key) → is_some k ≡ true → are_same_keys k k ≡ true
+own_key (Some (OfTld a)) h = (text_decides a a).1 refl
+own_key (Some (OfName a)) h = (text_decides a a).1 refl
+own_key None h = h
+
+one_key : (a b : Option Key) → are_same_keys a b ≡ true → (is_some a ≡ true) × (a ≡ b)
+one_key (Some (OfTld a)) (Some (OfTld b)) e = (refl, ap (λ t. Some (OfTld t)) ((text_decides a b).0 e))
+one_key (Some (OfName a)) (Some (OfName b)) e = (refl, ap (λ t. Some (OfName t)) ((text_decides a b).0 e))
+one_key a b e = cc
+
+pub keys_are_compared : KeysAreCompared
+keys_are_compared a b = (one_key (key a) (key b), λ h. subst (λ k. are_same_keys (key a) k ≡ true) h.1 (own_key (key a) h.0))
 
 -- by what the machine decides of it
-answered_by : (old new : State) (command : Command) (now : ℕ) (entry : Record) (answer : Answer) → Again old command entry now → reads old command now ≡ [] → Answers old command now answer new → IsAnsweredAgain old command (Some entry) answer
-answered_by old new command now entry (Accepted reply) (inl h) none a = let e = sym h ∙ a in (cc, cc)
-answered_by old new command now entry (Accepted reply) (inr h) none a = let e = sym h.0 ∙ a in cc
-answered_by old new command now entry (Refused q) (inl h) none a = let e = subst (λ r. MayRefuse command r q) h a.0 in let no = e.2 in cc
-answered_by old new command now entry (Refused q) (inr h) none a = (subst (λ r. MayRefuse command r q) h.0 a.0, h.1)
-answered_by old new command now entry (Failed NoMemory) h none a = tt
-answered_by old new command now entry (Failed VolumeFailed) h none a = tt
-answered_by old new command now entry (Failed StoreFailed) (inl h) none a = let no = subst (λ r. MayFail r (reads old command now) StoreFailed) h a.0 in cc
-answered_by old new command now entry (Failed StoreFailed) (inr h) none a = subst (λ r. MayFail r (reads old command now) StoreFailed) h.0 a.0
-answered_by old new command now entry (Failed Closed) h none a = tt
-answered_by old new command now entry (Failed (Damaged damage)) (inl h) none a = (subst (λ r. MayFail r (reads old command now) (Damaged damage)) h a.0).1 none
-answered_by old new command now entry (Failed (Damaged damage)) (inr h) none a = (subst (λ r. MayFail r (reads old command now) (Damaged damage)) h.0 a.0).1 none
+answered_by : (old new : State) (command : Command) (now : ℕ) (entry : Record) (answer : Answer) → IsOfCommand command entry → Again old command entry now → reads old command now ≡ [] → Answers old command now answer new → IsAnsweredAgain old command (Some entry) answer
+answered_by old new command now entry (Accepted reply) own (inl h) none a =
+    let e = (accept_inj _ _ _ _ (sym h ∙ a)).0 in
+    subst (λ (r : Reply). IsAnsweredAgain old command (Some entry) (Accepted r)) e (entry, refl, kept_itself entry, own, refl)
+answered_by old new command now entry (Accepted reply) own (inr h) none a = let e = sym h.0 ∙ a in cc
+answered_by old new command now entry (Refused q) own (inl h) none a = let e = subst (λ r. MayRefuse command r q) h a.0 in let no = e.2 in cc
+answered_by old new command now entry (Refused q) own (inr h) none a = (subst (λ r. MayRefuse command r q) h.0 a.0, h.1)
+answered_by old new command now entry (Failed NoMemory) own h none a = tt
+answered_by old new command now entry (Failed VolumeFailed) own h none a = tt
+answered_by old new command now entry (Failed StoreFailed) own (inl h) none a = let no = subst (λ r. MayFail r (reads old command now) StoreFailed) h a.0 in cc
+answered_by old new command now entry (Failed StoreFailed) own (inr h) none a = subst (λ r. MayFail r (reads old command now) StoreFailed) h.0 a.0
+answered_by old new command now entry (Failed Closed) own h none a = tt
+answered_by old new command now entry (Failed (Damaged damage)) own (inl h) none a = (subst (λ r. MayFail r (reads old command now) (Damaged damage)) h a.0).1 none
+answered_by old new command now entry (Failed (Damaged damage)) own (inr h) none a = (subst (λ r. MayFail r (reads old command now) (Damaged damage)) h.0 a.0).1 none
 
 same_after : (old : State) (command : Command) (now : ℕ) (entry : Record) → Again old command entry now → state_after old command now ≡ old
 same_after old command now entry (inl e) = ap (state_of old) e
@@ -174,8 +183,9 @@ repeated : (first : State) (c next : Condition) (f : Found) (entry : Entry) (kep
     Keeps (after first f.commands) entry.0 kept → AsksAgain entry.0 command →
     IsAnsweredAgain (after first f.commands) command (Some kept) answer × (after first (found_then first f (Answered command now answer)).commands ≡ after first f.commands)
 repeated first (Running old) next f entry kept command now answer fits h keeps again =
-    let ruling = asked_again old entry.0 command kept now (subst (λ s. Keeps s entry.0 kept) fits.0 keeps) again in
-    (subst (λ s. IsAnsweredAgain s command (Some kept) answer) (sym fits.0) (answered_by old h.0 command now kept answer ruling.0 ruling.1 h.1), unchanged_by first f old command now kept answer fits.0 ruling.0)
+    let here = kept_again old entry.0 command kept (subst (λ s. Keeps s entry.0 kept) fits.0 keeps) again.1 in
+    let ruling = asked_again old command kept now here in
+    (subst (λ s. IsAnsweredAgain s command (Some kept) answer) (sym fits.0) (answered_by old h.0 command now kept answer (kept_is_there old command kept here).0 ruling.0 ruling.1 h.1), unchanged_by first f old command now kept answer fits.0 ruling.0)
 repeated first (Halted old doubt) next f entry kept command now answer fits h keeps again =
     subst (λ a. IsAnsweredAgain (after first f.commands) command (Some kept) a × (after first (found_then first f (Answered command now a)).commands ≡ after first f.commands)) (sym h.0) (tt, refl)
 repeated first (Resting pair) next f entry kept command now answer fits h keeps again = absurd h
@@ -186,7 +196,7 @@ repeats_are_answered first earlier later before behind entry command now answer 
     let f : Found = found_after first none_found earlier in
     let fits : Fits first parts.0 f = fits_after first history.0 earlier parts.0 none_found (fits_first first history.0 history.2) parts.1 in
     let all : AllAccepted first f.commands = accepted_after first history.0 earlier parts.0 none_found (fits_first first history.0 history.2) parts.1 tt in
-    let one = first_is_kept first before behind entry (own_key entry.0 command again) (subst (AllAccepted first) is all) in
+    let one = first_is_kept first before behind entry (own_key (key entry.0) again.0) (subst (AllAccepted first) is all) in
     let keeps : Keeps (after first f.commands) entry.0 one.0 = subst (λ l. Keeps (after first l) entry.0 one.0) (sym is) one.2 in
     let answered = repeated first parts.0 parts.2.0 f entry one.0 command now answer fits parts.2.1 keeps again in
     let record_is : first_record first f.commands entry.0 ≡ Some one.0 = ap (λ l. first_record first l entry.0) is ∙ one.1 in (

@@ -10,8 +10,8 @@ use Rattle.deposit_name.specs.declared.faults.NameError.TheVariants as faults
 use Rattle.deposit_name.specs.Name.{Name}
 use Rattle.desk.specs.declared.notices.NoticeKind.{NoticeKind}
 use Rattle.desk.specs.declared.notices.NoticeKind.TheVariants.{Receipt, Failure, Absence}
-use Rattle.custody_records.specs.Keys.{PartKey}
-use Rattle.custody_records.specs.Records.{key_of}
+use Rattle.custody_records.specs.Keys.{PartKey, NoticeKey}
+use Rattle.custody_records.specs.Records.{Notice, Release, key_of}
 pub use Rattle.custody_machine.specs.declared.damage.Damage.{Damage}
 pub use Rattle.custody_machine.specs.declared.answers.Refusal.{Refusal}
 pub use Rattle.custody_machine.specs.declared.answers.Refusal.TheVariants.{NameRefused, RegistryUnknown, DateOutOfRange, Size, OtherBytes, DroppedAfterKeeping, RevisionNotDue, AlreadyStated, TypeDiffers, PartOutOfOrder, VolumeFull}
@@ -35,10 +35,12 @@ abbrev pub refusals : List Refusal
 refusals = NameRefused faults.Suffix ∷ NameRefused faults.Pieces ∷ NameRefused faults.Tld ∷ NameRefused faults.Date ∷ NameRefused faults.Kind ∷ NameRefused faults.Part ∷ NameRefused faults.Revision
     ∷ RegistryUnknown ∷ DateOutOfRange ∷ Size ∷ OtherBytes ∷ DroppedAfterKeeping ∷ RevisionNotDue ∷ AlreadyStated ∷ TypeDiffers ∷ PartOutOfOrder ∷ []
 
--- the record that a command made, or found made
+-- a record of the state: the one that a command made, or found made
 pub data Record : Type 0 where
   OfRegistry : (tld : List ℕ) → (first_day : ℕ) → Record
   OfPart : PartKey → Part → Record
+  OfNotice : NoticeKey → Notice → Record
+  OfRelease : (reference : List ℕ) → Release → Record
 
 pub record Reply : Type 0 where
   pub entry : Record
@@ -269,3 +271,5 @@ Answers old command now (Failed fault) new = MayFail (step old command now) (rea
 abbrev pub HasRecord : State → Record → Type 0
 HasRecord state (OfRegistry tld first_day) = get state.registries tld ≡ Some first_day
 HasRecord state (OfPart key part) = get state.parts key ≡ Some part
+HasRecord state (OfNotice key notice) = get state.notices key ≡ Some notice
+HasRecord state (OfRelease reference release) = get state.releases reference ≡ Some release

@@ -6,7 +6,7 @@ ghost use Rattle.custody_machine.specs.State.{State};
 ghost use Rattle.custody_machine.specs.History.{OpeningsAreRight, NothingIsTakenBack, AcceptedIsFound, HeldAsReceived};
 ghost use Rattle.custody_machine.specs.Examples.{HistoriesHappen};
 ghost use Rattle.custody_machine.specs.Moves.{MovesAreHistories, PlacesAreRight, NoDamageIsTold, ReadsBackAsReceived, FindsOne, ChainsMove};
-ghost use Rattle.custody_machine.specs.Retries.{ActsOnce, RepeatsAreAnswered, NothingIsRemoved, RepliesAreRecords, AcknowledgedIsKept};
+ghost use Rattle.custody_machine.specs.Retries.{KeysAreCompared, ActsOnce, RepeatsAreAnswered, NothingIsRemoved, RepliesAreRecords, AcknowledgedIsKept};
 
 /// The name that the machine reads in a text is the one whose text it is; and a text that is none is
 /// refused by its first fault.
@@ -44,6 +44,7 @@ pub fn law_histories()
 /// A command that comes again, through whatever stops, acts once: it is answered by the record of its
 /// first acceptance, and changes nothing.
 pub fn law_retries()
+    ensures keys { KeysAreCompared }
     ensures once { (first : State) → ActsOnce first }
     ensures answered { (first : State) → RepeatsAreAnswered first }
     ensures kept { NothingIsRemoved }

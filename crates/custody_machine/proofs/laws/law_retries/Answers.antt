@@ -1,6 +1,6 @@
-use Rattle.custody_machine.proofs.Retries.{acts_once, repeats_are_answered}
+use Rattle.custody_machine.proofs.Retries.{keys_are_compared, acts_once, repeats_are_answered}
 use Rattle.custody_machine.proofs.Keeping.{nothing_is_removed, replies_are_records}
 use Rattle.custody_machine.proofs.laws.law_retries.Goals as goal
 
 pub returns : goal.returns
-returns c = record { once = acts_once; answered = repeats_are_answered; kept = nothing_is_removed; replies = replies_are_records }
+returns c = record { keys = keys_are_compared; once = acts_once; answered = repeats_are_answered; kept = nothing_is_removed; replies = replies_are_records }
