@@ -2,21 +2,23 @@
 use Rattle.std.proofs.Common.{◌≡◌, ◌≢◌, inl, ℕ, suc, length, ap, List, [], ◌∷◌, refl, sym, ◌∙◌, subst, Result}
 use Rattle.vault_volume.specs.declared.volume.Volume as volume
 use Rattle.vault_volume.specs.Disk.{LeavesOne}
+use Rattle.vault_volume.specs.Vault.{volume_of}
 use Rattle.sqlite.specs.Store.{Ghosts}
+use Rattle.sqlite.specs.Held.{Held}
 use Rattle.sqlite.specs.State as database_state
 use Rattle.custody_records.specs.Records.{Records}
 use Rattle.custody_records.specs.Rows.{Rows}
 use Rattle.custody_records.specs.Form.{form_of, InForm}
-use Rattle.custody_store.specs.Standing.{Standing, shown, IsReady, Reads}
+use Rattle.custody_store.specs.Standing.{Standing, standing, shown, IsReady, Reads}
 use Rattle.custody_machine.specs.declared.damage.Damage.{Damage}
 use Rattle.custody_machine.specs.declared.answers.Fault.{Fault}
 use Rattle.custody_machine.specs.declared.answers.Fault.TheVariants.{NoMemory, VolumeFailed, StoreFailed, Closed, Damaged}
 use Rattle.custody_machine.specs.Damage.{IsFirstDamage}
-use Rattle.custody_machine.specs.State.{State}
+use Rattle.custody_machine.specs.State.{State, empty as nothing}
 use Rattle.custody_machine.specs.Machine.{Entry, after, Answer}
 use Rattle.custody_machine.specs.History.{Pair, Event, Opened, NotOpened, StoppedAtRest, OpenedWith, found}
 use Rattle.custody_machine.specs.Stored.{Stands, IsGood, HasDigests, state_in}
-use Rattle.custody_machine.specs.Moves.{Place, Serving, Shut, Left, MayLeave, MayNotOpen, Finds, Moves, MovesAlong, Chain, MovesBy, answered_all, IsIn}
+use Rattle.custody_machine.specs.Moves.{Place, Serving, Shut, Left, MayLeave, MayNotOpen, Finds, Moves, MovesAlong, Chain, MovesBy, answered_all, IsBegun, IsIn}
 use Rattle.custody_records.proofs.FormLemmas.{InForm-injective}
 use Rattle.custody_machine.proofs.Moves.{chains_move, pair_of, places_are_right, finds_some}
 use Rattle.custody_machine.proofs.Stored.{stands_for_one}
@@ -25,7 +27,7 @@ use Rattle.custody.specs.declared.answers.Refused as not_accepted
 use Rattle.custody.specs.declared.custody.Custody.{Custody}
 use Rattle.custody.specs.Holdings.{recorded, stored, image_of, left_by}
 use Rattle.custody.specs.Custody.{held_by, HasRun}
-use Rattle.custody.specs.Sessions.{answers_of, IsAfter, IsServing, place_of, IsSession, IsNotOpened, IsReopened, RestsMayStop, SessionsGoOn, OpeningsMayFail}
+use Rattle.custody.specs.Sessions.{answers_of, IsAfter, IsServing, place_of, state_of, IsSession, IsNotOpened, IsReopened, IsResumed, RestsMayStop, SessionsGoOn, OpeningsMayFail}
 use Rattle.custody.proofs.Opened.{reads_left, left_same}
 use Rattle.custody.proofs.RunMoves.{along_join, runs_move}
 
@@ -137,4 +139,25 @@ module _ {V S : Type 0} {g : volume.Ghosts V} {database : Ghosts S} (tells : g.t
         );
         leaves = moved.leaves;
         finds = λ r j h w. subst (λ i. (state : State) × Stands r j state × IsAfter (state_in records i) entries (answers_of entries answers) state) same (moved.finds r j h w);
+      }
+
+  -- a beginning, commands, a stop that left rows and an image, and their opening
+  pub resumed : (old new later : Custody V S g database) (entries : List Entry) (answers : List (Result Reply not_accepted.Refused)) → IsServing database old → IsBegun nothing (place_of database old)
+      → HasRun old entries answers new → (stored database (held_by new)).IsHonest → (stopped : V) (db : Held S) → stopped ≡ volume_of (held_by new).vault → db ≡ (held_by new).store
+      → (rows : Rows) (image : List ℕ) → (standing database db).may_leave rows → g.left_at stopped (g.moment stopped) image → form_of rows ≡ InForm (recorded (held_by later)) → IsGood (recorded (held_by later)) image → image_of (held_by later) ≡ image → IsServing database later → IsResumed database entries (answers_of entries answers) later
+  resumed old new later entries answers serving begun run honest stopped db same_volume same_store rows image rows_left image_left is good same serves =
+      let h = subst (λ d. (standing database d).may_leave rows) same_store rows_left in
+      let w = subst (λ v. g.left_at v (g.moment v) image) same_volume image_left in
+      let records = recorded (held_by later) in
+      let told = answers_of entries answers in
+      let moved = runs_move tells old new serving honest entries answers run in
+      let there = moved.finds rows image h w in
+      let stands : Stands rows image (state_in records image) = record { records = records; in_form = is; good = good; meaning = refl } in
+      let state = subst (IsAfter (state_of database old) entries told) (stands_for_one rows image there.0 (state_in records image) there.1 stands) there.2 in
+      let here = places_are_right nothing (place_of database old) moved.next (answered_all entries told) begun (chains_move (place_of database old) moved.next entries told moved.moves) in
+      record {
+        answered = same_length (place_of database old) moved.next entries told moved.moves;
+        state = subst (λ i. IsAfter nothing entries told (state_in records i)) (sym same) (subst (λ s. IsAfter s entries told (state_in records image)) begun.0 state);
+        sound = subst (λ i. HasDigests i records) (sym same) (still_sound (after nothing (found nothing (answered_all entries told))) moved.next rows image records here (moved.leaves rows image h w) is);
+        serves = serves;
       }

@@ -6,7 +6,7 @@ use Rattle.sqlite.specs.Store.{Ghosts}
 use Rattle.custody_records.specs.Records.{Records}
 use Rattle.custody_records.specs.Rows.{Rows}
 use Rattle.custody_records.specs.Form.{form_of, InForm}
-use Rattle.custody_machine.specs.State.{State}
+use Rattle.custody_machine.specs.State.{State, empty}
 use Rattle.custody_machine.specs.Machine.{Command, Entry, after, Answer, Accepted, Refused, Failed}
 use Rattle.custody_machine.specs.declared.answers.Fault.{Fault}
 use Rattle.custody_machine.specs.History.{MayFind, Pair, Event, Opened, NotOpened, StoppedAtRest, StoppedWithin, OpenedWith, doubt_of, or_else}
@@ -120,6 +120,20 @@ pub record IsReopened (rows : Rows) (image : List ℕ) (entries : List Entry) (a
   -- and these are moves, so that the laws of histories hold of them
   pub moves : (before then : Pair) → Finds rows image before → Finds left later then
       → MovesAlong (Left rows image) ((OpenedWith before (Opened first) ∷ answered_all entries answers) ++ StoppedAtRest then ∷ OpenedWith then (Opened (state_in records later)) ∷ []) (Serving records later)
+
+-- ---- a whole life
+
+module _ {V S : Type 0} {g : volume.Ghosts V} where
+  -- A custody that was begun, did commands, and was opened again after a stop.
+  pub record IsResumed (database : Ghosts S) (entries : List Entry) (answers : List Answer) (custody : Custody V S g database) : Type 0 where
+    -- each command is answered
+    pub answered : length answers ≡ length entries
+    -- from nothing, the state is that after the commands that were accepted, in order, and then at most the one in doubt
+    pub state : IsAfter empty entries answers (state_of database custody)
+    -- each part has its digest
+    pub sound : HasDigests (image_of (held_by custody)) (recorded (held_by custody))
+    -- and it serves
+    pub serves : IsServing database custody
 
 -- ---- from any place on, whatever was before
 

@@ -2,16 +2,17 @@
 //! is opened again over what the stop has left.
 ghost use Rattle.std.specs.Prelude.{◌≡◌, ◌<◌, ◌-◌, ◌*◌, ◌^◌, length, IfOk, IfErr, IsTrue};
 ghost use Rattle.vault_volume.specs.Disk.{LeavesOne};
+ghost use Rattle.sqlite.specs.Steps.{over_memory};
 ghost use Rattle.custody_store.specs.Standing.{standing};
 ghost use Rattle.custody.specs.Custody.{entries_of, held_by};
 ghost use Rattle.custody.specs.Holdings.{recorded, stored, image_of};
-ghost use Rattle.custody.specs.Sessions.{answers_of, IsSession, IsNotOpened, IsReopened};
+ghost use Rattle.custody.specs.Sessions.{answers_of, IsSession, IsNotOpened, IsReopened, IsResumed};
 
-use crate::{Custody, Refused, Reply};
+use crate::{Custody, InitError, Refused, Reply};
 use custody_machine::{Command, Fault};
 use schedule::Sec;
-use sqlite::{Alter, Connection};
-use std::alloc::Global;
+use sqlite::{Alter, Connection, MemStore};
+use std::alloc::{AllocError, Global};
 use vault_volume::{MemVolume, Volume};
 
 /// What commands answered, with the volume and the database as they left them.
@@ -29,6 +30,13 @@ pub struct Reopened<S: Alter + Drop> {
     pub custody: Custody<MemVolume, S>,
     pub answers: Vec<Result<Reply, Refused>>,
     pub stopped: Connection<S>,
+}
+
+/// A custody that was begun and is open again after a stop, and what commands answered before it.
+#[derive(Drop)]
+pub struct Resumed {
+    pub custody: Custody<MemVolume, MemStore>,
+    pub answers: Vec<Result<Reply, Refused>>,
 }
 
 /// Opens what volume and database hold, does commands, and hands both back. Where it fails, no command
@@ -97,6 +105,52 @@ pub fn open_run_and_reopen<S: Alter + Drop>(
             stopped: session.db,
         }),
         Err(failed) => Err(failed.0),
+    }
+}
+
+/// A new database in memory: it has no table, and it returns what was written, whatever is done to it.
+pub fn new_database(alloc: Global) -> Result<Connection<MemStore>, AllocError>
+    ensures bare { IfOk result (λ db. (standing over_memory db).IsBare) }
+    ensures honest { IfOk result (λ db. (standing over_memory db).IsHonest) }
+{
+    Connection::open_in_memory(alloc)
+}
+
+/// Begins a custody over a volume and a new database in memory, does commands, and closes it. Then the
+/// volume is restarted over a filling, and the custody is opened again with the database. Nothing is
+/// supposed of what they hold. It fails where the custody does not begin, was closed by a failure, or
+/// does not open, and where the filling has another length than the volume.
+pub fn begin_run_and_reopen(
+    alloc: Global,
+    volume: MemVolume,
+    number: u64,
+    commands: &[(Command<'_>, Sec)],
+    fill: &[u8],
+) -> Result<Resumed, InitError>
+    requires { ⟦<MemVolume as Volume>⟧.failures volume < 2 ^ 64 - 1 }
+    ensures { IfOk result (λ r. IsResumed over_memory (entries_of commands.now) (answers_of (entries_of commands.now) r.answers.items) r.custody) }
+{
+    let Ok(db) = new_database(alloc) else {
+        return Err(InitError::Fault(Fault::NoMemory));
+    };
+    let mut custody = match Custody::init(alloc, volume, db, number) {
+        Ok(custody) => custody,
+        Err(failed) => return Err(failed.0),
+    };
+    let Ok(answers) = custody.run(alloc, commands) else {
+        return Err(InitError::Fault(Fault::NoMemory));
+    };
+    if let Err(fault) = custody.records() {
+        return Err(InitError::Fault(fault));
+    }
+    let (mut stopped, db) = custody.close();
+    if !may_restart(&stopped, fill) {
+        return Err(InitError::Fault(Fault::VolumeFailed));
+    }
+    stopped.restart(fill);
+    match Custody::open(alloc, stopped, db) {
+        Ok(custody) => Ok(Resumed { custody, answers }),
+        Err(failed) => Err(InitError::Fault(failed.0)),
     }
 }
 

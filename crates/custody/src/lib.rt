@@ -14,7 +14,9 @@ mod opening;
 mod tests;
 
 pub use answers::{InitError, Record, Refused, Reply};
-pub use composed::{Reopened, Session, open_run_and_reopen, serve_session};
+pub use composed::{
+    Reopened, Resumed, Session, begin_run_and_reopen, new_database, open_run_and_reopen, serve_session,
+};
 pub use custody::Custody;
 pub use laws::{law_at_rest, law_run, law_sessions, law_shown, law_stop};
 pub use opening::has_record;

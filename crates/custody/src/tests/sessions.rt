@@ -1,13 +1,13 @@
 //! One session and an opening over what a stop has left of it.
 use super::new_custody;
-use crate::{Refused, Reopened, open_run_and_reopen};
+use crate::{Refused, Reopened, begin_run_and_reopen, open_run_and_reopen};
 use custody_machine::{Command, Fault};
 use deposit_name::Tld;
 use schedule::{Day, Sec, read_day, read_moment};
 use sqlite::{Connection, MemStore};
 use std::alloc::Global;
 use std::test::Fail;
-use vault_volume::Volume;
+use vault_volume::{MemVolume, Volume};
 
 type TestDatabase = Connection<MemStore>;
 
@@ -97,5 +97,24 @@ fn a_part_is_found_after_a_late_stop(rt: HostRuntime) -> Result<(), Fail> {
     let reopened = stopped_at(alloc, 60, left)?;
     assert!(rt; are_answered(&reopened, None));
     assert_eq!(rt; reopened.custody.room(), Ok((6, 7)));
+    Ok(())
+}
+
+#[test]
+fn a_part_is_found_from_the_beginning_on(rt: HostRuntime) -> Result<(), Fail> {
+    let alloc = rt.alloc();
+    let (tld, first_day) = registry()?;
+    let now = moment()?;
+    let commands = [
+        (Command::Register(tld, first_day), now),
+        (Command::Receive(NAME, b"hello"), now),
+    ];
+    let volume = MemVolume::new(alloc, BLOCKS, 64, 16)?;
+    let fill = vec![in alloc; 255u8; 4096 * BLOCKS as usize]?;
+    let Ok(resumed) = begin_run_and_reopen(alloc, volume, 1, &commands, &fill) else {
+        return Err(Fail::from("not opened"));
+    };
+    assert!(rt; resumed.answers.iter().all(|answer| answer.is_ok()));
+    assert_eq!(rt; resumed.custody.room(), Ok((6, 7)));
     Ok(())
 }
