@@ -1,5 +1,5 @@
 -- What an order does to an agent.
-use Rattle.std.specs.Prelude.{◌≡◌, ◌==◌, ◌-◌, ◌++◌, ℕ, List, Result, true}
+use Rattle.std.specs.Prelude.{◌≡◌, ◌==◌, ◌-◌, ℕ, List, Result, true, false}
 use Rattle.std.specs.List.{after_last}
 use Rattle.vault_volume.specs.declared.volume.Volume as volume
 use Rattle.sqlite.specs.Store.{Ghosts}
@@ -8,10 +8,12 @@ use Rattle.custody.specs.Custody.{HasApplied, held_by, is_open}
 use Rattle.custody.specs.Holdings.{recorded}
 use Rattle.custody.specs.Opening.{free_blocks}
 use Rattle.custody.specs.declared.custody.Custody.{Custody}
+use Rattle.custody.specs.Answers.{init_error_text}
+use Rattle.custody.specs.declared.answers.InitError.TheVariants.{AlreadyInitialised}
 use Rattle.custody.specs.declared.answers.Reply.{Reply}
 use Rattle.custody.specs.declared.answers.Refused.{Refused}
-use Rattle.agent_cli.specs.Lines.{room_text}
-use Rattle.agent_cli.specs.Printed.{IsTold}
+use Rattle.agent_cli.specs.Printed.{IsTold, IsUnused, Takes, Writer}
+use Rattle.agent_cli.specs.State.{state_text}
 use Rattle.agent_cli.specs.Statuses.{IsStatus, IsStatusAfter, answer_status}
 use Rattle.agent_cli.specs.declared.order.Order.{Order}
 use Rattle.agent_cli.specs.declared.order.Order.TheVariants as order
@@ -22,18 +24,21 @@ name_in path = after_last (λ b. b == 47) path
 
 module _ {V S : Type 0} {g : volume.Ghosts V} {database : Ghosts S} where
   -- the agent is given one command, whose answer is told
-  abbrev pub Applies : Custody V S g database → Command → ℕ → Custody V S g database → ℕ → (List ℕ → Type 0) → (List ℕ → Type 0) → Type 0
-  Applies old command now new status Output Errors =
-      (answer : Result Reply Refused) × HasApplied old command now answer new × IsStatusAfter (answer_status answer) status × IsTold answer status Output Errors
+  abbrev pub Applies : Custody V S g database → Command → ℕ → Custody V S g database → ℕ → Writer → Writer → Type 0
+  Applies old command now new status output errors =
+      (answer : Result Reply Refused) × HasApplied old command now answer new × IsStatusAfter (answer_status answer) status × IsTold answer status output errors
 
-  -- the agent is open, and what is printed ends in its free blocks
-  abbrev pub IsShown : Custody V S g database → (List ℕ → Type 0) → Type 0
-  IsShown custody Output = (is_open custody ≡ true)
-      × ((first : List ℕ) × Output (first ++ room_text (free_blocks (recorded (held_by custody))) ((recorded (held_by custody)).blocks - 1)))
+  -- an open agent prints its records and its free blocks, and one that is closed nothing of them
+  pub record Shows (custody : Custody V S g database) (status : ℕ) (output errors : Writer) : Type 0 where
+    pub shown : status ≡ 0 → (is_open custody ≡ true)
+        × Takes output (state_text (recorded (held_by custody)) (free_blocks (recorded (held_by custody))) ((recorded (held_by custody)).blocks - 1))
+    pub while_open : is_open custody ≡ true → IsUnused errors
+    pub while_closed : is_open custody ≡ false → IsUnused output
 
   -- `register` and `put` give it their command, and no other order changes it
-  abbrev pub Acts : Order → List ℕ → ℕ → Custody V S g database → Custody V S g database → ℕ → (List ℕ → Type 0) → (List ℕ → Type 0) → Type 0
-  Acts (order.Init folder blocks number) bytes now old new status Output Errors = (new ≡ old) × IsStatusAfter 1 status
-  Acts (order.Register folder tld first) bytes now old new status Output Errors = Applies old (Register tld first) now new status Output Errors
-  Acts (order.Put folder file at) bytes now old new status Output Errors = Applies old (Receive (name_in file.now) bytes) now new status Output Errors
-  Acts (order.State folder) bytes now old new status Output Errors = (new ≡ old) × IsStatus status × (status ≡ 0 → IsShown old Output)
+  abbrev pub Acts : Order → List ℕ → ℕ → Custody V S g database → Custody V S g database → ℕ → Writer → Writer → Type 0
+  Acts (order.Init folder blocks number) bytes now old new status output errors =
+      (new ≡ old) × IsStatusAfter 1 status × (status ≡ 1 → Takes errors (init_error_text AlreadyInitialised)) × IsUnused output
+  Acts (order.Register folder tld first) bytes now old new status output errors = Applies old (Register tld first) now new status output errors
+  Acts (order.Put folder file at) bytes now old new status output errors = Applies old (Receive (name_in file.now) bytes) now new status output errors
+  Acts (order.State folder) bytes now old new status output errors = (new ≡ old) × IsStatus status × Shows old status output errors

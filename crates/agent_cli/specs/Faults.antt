@@ -1,7 +1,7 @@
 -- Faults of words: the names of arguments, the texts, and exit statuses.
 use Rattle.std.specs.Prelude.{◌≡◌, ◌≢◌, ℕ, List, [], ◌∷◌, ◌++◌, Option, None, Some, codes}
 use Rattle.clap.specs.Words.{kind_of}
-use Rattle.clap.specs.declared.error.ErrorKind.TheVariants.{DisplayHelp, DisplayVersion}
+use Rattle.clap.specs.declared.error.ErrorKind.TheVariants.{DisplayHelp}
 use Rattle.agent_cli.specs.declared.order.Argument.{Argument}
 use Rattle.agent_cli.specs.declared.order.Argument.TheVariants.{Tld, Date, First, Kind, Id, Reference, Ground, Number, Now}
 use Rattle.agent_cli.specs.declared.order.WordFault.{WordFault}
@@ -24,9 +24,9 @@ fault_text (fault.Words e) = None
 fault_text (fault.Bad a) = Some (codes "bad value for " ++ argument_text a ++ 10 ∷ [])
 fault_text fault.NoMemory = Some (codes "C1 no memory" ++ 10 ∷ [])
 
--- help is asked for and no mistake; the command has no version to show
+-- help is asked for and no mistake
 abbrev pub IsStatusOf : WordFault → ℕ → Type 0
 IsStatusOf (fault.Words e) n =
-    (kind_of e ≡ DisplayHelp → n ≡ 0) × (kind_of e ≢ DisplayHelp → kind_of e ≢ DisplayVersion → n ≡ 2)
+    (kind_of e ≡ DisplayHelp → n ≡ 0) × (kind_of e ≢ DisplayHelp → n ≡ 2)
 IsStatusOf (fault.Bad a) n = n ≡ 2
 IsStatusOf fault.NoMemory n = n ≡ 3

@@ -5,4 +5,5 @@ pub mod Forms
 pub mod Lines
 pub mod Order
 pub mod Printed
+pub mod State
 pub mod Statuses

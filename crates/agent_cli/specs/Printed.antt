@@ -15,20 +15,25 @@ use Rattle.agent_cli.specs.declared.lines.Line.TheVariants as line
 abbrev pub Prints : Option (List ℕ) → Option (List ℕ) → List ℕ → Type 0
 Prints before after text = Appends before after (text ++ 10 ∷ [])
 
--- what a writer holds grows
-abbrev pub Grows : Option (List ℕ) → Option (List ℕ) → Type 0
-Grows before after = (text : List ℕ) × Appends before after text
-
--- what a writer holds grows, and ends in the text as a line
-abbrev pub EndsIn : List ℕ → Option (List ℕ) → Option (List ℕ) → Type 0
-EndsIn text before after = (first : List ℕ) × Prints before after (first ++ text)
-
 abbrev pub line_of : Record → Line
 line_of (record_of.Registry tld first_day) = line.Registered tld first_day
 line_of (record_of.Part name received len) = line.Received name len received
 
--- with status 0 the line of the reply stands in the output, with status 1 that of the refusal among the errors
-abbrev pub IsTold : Result Reply Refused → ℕ → (List ℕ → Type 0) → (List ℕ → Type 0) → Type 0
-IsTold (Ok reply) status Output Errors = status ≡ 0 → Output (line_text (line_of reply.record))
-IsTold (Err (refused.Refusal why)) status Output Errors = status ≡ 1 → Errors (refusal_text why)
-IsTold (Err (refused.Fault why)) status Output Errors = Unit {0}
+-- what a writer held before a call, and what it holds after it
+pub record Writer : Type 0 where
+  pub before : Option (List ℕ)
+  pub after : Option (List ℕ)
+
+-- the text as a line is all that it was given
+abbrev pub Takes : Writer → List ℕ → Type 0
+Takes w text = Prints w.before w.after text
+
+-- it was given nothing
+abbrev pub IsUnused : Writer → Type 0
+IsUnused w = w.after ≡ w.before
+
+-- The line of a reply goes to the output alone, and that of a refusal or of a failure to the errors alone: with status 0 the first stands there, with status 1 the second.
+abbrev pub IsTold : Result Reply Refused → ℕ → Writer → Writer → Type 0
+IsTold (Ok reply) status output errors = (status ≡ 0 → Takes output (line_text (line_of reply.record))) × IsUnused errors
+IsTold (Err (refused.Refusal why)) status output errors = (status ≡ 1 → Takes errors (refusal_text why)) × IsUnused output
+IsTold (Err (refused.Fault why)) status output errors = IsUnused output

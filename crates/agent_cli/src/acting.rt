@@ -1,7 +1,7 @@
 //! What an order does to the agent of a folder, and what is printed of it.
 ghost use Rattle.std.specs.Prelude.{◌≡◌, OnOk, IfSome, IsErr};
 ghost use Rattle.custody.specs.Answers.{init_error_text};
-ghost use Rattle.agent_cli.specs.Acts.{Acts, IsShown};
+ghost use Rattle.agent_cli.specs.Acts.{Acts, Shows};
 ghost use Rattle.agent_cli.specs.Lines.{line_text};
 ghost use Rattle.agent_cli.specs.Printed.{IsTold, Prints, line_of};
 ghost use Rattle.agent_cli.specs.Statuses.{IsStatus, IsStatusAfter, answer_status, init_status};
@@ -37,7 +37,7 @@ pub fn act<V: Volume, S: Alter, W: Write, E: Write>(
     out: &mut W,
     err: &mut E,
 ) -> u8
-    ensures acts { Acts order.now file.now now custody.old custody.new result (Prints (W.contents out.old) (W.contents out.new)) (Prints (E.contents err.old) (E.contents err.new)) }
+    ensures acts { Acts order.now file.now now custody.old custody.new result (record { before = W.contents out.old; after = W.contents out.new }) (record { before = E.contents err.old; after = E.contents err.new }) }
     ensures status { IsStatus result }
 {
     match order {
@@ -84,7 +84,7 @@ pub fn print_line<W: Write>(line: &Line, out: &mut W) -> u8
 
 fn print_answer<W: Write, E: Write>(answer: &Result<Reply, Refused>, out: &mut W, err: &mut E) -> u8
     ensures status { IsStatusAfter (answer_status answer.now) result }
-    ensures told { IsTold answer.now result (Prints (W.contents out.old) (W.contents out.new)) (Prints (E.contents err.old) (E.contents err.new)) }
+    ensures told { IsTold answer.now result (record { before = W.contents out.old; after = W.contents out.new }) (record { before = E.contents err.old; after = E.contents err.new }) }
 {
     match answer {
         Ok(reply) => print_line(&line_of(reply.record), out),
@@ -119,7 +119,7 @@ fn show<V: Volume, S: Alter, W: Write, E: Write>(
     err: &mut E,
 ) -> u8
     ensures status { IsStatus result }
-    ensures shown { result ≡ 0 → IsShown custody.now (Prints (W.contents out.old) (W.contents out.new)) }
+    ensures shown { Shows custody.now result (record { before = W.contents out.old; after = W.contents out.new }) (record { before = E.contents err.old; after = E.contents err.new }) }
 {
     let records = match custody.records() {
         Ok(records) => records,

@@ -4,6 +4,7 @@ ghost use Rattle.agent_cli.specs.Faults.{IsStatusOf, argument_text, fault_text};
 ghost use Rattle.agent_cli.specs.declared.order.WordFault.TheVariants.{NoMemory};
 
 use crate::VolumeNumber;
+use clap::error::ErrorKind;
 use deposit_name::Tld;
 use schedule::{Day, Sec};
 use std::alloc::AllocError;
@@ -82,7 +83,10 @@ impl WordFault {
         ensures { IsStatusOf self.now result }
     {
         match self {
-            WordFault::Words(error) => { if error.use_stderr() { 2 } else { 0 } }
+            WordFault::Words(error) => match error.kind() {
+                ErrorKind::DisplayHelp => 0,
+                _ => 2,
+            },
             WordFault::Bad(_) => 2,
             WordFault::NoMemory => 3,
         }

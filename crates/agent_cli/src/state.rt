@@ -1,12 +1,14 @@
 //! The records, as they are printed.
-ghost use Rattle.std.specs.Prelude.{OnOk};
+ghost use Rattle.std.specs.Prelude.{◌≡◌, OnOk};
 ghost use Rattle.std.specs.Io.KnownBytes.{Appends};
-ghost use Rattle.agent_cli.specs.Lines.{room_text};
-ghost use Rattle.agent_cli.specs.Printed.{EndsIn, Grows};
+ghost use Rattle.custody_records.specs.Held.{records_of};
+ghost use Rattle.custody_records.specs.Tables.{entries_of};
+ghost use Rattle.custody_records.specs.Typed.{part_entry, part_place, part_value, registry_entry};
+ghost use Rattle.agent_cli.specs.Printed.{Prints};
+ghost use Rattle.agent_cli.specs.State.{lines_text, part_line, registry_lines, state_text};
 
 use crate::Line;
-use custody_records::{Part, Records};
-use deposit_name::Tld;
+use custody_records::{Part, Records, Registry};
 use std::io::{self, Write};
 
 /// Prints each registry with its parts, and the free blocks.
@@ -16,40 +18,35 @@ pub(crate) fn print_state<W: Write>(
     total: u32,
     out: &mut W,
 ) -> io::Result<()>
-    ensures { OnOk result (EndsIn (room_text free total) (W.contents out.old) (W.contents out.new)) }
+    ensures { OnOk result (Prints (W.contents out.old) (W.contents out.new) (state_text (records_of records.now) free total)) }
 {
-    let mut parts = records.parts();
     for registry in records.registries() {
-        let tld = registry.tld;
-        let line = Line::Registry {
-            tld,
-            first: registry.first_day,
-        };
-        writeln!(out, "{line}")?;
-        parts = print_parts(parts, &tld, out)?;
+        print_registry(registry, records.parts_of(&registry.tld), out)?;
     }
     let line = Line::Room { free, total };
     writeln!(out, "{line}")?;
     out.flush()
 }
 
-/// Prints the parts of the registry, which come first, and answers the others.
-fn print_parts<'a, W: Write>(parts: &'a [Part], tld: &Tld, out: &mut W) -> io::Result<&'a [Part]>
-    ensures { OnOk result (Grows (W.contents out.old) (W.contents out.new)) }
+/// Prints the registry, and then its parts.
+fn print_registry<W: Write>(registry: &Registry, parts: &[Part], out: &mut W) -> io::Result<()>
+    ensures { OnOk result (Appends (W.contents out.old) (W.contents out.new) (lines_text (registry_lines (registry_entry registry.now) (entries_of part_place part_value parts.now)))) }
 {
-    let mut count = 0;
+    let line = Line::Registry {
+        tld: registry.tld,
+        first: registry.first_day,
+    };
+    writeln!(out, "{line}")?;
     for part in parts {
-        if part.name.tld != *tld {
-            break;
-        }
         let line = part_line(part);
         writeln!(out, "{line}")?;
-        count += 1;
     }
-    Ok(&parts[count..])
+    Ok(())
 }
 
-fn part_line(part: &Part) -> Line {
+fn part_line(part: &Part) -> Line
+    ensures { result ≡ part_line (part_entry part.now) }
+{
     let (name, length, at) = (part.name, part.len, part.received);
     if part.extents.is_some() {
         Line::Part { name, length, at }

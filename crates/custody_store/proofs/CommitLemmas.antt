@@ -19,6 +19,7 @@ use Rattle.custody_records.specs.Rows.{Rows}
 use Rattle.custody_store.specs.Reading.{rows_in}
 use Rattle.custody_store.specs.Standing.{Standing, HasTables, IsReady, shown, IsOneCommit, Commits}
 use Rattle.custody_store.specs.Calls.{IsSettled, Runs}
+use Rattle.custody_store.proofs.ModeLemmas.{ended, runs_mode}
 use Rattle.custody_store.proofs.StatementLemmas.{IsMeaning}
 
 pub ready_at : (s : State) → IsTrue s.is_open → s.in_transaction ≡ false → s.committed ≡ s.now → IsSettled s → HasTables s.now → IsReady s
@@ -39,11 +40,6 @@ kept old new ready settled (inr undone) is_open =
     let both = undone.undone is_open in
     let now = both.0 ∙ ready.committed in
     (ready_at new is_open undone.autocommit (both.1 ∙ sym both.0) settled (subst HasTables (sym now) ready.tables), ap (λ (d : Database). rows_in d.trees) now)
-
--- a call that changed nothing, or that rolled back, leaves no transaction open
-pub ended : (old new : State) → old.in_transaction ≡ false → IsUnchanged old new ⊎ IsRolledBack old new → new.in_transaction ≡ false
-ended old new autocommit (inl same) = same.0.mode ∙ autocommit
-ended old new autocommit (inr undone) = undone.autocommit
 
 -- honesty goes backwards
 pub trusts : (old new : State) (P : Trees → Type 0) → Survives old new P → HasCleanDisk new → HasCleanDisk old
@@ -111,17 +107,19 @@ module _ (sql : List ℕ) (params : Row) (command : Command) (means : IsMeaning 
   pub commits_change : {A E : Type 0} (old new : State) (change : Rows → Rows) (r : Result A E) → (IsReady old → Changes old sql params command change) → Runs sql params old new r → Commits (shown old) (shown new) (change (rows_in old.now.trees)) r
   commits_change old new change (Ok x) effect runs = record {
     trust = trusts old new _ runs.survives;
+    mode = runs_mode sql params old new (Ok x) means.changes runs;
     effect = λ clean ready. let ran = runs.ran clean in wrote old new change effect runs.settled runs.survives x ran.0 ran.1 clean ready;
   }
   commits_change old new change (Err x) effect runs = record {
     trust = trusts old new _ runs.survives;
+    mode = runs_mode sql params old new (Err x) means.changes runs;
     effect = λ clean ready. let ran = runs.ran clean in failed old new change effect runs.settled runs.survives x ran.0 ran.1 clean ready;
   }
 
 -- where nothing was called
 pub commits_none : {A E : Type 0} (s : State) (after : Rows) (e : E) → Commits {A = A} (shown s) (shown s) after (Err e)
-commits_none s after e = record { trust = λ honest. honest; effect = λ _ ready. record { done = tt; kept = λ _. (ready, refl); left = λ rows h. inl h; ended = ready.autocommit } }
+commits_none s after e = record { trust = λ honest. honest; mode = λ _ autocommit. autocommit; effect = λ _ ready. record { done = tt; kept = λ _. (ready, refl); left = λ rows h. inl h; ended = ready.autocommit } }
 
 pub commits_err : {A B E F : Type 0} (old new : Standing) (after : Rows) (x : E) (r : Result B F) → IsErr r → Commits {A = A} old new after (Err x) → Commits old new after r
 commits_err old new after x (Ok y) is p = absurd (let e = is in cc)
-commits_err old new after x (Err y) is p = record { trust = p.trust; effect = λ honest ready. let it = p.effect honest ready in record { done = tt; kept = it.kept; left = it.left; ended = it.ended } }
+commits_err old new after x (Err y) is p = record { trust = p.trust; mode = p.mode; effect = λ honest ready. let it = p.effect honest ready in record { done = tt; kept = it.kept; left = it.left; ended = it.ended } }

@@ -12,6 +12,7 @@ pub mod SelectLemmas
 pub mod FindLemmas
 pub mod ReadLemmas
 pub mod MakingLemmas
+pub mod ModeLemmas
 pub mod FoundLemmas
 pub mod FormLemmas
 pub mod LoadLemmas

@@ -1,5 +1,5 @@
 -- What the texts of the statements mean over the schema that `create` makes.
-use Rattle.std.proofs.Common.{◌≡◌, List, [], ◌∷◌, ℕ, pos, negsuc, codes, false, None, refl}
+use Rattle.std.proofs.Common.{◌≡◌, List, [], ◌∷◌, ℕ, pos, negsuc, codes, true, false, None, refl}
 use Rattle.sqlite.specs.declared.types.Value.TheVariants.{Null, Int}
 use Rattle.sqlite.specs.Term.{Term, lit, col, op1, op2}
 use Rattle.sqlite.specs.Query.{Query, inner, end}
@@ -17,11 +17,13 @@ use Rattle.sqlite_value.specs.Keys.{ascending}
 use Rattle.sqlite_tied.specs.Compute.{everything}
 use Rattle.sqlite.proofs.Callers.{IsPlain, command_of}
 use Rattle.custody_store.specs.Schema.{record_schema}
+use Rattle.custody_store.proofs.ModeLemmas.{is_change_text}
 
 -- a statement that is this command
 pub record IsMeaning (sql : List ℕ) (command : Command) : Type 0 where
   pub is : command_of (understood record_schema sql) ≡ command
   pub plain : IsPlain (understood record_schema sql)
+  pub changes : is_change_text sql ≡ true
 
 -- a statement that puts rows of this source into the table at this place
 abbrev pub IsInsertion : List ℕ → ℕ → Source → Type 0
@@ -57,7 +59,7 @@ meta_source = Values (lit (Int (pos 1)) ∷ lit Null ∷ lit (Int (pos 1)) ∷ c
 
 pub insert_meta_is : IsInsertion insert_meta_text 0 meta_source
 unfolding understood everything
-insert_meta_is = record { is = refl; plain = (refl, refl) }
+insert_meta_is = record { is = refl; plain = (refl, refl); changes = refl }
 
 abbrev pub insert_registry_text : List ℕ
 insert_registry_text = codes "INSERT INTO registry (tld, first_day) VALUES (?1, ?2)"
@@ -67,7 +69,7 @@ registry_source = Values (lit Null ∷ col 0 0 ∷ col 0 1 ∷ []) 3
 
 pub insert_registry_is : IsInsertion insert_registry_text 1 registry_source
 unfolding understood everything
-insert_registry_is = record { is = refl; plain = (refl, refl) }
+insert_registry_is = record { is = refl; plain = (refl, refl); changes = refl }
 
 abbrev pub insert_part_text : List ℕ
 insert_part_text = codes "INSERT INTO part (tld, day, rev, part, kind, received, keep_day, len, sha, extents) VALUES (?1, ?2, ?3, ?4, ?5, ?6, ?7, ?8, ?9, ?10)"
@@ -77,7 +79,7 @@ part_source = Values (lit Null ∷ col 0 0 ∷ col 0 1 ∷ col 0 2 ∷ col 0 3 �
 
 pub insert_part_is : IsInsertion insert_part_text 2 part_source
 unfolding understood everything
-insert_part_is = record { is = refl; plain = (refl, refl) }
+insert_part_is = record { is = refl; plain = (refl, refl); changes = refl }
 
 abbrev pub insert_notice_text : List ℕ
 insert_notice_text = codes "INSERT INTO notice (tld, number, kind, day, rev, id, at) VALUES (?1, ?2, ?3, ?4, ?5, ?6, ?7)"
@@ -87,7 +89,7 @@ notice_source = Values (lit Null ∷ col 0 0 ∷ col 0 1 ∷ col 0 2 ∷ col 0 3
 
 pub insert_notice_is : IsInsertion insert_notice_text 3 notice_source
 unfolding understood everything
-insert_notice_is = record { is = refl; plain = (refl, refl) }
+insert_notice_is = record { is = refl; plain = (refl, refl); changes = refl }
 
 abbrev pub insert_handover_text : List ℕ
 insert_handover_text = codes "INSERT INTO handover (reference, tld, ground, at, names) VALUES (?1, ?2, ?3, ?4, ?5)"
@@ -97,7 +99,7 @@ handover_source = Values (lit Null ∷ col 0 0 ∷ col 0 1 ∷ col 0 2 ∷ col 0
 
 pub insert_handover_is : IsInsertion insert_handover_text 4 handover_source
 unfolding understood everything
-insert_handover_is = record { is = refl; plain = (refl, refl) }
+insert_handover_is = record { is = refl; plain = (refl, refl); changes = refl }
 
 abbrev pub select_meta_text : List ℕ
 select_meta_text = codes "SELECT one, schema_no, number, blocks FROM meta ORDER BY rowid"
@@ -193,4 +195,4 @@ due_program = record { lets = []; body = picked 3 due_tests dropped_places }
 
 pub drop_due_is : IsMeaning drop_due_text (Update 2 due_program)
 unfolding understood everything
-drop_due_is = record { is = refl; plain = (refl, refl) }
+drop_due_is = record { is = refl; plain = (refl, refl); changes = refl }

@@ -90,6 +90,7 @@ pub record IsOneCommit {A E : Type 0} (old new : Standing) (after : Rows) (resul
 -- A call that commits these rows, alone. Only a fault of the files makes a database dishonest, and it stays so.
 pub record Commits {A E : Type 0} (old new : Standing) (after : Rows) (result : Result A E) : Type 0 where
   pub trust : new.IsHonest → old.IsHonest
+  pub mode : new.IsHonest → old.in_transaction ≡ false → new.in_transaction ≡ false
   pub effect : new.IsHonest → old.IsReady → IsOneCommit old new after result
 
 -- The tables are made at once with these rows, or there is no table as before.

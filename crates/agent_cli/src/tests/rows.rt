@@ -179,6 +179,22 @@ fn an_opened_vault_has_what_was_received(rt: HostRuntime) -> Result<(), Fail> {
     Ok(())
 }
 
+#[test]
+fn a_part_whose_bytes_are_dropped_is_told_as_dropped(rt: HostRuntime) -> Result<(), Fail> {
+    let alloc = rt.alloc();
+    let (volume, mut db) = vault_with_part(alloc)?.close();
+    db.execute("UPDATE part SET extents = NULL", &[])?;
+    assert!(rt; volume.failures() == 0);
+    let Ok(mut custody) = Custody::open(alloc, volume, db) else {
+        return Err("a custody".into());
+    };
+    let dropped = "registry example 2026-08-02\n\
+                   part example_2026-08-02_full_S1_R0.ryde 5 dropped 2026-08-02T10:00:00Z\n\
+                   free 7 of 7\n";
+    assert!(rt; state(alloc, &mut custody)?.is(dropped, "", 0));
+    Ok(())
+}
+
 fn sevens(alloc: Global, count: usize) -> Result<Vec<u8>, AllocError> {
     vec![in alloc; 7; count]
 }
