@@ -1,5 +1,5 @@
 -- How the calls of volume, database and records make up a command of the machine.
-use Rattle.std.proofs.Common.{◌≡◌, ◌≢◌, ◌⊎◌, inl, inr, ℕ, zero, suc, ◌-◌, ◌<◌, ◌≤◌, ◌^◌, List, [], ◌∷◌, length, Option, Some, None, Bool, true, false, not, ◌&&◌, ◌||◌, if◌then◌else◌, refl, sym, ◌∙◌, ap, subst, is_some, is_none, nat_lt, ◌==◌, find, arith, Result, Ok, Err, Contains}
+use Rattle.std.proofs.Common.{◌≡◌, ◌≢◌, ◌⊎◌, inl, inr, ℕ, zero, suc, ◌-◌, ◌<◌, ◌≤◌, ◌^◌, List, [], ◌∷◌, length, Option, Some, None, Bool, true, false, not, ◌&&◌, ◌||◌, if◌then◌else◌, refl, sym, ◌∙◌, ap, subst, is_some, is_none, nat_lt, ◌==◌, arith, Result, Ok, Err, Contains}
 use Rattle.std.specs.Prelude.{option_map, All, slice_index_or}
 use Rattle.std.specs.List.{list_any}
 use Rattle.std.specs.Option.{option_and_then}
@@ -21,7 +21,7 @@ use Rattle.custody_records.specs.Form.{form_of, InForm}
 use Rattle.custody_machine.specs.Names.{read_name}
 use Rattle.custody_machine.specs.SameValues.{is_same_kind}
 use Rattle.custody_machine.specs.State.{State, Held, places, at_place, has_notice}
-use Rattle.custody_machine.specs.Machine.{Command, Register, Receive, Refusal, NameRefused, RegistryUnknown, DateOutOfRange, Size, OtherBytes, DroppedAfterKeeping, RevisionNotDue, AlreadyStated, TypeDiffers, PartOutOfOrder, VolumeFull, refusals, Record, OfRegistry, OfPart, Reply, Refuse, Accept, max_part_len, of_kind, recorded, part_in, has_other_kind, is_failure_of, named_stands, refusal_of, kept, effect, received, unless_kept, unless_refused, step, state_of, state_after, received_part, with_part, Entry, read_by, reads, Answer, Accepted, Failed, StoreFailed, MayFail, Answers}
+use Rattle.custody_machine.specs.Machine.{Command, Register, Receive, Refusal, NameRefused, RegistryUnknown, DateOutOfRange, Size, OtherBytes, DroppedAfterKeeping, RevisionNotDue, AlreadyStated, TypeDiffers, PartOutOfOrder, VolumeFull, Record, OfRegistry, OfPart, Reply, Refuse, Accept, max_part_len, of_kind, recorded, part_in, has_other_kind, is_failure_of, refusal_of, kept, effect, received, unless_kept, unless_refused, step, state_of, state_after, received_part, with_part, Entry, read_by, reads, Answer, Accepted, Failed, StoreFailed, MayFail, Answers, named_tests, first_standing}
 use Rattle.custody_machine.specs.History.{IsFoundWithin, doubt_of, MayFind, is_open_after}
 use Rattle.custody_machine.specs.Stored.{AreNaming, IsNamed, AreWhole, IsVolumeOf, is_part_of, IsGood, part_of, state_in, KeepsParts, OpensFrom}
 use Rattle.custody_machine.specs.Moves.{Place, Serving, Shut, MayLeave, MayLeaveWithin, RestsOnBytes, place_after}
@@ -57,7 +57,7 @@ refusal_is s text bytes now q e = by (refusal_of s (Receive text bytes) now) ref
     by_kept name (Some entry) e = cc
 
     by_name : (r : Result Name NameError) → read_name text ≡ r → refusal_of s (Receive text bytes) now ≡ None → unless_kept s (kept s (Receive text bytes)) (received s r bytes now) ≡ Refuse q → ⊥
-    by_name (Err fault) is none e = let stands : refusal_of s (Receive text bytes) now ≡ Some (NameRefused fault) = ap (λ r. find (named_stands s r bytes now) refusals) is ∙ refused_name s bytes now fault in cc
+    by_name (Err fault) is none e = let stands : refusal_of s (Receive text bytes) now ≡ Some (NameRefused fault) = ap (λ r. first_standing (named_tests s r bytes now)) is ∙ refused_name s bytes now fault in cc
     by_name (Ok name) is none e = by_kept name (kept s (Receive text bytes)) e
 
     by : (o : Option Refusal) → refusal_of s (Receive text bytes) now ≡ o → unless_refused o (unless_kept s (kept s (Receive text bytes)) (effect s (Receive text bytes) now)) ≡ Refuse q → o ≡ Some q

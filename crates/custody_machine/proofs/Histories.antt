@@ -3,7 +3,7 @@ use Rattle.std.proofs.Common.{◌≡◌, ℕ, List, [], ◌∷◌, ◌++◌, Opt
 use Rattle.custody_machine.specs.State.{State}
 use Rattle.custody_machine.specs.Machine.{Command, Entry, Ruling, Refuse, Accept, step, state_of, state_after, after, Answer, Accepted, Refused, Failed, NoMemory, VolumeFailed, StoreFailed, Closed, Damaged}
 use Rattle.custody_machine.specs.SameValues.{is_same_state}
-use Rattle.custody_machine.specs.History.{IsFoundWithin, MayFind, Pair, OpenAnswer, Opened, NotOpened, MayOpen, Event, Answered, ShutDown, StoppedAtRest, StoppedWithin, OpenedWith, Condition, Running, Halted, Resting, OpensSoundly, Happens, Run, Begins, Found, leads_to, settled, or_else, found_then, found_after, none_found, OpensAs, OpeningsAreRight, NothingIsTakenBack, AcceptedIsFound}
+use Rattle.custody_machine.specs.History.{IsFoundWithin, MayFind, Pair, OpenAnswer, Opened, NotOpened, MayOpen, Event, Answered, ShutDown, StoppedAtRest, StoppedWithin, OpenedWith, Condition, Running, Halted, Resting, OpensSoundly, Happens, Run, Begins, Found, leads_to, settled, or_else, found_then, found_after, none_found, OpeningsAreRight, NothingIsTakenBack, AcceptedIsFound}
 use Rattle.custody_machine.proofs.SameValues.{state_decides}
 
 pub after-append : (state : State) (xs ys : List Entry) → after state (xs ++ ys) ≡ after (after state xs) ys
@@ -121,20 +121,12 @@ module _ (first : State) where
   fits_first (Halted old doubt) h = absurd h
   fits_first (Resting pair) h = (h, refl)
 
-  opens_as : (s : State) (o : Option State) (answer : OpenAnswer) → o ≡ Some s → MayOpen o answer → OpensAs s answer
-  opens_as s o (Opened t) p q = cc
-  opens_as s o (NotOpened NoMemory) p q = tt
-  opens_as s o (NotOpened VolumeFailed) p q = tt
-  opens_as s o (NotOpened StoreFailed) p q = tt
-  opens_as s o (NotOpened Closed) p q = q
-  opens_as s o (NotOpened (Damaged damage)) p q = cc
-
-  opening_is_right : (c next : Condition) (pair : Pair) (answer : OpenAnswer) (f : Found) → Fits c f → Happens c (OpenedWith pair answer) next → OpensSoundly (λ state. state ≡ after first f.commands) pair × OpensAs (after first f.commands) answer
+  opening_is_right : (c next : Condition) (pair : Pair) (answer : OpenAnswer) (f : Found) → Fits c f → Happens c (OpenedWith pair answer) next → OpensSoundly (λ state. state ≡ after first f.commands) pair × MayOpen (Some (after first f.commands)) answer
   opening_is_right (Running old) next pair answer f fits h = absurd h
   opening_is_right (Halted old doubt) next pair answer f fits h = absurd h
   opening_is_right (Resting left) next pair answer f fits h =
       let sound : OpensSoundly (λ state. state ≡ after first f.commands) pair = subst (OpensSoundly (λ state. state ≡ after first f.commands)) (sym h.0) fits.0 in
-      (sound, opens_as (after first f.commands) pair.opens answer (sound.1 ∙ ap Some sound.2) h.1)
+      (sound, subst (λ opens. MayOpen opens answer) (sound.1 ∙ ap Some sound.2) h.1)
 
   pub openings_are_right : OpeningsAreRight first
   openings_are_right earlier later pair answer history =

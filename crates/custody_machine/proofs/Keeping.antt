@@ -1,9 +1,9 @@
 -- What the machine keeps of an accepted command for good.
-use Rattle.std.proofs.Common.{◌≡◌, ℕ, zero, suc, List, [], ◌∷◌, Option, Some, None, Bool, true, false, not, ◌&&◌, ◌||◌, ◌⊎◌, inl, inr, refl, sym, ◌∙◌, ap, subst, cond, nat_lt, ◌==◌, is_none, length, find, Result, Ok, Err, arith}
+use Rattle.std.proofs.Common.{◌≡◌, ℕ, zero, suc, List, [], ◌∷◌, Option, Some, None, Bool, true, false, not, ◌&&◌, ◌||◌, ◌⊎◌, inl, inr, refl, sym, ◌∙◌, ap, subst, cond, ◌==◌, is_none, length, Result, Ok, Err, arith}
 use Rattle.std.specs.Prelude.{option_map}
 use Rattle.std.specs.List.{list_any}
 use Rattle.std.specs.Int.{IsInRange}
-use Rattle.std.specs.Ordering.{eq_by_cmp, is_eq}
+use Rattle.std.specs.Ordering.{eq_by_cmp, is_eq, nat_cmp}
 use Rattle.std.specs.FinMap.{FinMap, get, insert, get-insert, get_tied}
 use Rattle.std.specs.Cmp.{IsTotalOrder, tied_itself, Equal-is}
 use Rattle.std.specs.declared.cmp.Ordering.{Ordering}
@@ -12,14 +12,14 @@ use Rattle.std.proofs.lemmas.Bool.Decides.{Decides-eqb}
 use Rattle.std.proofs.lemmas.Option.{cond_some}
 use Rattle.deposit_name.specs.declared.kinds.Kind.{Kind}
 use Rattle.deposit_name.specs.declared.faults.NameError.{NameError}
-use Rattle.deposit_name.specs.declared.faults.NameError.TheVariants as faults
 use Rattle.deposit_name.specs.Name.{Name}
 use Rattle.custody_records.specs.Keys.{PartKey}
 use Rattle.custody_records.specs.Records.{key_of}
+use Rattle.custody_records.specs.Tables.{is_rising}
 use Rattle.custody_machine.specs.Names.{is_same_text, read_name}
 use Rattle.custody_machine.specs.SameValues.{is_same_kind}
 use Rattle.custody_machine.specs.State.{State, Part, Content, Held, Dropped, places}
-use Rattle.custody_machine.specs.Machine.{Command, Register, Receive, Refusal, NameRefused, RegistryUnknown, DateOutOfRange, Size, OtherBytes, DroppedAfterKeeping, RevisionNotDue, AlreadyStated, TypeDiffers, PartOutOfOrder, refusals, Record, OfRegistry, OfPart, Reply, Ruling, Refuse, Accept, first_day_of, part_at, of_kind, recorded, has_other_kind, max_part_len, is_held_with, is_held_with_other, holds_other, is_dropped, is_gone, part_in, receive_stands, named_stands, refusal_of, with_registry, with_part, received_part, held_with, kept_under, kept, effect, received, unless_kept, unless_refused, step, state_of, reads, read_by, HasRecord}
+use Rattle.custody_machine.specs.Machine.{Command, Test, refusal_number, TestsAreInOrder, Register, Receive, Refusal, NameRefused, RegistryUnknown, DateOutOfRange, Size, OtherBytes, DroppedAfterKeeping, RevisionNotDue, AlreadyStated, TypeDiffers, PartOutOfOrder, Record, OfRegistry, OfPart, Reply, Ruling, Refuse, Accept, first_day_of, part_at, of_kind, recorded, has_other_kind, is_held_with, is_held_with_other, holds_other, is_dropped, is_gone, part_in, refusal_of, with_registry, with_part, received_part, held_with, kept_under, kept, effect, received, unless_kept, unless_refused, step, state_of, reads, read_by, HasRecord, is_unregistered, is_out_of_range, is_out_of_size, is_not_due, is_stated, differs_in_kind, is_out_of_order, receive_tests, named_tests, first_standing}
 use Rattle.custody_machine.specs.Retries.{has_same_key, asked, IsDroppedSince, without_bytes, IsKeptAs, StillHas, KeepsRecords, NothingIsRemoved, RepliesAreRecords, IsOfCommand}
 use Rattle.custody_machine.proofs.NameReading.{read_is}
 use Rattle.custody_machine.proofs.SameValues.{text_decides, kind_decides}
@@ -34,28 +34,28 @@ none_head false x o e = (refl, e)
 
 -- none of the refusals of a part stands
 pub record NoneStands (s : State) (name : Name) (sent : List ℕ) (now : ℕ) : Type 0 where
-  pub registry : receive_stands s name sent now RegistryUnknown ≡ false
-  pub date : receive_stands s name sent now DateOutOfRange ≡ false
-  pub size : receive_stands s name sent now Size ≡ false
-  pub bytes : receive_stands s name sent now OtherBytes ≡ false
-  pub dropped : receive_stands s name sent now DroppedAfterKeeping ≡ false
-  pub due : receive_stands s name sent now RevisionNotDue ≡ false
-  pub stated : receive_stands s name sent now AlreadyStated ≡ false
-  pub kind : receive_stands s name sent now TypeDiffers ≡ false
-  pub order : receive_stands s name sent now PartOutOfOrder ≡ false
+  pub registry : is_unregistered s name ≡ false
+  pub date : is_out_of_range s name now ≡ false
+  pub size : is_out_of_size (length sent) ≡ false
+  pub bytes : holds_other sent (recorded s name) ≡ false
+  pub dropped : is_dropped (recorded s name) ≡ false
+  pub due : is_not_due s name ≡ false
+  pub stated : is_stated s name ≡ false
+  pub kind : differs_in_kind s name ≡ false
+  pub order : is_out_of_order s name ≡ false
 
 module _ (s : State) (name : Name) (bytes : List ℕ) (now : ℕ) where
-  pub none_stand : find (receive_stands s name bytes now) refusals ≡ None → NoneStands s name bytes now
+  pub none_stand : first_standing (receive_tests s name bytes now) ≡ None → NoneStands s name bytes now
   none_stand e =
-      let b = none_head (receive_stands s name bytes now RegistryUnknown) RegistryUnknown _ e in
-      let c = none_head (receive_stands s name bytes now DateOutOfRange) DateOutOfRange _ b.1 in
-      let d = none_head (receive_stands s name bytes now Size) Size _ c.1 in
-      let f = none_head (receive_stands s name bytes now OtherBytes) OtherBytes _ d.1 in
-      let g = none_head (receive_stands s name bytes now DroppedAfterKeeping) DroppedAfterKeeping _ f.1 in
-      let h = none_head (receive_stands s name bytes now RevisionNotDue) RevisionNotDue _ g.1 in
-      let i = none_head (receive_stands s name bytes now AlreadyStated) AlreadyStated _ h.1 in
-      let j = none_head (receive_stands s name bytes now TypeDiffers) TypeDiffers _ i.1 in
-      let k = none_head (receive_stands s name bytes now PartOutOfOrder) PartOutOfOrder _ j.1 in
+      let b = none_head (is_unregistered s name) RegistryUnknown _ e in
+      let c = none_head (is_out_of_range s name now) DateOutOfRange _ b.1 in
+      let d = none_head (is_out_of_size (length bytes)) Size _ c.1 in
+      let f = none_head (holds_other bytes (recorded s name)) OtherBytes _ d.1 in
+      let g = none_head (is_dropped (recorded s name)) DroppedAfterKeeping _ f.1 in
+      let h = none_head (is_not_due s name) RevisionNotDue _ g.1 in
+      let i = none_head (is_stated s name) AlreadyStated _ h.1 in
+      let j = none_head (differs_in_kind s name) TypeDiffers _ i.1 in
+      let k = none_head (is_out_of_order s name) PartOutOfOrder _ j.1 in
       record { registry = b.0; date = c.0; size = d.0; bytes = f.0; dropped = g.0; due = h.0; stated = i.0; kind = j.0; order = k.0 }
 
 -- the refusals that follow those of the name
@@ -69,22 +69,25 @@ nine_none a b c d e f g h i p q r t u v w x y = rw (p, q, r, t, u, v, w, x, y) r
 five_dropped : (a b c d e f g h i : Bool) → a ≡ false → b ≡ false → c ≡ false → d ≡ false → e ≡ true → part_refusals a b c d e f g h i ≡ Some DroppedAfterKeeping
 five_dropped a b c d e f g h i p q r t u = rw (p, q, r, t, u) refl
 
-pub find_none : (s : State) (name : Name) (bytes : List ℕ) (now : ℕ) → NoneStands s name bytes now → find (receive_stands s name bytes now) refusals ≡ None
+pub find_none : (s : State) (name : Name) (bytes : List ℕ) (now : ℕ) → NoneStands s name bytes now → first_standing (receive_tests s name bytes now) ≡ None
 find_none s name bytes now h = nine_none _ _ _ _ _ _ _ _ _ h.registry h.date h.size h.bytes h.dropped h.due h.stated h.kind h.order
 
-pub find_dropped : (s : State) (name : Name) (bytes : List ℕ) (now : ℕ) → receive_stands s name bytes now RegistryUnknown ≡ false → receive_stands s name bytes now DateOutOfRange ≡ false → receive_stands s name bytes now Size ≡ false → receive_stands s name bytes now OtherBytes ≡ false → receive_stands s name bytes now DroppedAfterKeeping ≡ true
-    → find (receive_stands s name bytes now) refusals ≡ Some DroppedAfterKeeping
+pub find_dropped : (s : State) (name : Name) (bytes : List ℕ) (now : ℕ) → is_unregistered s name ≡ false → is_out_of_range s name now ≡ false → is_out_of_size (length bytes) ≡ false → holds_other bytes (recorded s name) ≡ false → is_dropped (recorded s name) ≡ true
+    → first_standing (receive_tests s name bytes now) ≡ Some DroppedAfterKeeping
 find_dropped s name bytes now a b c d e = five_dropped _ _ _ _ _ _ _ _ _ a b c d e
 
 -- a text that is no name is refused
-pub refused_name : (s : State) (bytes : List ℕ) (now : ℕ) (fault : NameError) → find (named_stands s (Err fault) bytes now) refusals ≡ Some (NameRefused fault)
-refused_name s bytes now faults.Suffix = refl
-refused_name s bytes now faults.Pieces = refl
-refused_name s bytes now faults.Tld = refl
-refused_name s bytes now faults.Date = refl
-refused_name s bytes now faults.Kind = refl
-refused_name s bytes now faults.Part = refl
-refused_name s bytes now faults.Revision = refl
+pub refused_name : (s : State) (bytes : List ℕ) (now : ℕ) (fault : NameError) → first_standing (named_tests s (Err fault) bytes now) ≡ Some (NameRefused fault)
+refused_name s bytes now fault = refl
+
+-- the tests of each command stand in the order of their numbers
+pub tests_are_in_order : TestsAreInOrder
+tests_are_in_order s (Register tld day) now = refl
+tests_are_in_order s (Receive text bytes) now = by (read_name text)
+  where
+    by : (r : Result Name NameError) → is_rising nat_cmp (λ (test : Test). refusal_number test.0) (named_tests s r bytes now) ≡ true
+    by (Err fault) = refl
+    by (Ok name) = refl
 
 -- accepted: no refusal stands, and the ruling is that of a repeat or of the effect
 pub step_accepts : (s : State) (c : Command) (now : ℕ) (reply : Reply) (new : State) → step s c now ≡ Accept reply new → (refusal_of s c now ≡ None) × (unless_kept s (kept s c) (effect s c now) ≡ Accept reply new)
@@ -173,7 +176,7 @@ abbrev pub answered : State → Name → List ℕ → ℕ → Option Part → Ru
 answered s name bytes now (Some part) = Accept (record { entry = OfPart (key_of name) part; is_repeat = true }) s
 answered s name bytes now None = Accept (record { entry = OfPart (key_of name) (received_part name bytes now); is_repeat = false }) (with_part s (key_of name) (received_part name bytes now))
 
-pub rules_part : (s : State) (text bytes : List ℕ) (now : ℕ) (name : Name) → read_name text ≡ Ok name → receive_stands s name bytes now OtherBytes ≡ false → receive_stands s name bytes now DroppedAfterKeeping ≡ false
+pub rules_part : (s : State) (text bytes : List ℕ) (now : ℕ) (name : Name) → read_name text ≡ Ok name → holds_other bytes (recorded s name) ≡ false → is_dropped (recorded s name) ≡ false
     → unless_kept s (kept s (Receive text bytes)) (effect s (Receive text bytes) now) ≡ answered s name bytes now (recorded s name)
 rules_part s text bytes now name named other dropped =
     (λ i. unless_kept s (kept_under s (named i) bytes) (received s (named i) bytes now)) ∙ by (recorded s name) other dropped
@@ -196,7 +199,7 @@ pub receives : (s : State) (text bytes : List ℕ) (now : ℕ) (reply : Reply) (
 receives s text bytes now reply new e =
     let h = step_accepts s (Receive text bytes) now reply new e in by (read_name text) refl h.0 h.1
   where
-    by : (r : Result Name NameError) → read_name text ≡ r → find (named_stands s r bytes now) refusals ≡ None → unless_kept s (kept s (Receive text bytes)) (effect s (Receive text bytes) now) ≡ Accept reply new → Receives s text bytes now reply new
+    by : (r : Result Name NameError) → read_name text ≡ r → first_standing (named_tests s r bytes now) ≡ None → unless_kept s (kept s (Receive text bytes)) (effect s (Receive text bytes) now) ≡ Accept reply new → Receives s text bytes now reply new
     by (Err fault) named none ruling = let stands = refused_name s bytes now fault in cc
     by (Ok name) named none ruling =
         let stand = none_stand s name bytes now none in
@@ -272,8 +275,8 @@ pub record KeepsPart (s : State) (text bytes : List ℕ) (entry : Record) : Type
   pub made : entry ≡ OfPart (key_of name) part
   pub content : part.content ≡ Held bytes
   pub kind : is_same_kind part.kind name.kind ≡ true
-  pub registry : is_none (first_day_of s name.tld) ≡ false
-  pub size : (length bytes == 0 || nat_lt max_part_len (length bytes)) ≡ false
+  pub registry : is_unregistered s name ≡ false
+  pub size : is_out_of_size (length bytes) ≡ false
   pub at : part_at s (key_of name) ≡ Some kept
   pub same : IsKeptPart part kept
 
@@ -469,17 +472,17 @@ asked_again s (Receive text bytes) entry now h = by h.same
     not_new : (b : Bool) → (is_none (recorded s h.name) && b) ≡ false
     not_new b = ap (λ a. a && b) is_new
 
-    refusal_by : (o : Option Refusal) → find (receive_stands s h.name bytes now) refusals ≡ o → refusal_of s (Receive text bytes) now ≡ o
-    refusal_by o e = ap (λ r. find (named_stands s r bytes now) refusals) h.named ∙ e
+    refusal_by : (o : Option Refusal) → first_standing (receive_tests s h.name bytes now) ≡ o → refusal_of s (Receive text bytes) now ≡ o
+    refusal_by o e = ap (λ r. first_standing (named_tests s r bytes now)) h.named ∙ e
 
-    reads_by : (o : Option Refusal) → find (receive_stands s h.name bytes now) refusals ≡ o → read_by o (Ok h.name) ≡ [] → reads s (Receive text bytes) now ≡ []
+    reads_by : (o : Option Refusal) → first_standing (receive_tests s h.name bytes now) ≡ o → read_by o (Ok h.name) ≡ [] → reads s (Receive text bytes) now ≡ []
     reads_by o e none = (λ i. read_by (refusal_by o e i) (h.named i)) ∙ none
 
     by : IsKeptPart h.part h.kept → Again s (Receive text bytes) entry now × (reads s (Receive text bytes) now ≡ [])
     by (inl p) =
         let content : h.kept.content ≡ Held bytes = ap (λ (q : Part). q.content) p ∙ h.content in
-        let other_bytes : receive_stands s h.name bytes now OtherBytes ≡ false = ap (holds_other bytes) at ∙ ap (is_held_with_other bytes) content ∙ ap not ((text_decides bytes bytes).1 refl) in
-        let dropped : receive_stands s h.name bytes now DroppedAfterKeeping ≡ false = ap is_dropped at ∙ ap is_gone content in
+        let other_bytes : holds_other bytes (recorded s h.name) ≡ false = ap (holds_other bytes) at ∙ ap (is_held_with_other bytes) content ∙ ap not ((text_decides bytes bytes).1 refl) in
+        let dropped : is_dropped (recorded s h.name) ≡ false = ap is_dropped at ∙ ap is_gone content in
         let none : NoneStands s h.name bytes now = record {
           registry = h.registry;
           date = not_new _;
@@ -498,7 +501,7 @@ asked_again s (Receive text bytes) entry now h = by h.same
         )
     by (inr p) =
         let content : is_gone h.kept.content ≡ true = ap (λ (q : Part). is_gone q.content) p in
-        let other_bytes : receive_stands s h.name bytes now OtherBytes ≡ false = ap (holds_other bytes) at ∙ ap (λ (q : Part). is_held_with_other bytes q.content) p in
-        let dropped : receive_stands s h.name bytes now DroppedAfterKeeping ≡ true = ap is_dropped at ∙ content in
+        let other_bytes : holds_other bytes (recorded s h.name) ≡ false = ap (holds_other bytes) at ∙ ap (λ (q : Part). is_held_with_other bytes q.content) p in
+        let dropped : is_dropped (recorded s h.name) ≡ true = ap is_dropped at ∙ content in
         let stands = find_dropped s h.name bytes now h.registry (not_new _) h.size other_bytes dropped in
         (inr (step_refuses s (Receive text bytes) now DroppedAfterKeeping (refusal_by (Some DroppedAfterKeeping) stands), (h.name, h.named, dropped)), reads_by (Some DroppedAfterKeeping) stands refl)

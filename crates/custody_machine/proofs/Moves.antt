@@ -1,5 +1,5 @@
 -- The moves of a custody over records and images make histories, and the laws of histories hold of them.
-use Rattle.std.proofs.Common.{◌≡◌, ℕ, List, [], ◌∷◌, ◌++◌, Option, Some, None, Bool, true, false, if◌then◌else◌, refl, sym, ◌∙◌, ap, subst, MatchOption}
+use Rattle.std.proofs.Common.{◌≡◌, ◌≢◌, ℕ, List, [], ◌∷◌, ◌++◌, Option, Some, None, Bool, true, false, if◌then◌else◌, refl, sym, ◌∙◌, ap, subst, MatchOption}
 use Rattle.std.specs.Prelude.{option_map}
 use Rattle.std.specs.FinMap.{get}
 use Rattle.vault_volume.specs.Extents.{part_bytes}
@@ -7,10 +7,10 @@ use Rattle.custody_records.specs.Keys.{part_cmp}
 use Rattle.custody_records.specs.Records.{Records}
 use Rattle.custody_records.specs.Rows.{Rows}
 use Rattle.custody_machine.specs.State.{State}
-use Rattle.custody_machine.specs.Machine.{Command, after, Answer, Accepted, Refused, Failed, Fault, NoMemory, VolumeFailed, StoreFailed, Closed, Damaged, Answers}
+use Rattle.custody_machine.specs.Machine.{Command, after, Answer, Failed, Fault, NoMemory, VolumeFailed, StoreFailed, Closed, Damage, Damaged, Answers}
 use Rattle.custody_machine.specs.History.{IsFoundWithin, MayFind, doubt_of, is_open_after, Pair, Opened, NotOpened, MayOpen, Event, Answered, ShutDown, StoppedAtRest, StoppedWithin, OpenedWith, Condition, Running, Halted, Resting, OpensSoundly, Happens, Run, Begins, Found, found, found_after, none_found}
 use Rattle.custody_machine.specs.Stored.{part_of, content_of, state_in, Stands, HasDigests, IsSound, OpensFrom}
-use Rattle.custody_machine.specs.Moves.{Place, Serving, Shut, Left, MayLeave, Finds, MayNotOpen, Moves, MovesAlong, IsBegun, MovesAreHistories, IsIn, PlacesAreRight, TellsDamage, NoDamageIsTold, ReadsBackAsReceived, FindsOne, ChainsMove}
+use Rattle.custody_machine.specs.Moves.{Place, Serving, Shut, Left, MayLeave, Finds, MayNotOpen, Moves, MovesAlong, IsBegun, MovesAreHistories, IsIn, PlacesAreRight, fault_told, NoDamageIsTold, ReadsBackAsReceived, FindsOne, ChainsMove}
 use Rattle.custody_machine.proofs.MapValues.{get-map_values}
 use Rattle.custody_machine.proofs.Histories.{Fits, fits_after, fits_first}
 use Rattle.custody_machine.proofs.Received.{held_as_received}
@@ -217,35 +217,22 @@ along_split place [] ys end m = (place, refl, m)
 along_split place (x ∷ xs) ys end m = let rest = along_split m.0 xs ys end m.2 in (rest.0, (m.0, m.1, rest.1), rest.2)
 
 -- where no part is damaged, no move tells of damage
-tells_none : (state : State) (place : Place) (event : Event) (next : Place) → IsIn state place → Moves place event next → ¬ TellsDamage event
-tells_none state (Serving records image) (Answered command now (Failed (Damaged damage))) next here m told = let cause = m.3 in cause.2 (here.1 cause.0)
-tells_none state (Shut records image doubt) (Answered command now (Failed (Damaged damage))) next here m told = never m.0
+tells_none : (state : State) (place : Place) (event : Event) (next : Place) → IsIn state place → Moves place event next → (damage : Damage) → fault_told event ≢ Some (Damaged damage)
+tells_none state (Serving records image) (Answered command now (Failed (Damaged found))) next here m damage told = let cause = m.3 in cause.2 (here.1 cause.0)
+tells_none state (Shut records image doubt) (Answered command now (Failed (Damaged found))) next here m damage told = never m.0
   where
-    never : Failed (Damaged damage) ≡ Failed Closed → ⊥
+    never : Failed (Damaged found) ≡ Failed Closed → ⊥
     never e = cc
-tells_none state (Left rows image) (Answered command now (Failed (Damaged damage))) next here m told = absurd m
-tells_none state (Left rows image) (OpenedWith pair (NotOpened (Damaged damage))) next here m told = damaged_stands damage rows image state m.1.is_true here.0
-tells_none state (Serving records image) (OpenedWith pair (NotOpened (Damaged damage))) next here m told = absurd m
-tells_none state (Shut records image doubt) (OpenedWith pair (NotOpened (Damaged damage))) next here m told = absurd m
-tells_none state place (Answered command now (Accepted reply)) next here m told = absurd told
-tells_none state place (Answered command now (Refused refusal)) next here m told = absurd told
-tells_none state place (Answered command now (Failed NoMemory)) next here m told = absurd told
-tells_none state place (Answered command now (Failed VolumeFailed)) next here m told = absurd told
-tells_none state place (Answered command now (Failed StoreFailed)) next here m told = absurd told
-tells_none state place (Answered command now (Failed Closed)) next here m told = absurd told
-tells_none state place ShutDown next here m told = absurd told
-tells_none state place (StoppedAtRest pair) next here m told = absurd told
-tells_none state place (StoppedWithin command now pair) next here m told = absurd told
-tells_none state place (OpenedWith pair (Opened s)) next here m told = absurd told
-tells_none state place (OpenedWith pair (NotOpened NoMemory)) next here m told = absurd told
-tells_none state place (OpenedWith pair (NotOpened VolumeFailed)) next here m told = absurd told
-tells_none state place (OpenedWith pair (NotOpened StoreFailed)) next here m told = absurd told
-tells_none state place (OpenedWith pair (NotOpened Closed)) next here m told = absurd told
+tells_none state (Left rows image) (Answered command now (Failed (Damaged found))) next here m damage told = absurd m
+tells_none state (Left rows image) (OpenedWith pair (NotOpened (Damaged found))) next here m damage told = damaged_stands found rows image state m.1.is_true here.0
+tells_none state (Serving records image) (OpenedWith pair (NotOpened (Damaged found))) next here m damage told = absurd m
+tells_none state (Shut records image doubt) (OpenedWith pair (NotOpened (Damaged found))) next here m damage told = absurd m
+tells_none state place event next here m damage told = cc
 
 pub no_damage_is_told : (first : State) → NoDamageIsTold first
-no_damage_is_told first start end earlier later event begun m =
+no_damage_is_told first start end earlier later event damage begun m =
     let parts = along_split start earlier (event ∷ later) end m in
-    tells_none (after first (found first earlier)) parts.0 event parts.2.0 (places_are_right first start parts.0 earlier begun parts.1) parts.2.1
+    tells_none (after first (found first earlier)) parts.0 event parts.2.0 (places_are_right first start parts.0 earlier begun parts.1) parts.2.1 damage
 
 pub reads_back : (first : State) → ReadsBackAsReceived first
 reads_back first start records image events begun m key part extents at is =

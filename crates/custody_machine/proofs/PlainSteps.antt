@@ -1,5 +1,5 @@
 -- The plain program's answers are the machine's rulings.
-use Rattle.std.proofs.Common.{◌≡◌, ℕ, List, [], ◌∷◌, ◌++◌, length, Option, Some, None, true, false, ◌&&◌, map, refl, sym, ◌∙◌, ap, subst, find, is_none, Ok}
+use Rattle.std.proofs.Common.{◌≡◌, ℕ, List, [], ◌∷◌, ◌++◌, length, Option, Some, None, true, false, ◌&&◌, map, refl, sym, ◌∙◌, ap, subst, is_none, Ok}
 use Rattle.std.specs.List.{list_any}
 use Rattle.std.specs.FinMap.{IsAntisymmetric, get, insert, from_entries, get-from_entries, from_entries_push}
 use Rattle.std.specs.Cmp.{IsTotalOrder}
@@ -18,7 +18,7 @@ use Rattle.custody_machine.specs.Names.{read_name}
 use Rattle.custody_machine.specs.Plain.{registry_entry, part_entry, part_shown, IsRuling}
 use Rattle.custody_machine.specs.Retries.{content_len}
 use Rattle.custody_machine.specs.State.{State, Part, places}
-use Rattle.custody_machine.specs.Machine.{Register, Receive, Refusal, NameRefused, refusals, OfRegistry, OfPart, Ruling, Accept, first_day_of, part_at, part_in, recorded, has_other_kind, holds_other, is_dropped, receive_stands, named_stands, refusal_of, step, with_registry, with_part, received_part}
+use Rattle.custody_machine.specs.Machine.{Register, Receive, Refusal, NameRefused, OfRegistry, OfPart, Ruling, Accept, first_day_of, part_at, part_in, recorded, has_other_kind, holds_other, is_dropped, refusal_of, step, with_registry, with_part, received_part, receive_tests, named_tests, first_standing}
 use Rattle.custody_machine.proofs.NameReading.{is_reading}
 use Rattle.custody_records.specs.Orders.{text_total, part_total, part_exact}
 use Rattle.custody_machine.proofs.SameValues.{kind_decides}
@@ -56,32 +56,32 @@ registers s new tld day now e is = step_none s (Register tld day) now refl ∙ a
 
 -- a text that is refused
 pub refuses_text : (s : State) (text bytes : List ℕ) (now : ℕ) (fault : NameError) → IsFault text fault → IsRuling (answer.Refused (NameRefused fault)) s s (step s (Receive text bytes) now)
-refuses_text s text bytes now fault is = (step_refuses s (Receive text bytes) now (NameRefused fault) (ap (λ r. find (named_stands s r bytes now) refusals) ((is_reading.faults text fault).1 is) ∙ refused_name s bytes now fault), refl)
+refuses_text s text bytes now fault is = (step_refuses s (Receive text bytes) now (NameRefused fault) (ap (λ r. first_standing (named_tests s r bytes now)) ((is_reading.faults text fault).1 is) ∙ refused_name s bytes now fault), refl)
 
 pub read_of : (text : List ℕ) (name : Name) → IsName name × (text ≡ name_text name) → read_name text ≡ Ok name
 read_of text name h = (is_reading.names text name).1 h
 
 module _ (s : State) (text bytes : List ℕ) (now : ℕ) (name : Name) (named : read_name text ≡ Ok name) where
-  refusal_is : (o : Option Refusal) → find (receive_stands s name bytes now) refusals ≡ o → refusal_of s (Receive text bytes) now ≡ o
-  refusal_is o e = ap (λ r. find (named_stands s r bytes now) refusals) named ∙ e
+  refusal_is : (o : Option Refusal) → first_standing (receive_tests s name bytes now) ≡ o → refusal_of s (Receive text bytes) now ≡ o
+  refusal_is o e = ap (λ r. first_standing (named_tests s r bytes now)) named ∙ e
 
-  pub refuses : (q : Refusal) → find (receive_stands s name bytes now) refusals ≡ Some q → IsRuling (answer.Refused q) s s (step s (Receive text bytes) now)
+  pub refuses : (q : Refusal) → first_standing (receive_tests s name bytes now) ≡ Some q → IsRuling (answer.Refused q) s s (step s (Receive text bytes) now)
   refuses q e = (step_refuses s (Receive text bytes) now q (refusal_is (Some q) e), refl)
 
-  ruled : find (receive_stands s name bytes now) refusals ≡ None → step s (Receive text bytes) now ≡ answered s name bytes now (recorded s name)
+  ruled : first_standing (receive_tests s name bytes now) ≡ None → step s (Receive text bytes) now ≡ answered s name bytes now (recorded s name)
   ruled none = let stand = none_stand s name bytes now none in step_none s (Receive text bytes) now (refusal_is None none) ∙ rules_part s text bytes now name named stand.bytes stand.dropped
 
-  pub repeats : (part : Part) → find (receive_stands s name bytes now) refusals ≡ None → recorded s name ≡ Some part → IsRuling (answer.Received name part.received (length bytes) true) s s (step s (Receive text bytes) now)
+  pub repeats : (part : Part) → first_standing (receive_tests s name bytes now) ≡ None → recorded s name ≡ Some part → IsRuling (answer.Received name part.received (length bytes) true) s s (step s (Receive text bytes) now)
   repeats part none at =
       let stand = none_stand s name bytes now none in
       let content = held_bytes part bytes (ap (holds_other bytes) (sym at) ∙ stand.bytes) (ap is_dropped (sym at) ∙ stand.dropped) in
       (part, ruled none ∙ ap (answered s name bytes now) at, (kind_decides part.kind name.kind).0 (recorded_is s name part at).1, refl, ap content_len content)
 
-  pub place_is_free : find (receive_stands s name bytes now) refusals ≡ None → recorded s name ≡ None → part_at s (key_of name) ≡ None
+  pub place_is_free : first_standing (receive_tests s name bytes now) ≡ None → recorded s name ≡ None → part_at s (key_of name) ≡ None
   place_is_free none at = let stand = none_stand s name bytes now none in
       place_is_empty s text name named at (ap (λ o. is_none o && list_any (λ place. has_other_kind name.kind (part_in s name place)) places) (sym at) ∙ stand.kind)
 
-  pub receives_new : (new : State) → find (receive_stands s name bytes now) refusals ≡ None → recorded s name ≡ None → new ≡ with_part s (key_of name) (received_part name bytes now)
+  pub receives_new : (new : State) → first_standing (receive_tests s name bytes now) ≡ None → recorded s name ≡ None → new ≡ with_part s (key_of name) (received_part name bytes now)
       → IsRuling (answer.Received name now (length bytes) false) s new (step s (Receive text bytes) now)
   receives_new new none at is =
       (received_part name bytes now, ruled none ∙ ap (answered s name bytes now) at ∙ ap (Accept (record { entry = OfPart (key_of name) (received_part name bytes now); is_repeat = false })) (sym is), refl, refl, refl)

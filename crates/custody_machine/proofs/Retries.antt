@@ -230,7 +230,7 @@ acknowledged_is_kept first earlier between later command now reply pair state hi
     before = earlier ++ answer ∷ between
 
     opened : state ≡ after first (found first before)
-    opened = (openings_are_right first before later pair (Opened state) history).1
+    opened = let same = (openings_are_right first before later pair (Opened state) history).1 in cc
 
     parts : (mid : Condition) × Run history.0 earlier mid × Run mid (answer ∷ (between ++ OpenedWith pair (Opened state) ∷ later)) history.1
     parts = run_split history.0 earlier (answer ∷ (between ++ OpenedWith pair (Opened state) ∷ later)) history.1

@@ -1,5 +1,5 @@
 -- What may happen to a custody, whenever it is stopped, and the commands that are found when it is opened again.
-use Rattle.std.specs.Prelude.{◌≡◌, ℕ, List, [], ◌∷◌, ◌++◌, Option, Some, None, Bool, true, false, ◌⊎◌, if◌then◌else◌, Ok}
+use Rattle.std.specs.Prelude.{◌≡◌, ℕ, List, [], ◌∷◌, ◌++◌, Option, Some, None, Bool, true, false, not, ◌⊎◌, if◌then◌else◌, Ok}
 use Rattle.std.specs.FinMap.{get}
 use Rattle.deposit_name.specs.Name.{Name}
 use Rattle.custody_records.specs.Keys.{PartKey}
@@ -17,28 +17,25 @@ IsFoundWithin old command now found = (found ≡ old) ⊎ (found ≡ state_after
 
 -- the command that is in doubt after an answer: one that was answered that the store failed
 abbrev pub doubt_of : Command → ℕ → Answer → Option Entry
-doubt_of command now (Accepted reply) = None
-doubt_of command now (Refused refusal) = None
-doubt_of command now (Failed NoMemory) = None
-doubt_of command now (Failed VolumeFailed) = None
 doubt_of command now (Failed StoreFailed) = Some (command, now)
-doubt_of command now (Failed Closed) = None
-doubt_of command now (Failed (Damaged damage)) = None
+doubt_of command now _ = None
 
 -- of a closed custody: its state, or that after the command in doubt
 abbrev pub MayFind : State → Option Entry → State → Type 0
 MayFind old None found = found ≡ old
 MayFind old (Some entry) found = IsFoundWithin old entry.0 entry.1 found
 
+-- whether a custody is closed after a failure
+abbrev pub closes : Fault → Bool
+closes VolumeFailed = true
+closes StoreFailed = true
+closes Closed = true
+closes _ = false
+
 -- whether a custody is open after an answer
 abbrev pub is_open_after : Answer → Bool
-is_open_after (Accepted reply) = true
-is_open_after (Refused refusal) = true
-is_open_after (Failed NoMemory) = true
-is_open_after (Failed VolumeFailed) = false
-is_open_after (Failed StoreFailed) = false
-is_open_after (Failed Closed) = false
-is_open_after (Failed (Damaged damage)) = true
+is_open_after (Failed fault) = not (closes fault)
+is_open_after _ = true
 
 -- the state as which database and volume open, if there is one, and whether each held part has its recorded digest
 pub record Pair : Type 0 where
@@ -177,19 +174,10 @@ found first events = (found_after first none_found events).commands
 
 -- ---- the laws
 
--- opening answers this state, or fails without calling anything damaged
-abbrev pub OpensAs : State → OpenAnswer → Type 0
-OpensAs state (Opened other) = other ≡ state
-OpensAs state (NotOpened NoMemory) = Unit {0}
-OpensAs state (NotOpened VolumeFailed) = Unit {0}
-OpensAs state (NotOpened StoreFailed) = Unit {0}
-OpensAs state (NotOpened Closed) = ⊥
-OpensAs state (NotOpened (Damaged damage)) = ⊥
-
 -- Wherever the custody was stopped, what is found is sound, and opening it gives what is kept after the commands found, in order.
 abbrev pub OpeningsAreRight : State → Type 0
 OpeningsAreRight first = (earlier later : List Event) (pair : Pair) (answer : OpenAnswer) → IsHistory first (earlier ++ OpenedWith pair answer ∷ later) →
-    OpensSoundly (λ state. state ≡ after first (found first earlier)) pair × OpensAs (after first (found first earlier)) answer
+    OpensSoundly (λ state. state ≡ after first (found first earlier)) pair × MayOpen (Some (after first (found first earlier))) answer
 
 -- What was found once is found for good.
 abbrev pub NothingIsTakenBack : State → Type 0

@@ -1,17 +1,18 @@
 -- The machine of commands: what each is answered, and what is kept after it (Specification 2, Part B).
-use Rattle.std.specs.Prelude.{◌≡◌, ◌≢◌, ℕ, ◌+◌, ◌-◌, List, [], ◌∷◌, length, Option, Some, None, option_map, Bool, true, false, not, ◌&&◌, ◌||◌, if◌then◌else◌, nat_lt, ◌==◌, is_some, is_none, unwrap_or, count_by, find, Result, Ok, Err}
+use Rattle.std.specs.Prelude.{◌≡◌, ◌≢◌, ℕ, ◌+◌, ◌-◌, List, [], ◌∷◌, length, Option, Some, None, option_map, Bool, true, false, not, ◌&&◌, ◌||◌, if◌then◌else◌, nat_lt, ◌==◌, is_some, is_none, unwrap_or, count_by, Result, Ok, Err}
 use Rattle.std.specs.List.{list_any}
 use Rattle.std.specs.Option.{option_and_then}
 use Rattle.std.specs.FinMap.{get, insert}
+use Rattle.std.specs.Ordering.{nat_cmp}
 use Rattle.schedule.specs.Schedule.{day_of}
 use Rattle.deposit_name.specs.declared.kinds.Kind.{Kind}
 use Rattle.deposit_name.specs.declared.faults.NameError.{NameError}
-use Rattle.deposit_name.specs.declared.faults.NameError.TheVariants as faults
 use Rattle.deposit_name.specs.Name.{Name}
 use Rattle.desk.specs.declared.notices.NoticeKind.{NoticeKind}
 use Rattle.desk.specs.declared.notices.NoticeKind.TheVariants.{Receipt, Failure, Absence}
 use Rattle.custody_records.specs.Keys.{PartKey, NoticeKey}
 use Rattle.custody_records.specs.Records.{Notice, Release, key_of}
+use Rattle.custody_records.specs.Tables.{is_rising}
 pub use Rattle.custody_machine.specs.declared.damage.Damage.{Damage}
 pub use Rattle.custody_machine.specs.declared.answers.Refusal.{Refusal}
 pub use Rattle.custody_machine.specs.declared.answers.Refusal.TheVariants.{NameRefused, RegistryUnknown, DateOutOfRange, Size, OtherBytes, DroppedAfterKeeping, RevisionNotDue, AlreadyStated, TypeDiffers, PartOutOfOrder, VolumeFull}
@@ -19,7 +20,7 @@ pub use Rattle.custody_machine.specs.declared.answers.Fault.{Fault}
 pub use Rattle.custody_machine.specs.declared.answers.Fault.TheVariants.{NoMemory, VolumeFailed, StoreFailed, Closed, Damaged}
 use Rattle.custody_machine.specs.declared.damage.Damage.TheVariants.{Digest}
 use Rattle.custody_machine.specs.Names.{is_same_text, read_name}
-use Rattle.custody_machine.specs.SameValues.{is_same_kind, is_same_fault}
+use Rattle.custody_machine.specs.SameValues.{is_same_kind}
 use Rattle.custody_machine.specs.State.{State, Part, Content, Held, Dropped, places, at_place, has_notice}
 
 -- ---- what is asked and answered
@@ -29,11 +30,6 @@ pub data Command : Type 0 where
   Register : (tld : List ℕ) → (first_day : ℕ) → Command
   -- takes a part of a deposit under its file name (Part A section 5)
   Receive : (name : List ℕ) → (bytes : List ℕ) → Command
-
--- The refusals that the state alone decides, in their order: the first that stands decides.
-abbrev pub refusals : List Refusal
-refusals = NameRefused faults.Suffix ∷ NameRefused faults.Pieces ∷ NameRefused faults.Tld ∷ NameRefused faults.Date ∷ NameRefused faults.Kind ∷ NameRefused faults.Part ∷ NameRefused faults.Revision
-    ∷ RegistryUnknown ∷ DateOutOfRange ∷ Size ∷ OtherBytes ∷ DroppedAfterKeeping ∷ RevisionNotDue ∷ AlreadyStated ∷ TypeDiffers ∷ PartOutOfOrder ∷ []
 
 -- a record of the state: the one that a command made, or found made
 pub data Record : Type 0 where
@@ -113,38 +109,82 @@ is_dropped (Some part) = is_gone part.content
 
 -- ---- refusals
 
--- whether a refusal stands for the part of a name
-abbrev pub receive_stands : State → Name → List ℕ → ℕ → Refusal → Bool
-receive_stands state name bytes now (NameRefused _) = false
-receive_stands state name bytes now RegistryUnknown = is_none (first_day_of state name.tld)
-receive_stands state name bytes now DateOutOfRange = is_none (recorded state name) && (nat_lt name.day (unwrap_or (first_day_of state name.tld) 0) || nat_lt (day_of now) name.day)
-receive_stands state name bytes now Size = length bytes == 0 || nat_lt max_part_len (length bytes)
-receive_stands state name bytes now OtherBytes = holds_other bytes (recorded state name)
-receive_stands state name bytes now DroppedAfterKeeping = is_dropped (recorded state name)
+-- the numbers Q1 to Q11
+abbrev pub refusal_number : Refusal → ℕ
+refusal_number (NameRefused _) = 1
+refusal_number RegistryUnknown = 2
+refusal_number DateOutOfRange = 3
+refusal_number Size = 4
+refusal_number OtherBytes = 5
+refusal_number DroppedAfterKeeping = 6
+refusal_number RevisionNotDue = 7
+refusal_number AlreadyStated = 8
+refusal_number TypeDiffers = 9
+refusal_number PartOutOfOrder = 10
+refusal_number VolumeFull = 11
+
+-- The tests of the part of a name. Those of the day, of notices and of the revision's parts are for a new name.
+abbrev pub is_unregistered : State → Name → Bool
+is_unregistered state name = is_none (first_day_of state name.tld)
+
+abbrev pub is_new : State → Name → Bool
+is_new state name = is_none (recorded state name)
+
+abbrev pub is_out_of_range : State → Name → ℕ → Bool
+is_out_of_range state name now = is_new state name && (nat_lt name.day (unwrap_or (first_day_of state name.tld) 0) || nat_lt (day_of now) name.day)
+
+abbrev pub is_out_of_size : ℕ → Bool
+is_out_of_size len = len == 0 || nat_lt max_part_len len
+
 -- the day has a receipt, or the revision before has no failure
-receive_stands state name bytes now RevisionNotDue =
-    is_none (recorded state name) && (has_notice state.notices name.tld name.day is_receipt || (nat_lt 0 name.rev && not (has_notice state.notices name.tld name.day (is_failure_of (name.rev - 1)))))
-receive_stands state name bytes now AlreadyStated = is_none (recorded state name) && has_notice state.notices name.tld name.day (is_verdict_of name.rev)
-receive_stands state name bytes now TypeDiffers = is_none (recorded state name) && list_any (λ place. has_other_kind name.kind (part_in state name place)) places
-receive_stands state name bytes now PartOutOfOrder = is_none (recorded state name) && not (count_by (λ place. is_some (part_in state name place)) places + 1 == name.part)
-receive_stands state name bytes now VolumeFull = false
+abbrev pub is_not_due : State → Name → Bool
+is_not_due state name = is_new state name && (has_notice state.notices name.tld name.day is_receipt || (nat_lt 0 name.rev && not (has_notice state.notices name.tld name.day (is_failure_of (name.rev - 1)))))
 
-abbrev pub refuses_name : NameError → Refusal → Bool
-refuses_name fault (NameRefused other) = is_same_fault fault other
-refuses_name fault _ = false
+abbrev pub is_stated : State → Name → Bool
+is_stated state name = is_new state name && has_notice state.notices name.tld name.day (is_verdict_of name.rev)
 
-abbrev pub named_stands : State → Result Name NameError → List ℕ → ℕ → Refusal → Bool
-named_stands state (Err fault) bytes now refusal = refuses_name fault refusal
-named_stands state (Ok name) bytes now refusal = receive_stands state name bytes now refusal
+abbrev pub differs_in_kind : State → Name → Bool
+differs_in_kind state name = is_new state name && list_any (λ place. has_other_kind name.kind (part_in state name place)) places
 
--- whether a refusal stands for a command
-abbrev pub stands : State → Command → ℕ → Refusal → Bool
-stands state (Register tld first_day) now refusal = false
-stands state (Receive text bytes) now refusal = named_stands state (read_name text) bytes now refusal
+abbrev pub is_out_of_order : State → Name → Bool
+is_out_of_order state name = is_new state name && not (count_by (λ place. is_some (part_in state name place)) places + 1 == name.part)
 
--- the least that stands
+-- a refusal, and whether it stands
+abbrev pub Test : Type 0
+Test = Refusal × Bool
+
+abbrev pub receive_tests : State → Name → List ℕ → ℕ → List Test
+receive_tests state name bytes now =
+    (RegistryUnknown, is_unregistered state name)
+    ∷ (DateOutOfRange, is_out_of_range state name now)
+    ∷ (Size, is_out_of_size (length bytes))
+    ∷ (OtherBytes, holds_other bytes (recorded state name))
+    ∷ (DroppedAfterKeeping, is_dropped (recorded state name))
+    ∷ (RevisionNotDue, is_not_due state name)
+    ∷ (AlreadyStated, is_stated state name)
+    ∷ (TypeDiffers, differs_in_kind state name)
+    ∷ (PartOutOfOrder, is_out_of_order state name)
+    ∷ []
+
+abbrev pub named_tests : State → Result Name NameError → List ℕ → ℕ → List Test
+named_tests state (Err fault) bytes now = (NameRefused fault, true) ∷ []
+named_tests state (Ok name) bytes now = receive_tests state name bytes now
+
+-- the tests of a command, in the order of their numbers
+abbrev pub tests_of : State → Command → ℕ → List Test
+tests_of state (Register tld first_day) now = []
+tests_of state (Receive text bytes) now = named_tests state (read_name text) bytes now
+
+abbrev pub TestsAreInOrder : Type 0
+TestsAreInOrder = (state : State) (command : Command) (now : ℕ) → is_rising nat_cmp (λ (test : Test). refusal_number test.0) (tests_of state command now) ≡ true
+
+-- the first that stands
+abbrev pub first_standing : List Test → Option Refusal
+first_standing [] = None
+first_standing (test ∷ others) = if test.1 then Some test.0 else first_standing others
+
 abbrev pub refusal_of : State → Command → ℕ → Option Refusal
-refusal_of state command now = find (stands state command now) refusals
+refusal_of state command now = first_standing (tests_of state command now)
 
 -- ---- repeats
 

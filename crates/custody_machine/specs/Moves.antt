@@ -1,5 +1,5 @@
 -- What may happen to a database and a volume: the moves of a custody over records and images, which the contracts of the calls and the laws both cite.
-use Rattle.std.specs.Prelude.{◌≡◌, ◌⊎◌, ℕ, List, [], ◌∷◌, ◌++◌, Option, Some, None, true, if◌then◌else◌, MatchOption, Contains}
+use Rattle.std.specs.Prelude.{◌≡◌, ◌≢◌, ◌⊎◌, ℕ, List, [], ◌∷◌, ◌++◌, Option, Some, None, true, if◌then◌else◌, MatchOption, Contains}
 use Rattle.std.specs.FinMap.{get}
 use Rattle.extent_map.specs.declared.extent.Extent.{Extent}
 use Rattle.vault_volume.specs.Extents.{part_bytes}
@@ -8,7 +8,7 @@ use Rattle.custody_records.specs.Records.{PartRecord, Records}
 use Rattle.custody_records.specs.Rows.{Rows}
 use Rattle.custody_records.specs.Form.{form_of, InForm}
 use Rattle.custody_machine.specs.State.{State}
-use Rattle.custody_machine.specs.Machine.{Command, Entry, after, reads, Answer, Accepted, Refused, Failed, Fault, NoMemory, VolumeFailed, StoreFailed, Closed, Damaged, Answers}
+use Rattle.custody_machine.specs.Machine.{Command, Entry, after, reads, Answer, Accepted, Refused, Failed, Fault, NoMemory, VolumeFailed, StoreFailed, Closed, Damage, Damaged, Answers}
 use Rattle.custody_machine.specs.History.{IsFoundWithin, MayFind, doubt_of, is_open_after, Pair, Opened, NotOpened, Event, Answered, ShutDown, StoppedAtRest, StoppedWithin, OpenedWith, IsHistory, found, WasReceived}
 use Rattle.custody_machine.specs.Stored.{IsGood, part_of, state_in, Stands, HasDigestAt, HasDigests, IsSound, KeepsParts, OpensFrom}
 use Rattle.custody_machine.specs.Damage.{IsFirstDamage}
@@ -136,28 +136,15 @@ IsIn state (Left rows image) = Stands rows image state × IsSound rows image
 abbrev pub PlacesAreRight : State → Type 0
 PlacesAreRight first = (start end : Place) (events : List Event) → IsBegun first start → MovesAlong start events end → IsIn (after first (found first events)) end
 
--- damage is told
-abbrev pub TellsDamage : Event → Type 0
-TellsDamage (Answered command now (Accepted reply)) = ⊥
-TellsDamage (Answered command now (Refused refusal)) = ⊥
-TellsDamage (Answered command now (Failed NoMemory)) = ⊥
-TellsDamage (Answered command now (Failed VolumeFailed)) = ⊥
-TellsDamage (Answered command now (Failed StoreFailed)) = ⊥
-TellsDamage (Answered command now (Failed Closed)) = ⊥
-TellsDamage (Answered command now (Failed (Damaged damage))) = Unit {0}
-TellsDamage ShutDown = ⊥
-TellsDamage (StoppedAtRest pair) = ⊥
-TellsDamage (StoppedWithin command now pair) = ⊥
-TellsDamage (OpenedWith pair (Opened state)) = ⊥
-TellsDamage (OpenedWith pair (NotOpened NoMemory)) = ⊥
-TellsDamage (OpenedWith pair (NotOpened VolumeFailed)) = ⊥
-TellsDamage (OpenedWith pair (NotOpened StoreFailed)) = ⊥
-TellsDamage (OpenedWith pair (NotOpened Closed)) = ⊥
-TellsDamage (OpenedWith pair (NotOpened (Damaged damage))) = Unit {0}
+-- the failure that an event tells
+abbrev pub fault_told : Event → Option Fault
+fault_told (Answered command now (Failed fault)) = Some fault
+fault_told (OpenedWith pair (NotOpened fault)) = Some fault
+fault_told _ = None
 
 -- Whatever stops there were, neither an opening nor a command tells of damage.
 abbrev pub NoDamageIsTold : State → Type 0
-NoDamageIsTold first = (start end : Place) (earlier later : List Event) (event : Event) → IsBegun first start → MovesAlong start (earlier ++ event ∷ later) end → ¬ TellsDamage event
+NoDamageIsTold first = (start end : Place) (earlier later : List Event) (event : Event) (damage : Damage) → IsBegun first start → MovesAlong start (earlier ++ event ∷ later) end → fault_told event ≢ Some (Damaged damage)
 
 -- Each part that an open custody holds reads back as it was received: the bytes at its extents are those of a command found, at its moment; or the first state has it so.
 abbrev pub ReadsBackAsReceived : State → Type 0

@@ -4,8 +4,6 @@ use Rattle.std.specs.Cmp.Lexicographic.{pointwise}
 use Rattle.std.specs.FinMap.{FinMap, entries}
 use Rattle.std.specs.declared.cmp.Ordering.{Ordering}
 use Rattle.deposit_name.specs.declared.kinds.Kind.{Kind}
-use Rattle.deposit_name.specs.declared.faults.NameError.{NameError}
-use Rattle.deposit_name.specs.FaultText.{fault_text}
 use Rattle.deposit_name.specs.Name.{kind_text}
 use Rattle.desk.specs.Checks.{check_number}
 use Rattle.desk.specs.Grounds.{ground_text}
@@ -18,9 +16,6 @@ use Rattle.custody_machine.specs.State.{State, Part, Content, Held, Dropped}
 
 abbrev pub is_same_kind : Kind → Kind → Bool
 is_same_kind a b = is_same_text (kind_text a) (kind_text b)
-
-abbrev pub is_same_fault : NameError → NameError → Bool
-is_same_fault a b = is_same_text (fault_text a) (fault_text b)
 
 abbrev pub is_same_key : PartKey → PartKey → Bool
 is_same_key a b = is_same_text a.tld b.tld && (a.day == b.day && (a.rev == b.rev && a.part == b.part))

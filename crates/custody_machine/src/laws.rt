@@ -3,6 +3,7 @@
 ghost use Rattle.custody_machine.specs.Names.{IsReading};
 ghost use Rattle.custody_machine.specs.Damage.{IsRefinement};
 ghost use Rattle.custody_machine.specs.State.{State};
+ghost use Rattle.custody_machine.specs.Machine.{TestsAreInOrder};
 ghost use Rattle.custody_machine.specs.History.{OpeningsAreRight, NothingIsTakenBack, AcceptedIsFound, HeldAsReceived};
 ghost use Rattle.custody_machine.specs.Examples.{HistoriesHappen};
 ghost use Rattle.custody_machine.specs.Moves.{MovesAreHistories, PlacesAreRight, NoDamageIsTold, ReadsBackAsReceived, FindsOne, ChainsMove};
@@ -12,6 +13,12 @@ ghost use Rattle.custody_machine.specs.Retries.{KeysAreCompared, ActsOnce, Repea
 /// refused by its first fault.
 pub fn law_read_name()
     ensures { IsReading }
+{}
+
+/// A command is refused with the least number that stands: its tests, of which the first that stands
+/// decides, are in the order of their numbers.
+pub fn law_refusals()
+    ensures { TestsAreInOrder }
 {}
 
 /// A database and a volume that are damaged stand for no state, and any others for exactly one. No two

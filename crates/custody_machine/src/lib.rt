@@ -13,5 +13,5 @@ mod tests;
 pub use answers::{Fault, Refusal};
 pub use command::Command;
 pub use damage::Damage;
-pub use laws::{law_damage, law_histories, law_read_name, law_retries};
+pub use laws::{law_damage, law_histories, law_read_name, law_refusals, law_retries};
 pub use plain::{PlainAnswer, PlainContent, PlainPart, PlainRegistry, PlainState, step_plain};

@@ -9,7 +9,7 @@ ghost use Rattle.custody_machine.specs.Names.{read_name};
 ghost use Rattle.custody_machine.specs.SameValues.{is_same_kind};
 ghost use Rattle.custody_machine.specs.State.{empty, at_place, places};
 ghost use Rattle.schedule.specs.Schedule.{day_of};
-ghost use Rattle.custody_machine.specs.Machine.{Register, Receive, step, first_day_of, recorded, part_in, has_other_kind, is_gone, is_held_with_other, holds_other, is_dropped, receive_stands, refusals, max_part_len, DateOutOfRange, RevisionNotDue, TypeDiffers, PartOutOfOrder};
+ghost use Rattle.custody_machine.specs.Machine.{Register, Receive, step, first_day_of, recorded, part_in, has_other_kind, is_gone, is_held_with_other, holds_other, is_dropped, max_part_len, is_out_of_range, is_not_due, differs_in_kind, is_out_of_order, receive_tests, first_standing};
 
 use crate::{Command, Refusal};
 use deposit_name::{DepositName, Kind, Tld};
@@ -238,33 +238,33 @@ impl PlainState {
     }
 
     fn is_out_of_range(&self, name: &DepositName, now: Sec) -> bool
-        ensures { result ≡ receive_stands (shown self.now) name.now [] now DateOutOfRange }
+        ensures { result ≡ is_out_of_range (shown self.now) name.now now }
     {
         self.is_new(name) && self.is_outside(name, now)
     }
 
     // There are no notices: no revision above 0 is due.
     fn is_not_due(&self, name: &DepositName) -> bool
-        ensures { result ≡ receive_stands (shown self.now) name.now [] 0 RevisionNotDue }
+        ensures { result ≡ is_not_due (shown self.now) name.now }
     {
         self.is_new(name) && name.rev > 0
     }
 
     fn differs_in_type(&self, name: &DepositName) -> bool
-        ensures { result ≡ receive_stands (shown self.now) name.now [] 0 TypeDiffers }
+        ensures { result ≡ differs_in_kind (shown self.now) name.now }
     {
         self.is_new(name) && self.has_any_other_kind(name)
     }
 
     fn is_out_of_order(&self, name: &DepositName) -> bool
-        ensures { result ≡ receive_stands (shown self.now) name.now [] 0 PartOutOfOrder }
+        ensures { result ≡ is_out_of_order (shown self.now) name.now }
     {
         self.is_new(name) && self.count_parts(name) + 1 != name.part
     }
 
     // The refusals of a part under a name, in their order. No revision is stated yet.
     fn refusal_of(&self, name: &DepositName, bytes: &[u8], now: Sec) -> Option<Refusal>
-        ensures { result ≡ find (receive_stands (shown self.now) name.now bytes.now now) refusals }
+        ensures { result ≡ first_standing (receive_tests (shown self.now) name.now bytes.now now) }
     {
         if self.is_unknown(name) {
             return Some(Refusal::RegistryUnknown);

@@ -1,5 +1,5 @@
 -- What the records tell of a part is what the machine decides of it, in their state with any image.
-use Rattle.std.proofs.Common.{◌≡◌, ◌≢◌, ℕ, ◌+◌, ◌-◌, List, length, Option, Some, None, Bool, true, false, not, ◌&&◌, ◌||◌, ◌==◌, nat_lt, cond, refl, sym, ◌∙◌, ap, find, count_by, is_none, Ok}
+use Rattle.std.proofs.Common.{◌≡◌, ◌≢◌, ℕ, ◌+◌, ◌-◌, List, length, Option, Some, None, Bool, true, false, not, ◌&&◌, ◌||◌, ◌==◌, nat_lt, cond, refl, sym, ◌∙◌, ap, count_by, is_none, Ok}
 use Rattle.std.specs.Prelude.{option_map, is_some, unwrap_or}
 use Rattle.std.specs.List.{list_any}
 use Rattle.std.specs.FinMap.{get}
@@ -22,8 +22,8 @@ use Rattle.custody_machine.specs.SameValues.{is_same_kind}
 use Rattle.custody_machine.specs.State.{State, places, at_place, has_notice}
 use Rattle.custody_machine.specs.Stored.{part_of, content_of, state_in}
 use Rattle.custody_machine.specs.declared.answers.Refusal.{Refusal}
-use Rattle.custody_machine.specs.declared.answers.Refusal.TheVariants.{NameRefused, RegistryUnknown, DateOutOfRange, Size, OtherBytes, DroppedAfterKeeping, VolumeFull}
-use Rattle.custody_machine.specs.Machine.{Receive, refusals, OfPart, Accept, Refuse, first_day_of, of_kind, recorded, part_in, has_other_kind, is_receipt, is_failure_of, is_verdict_of, is_held_with_other, holds_other, is_gone, is_dropped, max_part_len, receive_stands, named_stands, refusal_of, step}
+use Rattle.custody_machine.specs.declared.answers.Refusal.TheVariants.{NameRefused, RegistryUnknown, Size, OtherBytes, DroppedAfterKeeping, VolumeFull}
+use Rattle.custody_machine.specs.Machine.{Receive, OfPart, Accept, Refuse, first_day_of, of_kind, recorded, part_in, has_other_kind, is_receipt, is_failure_of, is_verdict_of, is_held_with_other, holds_other, is_gone, is_dropped, max_part_len, refusal_of, step, is_unregistered, is_out_of_range, is_out_of_size, receive_tests, named_tests, first_standing}
 use Rattle.custody_machine.specs.Custody.{Refuses, ByBytes, Goes, Decides}
 use Rattle.custody_machine.proofs.MapValues.{get-map_values}
 use Rattle.custody_machine.proofs.SameValues.{text_decides}
@@ -74,7 +74,7 @@ module _ (records : Records) (image : List ℕ) (name : Name) where
 -- ---- a new name
 
 -- where nothing is recorded under the name, in a registry that is known
-first_of_new : (s : State) (name : Name) (bytes : List ℕ) (now first : ℕ) → first_day_of s name.tld ≡ Some first → recorded s name ≡ None → find (receive_stands s name bytes now) refusals
+first_of_new : (s : State) (name : Name) (bytes : List ℕ) (now first : ℕ) → first_day_of s name.tld ≡ Some first → recorded s name ≡ None → first_standing (receive_tests s name bytes now)
     ≡ part_refusals false (nat_lt name.day first || nat_lt (day_of now) name.day) (length bytes == 0 || nat_lt max_part_len (length bytes)) false false
     (has_notice s.notices name.tld name.day is_receipt || (nat_lt 0 name.rev && not (has_notice s.notices name.tld name.day (is_failure_of (name.rev - 1))))) (has_notice s.notices name.tld name.day (is_verdict_of name.rev))
     (list_any (λ place. has_other_kind name.kind (part_in s name place)) places) (not (count_by (λ place. is_some (part_in s name place)) places + 1 == name.part))
@@ -85,7 +85,7 @@ first_of_new s name bytes now first known new = λ i.
 
 -- the first refusal of a new name, as the records have it
 pub first_in_records : (records : Records) (image : List ℕ) (name : Name) (bytes : List ℕ) (len now first : ℕ) → length bytes ≡ len → get records.registries name.tld ≡ Some first → recorded (state_in records image) name ≡ None
-    → find (receive_stands (state_in records image) name bytes now) refusals ≡ part_refusals false (nat_lt name.day first || nat_lt (day_of now) name.day) (len == 0 || nat_lt max_part_len len) false false
+    → first_standing (receive_tests (state_in records image) name bytes now) ≡ part_refusals false (nat_lt name.day first || nat_lt (day_of now) name.day) (len == 0 || nat_lt max_part_len len) false false
     (has_notice records.notices name.tld name.day is_receipt || (nat_lt 0 name.rev && not (has_notice records.notices name.tld name.day (is_failure_of (name.rev - 1))))) (has_notice records.notices name.tld name.day (is_verdict_of name.rev))
     (list_any (λ place. is_of_other_kind name.kind (get records.parts (at_place (key_of name) place))) places) (not (count_by (λ place. is_some (get records.parts (at_place (key_of name) place))) places + 1 == name.part))
 first_in_records records image name bytes len now first sized known new =
@@ -100,21 +100,21 @@ pub refuses_text : (records : Records) (text : List ℕ) (len now : ℕ) (fault 
 refuses_text records text len now fault is = (λ e. cc, λ e. cc, λ image bytes sized. (plain.refuses_text (state_in records image) text bytes now fault is).0)
 
 module _ (records : Records) (text : List ℕ) (name : Name) (len now : ℕ) (named : read_name text ≡ Ok name) where
-  refusal_is : (image bytes : List ℕ) (o : Option Refusal) → find (receive_stands (state_in records image) name bytes now) refusals ≡ o → refusal_of (state_in records image) (Receive text bytes) now ≡ o
-  refusal_is image bytes o first = ap (λ r. find (named_stands (state_in records image) r bytes now) refusals) named ∙ first
+  refusal_is : (image bytes : List ℕ) (o : Option Refusal) → first_standing (receive_tests (state_in records image) name bytes now) ≡ o → refusal_of (state_in records image) (Receive text bytes) now ≡ o
+  refusal_is image bytes o first = ap (λ r. first_standing (named_tests (state_in records image) r bytes now)) named ∙ first
 
   -- a refusal that stands first, whatever the image and the bytes
-  pub refuses : (q : Refusal) → q ≢ OtherBytes → q ≢ VolumeFull → ((image bytes : List ℕ) → length bytes ≡ len → find (receive_stands (state_in records image) name bytes now) refusals ≡ Some q) → Decides (Refuses q) records text len now
+  pub refuses : (q : Refusal) → q ≢ OtherBytes → q ≢ VolumeFull → ((image bytes : List ℕ) → length bytes ≡ len → first_standing (receive_tests (state_in records image) name bytes now) ≡ Some q) → Decides (Refuses q) records text len now
   refuses q other full first = (other, full, λ image bytes sized. step_refuses (state_in records image) (Receive text bytes) now q (refusal_is image bytes (Some q) (first image bytes sized)))
 
   pub refuses_registry : get records.registries name.tld ≡ None → Decides (Refuses RegistryUnknown) records text len now
-  refuses_registry unknown = refuses RegistryUnknown (λ e. cc) (λ e. cc) (λ image bytes sized. by (receive_stands (state_in records image) name bytes now RegistryUnknown) _ (ap is_none unknown))
+  refuses_registry unknown = refuses RegistryUnknown (λ e. cc) (λ e. cc) (λ image bytes sized. by (is_unregistered (state_in records image) name) _ (ap is_none unknown))
     where
       by : (a : Bool) (rest : Option Refusal) → a ≡ true → cond a (Some RegistryUnknown) rest ≡ Some RegistryUnknown
       by a rest e = ap (λ b. cond b (Some RegistryUnknown) rest) e
 
   -- a new name that no refusal stands for
-  pub goes : recorded_under records name ≡ None → ((image bytes : List ℕ) → length bytes ≡ len → find (receive_stands (state_in records image) name bytes now) refusals ≡ None) → Decides (Goes name) records text len now
+  pub goes : recorded_under records name ≡ None → ((image bytes : List ℕ) → length bytes ≡ len → first_standing (receive_tests (state_in records image) name bytes now) ≡ None) → Decides (Goes name) records text len now
   goes new none = (
     named,
     empty,
@@ -148,10 +148,10 @@ module _ (records : Records) (text : List ℕ) (name : Name) (part : typed.Part)
       by None e = cc
       by (Some day) e = refl
 
-  in_range : (image bytes : List ℕ) → receive_stands (state_in records image) name bytes now DateOutOfRange ≡ false
+  in_range : (image bytes : List ℕ) → is_out_of_range (state_in records image) name now ≡ false
   in_range image bytes = ap (λ o. is_none o && (nat_lt name.day (unwrap_or (first_day_of (state_in records image) name.tld) 0) || nat_lt (day_of now) name.day)) (recorded_is image)
 
-  size_is : (b : Bool) → (len == 0 || nat_lt max_part_len len) ≡ b → (image bytes : List ℕ) → length bytes ≡ len → receive_stands (state_in records image) name bytes now Size ≡ b
+  size_is : (b : Bool) → (len == 0 || nat_lt max_part_len len) ≡ b → (image bytes : List ℕ) → length bytes ≡ len → is_out_of_size (length bytes) ≡ b
   size_is b e image bytes sized = ap (λ n. n == 0 || nat_lt max_part_len n) sized ∙ e
 
   pub refuses_size : (len == 0 || nat_lt max_part_len len) ≡ true → Decides (Refuses Size) records text len now
@@ -168,10 +168,10 @@ module _ (records : Records) (text : List ℕ) (name : Name) (part : typed.Part)
         (ap is_dropped (recorded_is image) ∙ ap (λ o. is_gone (content_of image part.len o)) none))
 
     module _ (extents : List Extent) (held : (part_value part).extents ≡ Some extents) where
-      is_other : (image bytes : List ℕ) (b : Bool) → is_same_text (part_bytes image extents part.len) bytes ≡ b → receive_stands (state_in records image) name bytes now OtherBytes ≡ not b
+      is_other : (image bytes : List ℕ) (b : Bool) → is_same_text (part_bytes image extents part.len) bytes ≡ b → holds_other bytes (recorded (state_in records image) name) ≡ not b
       is_other image bytes b e = ap (holds_other bytes) (recorded_is image) ∙ ap (λ o. is_held_with_other bytes (content_of image part.len o)) held ∙ ap not e
 
-      is_kept : (image bytes : List ℕ) → receive_stands (state_in records image) name bytes now DroppedAfterKeeping ≡ false
+      is_kept : (image bytes : List ℕ) → is_dropped (recorded (state_in records image) name) ≡ false
       is_kept image bytes = ap is_dropped (recorded_is image) ∙ ap (λ o. is_gone (content_of image part.len o)) held
 
       accepts : (image bytes : List ℕ) → length bytes ≡ len → part_bytes image extents part.len ≡ bytes

@@ -10,7 +10,7 @@ ghost use Rattle.custody_machine.specs.Names.{is_same_text, read_name};
 ghost use Rattle.custody_machine.specs.SameValues.{is_same_kind};
 ghost use Rattle.custody_machine.specs.State.{places, at_place, has_notice};
 ghost use Rattle.custody_machine.specs.Stored.{state_in};
-ghost use Rattle.custody_machine.specs.Machine.{is_receipt, is_failure_of, is_verdict_of, recorded, receive_stands, refusals, max_part_len};
+ghost use Rattle.custody_machine.specs.Machine.{is_receipt, is_failure_of, is_verdict_of, recorded, max_part_len, receive_tests, first_standing};
 ghost use Rattle.custody_machine.specs.declared.answers.Refusal.TheVariants.{OtherBytes, VolumeFull};
 ghost use Rattle.custody_machine.specs.Custody.{Decides};
 ghost use Rattle.custody_rules.specs.Rulings.{ruling_of};
@@ -91,7 +91,7 @@ fn refusal_of_new(
     now: Sec,
 ) -> Option<Refusal>
     ensures first { (image bytes : List ℕ) → length bytes ≡ len → get (records_of records.now).registries name.now.tld ≡ Some first_day → recorded (state_in (records_of records.now) image) name.now ≡ None
-        → result ≡ find (receive_stands (state_in (records_of records.now) image) name.now bytes now) refusals }
+        → result ≡ first_standing (receive_tests (state_in (records_of records.now) image) name.now bytes now) }
     ensures early { IfSome result (λ refusal. (refusal ≢ OtherBytes) × (refusal ≢ VolumeFull)) }
 {
     if is_outside(name, first_day, now) {

@@ -1,0 +1,5 @@
+use Rattle.custody_machine.proofs.Keeping.{tests_are_in_order}
+use Rattle.custody_machine.proofs.laws.law_refusals.Goals as goal
+
+pub returns : goal.returns
+returns c = tests_are_in_order
