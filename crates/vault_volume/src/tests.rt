@@ -239,6 +239,31 @@ fn blocks_are_used_until_they_are_given_back(rt: HostRuntime) -> Result<(), Fail
     Ok(())
 }
 
+// The map of eight blocks of which 2 and 5 are used.
+fn map_with_gaps(alloc: Global) -> Option<ExtentMap> {
+    let second = Extent { start: 2, count: 1 };
+    let fifth = Extent { start: 5, count: 1 };
+    ExtentMap::from_used(alloc, 8, &[second, fifth]).ok()
+}
+
+#[test]
+fn a_part_lies_in_several_runs(rt: HostRuntime) -> Result<(), Fail> {
+    let mut bytes = vec![in rt.alloc(); b'a'; 4096]?;
+    bytes.resize(9000, b'b')?;
+    let volume = MemVolume::new(rt.alloc(), 8, 12, 6)?;
+    let map = map_with_gaps(rt.alloc()).ok_or("a map")?;
+    let mut vault = Vault::over(volume, map);
+    let staged = vault.stage(rt.alloc(), &bytes)?;
+    let (extents, len, _) = staged.spend();
+    let runs = [Extent { start: 1, count: 1 }, Extent { start: 3, count: 2 }];
+    assert_eq!(rt; extents.as_slice(), runs.as_slice());
+    assert_eq!(rt; vault.volume().calls(), 3);
+    let mut out = Vec::new(rt.alloc());
+    vault.read_part(&extents, len, &mut out)?;
+    assert_eq!(rt; out.as_slice(), bytes.as_slice());
+    Ok(())
+}
+
 #[test]
 fn block_0_has_the_number_in_lower_case(rt: HostRuntime) -> Result<(), Fail> {
     let mut volume = MemVolume::new(rt.alloc(), 1, 8, 4)?;
