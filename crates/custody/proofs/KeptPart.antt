@@ -1,5 +1,5 @@
 -- A part that was staged, as the commit of its record finds it.
-use Rattle.std.proofs.Common.{◌≡◌, ◌⊎◌, ℕ, ◌-◌, ◌<◌, ◌≤◌, ◌^◌, List, [], length, false, refl, sym, subst, Ok, Err}
+use Rattle.std.proofs.Common.{◌≡◌, ℕ, ◌-◌, ◌<◌, ◌≤◌, ◌^◌, List, [], length, false, refl, sym, subst}
 use Rattle.schedule.specs.Schedule.{IsMoment}
 use Rattle.sqlite.specs.Store.{Ghosts}
 use Rattle.deposit_name.specs.Name.{Name}
@@ -15,16 +15,13 @@ use Rattle.custody_records.specs.Form.{form_of, InForm}
 use Rattle.custody_records.specs.Written.{row_of_part}
 use Rattle.custody_machine.specs.Machine as machine
 use Rattle.custody_machine.specs.Machine.{Receive, OfPart, Accept, received_part, step}
-use Rattle.custody_machine.specs.Stored.{IsVolumeOf, state_in}
+use Rattle.custody_machine.specs.Stored.{state_in}
 use Rattle.custody_machine.specs.Custody.{Decides, Goes, IsInOrder, IsPlaced, IsSettled, staged_record}
-use Rattle.custody_machine.specs.declared.answers.Fault.TheVariants.{StoreFailed}
 use Rattle.custody_machine.proofs.Composed.{IsChange, nothing_in, has_size, reads_nothing, part_changes, part_ruled, part_in_order}
 use Rattle.custody_machine.proofs.Compared.{each_of}
-use Rattle.custody.specs.declared.answers.Record.TheVariants as of
-use Rattle.custody.specs.declared.answers.Refused.TheVariants as refused
 use Rattle.custody.specs.declared.holdings.Holdings.{Holdings}
-use Rattle.custody.specs.Holdings.{recorded, stored, image_of, failures_of, left_by, KeepsOrder, KeepsImage, KeepsRows, IsSafe, HasServed}
-use Rattle.custody.proofs.HoldingLemmas.{safe_done, does_change, is_in_doubt}
+use Rattle.custody.specs.Holdings.{recorded, image_of, failures_of, left_by, KeepsOrder, KeepsImage}
+use Rattle.custody.proofs.Done.{IsOneChange}
 use Rattle.custody.proofs.PartLemmas.{part_means}
 
 module _ {V S : Type 0} {g : volume.Ghosts V} (old new : Holdings V S g) (text bytes : List ℕ) (now : ℕ) (n : Name) (order : KeepsOrder old) (ruled : Decides (Goes n) (recorded old) text (length bytes) now)
@@ -39,12 +36,6 @@ module _ {V S : Type 0} {g : volume.Ghosts V} (old new : Holdings V S g) (text b
   pub kept_means : IsMoment now → (rows : Rows) → form_of rows ≡ InForm (recorded old) → form_of (with_part_row (row_of_part (key_of n) (staged_record n now staged)) rows) ≡ InForm records_then
   kept_means moment rows is = part_means n now (g.size (volume_of old.vault)) (IsFree old.vault) (IsFree new.vault) bytes staged placed rows (recorded old) text is ruled.0 moment order.blocks kept_sized ruled.1
 
-  pub kept_safe : recorded new ≡ records_then → g.size (volume_of new.vault) ≡ g.size (volume_of old.vault) → failures_of new ≡ failures_of old → (len : ℕ) → IsSafe old (Receive text bytes) (Ok (record { «record» = of.Part n now len; is_repeat = false })) new
-  kept_safe same size failures len = safe_done old new (Receive text bytes) (record { «record» = of.Part n now len; is_repeat = false }) refl failures
-      (subst (λ r. IsInOrder r (g.size (volume_of new.vault)) (failures_of new) (IsFree new.vault)) (sym same)
-      (subst (λ s. IsInOrder records_then s (failures_of new) (IsFree new.vault)) (sym size)
-      (part_in_order (recorded old) [] order.whole text bytes now n ruled.0 ruled.1 (ruled.2 [] bytes refl) (g.size (volume_of old.vault)) (failures_of old) (IsFree old.vault) order (IsFree new.vault) staged placed (failures_of new) (subst (λ k. k < 2 ^ 64 - 1) (sym failures) order.count))))
-
   module _ (volume : KeepsImage old) (settled : IsSettled (image_of old) (image_of new) (IsFree old.vault) (left_by new) bytes staged) where
     change : IsChange (recorded old) (image_of old) (IsFree old.vault) records_then (image_of new) (IsFree new.vault)
     change = part_changes (recorded old) (image_of old) order.whole text bytes now n ruled.0 ruled.1 (ruled.2 (image_of old) bytes refl) (g.size (volume_of old.vault)) (failures_of old) (IsFree old.vault) order (IsFree new.vault) staged placed volume.volume (image_of new) (left_by new) settled
@@ -58,14 +49,20 @@ module _ {V S : Type 0} {g : volume.Ghosts V} (old new : Holdings V S g) (text b
     only : (j : List ℕ) → left_by new j → DiffersOnlyIn (IsFree new.vault) (image_of new) j
     only j w = subst (DiffersOnlyIn (IsFree new.vault) (image_of new)) (sym (settled.settled j w)) (same_in (IsFree new.vault) (image_of new))
 
-    pub kept_image : recorded new ≡ records_then → KeepsImage new
-    kept_image same = record { volume = subst (λ r. IsVolumeOf r (image_of new)) (sym same) change.good.volume; elsewhere = only }
-
-    module _ (database : Ghosts S) (store : KeepsRows database old) (leaves : LeavesOnly g.moment g.left_at (volume_of old.vault) (volume_of new.vault) (DiffersOnlyIn (IsFree old.vault) (image_of old))) where
-      pub kept_serves : (len : ℕ) → recorded new ≡ records_then → ((r : Rows) → (stored database new).may_leave r → form_of r ≡ InForm records_then) → HasServed database old (Receive text bytes) now (Ok (record { «record» = of.Part n now len; is_repeat = false })) new
-      kept_serves len same rows = does_change database old new order volume store (Receive text bytes) now records_then change (record { «record» = of.Part n now len; is_repeat = false }) shown_reply refl accepted
-          (λ key within. absurd (nothing_in _ key (reads_nothing (recorded old) (image_of old) order.whole text bytes now n ruled.0 ruled.1 (ruled.2 (image_of old) bytes refl)) within))
-          same (each_of g.moment g.left_at (volume_of old.vault) (volume_of new.vault) _ leaves) rows only
-
-      pub kept_in_doubt : ((r : Rows) → (stored database new).may_leave r → (form_of r ≡ InForm (recorded old)) ⊎ (form_of r ≡ InForm records_then)) → HasServed database old (Receive text bytes) now (Err (refused.Fault StoreFailed)) new
-      kept_in_doubt rows = is_in_doubt database old new order volume store (Receive text bytes) now records_then change shown_reply accepted refl (each_of g.moment g.left_at (volume_of old.vault) (volume_of new.vault) _ leaves) rows only
+  -- it is one change
+  pub kept_change : (database : Ghosts S) → g.size (volume_of new.vault) ≡ g.size (volume_of old.vault) → failures_of new ≡ failures_of old → (g.tells → IsSettled (image_of old) (image_of new) (IsFree old.vault) (left_by new) bytes staged)
+      → (g.tells → KeepsImage old → LeavesOnly g.moment g.left_at (volume_of old.vault) (volume_of new.vault) (DiffersOnlyIn (IsFree old.vault) (image_of old)))
+      → IsOneChange database old order (Receive text bytes) now new records_then (record { entry = OfPart (key_of n) (received_part n bytes now); is_repeat = false })
+  kept_change database size failures settled leaves = record {
+    failures = failures;
+    in_order = subst (λ s. IsInOrder records_then s (failures_of new) (IsFree new.vault)) (sym size)
+        (part_in_order (recorded old) [] order.whole text bytes now n ruled.0 ruled.1 (ruled.2 [] bytes refl) (g.size (volume_of old.vault)) (failures_of old) (IsFree old.vault) order (IsFree new.vault) staged placed (failures_of new) (subst (λ k. k < 2 ^ 64 - 1) (sym failures) order.count));
+    first = refl;
+    written = λ tells. (settled tells).elsewhere;
+    accepted = λ tells volume. accepted volume (settled tells);
+    rests = λ _ _ key within. absurd (nothing_in _ key (reads_nothing (recorded old) (image_of old) order.whole text bytes now n ruled.0 ruled.1 (ruled.2 (image_of old) bytes refl)) within);
+    change = λ tells volume _. change volume (settled tells);
+    volume = λ tells volume. (change volume (settled tells)).good.volume;
+    during = λ tells volume. each_of g.moment g.left_at (volume_of old.vault) (volume_of new.vault) _ (leaves tells volume);
+    after = λ tells volume. only volume (settled tells);
+  }

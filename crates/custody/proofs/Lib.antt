@@ -1,9 +1,11 @@
+pub mod Done
 pub mod FirstDamage
 pub mod HoldingLemmas
 pub mod KeptPart
 pub mod Opened
 pub mod PartLemmas
 pub mod PurgeLemmas
+pub mod Registered
 pub mod Repeats
 pub mod Room
 pub mod RunLemmas

@@ -12,7 +12,7 @@ use Rattle.custody_records.specs.declared.parts.Part.{Part}
 use Rattle.custody_records.specs.Typed.{part_place, part_value}
 use Rattle.custody_store.specs.Standing.{standing}
 use Rattle.custody_machine.specs.State.{Held}
-use Rattle.custody_machine.specs.Machine.{Receive, OfPart, Accept, Refused, Answers, MayRefuse}
+use Rattle.custody_machine.specs.Machine.{Receive, OfPart, Accept, Answers, MayRefuse}
 use Rattle.custody_machine.specs.History.{is_open_after}
 use Rattle.custody_machine.specs.Moves.{RestsOnBytes}
 use Rattle.custody_machine.specs.Stored.{ForExtents, AreExtents, content_of, state_in}

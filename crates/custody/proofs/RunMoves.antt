@@ -8,7 +8,7 @@ use Rattle.custody_records.specs.Rows.{Rows}
 use Rattle.custody_records.specs.Form.{form_of}
 use Rattle.custody_machine.specs.State.{State}
 use Rattle.custody_machine.specs.Machine as machine
-use Rattle.custody_machine.specs.Machine.{Entry, after, Answer, Accepted, Refused, Failed}
+use Rattle.custody_machine.specs.Machine.{Command, Entry, after, Answer, Accepted, Refused, Failed}
 use Rattle.custody_machine.specs.declared.answers.Fault.TheVariants.{NoMemory, VolumeFailed, StoreFailed, Closed, Damaged}
 use Rattle.custody_machine.specs.History.{MayFind, Event, StoppedWithin}
 use Rattle.custody_machine.specs.Stored.{IsNamed, Stands, state_in}
@@ -153,12 +153,20 @@ module _ {V S : Type 0} {g : volume.Ghosts V} {database : Ghosts S} where
       let rest = closed_run records image doubt run.0 new entries answers (ap is_open one.1 ∙ shut) run.2 in
       (rest.0 ∙ one.1, (Shut records image doubt, (ap (answer_of e.0) one.0, refl), rest.1))
 
-  -- a database that is honest was so before
+  -- so a database that is honest was so before a command
+  pub trusts : (old new : Custody V S g database) (command : Command) (now : ℕ) (answer : Result Reply not_accepted.Refused) → HasApplied old command now answer new → (stored database (held_by new)).IsHonest → (stored database (held_by old)).IsHonest
+  trusts old new command now answer applied honest = by (is_open old) refl
+    where
+      by : (b : Bool) → is_open old ≡ b → (stored database (held_by old)).IsHonest
+      by true opened = (applied.done opened).trust honest
+      by false shut = subst (λ c. (stored database (held_by c)).IsHonest) (applied.closed shut).1 honest
+
+  -- and before commands in order
   pub honest_then : (old new : Custody V S g database) (entries : List Entry) (answers : List (Result Reply not_accepted.Refused)) → HasRun old entries answers new → (stored database (held_by new)).IsHonest → (stored database (held_by old)).IsHonest
   honest_then old new [] [] run honest = subst (λ c. (stored database (held_by c)).IsHonest) run honest
   honest_then old new [] (a ∷ answers) run honest = absurd run
   honest_then old new (e ∷ entries) [] run honest = absurd run
-  honest_then old new (e ∷ entries) (a ∷ answers) run honest = let applied = run.1 in applied.trust (honest_then run.0 new entries answers run.2 honest)
+  honest_then old new (e ∷ entries) (a ∷ answers) run honest = trusts old run.0 e.0 e.1 a run.1 (honest_then run.0 new entries answers run.2 honest)
 
   -- where a custody is, and what a stop leaves of it
   record IsThere (c : Custody V S g database) (next : Place) : Type 0 where
@@ -197,13 +205,13 @@ module _ {V S : Type 0} {g : volume.Ghosts V} {database : Ghosts S} where
         by : (IsServing database mid → (next : Place) × Chain MovesBy (place_of database mid) entries (answers_of entries answers) next × IsThere new next)
             → (b : Bool) → stays_open a ≡ b → (next : Place) × Chain MovesBy (place_of database old) (e ∷ entries) (answers_of (e ∷ entries) (a ∷ answers)) next × IsThere new next
         by go_on true stays =
-            let s = applied.serves serving.opened tells honest_mid serving.image serving.rows in
+            let s = (applied.done serving.opened).serves tells honest_mid serving.image serving.rows in
             let opened = applied.opened serving.opened ∙ stays in
             let is = is_serving (stays_open a) (recorded (held_by mid)) (image_of (held_by mid)) s.next stays s.is_at in
-            let more = go_on (record { opened = opened; image = applied.image opened tells serving.image; rows = applied.rows opened honest_mid serving.rows }) in
+            let more = go_on (record { opened = opened; image = (applied.done serving.opened).image stays tells serving.image; rows = (applied.done serving.opened).rows stays honest_mid serving.rows }) in
             (more.0, (s.next, s.moves, subst (λ p. Chain MovesBy p entries (answers_of entries answers) more.0) (sym is) more.1), more.2)
         by go_on false stays =
-            let s = applied.serves serving.opened tells honest_mid serving.image serving.rows in
+            let s = (applied.done serving.opened).serves tells honest_mid serving.image serving.rows in
             let opened = applied.opened serving.opened in
             let shut = is_shut (stays_open a) (recorded (held_by mid)) (image_of (held_by mid)) s.next stays s.is_at in
             let closed = closed_run shut.0 shut.1 shut.2 mid new entries answers (opened ∙ stays) then in (
@@ -237,7 +245,7 @@ module _ {V S : Type 0} {g : volume.Ghosts V} {database : Ghosts S} where
     stops_move old mid new serving honest entries answers run command now answer applied rows image pair left since finds = by (is_open mid) refl
       where
         moved : HasMoved database old mid entries (answers_of entries answers)
-        moved = runs_move old mid serving (applied.trust honest) entries answers run
+        moved = runs_move old mid serving (trusts mid new command now answer applied honest) entries answers run
 
         then : MovesAlong moved.next (StoppedWithin command now pair ∷ []) (Left rows image) → MovesAlong (place_of database old) (answered_all entries (answers_of entries answers) ++ StoppedWithin command now pair ∷ []) (Left rows image)
         then stop = along_join (place_of database old) (answered_all entries (answers_of entries answers)) (StoppedWithin command now pair ∷ []) moved.next (Left rows image)
@@ -246,7 +254,7 @@ module _ {V S : Type 0} {g : volume.Ghosts V} {database : Ghosts S} where
         by : (b : Bool) → is_open mid ≡ b → MovesAlong (place_of database old) (answered_all entries (answers_of entries answers) ++ StoppedWithin command now pair ∷ []) (Left rows image)
         by true opened =
             let serving_mid = moved.serves opened in
-            let s = applied.serves opened tells honest serving_mid.image serving_mid.rows in
+            let s = (applied.done opened).serves tells honest serving_mid.image serving_mid.rows in
             let is = is_serving (is_open mid) (recorded (held_by mid)) (image_of (held_by mid)) moved.next opened moved.is_at in
             then (subst (λ p. MovesAlong p (StoppedWithin command now pair ∷ []) (Left rows image)) (sym is) (Left rows image, (rows, image, s.leaves.within rows image left since, finds, refl), refl))
         by false shut =

@@ -10,7 +10,7 @@ use Rattle.vault_volume.specs.Image.{DiffersOnlyIn}
 use Rattle.vault_volume.specs.Extents.{SameFree, IsFreeRun, block_count}
 use Rattle.vault_volume.specs.Vault.{volume_of, IsFree}
 use Rattle.custody_records.specs.Records.{key_of}
-use Rattle.custody_machine.specs.Machine.{Receive, OfPart, Accept, Refused, MayRefuse, MayFail, Answers, step, reads, received_part, with_part}
+use Rattle.custody_machine.specs.Machine.{Receive, OfPart, Accept, MayRefuse, MayFail, Answers, step, reads, received_part, with_part}
 use Rattle.custody_machine.specs.History.{is_open_after}
 use Rattle.custody_machine.specs.Moves.{RestsOnBytes}
 use Rattle.custody_machine.specs.Stored.{state_in}

@@ -1,8 +1,6 @@
 -- What a custody shows, and what its commands do.
 use Rattle.std.specs.Prelude.{◌≡◌, ℕ, List, [], ◌∷◌, map, Bool, true, false, Result, Err}
 use Rattle.vault_volume.specs.declared.volume.Volume as volume
-use Rattle.vault_volume.specs.Image.{DiffersOnlyIn}
-use Rattle.vault_volume.specs.Vault.{IsFree}
 use Rattle.sqlite.specs.Store.{Ghosts}
 use Rattle.custody_machine.specs.declared.command.Command as asked
 use Rattle.custody_machine.specs.Machine.{Command, Entry}
@@ -14,8 +12,7 @@ use Rattle.custody.specs.declared.answers.Refused.TheVariants as refused
 use Rattle.custody.specs.declared.custody.Custody.{Custody}
 use Rattle.custody.specs.declared.holdings.Holdings.{Holdings}
 use Rattle.custody.specs.Answers.{stays_open}
-use Rattle.custody.specs.Ruled.{IsRuled}
-use Rattle.custody.specs.Holdings.{recorded, stored, image_of, KeepsImage, KeepsRows, IsSafe, HasServed}
+use Rattle.custody.specs.Holdings.{HasDone}
 
 module _ {V S : Type 0} {g : volume.Ghosts V} {database : Ghosts S} where
   abbrev pub held_by : Custody V S g database → Holdings V S g
@@ -28,21 +25,10 @@ module _ {V S : Type 0} {g : volume.Ghosts V} {database : Ghosts S} where
   pub record HasApplied (old : Custody V S g database) (command : Command) (now : ℕ) (answer : Result Reply Refused) (new : Custody V S g database) : Type 0 where
     -- a closed one says so, and is as it was
     pub closed : is_open old ≡ false → (answer ≡ Err (refused.Fault Closed)) × (new ≡ old)
-    -- whatever volume and database are
-    pub safe : is_open old ≡ true → IsSafe (held_by old) command answer (held_by new)
-    -- what the records decide is answered
-    pub ruled : is_open old ≡ true → IsRuled (recorded (held_by old)) command now answer (recorded (held_by new))
-    -- only free blocks are written
-    pub written : is_open old ≡ true → g.tells → DiffersOnlyIn (IsFree (held_by old).vault) (image_of (held_by old)) (image_of (held_by new))
+    -- an open one does it
+    pub done : is_open old ≡ true → HasDone database (held_by old) command now answer (held_by new)
     -- it is closed by a failure of the volume or the database, and by nothing else
     pub opened : is_open old ≡ true → is_open new ≡ stays_open answer
-    -- a database that is honest was so before
-    pub trust : (stored database (held_by new)).IsHonest → (stored database (held_by old)).IsHonest
-    -- what it answers, does and leaves
-    pub serves : is_open old ≡ true → g.tells → (stored database (held_by new)).IsHonest → KeepsImage (held_by old) → KeepsRows database (held_by old) → HasServed database (held_by old) command now answer (held_by new)
-    -- what holds of image and rows goes on while it is open
-    pub image : is_open new ≡ true → g.tells → KeepsImage (held_by old) → KeepsImage (held_by new)
-    pub rows : is_open new ≡ true → (stored database (held_by new)).IsHonest → KeepsRows database (held_by old) → KeepsRows database (held_by new)
 
 -- commands, each with its moment
 abbrev pub entries_of : List (asked.Command × ℕ) → List Entry

@@ -1,6 +1,7 @@
 -- What a custody holds: its records, and what its volume and its database have and may leave at a stop.
 use Rattle.std.specs.Prelude.{◌≡◌, ◌≢◌, ◌<◌, ℕ, List, true, false, Result, Err}
 use Rattle.vault_volume.specs.declared.volume.Volume as volume
+use Rattle.vault_volume.specs.Image.{DiffersOnlyIn}
 use Rattle.vault_volume.specs.Vault.{volume_of, IsFree, IsFree-prop}
 use Rattle.sqlite.specs.Store.{Ghosts}
 use Rattle.custody_records.specs.Held.{records_of}
@@ -16,6 +17,7 @@ use Rattle.custody.specs.declared.answers.Refused.TheVariants as refused
 use Rattle.custody.specs.declared.holdings.Holdings.{Holdings}
 use Rattle.custody.specs.Answers.{answer_of, stays_open, may_change}
 use Rattle.custody.specs.Order.{IsInOrder-prop}
+use Rattle.custody.specs.Ruled.{IsRuled}
 
 module _ {V S : Type 0} {g : volume.Ghosts V} where
   abbrev pub recorded : Holdings V S g → Records
@@ -79,3 +81,19 @@ module _ {V S : Type 0} {g : volume.Ghosts V} where
   HasServed database old command now answer new =
       Serves (recorded old) (image_of old) command now (answer_of command answer) (stays_open answer) (recorded new) (image_of new)
       (stored database old).may_leave (left_since old new) (stored database new).may_leave (left_by new)
+
+  -- What a command does to an open custody.
+  pub record HasDone (database : Ghosts S) (old : Holdings V S g) (command : Command) (now : ℕ) (answer : Result Reply Refused) (new : Holdings V S g) : Type 0 where
+    -- whatever volume and database are
+    pub safe : IsSafe old command answer new
+    -- what the records decide is answered
+    pub ruled : IsRuled (recorded old) command now answer (recorded new)
+    -- only free blocks are written
+    pub written : g.tells → DiffersOnlyIn (IsFree old.vault) (image_of old) (image_of new)
+    -- a database that is honest was so before
+    pub trust : (stored database new).IsHonest → (stored database old).IsHonest
+    -- what it answers, does and leaves
+    pub serves : g.tells → (stored database new).IsHonest → KeepsImage old → KeepsRows database old → HasServed database old command now answer new
+    -- what holds of image and rows while a custody is open goes on
+    pub image : stays_open answer ≡ true → g.tells → KeepsImage old → KeepsImage new
+    pub rows : stays_open answer ≡ true → (stored database new).IsHonest → KeepsRows database old → KeepsRows database new

@@ -1,14 +1,10 @@
 //! What a custody holds, and the commands over it.
-ghost use Rattle.std.specs.Prelude.{◌≡◌, true, length, None};
+ghost use Rattle.std.specs.Prelude.{◌≡◌, length, None};
 ghost use Rattle.std.specs.FinMap.{get};
-ghost use Rattle.vault_volume.specs.Image.{DiffersOnlyIn};
-ghost use Rattle.vault_volume.specs.Vault.{IsFree};
 ghost use Rattle.custody_machine.specs.Machine as machine;
 ghost use Rattle.custody_machine.specs.Plain.{command_of};
 ghost use Rattle.custody_machine.specs.Custody.{Decides, Goes};
-ghost use Rattle.custody.specs.Answers.{stays_open};
-ghost use Rattle.custody.specs.Ruled.{IsRuled, IsRegistered, IsReceived};
-ghost use Rattle.custody.specs.Holdings.{recorded, stored, image_of, KeepsOrder, KeepsImage, KeepsRows, IsSafe, HasServed};
+ghost use Rattle.custody.specs.Holdings.{recorded, KeepsOrder, HasDone};
 
 use crate::compare::{Comparison, compare};
 use crate::forms::{show_form_of_registry, show_range_of_moment};
@@ -40,15 +36,7 @@ impl<V: Volume, S: Alter> Holdings<V, S> {
         now: Sec,
     ) -> Result<Reply, Refused>
         requires order { KeepsOrder self.old }
-        ensures safe { IsSafe self.old (command_of command.now) result self.new }
-        ensures ruled { IsRuled (recorded self.old) (command_of command.now) now result (recorded self.new) }
-        // Only free blocks are written.
-        ensures written { V.tells → DiffersOnlyIn (IsFree self.old.vault) (image_of self.old) (image_of self.new) }
-        ensures trust { (stored S.Store self.new).IsHonest → (stored S.Store self.old).IsHonest }
-        ensures serves { V.tells → (stored S.Store self.new).IsHonest → KeepsImage self.old → KeepsRows S.Store self.old → HasServed S.Store self.old (command_of command.now) now result self.new }
-        // What holds of image and rows while a custody is open goes on.
-        ensures image { stays_open result ≡ true → V.tells → KeepsImage self.old → KeepsImage self.new }
-        ensures rows { stays_open result ≡ true → (stored S.Store self.new).IsHonest → KeepsRows S.Store self.old → KeepsRows S.Store self.new }
+        ensures { HasDone S.Store self.old (command_of command.now) now result self.new }
     {
         match command {
             Command::Register(tld, first_day) => self.register(*tld, *first_day, now),
@@ -59,15 +47,7 @@ impl<V: Volume, S: Alter> Holdings<V, S> {
     /// Records a registry, or answers the one that is recorded.
     fn register(&mut self, tld: Tld, first_day: Day, now: Sec) -> Result<Reply, Refused>
         requires order { KeepsOrder self.old }
-        ensures safe { IsSafe self.old (machine.Register tld first_day) result self.new }
-        ensures ruled { IsRegistered (recorded self.old) tld first_day (get (recorded self.old).registries tld) result (recorded self.new) }
-        // Only free blocks are written.
-        ensures written { V.tells → DiffersOnlyIn (IsFree self.old.vault) (image_of self.old) (image_of self.new) }
-        ensures trust { (stored S.Store self.new).IsHonest → (stored S.Store self.old).IsHonest }
-        ensures serves { V.tells → (stored S.Store self.new).IsHonest → KeepsImage self.old → KeepsRows S.Store self.old → HasServed S.Store self.old (machine.Register tld first_day) now result self.new }
-        // What holds of image and rows while a custody is open goes on.
-        ensures image { stays_open result ≡ true → V.tells → KeepsImage self.old → KeepsImage self.new }
-        ensures rows { stays_open result ≡ true → (stored S.Store self.new).IsHonest → KeepsRows S.Store self.old → KeepsRows S.Store self.new }
+        ensures { HasDone S.Store self.old (machine.Register tld first_day) now result self.new }
     {
         match self.records.first_day(&tld) {
             Some(kept) => Ok(Reply {
@@ -85,15 +65,7 @@ impl<V: Volume, S: Alter> Holdings<V, S> {
     fn keep_registry(&mut self, tld: Tld, first_day: Day, now: Sec) -> Result<Reply, Refused>
         requires order { KeepsOrder self.old }
         requires new { get (recorded self.old).registries tld ≡ None }
-        ensures safe { IsSafe self.old (machine.Register tld first_day) result self.new }
-        ensures ruled { IsRegistered (recorded self.old) tld first_day None result (recorded self.new) }
-        // Only free blocks are written.
-        ensures written { V.tells → DiffersOnlyIn (IsFree self.old.vault) (image_of self.old) (image_of self.new) }
-        ensures trust { (stored S.Store self.new).IsHonest → (stored S.Store self.old).IsHonest }
-        ensures serves { V.tells → (stored S.Store self.new).IsHonest → KeepsImage self.old → KeepsRows S.Store self.old → HasServed S.Store self.old (machine.Register tld first_day) now result self.new }
-        // What holds of image and rows while a custody is open goes on.
-        ensures image { stays_open result ≡ true → V.tells → KeepsImage self.old → KeepsImage self.new }
-        ensures rows { stays_open result ≡ true → (stored S.Store self.new).IsHonest → KeepsRows S.Store self.old → KeepsRows S.Store self.new }
+        ensures { HasDone S.Store self.old (machine.Register tld first_day) now result self.new }
     {
         let registry = Registry { tld, first_day };
         show_form_of_registry(&registry);
@@ -119,15 +91,7 @@ impl<V: Volume, S: Alter> Holdings<V, S> {
         now: Sec,
     ) -> Result<Reply, Refused>
         requires order { KeepsOrder self.old }
-        ensures safe { IsSafe self.old (machine.Receive name.now bytes.now) result self.new }
-        ensures ruled { IsRuled (recorded self.old) (machine.Receive name.now bytes.now) now result (recorded self.new) }
-        // Only free blocks are written.
-        ensures written { V.tells → DiffersOnlyIn (IsFree self.old.vault) (image_of self.old) (image_of self.new) }
-        ensures trust { (stored S.Store self.new).IsHonest → (stored S.Store self.old).IsHonest }
-        ensures serves { V.tells → (stored S.Store self.new).IsHonest → KeepsImage self.old → KeepsRows S.Store self.old → HasServed S.Store self.old (machine.Receive name.now bytes.now) now result self.new }
-        // What holds of image and rows while a custody is open goes on.
-        ensures image { stays_open result ≡ true → V.tells → KeepsImage self.old → KeepsImage self.new }
-        ensures rows { stays_open result ≡ true → (stored S.Store self.new).IsHonest → KeepsRows S.Store self.old → KeepsRows S.Store self.new }
+        ensures { HasDone S.Store self.old (machine.Receive name.now bytes.now) now result self.new }
     {
         match judge_part(&self.records, name, bytes.len(), now) {
             PartRuling::Refuse(refusal) => Err(Refused::Refusal(refusal)),
@@ -157,15 +121,7 @@ impl<V: Volume, S: Alter> Holdings<V, S> {
     ) -> Result<Reply, Refused>
         requires order { KeepsOrder self.old }
         requires ruled { Decides (Goes name.now) (recorded self.old) text.now (length bytes.now) now }
-        ensures safe { IsSafe self.old (machine.Receive text.now bytes.now) result self.new }
-        ensures ruled { IsReceived (recorded self.old) name.now now bytes.now result (recorded self.new) }
-        // Only free blocks are written.
-        ensures written { V.tells → DiffersOnlyIn (IsFree self.old.vault) (image_of self.old) (image_of self.new) }
-        ensures trust { (stored S.Store self.new).IsHonest → (stored S.Store self.old).IsHonest }
-        ensures serves { V.tells → (stored S.Store self.new).IsHonest → KeepsImage self.old → KeepsRows S.Store self.old → HasServed S.Store self.old (machine.Receive text.now bytes.now) now result self.new }
-        // What holds of image and rows while a custody is open goes on.
-        ensures image { stays_open result ≡ true → V.tells → KeepsImage self.old → KeepsImage self.new }
-        ensures rows { stays_open result ≡ true → (stored S.Store self.new).IsHonest → KeepsRows S.Store self.old → KeepsRows S.Store self.new }
+        ensures { HasDone S.Store self.old (machine.Receive text.now bytes.now) now result self.new }
     {
         show_range_of_moment(now);
         if self.records.reserve_part().is_err() {

@@ -1,17 +1,18 @@
-use Rattle.std.proofs.Common.{refl, sym, Ok, [], true}
-use Rattle.vault_volume.specs.Vault.{volume_of}
-use Rattle.custody_machine.specs.Machine.{Register}
+use Rattle.std.proofs.Common.{refl, sym, subst, Ok, true}
+use Rattle.custody_machine.specs.Machine.{Register, OfRegistry}
 use Rattle.custody_machine.specs.Stored.{state_in}
-use Rattle.custody_machine.proofs.Composed.{nothing_in, register_repeats}
-use Rattle.custody.specs.declared.answers.Record.TheVariants as of
+use Rattle.custody_machine.proofs.Composed.{register_repeats}
 use Rattle.custody.specs.Holdings.{recorded, image_of}
-use Rattle.custody.proofs.HoldingLemmas.{since_same, does_nothing}
+use Rattle.custody.specs.Ruled.{IsRegistered}
+use Rattle.custody.specs.declared.answers.Reply.{Reply}
+use Rattle.custody.specs.declared.answers.Record.TheVariants as of
+use Rattle.custody.proofs.Done.{repeats_done}
 use Rattle.custody.proofs.holdings.Holdings.register.Goals as goal
 
-pub returns-in-Some-clause-serves : goal.returns-in-Some-clause-serves
-returns-in-Some-clause-serves g c = λ tells honest volume store.
+pub returns-in-Some : goal.returns-in-Some
+returns-in-Some g c =
     let old = c.args.self.now in
-    does_nothing g.S.Store old old c.requires.order volume store (Register c.args.tld c.args.first_day) c.args.now (Ok (record { «record» = of.Registry c.args.tld c.in-Some.kept; is_repeat = true }))
-    (register_repeats (state_in (recorded old) (image_of old)) c.args.tld c.args.first_day c.args.now c.in-Some.kept (sym c.in-Some.ensures))
-    (λ key within. absurd (nothing_in [] key refl within)) refl refl (λ _. refl)
-    (λ j w. volume.elsewhere j (since_same g.V.Volume.moment g.V.Volume.left_at (volume_of old.vault) j w)) (λ r w. w) volume.elsewhere
+    let answer : Reply = record { «record» = of.Registry c.args.tld c.in-Some.kept; is_repeat = true } in
+    repeats_done g.S.Store old c.requires.order (Register c.args.tld c.args.first_day) c.args.now old.records refl answer (record { entry = OfRegistry c.args.tld c.in-Some.kept; is_repeat = true }) refl
+    (register_repeats (state_in (recorded old) (image_of old)) c.args.tld c.args.first_day c.args.now c.in-Some.kept (sym c.in-Some.ensures)) refl
+    (subst (λ o. IsRegistered (recorded old) c.args.tld c.args.first_day o (Ok answer) (recorded old)) c.in-Some.ensures refl)

@@ -1,0 +1,166 @@
+-- What a command does to an open custody, once for all commands: for those that do nothing, and for those that are one commit.
+use Rattle.std.proofs.Common.{◌≡◌, ◌≢◌, ℕ, List, [], true, false, refl, sym, ◌∙◌, ap, subst, Result, Ok, Err}
+use Rattle.std.specs.Prelude.{is_err}
+use Rattle.sqlite.specs.Store.{Ghosts}
+use Rattle.sqlite.specs.Held as database_of
+use Rattle.vault_volume.specs.declared.volume.Volume as volume
+use Rattle.vault_volume.specs.Vault.{volume_of, IsFree}
+use Rattle.vault_volume.specs.Image.{DiffersOnlyIn}
+use Rattle.vault_volume.proofs.ImageLemmas.{same_in}
+use Rattle.custody_records.specs.declared.records.Records as held
+use Rattle.custody_records.specs.Held.{records_of}
+use Rattle.custody_records.specs.Records.{Records}
+use Rattle.custody_records.specs.Rows.{Rows}
+use Rattle.custody_records.specs.Form.{form_of, InForm}
+use Rattle.custody_store.specs.Standing.{Commits}
+use Rattle.custody_machine.specs.Machine as machine
+use Rattle.custody_machine.specs.Machine.{Command, Refuse, Accept, step, reads, Accepted, Answers, MayRefuse, MayFail}
+use Rattle.custody_machine.specs.State.{State}
+use Rattle.custody_machine.specs.History.{is_open_after}
+use Rattle.custody_machine.specs.Stored.{IsVolumeOf, IsGood, state_in}
+use Rattle.custody_machine.specs.Moves.{RestsOnBytes}
+use Rattle.custody_machine.specs.Custody.{IsInOrder, IsInStore}
+use Rattle.custody_machine.specs.declared.answers.Fault.{Fault}
+use Rattle.custody_machine.specs.declared.answers.Refusal.{Refusal}
+use Rattle.custody_machine.specs.declared.answers.Fault.TheVariants.{NoMemory, VolumeFailed, StoreFailed, Closed, Damaged}
+use Rattle.custody_machine.specs.declared.answers.Refusal.TheVariants.{VolumeFull}
+use Rattle.custody_machine.proofs.Composed.{IsChange, nothing_in}
+use Rattle.custody.specs.declared.answers.Reply.{Reply}
+use Rattle.custody.specs.declared.answers.Refused as not_accepted
+use Rattle.custody.specs.declared.answers.Refused.TheVariants as refused
+use Rattle.custody.specs.declared.holdings.Holdings.{Holdings}
+use Rattle.custody.specs.Answers.{answer_of, stays_open}
+use Rattle.custody.specs.Ruled.{IsRuled}
+use Rattle.custody.specs.Holdings.{recorded, stored, image_of, failures_of, left_by, left_since, KeepsOrder, KeepsImage, HasDone}
+use Rattle.custody.proofs.HoldingLemmas.{on_ok, since_same, either_form, form_then, rows_then, safe_done, safe_undone, image_same, order_same, good_before, does_nothing, does_change, is_in_doubt}
+
+-- the machine closes where the code does
+pub opens_alike : (command : Command) (answer : Result Reply not_accepted.Refused) → stays_open answer ≡ is_open_after (answer_of command answer)
+opens_alike command (Ok reply) = refl
+opens_alike command (Err (refused.Refusal refusal)) = refl
+opens_alike command (Err (refused.Fault NoMemory)) = refl
+opens_alike command (Err (refused.Fault VolumeFailed)) = refl
+opens_alike command (Err (refused.Fault StoreFailed)) = refl
+opens_alike command (Err (refused.Fault Closed)) = refl
+opens_alike command (Err (refused.Fault (Damaged damage))) = refl
+
+-- what is no want of room
+pub ok_not_full : (reply : Reply) → ◌≢◌ {A = Result Reply not_accepted.Refused} (Ok reply) (Err (refused.Refusal VolumeFull))
+ok_not_full reply e = cc
+
+pub fault_not_full : (fault : Fault) → ◌≢◌ {A = Result Reply not_accepted.Refused} (Err (refused.Fault fault)) (Err (refused.Refusal VolumeFull))
+fault_not_full fault e = cc
+
+pub refusal_not_full : (refusal : Refusal) → refusal ≢ VolumeFull → ◌≢◌ {A = Result Reply not_accepted.Refused} (Err (refused.Refusal refusal)) (Err (refused.Refusal VolumeFull))
+refusal_not_full refusal other e = let same : refusal ≡ VolumeFull = cc in other same
+
+module _ {V S : Type 0} {g : volume.Ghosts V} (database : Ghosts S) (old : Holdings V S g) (order : KeepsOrder old) (command : Command) (now : ℕ) where
+  -- ---- nothing was called: it is refused, it is a repeat, or there is no memory
+
+  module _ (r : held.Records) (same : records_of r ≡ recorded old) (answer : Result Reply not_accepted.Refused) (stays : stays_open answer ≡ true) where
+    abbrev resting : Holdings V S g
+    resting = record { vault = old.vault; store = old.store; records = r }
+
+    pub rests_done : answer ≢ Err (refused.Refusal VolumeFull) → IsRuled (recorded old) command now answer (records_of r)
+        → (g.tells → Answers (state_in (recorded old) (image_of old)) command now (answer_of command answer) (state_in (recorded old) (image_of old)) × RestsOnBytes (recorded old) (image_of old) command now (answer_of command answer))
+        → HasDone database old command now answer (record { vault = old.vault; store = old.store; records = r })
+    rests_done full ruled told = record {
+      safe = safe_undone old resting same (λ b. (λ f. f, λ f. f)) command answer (λ e. shut (ap stays_open e)) (λ e. shut (ap stays_open e)) (λ _. refl) (λ e. absurd (full e)) refl (λ _. order_same old resting same (λ b. (λ f. f, λ f. f)) refl refl order);
+      ruled = ruled;
+      written = λ _. same_in (IsFree old.vault) (image_of old);
+      trust = λ honest. honest;
+      serves = λ tells honest volume store. let allowed = told tells in
+          does_nothing database old resting order volume store command now answer allowed.0 allowed.1 (opens_alike command answer) same (λ _. refl) (λ j w. volume.elsewhere j (since_same g.moment g.left_at (volume_of old.vault) j w)) (λ r w. w) volume.elsewhere;
+      image = λ _ tells volume. image_same old resting same (λ b. (λ f. f, λ f. f)) refl volume.elsewhere volume;
+      rows = λ _ honest store. subst (λ k. IsInStore k (stored database old).rows (stored database old).IsReady (stored database old).may_leave) (sym same) store;
+    }
+      where
+        shut : {P : Type 0} → stays_open answer ≡ false → P
+        shut closed = let clash : true ≡ false = sym stays ∙ closed in cc
+
+  -- the three that every command has, each from what the machine answers
+  module _ (r : held.Records) (same : records_of r ≡ recorded old) where
+    -- refused, and no bytes decided it
+    pub refuses_done : (refusal : Refusal) → refusal ≢ VolumeFull → step (state_in (recorded old) (image_of old)) command now ≡ Refuse refusal → reads (state_in (recorded old) (image_of old)) command now ≡ []
+        → IsRuled (recorded old) command now (Err (refused.Refusal refusal)) (records_of r) → HasDone database old command now (Err (refused.Refusal refusal)) (record { vault = old.vault; store = old.store; records = r })
+    refuses_done refusal other is none ruled = rests_done r same (Err (refused.Refusal refusal)) refl (refusal_not_full refusal other) ruled
+        (λ _. ((subst (λ x. MayRefuse command x refusal) (sym is) refl, refl), λ key within. absurd (nothing_in _ key none within)))
+
+    -- a repeat, and no bytes decided it
+    pub repeats_done : (answer : Reply) (reply : machine.Reply) → answer_of command (Ok answer) ≡ Accepted reply → step (state_in (recorded old) (image_of old)) command now ≡ Accept reply (state_in (recorded old) (image_of old)) → reads (state_in (recorded old) (image_of old)) command now ≡ []
+        → IsRuled (recorded old) command now (Ok answer) (records_of r) → HasDone database old command now (Ok answer) (record { vault = old.vault; store = old.store; records = r })
+    repeats_done answer reply shown is none ruled = rests_done r same (Ok answer) refl (ok_not_full answer) ruled
+        (λ _. (
+          subst (λ a. Answers (state_in (recorded old) (image_of old)) command now a (state_in (recorded old) (image_of old))) (sym shown) is,
+          subst (λ a. RestsOnBytes (recorded old) (image_of old) command now a) (sym shown) (λ key within. absurd (nothing_in _ key none within)),
+        ))
+
+    -- it would be accepted, and there is no memory
+    pub no_memory_done : (reply : machine.Reply) (later : State) → step (state_in (recorded old) (image_of old)) command now ≡ Accept reply later
+        → IsRuled (recorded old) command now (Err (refused.Fault NoMemory)) (records_of r) → HasDone database old command now (Err (refused.Fault NoMemory)) (record { vault = old.vault; store = old.store; records = r })
+    no_memory_done reply later is ruled = rests_done r same (Err (refused.Fault NoMemory)) refl (fault_not_full NoMemory) ruled
+        (λ _. ((subst (λ x. MayFail x (reads (state_in (recorded old) (image_of old)) command now) NoMemory) (sym is) tt, refl), tt))
+
+  -- ---- a command that is one commit
+
+  -- Its records and its reply are the machine's. What it wrote before lies in free blocks, and a stop after it leaves all but the blocks that are free then.
+  pub record IsOneChange (new : Holdings V S g) (changed : Records) (reply : machine.Reply) : Type 0 where
+    pub failures : failures_of new ≡ failures_of old
+    pub in_order : IsInOrder changed (g.size (volume_of new.vault)) (failures_of new) (IsFree new.vault)
+    pub first : reply.is_repeat ≡ false
+    pub written : g.tells → DiffersOnlyIn (IsFree old.vault) (image_of old) (image_of new)
+    pub accepted : g.tells → KeepsImage old → step (state_in (recorded old) (image_of old)) command now ≡ Accept reply (state_in changed (image_of new))
+    pub rests : g.tells → KeepsImage old → RestsOnBytes (recorded old) (image_of old) command now (Accepted reply)
+    pub change : g.tells → KeepsImage old → IsGood (recorded old) (image_of old) → IsChange (recorded old) (image_of old) (IsFree old.vault) changed (image_of new) (IsFree new.vault)
+    pub volume : g.tells → KeepsImage old → IsVolumeOf changed (image_of new)
+    pub during : g.tells → KeepsImage old → (j : List ℕ) → left_since old new j → DiffersOnlyIn (IsFree old.vault) (image_of old) j
+    pub after : g.tells → KeepsImage old → (j : List ℕ) → left_by new j → DiffersOnlyIn (IsFree new.vault) (image_of new) j
+
+  -- one that does not call the volume
+  pub volume_stays : (store : database_of.Held S) (r : held.Records) (changed : Records) (reply : machine.Reply) → IsInOrder changed (g.size (volume_of old.vault)) (failures_of old) (IsFree old.vault) → reply.is_repeat ≡ false
+      → reads (state_in (recorded old) (image_of old)) command now ≡ [] → step (state_in (recorded old) (image_of old)) command now ≡ Accept reply (state_in changed (image_of old))
+      → (IsGood (recorded old) (image_of old) → IsChange (recorded old) (image_of old) (IsFree old.vault) changed (image_of old) (IsFree old.vault)) → (IsVolumeOf (recorded old) (image_of old) → IsVolumeOf changed (image_of old))
+      → IsOneChange (record { vault = old.vault; store = store; records = r }) changed reply
+  volume_stays store r changed reply in_order first none accepted change volume = record {
+    failures = refl;
+    in_order = in_order;
+    first = first;
+    written = λ _. same_in (IsFree old.vault) (image_of old);
+    accepted = λ _ _. accepted;
+    rests = λ _ _ key within. absurd (nothing_in _ key none within);
+    change = λ _ _. change;
+    volume = λ _ kept. volume kept.volume;
+    during = λ _ kept j w. kept.elsewhere j (since_same g.moment g.left_at (volume_of old.vault) j w);
+    after = λ _ kept. kept.elsewhere;
+  }
+
+  module _ (new : Holdings V S g) (changed : Records) (reply : machine.Reply) (is : IsOneChange new changed reply) {A E : Type 0} (result : Result A E) (after : Rows)
+      (commits : Commits (stored database old) (stored database new) after result) (means : form_of (stored database old).rows ≡ InForm (recorded old) → form_of after ≡ InForm changed) where
+    -- it is committed, and answered
+    pub commits_done : is_err result ≡ false → recorded new ≡ changed → (answer : Reply) → answer.is_repeat ≡ false → answer_of command (Ok answer) ≡ Accepted reply → IsRuled (recorded old) command now (Ok answer) (recorded new)
+        → HasDone database old command now (Ok answer) new
+    commits_done good same answer first shown ruled = record {
+      safe = safe_done old new command answer first is.failures (subst (λ r. IsInOrder r (g.size (volume_of new.vault)) (failures_of new) (IsFree new.vault)) (sym same) is.in_order);
+      ruled = ruled;
+      written = is.written;
+      trust = commits.trust;
+      serves = λ tells honest volume store. let done = on_ok _ result _ refl good (commits.effect honest store.ready).done in
+          does_change database old new order volume store command now changed (is.change tells volume (good_before database old new order volume store command now)) answer reply shown (is.accepted tells volume) (is.rests tells volume) same
+          (is.during tells volume) (form_then _ _ (recorded old) changed _ store (means store.in_form) done.0 done.1) (is.after tells volume);
+      image = λ _ tells volume. record { volume = subst (λ r. IsVolumeOf r (image_of new)) (sym same) (is.volume tells volume); elsewhere = is.after tells volume };
+      rows = λ _ honest store. let done = on_ok _ result _ refl good (commits.effect honest store.ready).done in rows_then _ _ (recorded old) changed _ store (means store.in_form) done.0 done.1 _ same;
+    }
+
+    -- the database failed: it is committed or not
+    pub commits_in_doubt : IsRuled (recorded old) command now (Err (refused.Fault StoreFailed)) (recorded new) → HasDone database old command now (Err (refused.Fault StoreFailed)) new
+    commits_in_doubt ruled = record {
+      safe = record { answers = λ e. cc; failed = λ e. cc; not_failed = λ _. is.failures; full = λ e. cc; unchanged = λ e. cc; order = λ e. cc };
+      ruled = ruled;
+      written = is.written;
+      trust = commits.trust;
+      serves = λ tells honest volume store.
+          is_in_doubt database old new order volume store command now changed (is.change tells volume (good_before database old new order volume store command now)) reply (is.accepted tells volume) is.first
+          (is.during tells volume) (either_form _ _ (recorded old) changed _ store (means store.in_form) result (commits.effect honest store.ready)) (is.after tells volume);
+      image = λ e. cc;
+      rows = λ e. cc;
+    }
