@@ -1,10 +1,12 @@
 -- What a command does to an open custody, once for all commands: for those that do nothing, and for those that are one commit.
 use Rattle.std.proofs.Common.{◌≡◌, ◌≢◌, ℕ, List, [], true, false, refl, sym, ◌∙◌, ap, subst, Result, Ok, Err}
-use Rattle.std.specs.Prelude.{is_err}
+use Rattle.std.specs.Prelude.{Bool, not, is_err}
 use Rattle.sqlite.specs.Store.{Ghosts}
 use Rattle.sqlite.specs.Held as database_of
 use Rattle.vault_volume.specs.declared.volume.Volume as volume
 use Rattle.vault_volume.specs.Vault.{volume_of, IsFree}
+use Rattle.vault_volume.specs.Disk.{LeavesOnly}
+use Rattle.vault_volume.specs.Extents.{SameFree}
 use Rattle.vault_volume.specs.Image.{DiffersOnlyIn}
 use Rattle.vault_volume.proofs.ImageLemmas.{same_in}
 use Rattle.custody_records.specs.declared.records.Records as held
@@ -12,7 +14,7 @@ use Rattle.custody_records.specs.Held.{records_of}
 use Rattle.custody_records.specs.Records.{Records}
 use Rattle.custody_records.specs.Rows.{Rows}
 use Rattle.custody_records.specs.Form.{form_of, InForm}
-use Rattle.custody_store.specs.Standing.{Commits}
+use Rattle.custody_store.specs.Standing.{Commits, standing}
 use Rattle.custody_machine.specs.Machine as machine
 use Rattle.custody_machine.specs.Machine.{Command, Refuse, Accept, step, reads, Accepted, Answers, MayRefuse, MayFail}
 use Rattle.custody_machine.specs.State.{State}
@@ -24,15 +26,16 @@ use Rattle.custody_machine.specs.declared.answers.Fault.{Fault}
 use Rattle.custody_machine.specs.declared.answers.Refusal.{Refusal}
 use Rattle.custody_machine.specs.declared.answers.Fault.TheVariants.{NoMemory, VolumeFailed, StoreFailed, Closed, Damaged}
 use Rattle.custody_machine.specs.declared.answers.Refusal.TheVariants.{VolumeFull}
+use Rattle.custody_machine.proofs.Compared.{each_of, now_of}
 use Rattle.custody_machine.proofs.Composed.{IsChange, nothing_in}
 use Rattle.custody.specs.declared.answers.Reply.{Reply}
 use Rattle.custody.specs.declared.answers.Refused as not_accepted
 use Rattle.custody.specs.declared.answers.Refused.TheVariants as refused
 use Rattle.custody.specs.declared.holdings.Holdings.{Holdings}
-use Rattle.custody.specs.Answers.{answer_of, stays_open}
+use Rattle.custody.specs.Answers.{answer_of, stays_open, uses_volume}
 use Rattle.custody.specs.Ruled.{IsRuled}
-use Rattle.custody.specs.Holdings.{recorded, stored, image_of, failures_of, left_by, left_since, KeepsOrder, KeepsImage, HasDone}
-use Rattle.custody.proofs.HoldingLemmas.{on_ok, since_same, either_form, form_then, rows_then, safe_done, safe_undone, image_same, order_same, good_before, does_nothing, does_change, is_in_doubt}
+use Rattle.custody.specs.Holdings.{recorded, stored, image_of, failures_of, left_by, left_since, KeepsOrder, KeepsImage, KeepsRows, IsSafe, IsUnwritten, HasDone}
+use Rattle.custody.proofs.HoldingLemmas.{on_ok, stays_still, leaves_more, either_form, form_then, rows_then, safe_done, safe_undone, image_same, order_same, good_before, does_nothing, does_change, is_in_doubt}
 
 -- the machine closes where the code does
 pub opens_alike : (command : Command) (answer : Result Reply not_accepted.Refused) → stays_open answer ≡ is_open_after (answer_of command answer)
@@ -55,7 +58,30 @@ pub refusal_not_full : (refusal : Refusal) → refusal ≢ VolumeFull → ◌≢
 refusal_not_full refusal other e = let same : refusal ≡ VolumeFull = cc in other same
 
 module _ {V S : Type 0} {g : volume.Ghosts V} (database : Ghosts S) (old : Holdings V S g) (order : KeepsOrder old) (command : Command) (now : ℕ) where
-  -- ---- nothing was called: it is refused, it is a repeat, or there is no memory
+  -- ---- nothing was written: it is refused, it is a repeat, or it failed before the commit and is open still
+
+  module _ (new : Holdings V S g) (same : recorded new ≡ recorded old) (store_same : new.store ≡ old.store) (free : SameFree (IsFree old.vault) (IsFree new.vault)) (unwritten : g.tells → IsUnwritten old new) where
+    pub reads_done : (answer : Result Reply not_accepted.Refused) → IsSafe old command answer new → IsRuled (recorded old) command now answer (recorded new)
+        → (g.tells → Answers (state_in (recorded old) (image_of old)) command now (answer_of command answer) (state_in (recorded old) (image_of old)) × RestsOnBytes (recorded old) (image_of old) command now (answer_of command answer))
+        → HasDone database old command now answer new
+    reads_done answer safe ruled told = record {
+      safe = safe;
+      ruled = ruled;
+      written = λ tells. subst (DiffersOnlyIn (IsFree old.vault) (image_of old)) (sym (unwritten tells).0) (same_in (IsFree old.vault) (image_of old));
+      unwritten = λ _ _. unwritten;
+      any_moment = λ tells volume. leaves_more g.moment g.left_at (volume_of old.vault) (volume_of new.vault) _ _ volume.elsewhere (unwritten tells).1;
+      mode = λ _ store. subst (λ s. (standing database s).in_transaction ≡ false) (sym store_same) store.ready.autocommit;
+      trust = subst (λ s. (standing database s).IsHonest) store_same;
+      serves = λ tells honest volume store. let allowed = told tells in let still = unwritten tells in
+          does_nothing database old new order volume store command now answer allowed.0 allowed.1 (opens_alike command answer) same (λ _. still.0)
+          (λ j w. volume.elsewhere j (each_of g.moment g.left_at (volume_of old.vault) (volume_of new.vault) _ still.1 j w)) (λ r w. subst (λ s. (standing database s).may_leave r) store_same w)
+          (λ j w. volume.elsewhere j (now_of g.moment g.left_at (volume_of old.vault) (volume_of new.vault) _ still.1 j w));
+      image = λ _ tells volume. let still = unwritten tells in image_same old new same free still.0 (λ c w. volume.elsewhere c (now_of g.moment g.left_at (volume_of old.vault) (volume_of new.vault) _ still.1 c w)) volume;
+      rows = λ _ honest store. subst (λ s. IsInStore (recorded new) (standing database s).rows (standing database s).IsReady (standing database s).may_leave) (sym store_same)
+          (subst (λ k. IsInStore k (stored database old).rows (stored database old).IsReady (stored database old).may_leave) (sym same) store);
+    }
+
+  -- ---- nothing was called
 
   module _ (r : held.Records) (same : records_of r ≡ recorded old) (answer : Result Reply not_accepted.Refused) (stays : stays_open answer ≡ true) where
     abbrev resting : Holdings V S g
@@ -64,16 +90,10 @@ module _ {V S : Type 0} {g : volume.Ghosts V} (database : Ghosts S) (old : Holdi
     pub rests_done : answer ≢ Err (refused.Refusal VolumeFull) → IsRuled (recorded old) command now answer (records_of r)
         → (g.tells → Answers (state_in (recorded old) (image_of old)) command now (answer_of command answer) (state_in (recorded old) (image_of old)) × RestsOnBytes (recorded old) (image_of old) command now (answer_of command answer))
         → HasDone database old command now answer (record { vault = old.vault; store = old.store; records = r })
-    rests_done full ruled told = record {
-      safe = safe_undone old resting same (λ b. (λ f. f, λ f. f)) command answer (λ e. shut (ap stays_open e)) (λ e. shut (ap stays_open e)) (λ _. refl) (λ e. absurd (full e)) refl (λ _. order_same old resting same (λ b. (λ f. f, λ f. f)) refl refl order);
-      ruled = ruled;
-      written = λ _. same_in (IsFree old.vault) (image_of old);
-      trust = λ honest. honest;
-      serves = λ tells honest volume store. let allowed = told tells in
-          does_nothing database old resting order volume store command now answer allowed.0 allowed.1 (opens_alike command answer) same (λ _. refl) (λ j w. volume.elsewhere j (since_same g.moment g.left_at (volume_of old.vault) j w)) (λ r w. w) volume.elsewhere;
-      image = λ _ tells volume. image_same old resting same (λ b. (λ f. f, λ f. f)) refl volume.elsewhere volume;
-      rows = λ _ honest store. subst (λ k. IsInStore k (stored database old).rows (stored database old).IsReady (stored database old).may_leave) (sym same) store;
-    }
+    rests_done full ruled told =
+        reads_done resting same refl (λ b. (λ f. f, λ f. f)) (λ _. (refl, stays_still g.moment g.left_at (volume_of old.vault))) answer
+        (safe_undone old resting same (λ b. (λ f. f, λ f. f)) command answer (λ e. shut (ap stays_open e)) (λ e. shut (ap stays_open e)) (λ _. refl) (λ e. absurd (full e)) (λ _. refl) refl (λ _. order_same old resting same (λ b. (λ f. f, λ f. f)) refl refl order))
+        ruled told
       where
         shut : {P : Type 0} → stays_open answer ≡ false → P
         shut closed = let clash : true ≡ false = sym stays ∙ closed in cc
@@ -105,6 +125,7 @@ module _ {V S : Type 0} {g : volume.Ghosts V} (database : Ghosts S) (old : Holdi
 
   -- Its records and its reply are the machine's. What it wrote before lies in free blocks, and a stop after it leaves all but the blocks that are free then.
   pub record IsOneChange (new : Holdings V S g) (changed : Records) (reply : machine.Reply) : Type 0 where
+    pub uncalled : uses_volume command ≡ false → volume_of new.vault ≡ volume_of old.vault
     pub failures : failures_of new ≡ failures_of old
     pub in_order : IsInOrder changed (g.size (volume_of new.vault)) (failures_of new) (IsFree new.vault)
     pub first : reply.is_repeat ≡ false
@@ -113,7 +134,7 @@ module _ {V S : Type 0} {g : volume.Ghosts V} (database : Ghosts S) (old : Holdi
     pub rests : g.tells → KeepsImage old → RestsOnBytes (recorded old) (image_of old) command now (Accepted reply)
     pub change : g.tells → KeepsImage old → IsGood (recorded old) (image_of old) → IsChange (recorded old) (image_of old) (IsFree old.vault) changed (image_of new) (IsFree new.vault)
     pub volume : g.tells → KeepsImage old → IsVolumeOf changed (image_of new)
-    pub during : g.tells → KeepsImage old → (j : List ℕ) → left_since old new j → DiffersOnlyIn (IsFree old.vault) (image_of old) j
+    pub any_moment : g.tells → KeepsImage old → LeavesOnly g.moment g.left_at (volume_of old.vault) (volume_of new.vault) (DiffersOnlyIn (IsFree old.vault) (image_of old))
     pub after : g.tells → KeepsImage old → (j : List ℕ) → left_by new j → DiffersOnlyIn (IsFree new.vault) (image_of new) j
 
   -- one that does not call the volume
@@ -122,6 +143,7 @@ module _ {V S : Type 0} {g : volume.Ghosts V} (database : Ghosts S) (old : Holdi
       → (IsGood (recorded old) (image_of old) → IsChange (recorded old) (image_of old) (IsFree old.vault) changed (image_of old) (IsFree old.vault)) → (IsVolumeOf (recorded old) (image_of old) → IsVolumeOf changed (image_of old))
       → IsOneChange (record { vault = old.vault; store = store; records = r }) changed reply
   volume_stays store r changed reply in_order first none accepted change volume = record {
+    uncalled = λ _. refl;
     failures = refl;
     in_order = in_order;
     first = first;
@@ -130,37 +152,53 @@ module _ {V S : Type 0} {g : volume.Ghosts V} (database : Ghosts S) (old : Holdi
     rests = λ _ _ key within. absurd (nothing_in _ key none within);
     change = λ _ _. change;
     volume = λ _ kept. volume kept.volume;
-    during = λ _ kept j w. kept.elsewhere j (since_same g.moment g.left_at (volume_of old.vault) j w);
+    any_moment = λ _ kept. leaves_more g.moment g.left_at (volume_of old.vault) (volume_of old.vault) _ _ kept.elsewhere (stays_still g.moment g.left_at (volume_of old.vault));
     after = λ _ kept. kept.elsewhere;
   }
 
   module _ (new : Holdings V S g) (changed : Records) (reply : machine.Reply) (is : IsOneChange new changed reply) {A E : Type 0} (result : Result A E) (after : Rows)
       (commits : Commits (stored database old) (stored database new) after result) (means : form_of (stored database old).rows ≡ InForm (recorded old) → form_of after ≡ InForm changed) where
+    during : g.tells → KeepsImage old → (j : List ℕ) → left_since old new j → DiffersOnlyIn (IsFree old.vault) (image_of old) j
+    during tells volume = each_of g.moment g.left_at (volume_of old.vault) (volume_of new.vault) _ (is.any_moment tells volume)
+
+    ended : (stored database new).IsHonest → KeepsRows database old → (stored database new).in_transaction ≡ false
+    ended honest store = (commits.effect honest store.ready).ended
+
     -- it is committed, and answered
     pub commits_done : is_err result ≡ false → recorded new ≡ changed → (answer : Reply) → answer.is_repeat ≡ false → answer_of command (Ok answer) ≡ Accepted reply → IsRuled (recorded old) command now (Ok answer) (recorded new)
         → HasDone database old command now (Ok answer) new
     commits_done good same answer first shown ruled = record {
-      safe = safe_done old new command answer first is.failures (subst (λ r. IsInOrder r (g.size (volume_of new.vault)) (failures_of new) (IsFree new.vault)) (sym same) is.in_order);
+      safe = safe_done old new command answer first is.uncalled is.failures (subst (λ r. IsInOrder r (g.size (volume_of new.vault)) (failures_of new) (IsFree new.vault)) (sym same) is.in_order);
       ruled = ruled;
       written = is.written;
+      unwritten = λ e. repeated answer.is_repeat first e;
+      any_moment = is.any_moment;
+      mode = ended;
       trust = commits.trust;
       serves = λ tells honest volume store. let done = on_ok _ result _ refl good (commits.effect honest store.ready).done in
           does_change database old new order volume store command now changed (is.change tells volume (good_before database old new order volume store command now)) answer reply shown (is.accepted tells volume) (is.rests tells volume) same
-          (is.during tells volume) (form_then _ _ (recorded old) changed _ store (means store.in_form) done.0 done.1) (is.after tells volume);
+          (during tells volume) (form_then _ _ (recorded old) changed _ store (means store.in_form) done.0 done.1) (is.after tells volume);
       image = λ _ tells volume. record { volume = subst (λ r. IsVolumeOf r (image_of new)) (sym same) (is.volume tells volume); elsewhere = is.after tells volume };
       rows = λ _ honest store. let done = on_ok _ result _ refl good (commits.effect honest store.ready).done in rows_then _ _ (recorded old) changed _ store (means store.in_form) done.0 done.1 _ same;
     }
+      where
+        repeated : {P : Type 0} (b : Bool) → b ≡ false → not b ≡ false → P
+        repeated true p q = cc
+        repeated false p q = cc
 
     -- the database failed: it is committed or not
     pub commits_in_doubt : IsRuled (recorded old) command now (Err (refused.Fault StoreFailed)) (recorded new) → HasDone database old command now (Err (refused.Fault StoreFailed)) new
     commits_in_doubt ruled = record {
-      safe = record { answers = λ e. cc; failed = λ e. cc; not_failed = λ _. is.failures; full = λ e. cc; unchanged = λ e. cc; order = λ e. cc };
+      safe = record { answers = λ e. cc; failed = λ e. cc; not_failed = λ _. is.failures; full = λ e. cc; uncalled = is.uncalled; unchanged = λ e. cc; order = λ e. cc };
       ruled = ruled;
       written = is.written;
+      unwritten = λ e. cc;
+      any_moment = is.any_moment;
+      mode = ended;
       trust = commits.trust;
       serves = λ tells honest volume store.
           is_in_doubt database old new order volume store command now changed (is.change tells volume (good_before database old new order volume store command now)) reply (is.accepted tells volume) is.first
-          (is.during tells volume) (either_form _ _ (recorded old) changed _ store (means store.in_form) result (commits.effect honest store.ready)) (is.after tells volume);
+          (during tells volume) (either_form _ _ (recorded old) changed _ store (means store.in_form) result (commits.effect honest store.ready)) (is.after tells volume);
       image = λ e. cc;
       rows = λ e. cc;
     }

@@ -6,6 +6,7 @@ use Rattle.schedule.specs.Schedule.{IsDay}
 use Rattle.deposit_name.specs.Identifiers.{IsTld}
 use Rattle.sqlite.specs.State.{State}
 use Rattle.vault_volume.specs.declared.volume.Volume as volume
+use Rattle.vault_volume.specs.Disk.{LeavesOnly}
 use Rattle.vault_volume.specs.Vault.{volume_of, IsFree}
 use Rattle.vault_volume.specs.Image.{DiffersOnlyIn}
 use Rattle.vault_volume.specs.Extents.{SameFree}
@@ -31,7 +32,7 @@ use Rattle.custody.specs.declared.answers.Reply.{Reply}
 use Rattle.custody.specs.declared.answers.Refused.{Refused}
 use Rattle.custody.specs.declared.answers.Refused.TheVariants as refused
 use Rattle.custody.specs.declared.holdings.Holdings.{Holdings}
-use Rattle.custody.specs.Answers.{answer_of, stays_open}
+use Rattle.custody.specs.Answers.{answer_of, stays_open, uses_volume, may_call}
 use Rattle.custody.specs.Holdings.{recorded, stored, image_of, failures_of, left_by, left_since, KeepsOrder, KeepsImage, KeepsRows, IsSafe, HasServed}
 
 -- ---- results
@@ -52,6 +53,13 @@ since_same moment left_at v image h =
     let to = h.2 in
     let same : h.0 ≡ moment v = omega arith in
     subst (λ t. left_at v t image) same h.3
+
+pub stays_still : {V : Type 0} (moment : V → ℕ) (left_at : V → ℕ → List ℕ → Type 0) (v : V) → LeavesOnly moment left_at v v (left_at v (moment v))
+stays_still moment left_at v = record { later = omega arith; past = λ t c at. (λ w. w, λ w. w); since = λ t c from to w. let same : t ≡ moment v = omega arith in subst (λ k. left_at v k c) same w }
+
+-- and one that was only read
+pub leaves_more : {V : Type 0} (moment : V → ℕ) (left_at : V → ℕ → List ℕ → Type 0) (old new : V) (P Q : List ℕ → Type 0) → ((c : List ℕ) → P c → Q c) → LeavesOnly moment left_at old new P → LeavesOnly moment left_at old new Q
+leaves_more moment left_at old new P Q more l = record { later = l.later; past = l.past; since = λ t c from to w. more c (l.since t c from to w) }
 
 -- ---- rows
 
@@ -76,12 +84,13 @@ registry_means rows records tld day is form in_range new = registry_inserted row
 
 module _ {V S : Type 0} {g : volume.Ghosts V} (old new : Holdings V S g) (command : Command) where
   -- a command is done
-  pub safe_done : (reply : Reply) → reply.is_repeat ≡ false → failures_of new ≡ failures_of old → KeepsOrder new → IsSafe old command (Ok reply) new
-  safe_done reply first failures order = record {
+  pub safe_done : (reply : Reply) → reply.is_repeat ≡ false → (uses_volume command ≡ false → volume_of new.vault ≡ volume_of old.vault) → failures_of new ≡ failures_of old → KeepsOrder new → IsSafe old command (Ok reply) new
+  safe_done reply first uncalled failures order = record {
     answers = λ e. cc;
     failed = λ e. cc;
     not_failed = λ _. failures;
     full = λ e. cc;
+    uncalled = uncalled;
     unchanged = λ same. by reply.is_repeat first same;
     order = λ _. order;
   }
@@ -141,5 +150,5 @@ module _ {V S : Type 0} {g : volume.Ghosts V} (old new : Holdings V S g) (same :
 
   -- nothing was done
   pub safe_undone : (command : Command) (answer : Result Reply Refused) → answer ≢ Err (refused.Fault Closed) → (answer ≡ Err (refused.Fault VolumeFailed) → failures_of old < failures_of new) → (answer ≢ Err (refused.Fault VolumeFailed) → failures_of new ≡ failures_of old) → (answer ≡ Err (refused.Refusal VolumeFull) → ¬ HasRoomFor (recorded old) command)
-      → new.store ≡ old.store → (stays_open answer ≡ true → KeepsOrder new) → IsSafe old command answer new
-  safe_undone command answer closed failed not_failed full store order = record { answers = closed; failed = failed; not_failed = not_failed; full = full; unchanged = λ _. (same, store); order = order }
+      → (may_call command answer ≡ false → volume_of new.vault ≡ volume_of old.vault) → new.store ≡ old.store → (stays_open answer ≡ true → KeepsOrder new) → IsSafe old command answer new
+  safe_undone command answer closed failed not_failed full uncalled store order = record { answers = closed; failed = failed; not_failed = not_failed; full = full; uncalled = uncalled; unchanged = λ _. (same, store); order = order }

@@ -18,7 +18,6 @@ use Rattle.custody_machine.specs.Machine.{Receive, OfPart, Accept, received_part
 use Rattle.custody_machine.specs.Stored.{state_in}
 use Rattle.custody_machine.specs.Custody.{Decides, Goes, IsInOrder, IsPlaced, IsSettled, staged_record}
 use Rattle.custody_machine.proofs.Composed.{IsChange, nothing_in, has_size, reads_nothing, part_changes, part_ruled, part_in_order}
-use Rattle.custody_machine.proofs.Compared.{each_of}
 use Rattle.custody.specs.declared.holdings.Holdings.{Holdings}
 use Rattle.custody.specs.Holdings.{recorded, image_of, failures_of, left_by, KeepsOrder, KeepsImage}
 use Rattle.custody.proofs.Done.{IsOneChange}
@@ -54,6 +53,7 @@ module _ {V S : Type 0} {g : volume.Ghosts V} (old new : Holdings V S g) (text b
       → (g.tells → KeepsImage old → LeavesOnly g.moment g.left_at (volume_of old.vault) (volume_of new.vault) (DiffersOnlyIn (IsFree old.vault) (image_of old)))
       → IsOneChange database old order (Receive text bytes) now new records_then (record { entry = OfPart (key_of n) (received_part n bytes now); is_repeat = false })
   kept_change database size failures settled leaves = record {
+    uncalled = λ e. cc;
     failures = failures;
     in_order = subst (λ s. IsInOrder records_then s (failures_of new) (IsFree new.vault)) (sym size)
         (part_in_order (recorded old) [] order.whole text bytes now n ruled.0 ruled.1 (ruled.2 [] bytes refl) (g.size (volume_of old.vault)) (failures_of old) (IsFree old.vault) order (IsFree new.vault) staged placed (failures_of new) (subst (λ k. k < 2 ^ 64 - 1) (sym failures) order.count));
@@ -63,6 +63,6 @@ module _ {V S : Type 0} {g : volume.Ghosts V} (old new : Holdings V S g) (text b
     rests = λ _ _ key within. absurd (nothing_in _ key (reads_nothing (recorded old) (image_of old) order.whole text bytes now n ruled.0 ruled.1 (ruled.2 (image_of old) bytes refl)) within);
     change = λ tells volume _. change volume (settled tells);
     volume = λ tells volume. (change volume (settled tells)).good.volume;
-    during = λ tells volume. each_of g.moment g.left_at (volume_of old.vault) (volume_of new.vault) _ (leaves tells volume);
+    any_moment = leaves;
     after = λ tells volume. only volume (settled tells);
   }

@@ -2,6 +2,7 @@ pub mod Done
 pub mod FirstDamage
 pub mod HoldingLemmas
 pub mod KeptPart
+pub mod NamedPart
 pub mod Opened
 pub mod PartLemmas
 pub mod PurgeLemmas

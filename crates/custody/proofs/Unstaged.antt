@@ -1,5 +1,5 @@
 -- A part that was not staged.
-use Rattle.std.proofs.Common.{◌≡◌, ◌≢◌, ℕ, ◌+◌, List, length, true, false, refl, sym, ◌∙◌, ap, subst, arith, Result, Err}
+use Rattle.std.proofs.Common.{◌≡◌, ◌≢◌, ℕ, ◌+◌, List, length, true, false, refl, sym, ◌∙◌, ap, subst, arith, inl, inr, Result, Err}
 use Rattle.sqlite.specs.Store.{Ghosts}
 use Rattle.deposit_name.specs.Name.{Name}
 use Rattle.vault_volume.specs.declared.errors.StageError.{StageError}
@@ -15,7 +15,7 @@ use Rattle.custody_machine.specs.History.{is_open_after}
 use Rattle.custody_machine.specs.Moves.{RestsOnBytes}
 use Rattle.custody_machine.specs.Stored.{state_in}
 use Rattle.custody_store.specs.Standing.{standing}
-use Rattle.custody_machine.specs.Custody.{Decides, Goes}
+use Rattle.custody_machine.specs.Custody.{Decides, Goes, IsInStore}
 use Rattle.custody_machine.specs.declared.answers.Fault.TheVariants as fault
 use Rattle.custody_machine.specs.declared.answers.Refusal.TheVariants.{VolumeFull}
 use Rattle.custody_machine.proofs.Composed.{nothing_in, reads_nothing}
@@ -25,9 +25,10 @@ use Rattle.custody.specs.declared.answers.Reply.{Reply}
 use Rattle.custody.specs.declared.answers.Refused as not_accepted
 use Rattle.custody.specs.declared.answers.Refused.TheVariants as refused
 use Rattle.custody.specs.declared.holdings.Holdings.{Holdings}
-use Rattle.custody.specs.Answers.{answer_of, stays_open, unstaged}
-use Rattle.custody.specs.Holdings.{recorded, image_of, failures_of, KeepsOrder, KeepsImage, KeepsRows, IsSafe, HasServed}
-use Rattle.custody.proofs.HoldingLemmas.{order_same, image_same, safe_undone, does_nothing}
+use Rattle.custody.specs.Answers.{answer_of, stays_open, may_call, unstaged}
+use Rattle.custody.specs.Ruled.{IsReceived}
+use Rattle.custody.specs.Holdings.{recorded, stored, image_of, failures_of, left_by, KeepsOrder, KeepsImage, KeepsRows, IsSafe, HasServed, HasDone}
+use Rattle.custody.proofs.HoldingLemmas.{stays_still, order_same, image_same, safe_undone, does_nothing}
 
 module _ {V S : Type 0} {g : volume.Ghosts V} (old new : Holdings V S g) (same : recorded new ≡ recorded old) (store_same : new.store ≡ old.store) (text bytes : List ℕ) (now : ℕ) (n : Name) (order : KeepsOrder old) (ruled : Decides (Goes n) (recorded old) text (length bytes) now)
     (e : StageError) (free : SameFree (IsFree old.vault) (IsFree new.vault)) (full_same : e ≡ Full → volume_of new.vault ≡ volume_of old.vault) (memory_same : e ≡ NoMemory → volume_of new.vault ≡ volume_of old.vault) where
@@ -40,16 +41,21 @@ module _ {V S : Type 0} {g : volume.Ghosts V} (old new : Holdings V S g) (same :
       by NoMemory is stays = memory_same is
       by VolumeFailed is stays = cc
 
-  pub unstaged_safe : (e ≡ VolumeFailed → failures_of new ≡ failures_of old + 1) → (e ≡ Full → HasFewer (IsFree old.vault) (g.size (volume_of old.vault)) (block_count (length bytes)))
+  unstaged_safe : (e ≡ VolumeFailed → failures_of new ≡ failures_of old + 1) → (e ≡ Full → HasFewer (IsFree old.vault) (g.size (volume_of old.vault)) (block_count (length bytes)))
       → (answer : Result Reply not_accepted.Refused) → answer ≡ Err (unstaged e) → IsSafe old (Receive text bytes) answer new
   unstaged_safe failed full answer is = subst (λ a. IsSafe old (Receive text bytes) a new) (sym is)
-      (safe_undone old new same free (Receive text bytes) (Err (unstaged e)) (answers e) (λ h. let one = failed (failing e h) in omega (arith, one)) (λ other. ap g.failures (volume_same (still_open e other))) (λ h. no_room (recorded old) (g.size (volume_of old.vault)) (failures_of old) (IsFree old.vault) order (length bytes) (full (filling e h))) store_same
+      (safe_undone old new same free (Receive text bytes) (Err (unstaged e)) (answers e) (λ h. let one = failed (failing e h) in omega (arith, one)) (λ other. ap g.failures (volume_same (still_open e other))) (λ h. no_room (recorded old) (g.size (volume_of old.vault)) (failures_of old) (IsFree old.vault) order (length bytes) (full (filling e h))) (uncalled e refl) store_same
       (λ stays. order_same old new same free (ap g.size (volume_same stays)) (ap g.failures (volume_same stays)) order))
     where
       answers : (d : StageError) → ◌≢◌ {A = Result Reply not_accepted.Refused} (Err (unstaged d)) (Err (refused.Fault fault.Closed))
       answers Full h = cc
       answers NoMemory h = cc
       answers VolumeFailed h = cc
+
+      uncalled : (d : StageError) → e ≡ d → may_call (Receive text bytes) (Err (unstaged d)) ≡ false → volume_of new.vault ≡ volume_of old.vault
+      uncalled Full is none = full_same is
+      uncalled NoMemory is none = memory_same is
+      uncalled VolumeFailed is none = cc
 
       still_open : (d : StageError) → ◌≢◌ {A = Result Reply not_accepted.Refused} (Err (unstaged d)) (Err (refused.Fault fault.VolumeFailed)) → stays_open (Err (unstaged d)) ≡ true
       still_open Full other = refl
@@ -67,7 +73,7 @@ module _ {V S : Type 0} {g : volume.Ghosts V} (old new : Holdings V S g) (same :
       filling VolumeFailed h = cc
 
   module _ (volume : KeepsImage old) (leaves : LeavesOnly g.moment g.left_at (volume_of old.vault) (volume_of new.vault) (DiffersOnlyIn (IsFree old.vault) (image_of old))) where
-    pub unstaged_serves : (database : Ghosts S) → KeepsRows database old → (answer : Result Reply not_accepted.Refused) → answer ≡ Err (unstaged e) → HasServed database old (Receive text bytes) now answer new
+    unstaged_serves : (database : Ghosts S) → KeepsRows database old → (answer : Result Reply not_accepted.Refused) → answer ≡ Err (unstaged e) → HasServed database old (Receive text bytes) now answer new
     unstaged_serves database store answer is = subst (λ a. HasServed database old (Receive text bytes) now a new) (sym is)
         (does_nothing database old new order volume store (Receive text bytes) now (Err (unstaged e)) (may e) (rests e) (opened e) same (λ stays. ap g.image (volume_same stays))
         (each_of g.moment g.left_at (volume_of old.vault) (volume_of new.vault) _ leaves) (λ r w. subst (λ s. (standing database s).may_leave r) store_same w) (now_of g.moment g.left_at (volume_of old.vault) (volume_of new.vault) _ leaves))
@@ -90,5 +96,28 @@ module _ {V S : Type 0} {g : volume.Ghosts V} (old new : Holdings V S g) (same :
         opened NoMemory = refl
         opened VolumeFailed = refl
 
-    pub unstaged_image : (answer : Result Reply not_accepted.Refused) → answer ≡ Err (unstaged e) → stays_open answer ≡ true → KeepsImage new
+    unstaged_image : (answer : Result Reply not_accepted.Refused) → answer ≡ Err (unstaged e) → stays_open answer ≡ true → KeepsImage new
     unstaged_image answer is stays = image_same old new same free (ap g.image (volume_same (ap stays_open (sym is) ∙ stays))) (now_of g.moment g.left_at (volume_of old.vault) (volume_of new.vault) _ leaves) volume
+
+  -- it did no command
+  pub unstaged_done : (database : Ghosts S) → (e ≡ VolumeFailed → failures_of new ≡ failures_of old + 1) → (e ≡ Full → HasFewer (IsFree old.vault) (g.size (volume_of old.vault)) (block_count (length bytes)))
+      → (g.tells → DiffersOnlyIn (IsFree old.vault) (image_of old) (image_of new)) → (g.tells → KeepsImage old → LeavesOnly g.moment g.left_at (volume_of old.vault) (volume_of new.vault) (DiffersOnlyIn (IsFree old.vault) (image_of old)))
+      → (answer : Result Reply not_accepted.Refused) → answer ≡ Err (unstaged e) → HasDone database old (Receive text bytes) now answer new
+  unstaged_done database failed full written leaves answer is = subst (λ a. HasDone database old (Receive text bytes) now a new) (sym is) (record {
+    safe = unstaged_safe failed full (Err (unstaged e)) refl;
+    ruled = (Goes n, ruled, received e);
+    written = written;
+    unwritten = λ _ stays tells. subst (λ v. (g.image v ≡ image_of old) × LeavesOnly g.moment g.left_at (volume_of old.vault) v (left_by old)) (sym (volume_same stays)) (refl, stays_still g.moment g.left_at (volume_of old.vault));
+    any_moment = leaves;
+    mode = λ _ store. subst (λ s. (standing database s).in_transaction ≡ false) (sym store_same) store.ready.autocommit;
+    trust = subst (λ s. (standing database s).IsHonest) store_same;
+    serves = λ tells honest volume store. unstaged_serves volume (leaves tells volume) database store (Err (unstaged e)) refl;
+    image = λ stays tells volume. unstaged_image volume (leaves tells volume) (Err (unstaged e)) refl stays;
+    rows = λ _ honest store. subst (λ s. IsInStore (recorded new) (standing database s).rows (standing database s).IsReady (standing database s).may_leave) (sym store_same)
+        (subst (λ k. IsInStore k (stored database old).rows (stored database old).IsReady (stored database old).may_leave) (sym same) store);
+  })
+    where
+      received : (d : StageError) → IsReceived (recorded old) n now bytes (Err (unstaged d)) (recorded new)
+      received Full = refl
+      received NoMemory = inl refl
+      received VolumeFailed = inr (inl refl)

@@ -1,5 +1,5 @@
 -- The answers of a custody, as those of the machine, and their lines.
-use Rattle.std.specs.Prelude.{ℕ, List, [], codes, Bool, true, false, not, Result, Ok, Err}
+use Rattle.std.specs.Prelude.{ℕ, List, [], codes, Bool, true, false, not, ◌&&◌, Result, Ok, Err}
 use Rattle.custody_records.specs.Records.{key_of}
 use Rattle.vault_volume.specs.declared.errors.StageError.{StageError}
 use Rattle.vault_volume.specs.declared.errors.StageError.TheVariants as stage
@@ -8,7 +8,7 @@ use Rattle.vault_volume.specs.declared.errors.ReadError.TheVariants as read
 use Rattle.custody_machine.specs.State.{Held}
 use Rattle.custody_machine.specs.Machine as machine
 use Rattle.custody_machine.specs.Machine.{Command, Register, Receive, Answer, Accepted, Refused, Failed, OfRegistry, OfPart}
-use Rattle.custody_machine.specs.declared.answers.Refusal.TheVariants.{VolumeFull}
+use Rattle.custody_machine.specs.declared.answers.Refusal.TheVariants.{OtherBytes, VolumeFull}
 use Rattle.custody_machine.specs.declared.answers.Fault.TheVariants.{NoMemory, VolumeFailed, StoreFailed, Closed, Damaged}
 use Rattle.custody_machine.specs.Texts.{refusal_text, fault_text}
 use Rattle.custody.specs.declared.answers.Record as code
@@ -74,3 +74,22 @@ may_change (Err (refused.Fault VolumeFailed)) = false
 may_change (Err (refused.Fault StoreFailed)) = true
 may_change (Err (refused.Fault Closed)) = false
 may_change (Err (refused.Fault (Damaged damage))) = false
+
+-- whether a command may need the volume
+abbrev pub uses_volume : Command → Bool
+uses_volume (Register tld first_day) = false
+uses_volume (Receive name bytes) = true
+
+-- whether the volume may have been called: a part is kept or compared, or volume or database failed
+abbrev pub may_follow_a_call : Result Reply not_accepted.Refused → Bool
+may_follow_a_call (Ok reply) = true
+may_follow_a_call (Err (refused.Refusal OtherBytes)) = true
+may_follow_a_call (Err (refused.Refusal _)) = false
+may_follow_a_call (Err (refused.Fault NoMemory)) = false
+may_follow_a_call (Err (refused.Fault VolumeFailed)) = true
+may_follow_a_call (Err (refused.Fault StoreFailed)) = true
+may_follow_a_call (Err (refused.Fault Closed)) = false
+may_follow_a_call (Err (refused.Fault (Damaged damage))) = true
+
+abbrev pub may_call : Command → Result Reply not_accepted.Refused → Bool
+may_call command answer = may_follow_a_call answer && uses_volume command

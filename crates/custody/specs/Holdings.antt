@@ -1,6 +1,7 @@
 -- What a custody holds: its records, and what its volume and its database have and may leave at a stop.
 use Rattle.std.specs.Prelude.{◌≡◌, ◌≢◌, ◌<◌, ℕ, List, true, false, Result, Err}
 use Rattle.vault_volume.specs.declared.volume.Volume as volume
+use Rattle.vault_volume.specs.Disk.{LeavesOnly}
 use Rattle.vault_volume.specs.Image.{DiffersOnlyIn}
 use Rattle.vault_volume.specs.Vault.{volume_of, IsFree, IsFree-prop}
 use Rattle.sqlite.specs.Store.{Ghosts}
@@ -15,7 +16,7 @@ use Rattle.custody.specs.declared.answers.Reply.{Reply}
 use Rattle.custody.specs.declared.answers.Refused.{Refused}
 use Rattle.custody.specs.declared.answers.Refused.TheVariants as refused
 use Rattle.custody.specs.declared.holdings.Holdings.{Holdings}
-use Rattle.custody.specs.Answers.{answer_of, stays_open, may_change}
+use Rattle.custody.specs.Answers.{answer_of, stays_open, may_change, may_call}
 use Rattle.custody.specs.Order.{IsInOrder-prop}
 use Rattle.custody.specs.Ruled.{IsRuled}
 
@@ -71,6 +72,8 @@ module _ {V S : Type 0} {g : volume.Ghosts V} where
     pub not_failed : answer ≢ Err (refused.Fault VolumeFailed) → failures_of new ≡ failures_of old
     -- there is no room where it says so
     pub full : answer ≡ Err (refused.Refusal VolumeFull) → ¬ HasRoomFor (recorded old) command
+    -- the volume was not called where no part is kept or compared: so C1 and Q11 come before any write
+    pub uncalled : may_call command answer ≡ false → volume_of new.vault ≡ volume_of old.vault
     -- where nothing was done, nothing is recorded, and the database was not called
     pub unchanged : may_change answer ≡ false → (recorded new ≡ recorded old) × (new.store ≡ old.store)
     -- what is known in memory goes on
@@ -82,6 +85,10 @@ module _ {V S : Type 0} {g : volume.Ghosts V} where
       Serves (recorded old) (image_of old) command now (answer_of command answer) (stays_open answer) (recorded new) (image_of new)
       (stored database old).may_leave (left_since old new) (stored database new).may_leave (left_by new)
 
+  -- nothing was written: the volume is read as before, and a stop leaves at each moment what it left before
+  abbrev pub IsUnwritten : Holdings V S g → Holdings V S g → Type 0
+  IsUnwritten old new = (image_of new ≡ image_of old) × LeavesOnly g.moment g.left_at (volume_of old.vault) (volume_of new.vault) (left_by old)
+
   -- What a command does to an open custody.
   pub record HasDone (database : Ghosts S) (old : Holdings V S g) (command : Command) (now : ℕ) (answer : Result Reply Refused) (new : Holdings V S g) : Type 0 where
     -- whatever volume and database are
@@ -90,6 +97,12 @@ module _ {V S : Type 0} {g : volume.Ghosts V} where
     pub ruled : IsRuled (recorded old) command now answer (recorded new)
     -- only free blocks are written
     pub written : g.tells → DiffersOnlyIn (IsFree old.vault) (image_of old) (image_of new)
+    -- and none at all where nothing is recorded and it stays open
+    pub unwritten : may_change answer ≡ false → stays_open answer ≡ true → g.tells → IsUnwritten old new
+    -- the clock does not go back, the past stays, and a stop leaves at each moment since all but the free blocks as they were
+    pub any_moment : g.tells → KeepsImage old → LeavesOnly g.moment g.left_at (volume_of old.vault) (volume_of new.vault) (DiffersOnlyIn (IsFree old.vault) (image_of old))
+    -- no transaction is open, whatever is answered
+    pub mode : (stored database new).IsHonest → KeepsRows database old → (stored database new).in_transaction ≡ false
     -- a database that is honest was so before
     pub trust : (stored database new).IsHonest → (stored database old).IsHonest
     -- what it answers, does and leaves

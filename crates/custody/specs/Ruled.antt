@@ -4,8 +4,8 @@ use Rattle.std.specs.FinMap.{get}
 use Rattle.sha2.specs.Sha256.{sha256}
 use Rattle.deposit_name.specs.Name.{Name}
 use Rattle.extent_map.specs.declared.extent.Extent.{Extent}
-use Rattle.custody_records.specs.Keys.{PartKey}
 use Rattle.custody_records.specs.Records.{PartRecord, Records, key_of, with_registry, with_part}
+use Rattle.custody_machine.specs.Names.{read_name}
 use Rattle.custody_machine.specs.Machine.{Command, Register, Receive}
 use Rattle.custody_machine.specs.declared.answers.Refusal.TheVariants.{OtherBytes, VolumeFull}
 use Rattle.custody_machine.specs.declared.answers.Fault.TheVariants.{NoMemory, VolumeFailed, StoreFailed, Damaged}
@@ -28,10 +28,10 @@ IsRegistered records tld first_day None (Err (refused.Fault fault)) later = (fau
 -- ---- parts
 
 -- a part that is held is answered with its moment and length; or other bytes or damage are told, or memory or the volume fails
-abbrev pub IsCompared : PartKey → PartRecord → Result Reply Refused → Type 0
-IsCompared key part (Ok reply) = (name : Name) × (key_of name ≡ key) × (reply ≡ record { «record» = of.Part name part.received part.len; is_repeat = true })
-IsCompared key part (Err (refused.Refusal refusal)) = refusal ≡ OtherBytes
-IsCompared key part (Err (refused.Fault fault)) = (fault ≡ NoMemory) ⊎ ((fault ≡ VolumeFailed) ⊎ (fault ≡ Damaged Digest))
+abbrev pub IsCompared : List ℕ → PartRecord → Result Reply Refused → Type 0
+IsCompared text part (Ok reply) = (name : Name) × (read_name text ≡ Ok name) × (reply ≡ record { «record» = of.Part name part.received part.len; is_repeat = true })
+IsCompared text part (Err (refused.Refusal refusal)) = refusal ≡ OtherBytes
+IsCompared text part (Err (refused.Fault fault)) = (fault ≡ NoMemory) ⊎ ((fault ≡ VolumeFailed) ⊎ (fault ≡ Damaged Digest))
 
 -- the record of a part that was received: its kind, moment and length, the SHA-256 of its bytes, and some extents
 abbrev pub received_record : Name → ℕ → List ℕ → List Extent → PartRecord
@@ -44,13 +44,13 @@ IsReceived records name now bytes (Ok reply) later =
 IsReceived records name now bytes (Err (refused.Refusal refusal)) later = refusal ≡ VolumeFull
 IsReceived records name now bytes (Err (refused.Fault fault)) later = (fault ≡ NoMemory) ⊎ ((fault ≡ VolumeFailed) ⊎ (fault ≡ StoreFailed))
 
-abbrev pub IsRuledBy : PartRuling → Records → ℕ → List ℕ → Result Reply Refused → Records → Type 0
-IsRuledBy (Refuses refusal) records now bytes answer later = answer ≡ Err (refused.Refusal refusal)
-IsRuledBy (ByBytes key part extents) records now bytes answer later = IsCompared key part answer
-IsRuledBy (Goes name) records now bytes answer later = IsReceived records name now bytes answer later
+abbrev pub IsRuledBy : PartRuling → Records → List ℕ → ℕ → List ℕ → Result Reply Refused → Records → Type 0
+IsRuledBy (Refuses refusal) records text now bytes answer later = answer ≡ Err (refused.Refusal refusal)
+IsRuledBy (ByBytes key part extents) records text now bytes answer later = IsCompared text part answer
+IsRuledBy (Goes name) records text now bytes answer later = IsReceived records name now bytes answer later
 
 -- ---- commands
 
 abbrev pub IsRuled : Records → Command → ℕ → Result Reply Refused → Records → Type 0
 IsRuled records (Register tld first_day) now answer later = IsRegistered records tld first_day (get records.registries tld) answer later
-IsRuled records (Receive text bytes) now answer later = (ruling : PartRuling) × Decides ruling records text (length bytes) now × IsRuledBy ruling records now bytes answer later
+IsRuled records (Receive text bytes) now answer later = (ruling : PartRuling) × Decides ruling records text (length bytes) now × IsRuledBy ruling records text now bytes answer later

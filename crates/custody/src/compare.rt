@@ -38,7 +38,7 @@ pub fn compare<V: Volume>(
     ensures image { V.tells → V.image (volume_of vault.new) ≡ V.image (volume_of vault.old) }
     ensures any_moment { V.tells → LeavesOnly V.moment V.left_at (volume_of vault.old) (volume_of vault.new) (V.left_at (volume_of vault.old) (V.moment (volume_of vault.old))) }
     ensures failed { IsErrOf result ReadError.VolumeFailed → V.failures (volume_of vault.new) ≡ V.failures (volume_of vault.old) + 1 }
-    ensures no_memory { IsErrOf result ReadError.NoMemory → V.failures (volume_of vault.new) ≡ V.failures (volume_of vault.old) }
+    ensures no_memory { IsErrOf result ReadError.NoMemory → volume_of vault.new ≡ volume_of vault.old }
     ensures no_failure { OnOk result (V.failures (volume_of vault.new) ≡ V.failures (volume_of vault.old)) }
 {
     let mut stored = Vec::new(alloc);

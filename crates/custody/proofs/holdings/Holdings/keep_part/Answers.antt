@@ -11,7 +11,7 @@ use Rattle.custody.specs.Holdings.{recorded, stored, image_of}
 use Rattle.custody.proofs.HoldingLemmas.{err_is}
 use Rattle.custody.proofs.Done.{no_memory_done, commits_done, commits_in_doubt}
 use Rattle.custody.proofs.KeptPart.{kept_means, kept_change}
-use Rattle.custody.proofs.Unstaged.{unstaged_safe, unstaged_serves, unstaged_image}
+use Rattle.custody.proofs.Unstaged.{unstaged_done}
 use Rattle.custody.proofs.holdings.Holdings.keep_part.Goals as goal
 
 pub returns-then-is_err : goal.returns-then-is_err
@@ -29,19 +29,9 @@ returns-in_err-staged g c =
     let old = c.args.self.now in
     let new : Holdings g.row.V.Denot g.row.S.Denot g.V.Volume = record { vault = c.stage.new.self; store = old.store; records = c.reserve_part.new.self } in
     let h = c.in_err-staged.ensures in
-    let is = err_is _ _ c.from_residual.ensures.1 in
-    record {
-      safe = unstaged_safe old new c.reserve_part.ensures.same refl c.args.text.now c.args.bytes.now c.args.now c.args.name.now c.requires.order c.requires.ruled
-          c.in_err-staged.field-0.0 h.free (λ e. h.full_unwritten (ap Err e)) (λ e. h.no_memory_unwritten (ap Err e)) (λ e. h.failed (ap Err e)) (λ e. h.full (ap Err e)) c.from_residual.result is;
-      ruled = (Goes c.args.name.now, c.requires.ruled, search rules);
-      written = search rules;
-      trust = search rules;
-      serves = λ tells honest volume store. unstaged_serves old new c.reserve_part.ensures.same refl c.args.text.now c.args.bytes.now c.args.now c.args.name.now c.requires.order c.requires.ruled
-          c.in_err-staged.field-0.0 h.free (λ e. h.full_unwritten (ap Err e)) (λ e. h.no_memory_unwritten (ap Err e)) volume (h.any_moment tells volume.elsewhere) g.S.Store store c.from_residual.result is;
-      image = λ stays tells volume. unstaged_image old new c.reserve_part.ensures.same refl c.args.text.now c.args.bytes.now c.args.now c.args.name.now c.requires.order c.requires.ruled
-          c.in_err-staged.field-0.0 h.free (λ e. h.full_unwritten (ap Err e)) (λ e. h.no_memory_unwritten (ap Err e)) volume (h.any_moment tells volume.elsewhere) c.from_residual.result is stays;
-      rows = search rules;
-    }
+    unstaged_done old new c.reserve_part.ensures.same refl c.args.text.now c.args.bytes.now c.args.now c.args.name.now c.requires.order c.requires.ruled
+    c.in_err-staged.field-0.0 h.free (λ e. h.full_unwritten (ap Err e)) (λ e. h.no_memory_unwritten (ap Err e)) g.S.Store (λ e. h.failed (ap Err e)) (λ e. h.full (ap Err e))
+    h.image (λ tells volume. h.any_moment tells volume.elsewhere) c.from_residual.result (err_is _ _ c.from_residual.ensures.1)
 
 pub returns-in_default : goal.returns-in_default
 returns-in_default g c =

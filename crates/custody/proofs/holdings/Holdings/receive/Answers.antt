@@ -1,36 +1,25 @@
-use Rattle.std.proofs.Common.{true, refl, sym, ap, subst, Ok, Err, rules}
+use Rattle.std.proofs.Common.{true, refl, ap, subst, Err, rules}
 use Rattle.vault_volume.specs.Extents.{part_bytes}
 use Rattle.custody_machine.specs.Machine.{Receive}
-use Rattle.custody_machine.specs.declared.answers.Refusal.TheVariants.{OtherBytes}
-use Rattle.custody_machine.specs.declared.answers.Fault.TheVariants.{Damaged}
-use Rattle.custody_machine.specs.declared.damage.Damage.TheVariants.{Digest}
 use Rattle.custody_machine.specs.Custody.{Compares}
 use Rattle.custody_machine.specs.Stored.{state_in}
 use Rattle.custody_machine.proofs.Composed.{reads_refused}
 use Rattle.custody.specs.Compared.{comparison_of}
-use Rattle.custody.specs.declared.answers.Refused.TheVariants as refused
-use Rattle.custody.specs.Holdings.{recorded, image_of, HasServed}
+use Rattle.custody.specs.Holdings.{recorded, image_of}
 use Rattle.custody.proofs.HoldingLemmas.{err_is}
 use Rattle.custody.proofs.Done.{refuses_done}
-use Rattle.custody.proofs.Repeats.{held_in_range, repeat_safe, compared_safe, unread_safe, compared_image, repeat_serves, other_serves, broken_serves, unread_serves}
+use Rattle.custody.proofs.Repeats.{held_in_range, repeat_done, other_done, broken_done, unread_done}
 use Rattle.custody.proofs.holdings.Holdings.receive.Goals as goal
 
 pub compare-requires-clause-held : goal.compare-requires-clause-held
 compare-requires-clause-held g c = held_in_range c.args.self.now c.requires.order c.args.name.now c.args.bytes.now c.args.now c.in-Compare.part.now c.in-Compare.extents.now c.in-Compare.ensures
 
 pub returns-in_err-compare-in-Compare : goal.returns-in_err-compare-in-Compare
-returns-in_err-compare-in-Compare g c = record {
-  safe = let h = c.in_err-compare-in-Compare.ensures in
-      unread_safe c.args.self.now c.requires.order c.args.name.now c.args.bytes.now c.args.now c.in-Compare.part.now c.in-Compare.extents.now c.in-Compare.ensures (record { vault = c.compare.new.vault; store = c.args.self.now.store; records = c.args.self.now.records }) refl refl c.in_err-compare-in-Compare.ensures.free c.in_err-compare-in-Compare.ensures.size c.in_err-compare-in-Compare.field-0.0 (λ is. h.no_memory (ap Err is)) (λ is. h.failed (ap Err is)) c.from_residual.result (err_is _ _ c.from_residual.ensures.1);
-  ruled = search rules;
-  written = search rules;
-  trust = search rules;
-  serves = λ tells honest volume store. let h = c.in_err-compare-in-Compare.ensures in
-      unread_serves c.args.self.now c.requires.order c.args.name.now c.args.bytes.now c.args.now c.in-Compare.part.now c.in-Compare.extents.now c.in-Compare.ensures (record { vault = c.compare.new.vault; store = c.args.self.now.store; records = c.args.self.now.records }) refl refl c.in_err-compare-in-Compare.ensures.free c.in_err-compare-in-Compare.ensures.size volume (h.image tells) (h.any_moment tells) g.S.Store store c.in_err-compare-in-Compare.field-0.0 c.from_residual.result (err_is _ _ c.from_residual.ensures.1);
-  image = λ _ tells volume. let h = c.in_err-compare-in-Compare.ensures in
-      compared_image c.args.self.now c.requires.order c.args.name.now c.args.bytes.now c.args.now c.in-Compare.part.now c.in-Compare.extents.now c.in-Compare.ensures (record { vault = c.compare.new.vault; store = c.args.self.now.store; records = c.args.self.now.records }) refl refl c.in_err-compare-in-Compare.ensures.free c.in_err-compare-in-Compare.ensures.size volume (h.image tells) (h.any_moment tells);
-  rows = search rules;
-}
+returns-in_err-compare-in-Compare g c =
+    let old = c.args.self.now in
+    let h = c.in_err-compare-in-Compare.ensures in
+    unread_done old c.requires.order c.args.name.now c.args.bytes.now c.args.now c.in-Compare.part.now c.in-Compare.extents.now c.in-Compare.ensures (record { vault = c.compare.new.vault; store = old.store; records = old.records })
+    refl refl h.free h.size (λ tells. (h.image tells, h.any_moment tells)) g.S.Store c.in_err-compare-in-Compare.field-0.0 (λ is. h.no_memory (ap Err is)) (λ is. h.failed (ap Err is)) c.from_residual.result (err_is _ _ c.from_residual.ensures.1)
 
 pub returns-in-Refuse : goal.returns-in-Refuse
 returns-in-Refuse g c =
@@ -41,41 +30,25 @@ returns-in-Refuse g c =
     (reads_refused (state_in (recorded old) (image_of old)) c.args.name.now c.args.bytes.now c.args.now c.in-Refuse.refusal ruled c.in-Refuse.ensures.0) (search rules)
 
 pub returns-in-Same : goal.returns-in-Same
-returns-in-Same g c = record {
-  safe = let h = c.in_ok-compare-in-Compare.ensures in repeat_safe c.args.self.now c.requires.order c.args.name.now c.args.bytes.now c.args.now c.in-Compare.part.now c.in-Compare.extents.now c.in-Compare.ensures (record { vault = c.compare.new.vault; store = c.args.self.now.store; records = c.args.self.now.records }) refl refl c.in_ok-compare-in-Compare.ensures.free c.in_ok-compare-in-Compare.ensures.size (record { «record» = c.of_part-record.result; is_repeat = true }) refl h.no_failure;
-  ruled = search rules;
-  written = search rules;
-  trust = search rules;
-  serves = λ tells honest volume store. let h = c.in_ok-compare-in-Compare.ensures in
-      subst (λ r. HasServed g.S.Store c.args.self.now (Receive c.args.name.now c.args.bytes.now) c.args.now (Ok (record { «record» = r; is_repeat = true })) (record { vault = c.compare.new.vault; store = c.args.self.now.store; records = c.args.self.now.records })) (sym c.of_part-record.ensures)
-      (repeat_serves c.args.self.now c.requires.order c.args.name.now c.args.bytes.now c.args.now c.in-Compare.part.now c.in-Compare.extents.now c.in-Compare.ensures (record { vault = c.compare.new.vault; store = c.args.self.now.store; records = c.args.self.now.records }) refl refl c.in_ok-compare-in-Compare.ensures.free c.in_ok-compare-in-Compare.ensures.size volume (h.image tells) (h.any_moment tells) g.S.Store store (subst (λ k. Compares (comparison_of k) (part_bytes (image_of c.args.self.now) c.in-Compare.extents.now c.in-Compare.part.now.len) c.args.bytes.now c.in-Compare.part.now.digest) c.in-Same.is (h.compared tells)));
-  image = λ _ tells volume. let h = c.in_ok-compare-in-Compare.ensures in
-      compared_image c.args.self.now c.requires.order c.args.name.now c.args.bytes.now c.args.now c.in-Compare.part.now c.in-Compare.extents.now c.in-Compare.ensures (record { vault = c.compare.new.vault; store = c.args.self.now.store; records = c.args.self.now.records }) refl refl c.in_ok-compare-in-Compare.ensures.free c.in_ok-compare-in-Compare.ensures.size volume (h.image tells) (h.any_moment tells);
-  rows = search rules;
-}
+returns-in-Same g c =
+    let old = c.args.self.now in
+    let h = c.in_ok-compare-in-Compare.ensures in
+    repeat_done old c.requires.order c.args.name.now c.args.bytes.now c.args.now c.in-Compare.part.now c.in-Compare.extents.now c.in-Compare.ensures (record { vault = c.compare.new.vault; store = old.store; records = old.records })
+    refl refl h.free h.size (λ tells. (h.image tells, h.any_moment tells)) g.S.Store _ (ap (λ r. record { «record» = r; is_repeat = true }) c.of_part-record.ensures) h.no_failure
+    (λ tells. subst (λ k. Compares (comparison_of k) (part_bytes (image_of old) c.in-Compare.extents.now c.in-Compare.part.now.len) c.args.bytes.now c.in-Compare.part.now.digest) c.in-Same.is (h.compared tells))
 
 pub returns-in-Other : goal.returns-in-Other
-returns-in-Other g c = record {
-  safe = let h = c.in_ok-compare-in-Compare.ensures in compared_safe c.args.self.now c.requires.order c.args.name.now c.args.bytes.now c.args.now c.in-Compare.part.now c.in-Compare.extents.now c.in-Compare.ensures (record { vault = c.compare.new.vault; store = c.args.self.now.store; records = c.args.self.now.records }) refl refl c.in_ok-compare-in-Compare.ensures.free c.in_ok-compare-in-Compare.ensures.size (Err (refused.Refusal OtherBytes)) h.no_failure (λ e. cc) (λ e. cc) (λ e. cc);
-  ruled = search rules;
-  written = search rules;
-  trust = search rules;
-  serves = λ tells honest volume store. let h = c.in_ok-compare-in-Compare.ensures in
-      other_serves c.args.self.now c.requires.order c.args.name.now c.args.bytes.now c.args.now c.in-Compare.part.now c.in-Compare.extents.now c.in-Compare.ensures (record { vault = c.compare.new.vault; store = c.args.self.now.store; records = c.args.self.now.records }) refl refl c.in_ok-compare-in-Compare.ensures.free c.in_ok-compare-in-Compare.ensures.size volume (h.image tells) (h.any_moment tells) g.S.Store store (subst (λ k. Compares (comparison_of k) (part_bytes (image_of c.args.self.now) c.in-Compare.extents.now c.in-Compare.part.now.len) c.args.bytes.now c.in-Compare.part.now.digest) c.in-Other.is (h.compared tells));
-  image = λ _ tells volume. let h = c.in_ok-compare-in-Compare.ensures in
-      compared_image c.args.self.now c.requires.order c.args.name.now c.args.bytes.now c.args.now c.in-Compare.part.now c.in-Compare.extents.now c.in-Compare.ensures (record { vault = c.compare.new.vault; store = c.args.self.now.store; records = c.args.self.now.records }) refl refl c.in_ok-compare-in-Compare.ensures.free c.in_ok-compare-in-Compare.ensures.size volume (h.image tells) (h.any_moment tells);
-  rows = search rules;
-}
+returns-in-Other g c =
+    let old = c.args.self.now in
+    let h = c.in_ok-compare-in-Compare.ensures in
+    other_done old c.requires.order c.args.name.now c.args.bytes.now c.args.now c.in-Compare.part.now c.in-Compare.extents.now c.in-Compare.ensures (record { vault = c.compare.new.vault; store = old.store; records = old.records })
+    refl refl h.free h.size (λ tells. (h.image tells, h.any_moment tells)) g.S.Store h.no_failure
+    (λ tells. subst (λ k. Compares (comparison_of k) (part_bytes (image_of old) c.in-Compare.extents.now c.in-Compare.part.now.len) c.args.bytes.now c.in-Compare.part.now.digest) c.in-Other.is (h.compared tells))
 
 pub returns-in-Broken : goal.returns-in-Broken
-returns-in-Broken g c = record {
-  safe = let h = c.in_ok-compare-in-Compare.ensures in compared_safe c.args.self.now c.requires.order c.args.name.now c.args.bytes.now c.args.now c.in-Compare.part.now c.in-Compare.extents.now c.in-Compare.ensures (record { vault = c.compare.new.vault; store = c.args.self.now.store; records = c.args.self.now.records }) refl refl c.in_ok-compare-in-Compare.ensures.free c.in_ok-compare-in-Compare.ensures.size (Err (refused.Fault (Damaged Digest))) h.no_failure (λ e. cc) (λ e. cc) (λ e. cc);
-  ruled = search rules;
-  written = search rules;
-  trust = search rules;
-  serves = λ tells honest volume store. let h = c.in_ok-compare-in-Compare.ensures in
-      broken_serves c.args.self.now c.requires.order c.args.name.now c.args.bytes.now c.args.now c.in-Compare.part.now c.in-Compare.extents.now c.in-Compare.ensures (record { vault = c.compare.new.vault; store = c.args.self.now.store; records = c.args.self.now.records }) refl refl c.in_ok-compare-in-Compare.ensures.free c.in_ok-compare-in-Compare.ensures.size volume (h.image tells) (h.any_moment tells) g.S.Store store (subst (λ k. Compares (comparison_of k) (part_bytes (image_of c.args.self.now) c.in-Compare.extents.now c.in-Compare.part.now.len) c.args.bytes.now c.in-Compare.part.now.digest) c.in-Broken.is (h.compared tells));
-  image = λ _ tells volume. let h = c.in_ok-compare-in-Compare.ensures in
-      compared_image c.args.self.now c.requires.order c.args.name.now c.args.bytes.now c.args.now c.in-Compare.part.now c.in-Compare.extents.now c.in-Compare.ensures (record { vault = c.compare.new.vault; store = c.args.self.now.store; records = c.args.self.now.records }) refl refl c.in_ok-compare-in-Compare.ensures.free c.in_ok-compare-in-Compare.ensures.size volume (h.image tells) (h.any_moment tells);
-  rows = search rules;
-}
+returns-in-Broken g c =
+    let old = c.args.self.now in
+    let h = c.in_ok-compare-in-Compare.ensures in
+    broken_done old c.requires.order c.args.name.now c.args.bytes.now c.args.now c.in-Compare.part.now c.in-Compare.extents.now c.in-Compare.ensures (record { vault = c.compare.new.vault; store = old.store; records = old.records })
+    refl refl h.free h.size (λ tells. (h.image tells, h.any_moment tells)) g.S.Store h.no_failure
+    (λ tells. subst (λ k. Compares (comparison_of k) (part_bytes (image_of old) c.in-Compare.extents.now c.in-Compare.part.now.len) c.args.bytes.now c.in-Compare.part.now.digest) c.in-Broken.is (h.compared tells))
