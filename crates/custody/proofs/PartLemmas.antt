@@ -58,7 +58,7 @@ module _ (n : Name) (now size : ℕ) (was_free is_free : ℕ → Type 0) (bytes 
     received = moment;
     len = let low = sized.0 in let high = sized.1 in let is = p.len in (omega arith, omega arith);
     digest = ap length p.digest ∙ length-sha256 bytes;
-    extents = writable size (block_count (length bytes)) staged.extents small p.each p.counts (some_blocks (length bytes) sized.0);
+    extents = writable size (block_count (length bytes)) staged.extents small p.chosen.within p.chosen.adds_up (some_blocks (length bytes) sized.0);
   }
 
   -- its row is read as its record

@@ -7,7 +7,7 @@ use Rattle.vault_volume.specs.declared.errors.StageError.TheVariants.{Full, NoMe
 use Rattle.vault_volume.specs.declared.volume.Volume as volume
 use Rattle.vault_volume.specs.Disk.{LeavesOnly}
 use Rattle.vault_volume.specs.Image.{DiffersOnlyIn}
-use Rattle.vault_volume.specs.Extents.{SameFree, IsFreeRun, block_count}
+use Rattle.vault_volume.specs.Extents.{HasFewer, SameFree, block_count}
 use Rattle.vault_volume.specs.Vault.{volume_of, IsFree}
 use Rattle.custody_records.specs.Records.{key_of}
 use Rattle.custody_machine.specs.Machine.{Receive, OfPart, Accept, MayRefuse, MayFail, Answers, step, reads, received_part, with_part}
@@ -20,6 +20,7 @@ use Rattle.custody_machine.specs.declared.answers.Fault.TheVariants as fault
 use Rattle.custody_machine.specs.declared.answers.Refusal.TheVariants.{VolumeFull}
 use Rattle.custody_machine.proofs.Composed.{nothing_in, reads_nothing}
 use Rattle.custody_machine.proofs.Compared.{each_of, now_of}
+use Rattle.custody_machine.proofs.Room.{no_room}
 use Rattle.custody.specs.declared.answers.Reply.{Reply}
 use Rattle.custody.specs.declared.answers.Refused as not_accepted
 use Rattle.custody.specs.declared.answers.Refused.TheVariants as refused
@@ -40,10 +41,10 @@ module _ {V S : Type 0} {g : volume.Ghosts V} (old new : Holdings V S g) (same :
       by NoMemory is stays = memory_same is
       by VolumeFailed is stays = cc
 
-  unstaged_safe : (e ≡ VolumeFailed → failures_of new ≡ failures_of old + 1) → (e ≡ Full → (start : ℕ) → ¬ IsFreeRun (IsFree old.vault) start (block_count (length bytes)))
+  unstaged_safe : (e ≡ VolumeFailed → failures_of new ≡ failures_of old + 1) → (e ≡ Full → HasFewer (IsFree old.vault) (g.size (volume_of old.vault)) (block_count (length bytes)))
       → (answer : Result Reply not_accepted.Refused) → answer ≡ Err (unstaged e) → IsSafe old (Receive text bytes) answer new
   unstaged_safe failed full answer is = subst (λ a. IsSafe old (Receive text bytes) a new) (sym is)
-      (safe_undone old new same free (Receive text bytes) (Err (unstaged e)) (answers e) (λ h. let one = failed (failing e h) in omega (arith, one)) (λ other. ap g.failures (volume_same (still_open e other))) (λ h room. full (filling e h) room.0 (λ b low high. (order.placeable b).1 (room.1 b low high))) (uncalled e refl) store_same
+      (safe_undone old new same free (Receive text bytes) (Err (unstaged e)) (answers e) (λ h. let one = failed (failing e h) in omega (arith, one)) (λ other. ap g.failures (volume_same (still_open e other))) (λ h. no_room (recorded old) (g.size (volume_of old.vault)) (failures_of old) (IsFree old.vault) order (length bytes) (full (filling e h))) (uncalled e refl) store_same
       (λ stays. order_same old new same free (ap g.size (volume_same stays)) (ap g.failures (volume_same stays)) order))
     where
       answers : (d : StageError) → ◌≢◌ {A = Result Reply not_accepted.Refused} (Err (unstaged d)) (Err (refused.Fault fault.Closed))
@@ -99,7 +100,7 @@ module _ {V S : Type 0} {g : volume.Ghosts V} (old new : Holdings V S g) (same :
     unstaged_image answer is stays = image_same old new same free (ap g.image (volume_same (ap stays_open (sym is) ∙ stays))) (now_of g.moment g.left_at (volume_of old.vault) (volume_of new.vault) _ leaves) volume
 
   -- it did no command
-  pub unstaged_done : (database : Ghosts S) → (e ≡ VolumeFailed → failures_of new ≡ failures_of old + 1) → (e ≡ Full → (start : ℕ) → ¬ IsFreeRun (IsFree old.vault) start (block_count (length bytes)))
+  pub unstaged_done : (database : Ghosts S) → (e ≡ VolumeFailed → failures_of new ≡ failures_of old + 1) → (e ≡ Full → HasFewer (IsFree old.vault) (g.size (volume_of old.vault)) (block_count (length bytes)))
       → (g.tells → DiffersOnlyIn (IsFree old.vault) (image_of old) (image_of new)) → (g.tells → KeepsImage old → LeavesOnly g.moment g.left_at (volume_of old.vault) (volume_of new.vault) (DiffersOnlyIn (IsFree old.vault) (image_of old)))
       → (answer : Result Reply not_accepted.Refused) → answer ≡ Err (unstaged e) → HasDone database old (Receive text bytes) now answer new
   unstaged_done database failed full written leaves answer is = subst (λ a. HasDone database old (Receive text bytes) now a new) (sym is) (record {

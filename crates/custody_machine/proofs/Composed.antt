@@ -333,9 +333,9 @@ module _ (records : Records) (i : List ℕ) (whole : AreWhole records) (text byt
     in_place : IsInPlace records (key_of n) (staged_record n now staged) staged.extents
     in_place = record {
       held = refl;
-      range = record { each = subst (λ (b : ℕ). All (IsExtentOf b) staged.extents) kept_order.blocks p.each; counts = p.counts ∙ sym (ap block_count p.len) };
-      apart = p.apart;
-      unnamed = λ b within is. named_used records size failures free kept_order b is (p.from_free b within);
+      range = record { each = subst (λ (b : ℕ). All (IsExtentOf b) staged.extents) kept_order.blocks p.chosen.within; counts = p.chosen.adds_up ∙ sym (ap block_count p.len) };
+      apart = p.chosen.apart;
+      unnamed = λ b within is. named_used records size failures free kept_order b is (p.chosen.each_free b within);
       registry = known;
       fresh = empty_place;
       series = series;

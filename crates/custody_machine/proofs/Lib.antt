@@ -14,6 +14,7 @@ pub mod Moves
 pub mod Composed
 pub mod Purged
 pub mod Compared
+pub mod Room
 pub mod PlainMaps
 pub mod PlainSteps
 pub mod Examples

@@ -1,11 +1,11 @@
 -- What holds of an open custody, and what its calls do. The volume's and the database's words come as sets: the blocks that are free, and the images and rows that a stop may leave.
-use Rattle.std.specs.Prelude.{◌≡◌, ◌≢◌, ◌⊎◌, ℕ, ◌-◌, ◌<◌, ◌≤◌, ◌^◌, All, List, length, Some, None, Bool, true, false, Ok}
+use Rattle.std.specs.Prelude.{◌≡◌, ◌≢◌, ◌⊎◌, ℕ, ◌-◌, ◌<◌, ◌≤◌, ◌^◌, List, length, Some, None, Bool, true, false, Ok}
 use Rattle.std.specs.FinMap.{get}
 use Rattle.sha2.specs.Sha256.{sha256}
 use Rattle.deposit_name.specs.Name.{Name}
 use Rattle.extent_map.specs.declared.extent.Extent.{Extent}
 use Rattle.vault_volume.specs.Image.{DiffersOnlyIn}
-use Rattle.vault_volume.specs.Extents.{IsExtentOf, AreApart, IsInAny, IsFreeRun, AllIn, Takes, block_count, blocks_of, part_bytes}
+use Rattle.vault_volume.specs.Extents.{AreChosen, HasAtLeast, Takes, block_count, part_bytes}
 use Rattle.vault_volume.specs.Staged.{StagedPart}
 use Rattle.custody_records.specs.Keys.{PartKey}
 use Rattle.custody_records.specs.Records.{PartRecord, Records, key_of}
@@ -26,9 +26,9 @@ use Rattle.custody_machine.specs.Moves.{Place, Serving, Shut, Left, MayLeave, Ma
 abbrev pub IsPlaceable : Records → ℕ → Type 0
 IsPlaceable records b = (1 ≤ b) × (b < records.blocks) × (¬ IsNamed records b)
 
--- so many bytes can be placed
+-- so many bytes can be placed: as many blocks may be as they take
 abbrev pub HasRoom : Records → ℕ → Type 0
-HasRoom records len = (start : ℕ) × IsFreeRun (IsPlaceable records) start (block_count len)
+HasRoom records len = HasAtLeast (IsPlaceable records) records.blocks (block_count len)
 
 -- a command's part can be placed
 abbrev pub HasRoomFor : Records → Command → Type 0
@@ -65,10 +65,7 @@ LeftSince moment left_at old new image = (t : ℕ) × (moment old ≤ t) × (t �
 pub record IsPlaced (size : ℕ) (was_free is_free : ℕ → Type 0) (bytes : List ℕ) (staged : StagedPart) : Type 0 where
   pub len : staged.len ≡ length bytes
   pub digest : staged.digest ≡ sha256 bytes
-  pub each : All (IsExtentOf size) staged.extents
-  pub counts : blocks_of staged.extents ≡ block_count (length bytes)
-  pub apart : AreApart staged.extents
-  pub from_free : AllIn was_free staged.extents
+  pub chosen : AreChosen was_free size (block_count (length bytes)) staged.extents
   pub taken : Takes was_free staged.extents is_free
 
 -- They hold the bytes, and a stop leaves this image.

@@ -1,11 +1,9 @@
 -- The blocks of parts, by the rows of their table and by their map.
-use Rattle.std.proofs.Common.{◌≡◌, ◌⊎◌, inl, inr, ⊎_elim, ℕ, zero, suc, ◌+◌, ◌-◌, ◌<◌, ◌≤◌, List, [], ◌∷◌, ◌++◌, length, get_or, take, drop, Bool, true, Option, Some, None, sym, ◌∙◌, ap, subst, arith}
+use Rattle.std.proofs.Common.{◌≡◌, ◌⊎◌, inl, inr, ⊎_elim, ℕ, zero, suc, ◌<◌, List, [], ◌∷◌, length, get_or, true, Option, Some, None, sym, ◌∙◌, ap, subst, arith}
 use Rattle.std.specs.Prelude.{All}
 use Rattle.std.specs.FinMap.{get}
 use Rattle.std.proofs.lemmas.Bool.{cases_order}
-use Rattle.std.proofs.lemmas.List.{take_more, take-append-drop, flat_map_more}
-use Rattle.std.proofs.lemmas.Grind.{flat_map-append}
-use Rattle.std.proofs.lemmas.List.Elements.{All-nil, All-cons, All-head, All-tail, All-append}
+use Rattle.std.proofs.lemmas.List.Elements.{All-nil, All-head, All-tail, All-append}
 use Rattle.vault_volume.specs.Extents.{IsExtentOf, IsInAny, AreApart, IsFreeOf}
 use Rattle.extent_map.specs.declared.extent.Extent.{Extent}
 use Rattle.custody_records.specs.declared.parts.Part.{Part}
@@ -16,8 +14,8 @@ use Rattle.custody_records.specs.Tables.{is_rising, table_map}
 use Rattle.custody_records.specs.Typed.{part_place, part_value}
 use Rattle.custody_machine.specs.Stored.{ForExtents, AreNaming, IsNamed, AreExtents, AreInRange, AreOnce}
 use Rattle.custody_machine.specs.Custody.{IsPlaceable}
-use Rattle.custody_rules.specs.Blocks.{IsInRange, held, extents_of, all_extents, AreNew, Marks}
-use Rattle.custody_rules.proofs.Apart.{in_left, in_right, in_either, apart_left, apart_right, apart_between, apart_append, new_left, new_append, new_rest, marks_append}
+use Rattle.custody_rules.specs.Blocks.{IsInRange, held, extents_of, all_extents}
+use Rattle.custody_rules.proofs.Apart.{in_left, in_right, in_either, apart_left, apart_right, apart_between, apart_append}
 use Rattle.custody_rules.proofs.Tables.{IsRowOf, row_in_table, table_has_row, keys_differ}
 
 -- ---- the extents that are held, and those that may not be
@@ -81,39 +79,6 @@ pub each_extent : (blocks : ℕ) (rows : List Part) → All (IsInRange blocks) r
 each_extent blocks [] each = All-nil (IsExtentOf blocks)
 each_extent blocks (row ∷ rows) each = All-append (IsExtentOf blocks) (extents_of row) (all_extents rows) (within_held blocks row.len (part_value row).extents (All-head (IsInRange blocks) row rows each))
     (each_extent blocks rows (All-tail (IsInRange blocks) row rows each))
-
--- ---- a row more
-
-pub all_more : (rows : List Part) (i : ℕ) (d : Part) → i < length rows → all_extents (take (i + 1) rows) ≡ all_extents (take i rows) ++ extents_of (get_or rows i d)
-all_more rows i d within = ap all_extents (take_more rows i d within) ∙ sym (flat_map_more extents_of [] (take i rows) (get_or rows i d))
-
-new_take_rows : (marks : List Bool) (i : ℕ) (rows : List Part) → AreNew marks (all_extents rows) → AreNew marks (all_extents (take i rows))
-new_take_rows marks i rows all = new_left marks (all_extents (take i rows)) (all_extents (drop i rows))
-    (subst (AreNew marks) (ap all_extents (sym (take-append-drop i rows)) ∙ flat_map-append extents_of (take i rows) (drop i rows)) all)
-
-module _ (old mid : List Bool) (rows : List Part) (i : ℕ) (d : Part) (within : i < length rows) where
-  pub next_row_is_new : AreNew old (all_extents rows) → Marks old (all_extents (take i rows)) mid → AreNew mid (extents_of (get_or rows i d))
-  next_row_is_new all marked = new_rest old mid (all_extents (take i rows)) (extents_of (get_or rows i d)) (subst (AreNew old) (all_more rows i d within) (new_take_rows old (i + 1) rows all)) marked
-
-  pub new_more_rows : AreNew old (all_extents (take i rows)) → Marks old (all_extents (take i rows)) mid → AreNew mid (extents_of (get_or rows i d)) → AreNew old (all_extents (take (i + 1) rows))
-  new_more_rows first marked second = subst (AreNew old) (sym (all_more rows i d within)) (new_append old mid (all_extents (take i rows)) (extents_of (get_or rows i d)) first marked second)
-
-  pub marks_more_rows : (new : List Bool) → Marks old (all_extents (take i rows)) mid → Marks mid (extents_of (get_or rows i d)) new → Marks old (all_extents (take (i + 1) rows)) new
-  marks_more_rows new first second = subst (λ (xs : List Extent). Marks old xs new) (sym (all_more rows i d within)) (marks_append old mid (all_extents (take i rows)) (extents_of (get_or rows i d)) new first second)
-
--- what holds of the extents of all rows holds of those of one
-pub all_of_row : (P : Extent → Type 0) (rows : List Part) (i : ℕ) (d : Part) → i < length rows → All P (all_extents rows) → All P (extents_of (get_or rows i d))
-all_of_row P [] i d within each = absurd (omega arith)
-all_of_row P (row ∷ rows) zero d within each = All-left (extents_of row) (all_extents rows) each
-  where
-    All-left : (xs ys : List Extent) → All P (xs ++ ys) → All P xs
-    All-left [] ys each = All-nil P
-    All-left (x ∷ xs) ys each = All-cons P x xs (All-head P x (xs ++ ys) each) (All-left xs ys (All-tail P x (xs ++ ys) each))
-all_of_row P (row ∷ rows) (suc i) d within each = all_of_row P rows i d (omega arith) (All-right (extents_of row) (all_extents rows) each)
-  where
-    All-right : (xs ys : List Extent) → All P (xs ++ ys) → All P ys
-    All-right [] ys each = each
-    All-right (x ∷ xs) ys each = All-right xs ys (All-tail P x (xs ++ ys) each)
 
 -- ---- the rows of records
 

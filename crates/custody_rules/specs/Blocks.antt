@@ -1,7 +1,6 @@
 -- The blocks that parts name, and a map of blocks.
-use Rattle.std.specs.Prelude.{◌≡◌, ◌⊎◌, ℕ, List, [], Option, None, Some, Bool, true, false, slice_index_or}
+use Rattle.std.specs.Prelude.{◌≡◌, ℕ, List, [], Option, None, Some}
 use Rattle.std.specs.List.{flat_map}
-use Rattle.vault_volume.specs.Extents.{IsInAny, AreApart}
 use Rattle.extent_map.specs.declared.extent.Extent.{Extent}
 use Rattle.custody_records.specs.declared.parts.Part.{Part}
 use Rattle.custody_records.specs.Typed.{part_value}
@@ -27,20 +26,6 @@ extents_of part = held (part_value part).extents
 -- the extents of all the parts, one after the other
 abbrev pub all_extents : List Part → List Extent
 all_extents parts = flat_map extents_of parts
-
--- ---- a map of blocks: one mark for each
-
-abbrev pub IsMarked : List Bool → ℕ → Type 0
-IsMarked marks b = slice_index_or marks b false ≡ true
-
--- no block of the extents is marked, or in two of them
-pub record AreNew (marks : List Bool) (extents : List Extent) : Type 0 where
-  pub apart : AreApart extents
-  pub unmarked : (b : ℕ) → IsInAny extents b → ¬ IsMarked marks b
-
--- the blocks of the extents are marked, and those that were
-abbrev pub Marks : List Bool → List Extent → List Bool → Type 0
-Marks old extents new = (b : ℕ) → (IsMarked new b → IsMarked old b ⊎ IsInAny extents b) × (IsMarked old b ⊎ IsInAny extents b → IsMarked new b)
 
 -- ---- the map of a volume
 

@@ -7,5 +7,6 @@ mod judge;
 mod linked;
 mod whole;
 
+pub use blocks::map_of;
 pub use judge::{PartRuling, judge_part};
-pub use whole::{damage_in, map_of};
+pub use whole::damage_in;

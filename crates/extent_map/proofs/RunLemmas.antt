@@ -165,3 +165,9 @@ count_same set (suc n) a b (inr p) (inr q) = count_same set n a b p.1 q.1
 -- fewer and at least are not both so
 pub not_both : (set : ℕ → Type 0) (n count : ℕ) → HasFewer set n count → ¬ HasAtLeast set n count
 not_both set n count few many = let same = count_same set n few.0 many.0 few.1 many.1 in let lt = few.2 in let le = many.2 in omega arith
+
+-- and so has a set of the same blocks
+pub count_over : (set other : ℕ → Type 0) → ((b : ℕ) → (set b → other b) × (other b → set b)) → (n count : ℕ) → HasCount set n count → HasCount other n count
+count_over set other same zero count h = h
+count_over set other same (suc n) count (inl h) = inl ((same n).0 h.0, h.1, h.2, count_over set other same n h.1 h.3)
+count_over set other same (suc n) count (inr h) = inr ((λ is. h.0 ((same n).1 is)), count_over set other same n count h.1)

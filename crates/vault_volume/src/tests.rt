@@ -1,3 +1,6 @@
+ghost use Rattle.std.specs.Prelude.{◌≡◌, IfSome};
+ghost use Rattle.extent_map.specs.Map.{size_of};
+
 use super::*;
 use std::alloc::Global;
 use std::test::Fail;
@@ -69,7 +72,9 @@ fn keep<V: Volume>(alloc: Global, vault: &mut Vault<V>, bytes: &[u8]) -> bool {
 }
 
 // The map of a volume whose blocks are free from a place on.
-fn map_from(alloc: Global, blocks: u32, place: u32) -> Option<ExtentMap> {
+fn map_from(alloc: Global, blocks: u32, place: u32) -> Option<ExtentMap>
+    ensures { IfSome result (λ map. size_of map ≡ blocks) }
+{
     if place < 2 {
         return ExtentMap::from_used(alloc, blocks, &[]).ok();
     }
@@ -236,6 +241,36 @@ fn blocks_are_used_until_they_are_given_back(rt: HostRuntime) -> Result<(), Fail
     assert!(rt; !has_room_after(rt.alloc(), Fate::Kept)?);
     assert!(rt; has_room_after(rt.alloc(), Fate::Cancelled)?);
     assert!(rt; has_room_after(rt.alloc(), Fate::GivenBack)?);
+    Ok(())
+}
+
+// The map of eight blocks of which 2 and 5 are used.
+fn map_with_gaps(alloc: Global) -> Option<ExtentMap>
+    ensures { IfSome result (λ map. size_of map ≡ 8) }
+{
+    let second = Extent { start: 2, count: 1 };
+    let fifth = Extent { start: 5, count: 1 };
+    ExtentMap::from_used(alloc, 8, &[second, fifth]).ok()
+}
+
+#[test]
+fn a_part_lies_in_several_runs(rt: HostRuntime) -> Result<(), Fail> {
+    let mut bytes = vec![in rt.alloc(); b'a'; 4096]?;
+    bytes.resize(9000, b'b')?;
+    let volume = MemVolume::new(rt.alloc(), 8, 12, 6)?;
+    let map = map_with_gaps(rt.alloc()).ok_or("a map")?;
+    let mut vault = Vault::over(volume, map);
+    let staged = vault.stage(rt.alloc(), &bytes)?;
+    let (extents, len, _) = staged.spend();
+    let runs = [Extent { start: 1, count: 1 }, Extent { start: 3, count: 2 }];
+    assert_eq!(rt; extents.as_slice(), runs.as_slice());
+    assert_eq!(rt; len, 9000);
+    let volume = vault.into_inner();
+    assert_eq!(rt; volume.calls(), 3);
+    let mut first = volume.bytes().iter().skip(4096).take(4096);
+    assert!(rt; first.all(|byte| *byte == b'a'));
+    let mut second = volume.bytes().iter().skip(3 * 4096).take(4904);
+    assert!(rt; second.all(|byte| *byte == b'b'));
     Ok(())
 }
 

@@ -42,7 +42,7 @@ returns-in_default-insert_part g c =
     let h = c.in_ok-staged.ensures in
     let staged = c.in_ok-staged.staged in
     let placed : IsPlaced (g.V.Volume.size (volume_of old.vault)) (IsFree old.vault) (IsFree new.vault) c.args.bytes.now staged =
-    record { len = h.part.0; digest = h.part.1; each = h.each; counts = h.counts; apart = h.apart; from_free = h.were_free; taken = h.taken } in
+    record { len = h.part.0; digest = h.part.1; chosen = h.chosen; taken = h.taken } in
     commits_in_doubt g.S.Store old c.requires.order command c.args.now new (with_part (recorded old) (key_of c.args.name.now) (staged_record c.args.name.now c.args.now staged))
     (record { entry = OfPart (key_of c.args.name.now) (received_part c.args.name.now c.args.bytes.now c.args.now); is_repeat = false })
     (kept_change old new c.args.text.now c.args.bytes.now c.args.now c.args.name.now c.requires.order c.requires.ruled staged placed g.S.Store h.size h.no_failure
@@ -59,7 +59,7 @@ returns g c =
     let h = c.in_ok-staged.ensures in
     let staged = c.in_ok-staged.staged in
     let placed : IsPlaced (g.V.Volume.size (volume_of old.vault)) (IsFree old.vault) (IsFree new.vault) c.args.bytes.now staged =
-    record { len = h.part.0; digest = h.part.1; each = h.each; counts = h.counts; apart = h.apart; from_free = h.were_free; taken = h.taken } in
+    record { len = h.part.0; digest = h.part.1; chosen = h.chosen; taken = h.taken } in
     let handed = c.in-Ok-insert_part.ensures.handed in
     let same : recorded new ≡ with_part (recorded old) (key_of c.args.name.now) (staged_record c.args.name.now c.args.now staged) = c.add_part.ensures
     ∙ (λ i. with_part (c.make_room.ensures.same i) (key_of c.args.name.now) (record { kind = c.args.name.now.kind; received = c.args.now; len = handed.1 i; digest = handed.2 i; extents = Some (handed.0 i) })) in

@@ -5,7 +5,7 @@ use Rattle.extent_map.specs.declared.extent.Extent.{Extent}
 use Rattle.custody_records.specs.Held.{records_of}
 use Rattle.custody_rules.specs.Blocks.{all_extents}
 use Rattle.custody_rules.proofs.PartBlocks.{free_placeable}
-use Rattle.custody_rules.proofs.whole.map_of.Goals as goal
+use Rattle.custody_rules.proofs.blocks.map_of.Goals as goal
 
 pub returns-in-Ok : goal.returns-in-Ok
 returns-in-Ok c =
