@@ -15,7 +15,8 @@ mod tests;
 
 pub use answers::{InitError, Record, Refused, Reply};
 pub use composed::{
-    Reopened, Resumed, Session, begin_run_and_reopen, new_database, open_run_and_reopen, serve_session,
+    Reopened, Resumed, Session, begin_run_and_reopen, new_database, open_run_and_reopen,
+    serve_session,
 };
 pub use custody::Custody;
 pub use laws::{law_at_rest, law_run, law_sessions, law_shown, law_stop};
