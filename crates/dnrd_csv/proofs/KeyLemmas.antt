@@ -1,21 +1,25 @@
--- Keys as lists of texts, in their order and in a set.
-use Rattle.std.proofs.Common.{All, AllPairs, Bool, Bor, Contains, List, Ordering, ℕ, ◌≡◌, ◌≢◌, ◌≤◌, ◌<◌, ◌+◌, ◌++◌, ◌∷◌, ◌∙◌, ◌||◌, [], ap, inl, inr, arith, cond, false, get_or, length, map, refl, sym, take, true}
+-- Keys as lists of texts, and their order.
+use Rattle.std.proofs.Common.{All, AllPairs, Bool, Bor, List, Ordering, ℕ, ◌≡◌, ◌≢◌, ◌≤◌, ◌<◌, ◌+◌, ◌++◌, ◌∷◌, ◌∙◌, [], ap, inl, inr, arith, false, get_or, length, map, refl, sym, take, true}
 use Rattle.std.specs.Prelude.{◌&&◌}
 use Rattle.std.specs.Bool.{Decides}
 use Rattle.std.specs.Cmp.{IsEquivalence, IsTotalOrder}
 use Rattle.std.specs.Cmp.Lexicographic.{pointwise, slice_cmp}
-use Rattle.std.specs.Ordering.{is_eq, is_lt, nat_cmp, ordering_then}
+use Rattle.std.specs.Ordering.{is_eq, is_lt, nat_cmp, ordering_reverse, ordering_then}
 use Rattle.std.specs.declared.cmp.Ordering.TheVariants.{Less, Equal, Greater}
-use Rattle.std.specs.List.{list_any}
+use Rattle.std.specs.List.{IsDistinct}
+use Rattle.std.specs.List.Sorted.{IsPermutation, IsSorted, IsSortedBy}
 use Rattle.std.specs.Str.{bytes_eq}
 use Rattle.std.proofs.lemmas.Cmp.{lists_equiv, lists_total, nat_list_cmp_total, nat_list_eq_equiv}
-use Rattle.std.proofs.lemmas.List.{get_or_default, get_or-map, get_or-take, length-map, length-take, take-take, take_more}
+use Rattle.std.proofs.lemmas.List.{get_or_default, get_or-map, length-map, length-take, map-append, take-take, take_more}
 use Rattle.std.proofs.lemmas.Bool.Decides.{eqb_tells}
-use Rattle.std.proofs.lemmas.List.Folds.{list_any-append}
+use Rattle.std.proofs.lemmas.List.Sorted.{IsPermutation-map, ranks_by, sorted_far}
+use Rattle.std.proofs.lemmas.Map.Keys.{IsDistinct-IsPermutation, IsDistinct-from_apart}
+use Rattle.std.proofs.lemmas.Map.Made.{AllPairs-from_IsDistinct}
 use Rattle.std.proofs.lemmas.List.Quantifiers.{all_pairs_push}
 use Rattle.std.proofs.lemmas.Map.Text.{is_eq-slice_cmp}
 use Rattle.std.proofs.lemmas.Slice.Eq.{bytes_eq-Decides, slice_eq-Decides}
 use Rattle.std.proofs.Math.Seq.{take-append_seam}
+use Rattle.dnrd_csv.specs.Keys.{Ascend, key_cmp, keys_of, padded, texts_of}
 
 -- whether two keys are the same texts
 abbrev pub same_key : List (List ℕ) → List (List ℕ) → Bool
@@ -27,16 +31,9 @@ same_key-Decides one other = slice_eq-Decides bytes_eq-Decides one other (same_k
 pub same_key-laws : IsEquivalence same_key
 same_key-laws = lists_equiv nat_list_eq_equiv
 
--- the order of fields that are borrowed, and their texts
+-- the order of fields that are borrowed
 abbrev pub field_cmp : Bor (List ℕ) → Bor (List ℕ) → Ordering
 field_cmp one other = slice_cmp nat_cmp one.now other.now
-
-abbrev pub texts_of : List (Bor (List ℕ)) → List (List ℕ)
-texts_of fields = map (λ field. field.now) fields
-
--- the order of keys
-abbrev pub key_cmp : List (List ℕ) → List (List ℕ) → Ordering
-key_cmp = slice_cmp (slice_cmp nat_cmp)
 
 pub key_order : IsTotalOrder key_cmp
 key_order = lists_total nat_list_cmp_total
@@ -62,19 +59,9 @@ same_texts (x ∷ xs) (y ∷ ys) = is_eq-then (slice_cmp nat_cmp x y) (key_cmp x
     ∙ ap (λ (b : Bool). b && is_eq (key_cmp xs ys)) (is_eq-slice_cmp x y)
     ∙ ap (λ (b : Bool). bytes_eq x y && b) (same_texts xs ys)
 
-pub same_fields : (xs ys : List (Bor (List ℕ))) → is_eq (slice_cmp field_cmp xs ys) ≡ same_key (texts_of xs) (texts_of ys)
-same_fields xs ys = ap is_eq (by_texts xs ys) ∙ same_texts (texts_of xs) (texts_of ys)
-
--- a key with empty fields after it, three in all
-abbrev pub padded : List (List ℕ) → List (List ℕ)
-padded key = take 3 (key ++ [] ∷ [] ∷ [])
-
--- the keys of rows, and the same padded
+-- the keys of rows as they stand
 abbrev pub plain_keys : ℕ → List (List (List ℕ)) → List (List (List ℕ))
 plain_keys key rows = map (take key) rows
-
-abbrev pub keys_of : ℕ → List (List (List ℕ)) → List (List (List ℕ))
-keys_of key rows = map padded (plain_keys key rows)
 
 unpadded : (key : ℕ) (one : List (List ℕ)) → length one ≡ key → key ≤ 3 → take key (padded one) ≡ one
 unpadded key one len most =
@@ -124,33 +111,6 @@ padded_differ key rows most within differ i j d below inside same =
     let other = unpadded key (get_or (plain_keys key rows) j []) (plain_len key rows j within later) most in
     differ i j [] below plain_j (sym one ∙ ap (take key) (sym at_i ∙ same ∙ at_j) ∙ other)
 
--- a key that stands before is no other
-pub repeated : (keys : List (List (List ℕ))) (i : ℕ) (key : List (List ℕ)) → i < length keys → get_or keys i key ≡ key
-    → Contains (take i keys) key → AllPairs (λ one other. one ≢ other) keys → ⊥
-repeated keys i key inside is had apart =
-    let before : had.0 < i = omega (arith, length-take i keys, had.1) in
-    apart had.0 i key before inside (sym (get_or-take i keys had.0 key before) ∙ had.2 ∙ sym is)
-
-either : (same any : Bool) → cond same true any ≡ (any || (same || false))
-either true true = refl
-either true false = refl
-either false true = refl
-either false false = refl
-
--- what a set of keys has after an insert
-pub seen_more : (keys : List (List (List ℕ))) (key query : List (Bor (List ℕ))) → cond (is_eq (slice_cmp field_cmp key query)) true (list_any (same_key (texts_of query)) keys)
-    ≡ list_any (same_key (texts_of query)) (keys ++ texts_of key ∷ [])
-seen_more keys key query =
-    let asked = texts_of query in
-    let added = texts_of key in
-    ap (λ (b : Bool). cond b true (list_any (same_key asked) keys)) (same_fields key query ∙ same_key-laws.symm added asked)
-    ∙ either (same_key asked added) (list_any (same_key asked) keys)
-    ∙ sym (list_any-append (same_key asked) keys (added ∷ []))
-
--- each key is below those after it
-abbrev pub Ascend : List (List (List ℕ)) → Type 0
-Ascend keys = AllPairs (λ one other. key_cmp one other ≡ Less) keys
-
 below_itself : (key : List (List ℕ)) → key_cmp key key ≡ Less → ⊥
 below_itself key less = cc (less, same_texts key key, (same_key-Decides key key).1 refl)
 
@@ -182,3 +142,54 @@ pub is_less : (o : Ordering) → is_lt o ≡ true → o ≡ Less
 is_less Less e = refl
 is_less Equal e = cc e
 is_less Greater e = cc e
+
+-- one more borrowed key
+pub texts_more : (keys : List (List (Bor (List ℕ)))) (key : List (Bor (List ℕ))) → map texts_of (keys ++ key ∷ []) ≡ map texts_of keys ++ texts_of key ∷ []
+texts_more keys key = map-append texts_of keys (key ∷ [])
+
+-- of two keys that differ, the one that is not above is below
+below_if : (order back : Ordering) → back ≡ ordering_reverse order → is_lt back ≡ false → (order ≡ Equal → ⊥) → order ≡ Less
+below_if Less back turned up apart = refl
+below_if Equal back turned up apart = absurd (apart refl)
+below_if Greater back turned up apart = cc (ap is_lt turned, up)
+
+same_if : (one other : List (List ℕ)) → key_cmp one other ≡ Equal → one ≡ other
+same_if one other equal = (same_key-Decides one other).0 (sym (same_texts one other) ∙ ap is_eq equal)
+
+-- keys in order that differ ascend
+pub rises : (keys : List (List (Bor (List ℕ)))) → IsSorted (slice_cmp field_cmp) keys → AllPairs (λ one other. one ≢ other) (map texts_of keys) → Ascend (map texts_of keys)
+rises keys sorted apart i j d below inside =
+    let later : j < length keys = omega (arith, length-map keys texts_of) in
+    let first : i < length keys = omega (arith, below) in
+    let up : IsSortedBy (λ x y. is_lt (key_cmp (texts_of x) (texts_of y))) keys =
+    λ k e low high. ap is_lt (sym (by_texts (get_or keys (k + 1) e) (get_or keys k e))) ∙ sorted k e low high in
+    let one = texts_of (get_or keys i []) in
+    let other = texts_of (get_or keys j []) in
+    let at_one : get_or (map texts_of keys) i d ≡ one = get_or-map texts_of keys i [] d first in
+    let at_other : get_or (map texts_of keys) j d ≡ other = get_or-map texts_of keys j [] d later in
+    let not_above = sorted_far (λ x y. is_lt (key_cmp (texts_of x) (texts_of y))) (ranks_by key_order texts_of) keys up i j [] (omega (arith, below)) later in
+    let less = below_if (key_cmp one other) (key_cmp other one) (key_order.antisymm other one) not_above (λ equal. apart i j d below inside (at_one ∙ same_if one other equal ∙ sym at_other)) in
+    ap (λ (k : List (List ℕ)). key_cmp k (get_or (map texts_of keys) j d)) at_one ∙ ap (key_cmp one) at_other ∙ less
+
+differ : (same : Bool) → (same ≡ true → ⊥) → same ≡ false
+differ true apart = absurd (apart refl)
+differ false apart = refl
+
+-- keys that differ do so in each order
+pub permuted_differ : (keys moved : List (List (Bor (List ℕ)))) → IsPermutation keys moved → AllPairs (λ one other. one ≢ other) (map texts_of keys) → AllPairs (λ one other. one ≢ other) (map texts_of moved)
+permuted_differ keys moved there apart =
+    let texts = map texts_of keys in
+    let distinct : IsDistinct same_key texts =
+    IsDistinct-from_apart same_key texts (λ i j d below inside. differ _ (λ same. apart i j d below inside ((same_key-Decides (get_or texts i d) (get_or texts j d)).0 same))) in
+    AllPairs-from_IsDistinct same_key-Decides (map texts_of moved)
+    (IsDistinct-IsPermutation same_key same_key-laws.symm texts (map texts_of moved) (IsPermutation-map texts_of keys moved there) distinct)
+
+-- two borrowed keys compare as the texts at their places
+pub places_compare : (keys : List (List (Bor (List ℕ)))) (i j : ℕ) (d e : List (Bor (List ℕ))) (order : Ordering) → i < length keys → j < length keys
+    → order ≡ slice_cmp field_cmp (get_or keys i d) (get_or keys j e) → order ≡ key_cmp (get_or (map texts_of keys) i []) (get_or (map texts_of keys) j [])
+places_compare keys i j d e order first later compared =
+    let at_i : get_or (map texts_of keys) i [] ≡ texts_of (get_or keys i d) = get_or-map texts_of keys i d [] first in
+    let at_j : get_or (map texts_of keys) j [] ≡ texts_of (get_or keys j e) = get_or-map texts_of keys j e [] later in
+    compared ∙ by_texts (get_or keys i d) (get_or keys j e)
+    ∙ ap (λ (k : List (List ℕ)). key_cmp k (texts_of (get_or keys j e))) (sym at_i)
+    ∙ ap (key_cmp (get_or (map texts_of keys) i [])) (sym at_j)

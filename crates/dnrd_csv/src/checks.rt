@@ -2,13 +2,13 @@
 ghost use Rattle.std.specs.Prelude.{◌≡◌, ◌≤◌, ◌<◌, ◌↔◌, ◌++◌, ◌∷◌, [], true, All, IfOk, IsTrue, get_or, length, map, take};
 ghost use Rattle.std.specs.List.{AllZip};
 ghost use Rattle.dnrd_csv.specs.Form.{HasForm};
+ghost use Rattle.dnrd_csv.specs.Keys.{Ascend, keys_of, padded, texts_of};
 ghost use Rattle.dnrd_csv.specs.Reading.{HaveWidth};
 ghost use Rattle.dnrd_csv.specs.Table.{HaveColumns, HaveForms, HaveKeys};
 
 use crate::form::Form;
 use crate::rows::Rows;
 use std::alloc::{AllocError, Global};
-use std::collections::BTreeSet;
 
 // Whether each field of a row is in the form of its column.
 fn has_forms(columns: &[Form], rows: &Rows, i: usize) -> bool
@@ -43,44 +43,41 @@ fn key_of(rows: &Rows, i: usize, key: usize) -> [&[u8]; 3]
     requires some { 1 ≤ key }
     requires most { key ≤ 3 }
     requires within { key ≤ length (get_or rows.now i []) }
-    ensures { map (λ field. field.now) result ≡ take 3 (take key (get_or rows.now i []) ++ [] ∷ [] ∷ []) }
+    ensures { texts_of result ≡ padded (take key (get_or rows.now i [])) }
 {
     let second = if key >= 2 { rows.field(i, 1) } else { b"" };
     let third = if key >= 3 { rows.field(i, 2) } else { b"" };
     [rows.field(i, 0), second, third]
 }
 
-// Whether each row's key is above the one before it.
-fn keys_ascend(key: usize, rows: &Rows) -> bool
+// The keys of rows, in their order.
+fn keys_of<'r>(
+    alloc: Global,
+    key: usize,
+    rows: &'r Rows,
+) -> Result<Vec<[&'r [u8]; 3]>, AllocError>
     requires some { 1 ≤ key }
     requires most { key ≤ 3 }
     requires within { All (λ row. key ≤ length row) rows.now }
-    ensures { result ≡ true → HaveKeys key rows.now }
+    ensures { IfOk result (λ keys. map texts_of keys.items ≡ keys_of key rows.now) }
 {
-    for i in 1..rows.len() {
-        let last = key_of(rows, i - 1, key);
-        let next = key_of(rows, i, key);
-        if !last.cmp(&next).is_lt() {
+    let mut keys = Vec::with_capacity(alloc, rows.len())?;
+    for i in 0..rows.len() {
+        keys.push(key_of(rows, i, key))?;
+    }
+    Ok(keys)
+}
+
+// Whether each key is above the one before it.
+fn ascend(keys: &[[&[u8]; 3]]) -> bool
+    ensures { IsTrue result ↔ Ascend (map texts_of keys.now) }
+{
+    for i in 1..keys.len() {
+        if !keys[i - 1].cmp(&keys[i]).is_lt() {
             return false;
         }
     }
     true
-}
-
-// Whether no two rows have one key, in whatever order they stand.
-fn keys_differ(alloc: Global, key: usize, rows: &Rows) -> Result<bool, AllocError>
-    requires some { 1 ≤ key }
-    requires most { key ≤ 3 }
-    requires within { All (λ row. key ≤ length row) rows.now }
-    ensures { IfOk result (λ differ. IsTrue differ ↔ HaveKeys key rows.now) }
-{
-    let mut seen = BTreeSet::new(alloc);
-    for i in 0..rows.len() {
-        if !seen.insert(key_of(rows, i, key))? {
-            return Ok(false);
-        }
-    }
-    Ok(true)
 }
 
 /// Whether no two rows agree in their first fields, those of the key.
@@ -90,8 +87,10 @@ pub fn have_keys(alloc: Global, key: usize, rows: &Rows) -> Result<bool, AllocEr
     requires within { All (λ row. key ≤ length row) rows.now }
     ensures { IfOk result (λ have. IsTrue have ↔ HaveKeys key rows.now) }
 {
-    if keys_ascend(key, rows) {
+    let mut keys = keys_of(alloc, key, rows)?;
+    if ascend(&keys) {
         return Ok(true);
     }
-    keys_differ(alloc, key, rows)
+    keys.sort_unstable();
+    Ok(ascend(&keys))
 }
