@@ -1,6 +1,6 @@
 -- What a command does to an open custody, once for all commands: for those that do nothing, and for those that are one commit.
 use Rattle.std.proofs.Common.{◌≡◌, ◌≢◌, ℕ, List, [], true, false, refl, sym, ◌∙◌, ap, subst, Result, Ok, Err}
-use Rattle.std.specs.Prelude.{Bool, not, is_err}
+use Rattle.std.specs.Prelude.{Bool, not, is_err, IfOk}
 use Rattle.sqlite.specs.Store.{Ghosts}
 use Rattle.sqlite.specs.Held as database_of
 use Rattle.vault_volume.specs.declared.volume.Volume as volume
@@ -32,8 +32,9 @@ use Rattle.custody.specs.declared.answers.Reply.{Reply}
 use Rattle.custody.specs.declared.answers.Refused as not_accepted
 use Rattle.custody.specs.declared.answers.Refused.TheVariants as refused
 use Rattle.custody.specs.declared.holdings.Holdings.{Holdings}
-use Rattle.custody.specs.Answers.{answer_of, stays_open, uses_volume}
+use Rattle.custody.specs.Answers.{bytes_of, answer_of, stays_open, uses_volume}
 use Rattle.custody.specs.Ruled.{IsRuled}
+use Rattle.custody.specs.Shown.{IsShown, HoldsBytes}
 use Rattle.custody.specs.Holdings.{recorded, stored, image_of, failures_of, left_by, left_since, KeepsOrder, KeepsImage, KeepsRows, IsSafe, IsUnwritten, HasDone}
 use Rattle.custody.proofs.HoldingLemmas.{on_ok, stays_still, leaves_more, either_form, form_then, rows_then, safe_done, safe_undone, image_same, order_same, good_before, does_nothing, does_change, is_in_doubt}
 
@@ -62,11 +63,14 @@ module _ {V S : Type 0} {g : volume.Ghosts V} (database : Ghosts S) (old : Holdi
 
   module _ (new : Holdings V S g) (same : recorded new ≡ recorded old) (store_same : new.store ≡ old.store) (free : SameFree (IsFree old.vault) (IsFree new.vault)) (unwritten : g.tells → IsUnwritten old new) where
     pub reads_done : (answer : Result Reply not_accepted.Refused) → IsSafe old command answer new → IsRuled (recorded old) command now answer (recorded new)
+        → IfOk answer (λ reply. IsShown (recorded new) reply.record) → (g.tells → IfOk answer (λ reply. HoldsBytes (image_of new) reply.record (bytes_of command)))
         → (g.tells → Answers (state_in (recorded old) (image_of old)) command now (answer_of command answer) (state_in (recorded old) (image_of old)) × RestsOnBytes (recorded old) (image_of old) command now (answer_of command answer))
         → HasDone database old command now answer new
-    reads_done answer safe ruled told = record {
+    reads_done answer safe ruled shown holds told = record {
       safe = safe;
       ruled = ruled;
+      shown = shown;
+      holds = holds;
       written = λ tells. subst (DiffersOnlyIn (IsFree old.vault) (image_of old)) (sym (unwritten tells).0) (same_in (IsFree old.vault) (image_of old));
       unwritten = λ _ _. unwritten;
       any_moment = λ tells volume. leaves_more g.moment g.left_at (volume_of old.vault) (volume_of new.vault) _ _ volume.elsewhere (unwritten tells).1;
@@ -88,12 +92,13 @@ module _ {V S : Type 0} {g : volume.Ghosts V} (database : Ghosts S) (old : Holdi
     resting = record { vault = old.vault; store = old.store; records = r }
 
     pub rests_done : answer ≢ Err (refused.Refusal VolumeFull) → IsRuled (recorded old) command now answer (records_of r)
+        → IfOk answer (λ reply. IsShown (records_of r) reply.record) → (g.tells → IfOk answer (λ reply. HoldsBytes (image_of old) reply.record (bytes_of command)))
         → (g.tells → Answers (state_in (recorded old) (image_of old)) command now (answer_of command answer) (state_in (recorded old) (image_of old)) × RestsOnBytes (recorded old) (image_of old) command now (answer_of command answer))
         → HasDone database old command now answer (record { vault = old.vault; store = old.store; records = r })
-    rests_done full ruled told =
+    rests_done full ruled shown holds told =
         reads_done resting same refl (λ b. (λ f. f, λ f. f)) (λ _. (refl, stays_still g.moment g.left_at (volume_of old.vault))) answer
         (safe_undone old resting same (λ b. (λ f. f, λ f. f)) command answer (λ e. shut (ap stays_open e)) (λ e. shut (ap stays_open e)) (λ _. refl) (λ e. absurd (full e)) (λ _. refl) refl (λ _. order_same old resting same (λ b. (λ f. f, λ f. f)) refl refl order))
-        ruled told
+        ruled shown holds told
       where
         shut : {P : Type 0} → stays_open answer ≡ false → P
         shut closed = let clash : true ≡ false = sym stays ∙ closed in cc
@@ -103,22 +108,22 @@ module _ {V S : Type 0} {g : volume.Ghosts V} (database : Ghosts S) (old : Holdi
     -- refused, and no bytes decided it
     pub refuses_done : (refusal : Refusal) → refusal ≢ VolumeFull → step (state_in (recorded old) (image_of old)) command now ≡ Refuse refusal → reads (state_in (recorded old) (image_of old)) command now ≡ []
         → IsRuled (recorded old) command now (Err (refused.Refusal refusal)) (records_of r) → HasDone database old command now (Err (refused.Refusal refusal)) (record { vault = old.vault; store = old.store; records = r })
-    refuses_done refusal other is none ruled = rests_done r same (Err (refused.Refusal refusal)) refl (refusal_not_full refusal other) ruled
+    refuses_done refusal other is none ruled = rests_done r same (Err (refused.Refusal refusal)) refl (refusal_not_full refusal other) ruled tt (λ _. tt)
         (λ _. ((subst (λ x. MayRefuse command x refusal) (sym is) refl, refl), λ key within. absurd (nothing_in _ key none within)))
 
     -- a repeat, and no bytes decided it
     pub repeats_done : (answer : Reply) (reply : machine.Reply) → answer_of command (Ok answer) ≡ Accepted reply → step (state_in (recorded old) (image_of old)) command now ≡ Accept reply (state_in (recorded old) (image_of old)) → reads (state_in (recorded old) (image_of old)) command now ≡ []
-        → IsRuled (recorded old) command now (Ok answer) (records_of r) → HasDone database old command now (Ok answer) (record { vault = old.vault; store = old.store; records = r })
-    repeats_done answer reply shown is none ruled = rests_done r same (Ok answer) refl (ok_not_full answer) ruled
+        → IsRuled (recorded old) command now (Ok answer) (records_of r) → IsShown (records_of r) answer.record → (g.tells → HoldsBytes (image_of old) answer.record (bytes_of command)) → HasDone database old command now (Ok answer) (record { vault = old.vault; store = old.store; records = r })
+    repeats_done answer reply told is none ruled shown holds = rests_done r same (Ok answer) refl (ok_not_full answer) ruled shown holds
         (λ _. (
-          subst (λ a. Answers (state_in (recorded old) (image_of old)) command now a (state_in (recorded old) (image_of old))) (sym shown) is,
-          subst (λ a. RestsOnBytes (recorded old) (image_of old) command now a) (sym shown) (λ key within. absurd (nothing_in _ key none within)),
+          subst (λ a. Answers (state_in (recorded old) (image_of old)) command now a (state_in (recorded old) (image_of old))) (sym told) is,
+          subst (λ a. RestsOnBytes (recorded old) (image_of old) command now a) (sym told) (λ key within. absurd (nothing_in _ key none within)),
         ))
 
     -- it would be accepted, and there is no memory
     pub no_memory_done : (reply : machine.Reply) (later : State) → step (state_in (recorded old) (image_of old)) command now ≡ Accept reply later
         → IsRuled (recorded old) command now (Err (refused.Fault NoMemory)) (records_of r) → HasDone database old command now (Err (refused.Fault NoMemory)) (record { vault = old.vault; store = old.store; records = r })
-    no_memory_done reply later is ruled = rests_done r same (Err (refused.Fault NoMemory)) refl (fault_not_full NoMemory) ruled
+    no_memory_done reply later is ruled = rests_done r same (Err (refused.Fault NoMemory)) refl (fault_not_full NoMemory) ruled tt (λ _. tt)
         (λ _. ((subst (λ x. MayFail x (reads (state_in (recorded old) (image_of old)) command now) NoMemory) (sym is) tt, refl), tt))
 
   -- ---- a command that is one commit
@@ -166,17 +171,19 @@ module _ {V S : Type 0} {g : volume.Ghosts V} (database : Ghosts S) (old : Holdi
 
     -- it is committed, and answered
     pub commits_done : is_err result ≡ false → recorded new ≡ changed → (answer : Reply) → answer.is_repeat ≡ false → answer_of command (Ok answer) ≡ Accepted reply → IsRuled (recorded old) command now (Ok answer) (recorded new)
-        → HasDone database old command now (Ok answer) new
-    commits_done good same answer first shown ruled = record {
+        → IsShown (recorded new) answer.record → (g.tells → HoldsBytes (image_of new) answer.record (bytes_of command)) → HasDone database old command now (Ok answer) new
+    commits_done good same answer first told ruled shown holds = record {
       safe = safe_done old new command answer first is.uncalled is.failures (subst (λ r. IsInOrder r (g.size (volume_of new.vault)) (failures_of new) (IsFree new.vault)) (sym same) is.in_order);
       ruled = ruled;
+      shown = shown;
+      holds = holds;
       written = is.written;
       unwritten = λ e. repeated answer.is_repeat first e;
       any_moment = is.any_moment;
       mode = ended;
       trust = commits.trust;
       serves = λ tells honest volume store. let done = on_ok _ result _ refl good (commits.effect honest store.ready).done in
-          does_change database old new order volume store command now changed (is.change tells volume (good_before database old new order volume store command now)) answer reply shown (is.accepted tells volume) (is.rests tells volume) same
+          does_change database old new order volume store command now changed (is.change tells volume (good_before database old new order volume store command now)) answer reply told (is.accepted tells volume) (is.rests tells volume) same
           (during tells volume) (form_then _ _ (recorded old) changed _ store (means store.in_form) done.0 done.1) (is.after tells volume);
       image = λ _ tells volume. record { volume = subst (λ r. IsVolumeOf r (image_of new)) (sym same) (is.volume tells volume); elsewhere = is.after tells volume };
       rows = λ _ honest store. let done = on_ok _ result _ refl good (commits.effect honest store.ready).done in rows_then _ _ (recorded old) changed _ store (means store.in_form) done.0 done.1 _ same;
@@ -191,6 +198,8 @@ module _ {V S : Type 0} {g : volume.Ghosts V} (database : Ghosts S) (old : Holdi
     commits_in_doubt ruled = record {
       safe = record { answers = λ e. cc; failed = λ e. cc; not_failed = λ _. is.failures; full = λ e. cc; uncalled = is.uncalled; unchanged = λ e. cc; order = λ e. cc };
       ruled = ruled;
+      shown = tt;
+      holds = λ _. tt;
       written = is.written;
       unwritten = λ e. cc;
       any_moment = is.any_moment;

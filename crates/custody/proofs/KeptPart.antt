@@ -1,27 +1,36 @@
 -- A part that was staged, as the commit of its record finds it.
-use Rattle.std.proofs.Common.{◌≡◌, ℕ, ◌-◌, ◌<◌, ◌≤◌, ◌^◌, List, [], length, false, refl, sym, subst}
+use Rattle.std.proofs.Common.{◌≡◌, ℕ, ◌-◌, ◌<◌, ◌≤◌, ◌^◌, List, [], length, Some, false, refl, sym, ◌∙◌, ap, subst, Ok}
+use Rattle.std.specs.FinMap.{get}
 use Rattle.schedule.specs.Schedule.{IsMoment}
 use Rattle.sqlite.specs.Store.{Ghosts}
 use Rattle.deposit_name.specs.Name.{Name}
 use Rattle.vault_volume.specs.declared.volume.Volume as volume
 use Rattle.vault_volume.specs.Disk.{LeavesOnly}
+use Rattle.vault_volume.specs.Extents.{part_bytes}
 use Rattle.vault_volume.specs.Image.{DiffersOnlyIn}
 use Rattle.vault_volume.specs.Staged.{StagedPart}
 use Rattle.vault_volume.specs.Vault.{volume_of, IsFree}
 use Rattle.vault_volume.proofs.ImageLemmas.{same_in}
+use Rattle.custody_records.specs.Orders.{part_total}
 use Rattle.custody_records.specs.Records.{Records, key_of, with_part}
 use Rattle.custody_records.specs.Rows.{Rows, with_part_row}
 use Rattle.custody_records.specs.Form.{form_of, InForm}
 use Rattle.custody_records.specs.Written.{row_of_part}
 use Rattle.custody_machine.specs.Machine as machine
-use Rattle.custody_machine.specs.Machine.{Receive, OfPart, Accept, received_part, step}
+use Rattle.custody_machine.specs.Machine.{Receive, OfPart, Accept, Accepted, received_part, step}
+use Rattle.custody_machine.proofs.Keeping.{insert_here}
 use Rattle.custody_machine.specs.Stored.{state_in}
 use Rattle.custody_machine.specs.Custody.{Decides, Goes, IsInOrder, IsPlaced, IsSettled, staged_record}
 use Rattle.custody_machine.proofs.Composed.{IsChange, nothing_in, has_size, reads_nothing, part_changes, part_ruled, part_in_order}
+use Rattle.custody.specs.declared.answers.Record.{Record}
 use Rattle.custody.specs.declared.holdings.Holdings.{Holdings}
+use Rattle.custody.specs.Answers.{answer_of}
+use Rattle.custody.specs.Ruled.{IsRuled, received_record}
+use Rattle.custody.specs.Shown.{ShowsPart, IsShown, HoldsBytes}
 use Rattle.custody.specs.Holdings.{recorded, image_of, failures_of, left_by, KeepsOrder, KeepsImage}
 use Rattle.custody.proofs.Done.{IsOneChange}
 use Rattle.custody.proofs.PartLemmas.{part_means}
+use Rattle.custody.proofs.ShownLemmas.{shown_of, holds_of, entry_of}
 
 module _ {V S : Type 0} {g : volume.Ghosts V} (old new : Holdings V S g) (text bytes : List ℕ) (now : ℕ) (n : Name) (order : KeepsOrder old) (ruled : Decides (Goes n) (recorded old) text (length bytes) now)
     (staged : StagedPart) (placed : IsPlaced (g.size (volume_of old.vault)) (IsFree old.vault) (IsFree new.vault) bytes staged) where
@@ -66,3 +75,21 @@ module _ {V S : Type 0} {g : volume.Ghosts V} (old new : Holdings V S g) (text b
     any_moment = leaves;
     after = λ tells volume. only volume (settled tells);
   }
+
+  -- ---- it is answered as it is recorded
+
+  module _ (same : recorded new ≡ records_then) (told : Record) (shows : ShowsPart told n (staged_record n now staged)) where
+    pub kept_ruled : IsRuled (recorded old) (Receive text bytes) now (Ok (record { «record» = told; is_repeat = false })) (recorded new)
+    kept_ruled = (Goes n, ruled, (staged.extents, subst (ShowsPart told n) received shows, refl, same ∙ ap (with_part (recorded old) (key_of n)) received))
+      where
+        received : staged_record n now staged ≡ received_record n now bytes staged.extents
+        received = λ i. record { kind = n.kind; received = now; len = placed.len i; digest = placed.digest i; extents = Some staged.extents }
+
+    pub kept_shown : IsShown (recorded new) told
+    kept_shown = shown_of n (staged_record n now staged) (recorded new) told shows (ap (λ (r : Records). get r.parts (key_of n)) same ∙ insert_here part_total (recorded old).parts (key_of n) (staged_record n now staged))
+
+    pub kept_holds : part_bytes (image_of new) staged.extents staged.len ≡ bytes → HoldsBytes (image_of new) told bytes
+    kept_holds is = holds_of n (staged_record n now staged) (image_of new) bytes staged.extents told shows refl is
+
+    pub kept_entry : answer_of (Receive text bytes) (Ok (record { «record» = told; is_repeat = false })) ≡ Accepted (record { entry = OfPart (key_of n) (received_part n bytes now); is_repeat = false })
+    kept_entry = ap (λ e. Accepted (record { entry = e; is_repeat = false })) (entry_of n (staged_record n now staged) bytes told shows)

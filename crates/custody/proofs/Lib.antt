@@ -12,4 +12,5 @@ pub mod Room
 pub mod RunLemmas
 pub mod RunMoves
 pub mod SessionLemmas
+pub mod ShownLemmas
 pub mod Unstaged

@@ -1,5 +1,7 @@
 -- A part that is compared with the bytes of a command.
 use Rattle.std.proofs.Common.{◌≡◌, ◌≢◌, ℕ, ◌+◌, List, length, inl, inr, true, false, refl, sym, ◌∙◌, ap, subst, arith, Result, Ok, Err}
+use Rattle.std.specs.Prelude.{IfOk}
+use Rattle.std.specs.FinMap.{get}
 use Rattle.sqlite.specs.Store.{Ghosts}
 use Rattle.vault_volume.specs.declared.errors.ReadError.{ReadError}
 use Rattle.vault_volume.specs.declared.errors.ReadError.TheVariants as read
@@ -8,9 +10,10 @@ use Rattle.vault_volume.specs.declared.volume.Volume as volume
 use Rattle.vault_volume.specs.Extents.{SameFree, part_bytes}
 use Rattle.vault_volume.specs.Vault.{volume_of, IsFree}
 use Rattle.custody_records.specs.declared.parts.Part.{Part}
+use Rattle.custody_records.specs.Records.{Records}
 use Rattle.custody_records.specs.Typed.{part_place, part_value}
 use Rattle.custody_machine.specs.State.{Held}
-use Rattle.custody_machine.specs.Machine.{Receive, OfPart, Accept, Answer, Answers, MayRefuse}
+use Rattle.custody_machine.specs.Machine.{Receive, OfPart, Accept, Answer, Accepted, Answers, MayRefuse}
 use Rattle.custody_machine.specs.Moves.{RestsOnBytes}
 use Rattle.custody_machine.specs.Stored.{ForExtents, AreExtents, content_of, state_in}
 use Rattle.custody_machine.specs.Custody.{ByBytes, Decides, Compares, Same, Other, Broken}
@@ -18,16 +21,18 @@ use Rattle.custody_machine.specs.declared.answers.Fault.TheVariants as fault
 use Rattle.custody_machine.specs.declared.answers.Refusal.TheVariants.{OtherBytes, VolumeFull}
 use Rattle.custody_machine.specs.declared.damage.Damage.TheVariants.{Digest}
 use Rattle.custody_machine.proofs.Compared.{same_rules, same_rests, other_rules, other_rests, broken_rests, broken_may_fail, no_memory_may_be, volume_failed_may_be}
-use Rattle.custody.specs.declared.answers.Record.TheVariants as of
+use Rattle.custody.specs.declared.answers.Record.{Record}
 use Rattle.custody.specs.declared.answers.Reply.{Reply}
 use Rattle.custody.specs.declared.answers.Refused as not_accepted
 use Rattle.custody.specs.declared.answers.Refused.TheVariants as refused
 use Rattle.custody.specs.declared.holdings.Holdings.{Holdings}
 use Rattle.custody.specs.Answers.{answer_of, may_call, unread}
 use Rattle.custody.specs.Ruled.{IsCompared}
+use Rattle.custody.specs.Shown.{ShowsPart, IsShown, HoldsBytes}
 use Rattle.custody.specs.Holdings.{recorded, image_of, failures_of, KeepsOrder, IsSafe, IsUnwritten, HasDone}
-use Rattle.custody.proofs.HoldingLemmas.{order_same, safe_undone}
+use Rattle.custody.proofs.HoldingLemmas.{stays_still, order_same, safe_undone}
 use Rattle.custody.proofs.NamedPart.{named}
+use Rattle.custody.proofs.ShownLemmas.{shown_of, holds_of, entry_of}
 use Rattle.custody.proofs.Done.{reads_done}
 
 module _ {V S : Type 0} {g : volume.Ghosts V} (old : Holdings V S g) (order : KeepsOrder old) (text bytes : List ℕ) (now : ℕ) (part : Part) (extents : List Extent) (d : Decides (ByBytes (part_place part) (part_value part) extents) (recorded old) text (length bytes) now) where
@@ -46,31 +51,36 @@ module _ {V S : Type 0} {g : volume.Ghosts V} (old : Holdings V S g) (order : Ke
     compared_safe answer failures closed failed full uncalled =
         safe_undone old new records_same free (Receive text bytes) answer closed (λ h. absurd (failed h)) (λ _. failures) (λ h. absurd (full h)) uncalled store_same (λ _. order_same old new records_same free size failures order)
 
-    compared_done : (answer : Result Reply not_accepted.Refused) → IsSafe old (Receive text bytes) answer new → IsCompared text (part_value part) answer → (g.tells → MayTell (answer_of (Receive text bytes) answer)) → HasDone database old (Receive text bytes) now answer new
-    compared_done answer safe compared told = reads_done database old order (Receive text bytes) now new records_same store_same free unwritten answer safe (ByBytes (part_place part) (part_value part) extents, d, compared) told
+    compared_done : (answer : Result Reply not_accepted.Refused) → IsSafe old (Receive text bytes) answer new → IsCompared text (part_value part) answer → IfOk answer (λ reply. IsShown (recorded new) reply.record) → (g.tells → IfOk answer (λ reply. HoldsBytes (image_of new) reply.record bytes)) → (g.tells → MayTell (answer_of (Receive text bytes) answer)) → HasDone database old (Receive text bytes) now answer new
+    compared_done answer safe compared shown holds told = reads_done database old order (Receive text bytes) now new records_same store_same free unwritten answer safe (ByBytes (part_place part) (part_value part) extents, d, compared) shown holds told
 
-    pub repeat_done : (reply : Reply) → reply ≡ record { «record» = of.Part part.name part.received part.len; is_repeat = true } → failures_of new ≡ failures_of old → (g.tells → Compares Same (part_bytes (image_of old) extents part.len) bytes part.digest) → HasDone database old (Receive text bytes) now (Ok reply) new
-    repeat_done reply is failures same = subst (λ r. HasDone database old (Receive text bytes) now (Ok r) new) (sym is) (compared_done (Ok (record { «record» = of.Part part.name part.received part.len; is_repeat = true }))
-        (compared_safe (Ok (record { «record» = of.Part part.name part.received part.len; is_repeat = true })) failures (λ h. cc) (λ h. cc) (λ h. cc) (λ h. cc))
-        (part.name, named (recorded old) text bytes now part extents d, refl)
-        (λ tells. (
+    pub repeat_done : (told : Record) → ShowsPart told part.name (part_value part) → failures_of new ≡ failures_of old → (g.tells → Compares Same (part_bytes (image_of old) extents part.len) bytes part.digest)
+        → HasDone database old (Receive text bytes) now (Ok (record { «record» = told; is_repeat = true })) new
+    repeat_done told shows failures same = compared_done answer (compared_safe answer failures (λ h. cc) (λ h. cc) (λ h. cc) (λ h. cc))
+        (part.name, named (recorded old) text bytes now part extents d, shows, refl)
+        (shown_of part.name (part_value part) (recorded new) told shows (ap (λ (r : Records). get r.parts (part_place part)) records_same ∙ d.3))
+        (λ tells. holds_of part.name (part_value part) (image_of new) bytes extents told shows d.4 (ap (λ i. part_bytes i extents part.len) (unwritten tells).0 ∙ same tells))
+        (λ tells. subst (λ e. MayTell (Accepted (record { entry = e; is_repeat = true }))) (sym (entry_of part.name (part_value part) bytes told shows)) (
           same_rules (recorded old) (image_of old) text bytes now (part_place part) (part_value part) extents d (same tells)
               ∙ (λ i. Accept (record { entry = OfPart (part_place part) (record { kind = part.name.kind; received = part.received; content = content (same tells) i }); is_repeat = true }) (state_in (recorded old) (image_of old))),
           same_rests (recorded old) (image_of old) text bytes now (part_place part) (part_value part) extents d (same tells) (record { entry = OfPart (part_place part) (record { kind = part.name.kind; received = part.received; content = Held bytes }); is_repeat = true }),
-        )))
+        ))
       where
+        answer : Result Reply not_accepted.Refused
+        answer = Ok (record { «record» = told; is_repeat = true })
+
         content : part_bytes (image_of old) extents part.len ≡ bytes → content_of (image_of old) part.len (part_value part).extents ≡ Held bytes
         content same = ap (content_of (image_of old) part.len) d.4 ∙ ap Held same
 
     pub other_done : failures_of new ≡ failures_of old → (g.tells → Compares Other (part_bytes (image_of old) extents part.len) bytes part.digest) → HasDone database old (Receive text bytes) now (Err (refused.Refusal OtherBytes)) new
-    other_done failures other = compared_done (Err (refused.Refusal OtherBytes)) (compared_safe (Err (refused.Refusal OtherBytes)) failures (λ h. cc) (λ h. cc) (λ h. cc) (λ h. cc)) refl
+    other_done failures other = compared_done (Err (refused.Refusal OtherBytes)) (compared_safe (Err (refused.Refusal OtherBytes)) failures (λ h. cc) (λ h. cc) (λ h. cc) (λ h. cc)) refl tt (λ _. tt)
         (λ tells. (
           (subst (λ r. MayRefuse (Receive text bytes) r OtherBytes) (sym (other_rules (recorded old) (image_of old) text bytes now (part_place part) (part_value part) extents d (other tells).0)) refl, refl),
           other_rests (recorded old) (image_of old) text bytes now (part_place part) (part_value part) extents d (other tells),
         ))
 
     pub broken_done : failures_of new ≡ failures_of old → (g.tells → Compares Broken (part_bytes (image_of old) extents part.len) bytes part.digest) → HasDone database old (Receive text bytes) now (Err (refused.Fault (fault.Damaged Digest))) new
-    broken_done failures broken = compared_done (Err (refused.Fault (fault.Damaged Digest))) (compared_safe (Err (refused.Fault (fault.Damaged Digest))) failures (λ h. cc) (λ h. cc) (λ h. cc) (λ h. cc)) (inr (inr refl))
+    broken_done failures broken = compared_done (Err (refused.Fault (fault.Damaged Digest))) (compared_safe (Err (refused.Fault (fault.Damaged Digest))) failures (λ h. cc) (λ h. cc) (λ h. cc) (λ h. cc)) (inr (inr refl)) tt (λ _. tt)
         (λ tells. (
           (broken_may_fail (recorded old) (image_of old) text bytes now (part_place part) (part_value part) extents d (broken tells), refl),
           broken_rests (recorded old) (image_of old) text bytes now (part_place part) (part_value part) extents d (broken tells),
@@ -80,9 +90,13 @@ module _ {V S : Type 0} {g : volume.Ghosts V} (old : Holdings V S g) (order : Ke
     unread_done e memory failed answer is = subst (λ a. HasDone database old (Receive text bytes) now a new) (sym is) (by e memory failed)
       where
         by : (e : ReadError) → (e ≡ read.NoMemory → volume_of new.vault ≡ volume_of old.vault) → (e ≡ read.VolumeFailed → failures_of new ≡ failures_of old + 1) → HasDone database old (Receive text bytes) now (Err (unread e)) new
-        by read.NoMemory memory failed = compared_done (Err (refused.Fault fault.NoMemory)) (compared_safe (Err (refused.Fault fault.NoMemory)) (ap g.failures (memory refl)) (λ h. cc) (λ h. cc) (λ h. cc) (λ _. memory refl)) (inl refl)
+        by read.NoMemory memory failed = compared_done (Err (refused.Fault fault.NoMemory)) (compared_safe (Err (refused.Fault fault.NoMemory)) (ap g.failures (memory refl)) (λ h. cc) (λ h. cc) (λ h. cc) (λ _. memory refl)) (inl refl) tt (λ _. tt)
             (λ _. ((no_memory_may_be (recorded old) (image_of old) text bytes now (part_place part) (part_value part) extents d, refl), tt))
         by read.VolumeFailed memory failed = let one = failed refl in
             compared_done (Err (refused.Fault fault.VolumeFailed))
             (safe_undone old new records_same free (Receive text bytes) (Err (refused.Fault fault.VolumeFailed)) (λ h. cc) (λ h. omega (arith, one)) (λ other. absurd (other refl)) (λ h. cc) (λ h. cc) store_same (λ h. cc))
-            (inr (inl refl)) (λ _. ((volume_failed_may_be (recorded old) (image_of old) text bytes now (part_place part) (part_value part) extents d, refl), tt))
+            (inr (inl refl)) tt (λ _. tt) (λ _. ((volume_failed_may_be (recorded old) (image_of old) text bytes now (part_place part) (part_value part) extents d, refl), tt))
+
+  -- there is no memory for the reply
+  pub unshown_done : (database : Ghosts S) → HasDone database old (Receive text bytes) now (Err (refused.Fault fault.NoMemory)) old
+  unshown_done database = unread_done old refl refl (λ b. (λ f. f, λ f. f)) refl (λ _. (refl, stays_still g.moment g.left_at (volume_of old.vault))) database read.NoMemory (λ _. refl) (λ e. cc) (Err (refused.Fault fault.NoMemory)) refl

@@ -106,6 +106,8 @@ module _ {V S : Type 0} {g : volume.Ghosts V} (old new : Holdings V S g) (same :
   unstaged_done database failed full written leaves answer is = subst (λ a. HasDone database old (Receive text bytes) now a new) (sym is) (record {
     safe = unstaged_safe failed full (Err (unstaged e)) refl;
     ruled = (Goes n, ruled, received e);
+    shown = tt;
+    holds = λ _. tt;
     written = written;
     unwritten = λ _ stays tells. subst (λ v. (g.image v ≡ image_of old) × LeavesOnly g.moment g.left_at (volume_of old.vault) v (left_by old)) (sym (volume_same stays)) (refl, stays_still g.moment g.left_at (volume_of old.vault));
     any_moment = leaves;

@@ -33,10 +33,10 @@ abbrev pub bytes_of : Command → List ℕ
 bytes_of (Register tld first_day) = []
 bytes_of (Receive name bytes) = bytes
 
--- the record that is answered; a part has the bytes of the command, of which the answer tells the number
+-- the record that is answered, with the bytes of the command: those that the answer's extents hold
 abbrev pub record_shown : List ℕ → code.Record → machine.Record
 record_shown bytes (record_of_kind.Registry tld first_day) = OfRegistry tld first_day
-record_shown bytes (record_of_kind.Part name received len) = OfPart (key_of name) (record { kind = name.kind; received = received; content = Held bytes })
+record_shown bytes (record_of_kind.Part name received len digest extents) = OfPart (key_of name) (record { kind = name.kind; received = received; content = Held bytes })
 
 -- the answer of the machine
 abbrev pub answer_of : Command → Result Reply not_accepted.Refused → Answer

@@ -1,5 +1,5 @@
 -- What a custody holds: its records, and what its volume and its database have and may leave at a stop.
-use Rattle.std.specs.Prelude.{◌≡◌, ◌≢◌, ◌<◌, ℕ, List, true, false, Result, Err}
+use Rattle.std.specs.Prelude.{◌≡◌, ◌≢◌, ◌<◌, ℕ, List, true, false, Result, Err, IfOk}
 use Rattle.vault_volume.specs.declared.volume.Volume as volume
 use Rattle.vault_volume.specs.Disk.{LeavesOnly}
 use Rattle.vault_volume.specs.Image.{DiffersOnlyIn}
@@ -16,9 +16,10 @@ use Rattle.custody.specs.declared.answers.Reply.{Reply}
 use Rattle.custody.specs.declared.answers.Refused.{Refused}
 use Rattle.custody.specs.declared.answers.Refused.TheVariants as refused
 use Rattle.custody.specs.declared.holdings.Holdings.{Holdings}
-use Rattle.custody.specs.Answers.{answer_of, stays_open, may_change, may_call}
+use Rattle.custody.specs.Answers.{bytes_of, answer_of, stays_open, may_change, may_call}
 use Rattle.custody.specs.Order.{IsInOrder-prop}
 use Rattle.custody.specs.Ruled.{IsRuled}
+use Rattle.custody.specs.Shown.{IsShown, HoldsBytes}
 
 module _ {V S : Type 0} {g : volume.Ghosts V} where
   abbrev pub recorded : Holdings V S g → Records
@@ -95,6 +96,10 @@ module _ {V S : Type 0} {g : volume.Ghosts V} where
     pub safe : IsSafe old command answer new
     -- what the records decide is answered
     pub ruled : IsRuled (recorded old) command now answer (recorded new)
+    -- a record is answered that is one of the records then
+    pub shown : IfOk answer (λ reply. IsShown (recorded new) reply.record)
+    -- and a part lies there, with the bytes of the command
+    pub holds : g.tells → IfOk answer (λ reply. HoldsBytes (image_of new) reply.record (bytes_of command))
     -- only free blocks are written
     pub written : g.tells → DiffersOnlyIn (IsFree old.vault) (image_of old) (image_of new)
     -- and none at all where nothing is recorded and it stays open

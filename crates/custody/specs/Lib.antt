@@ -6,3 +6,4 @@ pub mod Opening
 pub mod Order
 pub mod Ruled
 pub mod Sessions
+pub mod Shown

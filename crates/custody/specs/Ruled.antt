@@ -14,6 +14,7 @@ use Rattle.custody_machine.specs.Custody.{PartRuling, Refuses, ByBytes, Goes, De
 use Rattle.custody.specs.declared.answers.Record.TheVariants as of
 use Rattle.custody.specs.declared.answers.Reply.{Reply}
 use Rattle.custody.specs.declared.answers.Refused.{Refused}
+use Rattle.custody.specs.Shown.{ShowsPart}
 use Rattle.custody.specs.declared.answers.Refused.TheVariants as refused
 
 -- ---- registrations
@@ -27,9 +28,9 @@ IsRegistered records tld first_day None (Err (refused.Fault fault)) later = (fau
 
 -- ---- parts
 
--- a part that is held is answered with its moment and length; or other bytes or damage are told, or memory or the volume fails
+-- a part that is held is answered as it is recorded, under the name of the command; or other bytes or damage are told, or memory or the volume fails
 abbrev pub IsCompared : List ℕ → PartRecord → Result Reply Refused → Type 0
-IsCompared text part (Ok reply) = (name : Name) × (read_name text ≡ Ok name) × (reply ≡ record { «record» = of.Part name part.received part.len; is_repeat = true })
+IsCompared text part (Ok reply) = (name : Name) × (read_name text ≡ Ok name) × ShowsPart reply.record name part × (reply.is_repeat ≡ true)
 IsCompared text part (Err (refused.Refusal refusal)) = refusal ≡ OtherBytes
 IsCompared text part (Err (refused.Fault fault)) = (fault ≡ NoMemory) ⊎ ((fault ≡ VolumeFailed) ⊎ (fault ≡ Damaged Digest))
 
@@ -37,10 +38,10 @@ IsCompared text part (Err (refused.Fault fault)) = (fault ≡ NoMemory) ⊎ ((fa
 abbrev pub received_record : Name → ℕ → List ℕ → List Extent → PartRecord
 received_record name now bytes extents = record { kind = name.kind; received = now; len = length bytes; digest = sha256 bytes; extents = Some extents }
 
--- a new part is recorded and answered, with its length; or there is no room, or memory, the volume or the database fails
+-- a new part is recorded, and answered as it is recorded; or there is no room, or memory, the volume or the database fails
 abbrev pub IsReceived : Records → Name → ℕ → List ℕ → Result Reply Refused → Records → Type 0
 IsReceived records name now bytes (Ok reply) later =
-    (reply ≡ record { «record» = of.Part name now (length bytes); is_repeat = false }) × ((extents : List Extent) × (later ≡ with_part records (key_of name) (received_record name now bytes extents)))
+    (extents : List Extent) × ShowsPart reply.record name (received_record name now bytes extents) × (reply.is_repeat ≡ false) × (later ≡ with_part records (key_of name) (received_record name now bytes extents))
 IsReceived records name now bytes (Err (refused.Refusal refusal)) later = refusal ≡ VolumeFull
 IsReceived records name now bytes (Err (refused.Fault fault)) later = (fault ≡ NoMemory) ⊎ ((fault ≡ VolumeFailed) ⊎ (fault ≡ StoreFailed))
 

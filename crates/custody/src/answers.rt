@@ -1,44 +1,55 @@
 //! What a custody answers.
-ghost use Rattle.std.specs.Prelude.{◌≡◌};
-ghost use Rattle.custody.specs.declared.answers.Record.TheVariants as of;
+ghost use Rattle.std.specs.Prelude.{◌≡◌, IfOk, Some};
+ghost use Rattle.custody_records.specs.Typed.{part_value};
+ghost use Rattle.custody.specs.Shown.{ShowsPart};
 
 use custody_machine::{Fault, Refusal};
 use custody_records::Part;
 use deposit_name::{DepositName, Tld};
 use schedule::{Day, Sec};
+use std::alloc::{AllocError, Global};
 use std::fmt;
-use vault_volume::{ReadError, StageError};
+use vault_volume::{Extent, ReadError, StageError};
 
 /// The record that a command made, or found made.
-#[derive(Clone, Copy, Debug, PartialEq, Eq)]
+#[derive(Debug, PartialEq, Drop)]
 pub enum Record {
     Registry {
         tld: Tld,
         first_day: Day,
     },
-    /// A part, when it was received, and how many bytes it has.
+    /// A part that is held: when it was received, how many bytes it has, their SHA-256, and the extents
+    /// where they lie, in their order.
     Part {
         name: DepositName,
         received: Sec,
         len: u32,
+        digest: [u8; 32],
+        extents: Vec<Extent>,
     },
 }
 
 impl Record {
-    /// The record of a part that is kept.
-    pub(crate) fn of_part(part: &Part) -> Record
-        ensures { result ≡ of.Part part.now.name part.now.received part.now.len }
+    /// The record of a part that is held at the extents.
+    pub(crate) fn of_part(
+        alloc: Global,
+        part: &Part,
+        extents: &[Extent],
+    ) -> Result<Record, AllocError>
+        ensures { (part_value part.now).extents ≡ Some extents.now → IfOk result (λ told. ShowsPart told part.now.name (part_value part.now)) }
     {
-        Record::Part {
+        Ok(Record::Part {
             name: part.name,
             received: part.received,
             len: part.len,
-        }
+            digest: part.digest,
+            extents: Vec::from_slice(alloc, extents)?,
+        })
     }
 }
 
 /// A command was accepted.
-#[derive(Clone, Copy, Debug, PartialEq, Eq)]
+#[derive(Debug, PartialEq, Drop)]
 pub struct Reply {
     pub record: Record,
     /// The record was there before, and nothing has changed.

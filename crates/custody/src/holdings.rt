@@ -1,6 +1,7 @@
 //! What a custody holds, and the commands over it.
-ghost use Rattle.std.specs.Prelude.{◌≡◌, length, None};
+ghost use Rattle.std.specs.Prelude.{◌≡◌, ◌≤◌, length, None, OnOk, IfOk, vec_len, vec_capacity};
 ghost use Rattle.std.specs.FinMap.{get};
+ghost use Rattle.custody_records.specs.Held.{records_of, HasPartRoom};
 ghost use Rattle.custody_machine.specs.Machine as machine;
 ghost use Rattle.custody_machine.specs.Plain.{command_of};
 ghost use Rattle.custody_machine.specs.Custody.{Decides, Goes};
@@ -16,8 +17,11 @@ use custody_store::Store;
 use deposit_name::{DepositName, Tld};
 use schedule::{Day, Sec};
 use sqlite::Alter;
-use std::alloc::Global;
-use vault_volume::{Vault, Volume};
+use std::alloc::{AllocError, Global};
+use vault_volume::{Extent, Vault, Volume};
+
+/// The most extents of a part: a block each of 1 MiB.
+const MAX_EXTENTS: usize = 256;
 
 /// The bytes of parts in a vault, the records of them in a store, and the same records in memory.
 #[derive(Drop)]
@@ -96,7 +100,9 @@ impl<V: Volume, S: Alter> Holdings<V, S> {
         match judge_part(&self.records, name, bytes.len(), now) {
             PartRuling::Refuse(refusal) => Err(Refused::Refusal(refusal)),
             PartRuling::Compare(part, extents) => {
-                let record = Record::of_part(part);
+                let Ok(record) = Record::of_part(alloc, part, extents) else {
+                    return Err(Refused::Fault(Fault::NoMemory));
+                };
                 match compare(alloc, &mut self.vault, part, extents, bytes)? {
                     Comparison::Same => Ok(Reply {
                         record,
@@ -124,15 +130,22 @@ impl<V: Volume, S: Alter> Holdings<V, S> {
         ensures { HasDone S.Store self.old (machine.Receive text.now bytes.now) now result self.new }
     {
         show_range_of_moment(now);
-        if self.records.reserve_part().is_err() {
+        let Ok(room) = make_room(alloc, &mut self.records) else {
             return Err(Refused::Fault(Fault::NoMemory));
-        }
+        };
         let staged = self.vault.stage(alloc, bytes)?;
         let Ok(kept) = self.store.insert_part(name, now, staged) else {
             return Err(Refused::Fault(Fault::StoreFailed));
         };
         let (extents, len, digest) = kept;
         let name = *name;
+        let record = Record::Part {
+            name,
+            received: now,
+            len,
+            digest,
+            extents: copy_into(room, &extents),
+        };
         self.records.add_part(Part {
             name,
             received: now,
@@ -141,12 +154,31 @@ impl<V: Volume, S: Alter> Holdings<V, S> {
             extents: Some(extents),
         });
         Ok(Reply {
-            record: Record::Part {
-                name,
-                received: now,
-                len,
-            },
+            record,
             is_repeat: false,
         })
     }
+}
+
+/// Takes the memory for one more part, and for its extents in a reply.
+fn make_room(alloc: Global, records: &mut Records) -> Result<Vec<Extent>, AllocError>
+    ensures same { records_of records.new ≡ records_of records.old }
+    ensures part { OnOk result (HasPartRoom records.new) }
+    ensures empty { IfOk result (λ room. vec_len room ≡ 0) }
+    ensures extents { IfOk result (λ room. vec_capacity room ≡ 256) }
+{
+    let room = Vec::with_capacity(alloc, MAX_EXTENTS)?;
+    records.reserve_part()?;
+    Ok(room)
+}
+
+/// The extents, in room that was taken for them.
+fn copy_into(room: Vec<Extent>, extents: &[Extent]) -> Vec<Extent>
+    requires empty { vec_len room ≡ 0 }
+    requires fits { length extents.now ≤ vec_capacity room }
+    ensures { result.items ≡ extents.now }
+{
+    let mut room = room;
+    let _ = room.extend_from_slice(extents);
+    room
 }

@@ -1,11 +1,14 @@
 -- How many blocks are in a set, and how many are left once extents are taken from it.
-use Rattle.std.proofs.Common.{◌≡◌, ◌⊎◌, inl, inr, ⊎_elim, ℕ, zero, suc, ◌+◌, ◌-◌, ◌<◌, ◌≤◌, min, List, [], ◌∷◌, refl, subst, arith}
+use Rattle.std.proofs.Common.{◌≡◌, ◌⊎◌, inl, inr, ⊎_elim, ℕ, zero, suc, ◌+◌, ◌-◌, ◌<◌, ◌≤◌, min, List, [], ◌∷◌, refl, sym, subst, arith}
 use Rattle.std.specs.Prelude.{All}
 use Rattle.std.proofs.lemmas.Bool.{cases_lt}
 use Rattle.std.proofs.lemmas.List.Elements.{All-head, All-tail}
 use Rattle.std.proofs.lemmas.List.Sums.{sum_by-append}
 use Rattle.extent_map.specs.Extents.{AllIn, AreApart, blocks_of, HasAtLeast, HasCount, IsExtentOf, IsIn, IsInAny}
 use Rattle.extent_map.specs.declared.extent.Extent.{Extent}
+use Rattle.extent_map.specs.Map.{IsFree, size_of}
+use Rattle.extent_map.specs.declared.map.ExtentMap.{ExtentMap}
+use Rattle.extent_map.proofs.BitLemmas.{has_count}
 use Rattle.extent_map.proofs.RunLemmas.{count_over}
 
 -- the blocks of a set that are not in an extent
@@ -79,14 +82,21 @@ count_below size (suc n) le = ⊎_elim
     (λ (some : 1 ≤ n). inl ((some, omega (arith, le)), n - 1, omega (arith, some), count_below size n (omega (arith, le))))
     (cases_lt n 1)
 
+pub lie_above0 : (size : ℕ) (es : List Extent) → All (IsExtentOf size) es → AllIn (Above0 size) es
+lie_above0 size [] within b none = absurd none
+lie_above0 size (e ∷ es) within b (inl here) = let first = All-head (IsExtentOf size) e es within in let low = first.0 in let high = first.2 in let from = here.0 in let to = here.1 in (omega arith, omega arith)
+lie_above0 size (e ∷ es) within b (inr there) = lie_above0 size es (All-tail (IsExtentOf size) e es within) b there
+
 -- how many blocks of a volume are in none of the extents
 pub count_free : (size : ℕ) (es : List Extent) → All (IsExtentOf size) es → AreApart es → HasCount (Beside (Above0 size) es) size (size - 1 - blocks_of es)
 count_free size es within apart =
-    let rest = count_beside es (Above0 size) size (size - 1) within (lies es within) apart (count_below size size (omega arith)) in
+    let rest = count_beside es (Above0 size) size (size - 1) within (lie_above0 size es within) apart (count_below size size (omega arith)) in
     let sum = rest.2 in
     subst (HasCount (Beside (Above0 size) es) size) (let e : rest.0 ≡ size - 1 - blocks_of es = omega (arith, sum) in e) rest.1
-  where
-    lies : (es : List Extent) → All (IsExtentOf size) es → AllIn (Above0 size) es
-    lies [] within b none = absurd none
-    lies (e ∷ es) within b (inl here) = let first = All-head (IsExtentOf size) e es within in let low = first.0 in let high = first.2 in let from = here.0 in let to = here.1 in (omega arith, omega arith)
-    lies (e ∷ es) within b (inr there) = lies es (All-tail (IsExtentOf size) e es within) b there
+
+-- ---- a map
+
+-- how many blocks are free in a map
+pub counted : (map : ExtentMap) → HasCount (IsFree map) (size_of map) map.free
+unfolding IsFree
+counted map = subst (HasCount (IsFree map) map.blocks) (sym map.counted) (has_count map.words.items map.blocks)

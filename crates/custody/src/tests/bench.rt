@@ -1,7 +1,7 @@
 //! What the tests share: commands, the answers that are wanted, and what is kept.
 use super::{TestCustody, new_custody};
 use crate::{Custody, Record, Refused, Reply};
-use custody_machine::{Command, Fault, Refusal};
+use custody_machine::{Command, Fault, PlainAnswer, Refusal};
 use custody_records::Registry;
 use deposit_name::{DepositName, Tld};
 use schedule::{read_day, read_moment};
@@ -21,7 +21,34 @@ pub const AT_ELEVEN: &[u8] = b"2026-08-02T11:00:00Z";
 /// SHA-256 of `hello`, as another program gives it.
 pub const HELLO_SHA: &[u8] = b"2cf24dba5fb0a30e26e83b2ac5b9e29e1b161e5c1fa7425e73043362938b9824";
 
-pub type Answer = Result<Reply, Refused>;
+/// An answer as the plain program gives it: of a part without its digest and extents.
+pub type Answer = Result<PlainAnswer, Refused>;
+
+pub fn told(answer: &Result<Reply, Refused>) -> Answer {
+    let reply = match answer {
+        Ok(reply) => reply,
+        Err(refused) => return Err(*refused),
+    };
+    let is_repeat = reply.is_repeat;
+    match &reply.record {
+        Record::Registry { tld, first_day } => Ok(PlainAnswer::Registered {
+            tld: *tld,
+            first_day: *first_day,
+            is_repeat,
+        }),
+        Record::Part {
+            name,
+            received,
+            len,
+            ..
+        } => Ok(PlainAnswer::Received {
+            name: *name,
+            received: *received,
+            len: *len as usize,
+            is_repeat,
+        }),
+    }
+}
 
 /// The registry `example`, whose deposits begin on 2026-08-02.
 pub fn registry() -> Result<Registry, Fail> {
@@ -37,7 +64,7 @@ pub fn ask<V: Volume, S: Alter>(
     moment: &[u8],
 ) -> Result<Answer, Fail> {
     let now = read_moment(moment).ok_or("a moment")?;
-    Ok(custody.apply(alloc, command, now))
+    Ok(told(&custody.apply(alloc, command, now)))
 }
 
 pub fn put<V: Volume, S: Alter>(
@@ -98,7 +125,7 @@ pub fn is_answered<V: Volume, S: Alter>(
     moment: &[u8],
     wanted: Wanted,
 ) -> Result<bool, Fail> {
-    let len = bytes.len().min(1_048_577) as u32;
+    let len = bytes.len();
     let wanted = match wanted {
         Wanted::New => received(name, moment, len, false)?,
         Wanted::Repeat => received(name, AT_TEN, len, true)?,
@@ -119,13 +146,13 @@ pub fn with_hello(alloc: Global) -> Result<TestCustody, Fail> {
 }
 
 /// The answer to a part that is kept since a moment.
-pub fn received(name: &[u8], moment: &[u8], len: u32, is_repeat: bool) -> Result<Answer, Fail> {
-    let record = Record::Part {
+pub fn received(name: &[u8], moment: &[u8], len: usize, is_repeat: bool) -> Result<Answer, Fail> {
+    Ok(Ok(PlainAnswer::Received {
         name: DepositName::parse(name).ok().ok_or("a name")?,
         received: read_moment(moment).ok_or("a moment")?,
         len,
-    };
-    Ok(Ok(Reply { record, is_repeat }))
+        is_repeat,
+    }))
 }
 
 pub fn refused(refusal: Refusal) -> Answer {

@@ -1,11 +1,10 @@
 //! Parts that are sent once, again, and otherwise.
 use super::bench::{
     AT_ELEVEN, AT_TEN, Answer, NAME, SECOND, Wanted, ask, is_answered, keeps_hello, received,
-    refused, register, registered, registry, with_hello,
+    refused, register, registered, registry, told, with_hello,
 };
 use super::{TestCustody, new_custody};
-use crate::{Record, Reply};
-use custody_machine::{Command, Refusal};
+use custody_machine::{Command, PlainAnswer, Refusal};
 use custody_records::Registry;
 use deposit_name::NameError;
 use schedule::{read_day, read_moment};
@@ -132,12 +131,17 @@ fn refuses_by_the_first_reason(rt: HostRuntime) -> Result<(), Fail> {
 /// Whether a registry is recorded with its first day, and answered by it when it comes with a later one.
 fn keeps_first_day(alloc: Global, custody: &mut TestCustody) -> Result<bool, Fail> {
     let Registry { tld, first_day } = registry()?;
-    let record = Record::Registry { tld, first_day };
     let first = register(alloc, custody, AT_TEN)?;
     let later = read_day(b"2026-08-09").ok_or("a day")?;
     let again = ask(alloc, custody, &Command::Register(tld, later), AT_ELEVEN)?;
-    let replies = [false, true].map(|is_repeat| Ok(Reply { record, is_repeat }));
-    Ok([first, again].as_slice() == replies.as_slice())
+    let wanted = [false, true].map(|is_repeat| {
+        Ok(PlainAnswer::Registered {
+            tld,
+            first_day,
+            is_repeat,
+        })
+    });
+    Ok([first, again].as_slice() == wanted.as_slice())
 }
 
 #[test]
@@ -170,7 +174,11 @@ fn send_thrice(alloc: Global, custody: &mut TestCustody) -> Result<Vec<Answer>, 
         (Command::Receive(NAME, b"hello"), eleven),
         (Command::Receive(NAME, b"hellp"), eleven),
     ];
-    Ok(custody.run(alloc, &commands)?)
+    let mut answers = Vec::new(alloc);
+    for answer in &custody.run(alloc, &commands)? {
+        answers.push(told(answer))?;
+    }
+    Ok(answers)
 }
 
 fn runs_in_order(alloc: Global, custody: &mut TestCustody) -> Result<bool, Fail> {

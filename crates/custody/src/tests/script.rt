@@ -1,6 +1,6 @@
 //! What is sent, to a custody and to the plain program of the machine alike.
 use super::bench::{AT_ELEVEN, AT_TEN, Answer, NAME, SECOND, put, register, registry};
-use crate::{Custody, Record, Refused, Reply};
+use crate::{Custody, Refused};
 use custody_machine::{Command, PlainAnswer, PlainContent, PlainPart, PlainState, step_plain};
 use custody_records::{PartKey, Records, Registry};
 use schedule::read_moment;
@@ -87,28 +87,8 @@ pub fn ask_plain(alloc: Global, plain: &mut PlainState, step: Step) -> Result<An
 
 fn answer_of(plain: PlainAnswer) -> Answer {
     match plain {
-        PlainAnswer::Registered {
-            tld,
-            first_day,
-            is_repeat,
-        } => Ok(Reply {
-            record: Record::Registry { tld, first_day },
-            is_repeat,
-        }),
-        PlainAnswer::Received {
-            name,
-            received,
-            len,
-            is_repeat,
-        } => Ok(Reply {
-            record: Record::Part {
-                name,
-                received,
-                len: len.min(1_048_577) as u32,
-            },
-            is_repeat,
-        }),
         PlainAnswer::Refused(refusal) => Err(Refused::Refusal(refusal)),
+        accepted => Ok(accepted),
     }
 }
 

@@ -1,5 +1,8 @@
 use Rattle.std.proofs.Common.{refl, sym, ◌∙◌, ap, subst, Ok, Err, inl, inr, false}
+use Rattle.std.specs.FinMap.{get}
 use Rattle.custody_records.specs.Held.{records_of}
+use Rattle.custody_records.specs.Orders.{text_total}
+use Rattle.custody_machine.proofs.Keeping.{insert_here}
 use Rattle.custody_records.specs.Records.{with_registry}
 use Rattle.custody_machine.specs.Machine.{Register, OfRegistry}
 use Rattle.custody_machine.specs.declared.answers.Fault.TheVariants.{NoMemory, StoreFailed}
@@ -42,4 +45,4 @@ returns g c =
     c.insert_registry.result _ c.insert_registry.ensures.commits
     (λ is. registry_means (stored g.S.Store old).rows (recorded old) c.args.tld c.args.first_day is c.show_form_of_registry.ensures.tld c.show_form_of_registry.ensures.first_day c.requires.new)
     (sym c.is_err-2.ensures.value ∙ c.if-is_err-2.false) same answer refl refl
-    (subst (λ o. IsRegistered (recorded old) c.args.tld c.args.first_day o (Ok answer) (records_of c.add_registry.new.self)) (sym c.requires.new) (refl, same))
+    (subst (λ o. IsRegistered (recorded old) c.args.tld c.args.first_day o (Ok answer) (records_of c.add_registry.new.self)) (sym c.requires.new) (refl, same)) (ap (λ r. get r.registries c.args.tld) same ∙ insert_here text_total (recorded old).registries c.args.tld c.args.first_day) (λ _. tt)

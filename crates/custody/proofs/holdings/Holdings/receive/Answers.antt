@@ -1,4 +1,4 @@
-use Rattle.std.proofs.Common.{true, refl, ap, subst, Err, rules}
+use Rattle.std.proofs.Common.{refl, ap, subst, Err, rules}
 use Rattle.vault_volume.specs.Extents.{part_bytes}
 use Rattle.custody_machine.specs.Machine.{Receive}
 use Rattle.custody_machine.specs.Custody.{Compares}
@@ -8,7 +8,7 @@ use Rattle.custody.specs.Compared.{comparison_of}
 use Rattle.custody.specs.Holdings.{recorded, image_of}
 use Rattle.custody.proofs.HoldingLemmas.{err_is}
 use Rattle.custody.proofs.Done.{refuses_done}
-use Rattle.custody.proofs.Repeats.{held_in_range, repeat_done, other_done, broken_done, unread_done}
+use Rattle.custody.proofs.Repeats.{held_in_range, repeat_done, other_done, broken_done, unread_done, unshown_done}
 use Rattle.custody.proofs.holdings.Holdings.receive.Goals as goal
 
 pub compare-requires-clause-held : goal.compare-requires-clause-held
@@ -20,6 +20,9 @@ returns-in_err-compare-in-Compare g c =
     let h = c.in_err-compare-in-Compare.ensures in
     unread_done old c.requires.order c.args.name.now c.args.bytes.now c.args.now c.in-Compare.part.now c.in-Compare.extents.now c.in-Compare.ensures (record { vault = c.compare.new.vault; store = old.store; records = old.records })
     refl refl h.free h.size (λ tells. (h.image tells, h.any_moment tells)) g.S.Store c.in_err-compare-in-Compare.field-0.0 (λ is. h.no_memory (ap Err is)) (λ is. h.failed (ap Err is)) c.from_residual.result (err_is _ _ c.from_residual.ensures.1)
+
+pub returns-in_default : goal.returns-in_default
+returns-in_default g c = unshown_done c.args.self.now c.requires.order c.args.name.now c.args.bytes.now c.args.now c.in-Compare.part.now c.in-Compare.extents.now c.in-Compare.ensures g.S.Store
 
 pub returns-in-Refuse : goal.returns-in-Refuse
 returns-in-Refuse g c =
@@ -33,8 +36,9 @@ pub returns-in-Same : goal.returns-in-Same
 returns-in-Same g c =
     let old = c.args.self.now in
     let h = c.in_ok-compare-in-Compare.ensures in
+    let shows = c.in-Ok.ensures c.in-Compare.ensures.4 in
     repeat_done old c.requires.order c.args.name.now c.args.bytes.now c.args.now c.in-Compare.part.now c.in-Compare.extents.now c.in-Compare.ensures (record { vault = c.compare.new.vault; store = old.store; records = old.records })
-    refl refl h.free h.size (λ tells. (h.image tells, h.any_moment tells)) g.S.Store _ (ap (λ r. record { «record» = r; is_repeat = true }) c.of_part-record.ensures) h.no_failure
+    refl refl h.free h.size (λ tells. (h.image tells, h.any_moment tells)) g.S.Store c.in-Ok.record shows h.no_failure
     (λ tells. subst (λ k. Compares (comparison_of k) (part_bytes (image_of old) c.in-Compare.extents.now c.in-Compare.part.now.len) c.args.bytes.now c.in-Compare.part.now.digest) c.in-Same.is (h.compared tells))
 
 pub returns-in-Other : goal.returns-in-Other

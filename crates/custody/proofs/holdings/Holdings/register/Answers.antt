@@ -15,4 +15,4 @@ returns-in-Some g c =
     let answer : Reply = record { «record» = of.Registry c.args.tld c.in-Some.kept; is_repeat = true } in
     repeats_done g.S.Store old c.requires.order (Register c.args.tld c.args.first_day) c.args.now old.records refl answer (record { entry = OfRegistry c.args.tld c.in-Some.kept; is_repeat = true }) refl
     (register_repeats (state_in (recorded old) (image_of old)) c.args.tld c.args.first_day c.args.now c.in-Some.kept (sym c.in-Some.ensures)) refl
-    (subst (λ o. IsRegistered (recorded old) c.args.tld c.args.first_day o (Ok answer) (recorded old)) c.in-Some.ensures refl)
+    (subst (λ o. IsRegistered (recorded old) c.args.tld c.args.first_day o (Ok answer) (recorded old)) c.in-Some.ensures refl) (sym c.in-Some.ensures) (λ _. tt)

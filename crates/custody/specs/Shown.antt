@@ -1,0 +1,24 @@
+-- What a reply shows: a record, as the records have it and as the volume holds it.
+use Rattle.std.specs.Prelude.{◌≡◌, ℕ, List, Some}
+use Rattle.std.specs.FinMap.{get}
+use Rattle.deposit_name.specs.Name.{Name}
+use Rattle.vault_volume.specs.Extents.{part_bytes}
+use Rattle.custody_records.specs.Records.{PartRecord, Records, key_of}
+use Rattle.custody.specs.declared.answers.Record.{Record}
+use Rattle.custody.specs.declared.answers.Record.TheVariants as of
+
+-- the record of a part that is held: its name, when it was received, its length, SHA-256 and extents
+abbrev pub ShowsPart : Record → Name → PartRecord → Type 0
+ShowsPart (of.Registry tld first_day) name part = ⊥
+ShowsPart (of.Part named received len digest extents) name part = (named ≡ name) × (part ≡ record { kind = name.kind; received = received; len = len; digest = digest; extents = Some extents.items })
+
+-- one of these records
+abbrev pub IsShown : Records → Record → Type 0
+IsShown records (of.Registry tld first_day) = get records.registries tld ≡ Some first_day
+IsShown records (of.Part name received len digest extents) =
+    get records.parts (key_of name) ≡ Some (record { kind = name.kind; received = received; len = len; digest = digest; extents = Some extents.items })
+
+-- a part whose extents hold these bytes
+abbrev pub HoldsBytes : List ℕ → Record → List ℕ → Type 0
+HoldsBytes image (of.Registry tld first_day) bytes = Unit {0}
+HoldsBytes image (of.Part name received len digest extents) bytes = part_bytes image extents.items len ≡ bytes
