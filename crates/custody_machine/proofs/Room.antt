@@ -1,9 +1,17 @@
 -- Whether a part can be placed, by the blocks that are free.
-use Rattle.std.proofs.Common.{ℕ, subst}
+use Rattle.std.proofs.Common.{◌≡◌, ℕ, List, Option, Some, None, sym, ◌∙◌, ap, subst}
+use Rattle.std.specs.FinMap.{get}
+use Rattle.extent_map.specs.declared.extent.Extent.{Extent}
+use Rattle.extent_map.proofs.CountLemmas.{has_blocks, lie_above0}
 use Rattle.extent_map.proofs.RunLemmas.{count_over, not_both}
-use Rattle.vault_volume.specs.Extents.{HasAtLeast, HasFewer, block_count}
-use Rattle.custody_records.specs.Records.{Records}
+use Rattle.vault_volume.specs.Extents.{AllIn, AreApart, HasAtLeast, HasCount, HasFewer, block_count}
+use Rattle.custody_records.specs.Keys.{PartKey}
+use Rattle.custody_records.specs.Orders.{part_total}
+use Rattle.custody_records.specs.Records.{PartRecord, Records, with_part}
+use Rattle.custody_machine.specs.Stored.{ForExtents, AreExtents, AreNaming, AreWhole, IsNamed}
 use Rattle.custody_machine.specs.Custody.{IsPlaceable, HasRoom, IsInOrder}
+use Rattle.custody_machine.proofs.Keeping.{insert_here}
+use Rattle.custody_machine.proofs.Stored.{part_still}
 
 module _ (records : Records) (size failures : ℕ) (free : ℕ → Type 0) (order : IsInOrder records size failures free) (len : ℕ) where
   pub no_room : HasFewer free size (block_count len) → ¬ HasRoom records len
