@@ -7,10 +7,10 @@ use Rattle.custody.proofs.custody.Custody.apply.Goals as goal
 pub returns : goal.returns
 returns g c =
     let old = c.args.self.now in
-    let open = c.if-not-self.false in
+    let serving = c.if-not-self.false in
     record {
-      closed = λ shut. let clash : true ≡ false = sym open ∙ shut in cc;
+      closed = λ shut. let clash : true ≡ false = sym serving ∙ shut in cc;
       done = λ _. c.serve-answer.ensures;
       opened = λ _. c.stays_open-self.ensures;
-      room = λ _. had_room g.S.Store (held_by old) c.serve-answer.new.self (old.order open) (command_of c.args.command.now) c.args.now c.serve-answer.result c.serve-answer.ensures;
+      room = λ _. had_room g.S.Store (held_by old) c.serve-answer.new.self (old.order serving) (command_of c.args.command.now) c.args.now c.serve-answer.result c.serve-answer.ensures;
     }
