@@ -25,7 +25,7 @@ EndsIn text before after = (first : List ℕ) × Prints before after (first ++ t
 
 abbrev pub line_of : Record → Line
 line_of (record_of.Registry tld first_day) = line.Registered tld first_day
-line_of (record_of.Part name received len) = line.Received name len received
+line_of (record_of.Part name received len digest extents) = line.Received name len received
 
 -- with status 0 the line of the reply stands in the output, with status 1 that of the refusal among the errors
 abbrev pub IsTold : Result Reply Refused → ℕ → (List ℕ → Type 0) → (List ℕ → Type 0) → Type 0

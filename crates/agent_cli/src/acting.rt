@@ -87,28 +87,29 @@ fn print_answer<W: Write, E: Write>(answer: &Result<Reply, Refused>, out: &mut W
     ensures told { IsTold answer.now result (Prints (W.contents out.old) (W.contents out.new)) (Prints (E.contents err.old) (E.contents err.new)) }
 {
     match answer {
-        Ok(reply) => print_line(&line_of(reply.record), out),
+        Ok(reply) => print_line(&line_of(&reply.record), out),
         Err(Refused::Refusal(refusal)) => status_after(print(refusal, err), REFUSED),
         Err(Refused::Fault(fault)) => tell(fault, err),
     }
 }
 
-fn line_of(told: Record) -> Line
-    ensures { result ≡ line_of told }
+fn line_of(told: &Record) -> Line
+    ensures { result ≡ line_of told.now }
 {
     match told {
         Record::Registry { tld, first_day } => Line::Registered {
-            tld,
-            first: first_day,
+            tld: *tld,
+            first: *first_day,
         },
         Record::Part {
             name,
             received,
             len,
+            ..
         } => Line::Received {
-            name,
-            length: len,
-            at: received,
+            name: *name,
+            length: *len,
+            at: *received,
         },
     }
 }

@@ -1,5 +1,6 @@
 -- How the calls of volume and database make up a command over holdings.
 use Rattle.std.proofs.Common.{◌≡◌, ◌≢◌, ◌⊎◌, inl, inr, ⊎_elim, ℕ, ◌-◌, ◌<◌, ◌^◌, List, None, Bool, true, false, not, refl, sym, ◌∙◌, ap, subst, arith, Result, Ok, Err}
+use Rattle.std.proofs.Math.Nat.{le_refl}
 use Rattle.std.specs.Prelude.{is_err, OnOk, IsErrAnd}
 use Rattle.std.specs.FinMap.{get}
 use Rattle.schedule.specs.Schedule.{IsDay}
@@ -33,7 +34,7 @@ use Rattle.custody.specs.declared.answers.Refused.{Refused}
 use Rattle.custody.specs.declared.answers.Refused.TheVariants as refused
 use Rattle.custody.specs.declared.holdings.Holdings.{Holdings}
 use Rattle.custody.specs.Answers.{answer_of, stays_open, uses_volume, may_call}
-use Rattle.custody.specs.Holdings.{recorded, stored, image_of, failures_of, left_by, left_since, KeepsOrder, KeepsImage, KeepsRows, IsSafe, HasServed}
+use Rattle.custody.specs.Holdings.{recorded, stored, image_of, failures_of, left_by, left_since, KeepsPast, KeepsOrder, KeepsImage, KeepsRows, IsSafe, HasServed}
 
 -- ---- results
 
@@ -152,3 +153,15 @@ module _ {V S : Type 0} {g : volume.Ghosts V} (old new : Holdings V S g) (same :
   pub safe_undone : (command : Command) (answer : Result Reply Refused) → answer ≢ Err (refused.Fault Closed) → (answer ≡ Err (refused.Fault VolumeFailed) → failures_of old < failures_of new) → (answer ≢ Err (refused.Fault VolumeFailed) → failures_of new ≡ failures_of old) → (answer ≡ Err (refused.Refusal VolumeFull) → ¬ HasRoomFor (recorded old) command)
       → (may_call command answer ≡ false → volume_of new.vault ≡ volume_of old.vault) → new.store ≡ old.store → (stays_open answer ≡ true → KeepsOrder new) → IsSafe old command answer new
   safe_undone command answer closed failed not_failed full uncalled store order = record { answers = closed; failed = failed; not_failed = not_failed; full = full; uncalled = uncalled; unchanged = λ _. (same, store); order = order }
+
+-- ---- the clock
+
+module _ {V S : Type 0} {g : volume.Ghosts V} where
+  pub past_same : (h : Holdings V S g) → KeepsPast h h
+  past_same h = (le_refl (g.moment (volume_of h.vault)), λ t c before. (λ w. w, λ w. w))
+
+  pub past_join : (first mid last : Holdings V S g) → KeepsPast first mid → KeepsPast mid last → KeepsPast first last
+  past_join first mid last a b = let from = a.0 in let to = b.0 in (
+    omega arith,
+    λ t c before. let here = a.1 t c before in let there = b.1 t c (omega arith) in (λ w. here.0 (there.0 w), λ w. there.1 (here.1 w)),
+  )

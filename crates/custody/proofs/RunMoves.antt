@@ -1,6 +1,8 @@
 -- What commands in order do to an open custody, as moves of the machine.
 use Rattle.std.proofs.Common.{◌≡◌, ℕ, List, [], ◌∷◌, ◌++◌, Option, Some, None, Bool, true, false, refl, sym, ◌∙◌, ap, subst, Result}
 use Rattle.vault_volume.specs.declared.volume.Volume as volume
+use Rattle.vault_volume.specs.Disk.{LeavesOnly}
+use Rattle.vault_volume.specs.Image.{DiffersOnlyIn}
 use Rattle.vault_volume.specs.Vault.{volume_of, IsFree}
 use Rattle.sqlite.specs.Store.{Ghosts}
 use Rattle.custody_records.specs.Records.{Records}
@@ -22,10 +24,10 @@ use Rattle.custody.specs.declared.answers.Reply.{Reply}
 use Rattle.custody.specs.declared.answers.Refused as not_accepted
 use Rattle.custody.specs.declared.custody.Custody.{Custody}
 use Rattle.custody.specs.Answers.{answer_of, stays_open}
-use Rattle.custody.specs.Holdings.{recorded, stored, image_of, failures_of, left_by, left_since, KeepsOrder}
+use Rattle.custody.specs.Holdings.{recorded, stored, image_of, failures_of, left_by, left_since, KeepsPast, KeepsOrder}
 use Rattle.custody.specs.Custody.{held_by, is_open, HasApplied, HasRun}
 use Rattle.custody.specs.Sessions.{answers_of, accepted, in_doubt, IsServing, place_of, state_of, Leaves, SparesFree, HasMoved, RunsMove, StopsMove}
-use Rattle.custody.proofs.HoldingLemmas.{since_same}
+use Rattle.custody.proofs.HoldingLemmas.{since_same, past_same, past_join}
 
 -- ---- moves and states
 
@@ -172,19 +174,22 @@ module _ {V S : Type 0} {g : volume.Ghosts V} {database : Ghosts S} where
   record IsThere (c : Custody V S g database) (next : Place) : Type 0 where
     at : IsAt (is_open c) (recorded (held_by c)) (image_of (held_by c)) next
     leaves : Leaves database c (MayLeave next)
+    mode : (stored database (held_by c)).in_transaction ≡ false
     serves : is_open c ≡ true → IsServing database c
 
   module _ (tells : g.tells) where
     run_from : (old new : Custody V S g database) (entries : List Entry) (answers : List (Result Reply not_accepted.Refused)) → IsServing database old → (stored database (held_by new)).IsHonest → HasRun old entries answers new
-        → (next : Place) × Chain MovesBy (place_of database old) entries (answers_of entries answers) next × IsThere new next
+        → (next : Place) × Chain MovesBy (place_of database old) entries (answers_of entries answers) next × IsThere new next × KeepsPast (held_by old) (held_by new)
     run_from old new [] [] serving honest run = (
       place_of database old,
       refl,
       subst (λ c. IsThere c (place_of database old)) (sym run) (record {
         at = subst (λ b. IsAt b (recorded (held_by old)) (image_of (held_by old)) (place_of database old)) (sym serving.opened) (refl, refl);
         leaves = rests old serving;
+        mode = serving.rows.ready.autocommit;
         serves = λ _. serving;
       }),
+      subst (λ c. KeepsPast (held_by old) (held_by c)) (sym run) (past_same (held_by old)),
     )
     run_from old new [] (a ∷ answers) serving honest run = absurd run
     run_from old new (e ∷ entries) [] serving honest run = absurd run
@@ -202,14 +207,17 @@ module _ {V S : Type 0} {g : volume.Ghosts V} {database : Ghosts S} where
         honest_mid : (stored database (held_by mid)).IsHonest
         honest_mid = honest_then mid new entries answers then honest
 
-        by : (IsServing database mid → (next : Place) × Chain MovesBy (place_of database mid) entries (answers_of entries answers) next × IsThere new next)
-            → (b : Bool) → stays_open a ≡ b → (next : Place) × Chain MovesBy (place_of database old) (e ∷ entries) (answers_of (e ∷ entries) (a ∷ answers)) next × IsThere new next
+        moment : LeavesOnly g.moment g.left_at (volume_of (held_by old).vault) (volume_of (held_by mid).vault) (DiffersOnlyIn (IsFree (held_by old).vault) (image_of (held_by old)))
+        moment = (applied.done serving.opened).any_moment tells serving.image
+
+        by : (IsServing database mid → (next : Place) × Chain MovesBy (place_of database mid) entries (answers_of entries answers) next × IsThere new next × KeepsPast (held_by mid) (held_by new))
+            → (b : Bool) → stays_open a ≡ b → (next : Place) × Chain MovesBy (place_of database old) (e ∷ entries) (answers_of (e ∷ entries) (a ∷ answers)) next × IsThere new next × KeepsPast (held_by old) (held_by new)
         by go_on true stays =
             let s = (applied.done serving.opened).serves tells honest_mid serving.image serving.rows in
             let opened = applied.opened serving.opened ∙ stays in
             let is = is_serving (stays_open a) (recorded (held_by mid)) (image_of (held_by mid)) s.next stays s.is_at in
             let more = go_on (record { opened = opened; image = (applied.done serving.opened).image stays tells serving.image; rows = (applied.done serving.opened).rows stays honest_mid serving.rows }) in
-            (more.0, (s.next, s.moves, subst (λ p. Chain MovesBy p entries (answers_of entries answers) more.0) (sym is) more.1), more.2)
+            (more.0, (s.next, s.moves, subst (λ p. Chain MovesBy p entries (answers_of entries answers) more.0) (sym is) more.1), more.2, past_join (held_by old) (held_by mid) (held_by new) (moment.later, moment.past) more.3)
         by go_on false stays =
             let s = (applied.done serving.opened).serves tells honest_mid serving.image serving.rows in
             let opened = applied.opened serving.opened in
@@ -220,8 +228,10 @@ module _ {V S : Type 0} {g : volume.Ghosts V} {database : Ghosts S} where
               subst (λ c. IsThere c s.next) (sym closed.0) (record {
                 at = subst (λ b. IsAt b (recorded (held_by mid)) (image_of (held_by mid)) s.next) (sym opened) s.is_at;
                 leaves = s.leaves.at_exit;
+                mode = (applied.done serving.opened).mode honest_mid serving.rows;
                 serves = λ is. never (sym is ∙ (opened ∙ stays));
               }),
+              subst (λ c. KeepsPast (held_by old) (held_by c)) (sym closed.0) (moment.later, moment.past),
             )
           where
             never : {P : Type 0} → true ≡ false → P
@@ -238,6 +248,8 @@ module _ {V S : Type 0} {g : volume.Ghosts V} {database : Ghosts S} where
           is_at = there.at;
           leaves = there.leaves;
           finds = λ rows image h w. found_at moved.0 _ _ rows image still (there.leaves rows image h w);
+          past = moved.3;
+          mode = there.mode;
           serves = there.serves;
         }
 

@@ -1,5 +1,5 @@
 -- What a custody holds: its records, and what its volume and its database have and may leave at a stop.
-use Rattle.std.specs.Prelude.{◌≡◌, ◌≢◌, ◌<◌, ℕ, List, true, false, Result, Err, IfOk}
+use Rattle.std.specs.Prelude.{◌≡◌, ◌≢◌, ◌<◌, ◌≤◌, ◌↔◌, ℕ, List, true, false, Result, Err, IfOk}
 use Rattle.vault_volume.specs.declared.volume.Volume as volume
 use Rattle.vault_volume.specs.Disk.{LeavesOnly}
 use Rattle.vault_volume.specs.Image.{DiffersOnlyIn}
@@ -43,6 +43,11 @@ module _ {V S : Type 0} {g : volume.Ghosts V} where
   -- and those that a stop may leave at a moment from the old ones to the new ones
   abbrev pub left_since : Holdings V S g → Holdings V S g → List ℕ → Type 0
   left_since old new = LeftSince g.moment g.left_at (volume_of old.vault) (volume_of new.vault)
+
+  -- the clock of the volume does not go back, and what a stop could leave at each moment up to then stays
+  abbrev pub KeepsPast : Holdings V S g → Holdings V S g → Type 0
+  KeepsPast old new = (g.moment (volume_of old.vault) ≤ g.moment (volume_of new.vault))
+      × ((t : ℕ) (c : List ℕ) → t ≤ g.moment (volume_of old.vault) → g.left_at (volume_of new.vault) t c ↔ g.left_at (volume_of old.vault) t c)
 
   -- ---- what holds while a custody is open
 

@@ -1,5 +1,5 @@
 -- What an open custody leaves, and what it does from an opening to a stop, in the machine's words.
-use Rattle.std.specs.Prelude.{◌≡◌, ℕ, List, [], ◌∷◌, ◌++◌, length, Option, None, true, Result}
+use Rattle.std.specs.Prelude.{◌≡◌, ℕ, List, [], ◌∷◌, ◌++◌, length, Option, None, true, false, Result}
 use Rattle.vault_volume.specs.declared.volume.Volume as volume
 use Rattle.vault_volume.specs.Vault.{IsFree}
 use Rattle.sqlite.specs.Store.{Ghosts}
@@ -17,7 +17,7 @@ use Rattle.custody.specs.declared.answers.Reply.{Reply}
 use Rattle.custody.specs.declared.answers.Refused as not_accepted
 use Rattle.custody.specs.declared.custody.Custody.{Custody}
 use Rattle.custody.specs.Answers.{answer_of}
-use Rattle.custody.specs.Holdings.{recorded, stored, image_of, left_by, left_since, KeepsImage, KeepsRows}
+use Rattle.custody.specs.Holdings.{recorded, stored, image_of, left_by, left_since, KeepsPast, KeepsImage, KeepsRows}
 use Rattle.custody.specs.Custody.{held_by, is_open, HasApplied, HasRun}
 
 -- ---- answers
@@ -77,6 +77,10 @@ module _ {V S : Type 0} {g : volume.Ghosts V} where
     pub is_at : IsAt (is_open new) (recorded (held_by new)) (image_of (held_by new)) next
     pub leaves : Leaves database new (MayLeave next)
     pub finds : Leaves database new (λ rows image. (state : State) × Stands rows image state × IsAfter (state_of database old) entries answers state)
+    -- what a stop could leave at each moment before stays so
+    pub past : KeepsPast (held_by old) (held_by new)
+    -- no transaction is open, whether it is closed or not
+    pub mode : (stored database (held_by new)).in_transaction ≡ false
     pub serves : is_open new ≡ true → IsServing database new
 
   -- where the database was honest to the end, commands in order move an open custody
