@@ -1,5 +1,5 @@
 -- What a custody shows, and what its commands do.
-use Rattle.std.specs.Prelude.{◌≡◌, ℕ, List, [], ◌∷◌, map, Bool, true, false, Result, Err}
+use Rattle.std.specs.Prelude.{◌≡◌, ℕ, List, [], ◌∷◌, map, Bool, true, false, Result, Err, IfOk}
 use Rattle.vault_volume.specs.declared.volume.Volume as volume
 use Rattle.sqlite.specs.Store.{Ghosts}
 use Rattle.custody_machine.specs.declared.command.Command as asked
@@ -12,7 +12,8 @@ use Rattle.custody.specs.declared.answers.Refused.TheVariants as refused
 use Rattle.custody.specs.declared.custody.Custody.{Custody}
 use Rattle.custody.specs.declared.holdings.Holdings.{Holdings}
 use Rattle.custody.specs.Answers.{stays_open}
-use Rattle.custody.specs.Holdings.{HasDone}
+use Rattle.custody.specs.Holdings.{recorded, HasDone}
+use Rattle.custody_machine.specs.Custody.{HasRoomFor}
 
 module _ {V S : Type 0} {g : volume.Ghosts V} {database : Ghosts S} where
   abbrev pub held_by : Custody V S g database → Holdings V S g
@@ -29,6 +30,8 @@ module _ {V S : Type 0} {g : volume.Ghosts V} {database : Ghosts S} where
     pub done : is_open old ≡ true → HasDone database (held_by old) command now answer (held_by new)
     -- it is closed by a failure of the volume or the database, and by nothing else
     pub opened : is_open old ≡ true → is_open new ≡ stays_open answer
+    -- a new part is accepted only where there is room for it, as a want of room is told only where there is none
+    pub room : is_open old ≡ true → IfOk answer (λ reply. reply.is_repeat ≡ false → HasRoomFor (recorded (held_by old)) command)
 
 -- commands, each with its moment
 abbrev pub entries_of : List (asked.Command × ℕ) → List Entry

@@ -255,7 +255,10 @@ impl<V: Volume, S: Alter> Custody<V, S> {
         ensures closed { IfErr result (λ fault. (is_open self.now ≡ false) × (fault ≡ Fault.Closed)) }
     {
         match self.records() {
-            Ok(records) => Ok((free_blocks(records), records.blocks().saturating_sub(1))),
+            Ok(records) => Ok((
+                self.holdings.vault.free_blocks(),
+                records.blocks().saturating_sub(1),
+            )),
             Err(fault) => Err(fault),
         }
     }
@@ -269,17 +272,4 @@ fn stays_open(answer: &Result<Reply, Refused>) -> bool
         answer,
         Err(Refused::Fault(Fault::VolumeFailed | Fault::StoreFailed | Fault::Closed))
     )
-}
-
-/// All blocks but block 0 and those of the parts that are held.
-fn free_blocks(records: &Records) -> u32
-    ensures { result ≡ free_blocks (records_of records.now) }
-{
-    let mut free = records.blocks().saturating_sub(1);
-    for part in records.parts() {
-        if part.extents.is_some() {
-            free = free.saturating_sub(vault_volume::blocks_for(part.len));
-        }
-    }
-    free
 }

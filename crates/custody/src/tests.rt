@@ -3,6 +3,7 @@ mod bench;
 mod commits;
 mod damaged;
 mod failing;
+mod gaps;
 mod opening;
 mod rows;
 mod script;

@@ -1,4 +1,6 @@
 //! Maps of small volumes, with ample memory.
+mod plain;
+
 use crate::{Extent, ExtentMap, MapError};
 use std::alloc::Global;
 use std::test::Fail;

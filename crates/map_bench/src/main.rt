@@ -1,4 +1,4 @@
-//! Places an extent of 256 blocks in a nearly full map of 262,144, as often as is asked, and frees it again.
+//! Makes a map of 262,144 blocks and places in it, as often as is asked.
 #![tactic(auto)]
 
 use extent_map::{Extent, ExtentMap};
@@ -7,53 +7,81 @@ use std::{env, io};
 
 const BLOCKS: u32 = 262_144;
 
-// All blocks but the last 256, or each second block of them.
-fn used_blocks(alloc: Global, has_holes: bool) -> Result<Vec<Extent>, AllocError> {
+// The first so many odd blocks, one extent each.
+fn odd_blocks(alloc: Global, count: u32) -> Result<Vec<Extent>, AllocError> {
     let mut used = Vec::new(alloc);
-    if has_holes {
-        for half in 0..130_943u32 {
-            used.push(Extent {
-                start: 2 * half + 1,
-                count: 1,
-            })?;
-        }
-    } else {
+    for half in 0..count {
         used.push(Extent {
-            start: 1,
-            count: BLOCKS - 257,
+            start: half.saturating_mul(2).saturating_add(1),
+            count: 1,
         })?;
     }
     Ok(used)
 }
 
-fn start_of(map: &mut ExtentMap, times: u32) -> u32 {
+// All blocks but the last 256 are used.
+fn all_but_the_end(alloc: Global) -> Result<Vec<Extent>, AllocError> {
+    let mut used = Vec::new(alloc);
+    used.push(Extent {
+        start: 1,
+        count: BLOCKS - 257,
+    })?;
+    Ok(used)
+}
+
+fn map_of(alloc: Global, used: &[Extent]) -> Option<ExtentMap> {
+    ExtentMap::from_used(alloc, BLOCKS, used).ok()
+}
+
+// Makes the map of 100,000 extents, and says how many blocks are free.
+fn build(alloc: Global, times: u32) -> Option<u32> {
+    let used = odd_blocks(alloc, 100_000).ok()?;
+    let mut free = 0;
+    for _ in 0..times {
+        free = map_of(alloc, &used)?.free_blocks();
+    }
+    Some(free)
+}
+
+// Places 256 blocks in one run and frees them, and says where they lay.
+fn place(map: &mut ExtentMap, times: u32) -> Option<u32> {
     let mut start = 0;
     for _ in 0..times {
-        if let Some(extent) = map.place(256) {
-            start = extent.start;
-            if extent.is_within(map.size()) {
-                map.free(&extent);
-            }
-        }
+        let extent = map.place(256)?;
+        start = extent.start;
+        map.free(&extent);
     }
-    start
+    Some(start)
+}
+
+// Places 256 blocks in runs, as often, and says how many blocks are free then.
+fn place_runs(alloc: Global, map: &mut ExtentMap, times: u32) -> Option<u32> {
+    for _ in 0..times {
+        map.place_all(alloc, 256).ok()??;
+    }
+    Some(map.free_blocks())
+}
+
+fn answer_of(alloc: Global, kind: &str, times: u32) -> Option<u32> {
+    match kind {
+        "build" => build(alloc, times),
+        "end" => place(&mut map_of(alloc, &all_but_the_end(alloc).ok()?)?, times),
+        "holes" => place(&mut map_of(alloc, &odd_blocks(alloc, 130_943).ok()?)?, times),
+        "runs" => place_runs(alloc, &mut map_of(alloc, &odd_blocks(alloc, 131_072).ok()?)?, times),
+        _ => None,
+    }
 }
 
 fn main(rt: HostRuntime) -> io::Result<()> {
     let mut words = env::args(&rt)?.skip(1);
     let (Some(kind), Some(times)) = (words.next(), words.next()) else {
-        return println!(rt; "usage: map_bench full|holes TIMES");
+        return println!(rt; "usage: map_bench build|end|holes|runs TIMES");
     };
     let Ok(times) = times.parse::<u32>() else {
         return println!(rt; "no such number");
     };
-    let Ok(used) = used_blocks(rt.alloc(), kind.as_str() == "holes") else {
-        return println!(rt; "no memory");
-    };
-    let Ok(mut map) = ExtentMap::from_used(rt.alloc(), BLOCKS, &used) else {
-        return println!(rt; "no map");
-    };
-    let start = start_of(&mut map, times);
-    let free = map.free_blocks();
-    println!(rt; "{start} {free}")
+    match answer_of(rt.alloc(), kind.as_str(), times) {
+        Some(number) => println!(rt; "{number}"),
+        None => println!(rt; "no answer"),
+    }
 }

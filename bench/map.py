@@ -1,0 +1,51 @@
+#!/usr/bin/env python3
+"""Times the map of a volume of 262,144 blocks: making it, and placing 256 blocks in it.
+
+Run `rt run` in crates/map_bench first. Then: python3 bench/map.py
+"""
+import pathlib
+import subprocess
+import sys
+import time
+
+PROGRAM = pathlib.Path(__file__).resolve().parent.parent / "crates/map_bench/out/map_bench"
+RUNS = 5
+
+# What is timed, the program's word, how often, what it prints at once and a limit in microseconds.
+ROWS = [
+    ("the map from 100,000 extents of a block", "build", 100, "162143", 10_000),
+    ("place(256), all used but the last 256 blocks", "end", 20_000, "261888", 50),
+    ("place(256), each second block used but for the last 256", "holes", 5_000, "261888", 50),
+    ("place_all(256), each second block used", "runs", 500, "130815", 50),
+]
+
+
+def seconds(kind, times):
+    """The seconds of a run, and what it prints."""
+    start = time.perf_counter()
+    answer = subprocess.run([PROGRAM, kind, str(times)], capture_output=True, text=True, check=True).stdout.strip()
+    return time.perf_counter() - start, answer
+
+
+def microseconds(kind, times, wanted):
+    """Microseconds of one call, without the start of the program and the making of the map."""
+    best = []
+    for _ in range(RUNS):
+        once, answer = seconds(kind, 1)
+        if answer != wanted:
+            sys.exit(f"{kind}: {answer} and not {wanted}")
+        best.append((seconds(kind, 1 + times)[0] - once) / times * 1e6)
+    return min(best)
+
+
+def main():
+    slow = False
+    for text, kind, times, wanted, limit in ROWS:
+        taken = microseconds(kind, times, wanted)
+        slow |= taken > limit
+        print(f"{text}: {taken:,.1f} microseconds (limit {limit:,})")
+    return 1 if slow else 0
+
+
+if __name__ == "__main__":
+    sys.exit(main())

@@ -1,0 +1,16 @@
+use Rattle.std.proofs.Common.{◌≡◌, true, false, sym, ◌∙◌}
+use Rattle.custody_machine.specs.Plain.{command_of}
+use Rattle.custody.specs.Custody.{held_by}
+use Rattle.custody.proofs.Room.{had_room}
+use Rattle.custody.proofs.custody.Custody.apply.Goals as goal
+
+pub returns : goal.returns
+returns g c =
+    let old = c.args.self.now in
+    let serving = c.if-not-self.false in
+    record {
+      closed = λ shut. let clash : true ≡ false = sym serving ∙ shut in cc;
+      done = λ _. c.serve-answer.ensures;
+      opened = λ _. c.stays_open-self.ensures;
+      room = λ _. had_room g.S.Store (held_by old) c.serve-answer.new.self (old.order serving) (command_of c.args.command.now) c.args.now c.serve-answer.result c.serve-answer.ensures;
+    }
