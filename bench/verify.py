@@ -1,5 +1,6 @@
 #!/usr/bin/env python3
-"""Times the verification of a full deposit against a Python program that makes the same checks.
+"""Times the verification of a full deposit against a Python program that makes the same checks, and that of deposits
+that are sent to harm. Where the first file is no UTF-8, what is left is the frame, the envelope and SHA-256.
 
 Run `rt run` in crates/verify_bench first. Then: python3 bench/verify.py
 """
@@ -7,14 +8,15 @@ import csv
 import datetime
 import hashlib
 import io
+import itertools
 import json
 import pathlib
 import random
 import re
 import subprocess
+import sys
 import tempfile
 import time
-import os
 
 PROGRAM = pathlib.Path(__file__).resolve().parent.parent / "crates/verify_bench/out/verify_bench"
 SIZE = 8 * 1024 * 1024
@@ -128,8 +130,8 @@ def verify(joined):
     return "PASS"
 
 
-def deposit(shuffled):
-    """A full deposit of about 8 MiB: a registry of many domains."""
+def registry(shuffled):
+    """The tables of a registry of many domains, as lists of lines: about 8 MiB in all."""
     domains = 21000
     rows = {
         "domain": [f"name-{i:06}.example,D{i:06}-EX,C{i % 20000:05},R{i % 97:03},2020-01-01T00:00:00Z,2027-01-01T00:00:00Z\n" for i in range(domains)],
@@ -141,49 +143,126 @@ def deposit(shuffled):
         "contact": [f"C{i:05},C{i:05}-EX,R{i % 97:03},2020-01-01T00:00:00Z\n" for i in range(20000)],
         "registrar": [f'R{i:03},"Registrar {i}, Inc.",{i + 1},ok\n' for i in range(97)],
     }
-    if shuffled:
-        for table in rows.values():
+    for table in rows.values():
+        if shuffled:
             random.Random(7).shuffle(table)
-    else:
-        for table in rows.values():
+        else:
             table.sort()
-    files = {table: "".join(lines).encode() for table, lines in rows.items()}
-    said = {
-        "contents": [{"length": len(files[t]), "name": t, "sha256": hashlib.sha256(files[t]).hexdigest()} for t in TABLES],
-        "header": {"count": {uri: len(rows[table]) for uri, table in zip(URIS, COUNTED)}, "tld": "example"},
+    return rows
+
+
+def short_rows(shuffled):
+    """The tables of a registry with as many statuses as there can be: about 8 MiB in all."""
+    names = ["".join(letters) for letters in itertools.product("abcdefghijklmnopqrstuvwxyz012345-.", repeat=3)]
+    rows = {
+        "domain": [f"{name},D-EX,,R000,2020-01-01T00:00:00Z,2027-01-01T00:00:00Z\n" for name in names],
+        "domainStatuses": [f"{name},{letter}\n" for name in names for letter in "abcdefghijklmnopqrstuvwx"],
+        "registrar": ["R000,Registrar,,ok\n"],
+    }
+    for table in rows.values():
+        if shuffled:
+            random.Random(7).shuffle(table)
+        else:
+            table.sort()
+    return rows
+
+
+def joined(rows, said=None, files=None, head=None):
+    """The deposit of these rows. Members of its envelope, its files and its head may be others than its own."""
+    own = {table: "".join(rows.get(table, ())).encode("latin-1") for table in TABLES}
+    text = {
+        "contents": [{"length": len(own[t]), "name": t, "sha256": hashlib.sha256(own[t]).hexdigest()} for t in TABLES],
+        "header": {"count": {uri: len(rows.get(table, ())) for uri, table in zip(URIS, COUNTED)}, "tld": "example"},
         "id": ID,
         "rdeMenu": {"objURI": URIS, "version": "1.0"},
         "resend": 0,
         "type": "FULL",
         "watermark": "2026-08-02T00:00:00Z",
     }
-    envelope = json.dumps(said, separators=(",", ":"), sort_keys=True).encode()
-    return b"RDE1 %08d\n" % len(envelope) + envelope + b"".join(files[t] for t in TABLES)
+    text.update(said or {})
+    envelope = json.dumps(text, separators=(",", ":"), sort_keys=True).encode()
+    return (head or b"RDE1 %08d\n" % len(envelope)) + envelope + (files or b"".join(own[t] for t in TABLES))
+
+
+def hostile():
+    """Deposits of about 8 MiB that are sent to harm, each with its verdict."""
+    rows = registry(False)
+    files = {table: "".join(rows[table]).encode() for table in TABLES}
+    entries = json.loads(joined(rows)[14:].split(b'],"header"')[0][12:] + b"]")
+    alike = [f"{'a' * 200}{i:06},D-EX,,R000,2020-01-01T00:00:00Z,2027-01-01T00:00:00Z\n" for i in range(30000)]
+    random.Random(7).shuffle(alike)
+    short = short_rows(True)
+    yield "a frame that promises 99,999,999 bytes", "FAILURE-01", joined(rows, head=b"RDE1 99999999\n")
+    yield "an envelope of one byte more", "FAILURE-02", joined(rows, head=b"RDE1 %08d\n" % (len(joined(rows)) - len(b"".join(files.values())) - 13))
+    yield "an envelope of 8 MiB", "FAILURE-02", joined({}, said={"id": "a" * SIZE})
+    yield "lengths whose sum overflows", "FAILURE-02", joined(rows, said={"contents": [{**e, "length": 2**63} for e in entries]})
+    yield "lengths of 64 MiB", "FAILURE-09", joined(rows, said={"contents": [{**e, "length": SIZE} for e in entries]})
+    yield "a digest of the wrong file", "FAILURE-09", joined(rows, said={"contents": [{**e, "sha256": entries[0]["sha256"]} for e in entries]})
+    yield "files in another order", "FAILURE-09", joined(rows, files=b"".join(files[t] for t in reversed(TABLES)))
+    yield "a first file that is no UTF-8", "FAILURE-10", joined({**rows, "domain": ["\xff", *rows["domain"]]})
+    yield "commas", "FAILURE-10", joined({"domain": ["," * (SIZE - 1) + "\n"]})
+    yield "quotes", "FAILURE-10", joined({"domain": ['"' * SIZE]})
+    yield "rows of empty fields", "FAILURE-10", joined({"domain": [",,,,,\n"] * (SIZE // 6)})
+    yield "one row of empty fields", "FAILURE-10", joined({**rows, "registrar": [",,,\n"]})
+    yield "line feeds", "FAILURE-10", joined({"domain": ["\n"] * SIZE})
+    yield "one key in all rows", "FAILURE-10", joined({"domainStatuses": ["a,b\n"] * (SIZE // 4)})
+    yield "the last key twice", "FAILURE-10", joined({**short, "domainStatuses": [*short["domainStatuses"], short["domainStatuses"][0]]})
+    yield "keys with one beginning", "FAILURE-12", joined({"domain": alike})
 
 
 def run(path, times):
+    """The answer of the program, and its time in seconds."""
     start = time.perf_counter()
-    child = subprocess.Popen([PROGRAM, NAME, ID, "-", path, str(times)], stdout=subprocess.PIPE)
-    answer = child.stdout.read().decode().strip()
-    _, _, used = os.wait4(child.pid, 0)
-    child.returncode = 0
-    return answer, time.perf_counter() - start, used.ru_maxrss
+    answer = subprocess.run([PROGRAM, NAME, ID, "-", path, str(times)], capture_output=True, check=True).stdout
+    return answer.decode().strip(), time.perf_counter() - start
+
+
+# A process is said to have used what its parent held when it began, so a small one starts the program.
+LAUNCH = "import os, subprocess, sys; child = subprocess.Popen(sys.argv[1:], stdout=subprocess.DEVNULL); print(os.wait4(child.pid, 0)[2].ru_maxrss)"
+
+
+def peak(path):
+    """The program's peak memory for one deposit, in bytes."""
+    words = [sys.executable, "-S", "-c", LAUNCH, PROGRAM, NAME, ID, "-", path, "1"]
+    return int(subprocess.run(words, capture_output=True, check=True).stdout) * 1024
+
+
+def timed(folder, deposit):
+    """The answer of the program, its least time for one deposit in seconds, and its peak memory in bytes."""
+    path = pathlib.Path(folder) / "deposit"
+    path.write_bytes(deposit)
+    answer, _ = run(path, 1)
+    once = min(run(path, 1)[1] for _ in range(RUNS))
+    often = min(run(path, 1 + TIMES)[1] for _ in range(RUNS))
+    return answer, (often - once) / TIMES, peak(path)
+
+
+def python_time(deposit):
+    """The verdict of the Python program, and its least time in seconds."""
+    least = float("inf")
+    for _ in range(RUNS):
+        start = time.perf_counter()
+        verdict = verify(deposit)
+        least = min(least, time.perf_counter() - start)
+    return verdict, least
 
 
 def main():
     with tempfile.TemporaryDirectory() as folder:
-        for kind in ("in order", "shuffled"):
-            joined = deposit(kind == "shuffled")
-            path = pathlib.Path(folder) / "deposit"
-            path.write_bytes(joined)
-            answer, _, memory = run(path, 1)
-            ours = min((run(path, 1 + TIMES)[1] - run(path, 1)[1]) / TIMES for _ in range(RUNS))
-            theirs = []
-            for _ in range(RUNS):
-                start = time.perf_counter()
-                verdict = verify(joined)
-                theirs.append(time.perf_counter() - start)
-            print(f"keys {kind}: {len(joined)} bytes, {answer} and {verdict}, verify {ours * 1000:.1f} ms, Python {min(theirs) * 1000:.1f} ms, ratio {min(theirs) / ours:.1f}, peak {memory // 1024} MiB")
+        slowest = 0
+        for make, shuffled in itertools.product((registry, short_rows), (False, True)):
+            deposit = joined(make(shuffled))
+            kind = ("shuffled" if shuffled else "in order") + (" in short rows" if make is short_rows else "")
+            answer, ours, memory = timed(folder, deposit)
+            verdict, theirs = python_time(deposit)
+            assert answer == verdict == "PASS", (answer, verdict)
+            slowest = max(slowest, ours / len(deposit))
+            print(f"keys {kind}: {len(deposit)} bytes, {ours * 1000:.1f} ms, Python {theirs * 1000:.1f} ms, ratio {theirs / ours:.1f}, memory {memory / len(deposit):.1f} times the deposit")
+        for kind, verdict, deposit in hostile():
+            answer, ours, memory = timed(folder, deposit)
+            assert answer == verdict, (kind, answer)
+            share = ours / len(deposit) / slowest
+            print(f"{verdict} {kind}: {len(deposit)} bytes, {ours * 1000:.1f} ms, {share:.2f} of the slowest good one, memory {memory / len(deposit):.1f} times")
 
 
 if __name__ == "__main__":

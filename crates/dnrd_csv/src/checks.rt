@@ -50,12 +50,25 @@ fn key_of(rows: &Rows, i: usize, key: usize) -> [&[u8]; 3]
     [rows.field(i, 0), second, third]
 }
 
+// Whether each row's key is above the one before it.
+fn keys_ascend(key: usize, rows: &Rows) -> bool
+    requires some { 1 ≤ key }
+    requires most { key ≤ 3 }
+    requires within { All (λ row. key ≤ length row) rows.now }
+    ensures { result ≡ true → HaveKeys key rows.now }
+{
+    for i in 1..rows.len() {
+        let last = key_of(rows, i - 1, key);
+        let next = key_of(rows, i, key);
+        if !last.cmp(&next).is_lt() {
+            return false;
+        }
+    }
+    true
+}
+
 // The keys of rows, in their order.
-fn keys_of<'r>(
-    alloc: Global,
-    key: usize,
-    rows: &'r Rows,
-) -> Result<Vec<[&'r [u8]; 3]>, AllocError>
+fn keys_of<'r>(alloc: Global, key: usize, rows: &'r Rows) -> Result<Vec<[&'r [u8]; 3]>, AllocError>
     requires some { 1 ≤ key }
     requires most { key ≤ 3 }
     requires within { All (λ row. key ≤ length row) rows.now }
@@ -68,7 +81,7 @@ fn keys_of<'r>(
     Ok(keys)
 }
 
-// Whether each key is above the one before it.
+// Whether each of the keys is above the one before it.
 fn ascend(keys: &[[&[u8]; 3]]) -> bool
     ensures { IsTrue result ↔ Ascend (map texts_of keys.now) }
 {
@@ -87,10 +100,10 @@ pub fn have_keys(alloc: Global, key: usize, rows: &Rows) -> Result<bool, AllocEr
     requires within { All (λ row. key ≤ length row) rows.now }
     ensures { IfOk result (λ have. IsTrue have ↔ HaveKeys key rows.now) }
 {
-    let mut keys = keys_of(alloc, key, rows)?;
-    if ascend(&keys) {
+    if keys_ascend(key, rows) {
         return Ok(true);
     }
+    let mut keys = keys_of(alloc, key, rows)?;
     keys.sort_unstable();
     Ok(ascend(&keys))
 }

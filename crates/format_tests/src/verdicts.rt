@@ -1,34 +1,157 @@
-//! Worked deposits with their verdicts.
-use deposit_name::{DepositId, DepositName, Kind, TableName, Tld};
+//! Worked deposits with their verdicts. The lengths and digests of files come from another program.
+use deposit_name::{DepositId, DepositName};
 use deposit_verify::{About, Verdict, law_one_verdict, verify};
 use desk::Check;
-use envelope::{Count, Envelope, FileEntry, Header, Menu, Uri, write_envelope};
-use schedule::read_day;
-use sha2::{Digest, Sha256};
 use std::alloc::Global;
 use std::test::Fail;
 
-const URIS: [&str; 5] = [
-    "urn:ietf:params:xml:ns:csvContact-1.0",
-    "urn:ietf:params:xml:ns:csvDomain-1.0",
-    "urn:ietf:params:xml:ns:csvHost-1.0",
-    "urn:ietf:params:xml:ns:csvRegistrar-1.0",
-    "urn:ietf:params:xml:ns:rdeHeader-1.0",
-];
+// The SHA-256 of no bytes.
+const NO_BYTES: &str = "e3b0c44298fc1c149afbf4c8996fb92427ae41e4649b934ca495991b7852b855";
 
-const NO_ROWS: &str = "";
+// A full deposit with no rows. `<none>` stands for the digest of no bytes, `<ns>` for what URIs begin with.
+const FULL: &str = concat!(
+    r#"{"contents":[{"length":0,"name":"domain","sha256":"<none>"},"#,
+    r#"{"length":0,"name":"domainContacts","sha256":"<none>"},"#,
+    r#"{"length":0,"name":"domainStatuses","sha256":"<none>"},"#,
+    r#"{"length":0,"name":"domainNameServers","sha256":"<none>"},"#,
+    r#"{"length":0,"name":"host","sha256":"<none>"},"#,
+    r#"{"length":0,"name":"hostAddresses","sha256":"<none>"},"#,
+    r#"{"length":0,"name":"contact","sha256":"<none>"},"#,
+    r#"{"length":0,"name":"registrar","sha256":"<none>"}],"#,
+    r#""header":{"count":{"<ns>csvContact-1.0":0,"<ns>csvDomain-1.0":0,"<ns>csvHost-1.0":0,"#,
+    r#""<ns>csvRegistrar-1.0":0},"tld":"example"},"id":"20260802001","#,
+    r#""rdeMenu":{"objURI":["<ns>csvContact-1.0","<ns>csvDomain-1.0","<ns>csvHost-1.0","#,
+    r#""<ns>csvRegistrar-1.0","<ns>rdeHeader-1.0"],"version":"1.0"},"#,
+    r#""resend":0,"type":"FULL","watermark":"2026-08-02T00:00:00Z"}"#,
+);
 
+// A differential deposit with no files, which follows the full one.
+const DIFF: &str = concat!(
+    r#"{"contents":[],"deletes":[],"#,
+    r#""header":{"count":{"<ns>csvContact-1.0":0,"<ns>csvDomain-1.0":0,"<ns>csvHost-1.0":0,"#,
+    r#""<ns>csvRegistrar-1.0":0},"tld":"example"},"id":"20260803001","prevId":"20260802001","#,
+    r#""rdeMenu":{"objURI":["<ns>csvContact-1.0","<ns>csvDomain-1.0","<ns>csvHost-1.0","#,
+    r#""<ns>csvRegistrar-1.0","<ns>rdeHeader-1.0"],"version":"1.0"},"#,
+    r#""resend":0,"type":"DIFF","watermark":"2026-08-03T00:00:00Z"}"#,
+);
+
+const FULL_NAME: &str = "example_2026-08-02_full_S1_R0.ryde";
+
+const DIFF_NAME: &str = "example_2026-08-03_diff_S1_R0.ryde";
+
+const SUNDAY_NAME: &str = "example_2026-08-09_diff_S1_R0.ryde";
+
+const FULL_ID: &str = "20260802001";
+
+const DIFF_ID: &str = "20260803001";
+
+type Change = (&'static str, &'static str);
+
+// One domain, whose registrar is R9.
 const DOMAIN: &str = "a.example,D1-EX,,R9,2020-01-01T00:00:00Z,2030-01-01T00:00:00Z\n";
 
-fn known(alloc: Global, name: &str, id: &str, latest: Option<&str>) -> Result<About, Fail> {
+const HAS_DOMAIN: Change = (
+    r#"0,"name":"domain","sha256":"<none>"#,
+    r#"62,"name":"domain","sha256":"9447769a1bbb283082e07aef1ee6ff1e927416f0410c5794289136736d69dc6b"#,
+);
+
+const ONE_DOMAIN: Change = (r#"csvDomain-1.0":0"#, r#"csvDomain-1.0":1"#);
+
+const TWO_DOMAINS: Change = (r#"csvDomain-1.0":0"#, r#"csvDomain-1.0":2"#);
+
+// The registrar R9, and its line without an end.
+const REGISTRAR: &str = "R9,Example,292,ok\n";
+
+const HAS_REGISTRAR: Change = (
+    r#"0,"name":"registrar","sha256":"<none>"#,
+    r#"18,"name":"registrar","sha256":"035400494cc5a3bf9669af824fa7953239b629d1e673a5daf136bfb0d9db9796"#,
+);
+
+const ONE_REGISTRAR: Change = (r#"csvRegistrar-1.0":0"#, r#"csvRegistrar-1.0":1"#);
+
+const CUT_REGISTRAR: &str = "R9,Example,292,ok";
+
+const HAS_CUT_REGISTRAR: Change = (
+    r#"0,"name":"registrar","sha256":"<none>"#,
+    r#"17,"name":"registrar","sha256":"b67f4b58b8f93ac2275731999f04a9da4b11c0a33fba585016edf59a3ec11f2e"#,
+);
+
+// The key R1 twice.
+const KEY_TWICE: Change = (
+    r#""deletes":[]"#,
+    r#""deletes":[{"length":6,"name":"registrar","sha256":"75e2450189eb6fce49242b5168d2aea401a9031e83807b10e91e9c604163d7c9"}]"#,
+);
+
+// One registrar's line among the contents of a differential deposit, whole and without its end.
+const HAS_SOME: Change = (
+    r#""contents":[]"#,
+    r#""contents":[{"length":18,"name":"registrar","sha256":"035400494cc5a3bf9669af824fa7953239b629d1e673a5daf136bfb0d9db9796"}]"#,
+);
+
+const HAS_SOME_CUT: Change = (
+    r#""contents":[]"#,
+    r#""contents":[{"length":17,"name":"registrar","sha256":"b67f4b58b8f93ac2275731999f04a9da4b11c0a33fba585016edf59a3ec11f2e"}]"#,
+);
+
+const DELETES_HOST: Change = (
+    r#""deletes":[]"#,
+    r#""deletes":[{"length":14,"name":"host","sha256":"b56dcb9bcf737923206f2d92fcbb4637d5879066f9f15181a75aebcc4297db7a"}]"#,
+);
+
+// The registrar R9 twice, and a row of empty fields.
+const HAS_TWO_REGISTRARS: Change = (
+    r#"0,"name":"registrar","sha256":"<none>"#,
+    r#"34,"name":"registrar","sha256":"8cb475fc8c6fac07ef0818f779fbc56fdd4cff6ec77840c0cc8c535bb094b50c"#,
+);
+
+const HAS_COMMAS: Change = (
+    r#"0,"name":"domain","sha256":"<none>"#,
+    r#"6,"name":"domain","sha256":"f5d44688c30f5a811d6cb906bdc5736c6f62125b31f47099b4635b4391622440"#,
+);
+
+const LONG: Change = (r#"{"length":0,"#, r#"{"length":8388608,"#);
+
+const TOO_LONG: Change = (r#"{"length":0,"#, r#"{"length":18446744073709551615,"#);
+
+const DOMAIN_IS_HOST: Change = (r#""domain""#, r#""host""#);
+
+const HOST_IS_DOMAIN: Change = (
+    r#"0,"name":"host","sha256":"<none>"},{"length":0,"name":"hostA"#,
+    r#"0,"name":"domain","sha256":"<none>"},{"length":0,"name":"hostA"#,
+);
+
+const SPACED: Change = (r#"},{"#, r#"}, {"#);
+
+const SENT_AGAIN: Change = (r#""resend":0"#, r#""resend":1"#);
+
+const OF_SUNDAY: Change = ("2026-08-03T", "2026-08-09T");
+
+const FOLLOWS_X: Change = (r#""prevId":"20260802001""#, r#""prevId":"X""#);
+
+const OTHER_HEADER: Change = ("rdeHeader-1.0", "rdeHeader-1.1");
+
+const OF_OTHER_BYTES: Change = (
+    "<none>",
+    "2cf24dba5fb0a30e26e83b2ac5b9e29e1b161e5c1fa7425e73043362938b9824",
+);
+
+// A deposit, as an envelope that is changed and the files behind it, and its verdict.
+#[derive(Drop)]
+struct Case<'t> {
+    tells: &'t str,
+    envelope: &'t str,
+    changes: &'t [Change],
+    files: &'t [&'t str],
+    name: &'t str,
+    id: &'t str,
+    latest: &'t str,
+    verdict: Verdict,
+}
+
+fn known(alloc: Global, name: &str, id: &str, latest: &str) -> Result<About, Fail> {
+    let latest = DepositId::parse(latest.as_bytes());
     let mut passed = Vec::new(alloc);
-    let latest = match latest {
-        Some(text) => Some(DepositId::parse(text.as_bytes()).ok_or("an id")?),
-        None => None,
-    };
-    if let Some(id) = latest {
-        passed.push(id)?;
-    }
+    passed.extend(latest)?;
     Ok(About {
         name: DepositName::parse(name.as_bytes()).ok().ok_or("a name")?,
         id: DepositId::parse(id.as_bytes()).ok_or("an id")?,
@@ -37,218 +160,446 @@ fn known(alloc: Global, name: &str, id: &str, latest: Option<&str>) -> Result<Ab
     })
 }
 
-fn entries(alloc: Global, files: &[(TableName, &str)]) -> Result<Vec<FileEntry>, Fail> {
-    let mut entries = Vec::new(alloc);
-    for (name, text) in files {
-        entries.push(FileEntry {
-            length: u32::try_from(text.len()).ok().ok_or("a length")?,
-            name: *name,
-            sha256: Sha256::digest(*text),
-        })?;
+fn changed(alloc: Global, text: &str, changes: &[Change]) -> Result<String, Fail> {
+    let mut changed = String::from_str(alloc, text)?;
+    for (from, to) in changes {
+        changed = changed.replacen(alloc, *from, to, 1)?;
     }
-    Ok(entries)
+    let digests = changed.replace(alloc, "<none>", NO_BYTES)?;
+    Ok(digests.replace(alloc, "<ns>", "urn:ietf:params:xml:ns:")?)
 }
 
-fn header(alloc: Global, counts: [u32; 4]) -> Result<Header, Fail> {
-    let mut count = Vec::new(alloc);
-    for i in 0..4 {
-        count.push(Count {
-            uri: Uri::parse(URIS[i].as_bytes()).ok_or("a uri")?,
-            count: counts[i],
-        })?;
+fn verdict_on(alloc: Global, case: &Case<'_>) -> Result<Verdict, Fail> {
+    let envelope = changed(alloc, case.envelope, case.changes)?;
+    let mut joined = format!(in alloc; "RDE1 {:08}\n{}", envelope.len(), envelope)?;
+    for file in case.files {
+        joined.push_str(file)?;
     }
-    Ok(Header {
-        count,
-        tld: Tld::parse(b"example").ok_or("a domain")?,
-    })
-}
-
-fn menu(alloc: Global) -> Result<Menu, Fail> {
-    let mut object_uris = Vec::new(alloc);
-    for uri in URIS {
-        object_uris.push(Uri::parse(uri.as_bytes()).ok_or("a uri")?)?;
-    }
-    Ok(Menu { object_uris })
-}
-
-// A full deposit of 2026-08-02 with these files.
-fn full(alloc: Global, files: &[(TableName, &str)], counts: [u32; 4]) -> Result<Vec<u8>, Fail> {
-    let envelope = Envelope {
-        contents: entries(alloc, files)?,
-        deletes: None,
-        header: header(alloc, counts)?,
-        id: DepositId::parse(b"20260802001").ok_or("an id")?,
-        prev_id: None,
-        menu: menu(alloc)?,
-        resend: 0,
-        kind: Kind::Full,
-        watermark: read_day(b"2026-08-02").ok_or("a day")?,
-    };
-    joined(alloc, &envelope, files, &[])
-}
-
-// A differential deposit that follows 20260802001.
-fn diff(
-    alloc: Global,
-    day: &str,
-    files: &[(TableName, &str)],
-    deletes: &[(TableName, &str)],
-) -> Result<Vec<u8>, Fail> {
-    let envelope = Envelope {
-        contents: entries(alloc, files)?,
-        deletes: Some(entries(alloc, deletes)?),
-        header: header(alloc, [0, 0, 0, 0])?,
-        id: DepositId::parse(b"20260803001").ok_or("an id")?,
-        prev_id: DepositId::parse(b"20260802001"),
-        menu: menu(alloc)?,
-        resend: 0,
-        kind: Kind::Diff,
-        watermark: read_day(day.as_bytes()).ok_or("a day")?,
-    };
-    joined(alloc, &envelope, files, deletes)
-}
-
-fn joined(
-    alloc: Global,
-    envelope: &Envelope,
-    files: &[(TableName, &str)],
-    deletes: &[(TableName, &str)],
-) -> Result<Vec<u8>, Fail> {
-    let text = write_envelope(alloc, envelope)?;
-    let head = format!(in alloc; "RDE1 {:08}\n", text.len())?;
-    let mut bytes = Vec::new(alloc);
-    bytes.extend_from_slice(head.as_bytes())?;
-    bytes.extend_from_slice(&text)?;
-    for (_, file) in files {
-        bytes.extend_from_slice(file.as_bytes())?;
-    }
-    for (_, file) in deletes {
-        bytes.extend_from_slice(file.as_bytes())?;
-    }
-    Ok(bytes)
-}
-
-// All tables, of which two have these texts.
-fn tables<'t>(domain: &'t str, registrar: &'t str) -> [(TableName, &'t str); 8] {
-    [
-        (TableName::Domain, domain),
-        (TableName::DomainContacts, NO_ROWS),
-        (TableName::DomainStatuses, NO_ROWS),
-        (TableName::DomainNameServers, NO_ROWS),
-        (TableName::Host, NO_ROWS),
-        (TableName::HostAddresses, NO_ROWS),
-        (TableName::Contact, NO_ROWS),
-        (TableName::Registrar, registrar),
-    ]
+    Ok(verify(
+        alloc,
+        joined.as_bytes(),
+        &known(alloc, case.name, case.id, case.latest)?,
+    )?)
 }
 
 #[test]
-fn judges_full_deposits(rt: HostRuntime) -> Result<(), Fail> {
+fn accepts_deposits(rt: HostRuntime) -> Result<(), Fail> {
+    let cases = [
+        Case {
+            tells: "a full deposit with no rows",
+            envelope: FULL,
+            changes: &[],
+            files: &[],
+            name: FULL_NAME,
+            id: FULL_ID,
+            latest: "-",
+            verdict: Verdict::Pass,
+        },
+        Case {
+            tells: "a full deposit with a domain",
+            envelope: FULL,
+            changes: &[HAS_DOMAIN, HAS_REGISTRAR, ONE_DOMAIN, ONE_REGISTRAR],
+            files: &[DOMAIN, REGISTRAR],
+            name: FULL_NAME,
+            id: FULL_ID,
+            latest: "-",
+            verdict: Verdict::Pass,
+        },
+        Case {
+            tells: "a differential deposit with no files",
+            envelope: DIFF,
+            changes: &[],
+            files: &[],
+            name: DIFF_NAME,
+            id: DIFF_ID,
+            latest: FULL_ID,
+            verdict: Verdict::Pass,
+        },
+        Case {
+            tells: "a differential deposit with a table and a deleted host",
+            envelope: DIFF,
+            changes: &[HAS_SOME, DELETES_HOST],
+            files: &[REGISTRAR, "ns1.a.example\n"],
+            name: DIFF_NAME,
+            id: DIFF_ID,
+            latest: FULL_ID,
+            verdict: Verdict::Pass,
+        },
+    ];
+    for case in &cases {
+        assert_eq!(rt;
+            verdict_on(rt.alloc(), case)?,
+            case.verdict,
+            "{}",
+            case.tells
+        );
+    }
+    Ok(())
+}
+
+#[test]
+fn tells_the_check_that_fails(rt: HostRuntime) -> Result<(), Fail> {
+    let cases = [
+        Case {
+            tells: "an envelope with a space",
+            envelope: FULL,
+            changes: &[SPACED],
+            files: &[],
+            name: FULL_NAME,
+            id: FULL_ID,
+            latest: "-",
+            verdict: Verdict::Fail(Check::Envelope),
+        },
+        Case {
+            tells: "another resend number than the name's",
+            envelope: FULL,
+            changes: &[SENT_AGAIN],
+            files: &[],
+            name: FULL_NAME,
+            id: FULL_ID,
+            latest: "-",
+            verdict: Verdict::Fail(Check::Name),
+        },
+        Case {
+            tells: "another id than the stated one",
+            envelope: FULL,
+            changes: &[],
+            files: &[],
+            name: FULL_NAME,
+            id: "X",
+            latest: "-",
+            verdict: Verdict::Fail(Check::Statement),
+        },
+        Case {
+            tells: "a differential deposit of a Sunday",
+            envelope: DIFF,
+            changes: &[OF_SUNDAY],
+            files: &[],
+            name: SUNDAY_NAME,
+            id: DIFF_ID,
+            latest: FULL_ID,
+            verdict: Verdict::Fail(Check::Weekday),
+        },
+        Case {
+            tells: "another prevId than the latest",
+            envelope: DIFF,
+            changes: &[FOLLOWS_X],
+            files: &[],
+            name: DIFF_NAME,
+            id: DIFF_ID,
+            latest: FULL_ID,
+            verdict: Verdict::Fail(Check::PrevId),
+        },
+        Case {
+            tells: "an id that has passed",
+            envelope: FULL,
+            changes: &[],
+            files: &[],
+            name: FULL_NAME,
+            id: FULL_ID,
+            latest: FULL_ID,
+            verdict: Verdict::Fail(Check::IdTaken),
+        },
+        Case {
+            tells: "another object in the menu",
+            envelope: FULL,
+            changes: &[OTHER_HEADER],
+            files: &[],
+            name: FULL_NAME,
+            id: FULL_ID,
+            latest: "-",
+            verdict: Verdict::Fail(Check::Menu),
+        },
+        Case {
+            tells: "the digest of another file",
+            envelope: FULL,
+            changes: &[OF_OTHER_BYTES],
+            files: &[],
+            name: FULL_NAME,
+            id: FULL_ID,
+            latest: "-",
+            verdict: Verdict::Fail(Check::Files),
+        },
+        Case {
+            tells: "a line without its end",
+            envelope: FULL,
+            changes: &[HAS_CUT_REGISTRAR, ONE_REGISTRAR],
+            files: &[CUT_REGISTRAR],
+            name: FULL_NAME,
+            id: FULL_ID,
+            latest: "-",
+            verdict: Verdict::Fail(Check::Table),
+        },
+        Case {
+            tells: "two domains counted in place of one",
+            envelope: FULL,
+            changes: &[HAS_DOMAIN, HAS_REGISTRAR, TWO_DOMAINS, ONE_REGISTRAR],
+            files: &[DOMAIN, REGISTRAR],
+            name: FULL_NAME,
+            id: FULL_ID,
+            latest: "-",
+            verdict: Verdict::Fail(Check::Counts),
+        },
+        Case {
+            tells: "a registrar that is not there",
+            envelope: FULL,
+            changes: &[HAS_DOMAIN, ONE_DOMAIN],
+            files: &[DOMAIN],
+            name: FULL_NAME,
+            id: FULL_ID,
+            latest: "-",
+            verdict: Verdict::Fail(Check::References),
+        },
+        Case {
+            tells: "a deleted key twice",
+            envelope: DIFF,
+            changes: &[KEY_TWICE],
+            files: &["R1\nR1\n"],
+            name: DIFF_NAME,
+            id: DIFF_ID,
+            latest: FULL_ID,
+            verdict: Verdict::Fail(Check::Deletes),
+        },
+    ];
+    for case in &cases {
+        assert_eq!(rt;
+            verdict_on(rt.alloc(), case)?,
+            case.verdict,
+            "{}",
+            case.tells
+        );
+    }
+    Ok(())
+}
+
+#[test]
+fn tells_the_lower_of_two(rt: HostRuntime) -> Result<(), Fail> {
+    let cases = [
+        Case {
+            tells: "envelope and statement",
+            envelope: FULL,
+            changes: &[SPACED],
+            files: &[],
+            name: FULL_NAME,
+            id: "X",
+            latest: "-",
+            verdict: Verdict::Fail(Check::Envelope),
+        },
+        Case {
+            tells: "name and statement",
+            envelope: FULL,
+            changes: &[SENT_AGAIN],
+            files: &[],
+            name: FULL_NAME,
+            id: "X",
+            latest: "-",
+            verdict: Verdict::Fail(Check::Name),
+        },
+        Case {
+            tells: "statement and weekday",
+            envelope: DIFF,
+            changes: &[OF_SUNDAY],
+            files: &[],
+            name: SUNDAY_NAME,
+            id: "X",
+            latest: FULL_ID,
+            verdict: Verdict::Fail(Check::Statement),
+        },
+        Case {
+            tells: "weekday and prevId",
+            envelope: DIFF,
+            changes: &[OF_SUNDAY],
+            files: &[],
+            name: SUNDAY_NAME,
+            id: DIFF_ID,
+            latest: "-",
+            verdict: Verdict::Fail(Check::Weekday),
+        },
+        Case {
+            tells: "prevId and id taken",
+            envelope: DIFF,
+            changes: &[],
+            files: &[],
+            name: DIFF_NAME,
+            id: DIFF_ID,
+            latest: DIFF_ID,
+            verdict: Verdict::Fail(Check::PrevId),
+        },
+        Case {
+            tells: "id taken and menu",
+            envelope: FULL,
+            changes: &[OTHER_HEADER],
+            files: &[],
+            name: FULL_NAME,
+            id: FULL_ID,
+            latest: FULL_ID,
+            verdict: Verdict::Fail(Check::IdTaken),
+        },
+        Case {
+            tells: "menu and files",
+            envelope: FULL,
+            changes: &[OTHER_HEADER],
+            files: &["\n"],
+            name: FULL_NAME,
+            id: FULL_ID,
+            latest: "-",
+            verdict: Verdict::Fail(Check::Menu),
+        },
+        Case {
+            tells: "files and table",
+            envelope: FULL,
+            changes: &[HAS_CUT_REGISTRAR, OF_OTHER_BYTES],
+            files: &[CUT_REGISTRAR],
+            name: FULL_NAME,
+            id: FULL_ID,
+            latest: "-",
+            verdict: Verdict::Fail(Check::Files),
+        },
+        Case {
+            tells: "table and deletes",
+            envelope: DIFF,
+            changes: &[HAS_SOME_CUT, KEY_TWICE],
+            files: &[CUT_REGISTRAR, "R1\nR1\n"],
+            name: DIFF_NAME,
+            id: DIFF_ID,
+            latest: FULL_ID,
+            verdict: Verdict::Fail(Check::Table),
+        },
+        Case {
+            tells: "counts and references",
+            envelope: FULL,
+            changes: &[HAS_DOMAIN, TWO_DOMAINS],
+            files: &[DOMAIN],
+            name: FULL_NAME,
+            id: FULL_ID,
+            latest: "-",
+            verdict: Verdict::Fail(Check::Counts),
+        },
+    ];
+    for case in &cases {
+        assert_eq!(rt;
+            verdict_on(rt.alloc(), case)?,
+            case.verdict,
+            "{}",
+            case.tells
+        );
+    }
+    Ok(())
+}
+
+#[test]
+fn refuses_hostile_deposits(rt: HostRuntime) -> Result<(), Fail> {
+    let cases = [
+        Case {
+            tells: "eight MiB promised before no bytes",
+            envelope: FULL,
+            changes: &[LONG],
+            files: &[],
+            name: FULL_NAME,
+            id: FULL_ID,
+            latest: "-",
+            verdict: Verdict::Fail(Check::Files),
+        },
+        Case {
+            tells: "a length above any file's",
+            envelope: FULL,
+            changes: &[TOO_LONG],
+            files: &[],
+            name: FULL_NAME,
+            id: FULL_ID,
+            latest: "-",
+            verdict: Verdict::Fail(Check::Envelope),
+        },
+        Case {
+            tells: "an envelope with a byte behind it",
+            envelope: FULL,
+            changes: &[("00Z\"}", "00Z\"}\n")],
+            files: &[],
+            name: FULL_NAME,
+            id: FULL_ID,
+            latest: "-",
+            verdict: Verdict::Fail(Check::Envelope),
+        },
+        Case {
+            tells: "a byte behind the files",
+            envelope: FULL,
+            changes: &[],
+            files: &["\n"],
+            name: FULL_NAME,
+            id: FULL_ID,
+            latest: "-",
+            verdict: Verdict::Fail(Check::Files),
+        },
+        Case {
+            tells: "a row of empty fields",
+            envelope: FULL,
+            changes: &[HAS_COMMAS, ONE_DOMAIN],
+            files: &[",,,,,\n"],
+            name: FULL_NAME,
+            id: FULL_ID,
+            latest: "-",
+            verdict: Verdict::Fail(Check::Table),
+        },
+        Case {
+            tells: "files in another order",
+            envelope: FULL,
+            changes: &[HAS_DOMAIN, HAS_REGISTRAR, ONE_DOMAIN, ONE_REGISTRAR],
+            files: &[REGISTRAR, DOMAIN],
+            name: FULL_NAME,
+            id: FULL_ID,
+            latest: "-",
+            verdict: Verdict::Fail(Check::Files),
+        },
+        Case {
+            tells: "tables in another order",
+            envelope: FULL,
+            changes: &[DOMAIN_IS_HOST, HOST_IS_DOMAIN],
+            files: &[],
+            name: FULL_NAME,
+            id: FULL_ID,
+            latest: "-",
+            verdict: Verdict::Fail(Check::Menu),
+        },
+        Case {
+            tells: "one key in two rows",
+            envelope: FULL,
+            changes: &[HAS_TWO_REGISTRARS, ONE_REGISTRAR],
+            files: &["R9,Example,292,ok\nR9,Other,293,ok\n"],
+            name: FULL_NAME,
+            id: FULL_ID,
+            latest: "-",
+            verdict: Verdict::Fail(Check::Table),
+        },
+    ];
+    for case in &cases {
+        assert_eq!(rt;
+            verdict_on(rt.alloc(), case)?,
+            case.verdict,
+            "{}",
+            case.tells
+        );
+    }
+    Ok(())
+}
+
+#[test]
+fn refuses_frames(rt: HostRuntime) -> Result<(), Fail> {
     law_one_verdict();
     let alloc = rt.alloc();
-    let name = "example_2026-08-02_full_S1_R0.ryde";
-    let about = known(alloc, name, "20260802001", None)?;
-    let empty = full(alloc, &tables("", ""), [0, 0, 0, 0])?;
-    assert_eq!(rt; empty.len(), 1_422);
-    assert_eq!(rt; verify(alloc, &empty, &about)?, Verdict::Pass);
-    let (cut, _) = empty.split_at_checked(1_000).ok_or("a longer one")?;
-    assert_eq!(rt; verify(alloc, cut, &about)?, Verdict::Fail(Check::Frame));
-    let other = known(alloc, name, "X", None)?;
-    assert_eq!(rt;
-        verify(alloc, &empty, &other)?,
-        Verdict::Fail(Check::Statement)
-    );
-    let again = known(
-        alloc,
-        "example_2026-08-02_full_S1_R1.ryde",
-        "20260802001",
-        None,
-    )?;
-    assert_eq!(rt; verify(alloc, &empty, &again)?, Verdict::Fail(Check::Name));
-    let taken = known(alloc, name, "20260802001", Some("20260802001"))?;
-    assert_eq!(rt;
-        verify(alloc, &empty, &taken)?,
-        Verdict::Fail(Check::IdTaken)
-    );
-    let some = full(alloc, &tables("", "")[..7], [0, 0, 0, 0])?;
-    assert_eq!(rt; verify(alloc, &some, &about)?, Verdict::Fail(Check::Menu));
-    Ok(())
-}
-
-#[test]
-fn judges_tables(rt: HostRuntime) -> Result<(), Fail> {
-    let alloc = rt.alloc();
-    let about = known(
-        alloc,
-        "example_2026-08-02_full_S1_R0.ryde",
-        "20260802001",
-        None,
-    )?;
-    let registrar = "R9,Example,292,ok\n";
-    let open = full(alloc, &tables("", "R9,Example,292,ok"), [0, 0, 0, 1])?;
-    assert_eq!(rt; verify(alloc, &open, &about)?, Verdict::Fail(Check::Table));
-    let nobody = full(alloc, &tables(DOMAIN, ""), [0, 1, 0, 0])?;
-    assert_eq!(rt;
-        verify(alloc, &nobody, &about)?,
-        Verdict::Fail(Check::References)
-    );
-    let miscounted = full(alloc, &tables(DOMAIN, ""), [0, 2, 0, 0])?;
-    assert_eq!(rt;
-        verify(alloc, &miscounted, &about)?,
-        Verdict::Fail(Check::Counts)
-    );
-    let whole = full(alloc, &tables(DOMAIN, registrar), [0, 1, 0, 1])?;
-    assert_eq!(rt; verify(alloc, &whole, &about)?, Verdict::Pass);
-    let mut longer = full(alloc, &tables(DOMAIN, registrar), [0, 1, 0, 1])?;
-    longer.push(b'\n')?;
-    assert_eq!(rt;
-        verify(alloc, &longer, &about)?,
-        Verdict::Fail(Check::Files)
-    );
-    Ok(())
-}
-
-#[test]
-fn judges_differential_deposits(rt: HostRuntime) -> Result<(), Fail> {
-    let alloc = rt.alloc();
-    let name = "example_2026-08-03_diff_S1_R0.ryde";
-    let about = known(alloc, name, "20260803001", Some("20260802001"))?;
-    let empty = diff(alloc, "2026-08-03", &[], &[])?;
-    assert_eq!(rt; empty.len(), 583);
-    assert_eq!(rt; verify(alloc, &empty, &about)?, Verdict::Pass);
-    let first = known(alloc, name, "20260803001", None)?;
-    assert_eq!(rt;
-        verify(alloc, &empty, &first)?,
-        Verdict::Fail(Check::PrevId)
-    );
-    let sunday = known(
-        alloc,
-        "example_2026-08-09_diff_S1_R0.ryde",
-        "20260803001",
-        None,
-    )?;
-    let late = diff(alloc, "2026-08-09", &[], &[])?;
-    assert_eq!(rt;
-        verify(alloc, &late, &sunday)?,
-        Verdict::Fail(Check::Weekday)
-    );
-    let deleted = [
-        (TableName::Host, "ns1.a.example\n"),
-        (TableName::Registrar, "R1\n"),
-    ];
-    let removed = diff(alloc, "2026-08-03", &[], &deleted)?;
-    assert_eq!(rt; verify(alloc, &removed, &about)?, Verdict::Pass);
-    let twice = diff(
-        alloc,
-        "2026-08-03",
-        &[],
-        &[(TableName::Registrar, "R1\nR1\n")],
-    )?;
-    assert_eq!(rt;
-        verify(alloc, &twice, &about)?,
-        Verdict::Fail(Check::Deletes)
-    );
-    let turned = diff(alloc, "2026-08-03", &[], &[deleted[1], deleted[0]])?;
-    assert_eq!(rt; verify(alloc, &turned, &about)?, Verdict::Fail(Check::Menu));
+    let about = known(alloc, FULL_NAME, "X", "-")?;
+    let envelope = changed(alloc, FULL, &[])?;
+    let whole = format!(in alloc; "RDE1 {:08}\n{}", envelope.len(), envelope)?;
+    assert_eq!(rt; whole.len(), 1_422);
+    let promising = format!(in alloc; "RDE1 99999999\n{}", envelope)?;
+    let cut = whole.as_bytes().get(..1_000).ok_or("a longer one")?;
+    for joined in [
+        b"".as_slice(),
+        b"RDE1 0000000x\n{}",
+        promising.as_bytes(),
+        cut,
+    ] {
+        let verdict = verify(alloc, joined, &about)?;
+        assert_eq!(rt; verdict, Verdict::Fail(Check::Frame));
+    }
     Ok(())
 }

@@ -1,6 +1,6 @@
-use Rattle.std.proofs.Common.{AllPairs, Bor, List, ℕ, ◌≡◌, ◌≢◌, map, refl, subst, sym}
+use Rattle.std.proofs.Common.{AllPairs, Bor, List, ℕ, ◌≢◌, map, subst, sym}
 use Rattle.std.proofs.lemmas.List.Sorted.{IsPermutation-sym}
-use Rattle.dnrd_csv.specs.Keys.{Ascend, keys_of, texts_of}
+use Rattle.dnrd_csv.specs.Keys.{Ascend, texts_of}
 use Rattle.dnrd_csv.proofs.KeyLemmas.{ascend_differ, padded_differ, permuted_differ, plain_differ, rises}
 use Rattle.dnrd_csv.proofs.checks.have_keys.Goals as goal
 
@@ -10,27 +10,18 @@ Differ keys = AllPairs (λ one other. one ≢ other) keys
 abbrev TextsAscend : List (List (Bor (List ℕ))) → Type 0
 TextsAscend keys = Ascend (map texts_of keys)
 
-pub returns-then-ascend : goal.returns-then-ascend
-returns-then-ascend c = (
-  λ _.
-      let ascending = subst TextsAscend c.deref.ensures.value (c.ascend.ensures.0 c.if-ascend.true) in
-      plain_differ c.args.key c.args.rows.now (ascend_differ (keys_of c.args.key c.args.rows.now) (subst Ascend c.in_ok-keys.ensures ascending)),
-  λ _. refl,
-)
-
 pub returns : goal.returns
 returns c =
     let key = c.args.key in
     let rows = c.args.rows.now in
     let keys = c.in_ok-keys.keys.items in
     let moved = c.sort_unstable.new.self.items in
-    let there = c.sort_unstable.ensures.permutation in
-    (
+    let there = c.sort_unstable.ensures.permutation in (
       λ yes.
-          let ascending = subst TextsAscend c.deref-2.ensures.value (c.ascend-2.ensures.0 yes) in
+          let ascending = subst TextsAscend c.deref.ensures.value (c.ascend.ensures.0 yes) in
           let differ = permuted_differ moved keys (IsPermutation-sym keys moved there) (ascend_differ (map texts_of moved) ascending) in
           plain_differ key rows (subst Differ c.in_ok-keys.ensures differ),
       λ have.
           let differ = subst Differ (sym c.in_ok-keys.ensures) (padded_differ key rows c.requires.most c.requires.within have) in
-          c.ascend-2.ensures.1 (subst TextsAscend (sym c.deref-2.ensures.value) (rises moved c.sort_unstable.ensures.sorted (permuted_differ keys moved there differ))),
+          c.ascend.ensures.1 (subst TextsAscend (sym c.deref.ensures.value) (rises moved c.sort_unstable.ensures.sorted (permuted_differ keys moved there differ))),
     )
