@@ -1,7 +1,13 @@
-use super::*;
+ghost use Rattle.std.specs.Prelude.{◌≡◌, IfSome};
+ghost use Rattle.extent_map.specs.Map.{size_of};
+
 use std::alloc::Global;
 use std::test::Fail;
 use std::{env, fs, process};
+use vault_volume::{
+    Extent, ExtentMap, FileError, FileVolume, MemVolume, Staged, Vault, Volume, blocks_for,
+    read_head, write_head,
+};
 
 const NUMBER: u64 = 0x0123_4567_89AB_CDEF;
 
@@ -69,7 +75,9 @@ fn keep<V: Volume>(alloc: Global, vault: &mut Vault<V>, bytes: &[u8]) -> bool {
 }
 
 // The map of a volume whose blocks are free from a place on.
-fn map_from(alloc: Global, blocks: u32, place: u32) -> Option<ExtentMap> {
+fn map_from(alloc: Global, blocks: u32, place: u32) -> Option<ExtentMap>
+    ensures { IfSome result (λ map. size_of map ≡ blocks) }
+{
     if place < 2 {
         return ExtentMap::from_used(alloc, blocks, &[]).ok();
     }

@@ -1,5 +1,5 @@
 //! Maps of small volumes, with ample memory.
-use crate::{Extent, ExtentMap, MapError};
+use extent_map::{Extent, ExtentMap, MapError};
 use std::alloc::Global;
 use std::test::Fail;
 
