@@ -7,8 +7,6 @@ mod command;
 mod damage;
 mod laws;
 mod plain;
-#[cfg(test)]
-mod tests;
 
 pub use answers::{Fault, Refusal};
 pub use command::Command;

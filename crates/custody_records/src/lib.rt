@@ -17,8 +17,6 @@ mod records;
 mod registries;
 mod releases;
 mod tables;
-#[cfg(test)]
-mod tests;
 
 pub use damage::Damage;
 pub use errors::RowError;

@@ -24,9 +24,6 @@ use desk::{Notice, NoticeKind};
 use schedule::{Day, Sec};
 use vault_volume::Extent;
 
-#[cfg(test)]
-mod tests;
-
 /// What the records decide of a part, whatever its bytes.
 #[derive(Clone, Copy, Debug)]
 pub enum PartRuling<'a> {

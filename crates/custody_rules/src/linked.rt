@@ -15,9 +15,6 @@ use deposit_name::{DepositName, Kind, Tld};
 use desk::{Notice, NoticeKind};
 use schedule::Day;
 
-#[cfg(test)]
-mod tests;
-
 /// Whether the records belong together.
 pub(crate) fn are_linked(records: &Records) -> bool
     ensures linked { result ≡ true → AreLinked (records_of records.now) }

@@ -11,9 +11,6 @@ use custody_machine::Damage;
 use custody_records::Records;
 use std::alloc::{AllocError, Global};
 
-#[cfg(test)]
-mod tests;
-
 /// What is wrong among the records: the first of H5, H6 and H7 that is, or `None` where they are whole.
 pub fn damage_in(alloc: Global, records: &Records) -> Result<Option<Damage>, AllocError>
     ensures none { IfOk result (λ found. IfNone found (AreWhole (records_of records.now))) }

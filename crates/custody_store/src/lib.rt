@@ -13,8 +13,6 @@ mod registries;
 mod releases;
 mod store;
 mod tables;
-#[cfg(test)]
-mod tests;
 mod values;
 
 pub use faults::StoreFault;

@@ -9,6 +9,3 @@ mod words;
 pub use errors::MapError;
 pub use extent::Extent;
 pub use map::ExtentMap;
-
-#[cfg(test)]
-mod tests;

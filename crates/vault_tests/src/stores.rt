@@ -3,11 +3,10 @@ mod dropping;
 mod hostile;
 mod staged;
 
-use crate::Store;
-use crate::meta::find_meta;
-use crate::parts::add_part;
-use custody_records::{Meta, Names, NoticeKey, PartKey, Records, Registry, Release};
-use deposit_name::{DepositId, DepositName, Reference, Tld};
+use self::staged::{SHORT, insert, is_recorded, new_vault};
+use custody_records::{Meta, Names, NoticeKey, Records, Registry, Release};
+use custody_store::{Store, find_meta};
+use deposit_name::{DepositId, Reference, Tld};
 use desk::{Check, Ground, Notice, NoticeKind};
 use schedule::{Day, Sec};
 use sqlite::{Alter, Connection};
@@ -56,13 +55,9 @@ fn release(alloc: Global) -> Result<Release, Fail> {
 }
 
 /// Adds a part of five bytes in block 1.
-fn add_deposit<S: Alter + Drop>(store: Store<S>) -> Result<(Store<S>, bool), Fail> {
-    let name = DepositName::parse(NAME).ok().ok_or("a name")?;
-    let at = Sec::new(MOMENT).ok_or("a moment")?;
-    let blob = [0, 0, 0, 1, 0, 0, 0, 1];
-    let mut db = store.into_inner();
-    let is_added = add_part(&mut db, &name, at, 5, &[7; 32], &blob).is_ok();
-    Ok((Store::over(db), is_added))
+fn add_deposit<S: Alter>(store: &mut Store<S>, alloc: Global) -> Result<bool, Fail> {
+    let mut vault = new_vault(alloc)?;
+    Ok(insert(alloc, store, &mut vault, &SHORT)?.is_ok())
 }
 
 /// Adds a notice of each kind and a release, and answers how many were added.
@@ -86,7 +81,7 @@ fn add_told<S: Alter>(store: &mut Store<S>, alloc: Global) -> Result<usize, Fail
 fn filled<S: Alter + Drop>(db: Connection<S>, alloc: Global) -> Result<Store<S>, Fail> {
     let mut store = Store::over(db);
     let is_made = store.create(0xab, 8).is_ok() & store.insert_registry(&registry()?).is_ok();
-    let (mut store, is_added) = add_deposit(store)?;
+    let is_added = add_deposit(&mut store, alloc)?;
     let count = add_told(&mut store, alloc)?;
     if is_made & is_added & (count == 4) {
         Ok(store)
@@ -106,7 +101,7 @@ fn is_filled<S: Alter>(db: &mut Connection<S>) -> Result<bool, Fail> {
         "SELECT count(*) FROM meta WHERE one = 1 AND schema_no = 1 AND number = '00000000000000ab' AND blocks = 8";
     let registry = "SELECT count(*) FROM registry WHERE tld = 'example' AND first_day = 20667";
     let part =
-        "SELECT count(*) FROM part WHERE tld = 'example' AND day = 20667 AND rev = 0 AND part = 1 AND kind = 'full' AND received = 1785664800 AND keep_day = 21032 AND len = 5 AND sha = x'0707070707070707070707070707070707070707070707070707070707070707' AND extents = x'0000000100000001'";
+        "SELECT count(*) FROM part WHERE tld = 'example' AND day = 20667 AND rev = 0 AND part = 1 AND kind = 'full' AND received = 1785664800 AND keep_day = 21032 AND len = 5 AND sha = x'f9b0078b5df596d2ea19010c001bbd009e651de2c57e8fb7e355f31eb9d3f739' AND extents = x'0000000100000001'";
     let first =
         "SELECT count(*) FROM notice WHERE tld = 'example' AND number = 1 AND kind = 0 AND day = 20667 AND rev = 0 AND id = '20260802001' AND at = 1785664800";
     let second =
@@ -126,69 +121,91 @@ fn is_filled<S: Alter>(db: &mut Connection<S>) -> Result<bool, Fail> {
 /// Whether the records are those that were added.
 fn are_added(records: &Records) -> Result<bool, Fail> {
     let tld = Tld::parse(b"example").ok_or("a tld")?;
-    let name = DepositName::parse(NAME).ok().ok_or("a name")?;
     let reference = Reference::parse(b"REF-1").ok_or("a reference")?;
-    let part = records.part(&PartKey::of(&name)).ok_or("a part")?;
-    let extents = part.extents.as_ref().ok_or("extents")?;
     let told = records.notice(&NoticeKey { tld, number: 2 });
     let release = records.release(&reference).ok_or("a release")?;
     let is_volume = (records.number() == 0xab) & (records.blocks() == 8);
-    let is_part = (part.name == name) & (part.len == 5) & (part.digest == [7; 32]);
-    let is_held = extents
-        .iter()
-        .all(|extent| (extent.start, extent.count) == (1, 1));
+    let is_part = is_recorded(records, &SHORT)? & (records.parts().len() == 1);
     let is_told = told.is_some_and(|told| matches!(told.kind, NoticeKind::Failure { .. }));
     let is_given = (release.reason == Ground::Order) & (release.names.as_slice().len() == 1);
-    Ok(is_volume & is_part & is_held & is_told & is_given & (extents.len() == 1))
+    Ok(is_volume & is_part & is_told & is_given)
+}
+
+/// Whether a database holds what was added, by its records and by its rows.
+fn holds_all<S: Alter + Drop>(db: Connection<S>, alloc: Global) -> Result<bool, Fail> {
+    let mut store = Store::over(db);
+    let records = store.load(alloc).ok().ok_or("records")?;
+    let mut db = store.into_inner();
+    Ok(are_added(&records)? & is_filled(&mut db)?)
+}
+
+/// Whether nothing more is added to a filled database under the same keys.
+fn refuses_all_again<S: Alter>(store: &mut Store<S>, alloc: Global) -> Result<bool, Fail> {
+    let has_tables = store.create(0xab, 8).is_err();
+    let has_registry = store.insert_registry(&registry()?).is_err();
+    let has_part = !add_deposit(store, alloc)?;
+    Ok(has_tables & has_registry & has_part & (add_told(store, alloc)? == 0))
 }
 
 #[test]
 fn in_memory(rt: HostRuntime) -> Result<(), Fail> {
     let alloc = rt.alloc();
-    let mut db = Connection::open_in_memory(alloc)?;
-    assert!(rt; find_meta(&mut db).is_ok_and(|found| found.is_none()));
-    let mut store = Store::over(db);
-    assert!(rt; store.load(alloc).is_err());
-    let mut store = filled(store.into_inner(), alloc)?;
-    assert!(rt; store.create(0xab, 8).is_err());
-    assert!(rt; store.insert_registry(&registry()?).is_err());
-    let (mut store, is_added) = add_deposit(store)?;
-    assert!(rt; !is_added);
-    assert_eq!(rt; add_told(&mut store, alloc)?, 0);
-    let records = store.load(alloc).ok().ok_or("records")?;
-    assert!(rt; are_added(&records)?);
-    let mut db = store.into_inner();
-    assert!(rt; find_meta(&mut db).is_ok_and(|found| found == Some(META)));
-    assert!(rt; is_filled(&mut db)?);
+    let mut store = filled(Connection::open_in_memory(alloc)?, alloc)?;
+    assert!(rt; refuses_all_again(&mut store, alloc)?);
+    assert!(rt; holds_all(store.into_inner(), alloc)?);
     Ok(())
+}
+
+/// Whether a database has no row of meta, and nothing is loaded from it.
+fn is_bare<S: Alter + Drop>(mut db: Connection<S>, alloc: Global) -> bool {
+    let has_none = find_meta(&mut db).is_ok_and(|found| found.is_none());
+    has_none & Store::over(db).load(alloc).is_err()
+}
+
+#[test]
+fn meta_is_found_where_it_is(rt: HostRuntime) -> Result<(), Fail> {
+    let alloc = rt.alloc();
+    assert!(rt; is_bare(Connection::open_in_memory(alloc)?, alloc));
+    let mut db = filled(Connection::open_in_memory(alloc)?, alloc)?.into_inner();
+    assert!(rt; find_meta(&mut db).is_ok_and(|found| found == Some(META)));
+    Ok(())
+}
+
+/// Whether nothing is added to tables with no registry.
+fn refuses_all<S: Alter + Drop>(db: Connection<S>, alloc: Global) -> Result<bool, Fail> {
+    let mut store = Store::over(db);
+    let is_made = store.create(1, 2).is_ok();
+    let is_added = add_deposit(&mut store, alloc)?;
+    let count = add_told(&mut store, alloc)?;
+    let records = store.load(alloc).ok().ok_or("records")?;
+    let are_none = records.parts().is_empty() & records.notices().is_empty();
+    Ok(is_made & !is_added & (count == 0) & are_none)
 }
 
 #[test]
 fn without_a_registry(rt: HostRuntime) -> Result<(), Fail> {
     let alloc = rt.alloc();
-    let mut store = Store::over(Connection::open_in_memory(alloc)?);
-    assert!(rt; store.create(1, 2).is_ok());
-    let (mut store, is_added) = add_deposit(store)?;
-    assert!(rt; !is_added);
-    assert_eq!(rt; add_told(&mut store, alloc)?, 0);
-    let records = store.load(alloc).ok().ok_or("records")?;
-    assert!(rt; records.parts().is_empty() & records.notices().is_empty());
+    assert!(rt; refuses_all(Connection::open_in_memory(alloc)?, alloc)?);
+    Ok(())
+}
+
+const FOLDER: &str = "custody_store_test";
+
+const FILE: &str = "custody_store_test/a.db";
+
+/// Fills a database in a file, and closes it.
+fn fill_file(rt: &HostRuntime) -> Result<(), Fail> {
+    let store = filled(Connection::open(rt, FILE)?, rt.alloc())?;
+    store.into_inner().close()?;
     Ok(())
 }
 
 #[test]
 fn in_a_file(rt: HostRuntime) -> Result<(), Fail> {
-    let alloc = rt.alloc();
-    let _ = fs::remove_dir_all(&rt, "custody_store_test");
-    fs::create_dir(&rt, "custody_store_test")?;
-    let store = filled(Connection::open(&rt, "custody_store_test/a.db")?, alloc)?;
-    store.into_inner().close()?;
-    let mut store = Store::over(Connection::open(&rt, "custody_store_test/a.db")?);
-    let records = store.load(alloc).ok().ok_or("records")?;
-    assert!(rt; are_added(&records)?);
-    let mut db = store.into_inner();
-    assert!(rt; is_filled(&mut db)?);
-    db.close()?;
-    fs::remove_dir_all(&rt, "custody_store_test")?;
+    let _ = fs::remove_dir_all(&rt, FOLDER);
+    fs::create_dir(&rt, FOLDER)?;
+    fill_file(&rt)?;
+    assert!(rt; holds_all(Connection::open(&rt, FILE)?, rt.alloc())?);
+    fs::remove_dir_all(&rt, FOLDER)?;
     Ok(())
 }

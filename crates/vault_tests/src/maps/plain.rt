@@ -1,7 +1,7 @@
 //! The map against a plain one, a list of extents, on random volumes.
 ghost use Rattle.std.specs.Prelude.{◌≤◌, ◌<◌};
 
-use crate::{Extent, ExtentMap};
+use extent_map::{Extent, ExtentMap};
 use std::alloc::{AllocError, Global};
 use std::test::Fail;
 

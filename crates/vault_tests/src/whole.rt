@@ -1,8 +1,7 @@
 //! Damage among the records of a volume of 16 blocks, and the blocks that they leave free.
-use super::damage_in;
-use crate::blocks::map_of;
 use custody_machine::Damage;
 use custody_records::{Part, Records, Registry};
+use custody_rules::{damage_in, map_of};
 use deposit_name::{DepositName, Kind, Tld};
 use schedule::{Day, read_day, read_moment};
 use std::alloc::Global;

@@ -1,7 +1,8 @@
 //! Records that belong together, and records that one record more breaks.
-use super::{are_exclusive, are_linked};
+use custody_machine::Damage;
 use custody_records::{NoticeColumns, PartColumns, Records, ReleaseColumns, read_registry};
-use desk::NoticeKind;
+use custody_rules::damage_in;
+use std::alloc::Global;
 use std::test::Fail;
 
 // 2026-08-02, a Sunday, and the kinds of notices: 11 is a failure of the check of counts.
@@ -84,28 +85,37 @@ fn whole(rt: HostRuntime) -> Result<Records, Fail> {
     Ok(records)
 }
 
+// Whether the records belong together, where nothing else is wrong among them.
+fn are_linked(alloc: Global, records: &Records) -> Result<bool, Fail> {
+    match damage_in(alloc, records)? {
+        None => Ok(true),
+        Some(Damage::Link) => Ok(false),
+        Some(_) => Err(Fail::from("other damage")),
+    }
+}
+
 fn is_linked_with_part(rt: HostRuntime, columns: PartColumns<'_>) -> Result<bool, Fail> {
     let mut records = whole(rt)?;
     records.insert_part(columns.read(rt.alloc())?)?;
-    Ok(are_linked(&records))
+    are_linked(rt.alloc(), &records)
 }
 
 fn is_linked_with_notice(rt: HostRuntime, columns: NoticeColumns<'_>) -> Result<bool, Fail> {
     let mut records = whole(rt)?;
     records.insert_notice(&columns.read().ok_or("no notice")?)?;
-    Ok(are_linked(&records))
+    are_linked(rt.alloc(), &records)
 }
 
 fn is_linked_with_release(rt: HostRuntime, columns: ReleaseColumns<'_>) -> Result<bool, Fail> {
     let mut records = whole(rt)?;
     records.insert_release(columns.read(rt.alloc())?)?;
-    Ok(are_linked(&records))
+    are_linked(rt.alloc(), &records)
 }
 
 #[test]
 fn whole_records_belong_together(rt: HostRuntime) -> Result<(), Fail> {
-    assert!(rt; are_linked(&Records::new(rt.alloc(), 7, 1000)));
-    assert!(rt; are_linked(&whole(rt)?));
+    assert!(rt; are_linked(rt.alloc(), &Records::new(rt.alloc(), 7, 1000))?);
+    assert!(rt; are_linked(rt.alloc(), &whole(rt)?)?);
     assert!(rt; is_linked_with_part(rt, part(1, 2))?);
     assert!(rt; is_linked_with_notice(rt, absence(4, DAY + 14))?);
     assert!(rt; is_linked_with_release(rt, release(b""))?);
@@ -190,13 +200,6 @@ fn verdicts_are_of_parts_and_the_only_ones(rt: HostRuntime) -> Result<(), Fail> 
 fn a_day_has_one_receipt_and_one_absence(rt: HostRuntime) -> Result<(), Fail> {
     assert!(rt; !is_linked_with_notice(rt, absence(4, DAY + 7))?);
     assert!(rt; !is_linked_with_notice(rt, notice(4, RECEIPT, 0))?);
-    // Two receipts of one day break other rules too: here they alone are looked at.
-    let kinds: [NoticeKind; 2] = [
-        notice(1, RECEIPT, 0).read().ok_or("no notice")?.kind,
-        notice(2, RECEIPT, 1).read().ok_or("no notice")?.kind,
-    ];
-    assert!(rt; are_exclusive(&kinds[0], &kinds[1]));
-    assert!(rt; !are_exclusive(&kinds[0], &NoticeKind::Absence));
     Ok(())
 }
 

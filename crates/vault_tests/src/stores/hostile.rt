@@ -1,7 +1,7 @@
 //! Each field of each table, once out of its form.
 use super::filled;
-use crate::{Store, StoreFault};
 use custody_records::Damage;
+use custody_store::{Store, StoreFault};
 use sqlite::Connection;
 use std::alloc::Global;
 use std::test::Fail;

@@ -1,5 +1,5 @@
 //! The records and their rows at work: hostile rows, a key twice, and memory that runs out.
-use crate::{
+use custody_records::{
     Names, NoticeColumns, NoticeKey, Part, PartColumns, PartKey, Records, ReleaseColumns, RowError,
     read_registry, write_blob,
 };

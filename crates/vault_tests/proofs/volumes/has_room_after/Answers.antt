@@ -1,5 +1,5 @@
 use Rattle.std.proofs.Common.{◌∙◌}
-use Rattle.vault_volume.proofs.tests.has_room_after.Goals as goal
+use Rattle.vault_tests.proofs.volumes.has_room_after.Goals as goal
 
 pub give_back-requires : goal.give_back-requires
 give_back-requires c =

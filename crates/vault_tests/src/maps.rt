@@ -1,7 +1,7 @@
 //! Maps of small volumes, with ample memory.
 mod plain;
 
-use crate::{Extent, ExtentMap, MapError};
+use extent_map::{Extent, ExtentMap, MapError};
 use std::alloc::Global;
 use std::test::Fail;
 

@@ -1,7 +1,7 @@
 //! Parts whose bytes a vault staged are read back as they were staged.
 use super::registry;
-use crate::{Store, StoreFault};
 use custody_records::{PartKey, Records};
+use custody_store::{Store, StoreFault};
 use deposit_name::DepositName;
 use schedule::Sec;
 use sqlite::{Alter, Connection};
@@ -11,16 +11,16 @@ use vault_volume::{Extent, ExtentMap, MemVolume, Vault, Volume};
 
 /// A part that is inserted, and what is to be read back of it.
 #[derive(Clone, Copy)]
-struct Staging {
-    name: &'static [u8],
-    at: i64,
-    bytes: &'static [u8],
-    sha: &'static [u8],
-    extent: Extent,
+pub struct Staging {
+    pub name: &'static [u8],
+    pub at: i64,
+    pub bytes: &'static [u8],
+    pub sha: &'static [u8],
+    pub extent: Extent,
 }
 
 // The digests are those that another program gave for these bytes.
-const SHORT: Staging = Staging {
+pub const SHORT: Staging = Staging {
     name: b"example_2026-08-02_full_S1_R0.ryde",
     at: 1785664800,
     bytes: b"short",
@@ -36,10 +36,17 @@ const LONG: Staging = Staging {
     extent: Extent { start: 2, count: 3 },
 };
 
-type Inserted = Result<(Vec<Extent>, u32, [u8; 32]), StoreFault>;
+pub type Inserted = Result<(Vec<Extent>, u32, [u8; 32]), StoreFault>;
+
+/// A vault of 7 free blocks.
+pub fn new_vault(alloc: Global) -> Result<Vault<MemVolume>, Fail> {
+    let volume = MemVolume::new(alloc, 8, 16, 8)?;
+    let map = ExtentMap::from_used(alloc, volume.size(), &[])?;
+    Ok(Vault::over(volume, map))
+}
 
 /// Stages the bytes and adds a part of them.
-fn insert<S: Alter>(
+pub fn insert<S: Alter>(
     alloc: Global,
     store: &mut Store<S>,
     vault: &mut Vault<MemVolume>,
@@ -73,7 +80,7 @@ fn is_staged(extents: &[Extent], len: u32, digest: &[u8; 32], staging: &Staging)
 }
 
 /// Whether the records have the part.
-fn is_recorded(records: &Records, staging: &Staging) -> Result<bool, Fail> {
+pub fn is_recorded(records: &Records, staging: &Staging) -> Result<bool, Fail> {
     let name = DepositName::parse(staging.name).ok().ok_or("a name")?;
     let at = Sec::new(staging.at).ok_or("a moment")?;
     let part = records.part(&PartKey::of(&name)).ok_or("a part")?;
@@ -89,24 +96,30 @@ fn are_both<S: Alter>(alloc: Global, store: &mut Store<S>) -> Result<bool, Fail>
     Ok(are_recorded & (records.parts().len() == 2))
 }
 
+/// Whether two parts are read back as they were staged, also after a third under the first one's name.
+fn keeps_both<S: Alter>(
+    alloc: Global,
+    store: &mut Store<S>,
+    vault: &mut Vault<MemVolume>,
+) -> Result<bool, Fail> {
+    let short = insert(alloc, store, vault, &SHORT)?;
+    let long = insert(alloc, store, vault, &LONG)?;
+    let are_handed_back = is_handed_back(&short, &SHORT) & is_handed_back(&long, &LONG);
+    let are_kept = are_both(alloc, store)?;
+    let other = Staging {
+        bytes: b"other",
+        ..SHORT
+    };
+    let is_refused = insert(alloc, store, vault, &other)?.err() == Some(StoreFault::Failed);
+    Ok(are_handed_back & are_kept & is_refused & are_both(alloc, store)?)
+}
+
 #[test]
 fn staged_parts(rt: HostRuntime) -> Result<(), Fail> {
     let alloc = rt.alloc();
     let mut store = Store::over(Connection::open_in_memory(alloc)?);
     let is_made = store.create(0xab, 8).is_ok() & store.insert_registry(&registry()?).is_ok();
-    let volume = MemVolume::new(alloc, 8, 16, 8)?;
-    let map = ExtentMap::from_used(alloc, volume.size(), &[])?;
-    let mut vault = Vault::over(volume, map);
-    let short = insert(alloc, &mut store, &mut vault, &SHORT)?;
-    let long = insert(alloc, &mut store, &mut vault, &LONG)?;
-    assert!(rt; is_made & is_handed_back(&short, &SHORT) & is_handed_back(&long, &LONG));
-    assert!(rt; are_both(alloc, &mut store)?);
-    let again = Staging {
-        bytes: b"other",
-        ..SHORT
-    };
-    let again = insert(alloc, &mut store, &mut vault, &again)?;
-    assert_eq!(rt; again.err(), Some(StoreFault::Failed));
-    assert!(rt; are_both(alloc, &mut store)?);
+    let mut vault = new_vault(alloc)?;
+    assert!(rt; is_made & keeps_both(alloc, &mut store, &mut vault)?);
     Ok(())
 }

@@ -1,10 +1,13 @@
 ghost use Rattle.std.specs.Prelude.{◌≡◌, IfSome};
 ghost use Rattle.extent_map.specs.Map.{size_of};
 
-use super::*;
 use std::alloc::Global;
 use std::test::Fail;
 use std::{env, fs, process};
+use vault_volume::{
+    Extent, ExtentMap, FileError, FileVolume, MemVolume, Staged, Vault, Volume, blocks_for,
+    read_head, write_head,
+};
 
 const NUMBER: u64 = 0x0123_4567_89AB_CDEF;
 

@@ -1,0 +1,244 @@
+//! Worked rulings of parts.
+use custody_machine::Refusal;
+use custody_records::{Part, Records, Registry};
+use custody_rules::{PartRuling, judge_part};
+use deposit_name::{DepositId, DepositName, NameError, Tld};
+use desk::{Check, Notice, NoticeKind};
+use schedule::{Day, Sec, read_day, read_moment};
+use std::alloc::Global;
+use std::test::Fail;
+use vault_volume::Extent;
+
+const FIRST: &[u8] = b"example_2026-08-02_full_S1_R0.ryde";
+
+const SECOND: &[u8] = b"example_2026-08-02_full_S2_R0.ryde";
+
+const HELD: Extent = Extent { start: 1, count: 1 };
+
+const RESENT: &[u8] = b"example_2026-08-02_full_S1_R1.ryde";
+
+fn day() -> Result<Day, Fail> {
+    Ok(read_day(b"2026-08-02").ok_or("a day")?)
+}
+
+fn moment() -> Result<Sec, Fail> {
+    Ok(read_moment(b"2026-08-02T10:00:00Z").ok_or("a moment")?)
+}
+
+// The registry `example`, whose deposits begin on 2026-08-02.
+fn registered(alloc: Global) -> Result<Records, Fail> {
+    let mut records = Records::new(alloc, 7, 1024);
+    let tld = Tld::parse(b"example").ok_or("a domain")?;
+    records.insert_registry(Registry {
+        tld,
+        first_day: day()?,
+    })?;
+    Ok(records)
+}
+
+fn part(alloc: Global, name: &[u8], is_held: bool) -> Result<Part, Fail> {
+    let extents = if is_held {
+        Some(vec![in alloc; HELD]?)
+    } else {
+        None
+    };
+    Ok(Part {
+        name: DepositName::parse(name).ok().ok_or("a name")?,
+        received: moment()?,
+        len: 5,
+        digest: [7; 32],
+        extents,
+    })
+}
+
+// The registry with one part.
+fn with_part(alloc: Global, name: &[u8], is_held: bool) -> Result<Records, Fail> {
+    let mut records = registered(alloc)?;
+    records.insert_part(part(alloc, name, is_held)?)?;
+    Ok(records)
+}
+
+// The registry with its first part and a notice of the day.
+fn after(alloc: Global, kind: NoticeKind) -> Result<Records, Fail> {
+    let mut records = with_part(alloc, FIRST, true)?;
+    records.insert_notice(&Notice {
+        number: 1,
+        tld: Tld::parse(b"example").ok_or("a domain")?,
+        day: day()?,
+        at: moment()?,
+        kind,
+    })?;
+    Ok(records)
+}
+
+/// What is recorded where a part comes: the registry alone, or with its first part, or with that and a
+/// notice of the day.
+#[derive(Clone, Copy, Debug)]
+enum Before {
+    Registry,
+    Held,
+    Dropped,
+    Receipt,
+    Failure,
+    Absence,
+}
+
+fn records_of(alloc: Global, before: Before) -> Result<Records, Fail> {
+    let id = DepositId::parse(b"A1").ok_or("an id")?;
+    let check = Check::Counts;
+    match before {
+        Before::Registry => registered(alloc),
+        Before::Held => with_part(alloc, FIRST, true),
+        Before::Dropped => with_part(alloc, FIRST, false),
+        Before::Receipt => after(alloc, NoticeKind::Receipt { rev: 0, id }),
+        Before::Failure => after(alloc, NoticeKind::Failure { rev: 0, id, check }),
+        Before::Absence => after(alloc, NoticeKind::Absence),
+    }
+}
+
+#[derive(Clone, Copy, PartialEq, Debug)]
+enum Ruling {
+    Go,
+    /// It is compared with the first part, which is held.
+    Compare,
+    Refuse(Refusal),
+}
+
+fn ruled(alloc: Global, before: Before, name: &[u8], len: usize) -> Result<Ruling, Fail> {
+    let records = records_of(alloc, before)?;
+    match judge_part(&records, name, len, moment()?) {
+        PartRuling::Refuse(refusal) => Ok(Ruling::Refuse(refusal)),
+        PartRuling::Go(judged) => {
+            if DepositName::parse(name) == Ok(judged) {
+                Ok(Ruling::Go)
+            } else {
+                Err(Fail::from("another name"))
+            }
+        }
+        PartRuling::Compare(part, extents) => {
+            if part.len == 5 && extents == [HELD].as_slice() {
+                Ok(Ruling::Compare)
+            } else {
+                Err(Fail::from("another part"))
+            }
+        }
+    }
+}
+
+const RULINGS: [(Before, &[u8], Ruling); 22] = [
+    (Before::Registry, FIRST, Ruling::Go),
+    (Before::Held, SECOND, Ruling::Go),
+    (
+        Before::Registry,
+        b"example_2026-08-02_full_S1_R01.ryde",
+        Ruling::Refuse(Refusal::NameRefused(NameError::Revision)),
+    ),
+    (
+        Before::Registry,
+        b"example_2026-08-02_full_S1_R0",
+        Ruling::Refuse(Refusal::NameRefused(NameError::Suffix)),
+    ),
+    (
+        Before::Registry,
+        b"examples_2026-08-02_full_S1_R0.ryde",
+        Ruling::Refuse(Refusal::RegistryUnknown),
+    ),
+    (
+        Before::Registry,
+        b"example_2026-08-01_full_S1_R0.ryde",
+        Ruling::Refuse(Refusal::DateOutOfRange),
+    ),
+    (
+        Before::Registry,
+        b"example_2026-08-03_full_S1_R0.ryde",
+        Ruling::Refuse(Refusal::DateOutOfRange),
+    ),
+    (Before::Held, FIRST, Ruling::Compare),
+    (Before::Receipt, FIRST, Ruling::Compare),
+    (
+        Before::Dropped,
+        FIRST,
+        Ruling::Refuse(Refusal::DroppedAfterKeeping),
+    ),
+    (
+        Before::Held,
+        RESENT,
+        Ruling::Refuse(Refusal::RevisionNotDue),
+    ),
+    (Before::Failure, RESENT, Ruling::Go),
+    // The failure is of revision 0.
+    (
+        Before::Failure,
+        b"example_2026-08-02_full_S1_R2.ryde",
+        Ruling::Refuse(Refusal::RevisionNotDue),
+    ),
+    (
+        Before::Receipt,
+        SECOND,
+        Ruling::Refuse(Refusal::RevisionNotDue),
+    ),
+    (
+        Before::Receipt,
+        RESENT,
+        Ruling::Refuse(Refusal::RevisionNotDue),
+    ),
+    (
+        Before::Failure,
+        SECOND,
+        Ruling::Refuse(Refusal::AlreadyStated),
+    ),
+    (Before::Absence, SECOND, Ruling::Go),
+    (
+        Before::Absence,
+        RESENT,
+        Ruling::Refuse(Refusal::RevisionNotDue),
+    ),
+    (
+        Before::Held,
+        b"example_2026-08-02_diff_S1_R0.ryde",
+        Ruling::Refuse(Refusal::TypeDiffers),
+    ),
+    (
+        Before::Held,
+        b"example_2026-08-02_diff_S2_R0.ryde",
+        Ruling::Refuse(Refusal::TypeDiffers),
+    ),
+    (
+        Before::Registry,
+        SECOND,
+        Ruling::Refuse(Refusal::PartOutOfOrder),
+    ),
+    (
+        Before::Held,
+        b"example_2026-08-02_full_S3_R0.ryde",
+        Ruling::Refuse(Refusal::PartOutOfOrder),
+    ),
+];
+
+#[test]
+fn rules_by_what_is_recorded(rt: HostRuntime) -> Result<(), Fail> {
+    for (before, name, wanted) in RULINGS {
+        assert_eq!(rt; ruled(rt.alloc(), before, name, 5)?, wanted, "{before:?}");
+    }
+    Ok(())
+}
+
+#[test]
+fn a_part_has_a_byte_and_no_more_than_a_mebibyte(rt: HostRuntime) -> Result<(), Fail> {
+    // The length is judged before a name that is recorded.
+    let rows = [
+        (Before::Registry, 0, Ruling::Refuse(Refusal::Size)),
+        (Before::Registry, 1, Ruling::Go),
+        (Before::Registry, 1_048_576, Ruling::Go),
+        (Before::Registry, 1_048_577, Ruling::Refuse(Refusal::Size)),
+        (Before::Dropped, 0, Ruling::Refuse(Refusal::Size)),
+    ];
+    for (before, len, wanted) in rows {
+        assert_eq!(rt;
+            ruled(rt.alloc(), before, FIRST, len)?,
+            wanted,
+            "{len} bytes"
+        );
+    }
+    Ok(())
+}
