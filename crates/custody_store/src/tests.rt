@@ -8,7 +8,7 @@ use crate::meta::find_meta;
 use crate::parts::add_part;
 use custody_records::{Meta, Names, NoticeKey, PartKey, Records, Registry, Release};
 use deposit_name::{DepositId, DepositName, Reference, Tld};
-use desk::{Check, Ground, Notice, NoticeKind};
+use desk::{Check, Ground, Notice, NoticeKind, Revision};
 use schedule::{Day, Sec};
 use sqlite::{Alter, Connection};
 use std::alloc::Global;
@@ -68,13 +68,14 @@ fn add_deposit<S: Alter + Drop>(store: Store<S>) -> Result<(Store<S>, bool), Fai
 /// Adds a notice of each kind and a release, and answers how many were added.
 fn add_told<S: Alter>(store: &mut Store<S>, alloc: Global) -> Result<usize, Fail> {
     let id = DepositId::parse(b"20260802001").ok_or("an id")?;
+    let rev = Revision::new(0).ok_or("a revision")?;
     let failure = NoticeKind::Failure {
-        rev: 1,
+        rev: Revision::new(1).ok_or("a revision")?,
         id,
         check: Check::Deletes,
     };
     let added = [
-        store.insert_notice(&notice(1, NoticeKind::Receipt { rev: 0, id })?),
+        store.insert_notice(&notice(1, NoticeKind::Receipt { rev, id })?),
         store.insert_notice(&notice(2, failure)?),
         store.insert_notice(&notice(3, NoticeKind::Absence)?),
         store.insert_release(alloc, &release(alloc)?),

@@ -3,7 +3,7 @@ use super::{PartRuling, judge_part};
 use custody_machine::Refusal;
 use custody_records::{Part, Records, Registry};
 use deposit_name::{DepositId, DepositName, NameError, Tld};
-use desk::{Check, Notice, NoticeKind};
+use desk::{Check, Notice, NoticeKind, Revision};
 use schedule::{Day, Sec, read_day, read_moment};
 use std::alloc::Global;
 use std::test::Fail;
@@ -71,13 +71,15 @@ fn after(alloc: Global, kind: NoticeKind) -> Result<Records, Fail> {
 
 fn after_receipt(alloc: Global) -> Result<Records, Fail> {
     let id = DepositId::parse(b"A1").ok_or("an id")?;
-    after(alloc, NoticeKind::Receipt { rev: 0, id })
+    let rev = Revision::new(0).ok_or("a revision")?;
+    after(alloc, NoticeKind::Receipt { rev, id })
 }
 
 fn after_failure(alloc: Global) -> Result<Records, Fail> {
     let id = DepositId::parse(b"A1").ok_or("an id")?;
+    let rev = Revision::new(0).ok_or("a revision")?;
     let check = Check::Counts;
-    after(alloc, NoticeKind::Failure { rev: 0, id, check })
+    after(alloc, NoticeKind::Failure { rev, id, check })
 }
 
 // Why a part of five bytes is refused.
