@@ -1,11 +1,11 @@
 //! Notices as rows.
-ghost use Rattle.std.specs.Prelude.{◌≡◌, option_map};
-ghost use Rattle.custody_records.specs.Form.{check_in, natural, notice_in, notice_kind_in};
+ghost use Rattle.std.specs.Prelude.{◌≡◌, None, Some, if◌then◌else◌, option_map};
+ghost use Rattle.custody_records.specs.Form.{check_in, is_within, natural, notice_in, notice_kind_in};
 ghost use Rattle.custody_records.specs.Typed.{notice_entry, notice_row};
 
 use crate::fields::number_within;
 use deposit_name::{DepositId, Tld};
-use desk::{Check, Notice, NoticeKind};
+use desk::{Check, Notice, NoticeKind, Revision};
 use schedule::{Day, Sec};
 
 /// The columns of a row of the table of notices.
@@ -54,7 +54,7 @@ impl NoticeColumns<'_> {
                 None
             };
         }
-        let rev = number_within(self.rev, 0, 99)? as u8;
+        let rev = read_revision(self.rev)?;
         let id = DepositId::parse(self.id)?;
         if self.kind == RECEIPT {
             return Some(NoticeKind::Receipt { rev, id });
@@ -62,6 +62,13 @@ impl NoticeColumns<'_> {
         let check = read_check(self.kind)?;
         Some(NoticeKind::Failure { rev, id, check })
     }
+}
+
+/// The revision of that number.
+fn read_revision(number: i64) -> Option<Revision>
+    ensures { result ≡ (if is_within 0 99 number then Some (natural number) else None) }
+{
+    Revision::new(number_within(number, 0, 99)? as u8)
 }
 
 /// The check of that number.

@@ -162,7 +162,9 @@ fn is_verdict_of(notice: &Notice, name: &DepositName) -> bool
 {
     is_of_day(notice, name)
         && match notice.kind {
-            NoticeKind::Receipt { rev, .. } | NoticeKind::Failure { rev, .. } => rev == name.rev,
+            NoticeKind::Receipt { rev, .. } | NoticeKind::Failure { rev, .. } => {
+                rev.number() == name.rev
+            }
             NoticeKind::Absence => false,
         }
 }

@@ -124,7 +124,7 @@ fn is_failure_of(kind: &NoticeKind, rev: u8) -> bool
     ensures { result ≡ is_failure_of rev kind.now }
 {
     match kind {
-        NoticeKind::Failure { rev: failed, .. } => *failed == rev,
+        NoticeKind::Failure { rev: failed, .. } => failed.number() == rev,
         NoticeKind::Receipt { .. } | NoticeKind::Absence => false,
     }
 }
@@ -176,7 +176,7 @@ fn revision_of(kind: &NoticeKind) -> Option<u8>
     ensures { result ≡ revision_of kind.now }
 {
     match kind {
-        NoticeKind::Receipt { rev, .. } | NoticeKind::Failure { rev, .. } => Some(*rev),
+        NoticeKind::Receipt { rev, .. } | NoticeKind::Failure { rev, .. } => Some(rev.number()),
         NoticeKind::Absence => None,
     }
 }

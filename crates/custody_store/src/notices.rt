@@ -34,7 +34,7 @@ fn rev_of(kind: &NoticeKind) -> u8
     ensures { result ≡ kind_rev kind.now }
 {
     match kind {
-        NoticeKind::Receipt { rev, .. } | NoticeKind::Failure { rev, .. } => *rev,
+        NoticeKind::Receipt { rev, .. } | NoticeKind::Failure { rev, .. } => rev.number(),
         NoticeKind::Absence => 0,
     }
 }

@@ -7,6 +7,7 @@ mod grounds;
 mod lines;
 mod notices;
 mod reports;
+mod revision;
 mod standing;
 
 pub use checks::Check;
@@ -14,4 +15,5 @@ pub use grounds::Ground;
 pub use lines::{LINE_MAX, write_line};
 pub use notices::{Notice, NoticeKind};
 pub use reports::{Fault, report};
+pub use revision::Revision;
 pub use standing::ground_stands;

@@ -76,7 +76,8 @@ fn put_revision(out: &mut [u8; 160], at: usize, kind: NoticeKind) -> usize
 {
     match kind {
         NoticeKind::Receipt { rev, .. } | NoticeKind::Failure { rev, .. } => {
-            put(out, at, &[b'R', b'0' + rev / 10, b'0' + rev % 10])
+            let number = rev.number();
+            put(out, at, &[b'R', b'0' + number / 10, b'0' + number % 10])
         }
         NoticeKind::Absence => put(out, at, b"---"),
     }

@@ -1,5 +1,6 @@
 //! What is told of deposits.
 use crate::Check;
+use crate::revision::Revision;
 use deposit_name::{DepositId, Tld};
 use schedule::{Day, Sec};
 
@@ -8,12 +9,12 @@ use schedule::{Day, Sec};
 pub enum NoticeKind {
     /// A deposit was received and verified.
     Receipt {
-        rev: u8,
+        rev: Revision,
         id: DepositId,
     },
     /// A deposit was received, and a check of it failed.
     Failure {
-        rev: u8,
+        rev: Revision,
         id: DepositId,
         check: Check,
     },

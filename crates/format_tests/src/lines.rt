@@ -1,6 +1,6 @@
 //! The texts of checks and grounds.
 use deposit_name::{DepositId, Tld};
-use desk::{Check, Ground, Notice, NoticeKind, ground_stands, report};
+use desk::{Check, Ground, Notice, NoticeKind, Revision, ground_stands, report};
 use schedule::{read_day, read_moment};
 use std::test::Fail;
 
@@ -37,13 +37,14 @@ fn reports_notices(rt: HostRuntime) -> Result<(), Fail> {
     let id = DepositId::parse(b"20260802001").ok_or("an id")?;
     let other = DepositId::parse(b"X").ok_or("an id")?;
     let at = "2026-08-02T10:05:00Z";
+    let rev = Revision::new(0).ok_or("a revision")?;
     let failure = NoticeKind::Failure {
-        rev: 0,
+        rev,
         id: other,
         check: Check::Frame,
     };
     let notices = [
-        notice(1, "2026-08-02", at, NoticeKind::Receipt { rev: 0, id })?,
+        notice(1, "2026-08-02", at, NoticeKind::Receipt { rev, id })?,
         notice(2, "2026-08-02", at, failure)?,
         notice(1, "2026-08-04", "2026-08-05T00:00:00Z", NoticeKind::Absence)?,
     ];
@@ -85,7 +86,8 @@ fn tells_which_grounds_stand(rt: HostRuntime) -> Result<(), Fail> {
     assert!(rt; ground_stands(Ground::SundayFailed, &notices, last));
     assert!(rt; ground_stands(Ground::Audit, &[], last));
     let id = DepositId::parse(b"X").ok_or("an id")?;
-    let receipt = NoticeKind::Receipt { rev: 1, id };
+    let rev = Revision::new(1).ok_or("a revision")?;
+    let receipt = NoticeKind::Receipt { rev, id };
     notices.push(notice(7, "2026-08-02", "2026-08-09T10:00:00Z", receipt)?)?;
     assert!(rt; !ground_stands(Ground::SundayFailed, &notices, last));
     Ok(())

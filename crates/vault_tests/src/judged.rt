@@ -3,7 +3,7 @@ use custody_machine::Refusal;
 use custody_records::{Part, Records, Registry};
 use custody_rules::{PartRuling, judge_part};
 use deposit_name::{DepositId, DepositName, NameError, Tld};
-use desk::{Check, Notice, NoticeKind};
+use desk::{Check, Notice, NoticeKind, Revision};
 use schedule::{Day, Sec, read_day, read_moment};
 use std::alloc::Global;
 use std::test::Fail;
@@ -85,13 +85,14 @@ enum Before {
 
 fn records_of(alloc: Global, before: Before) -> Result<Records, Fail> {
     let id = DepositId::parse(b"A1").ok_or("an id")?;
+    let rev = Revision::new(0).ok_or("a revision")?;
     let check = Check::Counts;
     match before {
         Before::Registry => registered(alloc),
         Before::Held => with_part(alloc, FIRST, true),
         Before::Dropped => with_part(alloc, FIRST, false),
-        Before::Receipt => after(alloc, NoticeKind::Receipt { rev: 0, id }),
-        Before::Failure => after(alloc, NoticeKind::Failure { rev: 0, id, check }),
+        Before::Receipt => after(alloc, NoticeKind::Receipt { rev, id }),
+        Before::Failure => after(alloc, NoticeKind::Failure { rev, id, check }),
         Before::Absence => after(alloc, NoticeKind::Absence),
     }
 }

@@ -7,7 +7,7 @@ use self::staged::{SHORT, insert, is_recorded, new_vault};
 use custody_records::{Meta, Names, NoticeKey, Records, Registry, Release};
 use custody_store::{Store, find_meta};
 use deposit_name::{DepositId, Reference, Tld};
-use desk::{Check, Ground, Notice, NoticeKind};
+use desk::{Check, Ground, Notice, NoticeKind, Revision};
 use schedule::{Day, Sec};
 use sqlite::{Alter, Connection};
 use std::alloc::Global;
@@ -63,13 +63,14 @@ fn add_deposit<S: Alter>(store: &mut Store<S>, alloc: Global) -> Result<bool, Fa
 /// Adds a notice of each kind and a release, and answers how many were added.
 fn add_told<S: Alter>(store: &mut Store<S>, alloc: Global) -> Result<usize, Fail> {
     let id = DepositId::parse(b"20260802001").ok_or("an id")?;
+    let rev = Revision::new(0).ok_or("a revision")?;
     let failure = NoticeKind::Failure {
-        rev: 1,
+        rev: Revision::new(1).ok_or("a revision")?,
         id,
         check: Check::Deletes,
     };
     let added = [
-        store.insert_notice(&notice(1, NoticeKind::Receipt { rev: 0, id })?),
+        store.insert_notice(&notice(1, NoticeKind::Receipt { rev, id })?),
         store.insert_notice(&notice(2, failure)?),
         store.insert_notice(&notice(3, NoticeKind::Absence)?),
         store.insert_release(&release(alloc)?),
