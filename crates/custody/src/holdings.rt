@@ -4,7 +4,7 @@ ghost use Rattle.std.specs.FinMap.{get};
 ghost use Rattle.vault_volume.specs.Image.{DiffersOnlyIn};
 ghost use Rattle.vault_volume.specs.Vault.{IsFree};
 ghost use Rattle.custody_machine.specs.Machine as machine;
-ghost use Rattle.custody_machine.specs.Plain.{command_of};
+ghost use Rattle.custody_machine.specs.Commands.{command_of};
 ghost use Rattle.custody_machine.specs.Custody.{Decides, Goes};
 ghost use Rattle.custody.specs.Answers.{stays_open};
 ghost use Rattle.custody.specs.Ruled.{IsRuled, IsRegistered, IsReceived};

@@ -14,6 +14,4 @@ pub mod Moves
 pub mod Composed
 pub mod Purged
 pub mod Compared
-pub mod PlainMaps
-pub mod PlainSteps
 pub mod Examples

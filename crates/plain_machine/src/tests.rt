@@ -1,5 +1,6 @@
 //! Worked examples of the machine, by its plain program.
-use crate::{Command, PlainAnswer, PlainContent, PlainPart, PlainState, Refusal, step_plain};
+use crate::{PlainAnswer, PlainContent, PlainPart, PlainState, step_plain};
+use custody_machine::{Command, Refusal};
 use deposit_name::{DepositName, NameError, Tld};
 use schedule::{read_day, read_moment};
 use std::alloc::Global;
