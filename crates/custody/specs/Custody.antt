@@ -4,7 +4,7 @@ use Rattle.vault_volume.specs.declared.volume.Volume as volume
 use Rattle.sqlite.specs.Store.{Ghosts}
 use Rattle.custody_machine.specs.declared.command.Command as asked
 use Rattle.custody_machine.specs.Machine.{Command, Entry}
-use Rattle.custody_machine.specs.Plain.{command_of}
+use Rattle.custody_machine.specs.Commands.{command_of}
 use Rattle.custody_machine.specs.declared.answers.Fault.TheVariants.{Closed}
 use Rattle.custody.specs.declared.answers.Reply.{Reply}
 use Rattle.custody.specs.declared.answers.Refused.{Refused}

@@ -12,7 +12,7 @@ ghost use Rattle.custody_store.specs.Standing.{standing, has_any, has_all, Reads
 ghost use Rattle.custody_machine.specs.declared.answers.Fault as why;
 ghost use Rattle.custody_machine.specs.declared.damage.Damage as wrong;
 ghost use Rattle.custody_machine.specs.declared.damage.Damage.TheVariants as damage;
-ghost use Rattle.custody_machine.specs.Plain.{command_of};
+ghost use Rattle.custody_machine.specs.Commands.{command_of};
 ghost use Rattle.custody_machine.specs.State.{empty};
 ghost use Rattle.custody_machine.specs.Damage.{damage_number, IsDamaged, IsFirstDamage};
 ghost use Rattle.custody_machine.specs.Stored.{IsGood};

@@ -3,7 +3,7 @@ ghost use Rattle.std.specs.Prelude.{◌≡◌, ◌≤◌, length, None, OnOk, If
 ghost use Rattle.std.specs.FinMap.{get};
 ghost use Rattle.custody_records.specs.Held.{records_of, HasPartRoom};
 ghost use Rattle.custody_machine.specs.Machine as machine;
-ghost use Rattle.custody_machine.specs.Plain.{command_of};
+ghost use Rattle.custody_machine.specs.Commands.{command_of};
 ghost use Rattle.custody_machine.specs.Custody.{Decides, Goes};
 ghost use Rattle.custody.specs.Holdings.{recorded, KeepsOrder, HasDone};
 

@@ -12,7 +12,8 @@ use Rattle.std.proofs.lemmas.Bool.Decides.{Decides-eqb}
 use Rattle.std.proofs.lemmas.Option.{cond_some}
 use Rattle.deposit_name.specs.declared.kinds.Kind.{Kind}
 use Rattle.deposit_name.specs.declared.faults.NameError.{NameError}
-use Rattle.deposit_name.specs.Name.{Name}
+use Rattle.deposit_name.specs.Name.{Name, IsName, name_text}
+use Rattle.deposit_name.specs.Fault.{IsFault}
 use Rattle.custody_records.specs.Keys.{PartKey}
 use Rattle.custody_records.specs.Records.{key_of}
 use Rattle.custody_records.specs.Tables.{is_rising}
@@ -21,7 +22,7 @@ use Rattle.custody_machine.specs.SameValues.{is_same_kind}
 use Rattle.custody_machine.specs.State.{State, Part, Content, Held, Dropped, places}
 use Rattle.custody_machine.specs.Machine.{Command, Test, refusal_number, TestsAreInOrder, Register, Receive, Refusal, NameRefused, RegistryUnknown, DateOutOfRange, Size, OtherBytes, DroppedAfterKeeping, RevisionNotDue, AlreadyStated, TypeDiffers, PartOutOfOrder, Record, OfRegistry, OfPart, Reply, Ruling, Refuse, Accept, first_day_of, part_at, of_kind, recorded, has_other_kind, is_held_with, is_held_with_other, holds_other, is_dropped, is_gone, part_in, refusal_of, with_registry, with_part, received_part, held_with, kept_under, kept, effect, received, unless_kept, unless_refused, step, state_of, reads, read_by, HasRecord, is_unregistered, is_out_of_range, is_out_of_size, is_not_due, is_stated, differs_in_kind, is_out_of_order, receive_tests, named_tests, first_standing}
 use Rattle.custody_machine.specs.Retries.{has_same_key, asked, IsDroppedSince, without_bytes, IsKeptAs, StillHas, KeepsRecords, NothingIsRemoved, RepliesAreRecords, IsOfCommand}
-use Rattle.custody_machine.proofs.NameReading.{read_is}
+use Rattle.custody_machine.proofs.NameReading.{read_is, is_reading}
 use Rattle.custody_machine.proofs.SameValues.{text_decides, kind_decides}
 use Rattle.custody_records.specs.Orders.{text_total, part_total}
 use Rattle.custody_machine.proofs.Series.{is_place}
@@ -76,6 +77,21 @@ pub find_dropped : (s : State) (name : Name) (bytes : List ℕ) (now : ℕ) → 
     → first_standing (receive_tests s name bytes now) ≡ Some DroppedAfterKeeping
 find_dropped s name bytes now a b c d e = five_dropped _ _ _ _ _ _ _ _ _ a b c d e
 
+-- the first of the refusals that stand
+module _ (a b c d e f g h i : Bool) (p : a ≡ false) (q : b ≡ false) (r : c ≡ false) (s : d ≡ false) (t : e ≡ false) (u : f ≡ false) (v : g ≡ false) where
+  pub differs_first : h ≡ true → Some TypeDiffers ≡ part_refusals a b c d e f g h i
+  differs_first w = rw (p, q, r, s, t, u, v, w) refl
+
+  pub order_first : h ≡ false → i ≡ true → Some PartOutOfOrder ≡ part_refusals a b c d e f g h i
+  order_first w x = rw (p, q, r, s, t, u, v, w, x) refl
+
+  pub none_first : h ≡ false → i ≡ false → None ≡ part_refusals a b c d e f g h i
+  none_first w x = rw (p, q, r, s, t, u, v, w, x) refl
+
+-- what a test has answered
+pub so : (b c d : Bool) → b ≡ c → b ≡ d → c ≡ d
+so b c d e f = sym e ∙ f
+
 -- a text that is no name is refused
 pub refused_name : (s : State) (bytes : List ℕ) (now : ℕ) (fault : NameError) → first_standing (named_tests s (Err fault) bytes now) ≡ Some (NameRefused fault)
 refused_name s bytes now fault = refl
@@ -105,6 +121,14 @@ step_none s c now e = ap (λ o. unless_refused o (unless_kept s (kept s c) (effe
 pub step_refuses : (s : State) (c : Command) (now : ℕ) (q : Refusal) → refusal_of s c now ≡ Some q → step s c now ≡ Refuse q
 unfolding step
 step_refuses s c now q e = ap (λ o. unless_refused o (unless_kept s (kept s c) (effect s c now))) e
+
+-- a name is read from its text
+pub read_of : (text : List ℕ) (name : Name) → IsName name × (text ≡ name_text name) → read_name text ≡ Ok name
+read_of text name h = (is_reading.names text name).1 h
+
+-- a text with a fault is refused
+pub step_refuses_text : (s : State) (text bytes : List ℕ) (now : ℕ) (fault : NameError) → IsFault text fault → step s (Receive text bytes) now ≡ Refuse (NameRefused fault)
+step_refuses_text s text bytes now fault is = step_refuses s (Receive text bytes) now (NameRefused fault) (ap (λ r. first_standing (named_tests s r bytes now)) ((is_reading.faults text fault).1 is) ∙ refused_name s bytes now fault)
 
 pub accept_inj : (r q : Reply) (s t : State) → Accept r s ≡ Accept q t → (r ≡ q) × (s ≡ t)
 accept_inj r q s t e = (cc, cc)

@@ -15,6 +15,4 @@ pub mod Composed
 pub mod Purged
 pub mod Compared
 pub mod Room
-pub mod PlainMaps
-pub mod PlainSteps
 pub mod Examples

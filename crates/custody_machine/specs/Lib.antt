@@ -11,5 +11,5 @@ pub mod Purge
 pub mod Damage
 pub mod Moves
 pub mod Custody
-pub mod Plain
+pub mod Commands
 pub mod Examples

@@ -6,10 +6,8 @@ mod answers;
 mod command;
 mod damage;
 mod laws;
-mod plain;
 
 pub use answers::{Fault, Refusal};
 pub use command::Command;
 pub use damage::Damage;
 pub use laws::{law_damage, law_histories, law_read_name, law_refusals, law_retries};
-pub use plain::{PlainAnswer, PlainContent, PlainPart, PlainRegistry, PlainState, step_plain};

@@ -27,8 +27,7 @@ use Rattle.custody_machine.specs.Machine.{Receive, OfPart, Accept, Refuse, first
 use Rattle.custody_machine.specs.Custody.{Refuses, ByBytes, Goes, Decides}
 use Rattle.custody_machine.proofs.MapValues.{get-map_values}
 use Rattle.custody_machine.proofs.SameValues.{text_decides}
-use Rattle.custody_machine.proofs.Keeping.{none_stand, part_refusals, find_none, find_dropped, step_none, step_refuses, rules_part, answered, place_is_empty}
-use Rattle.custody_machine.proofs.PlainSteps as plain
+use Rattle.custody_machine.proofs.Keeping.{none_stand, part_refusals, find_none, find_dropped, step_none, step_refuses, step_refuses_text, rules_part, answered, place_is_empty}
 use Rattle.custody_rules.specs.Judged.{if_of_kind, recorded_under, is_of_other_kind, IsUnder}
 
 -- ---- the records in a state
@@ -97,7 +96,7 @@ first_in_records records image name bytes len now first sized known new =
 -- ---- what is decided of a text
 
 pub refuses_text : (records : Records) (text : List ℕ) (len now : ℕ) (fault : NameError) → IsFault text fault → Decides (Refuses (NameRefused fault)) records text len now
-refuses_text records text len now fault is = (λ e. cc, λ e. cc, λ image bytes sized. (plain.refuses_text (state_in records image) text bytes now fault is).0)
+refuses_text records text len now fault is = (λ e. cc, λ e. cc, λ image bytes sized. step_refuses_text (state_in records image) text bytes now fault is)
 
 module _ (records : Records) (text : List ℕ) (name : Name) (len now : ℕ) (named : read_name text ≡ Ok name) where
   refusal_is : (image bytes : List ℕ) (o : Option Refusal) → first_standing (receive_tests (state_in records image) name bytes now) ≡ o → refusal_of (state_in records image) (Receive text bytes) now ≡ o

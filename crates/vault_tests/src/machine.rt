@@ -1,8 +1,7 @@
 //! Worked examples of the machine, by its plain program.
-use custody_machine::{
-    Command, PlainAnswer, PlainContent, PlainPart, PlainState, Refusal, step_plain,
-};
+use custody_machine::{Command, Refusal};
 use deposit_name::{DepositName, NameError, Tld};
+use plain_machine::{PlainAnswer, PlainContent, PlainPart, PlainState, step_plain};
 use schedule::{read_day, read_moment};
 use std::alloc::Global;
 use std::test::Fail;

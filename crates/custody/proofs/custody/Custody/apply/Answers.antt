@@ -1,5 +1,5 @@
 use Rattle.std.proofs.Common.{◌≡◌, true, false, sym, ◌∙◌}
-use Rattle.custody_machine.specs.Plain.{command_of}
+use Rattle.custody_machine.specs.Commands.{command_of}
 use Rattle.custody.specs.Custody.{held_by}
 use Rattle.custody.proofs.Room.{had_room}
 use Rattle.custody.proofs.custody.Custody.apply.Goals as goal

@@ -1,7 +1,7 @@
 use Rattle.std.proofs.Common.{◌≤◌, ◌+◌, [], sym, subst, refl, arith, length, take, rules}
 use Rattle.std.proofs.lemmas.List.{take_all}
 use Rattle.custody.specs.Custody.{HasApplied, HasRun, entries_of}
-use Rattle.custody_machine.specs.Plain.{command_of}
+use Rattle.custody_machine.specs.Commands.{command_of}
 use Rattle.custody.proofs.RunLemmas.{run_next}
 use Rattle.custody.proofs.custody.Custody.run.Goals as goal
 

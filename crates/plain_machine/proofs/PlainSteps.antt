@@ -5,24 +5,25 @@ use Rattle.std.specs.FinMap.{IsAntisymmetric, get, insert, from_entries, get-fro
 use Rattle.std.specs.Cmp.{IsTotalOrder}
 use Rattle.std.specs.declared.cmp.Ordering.{Ordering}
 use Rattle.std.proofs.lemmas.Map.Lookups.{exact_bytes}
-use Rattle.deposit_name.specs.Name.{Name, IsName, name_text}
+use Rattle.deposit_name.specs.Name.{Name}
 use Rattle.deposit_name.specs.declared.faults.NameError.{NameError}
 use Rattle.deposit_name.specs.Fault.{IsFault}
 use Rattle.custody_records.specs.Keys.{text_cmp, part_cmp}
 use Rattle.custody_records.specs.Records.{key_of}
-use Rattle.custody_machine.specs.declared.plain.PlainRegistry.{PlainRegistry}
-use Rattle.custody_machine.specs.declared.plain.PlainPart.{PlainPart}
-use Rattle.custody_machine.specs.declared.plain.PlainAnswer.{PlainAnswer}
-use Rattle.custody_machine.specs.declared.plain.PlainAnswer.TheVariants as answer
+use Rattle.plain_machine.specs.declared.plain.PlainRegistry.{PlainRegistry}
+use Rattle.plain_machine.specs.declared.plain.PlainPart.{PlainPart}
+use Rattle.plain_machine.specs.declared.plain.PlainAnswer.{PlainAnswer}
+use Rattle.plain_machine.specs.declared.plain.PlainAnswer.TheVariants as answer
 use Rattle.custody_machine.specs.Names.{read_name}
-use Rattle.custody_machine.specs.Plain.{registry_entry, part_entry, part_shown, IsRuling}
+use Rattle.plain_machine.specs.Plain.{registry_entry, part_entry, part_shown, IsRuling}
 use Rattle.custody_machine.specs.Retries.{content_len}
 use Rattle.custody_machine.specs.State.{State, Part, places}
-use Rattle.custody_machine.specs.Machine.{Register, Receive, Refusal, NameRefused, OfRegistry, OfPart, Ruling, Accept, first_day_of, part_at, part_in, recorded, has_other_kind, holds_other, is_dropped, refusal_of, step, with_registry, with_part, received_part, receive_tests, named_tests, first_standing}
-use Rattle.custody_machine.proofs.NameReading.{is_reading}
+use Rattle.custody_machine.specs.Machine.{Register, Receive, OfRegistry, OfPart, Ruling, Accept, first_day_of, part_at, part_in, recorded, has_other_kind, holds_other, is_dropped, refusal_of, step, with_registry, with_part, received_part, receive_tests, named_tests, first_standing}
 use Rattle.custody_records.specs.Orders.{text_total, part_total, part_exact}
+use Rattle.custody_machine.specs.declared.answers.Refusal.{Refusal}
+use Rattle.custody_machine.specs.declared.answers.Refusal.TheVariants.{NameRefused}
 use Rattle.custody_machine.proofs.SameValues.{kind_decides}
-use Rattle.custody_machine.proofs.Keeping.{none_stand, refused_name, step_none, step_refuses, registered, answered, rules_part, held_bytes, recorded_is, place_is_empty}
+use Rattle.custody_machine.proofs.Keeping.{none_stand, step_none, step_refuses, step_refuses_text, registered, answered, rules_part, held_bytes, recorded_is, place_is_empty}
 use Rattle.custody_machine.proofs.Composed.{register_repeats}
 
 -- ---- an entry more
@@ -56,10 +57,7 @@ registers s new tld day now e is = step_none s (Register tld day) now refl ∙ a
 
 -- a text that is refused
 pub refuses_text : (s : State) (text bytes : List ℕ) (now : ℕ) (fault : NameError) → IsFault text fault → IsRuling (answer.Refused (NameRefused fault)) s s (step s (Receive text bytes) now)
-refuses_text s text bytes now fault is = (step_refuses s (Receive text bytes) now (NameRefused fault) (ap (λ r. first_standing (named_tests s r bytes now)) ((is_reading.faults text fault).1 is) ∙ refused_name s bytes now fault), refl)
-
-pub read_of : (text : List ℕ) (name : Name) → IsName name × (text ≡ name_text name) → read_name text ≡ Ok name
-read_of text name h = (is_reading.names text name).1 h
+refuses_text s text bytes now fault is = (step_refuses_text s text bytes now fault is, refl)
 
 module _ (s : State) (text bytes : List ℕ) (now : ℕ) (name : Name) (named : read_name text ≡ Ok name) where
   refusal_is : (o : Option Refusal) → first_standing (receive_tests s name bytes now) ≡ o → refusal_of s (Receive text bytes) now ≡ o

@@ -1,9 +1,9 @@
 use Rattle.std.proofs.Common.{◌∙◌, sym, ap, subst, map}
 use Rattle.std.specs.FinMap.{from_entries}
-use Rattle.custody_machine.specs.Plain.{shown, registry_entry, IsRuling}
+use Rattle.plain_machine.specs.Plain.{shown, registry_entry, IsRuling}
 use Rattle.custody_machine.specs.Machine.{Register, step}
-use Rattle.custody_machine.proofs.PlainSteps.{as_answered, registry_pushed, registers_again, registers}
-use Rattle.custody_machine.proofs.plain.PlainState.register.Goals as goal
+use Rattle.plain_machine.proofs.PlainSteps.{as_answered, registry_pushed, registers_again, registers}
+use Rattle.plain_machine.proofs.plain.PlainState.register.Goals as goal
 
 pub returns-in-Some-clause-step : goal.returns-in-Some-clause-step
 returns-in-Some-clause-step c = λ now.

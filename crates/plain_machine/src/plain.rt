@@ -1,17 +1,17 @@
-//! The machine as a plain and slow program over whole byte strings, with which every other body is
-//! compared.
+//! The machine over whole byte strings.
 ghost use Rattle.std.specs.Prelude.{◌≡◌, ◌≤◌, ◌||◌, ◌==◌, [], if◌then◌else◌, nat_lt, unwrap_or, ℕ, List, Ok, Some, IfOk, OnErr, find, option_map, length, count_by, is_some, is_none};
 ghost use Rattle.std.specs.FinMap.{get};
 ghost use Rattle.std.specs.List.{list_any};
 ghost use Rattle.custody_records.specs.Records.{key_of};
-ghost use Rattle.custody_machine.specs.Plain.{command_of, shown, part_shown, content_shown, IsRuling, is_of, is_at};
+ghost use Rattle.plain_machine.specs.Plain.{shown, part_shown, content_shown, IsRuling, is_of, is_at};
+ghost use Rattle.custody_machine.specs.Commands.{command_of};
 ghost use Rattle.custody_machine.specs.Names.{read_name};
 ghost use Rattle.custody_machine.specs.SameValues.{is_same_kind};
 ghost use Rattle.custody_machine.specs.State.{empty, at_place, places};
 ghost use Rattle.schedule.specs.Schedule.{day_of};
 ghost use Rattle.custody_machine.specs.Machine.{Register, Receive, step, first_day_of, recorded, part_in, has_other_kind, is_gone, is_held_with_other, holds_other, is_dropped, max_part_len, is_out_of_range, is_not_due, differs_in_kind, is_out_of_order, receive_tests, first_standing};
 
-use crate::{Command, Refusal};
+use custody_machine::{Command, Refusal};
 use deposit_name::{DepositName, Kind, Tld};
 use schedule::{Day, Sec};
 use std::alloc::{AllocError, Global};

@@ -3,25 +3,18 @@ use Rattle.std.specs.Prelude.{◌≡◌, ℕ, List, map, Bool}
 use Rattle.std.specs.FinMap.{from_entries, empty}
 use Rattle.custody_records.specs.Keys.{PartKey}
 use Rattle.custody_records.specs.Records.{key_of}
-use Rattle.custody_machine.specs.declared.command.Command as asked
-use Rattle.custody_machine.specs.declared.command.Command.TheVariants as commands
-use Rattle.custody_machine.specs.declared.plain.PlainRegistry.{PlainRegistry}
-use Rattle.custody_machine.specs.declared.plain.PlainContent.{PlainContent}
-use Rattle.custody_machine.specs.declared.plain.PlainContent.TheVariants as plain
-use Rattle.custody_machine.specs.declared.plain.PlainPart.{PlainPart}
-use Rattle.custody_machine.specs.declared.plain.PlainState.{PlainState}
-use Rattle.custody_machine.specs.declared.plain.PlainAnswer.{PlainAnswer}
-use Rattle.custody_machine.specs.declared.plain.PlainAnswer.TheVariants as answer
+use Rattle.plain_machine.specs.declared.plain.PlainRegistry.{PlainRegistry}
+use Rattle.plain_machine.specs.declared.plain.PlainContent.{PlainContent}
+use Rattle.plain_machine.specs.declared.plain.PlainContent.TheVariants as plain
+use Rattle.plain_machine.specs.declared.plain.PlainPart.{PlainPart}
+use Rattle.plain_machine.specs.declared.plain.PlainState.{PlainState}
+use Rattle.plain_machine.specs.declared.plain.PlainAnswer.{PlainAnswer}
+use Rattle.plain_machine.specs.declared.plain.PlainAnswer.TheVariants as answer
 use Rattle.custody_machine.specs.Names.{is_same_text}
 use Rattle.custody_machine.specs.SameValues.{is_same_key}
 use Rattle.custody_machine.specs.State.{State, Part, Content, Held, Dropped}
-use Rattle.custody_machine.specs.Machine.{Command, Register, Receive, OfRegistry, OfPart, Ruling, Refuse, Accept}
+use Rattle.custody_machine.specs.Machine.{OfRegistry, OfPart, Ruling, Refuse, Accept}
 use Rattle.custody_machine.specs.Retries.{content_len}
-
--- the command of a value in memory
-abbrev pub command_of : asked.Command → Command
-command_of (commands.Register tld first_day) = Register tld first_day
-command_of (commands.Receive name bytes) = Receive name.now bytes.now
 
 abbrev pub registry_entry : PlainRegistry → List ℕ × ℕ
 registry_entry r = (r.tld, r.first_day)

@@ -1,6 +1,7 @@
-use Rattle.custody_machine.proofs.PlainSteps.{refuses_text, read_of}
-use Rattle.custody_machine.specs.Plain.{shown}
-use Rattle.custody_machine.proofs.plain.PlainState.receive.Goals as goal
+use Rattle.custody_machine.proofs.Keeping.{read_of}
+use Rattle.plain_machine.proofs.PlainSteps.{refuses_text}
+use Rattle.plain_machine.specs.Plain.{shown}
+use Rattle.plain_machine.proofs.plain.PlainState.receive.Goals as goal
 
 pub returns-in-Ok-clause-step : goal.returns-in-Ok-clause-step
 returns-in-Ok-clause-step c = c.receive_part.ensures.step c.args.text.now (read_of c.args.text.now c.in-Ok.name c.in-Ok.ensures.name)

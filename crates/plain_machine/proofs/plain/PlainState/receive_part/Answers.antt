@@ -1,13 +1,13 @@
 use Rattle.std.proofs.Common.{◌∙◌, sym, ap, subst, map}
 use Rattle.std.specs.Prelude.{option_map}
 use Rattle.std.specs.FinMap.{from_entries}
-use Rattle.custody_machine.specs.declared.plain.PlainContent.TheVariants.{Held}
+use Rattle.plain_machine.specs.declared.plain.PlainContent.TheVariants.{Held}
 use Rattle.custody_machine.specs.State as state
-use Rattle.custody_machine.specs.Plain.{shown, part_entry, part_shown, IsRuling}
+use Rattle.plain_machine.specs.Plain.{shown, part_entry, part_shown, IsRuling}
 use Rattle.custody_machine.specs.Machine.{Receive, step, with_part}
 use Rattle.custody_records.specs.Records.{key_of}
-use Rattle.custody_machine.proofs.PlainSteps.{as_answered, part_pushed, refuses, repeats, place_is_free, receives_new}
-use Rattle.custody_machine.proofs.plain.PlainState.receive_part.Goals as goal
+use Rattle.plain_machine.proofs.PlainSteps.{as_answered, part_pushed, refuses, repeats, place_is_free, receives_new}
+use Rattle.plain_machine.proofs.plain.PlainState.receive_part.Goals as goal
 
 pub returns-in-Some-clause-step : goal.returns-in-Some-clause-step
 returns-in-Some-clause-step c = λ text named. refuses (shown c.args.self.now) text c.args.bytes.now c.args.now c.args.name.now named c.in-Some.refusal (sym c.refusal_of.ensures ∙ c.in-Some.is)

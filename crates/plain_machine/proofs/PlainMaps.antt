@@ -12,13 +12,11 @@ use Rattle.std.proofs.Math.Bool.{and-false}
 use Rattle.std.proofs.lemmas.Bool.Decides.{same_from_decides}
 use Rattle.custody_records.specs.Keys.{PartKey, text_cmp, part_cmp, NoticeKey, notice_cmp}
 use Rattle.custody_records.specs.Records.{Notice, key_of}
-use Rattle.custody_machine.specs.declared.plain.PlainRegistry.{PlainRegistry}
-use Rattle.custody_machine.specs.declared.plain.PlainPart.{PlainPart}
-use Rattle.custody_machine.specs.Plain.{registry_entry, part_entry, part_shown, is_of, is_at}
+use Rattle.plain_machine.specs.declared.plain.PlainRegistry.{PlainRegistry}
+use Rattle.plain_machine.specs.declared.plain.PlainPart.{PlainPart}
+use Rattle.plain_machine.specs.Plain.{registry_entry, part_entry, part_shown, is_of, is_at}
 use Rattle.custody_machine.specs.State.{has_notice}
 use Rattle.custody_machine.specs.Names.{is_same_text}
-use Rattle.custody_machine.specs.Machine.{TypeDiffers, PartOutOfOrder}
-use Rattle.custody_machine.proofs.Keeping.{part_refusals}
 use Rattle.custody_records.specs.Orders.{text_total, part_total, part_exact}
 use Rattle.custody_machine.proofs.SameValues.{text_decides, key_decides}
 use Rattle.std.proofs.lemmas.Map.Lookups.{exact_bytes}
@@ -74,18 +72,3 @@ not_due new later tld day receipt failure = sym (ap (λ r. new && (r || (later &
 
 pub not_stated : (new : Bool) (tld : List ℕ) (day : ℕ) (verdict : NoticeKind → Bool) → (new && has_notice fin.empty tld day verdict) ≡ false
 not_stated new tld day verdict = ap (λ v. new && v) (no_notice tld day verdict) ∙ and-false new
-
--- the first of the refusals that stand
-module _ (a b c d e f g h i : Bool) (p : a ≡ false) (q : b ≡ false) (r : c ≡ false) (s : d ≡ false) (t : e ≡ false) (u : f ≡ false) (v : g ≡ false) where
-  pub differs_first : h ≡ true → Some TypeDiffers ≡ part_refusals a b c d e f g h i
-  differs_first w = rw (p, q, r, s, t, u, v, w) refl
-
-  pub order_first : h ≡ false → i ≡ true → Some PartOutOfOrder ≡ part_refusals a b c d e f g h i
-  order_first w x = rw (p, q, r, s, t, u, v, w, x) refl
-
-  pub none_first : h ≡ false → i ≡ false → None ≡ part_refusals a b c d e f g h i
-  none_first w x = rw (p, q, r, s, t, u, v, w, x) refl
-
--- what a test has answered
-pub so : (b c d : Bool) → b ≡ c → b ≡ d → c ≡ d
-so b c d e f = sym e ∙ f

@@ -1,5 +1,6 @@
-use Rattle.custody_machine.proofs.PlainMaps.{not_stated, differs_first, order_first, none_first, so}
-use Rattle.custody_machine.proofs.plain.PlainState.refusal_of.Goals as goal
+use Rattle.custody_machine.proofs.Keeping.{differs_first, order_first, none_first, so}
+use Rattle.plain_machine.proofs.PlainMaps.{not_stated}
+use Rattle.plain_machine.proofs.plain.PlainState.refusal_of.Goals as goal
 
 pub returns-then-differs_in_type : goal.returns-then-differs_in_type
 returns-then-differs_in_type c =

@@ -1,0 +1,2 @@
+pub mod PlainMaps
+pub mod PlainSteps
