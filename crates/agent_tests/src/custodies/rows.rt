@@ -1,73 +1,84 @@
 //! Parts that are sent once, again, and otherwise.
 use super::bench::{
     AT_ELEVEN, AT_TEN, Answer, NAME, SECOND, Wanted, ask, is_answered, keeps_hello, received,
-    refused, register, registered, registry, told, with_hello,
+    refused, register, registered, registry, told,
 };
-use super::{TestCustody, new_custody};
+use super::new_custody;
+use custody::Custody;
 use custody_machine::{Command, PlainAnswer, Refusal};
 use custody_records::Registry;
 use deposit_name::NameError;
 use schedule::{read_day, read_moment};
+use sqlite::Alter;
 use std::alloc::Global;
 use std::test::Fail;
+use vault_volume::Volume;
+
+/// A part that is sent, its moment, and how it is to be answered.
+type Sent = (&'static [u8], &'static [u8], &'static [u8], Wanted);
+
+/// The first of the parts that is not answered so, where they are sent in their order.
+fn first_wrong<V: Volume, S: Alter>(
+    alloc: Global,
+    custody: &mut Custody<V, S>,
+    rows: &[Sent],
+) -> Result<Option<usize>, Fail> {
+    for (at, (name, bytes, moment, wanted)) in rows.iter().enumerate() {
+        if !is_answered(alloc, custody, name, bytes, moment, *wanted)? {
+            return Ok(Some(at));
+        }
+    }
+    Ok(None)
+}
+
+const OTHER: Wanted = Wanted::Refused(Refusal::OtherBytes);
+
+/// `hello`, again, and other bytes under its name.
+const UNDER_ONE_NAME: [Sent; 6] = [
+    (NAME, b"hello", AT_TEN, Wanted::New),
+    (NAME, b"hello", AT_ELEVEN, Wanted::Repeat),
+    (NAME, b"hellp", AT_ELEVEN, OTHER),
+    (NAME, b"iello", AT_ELEVEN, OTHER),
+    (NAME, b"hell", AT_ELEVEN, OTHER),
+    (NAME, b"hello ", AT_ELEVEN, OTHER),
+];
+
+/// Whether `hello` is kept, and nothing else.
+fn has_hello<V: Volume, S: Alter>(custody: &Custody<V, S>) -> Result<bool, Fail> {
+    Ok(keeps_hello(custody)? & (custody.room() == Ok((6, 7))))
+}
 
 #[test]
-fn keeps_a_part_that_is_sent(rt: HostRuntime) -> Result<(), Fail> {
+fn keeps_a_part_once(rt: HostRuntime) -> Result<(), Fail> {
     let alloc = rt.alloc();
     let mut custody = registered(alloc, 8)?;
-    assert_eq!(rt; custody.room(), Ok((7, 7)));
-    assert!(rt; is_answered(alloc, &mut custody, NAME, b"hello", AT_TEN, Wanted::New)?);
-    assert!(rt; keeps_hello(&custody)?);
-    assert_eq!(rt; custody.room(), Ok((6, 7)));
+    assert_eq!(rt; first_wrong(alloc, &mut custody, &UNDER_ONE_NAME)?, None);
+    assert!(rt; has_hello(&custody)?);
     Ok(())
 }
 
-#[test]
-fn answers_a_repeat_by_the_part_that_is_kept(rt: HostRuntime) -> Result<(), Fail> {
-    let alloc = rt.alloc();
-    let mut custody = with_hello(alloc)?;
-    assert!(rt;
-        is_answered(
-            alloc,
-            &mut custody,
-            NAME,
-            b"hello",
-            AT_ELEVEN,
-            Wanted::Repeat
-        )?
-    );
-    assert!(rt; keeps_hello(&custody)?);
-    assert_eq!(rt; custody.room(), Ok((6, 7)));
-    Ok(())
-}
-
-#[test]
-fn refuses_other_bytes_under_a_name(rt: HostRuntime) -> Result<(), Fail> {
-    let alloc = rt.alloc();
-    let mut custody = with_hello(alloc)?;
-    let refusal = Wanted::Refused(Refusal::OtherBytes);
-    let others: [&[u8]; 4] = [b"hellp", b"iello", b"hell", b"hello "];
-    for other in others {
-        assert!(rt; is_answered(alloc, &mut custody, NAME, other, AT_ELEVEN, refusal)?);
-    }
-    assert!(rt; keeps_hello(&custody)?);
-    assert_eq!(rt; custody.room(), Ok((6, 7)));
-    Ok(())
+/// Whether no part is kept of no bytes or of more than 1048576, and one of these bytes but the last is.
+fn keeps_most<V: Volume, S: Alter>(
+    alloc: Global,
+    custody: &mut Custody<V, S>,
+    bytes: &[u8],
+) -> Result<bool, Fail> {
+    let size = Wanted::Refused(Refusal::Size);
+    let are_refused = is_answered(alloc, custody, NAME, b"", AT_TEN, size)?
+        & is_answered(alloc, custody, NAME, bytes, AT_TEN, size)?
+        & (custody.room() == Ok((299, 299)));
+    let (_, most) = bytes.split_last().ok_or("bytes")?;
+    let is_kept = is_answered(alloc, custody, NAME, most, AT_TEN, Wanted::New)?
+        & is_answered(alloc, custody, NAME, most, AT_ELEVEN, Wanted::Repeat)?;
+    Ok(are_refused & is_kept & (custody.room() == Ok((43, 299))))
 }
 
 #[test]
 fn keeps_parts_of_1_to_1048576_bytes(rt: HostRuntime) -> Result<(), Fail> {
     let alloc = rt.alloc();
-    let mut custody = registered(alloc, 300)?;
     let bytes = vec![in alloc; b'a'; 1_048_577]?;
-    let size = Wanted::Refused(Refusal::Size);
-    assert!(rt; is_answered(alloc, &mut custody, NAME, b"", AT_TEN, size)?);
-    assert!(rt; is_answered(alloc, &mut custody, NAME, &bytes, AT_TEN, size)?);
-    assert_eq!(rt; custody.room(), Ok((299, 299)));
-    let (_, most) = bytes.as_slice().split_last().ok_or("bytes")?;
-    assert!(rt; is_answered(alloc, &mut custody, NAME, most, AT_TEN, Wanted::New)?);
-    assert_eq!(rt; custody.room(), Ok((43, 299)));
-    assert!(rt; is_answered(alloc, &mut custody, NAME, most, AT_ELEVEN, Wanted::Repeat)?);
+    let mut custody = registered(alloc, 300)?;
+    assert!(rt; keeps_most(alloc, &mut custody, &bytes)?);
     Ok(())
 }
 
@@ -116,20 +127,34 @@ const REFUSED: [(&[u8], Refusal); 11] = [
     ),
 ];
 
+/// The first of these names that is not refused so.
+fn first_taken<V: Volume, S: Alter>(
+    alloc: Global,
+    custody: &mut Custody<V, S>,
+) -> Result<Option<usize>, Fail> {
+    for (at, (name, refusal)) in REFUSED.iter().enumerate() {
+        let wanted = Wanted::Refused(*refusal);
+        if !is_answered(alloc, custody, name, b"hello", AT_TEN, wanted)? {
+            return Ok(Some(at));
+        }
+    }
+    Ok(None)
+}
+
 #[test]
 fn refuses_by_the_first_reason(rt: HostRuntime) -> Result<(), Fail> {
     let alloc = rt.alloc();
     let mut custody = registered(alloc, 8)?;
-    for (name, refusal) in REFUSED {
-        let wanted = Wanted::Refused(refusal);
-        assert!(rt; is_answered(alloc, &mut custody, name, b"hello", AT_TEN, wanted)?);
-    }
+    assert_eq!(rt; first_taken(alloc, &mut custody)?, None);
     assert_eq!(rt; custody.room(), Ok((7, 7)));
     Ok(())
 }
 
 /// Whether a registry is recorded with its first day, and answered by it when it comes with a later one.
-fn keeps_first_day(alloc: Global, custody: &mut TestCustody) -> Result<bool, Fail> {
+fn keeps_first_day<V: Volume, S: Alter>(
+    alloc: Global,
+    custody: &mut Custody<V, S>,
+) -> Result<bool, Fail> {
     let Registry { tld, first_day } = registry()?;
     let first = register(alloc, custody, AT_TEN)?;
     let later = read_day(b"2026-08-09").ok_or("a day")?;
@@ -152,21 +177,29 @@ fn answers_a_known_registry_by_its_first_day(rt: HostRuntime) -> Result<(), Fail
     Ok(())
 }
 
+/// Whether of 2 free blocks one part gets both, where one byte more is refused, and a further part.
+fn fills_up<V: Volume, S: Alter>(alloc: Global, custody: &mut Custody<V, S>) -> Result<bool, Fail> {
+    let full = Wanted::Refused(Refusal::VolumeFull);
+    let bytes = [b'a'; 8193];
+    let is_kept = is_answered(alloc, custody, NAME, &bytes, AT_TEN, full)?
+        & is_answered(alloc, custody, NAME, &bytes[1..], AT_TEN, Wanted::New)?;
+    let is_full = is_answered(alloc, custody, SECOND, b"a", AT_TEN, full)?;
+    Ok(is_kept & is_full & (custody.room() == Ok((0, 2))))
+}
+
 #[test]
 fn refuses_a_part_without_room(rt: HostRuntime) -> Result<(), Fail> {
     let alloc = rt.alloc();
     let mut custody = registered(alloc, 3)?;
-    let full = Wanted::Refused(Refusal::VolumeFull);
-    let bytes = [b'a'; 8193];
-    assert!(rt; is_answered(alloc, &mut custody, NAME, &bytes, AT_TEN, full)?);
-    assert!(rt; is_answered(alloc, &mut custody, NAME, &bytes[1..], AT_TEN, Wanted::New)?);
-    assert!(rt; is_answered(alloc, &mut custody, SECOND, b"a", AT_TEN, full)?);
-    assert_eq!(rt; custody.room(), Ok((0, 2)));
+    assert!(rt; fills_up(alloc, &mut custody)?);
     Ok(())
 }
 
 /// Sends `hello` at ten, and at eleven again and then other bytes, in one list.
-fn send_thrice(alloc: Global, custody: &mut TestCustody) -> Result<Vec<Answer>, Fail> {
+fn send_thrice<V: Volume, S: Alter>(
+    alloc: Global,
+    custody: &mut Custody<V, S>,
+) -> Result<Vec<Answer>, Fail> {
     let ten = read_moment(AT_TEN).ok_or("a moment")?;
     let eleven = read_moment(AT_ELEVEN).ok_or("a moment")?;
     let commands = [
@@ -181,7 +214,10 @@ fn send_thrice(alloc: Global, custody: &mut TestCustody) -> Result<Vec<Answer>, 
     Ok(answers)
 }
 
-fn runs_in_order(alloc: Global, custody: &mut TestCustody) -> Result<bool, Fail> {
+fn runs_in_order<V: Volume, S: Alter>(
+    alloc: Global,
+    custody: &mut Custody<V, S>,
+) -> Result<bool, Fail> {
     let wanted = [
         received(NAME, AT_TEN, 5, false)?,
         received(NAME, AT_TEN, 5, true)?,
@@ -197,7 +233,6 @@ fn runs_a_list_in_its_order(rt: HostRuntime) -> Result<(), Fail> {
     let alloc = rt.alloc();
     let mut custody = registered(alloc, 8)?;
     assert!(rt; runs_in_order(alloc, &mut custody)?);
-    assert!(rt; keeps_hello(&custody)?);
-    assert_eq!(rt; custody.room(), Ok((6, 7)));
+    assert!(rt; has_hello(&custody)?);
     Ok(())
 }
