@@ -10,8 +10,6 @@ mod number;
 mod order;
 mod paths;
 mod state;
-#[cfg(test)]
-mod tests;
 mod values;
 mod words;
 

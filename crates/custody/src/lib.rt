@@ -10,8 +10,6 @@ mod forms;
 mod holdings;
 mod laws;
 mod opening;
-#[cfg(test)]
-mod tests;
 
 pub use answers::{InitError, Record, Refused, Reply};
 pub use composed::{

@@ -5,7 +5,7 @@ ghost use Rattle.vault_volume.specs.declared.file.FileVolume.{FileVolume};
 use crate::stop::Stop;
 use custody::{Custody, has_record};
 use custody_machine::Fault;
-use sqlite::{Connection, Error, ErrorCode, File, FileStore};
+use sqlite::{Alter, Connection, Error, ErrorCode, File, FileStore};
 use std::alloc::{AllocError, Global};
 use std::fs;
 use std::io::Read;
@@ -52,12 +52,24 @@ pub fn make(rt: &HostRuntime, folder: &str, blocks: u32) -> Result<(FileVolume, 
     there(rt, String::from_str(rt.alloc(), folder)?)?;
     let path = database_path(rt.alloc(), folder)?;
     let mut db = open_database(rt, path)?;
-    let volume = match has_record(&mut db) {
-        Ok(true) => open_volume(rt, folder)?,
-        Ok(false) => create_volume(rt, folder, blocks)?,
-        Err(fault) => return Err(Stop::Fault(fault)),
-    };
+    let volume = volume_for(rt, folder, blocks, &mut db)?;
     Ok((volume, db))
+}
+
+/// The volume of a folder: a new one where the database has no record.
+fn volume_for<S: Alter>(
+    rt: &HostRuntime,
+    folder: &str,
+    blocks: u32,
+    db: &mut Connection<S>,
+) -> Result<FileVolume, Stop>
+    ensures { IfOk result (λ v. ⟦<FileVolume as Volume>⟧.failures v ≡ 0) }
+{
+    match has_record(db) {
+        Ok(true) => open_volume(rt, folder),
+        Ok(false) => create_volume(rt, folder, blocks),
+        Err(fault) => Err(Stop::Fault(fault)),
+    }
 }
 
 /// Closes a vault. What was acknowledged is kept also where the database's log cannot be copied.

@@ -1,9 +1,9 @@
 //! Each call of the volume fails in turn: the command that made it is answered by that, the custody is
 //! closed, and what was kept before is kept when it is opened again.
-use super::bench::{Filling, opened, restart};
+use super::bench::{Filling, opened, opened_if_any, restart};
 use super::script::{Step, ask_custody, ask_plain, goes_on_as};
 use super::{TestCustody, TestDatabase, new_custody};
-use crate::{Custody, Refused};
+use custody::{Custody, Refused};
 use custody_machine::Fault;
 use plain_machine::PlainState;
 use sqlite::Alter;
@@ -64,14 +64,14 @@ fn is_closed(custody: &TestCustody) -> bool {
 /// Whether a custody whose volume fails at this call answers as wanted, and keeps what it kept.
 fn fails_well(alloc: Global, number: u64) -> Result<bool, Fail> {
     let (volume, db) = failing(alloc, number)?;
-    let mut custody = opened(alloc, volume, db)?.ok().ok_or("not opened")?;
+    let mut custody = opened_if_any(alloc, volume, db)?.ok_or("not opened")?;
     let mut plain = PlainState::new(alloc);
     let wrong = count_wrong(alloc, &mut custody, &mut plain, number)?;
     let is_closed = is_closed(&custody);
     let (mut volume, db) = custody.close();
     let failures = volume.failures();
     restart(alloc, &mut volume, Filling::Ones)?;
-    let mut custody = opened(alloc, volume, db)?.ok().ok_or("not opened")?;
+    let mut custody = opened_if_any(alloc, volume, db)?.ok_or("not opened")?;
     let is_failure = number < CALLS;
     Ok(
         (wrong == 0)
@@ -100,7 +100,7 @@ fn opens_after_an_opening_that_fails(rt: HostRuntime) -> Result<(), Fail> {
     assert_eq!(rt; fault, Fault::VolumeFailed);
     assert_eq!(rt; volume.failures(), 1);
     restart(alloc, &mut volume, Filling::Ones)?;
-    let mut custody = opened(alloc, volume, db)?.ok().ok_or("not opened")?;
+    let mut custody = opened_if_any(alloc, volume, db)?.ok_or("not opened")?;
     let mut plain = PlainState::new(alloc);
     assert!(rt; goes_on_as(alloc, &mut custody, &mut plain)?);
     Ok(())

@@ -1,7 +1,9 @@
 //! A part whose bytes were changed on the volume: it is told where the part is sent again.
 use super::TestCustody;
-use super::bench::{AT_ELEVEN, NAME, Wanted, is_answered, keeps_hello, opened, with_hello};
+use super::bench::{AT_ELEVEN, NAME, Wanted, is_answered, keeps_hello, opened_if_any, with_hello};
+use custody::Custody;
 use custody_machine::{Damage, Fault};
+use sqlite::Alter;
 use std::alloc::Global;
 use std::test::Fail;
 use vault_volume::{MemVolume, Volume};
@@ -21,21 +23,30 @@ fn flip(volume: &mut MemVolume, at: u64) -> Result<(), Fail> {
 fn spoiled(alloc: Global, at: u64) -> Result<TestCustody, Fail> {
     let (mut volume, db) = with_hello(alloc)?.close();
     flip(&mut volume, at)?;
-    Ok(opened(alloc, volume, db)?.ok().ok_or("not opened")?)
+    Ok(opened_if_any(alloc, volume, db)?.ok_or("not opened")?)
+}
+
+/// Whether each sending of the part is answered by the damage, and the records are as they were.
+fn tells_damage<V: Volume, S: Alter>(
+    alloc: Global,
+    custody: &mut Custody<V, S>,
+) -> Result<bool, Fail> {
+    let damaged = Wanted::Fault(Fault::Damaged(Damage::Digest));
+    let sent: [&[u8]; 3] = [b"hello", b"hellp", b"hell"];
+    for bytes in sent {
+        if !is_answered(alloc, custody, NAME, bytes, AT_ELEVEN, damaged)? {
+            return Ok(false);
+        }
+    }
+    Ok(keeps_hello(custody)? & (custody.room() == Ok((6, 7))))
 }
 
 #[test]
 fn tells_a_changed_bit_where_the_part_is_sent_again(rt: HostRuntime) -> Result<(), Fail> {
     let alloc = rt.alloc();
-    let damaged = Wanted::Fault(Fault::Damaged(Damage::Digest));
     for at in 4096..4101u64 {
         let mut custody = spoiled(alloc, at)?;
-        let sent: [&[u8]; 3] = [b"hello", b"hellp", b"hell"];
-        for bytes in sent {
-            assert!(rt; is_answered(alloc, &mut custody, NAME, bytes, AT_ELEVEN, damaged)?);
-        }
-        assert!(rt; keeps_hello(&custody)?);
-        assert_eq!(rt; custody.room(), Ok((6, 7)));
+        assert!(rt; tells_damage(alloc, &mut custody)?);
     }
     Ok(())
 }

@@ -2,7 +2,7 @@
 mod help;
 mod rows;
 
-use crate::{Argument, Line, Order, VolumeNumber, WordFault, last_part, order_of};
+use agent_cli::{Argument, Line, Order, VolumeNumber, WordFault, last_part, order_of};
 use deposit_name::{DepositName, Tld};
 use schedule::{read_day, read_moment};
 use std::alloc::{AllocError, Global};

@@ -1,9 +1,10 @@
 //! What the tests share: commands, the answers that are wanted, and what is kept.
 use super::{TestCustody, new_custody};
-use crate::{Custody, Record, Refused, Reply};
-use custody_machine::{Command, Fault, PlainAnswer, Refusal};
+use custody::{Custody, Record, Refused, Reply};
+use custody_machine::{Command, Fault, Refusal};
 use custody_records::Registry;
 use deposit_name::{DepositName, Tld};
+use plain_machine::PlainAnswer;
 use schedule::{read_day, read_moment};
 use sqlite::{Alter, Connection};
 use std::alloc::Global;
@@ -226,4 +227,13 @@ pub fn opened<S: Alter + Drop>(
         return Err(Fail::from("many failures"));
     }
     Ok(Custody::open(alloc, volume, db))
+}
+
+/// The custody that is opened, if one is.
+pub fn opened_if_any<S: Alter + Drop>(
+    alloc: Global,
+    volume: MemVolume,
+    db: Connection<S>,
+) -> Result<Option<Custody<MemVolume, S>>, Fail> {
+    Ok(opened(alloc, volume, db)?.ok())
 }

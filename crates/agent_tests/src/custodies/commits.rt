@@ -1,9 +1,11 @@
 //! A stop at each call that a commit makes of the log of a database. What was written to the log and
 //! not synced is lost, kept or torn.
-use super::bench::{AT_TEN, Filling, NAME, Wanted, is_answered, keeps_hello, opened, restart};
+use super::bench::{
+    AT_TEN, Filling, NAME, Wanted, is_answered, keeps_hello, opened_if_any, restart,
+};
 use super::script::{STEPS, goes_on_as, plain_after, send};
-use crate::Custody;
-use sqlite::{Connection, FileStore, Files, Options};
+use custody::Custody;
+use sqlite::{Alter, Connection, FileStore, Files, Options};
 use sqlite_disk::{Crash, Disk, Fuse, Memory};
 use std::alloc::Global;
 use std::test::Fail;
@@ -122,9 +124,9 @@ fn left_of(
 
 /// A custody that was begun and closed.
 fn begun(alloc: Global) -> Result<Left, Fail> {
+    let volume = MemVolume::new(alloc, 8, 64, 16)?;
     let log = file(alloc, &[], MANY)?;
     let db = database(alloc, log, file(alloc, &[], MANY)?)?.ok_or("no database")?;
-    let volume = MemVolume::new(alloc, 8, 64, 16)?;
     let Ok(custody) = Custody::init(alloc, volume, db, 1) else {
         return Err(Fail::from("not begun"));
     };
@@ -140,24 +142,33 @@ fn opened_over(
     log: &[u8],
     calls: Calls,
 ) -> Result<Option<FileCustody>, Fail> {
-    let log = file(alloc, log, calls.log)?;
-    let Some(db) = database(alloc, log, file(alloc, &left.db, calls.db)?)? else {
-        return Ok(None);
-    };
     let mut volume = MemVolume::new(alloc, 8, 64, 16)?;
     settle(&mut volume, &left.volume)?;
-    Ok(opened(alloc, volume, db)?.ok())
+    let log = file(alloc, log, calls.log)?;
+    match database(alloc, log, file(alloc, &left.db, calls.db)?)? {
+        Some(db) => opened_if_any(alloc, volume, db),
+        None => Ok(None),
+    }
+}
+
+/// Sends all steps, of which just so many are accepted, and closes the custody.
+fn send_all<S: Alter + Drop>(
+    alloc: Global,
+    mut custody: Custody<MemVolume, S>,
+    accepted: usize,
+) -> Result<(MemVolume, Connection<S>), Fail> {
+    if send(alloc, &mut custody, STEPS.len())? != accepted {
+        return Err(Fail::from("other steps were accepted"));
+    }
+    Ok(custody.close())
 }
 
 /// Sends all steps to a custody whose files answer so many calls. What a stop leaves then, where just
 /// so many steps were accepted.
 fn stopped(alloc: Global, begun: &Left, calls: Calls, accepted: usize) -> Result<Left, Fail> {
     let custody = opened_over(alloc, begun, &begun.written, calls)?;
-    let mut custody = custody.ok_or("not opened")?;
-    if send(alloc, &mut custody, STEPS.len())? != accepted {
-        return Err(Fail::from("other steps were accepted"));
-    }
-    let (volume, db) = custody.close();
+    let custody = custody.ok_or("not opened")?;
+    let (volume, db) = send_all(alloc, custody, accepted)?;
     let Files { log, db } = db.into_store().close();
     left_of(alloc, volume, log, db)
 }
@@ -180,24 +191,27 @@ fn torn(alloc: Global, synced: &[u8], written: &[u8]) -> Result<Vec<u8>, Fail> {
     Ok(bytes)
 }
 
+/// The log that is found after a stop.
+fn log_after(alloc: Global, left: &Left, unsynced: Unsynced) -> Result<Vec<u8>, Fail> {
+    match unsynced {
+        Unsynced::Lost => Ok(Vec::from_slice(alloc, &left.synced)?),
+        Unsynced::Kept => Ok(Vec::from_slice(alloc, &left.written)?),
+        Unsynced::Torn => torn(alloc, &left.synced, &left.written),
+    }
+}
+
 /// The custody that is opened after a stop.
 fn reopened(alloc: Global, left: &Left, unsynced: Unsynced) -> Result<FileCustody, Fail> {
-    let custody = match unsynced {
-        Unsynced::Lost => opened_over(alloc, left, &left.synced, ALL)?,
-        Unsynced::Kept => opened_over(alloc, left, &left.written, ALL)?,
-        Unsynced::Torn => {
-            let log = torn(alloc, &left.synced, &left.written)?;
-            opened_over(alloc, left, &log, ALL)?
-        }
-    };
+    let log = log_after(alloc, left, unsynced)?;
+    let custody = opened_over(alloc, left, &log, ALL)?;
     Ok(custody.ok_or("not reopened")?)
 }
 
 /// Whether what a stop leaves opens as the first so many steps, each whole, and nothing else, and then
 /// answers each part that is sent again or with other bytes as the plain program.
 fn opens_as(alloc: Global, left: &Left, unsynced: Unsynced, count: usize) -> Result<bool, Fail> {
-    let mut custody = reopened(alloc, left, unsynced)?;
     let mut plain = plain_after(alloc, count)?;
+    let mut custody = reopened(alloc, left, unsynced)?;
     goes_on_as(alloc, &mut custody, &mut plain)
 }
 
@@ -269,21 +283,19 @@ fn keeps_all_steps_after_their_commits(rt: HostRuntime) -> Result<(), Fail> {
 
 /// Whether `hello`, sent again after a stop within its commit, is one part, and its answer a repeat just
 /// where it was found.
-fn is_one_part(
+fn is_one_part<V: Volume, S: Alter>(
     alloc: Global,
-    left: &Left,
-    unsynced: Unsynced,
+    custody: &mut Custody<V, S>,
     was_found: bool,
 ) -> Result<bool, Fail> {
-    let mut custody = reopened(alloc, left, unsynced)?;
     let (wanted, free) = if was_found {
         (Wanted::Repeat, 6u32)
     } else {
         (Wanted::New, 7u32)
     };
     let has_room = custody.room() == Ok((free, 7));
-    let is_well = is_answered(alloc, &mut custody, NAME, b"hello", AT_TEN, wanted)?;
-    Ok(has_room & is_well & keeps_hello(&custody)? & (custody.room() == Ok((6, 7))))
+    let is_well = is_answered(alloc, custody, NAME, b"hello", AT_TEN, wanted)?;
+    Ok(has_room & is_well & keeps_hello(custody)? & (custody.room() == Ok((6, 7))))
 }
 
 #[test]
@@ -294,8 +306,9 @@ fn keeps_one_part_that_is_sent_again_after_a_stop(rt: HostRuntime) -> Result<(),
         let left = stopped(alloc, &begun, Calls { log, db: MANY }, 1)?;
         for unsynced in outcomes(&left) {
             let was_found = is_found(log, FIRST, *unsynced);
+            let mut custody = reopened(alloc, &left, *unsynced)?;
             assert!(rt;
-                is_one_part(alloc, &left, *unsynced, was_found)?,
+                is_one_part(alloc, &mut custody, was_found)?,
                 "{log} calls, {unsynced:?}"
             );
         }

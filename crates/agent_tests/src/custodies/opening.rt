@@ -1,13 +1,12 @@
 //! What a beginning and an opening answer: each damage, each refusal, and a volume that fails.
-use super::{TestCustody, new_custody};
-use crate::{Custody, InitError, has_record};
+use super::bench::opened;
+use super::{TestDatabase, new_custody};
+use custody::{Custody, InitError, has_record};
 use custody_machine::{Damage, Fault};
-use sqlite::{Connection, MemStore};
+use sqlite::{Alter, Connection};
 use std::alloc::Global;
 use std::test::Fail;
 use vault_volume::{Failed, MemVolume, Volume, write_head};
-
-type TestDatabase = Connection<MemStore>;
 
 const REGISTRY: &str = "INSERT INTO registry VALUES ('example', 20667)";
 
@@ -59,19 +58,11 @@ const DAMAGES: [(&str, Damage); 17] = [
     ),
 ];
 
-/// The custody that is opened, or why there is none.
-fn opened(
+fn fault_of<S: Alter + Drop>(
     alloc: Global,
     volume: MemVolume,
-    db: TestDatabase,
-) -> Result<Result<TestCustody, (Fault, MemVolume, TestDatabase)>, Fail> {
-    if volume.failures() > 9 {
-        return Err(Fail::from("many failures"));
-    }
-    Ok(Custody::open(alloc, volume, db))
-}
-
-fn fault_of(alloc: Global, volume: MemVolume, db: TestDatabase) -> Result<Option<Fault>, Fail> {
+    db: Connection<S>,
+) -> Result<Option<Fault>, Fail> {
     match opened(alloc, volume, db)? {
         Ok(_) => Ok(None),
         Err((fault, _, _)) => Ok(Some(fault)),
@@ -86,16 +77,19 @@ fn kept(alloc: Global) -> Result<(MemVolume, TestDatabase), Fail> {
     Ok((volume, db))
 }
 
+/// Whether a custody has one registry and one part, in one of 7 blocks.
+fn has_one_of_each<V: Volume, S: Alter>(custody: &Custody<V, S>) -> Result<bool, Fail> {
+    let records = custody.records().ok().ok_or("no records")?;
+    let counts = (records.registries().len(), records.parts().len());
+    Ok((counts == (1, 1)) & (custody.room() == Ok((6, 7))))
+}
+
 #[test]
 fn opens_what_is_whole(rt: HostRuntime) -> Result<(), Fail> {
     let alloc = rt.alloc();
     let (volume, db) = kept(alloc)?;
-    let Ok(custody) = opened(alloc, volume, db)? else {
-        return Err(Fail::from("not opened"));
-    };
-    assert_eq!(rt; custody.room(), Ok((6, 7)));
-    let records = custody.records().ok().ok_or("no records")?;
-    assert_eq!(rt; (records.registries().len(), records.parts().len()), (1, 1));
+    let custody = opened(alloc, volume, db)?.ok().ok_or("not opened")?;
+    assert!(rt; has_one_of_each(&custody)?);
     Ok(())
 }
 
@@ -111,49 +105,66 @@ fn tells_the_first_damage(rt: HostRuntime) -> Result<(), Fail> {
     Ok(())
 }
 
+/// The fault of the kept database over a new volume, in whose block 0 this number is written.
+fn fault_over(alloc: Global, blocks: u32, number: Option<u64>) -> Result<Option<Fault>, Fail> {
+    let mut volume = MemVolume::new(alloc, blocks, 64, 16)?;
+    if let Some(number) = number {
+        if volume.size() == 0 || volume.failures() > 9 {
+            return Err(Fail::from("no block 0"));
+        }
+        write_head(&mut volume, number).ok().ok_or("not written")?;
+    }
+    let (_, db) = kept(alloc)?;
+    fault_of(alloc, volume, db)
+}
+
 #[test]
 fn reads_block_0(rt: HostRuntime) -> Result<(), Fail> {
-    let alloc = rt.alloc();
-    let (_, db) = kept(alloc)?;
-    let zeros = MemVolume::new(alloc, 8, 64, 16)?;
-    assert_eq!(rt;
-        fault_of(alloc, zeros, db)?,
-        Some(Fault::Damaged(Damage::Head))
-    );
-    let (_, db) = kept(alloc)?;
-    let none = MemVolume::new(alloc, 0, 64, 16)?;
-    assert_eq!(rt;
-        fault_of(alloc, none, db)?,
-        Some(Fault::Damaged(Damage::Head))
-    );
-    let (_, db) = kept(alloc)?;
-    let mut other = MemVolume::new(alloc, 8, 64, 16)?;
-    write_head(&mut other, 2).ok().ok_or("not written")?;
-    assert_eq!(rt;
-        fault_of(alloc, other, db)?,
-        Some(Fault::Damaged(Damage::Volume))
-    );
-    let new = MemVolume::new(alloc, 8, 64, 16)?;
-    let db = Connection::open_in_memory(alloc)?;
-    assert_eq!(rt;
-        fault_of(alloc, new, db)?,
-        Some(Fault::Damaged(Damage::NoRecord))
-    );
+    let rows = [
+        (8, None, Damage::Head),
+        (0, None, Damage::Head),
+        (8, Some(2), Damage::Volume),
+    ];
+    for (blocks, number, damage) in rows {
+        let fault = fault_over(rt.alloc(), blocks, number)?;
+        assert_eq!(rt; fault, Some(Fault::Damaged(damage)));
+    }
     Ok(())
+}
+
+#[test]
+fn tells_a_database_without_a_record(rt: HostRuntime) -> Result<(), Fail> {
+    let alloc = rt.alloc();
+    let volume = MemVolume::new(alloc, 8, 64, 16)?;
+    let fault = fault_of(alloc, volume, Connection::open_in_memory(alloc)?)?;
+    assert_eq!(rt; fault, Some(Fault::Damaged(Damage::NoRecord)));
+    Ok(())
+}
+
+/// Why no custody is begun over a volume of so many blocks, and the database. No call is made of the
+/// volume.
+fn refused<S: Alter + Drop>(
+    alloc: Global,
+    blocks: u32,
+    db: Connection<S>,
+) -> Result<(InitError, Connection<S>), Fail> {
+    let volume = MemVolume::new(alloc, blocks, 64, 16)?;
+    let Err((error, volume, db)) = Custody::init(alloc, volume, db, 2) else {
+        return Err(Fail::from("begun"));
+    };
+    if volume.calls() != 0 {
+        return Err(Fail::from("calls of the volume"));
+    }
+    Ok((error, db))
 }
 
 #[test]
 fn begins_once(rt: HostRuntime) -> Result<(), Fail> {
     let alloc = rt.alloc();
-    let (_, mut db) = kept(alloc)?;
-    assert_eq!(rt; has_record(&mut db), Ok(true));
-    let volume = MemVolume::new(alloc, 1, 64, 16)?;
-    let Err((error, volume, db)) = Custody::init(alloc, volume, db, 2) else {
-        return Err(Fail::from("begun again"));
-    };
+    let (volume, db) = kept(alloc)?;
+    let (error, mut db) = refused(alloc, 1, db)?;
     assert_eq!(rt; error, InitError::AlreadyInitialised);
-    assert_eq!(rt; volume.calls(), 0);
-    let (volume, _) = kept(alloc)?;
+    assert_eq!(rt; has_record(&mut db), Ok(true));
     assert_eq!(rt; fault_of(alloc, volume, db)?, None);
     Ok(())
 }
@@ -162,13 +173,8 @@ fn begins_once(rt: HostRuntime) -> Result<(), Fail> {
 fn refuses_sizes(rt: HostRuntime) -> Result<(), Fail> {
     let alloc = rt.alloc();
     for blocks in [0, 1] {
-        let volume = MemVolume::new(alloc, blocks, 64, 16)?;
-        let db = Connection::open_in_memory(alloc)?;
-        let Err((error, volume, mut db)) = Custody::init(alloc, volume, db, 1) else {
-            return Err(Fail::from("begun"));
-        };
+        let (error, mut db) = refused(alloc, blocks, Connection::open_in_memory(alloc)?)?;
         assert_eq!(rt; error, InitError::Size);
-        assert_eq!(rt; volume.calls(), 0);
         assert_eq!(rt; has_record(&mut db), Ok(false));
     }
     let least = new_custody(alloc, 2)?;
@@ -259,6 +265,18 @@ fn begins_after(alloc: Global, number: u64) -> Result<(InitError, bool), Fail> {
     Ok((error, Custody::init(alloc, volume, db, 1).is_ok()))
 }
 
+/// Whether an opening tells that the volume failed, and the next one opens.
+fn opens_after_a_failure(alloc: Global) -> Result<bool, Fail> {
+    let (mut volume, db) = kept(alloc)?;
+    let next = volume.calls() as u64;
+    volume.fail_at(vec![in alloc; next; 1]?);
+    let Err((fault, volume, db)) = opened(alloc, volume, db)? else {
+        return Ok(false);
+    };
+    let is_told = (fault == Fault::VolumeFailed) & (volume.failures() == 1);
+    Ok(is_told & fault_of(alloc, volume, db)?.is_none())
+}
+
 #[test]
 fn fails_with_the_volume(rt: HostRuntime) -> Result<(), Fail> {
     let alloc = rt.alloc();
@@ -266,14 +284,6 @@ fn fails_with_the_volume(rt: HostRuntime) -> Result<(), Fail> {
     for number in [0, 1] {
         assert_eq!(rt; begins_after(alloc, number)?, (failed, true));
     }
-    let (mut volume, db) = kept(alloc)?;
-    let next = volume.calls() as u64;
-    volume.fail_at(vec![in alloc; next; 1]?);
-    let Err((fault, volume, db)) = opened(alloc, volume, db)? else {
-        return Err(Fail::from("opened"));
-    };
-    assert_eq!(rt; fault, Fault::VolumeFailed);
-    assert_eq!(rt; volume.failures(), 1);
-    assert_eq!(rt; fault_of(alloc, volume, db)?, None);
+    assert!(rt; opens_after_a_failure(alloc)?);
     Ok(())
 }

@@ -10,7 +10,7 @@ mod script;
 mod sessions;
 mod stops;
 
-use crate::Custody;
+use custody::Custody;
 use sqlite::{Connection, MemStore};
 use std::alloc::Global;
 use std::test::Fail;

@@ -1,6 +1,6 @@
 //! What is sent, to a custody and to the plain program of the machine alike.
 use super::bench::{AT_ELEVEN, AT_TEN, Answer, NAME, SECOND, put, register, registry};
-use crate::{Custody, Refused};
+use custody::{Custody, Refused};
 use custody_machine::Command;
 use custody_records::{PartKey, Records, Registry};
 use plain_machine::{PlainAnswer, PlainContent, PlainPart, PlainState, step_plain};
