@@ -63,7 +63,7 @@ count_beside (e ∷ es) set n count within all apart h =
     let more = rest.2 in (
       rest.0,
       count_over (Beside (Without set e) es) (Beside set (e ∷ es))
-      (λ b. (λ w. (w.0.0, λ i. ⊎_elim (λ (x : IsIn e b). w.0.1 x) (λ (x : IsInAny es b). w.1 x) i), λ w. ((w.0, λ i. w.1 (inl i)), λ i. w.1 (inr i)))) n rest.0 rest.1,
+          (λ b. (λ w. (w.0.0, λ i. ⊎_elim (λ (x : IsIn e b). w.0.1 x) (λ (x : IsInAny es b). w.1 x) i), λ w. ((w.0, λ i. w.1 (inl i)), λ i. w.1 (inr i)))) n rest.0 rest.1,
       omega (arith, inside, sum, one, more),
     )
 

@@ -66,8 +66,15 @@ fn answer_of(alloc: Global, kind: &str, times: u32) -> Option<u32> {
     match kind {
         "build" => build(alloc, times),
         "end" => place(&mut map_of(alloc, &all_but_the_end(alloc).ok()?)?, times),
-        "holes" => place(&mut map_of(alloc, &odd_blocks(alloc, 130_943).ok()?)?, times),
-        "runs" => place_runs(alloc, &mut map_of(alloc, &odd_blocks(alloc, 131_072).ok()?)?, times),
+        "holes" => place(
+            &mut map_of(alloc, &odd_blocks(alloc, 130_943).ok()?)?,
+            times,
+        ),
+        "runs" => place_runs(
+            alloc,
+            &mut map_of(alloc, &odd_blocks(alloc, 131_072).ok()?)?,
+            times,
+        ),
         _ => None,
     }
 }

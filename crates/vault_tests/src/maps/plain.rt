@@ -43,7 +43,8 @@ fn push_run(runs: &mut Vec<Extent>, from: u32, to: u32) -> Result<(), AllocError
 }
 
 fn blocks_in(runs: &[Extent]) -> u32 {
-    runs.iter().fold(0u32, |sum, run| sum.saturating_add(run.count))
+    runs.iter()
+        .fold(0u32, |sum, run| sum.saturating_add(run.count))
 }
 
 // The first run that is long enough.
@@ -117,7 +118,12 @@ fn random_volume(alloc: Global, state: &mut u64) -> Result<Plain, Fail> {
 }
 
 // Places so many blocks in both, once in one run, which is given back, and then in runs.
-fn places_alike(alloc: Global, plain: &mut Plain, map: &mut ExtentMap, count: u32) -> Result<bool, Fail>
+fn places_alike(
+    alloc: Global,
+    plain: &mut Plain,
+    map: &mut ExtentMap,
+    count: u32,
+) -> Result<bool, Fail>
     requires { 1 ≤ count }
 {
     let runs = plain.free_runs(alloc)?;

@@ -9,8 +9,7 @@ use Rattle.custody.proofs.custody.Custody.room.Goals as goal
 pub returns-in-Ok-clause-found : goal.returns-in-Ok-clause-found
 returns-in-Ok-clause-found g c =
     let held = held_by c.args.self.now in
-    let found = c.in-Ok.ensures.found in
-    (
+    let found = c.in-Ok.ensures.found in (
       found.0,
       free_count (recorded held) held.records.parts.items refl held.records.parts_rise (g.V.Volume.size (volume_of held.vault)) (failures_of held) (IsFree held.vault) (c.args.self.now.order found.0) c.free_blocks.result c.free_blocks.ensures,
       c.saturating_sub.ensures ∙ ap (λ (n : ℕ). n - 1) (c.blocks-in-Ok.ensures ∙ ap (λ (r : Records). r.blocks) found.1),
