@@ -224,7 +224,7 @@ impl ExtentMap {
         ensures stop { result.count < most → ¬ IsFree self.now (result.start + result.count) }
     {
         let start = first_one(&self.words, from as usize);
-        let stop = first_zero(&self.words, start);
+        let stop = first_zero(&self.words, start, self.words.len());
         let count = (stop - start).min(most as usize);
         Extent {
             start: start as u32,
@@ -272,8 +272,9 @@ impl ExtentMap {
         ensures free { IsTrue result → IsFreeRun (IsFree self.now) extent.now.start extent.now.count }
         ensures used { result ≡ false → (b : ℕ) × IsIn extent.now b × (¬ IsFree self.now b) }
     {
-        let end = first_zero(&self.words, extent.start as usize);
-        end - extent.start as usize >= extent.count as usize
+        let start = extent.start as usize;
+        let end = start + extent.count as usize;
+        first_zero(&self.words, start, end.div_ceil(64)) >= end
     }
 }
 

@@ -50,26 +50,27 @@ pub fn first_one(words: &[u64], from: usize) -> usize
     64 * words.len()
 }
 
-/// The first 0 from a place on, or the end.
-pub fn first_zero(words: &[u64], from: usize) -> usize
+/// The first 0 from a place on among so many words, or their end.
+pub fn first_zero(words: &[u64], from: usize, count: usize) -> usize
     requires few { length words.now < 2 ^ 32 }
-    requires within { from < 64 * length words.now }
-    ensures range { (from ≤ result) × (result ≤ 64 * length words.now) }
+    requires words { count ≤ length words.now }
+    requires within { from < 64 * count }
+    ensures range { (from ≤ result) × (result ≤ 64 * count) }
     ensures before { (b : ℕ) → from ≤ b → b < result → bit words.now b ≡ 1 }
-    ensures found { result < 64 * length words.now → bit words.now result ≡ 0 }
+    ensures found { result < 64 * count → bit words.now result ≡ 0 }
 {
     let first = from / 64;
     let low = lowest_zero_from(words[first], (from % 64) as u32);
     if low < 64 {
         return 64 * first + low as usize;
     }
-    for at in first + 1..words.len() {
+    for at in first + 1..count {
         let low = lowest_zero_from(words[at], 0);
         if low < 64 {
             return 64 * at + low as usize;
         }
     }
-    64 * words.len()
+    64 * count
 }
 
 /// The place behind the last 0 of a word, or 0.
@@ -111,7 +112,7 @@ pub fn first_fit(words: &[u64], count: usize) -> Option<usize>
         if start == end {
             return None;
         }
-        let stop = first_zero(words, start);
+        let stop = first_zero(words, start, words.len());
         if stop - start >= count {
             return Some(start);
         }
