@@ -15,7 +15,7 @@ RUNS = 5
 ROWS = [
     ("the map from 100,000 extents of a block", "build", 100, "162143", 10_000),
     ("place(256), all used but the last 256 blocks", "end", 20_000, "261888", 50),
-    ("place(256), each second block used but for the last 256", "holes", 5_000, "261888", 50),
+    ("place(256), each second block used but for the last 256", "holes", 5_000, "261886", 50),
     ("place_all(256), each second block used", "runs", 500, "130815", 50),
 ]
 
