@@ -8,17 +8,16 @@ use Rattle.custody_records.specs.Keys.{part_cmp}
 use Rattle.custody_records.specs.Records.{Records}
 use Rattle.custody_records.specs.declared.parts.Part as typed
 use Rattle.custody_records.specs.Typed.{part_place, part_value}
-use Rattle.custody_records.proofs.FieldLemmas.{find_passes}
 use Rattle.custody_machine.specs.Names.{is_same_text, read_name}
 use Rattle.custody_machine.specs.State.{State, Part}
-use Rattle.custody_machine.specs.Machine.{Receive, Accept, Refuse, Reply, step, stands, named_stands, holds_other, refusals, recorded, part_at}
+use Rattle.custody_machine.specs.Machine.{Receive, Accept, Refuse, Reply, step, named_tests, first_standing, is_unregistered, is_out_of_range, is_out_of_size, holds_other, is_dropped, is_not_due, is_stated, differs_in_kind, is_out_of_order, recorded, part_at}
 use Rattle.custody_machine.specs.declared.answers.Refusal.TheVariants.{OtherBytes}
 use Rattle.custody_machine.specs.Stored.{part_of, state_in}
 use Rattle.custody_machine.specs.Custody.{ByBytes, Decides}
 use Rattle.vault_volume.specs.Extents.{part_bytes}
 use Rattle.custody_machine.proofs.MapValues.{get-map_values}
 use Rattle.custody_machine.proofs.SameValues.{text_decides, kind_decides}
-use Rattle.custody_machine.proofs.Keeping.{receives, answered, accept_inj, recorded_is}
+use Rattle.custody_machine.proofs.Keeping.{receives, answered, accept_inj, recorded_is, part_refusals}
 use Rattle.custody_machine.proofs.Composed.{refusal_is}
 
 ok_same : (a b : Name) → ◌≡◌ {A = Result Name NameError} (Ok a) (Ok b) → a ≡ b
@@ -26,6 +25,19 @@ ok_same a b e = cc
 
 some_same : (a b : Part) → Some a ≡ Some b → a ≡ b
 some_same a b e = cc
+
+-- that other bytes are told is that they are sent
+other_bytes : (a b c d e f g h i : Bool) → part_refusals a b c d e f g h i ≡ Some OtherBytes → d ≡ true
+other_bytes true b c d e f g h i is = cc
+other_bytes false true c d e f g h i is = cc
+other_bytes false false true d e f g h i is = cc
+other_bytes false false false true e f g h i is = refl
+other_bytes false false false false true f g h i is = cc
+other_bytes false false false false false true g h i is = cc
+other_bytes false false false false false false true h i is = cc
+other_bytes false false false false false false false true i is = cc
+other_bytes false false false false false false false false true is = cc
+other_bytes false false false false false false false false false is = cc
 
 module _ (records : Records) (text bytes : List ℕ) (now : ℕ) (part : typed.Part) (extents : List Extent) (d : Decides (ByBytes (part_place part) (part_value part) extents) records text (length bytes) now) where
   abbrev state : State
@@ -44,7 +56,10 @@ module _ (records : Records) (text bytes : List ℕ) (now : ℕ) (part : typed.P
           of n None at e = let first : false ≡ reply.is_repeat = ap (λ (r : Reply). r.is_repeat) (accept_inj _ _ _ _ e).0 in let clash : false ≡ true = first ∙ repeat in cc
 
       refused : step state (Receive text bytes) now ≡ Refuse OtherBytes → (p : Part) × (recorded state d.0 ≡ Some p)
-      refused is = of (recorded state d.0) (ap (λ r. named_stands state r bytes now OtherBytes) (sym d.1) ∙ find_passes (stands state (Receive text bytes) now) refusals OtherBytes (refusal_is state text bytes now OtherBytes is))
+      refused is = of (recorded state d.0)
+          (other_bytes (is_unregistered state d.0) (is_out_of_range state d.0 now) (is_out_of_size (length bytes)) (holds_other bytes (recorded state d.0)) (is_dropped (recorded state d.0))
+          (is_not_due state d.0) (is_stated state d.0) (differs_in_kind state d.0) (is_out_of_order state d.0)
+          (ap (λ r. first_standing (named_tests state r bytes now)) (sym d.1) ∙ refusal_is state text bytes now OtherBytes is))
         where
           of : (o : Option Part) → holds_other bytes o ≡ true → (p : Part) × (o ≡ Some p)
           of (Some p) e = (p, refl)
