@@ -130,6 +130,16 @@ def verify(joined):
     return "PASS"
 
 
+def ordered(rows, shuffled):
+    """The tables with their rows in order, or shuffled."""
+    for table in rows.values():
+        if shuffled:
+            random.Random(7).shuffle(table)
+        else:
+            table.sort()
+    return rows
+
+
 def registry(shuffled):
     """The tables of a registry of many domains, as lists of lines: about 8 MiB in all."""
     domains = 21000
@@ -143,12 +153,7 @@ def registry(shuffled):
         "contact": [f"C{i:05},C{i:05}-EX,R{i % 97:03},2020-01-01T00:00:00Z\n" for i in range(20000)],
         "registrar": [f'R{i:03},"Registrar {i}, Inc.",{i + 1},ok\n' for i in range(97)],
     }
-    for table in rows.values():
-        if shuffled:
-            random.Random(7).shuffle(table)
-        else:
-            table.sort()
-    return rows
+    return ordered(rows, shuffled)
 
 
 def short_rows(shuffled):
@@ -159,12 +164,7 @@ def short_rows(shuffled):
         "domainStatuses": [f"{name},{letter}\n" for name in names for letter in "abcdefghijklmnopqrstuvwx"],
         "registrar": ["R000,Registrar,,ok\n"],
     }
-    for table in rows.values():
-        if shuffled:
-            random.Random(7).shuffle(table)
-        else:
-            table.sort()
-    return rows
+    return ordered(rows, shuffled)
 
 
 def joined(rows, said=None, files=None, head=None):
