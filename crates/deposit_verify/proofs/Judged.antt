@@ -27,7 +27,7 @@ use Rattle.deposit_verify.proofs.Verdicts.{below_all, below_more}
 -- ---- the tables of a full deposit
 
 -- the table at the place of a name
-all_tables_right : (name : TableName) (d : TableName) → (table_place name < 8) × (get_or all_tables (table_place name) d ≡ name)
+pub all_tables_right : (name : TableName) (d : TableName) → (table_place name < 8) × (get_or all_tables (table_place name) d ≡ name)
 all_tables_right Domain d = (omega arith, refl)
 all_tables_right DomainContacts d = (omega arith, refl)
 all_tables_right DomainStatuses d = (omega arith, refl)

@@ -7,3 +7,6 @@ pub mod Uniques
 pub mod Judged
 pub mod Lifted
 pub mod CutLemmas
+pub mod FilesDecided
+pub mod HeaderDecided
+pub mod LeastVerdict

@@ -1,10 +1,12 @@
 -- The least check that fails.
 use Rattle.std.proofs.Common.{◌≡◌, ◌+◌, ◌∙◌, List, [], ◌∷◌, ℕ, ap, arith, get_or, inl, inr, refl, subst, sym}
-use Rattle.std.proofs.lemmas.Bool.Decides.{eqb_tells}
+use Rattle.std.proofs.lemmas.Bool.Decides.{eqb_tells, leb_tells}
 use Rattle.desk.specs.Checks.{check_number}
 use Rattle.desk.specs.declared.checks.Check.{Check}
 use Rattle.desk.specs.declared.checks.Check.TheVariants.{Frame, Envelope, Name, Statement, Weekday, PrevId, IdTaken, Menu, Files, Table, Counts, References, Deletes}
-use Rattle.deposit_verify.specs.Checks.{Below}
+use Rattle.deposit_verify.specs.Checks.{Below, IsLeast}
+use Rattle.deposit_verify.specs.declared.verdict.Verdict.{Verdict}
+use Rattle.deposit_verify.specs.declared.verdict.Verdict.TheVariants.{Pass, Fail}
 
 -- all checks, each at its number
 abbrev numbered : List Check
@@ -68,3 +70,16 @@ below_all P all Table = all Table (omega arith)
 below_all P all Counts = all Counts (omega arith)
 below_all P all References = all References (omega arith)
 below_all P all Deletes = all Deletes (omega arith)
+
+-- no two verdicts are the least
+pub one_least : (P : Check → Type 0) (v w : Verdict) → IsLeast P v → IsLeast P w → v ≡ w
+one_least P Pass Pass p q = refl
+one_least P Pass (Fail d) p q = absurd (q.0 (p d))
+one_least P (Fail c) Pass p q = absurd (p.0 (q c))
+one_least P (Fail c) (Fail d) p q = elim (eqb_tells (check_number c) (check_number d)) [
+  | inl same ↦ ap Fail (same_check c d same.1)
+  | inr other ↦ elim (leb_tells (check_number c) (check_number d)) [
+    | inl below ↦ absurd (p.0 (q.1 c (omega (arith, below.1, other.1))))
+    | inr above ↦ absurd (q.0 (p.1 d above.1))
+  ]
+]

@@ -4,3 +4,4 @@ pub mod References
 pub mod Checks
 pub mod Index
 pub mod Tables
+pub mod Verdict

@@ -14,6 +14,6 @@ mod verdict;
 mod verification;
 
 pub use about::About;
-pub use laws::law_one_verdict;
+pub use laws::{law_one_verdict, law_verdict};
 pub use verdict::{NoMemory, Verdict};
 pub use verification::verify;

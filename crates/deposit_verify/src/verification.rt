@@ -5,10 +5,12 @@ ghost use Rattle.deposit_name.specs.declared.kinds.Kind.TheVariants.{Full};
 ghost use Rattle.deposit_verify.specs.Checks.{AreCounts, Below, HasMenu, IsLeast, IsVerdict, Says};
 ghost use Rattle.deposit_verify.specs.Known.{Known, known};
 ghost use Rattle.deposit_verify.specs.Tables.{AreAllTables, FullSays, TablesSay, table_of};
+ghost use Rattle.deposit_verify.specs.Verdict.{verdict};
 
 use crate::about::About;
 use crate::files::{all_entries, cut_files};
 use crate::header::header_fault;
+use crate::laws::law_verdict;
 use crate::references::are_references_kept;
 use crate::tables::{are_key_files, read_tables};
 use crate::verdict::{NoMemory, Verdict};
@@ -96,9 +98,12 @@ fn judge_files(alloc: Global, envelope: &Envelope, rest: &[u8]) -> Result<Verdic
 /// Want of memory, and nothing else.
 pub fn verify(alloc: Global, joined: &[u8], about: &About) -> Result<Verdict, NoMemory>
     // The verdict names the least of the thirteen checks that fails, or is a pass where none does.
-    ensures { IfOk result (IsVerdict joined.now (known about.now)) }
+    ensures least { IfOk result (IsVerdict joined.now (known about.now)) }
+    // It is the one that is a function of the same.
+    ensures computed { IfOk result (λ v. v ≡ verdict joined.now (known about.now)) }
 {
     law_one_reading();
+    law_verdict();
     let Ok(frame) = split_frame(joined) else {
         return Ok(Verdict::Fail(Check::Frame));
     };

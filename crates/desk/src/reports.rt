@@ -14,6 +14,10 @@ use std::io::Write;
 pub struct Fault;
 
 impl fmt::Display for Fault {
+    ghost use Rattle.std.specs.Prelude.{Some, codes};
+
+    ghost output = { λ _. Some (codes "write failed") };
+
     fn fmt<W: fmt::Write>(&self, f: &mut fmt::Formatter<W>) -> fmt::Result {
         f.write_str("write failed")
     }

@@ -1,7 +1,9 @@
+pub mod Decided
 pub mod KeyLemmas
 pub mod Records
 pub mod RowLemmas
 pub mod SpellingLemmas
+pub mod TableReading
 pub mod Tables
 pub mod WalkLemmas
 pub mod WritingLemmas

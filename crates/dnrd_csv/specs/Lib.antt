@@ -1,7 +1,9 @@
 pub mod ErrorText
 pub mod Form
+pub mod FormTests
 pub mod Reading
 pub mod Rows
 pub mod Table
 pub mod Keys
+pub mod Readers
 pub mod Text

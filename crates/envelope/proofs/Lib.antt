@@ -7,3 +7,5 @@ pub mod Values
 pub mod Again
 pub mod Forms
 pub mod Lengths
+pub mod FormDecided
+pub mod TextReading

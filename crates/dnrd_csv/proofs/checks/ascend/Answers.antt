@@ -1,4 +1,4 @@
-use Rattle.std.proofs.Common.{List, ℕ, Less, ◌≡◌, ◌<◌, ◌+◌, ◌-◌, ◌∙◌, [], ap, arith, get_or, length, map, refl, sym, take}
+use Rattle.std.proofs.Common.{Less, ◌≡◌, ◌<◌, ◌+◌, ◌-◌, ◌∙◌, [], ap, arith, get_or, length, map, refl, sym, take}
 use Rattle.std.specs.Ordering.{is_lt}
 use Rattle.std.proofs.lemmas.List.{get_or-take, length-map, length-take, take_all, take_more}
 use Rattle.dnrd_csv.specs.Keys.{key_cmp, texts_of}

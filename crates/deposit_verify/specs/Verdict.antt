@@ -1,0 +1,185 @@
+-- The verdict on a deposit as a function of its bytes and of what is known of it (Specification 2, Part A, section 7). Only its law is used: `IsLawful`, which says it by `IsVerdict`.
+use Rattle.std.specs.Prelude.{◌≡◌, ◌==◌, ◌%◌, ◌&&◌, ◌||◌, not, ℕ, Bool, true, false, List, [], ◌∷◌, Option, Some, None, if◌then◌else◌, is_none, is_some, length, map, nat_lt, option_and_then, option_map, take, drop, unwrap_or}
+use Rattle.std.specs.Cmp.Lexicographic.{pointwise}
+use Rattle.std.specs.List.{list_all, list_any}
+use Rattle.std.specs.Str.{bytes_eq}
+use Rattle.sha2.specs.Sha256.{sha256}
+use Rattle.deposit_name.specs.Name.{Name}
+use Rattle.deposit_name.specs.declared.kinds.Kind.{Kind}
+use Rattle.deposit_name.specs.declared.kinds.Kind.TheVariants.{Full, Diff}
+use Rattle.deposit_name.specs.declared.table.TableName.{TableName}
+use Rattle.deposit_name.specs.declared.table.TableName.TheVariants.{Domain, DomainContacts, DomainStatuses, DomainNameServers, Host, HostAddresses, Contact, Registrar}
+use Rattle.desk.specs.declared.checks.Check.{Check}
+use Rattle.desk.specs.declared.checks.Check.TheVariants as check
+use Rattle.dnrd_csv.specs.Readers.{table_at}
+use Rattle.dnrd_csv.specs.Table.{columns_of, key_columns_of}
+use Rattle.envelope.specs.Envelope.{Env}
+use Rattle.envelope.specs.Readers.{envelope_at, frame_at}
+use Rattle.envelope.specs.declared.envelope.Count.{Count}
+use Rattle.envelope.specs.declared.envelope.FileEntry.{FileEntry}
+use Rattle.deposit_verify.specs.declared.verdict.Verdict.{Verdict}
+use Rattle.deposit_verify.specs.declared.verdict.Verdict.TheVariants.{Pass, Fail}
+use Rattle.deposit_verify.specs.Checks.{IsVerdict, all_tables, counted_tables, counted_uris, object_uris, table_place}
+use Rattle.deposit_verify.specs.Deposit.{contents_files, deletes_files, deletes_of, entries_of}
+use Rattle.deposit_verify.specs.Known.{Known}
+use Rattle.deposit_verify.specs.References.{column}
+use Rattle.deposit_verify.specs.Tables.{table_of}
+
+-- ---- the envelope
+
+abbrev pub is_same_kind : Kind → Kind → Bool
+is_same_kind Full Full = true
+is_same_kind Full Diff = false
+is_same_kind Diff Full = false
+is_same_kind Diff Diff = true
+
+abbrev pub is_full : Kind → Bool
+is_full kind = is_same_kind kind Full
+
+abbrev pub agrees_with_name : Env → Name → Bool
+agrees_with_name v name =
+    is_same_kind v.kind name.kind && (bytes_eq v.tld name.tld && (v.watermark == name.day && v.resend == name.rev))
+
+-- two ids that are there and the same
+abbrev pub is_same_id : Option (List ℕ) → Option (List ℕ) → Bool
+is_same_id None other = false
+is_same_id (Some id) None = false
+is_same_id (Some id) (Some other) = bytes_eq id other
+
+abbrev pub follows_latest : Kind → Option (List ℕ) → Option (List ℕ) → Bool
+follows_latest Full prev_id latest = is_none prev_id
+follows_latest Diff prev_id latest = is_same_id prev_id latest
+
+abbrev pub contains_text : List (List ℕ) → List ℕ → Bool
+contains_text texts text = list_any (λ one. bytes_eq one text) texts
+
+-- each number is below the next
+abbrev pub increase : List ℕ → Bool
+increase [] = true
+increase (n ∷ []) = true
+increase (m ∷ n ∷ ns) = nat_lt m n && increase (n ∷ ns)
+
+abbrev pub stand_in_order : List TableName → Bool
+stand_in_order names = increase (map table_place names)
+
+abbrev pub has_contents : Kind → List TableName → Bool
+has_contents Full names = bytes_eq (map table_place names) (map table_place all_tables)
+has_contents Diff names = stand_in_order names
+
+abbrev pub has_menu : Env → Bool
+has_menu v =
+    pointwise bytes_eq v.object_uris object_uris && (pointwise bytes_eq (map (λ c. c.uri) v.count) counted_uris
+    && (has_contents v.kind (map (λ f. f.name) v.contents) && stand_in_order (map (λ f. f.name) (deletes_of v))))
+
+-- ---- the files, and their tables
+
+abbrev pub is_file_of : FileEntry → List ℕ → Bool
+is_file_of entry file = length file == entry.length && bytes_eq (sha256 file) entry.sha256
+
+-- the files that bytes are, each that of its entry
+abbrev pub files_at : List FileEntry → List ℕ → Option (List (List ℕ))
+files_at [] [] = Some []
+files_at [] (byte ∷ bytes) = None
+files_at (entry ∷ entries) bytes =
+    if is_file_of entry (take entry.length bytes)
+    then option_map (λ files. take entry.length bytes ∷ files) (files_at entries (drop entry.length bytes))
+    else None
+
+-- the rows of a file that is the table that its entry names
+abbrev pub rows_at : FileEntry → List ℕ → Option (List (List (List ℕ)))
+rows_at entry file = table_at (columns_of entry.name) (key_columns_of entry.name) file
+
+-- the rows of each file, where each is a table
+abbrev pub tables_at : List FileEntry → List (List ℕ) → Option (List (List (List (List ℕ))))
+tables_at [] [] = Some []
+tables_at [] (file ∷ files) = None
+tables_at (entry ∷ entries) [] = None
+tables_at (entry ∷ entries) (file ∷ files) =
+    option_and_then (λ rows. option_map (λ tables. rows ∷ tables) (tables_at entries files)) (rows_at entry file)
+
+abbrev pub is_key_file : FileEntry → List ℕ → Bool
+is_key_file entry file = is_some (table_at (take 1 (columns_of entry.name)) 1 file)
+
+abbrev pub are_counts : List Count → (TableName → List (List (List ℕ))) → Bool
+are_counts counts tables = bytes_eq (map (λ c. c.count) counts) (map (λ name. length (tables name)) counted_tables)
+
+-- each of these texts is the key of a row
+abbrev pub are_keys : List (List (List ℕ)) → List (List ℕ) → Bool
+are_keys rows texts = list_all (contains_text (column 0 rows)) texts
+
+-- each of these texts is the key of a row, or empty
+abbrev pub are_keys_or_empty : List (List (List ℕ)) → List (List ℕ) → Bool
+are_keys_or_empty rows texts = list_all (λ text. bytes_eq text [] || contains_text (column 0 rows) text) texts
+
+-- whatever an object names is there
+abbrev pub are_references_kept : (TableName → List (List (List ℕ))) → Bool
+are_references_kept tables =
+    (are_keys (tables Registrar) (column 3 (tables Domain))
+    && (are_keys (tables Registrar) (column 2 (tables Host)) && are_keys (tables Registrar) (column 2 (tables Contact))))
+    && ((are_keys_or_empty (tables Contact) (column 2 (tables Domain)) && are_keys (tables Contact) (column 2 (tables DomainContacts)))
+    && ((are_keys (tables Domain) (column 0 (tables DomainContacts))
+    && (are_keys (tables Domain) (column 0 (tables DomainStatuses)) && are_keys (tables Domain) (column 0 (tables DomainNameServers))))
+    && (are_keys (tables Host) (column 1 (tables DomainNameServers)) && are_keys (tables Host) (column 0 (tables HostAddresses)))))
+
+-- ---- the checks
+
+-- what is read behind an envelope: the files, where the bytes are files, and the tables of contents, where these are tables
+pub record Contents : Type 0 where
+  pub files : Option (List (List ℕ))
+  pub tables : Option (List (List (List (List ℕ))))
+
+abbrev pub with_tables : Env → Option (List (List ℕ)) → Contents
+with_tables v files = record { files = files; tables = option_and_then (λ all. tables_at v.contents (contents_files v all)) files }
+
+abbrev pub contents_at : Env → List ℕ → Contents
+contents_at v rest = with_tables v (files_at (entries_of v) rest)
+
+-- what a test says of the tables of a full deposit; it says nothing of others
+abbrev pub of_full : Env → Contents → ((TableName → List (List (List ℕ))) → Bool) → Bool
+of_full v found test = not (is_full v.kind) || test (table_of (unwrap_or found.tables []))
+
+-- whether a deposit that passes the checks below this one passes it
+abbrev pub passes : Env → Known → Contents → Check → Bool
+passes v known found check.Frame = true
+passes v known found check.Envelope = true
+passes v known found check.Name = agrees_with_name v known.name
+passes v known found check.Statement = bytes_eq v.id known.id
+passes v known found check.Weekday = not (v.watermark % 7 == 3) || is_full v.kind
+passes v known found check.PrevId = follows_latest v.kind v.prev_id known.latest
+passes v known found check.IdTaken = not (contains_text known.passed v.id)
+passes v known found check.Menu = has_menu v
+passes v known found check.Files = is_some found.files
+passes v known found check.Table = is_some found.tables
+passes v known found check.Counts = of_full v found (are_counts v.count)
+passes v known found check.References = of_full v found are_references_kept
+passes v known found check.Deletes = pointwise is_key_file (deletes_of v) (deletes_files v (unwrap_or found.files []))
+
+-- the checks of what an envelope and its files say, in the order of their numbers
+abbrev pub checks_inside : List Check
+checks_inside =
+    check.Name ∷ check.Statement ∷ check.Weekday ∷ check.PrevId ∷ check.IdTaken ∷ check.Menu ∷ check.Files ∷ check.Table
+    ∷ check.Counts ∷ check.References ∷ check.Deletes ∷ []
+
+-- the first of some checks that fails, or a pass where none does
+abbrev pub first_failing : (Check → Bool) → List Check → Verdict
+first_failing test [] = Pass
+first_failing test (c ∷ cs) = if test c then first_failing test cs else Fail c
+
+-- ---- the verdict
+
+abbrev pub envelope_verdict : Known → List ℕ → Option Env → Verdict
+envelope_verdict known rest None = Fail check.Envelope
+envelope_verdict known rest (Some v) = first_failing (passes v known (contents_at v rest)) checks_inside
+
+abbrev pub frame_verdict : Known → Option (List ℕ × List ℕ) → Verdict
+frame_verdict known None = Fail check.Frame
+frame_verdict known (Some parts) = envelope_verdict known parts.1 (envelope_at parts.0)
+
+-- the least check that fails
+unfoldable pub verdict : List ℕ → Known → Verdict
+verdict joined known = frame_verdict known (frame_at joined)
+
+-- The verdict names the least check that fails, or is a pass where none does; and nothing else is.
+pub record IsLawful : Type 0 where
+  pub least : (joined : List ℕ) (known : Known) → IsVerdict joined known (verdict joined known)
+  pub only : (joined : List ℕ) (known : Known) (v : Verdict) → IsVerdict joined known v → v ≡ verdict joined known

@@ -1,0 +1,100 @@
+-- The frame and the envelope that are read of a text are those whose text it is.
+use Rattle.std.specs.Prelude.{◌↔◌, nat_lt}
+use Rattle.std.proofs.Common.{◌≡◌, ◌<◌, ◌+◌, ◌*◌, ◌-◌, ◌/◌, ◌%◌, ◌^◌, ◌++◌, ◌∷◌, ◌∙◌, [], ℕ, zero, suc, List, Option, Some, None, ap, append_assoc, arith, cond, drop, drop_at, length, length-append, option_and_then, refl, subst, sym, take, take_at, true, ◌&&◌}
+use Rattle.std.specs.Str.{bytes_eq}
+use Rattle.std.proofs.lemmas.Bool.{and_from, and_parts, lt-ltb, ltb-true}
+use Rattle.std.proofs.lemmas.List.Sums.{fold-append}
+use Rattle.std.proofs.lemmas.Option.{cond_some, option_and_then_some}
+use Rattle.std.proofs.lemmas.Slice.Eq.{bytes_eq-Decides}
+use Rattle.std.proofs.Math.Nat.{pow-succ'}
+use Rattle.serde_json.specs.Read.{read}
+use Rattle.envelope.specs.Envelope.{Env, IsEnvelope, env_text}
+use Rattle.envelope.specs.Frame.{IsFrame, fixed_digits, frame, with_length}
+use Rattle.envelope.specs.Reading.{◌>>=◌, env_at}
+use Rattle.envelope.specs.Readers.{AreReaders, after_head, after_length, envelope_at, frame_at, length_shown, number_shown, parts_shown, spelled}
+use Rattle.envelope.proofs.Again.{env_again}
+use Rattle.envelope.proofs.Digits.{length-fixed_digits, without_length}
+use Rattle.envelope.proofs.FormDecided.{envelope_decides}
+use Rattle.envelope.proofs.Forms.{env_reads}
+
+-- ---- frames
+
+-- a number is the one that its digits show
+number_again : (width n : ℕ) → n < 10 ^ width → number_shown (fixed_digits width n) ≡ n
+unfolding fixed_digits
+number_again zero n small = omega (arith, small)
+number_again (suc width) n small =
+    let power : 10 ^ suc width ≡ 10 * 10 ^ width = pow-succ' 10 width in
+    let front = number_again width (n / 10) (omega arith) in
+    fold-append (λ number digit. number * 10 + (digit - 48)) 0 (fixed_digits width (n / 10)) ((48 + n % 10) ∷ [])
+    ∙ ap (λ m. m * 10 + (48 + n % 10 - 48)) front
+    ∙ omega arith
+
+-- the parts of a frame are those that it shows
+parts_again : (text envelope rest : List ℕ) → IsFrame text envelope rest → parts_shown text ≡ (envelope, rest)
+parts_again text envelope rest is =
+    let n = length envelope in
+    let behind : after_head text ≡ with_length n (envelope ++ rest) = ap (drop 5) is.1 in
+    let cut = without_length n (envelope ++ rest) (after_head text) behind in
+    let shown : length_shown text ≡ n = ap number_shown cut.1 ∙ number_again 8 n is.0 in
+    let later : after_length text ≡ envelope ++ rest =
+    ap (drop 9) (behind ∙ sym (append_assoc (fixed_digits 8 n) (10 ∷ []) (envelope ++ rest)))
+    ∙ drop_at (fixed_digits 8 n ++ 10 ∷ []) (envelope ++ rest) 9 (length-append (fixed_digits 8 n) (10 ∷ []) ∙ ap (λ k. k + 1) (length-fixed_digits 8 n)) in
+    let first : take (length_shown text) (after_length text) ≡ envelope = (λ i. take (shown i) (later i)) ∙ take_at envelope rest n refl in
+    let second : drop (length_shown text) (after_length text) ≡ rest = (λ i. drop (shown i) (later i)) ∙ drop_at envelope rest n refl in
+    λ i. (first i, second i)
+
+frame_of : (text : List ℕ) (parts : List ℕ × List ℕ) → nat_lt (length parts.0) (10 ^ 8) ≡ true → bytes_eq text (frame parts.0 parts.1) ≡ true → IsFrame text parts.0 parts.1
+frame_of text parts small same = (ltb-true (length parts.0) (10 ^ 8) small, (bytes_eq-Decides text (frame parts.0 parts.1)).0 same)
+
+frame_is : (text : List ℕ) (parts : List ℕ × List ℕ) → (frame_at text ≡ Some parts) ↔ IsFrame text parts.0 parts.1
+unfolding frame_at
+frame_is text parts = (
+  λ e.
+      let found = cond_some _ _ _ e in
+      let tests = and_parts _ _ found.0 in
+      subst (λ (p : List ℕ × List ℕ). IsFrame text p.0 p.1) found.1 (frame_of text (parts_shown text) tests.0 tests.1),
+  λ is.
+      ap (λ (p : List ℕ × List ℕ). cond (nat_lt (length p.0) (10 ^ 8) && bytes_eq text (frame p.0 p.1)) (Some p) None) (parts_again text parts.0 parts.1 is)
+      ∙ ap (λ b. cond b (Some parts) None) (and_from _ _ (lt-ltb (length parts.0) (10 ^ 8) is.0) ((bytes_eq-Decides text (frame parts.0 parts.1)).1 is.1)),
+)
+
+-- ---- envelopes
+
+spelled_some : (text : List ℕ) (v w : Env) → spelled text v ≡ Some w → IsEnvelope w × (text ≡ env_text w)
+spelled_some text v w e =
+    let found = cond_some _ _ _ e in
+    let tests = and_parts _ _ found.0 in
+    subst (λ (u : Env). IsEnvelope u × (text ≡ env_text u)) found.1 ((envelope_decides v).0 tests.0, (bytes_eq-Decides text (env_text v)).0 tests.1)
+
+envelope_some : (text : List ℕ) (v : Env) → envelope_at text ≡ Some v → IsEnvelope v × (text ≡ env_text v)
+unfolding envelope_at
+envelope_some text v e =
+    option_and_then_some (λ value. env_at value >>= spelled text) (read text) v e (λ value _ more.
+    option_and_then_some (spelled text) (env_at value) v more (λ w _ last. spelled_some text w v last))
+
+envelope_is : (text : List ℕ) (v : Env) → IsEnvelope v × (text ≡ env_text v) → envelope_at text ≡ Some v
+unfolding envelope_at
+envelope_is text v is =
+    ap (option_and_then (λ value. env_at value >>= spelled text)) (ap read is.1 ∙ env_reads v is.0)
+    ∙ ap (option_and_then (spelled text)) (env_again v is.0)
+    ∙ ap (λ b. cond b (Some v) None) (and_from _ _ ((envelope_decides v).1 is.0) ((bytes_eq-Decides text (env_text v)).1 is.1))
+
+-- ---- both
+
+-- what reads something where a fact holds reads nothing just where it never holds
+none_is : {X : Type 0} (found : Option X) (P : X → Type 0) → ((x : X) → (found ≡ Some x) ↔ P x) → (found ≡ None) ↔ ((x : X) → ¬ P x)
+none_is None P some = (λ _ x h. let clash = (some x).1 h in cc clash, λ _. refl)
+none_is (Some y) P some = (λ e. cc e, λ none. absurd (none y ((some y).0 refl)))
+
+pub are_readers : AreReaders
+are_readers = record {
+  frame_read = λ text envelope rest. frame_is text (envelope, rest);
+  no_frame = λ text.
+      let none = none_is (frame_at text) (λ parts. IsFrame text parts.0 parts.1) (frame_is text) in
+      (λ e envelope rest. none.0 e (envelope, rest), λ none_there. none.1 (λ parts. none_there parts.0 parts.1));
+  envelope_read = λ text v. (envelope_some text v, envelope_is text v);
+  no_envelope = λ text.
+      let none = none_is (envelope_at text) (λ v. IsEnvelope v × (text ≡ env_text v)) (λ v. (envelope_some text v, envelope_is text v)) in
+      (λ e v form spelled. none.0 e v (form, spelled), λ none_there. none.1 (λ v h. none_there v h.0 h.1));
+}
