@@ -5,4 +5,4 @@ pub mod TableLemmas
 pub mod ReadBack
 pub mod ReadLemmas
 pub mod MetaLemmas
-pub mod RegistryLemmas
+pub mod GroupLemmas

@@ -1,19 +1,30 @@
 -- A table in the order of its keys is a finite map: what is found in it, and what a row more adds.
-use Rattle.std.proofs.Common.{◌≡◌, ◌⊎◌, inl, inr, ℕ, zero, suc, ◌<◌, ◌≤◌, List, [], ◌∷◌, length, get_or, Bool, true, false, ◌&&◌, cond, Option, Some, None, Result, Ok, Err, refl, sym, ◌∙◌, ap, subst, arith, add-one}
-use Rattle.std.specs.Prelude.{T, option_map, is_some, OnOk, OnErr, IfSome, option_copied}
+use Rattle.std.proofs.Common.{◌≡◌, ◌⊎◌, inl, inr, ℕ, zero, suc, ◌<◌, ◌≤◌, List, [], ◌∷◌, length, get_or, Bool, true, false, ◌&&◌, cond, Option, Some, None, Err, refl, sym, ◌∙◌, ap, subst, arith, add-one}
+use Rattle.std.specs.Prelude.{T, option_map, is_some}
 use Rattle.std.specs.List as list
 use Rattle.std.specs.List.Sorted.{IsBinarySearchResult, IsNonDecreasingBy}
 use Rattle.std.specs.Ordering.{is_lt, is_eq, ordering_reverse, ordering_index}
 use Rattle.std.specs.declared.cmp.Ordering.{Ordering}
 use Rattle.std.specs.declared.cmp.Ordering.TheVariants.{Less, Equal, Greater}
 use Rattle.std.specs.Cmp.{IsTotalOrder}
-use denote.Ref.{Bor}
 use Rattle.std.specs.FinMap.{FinMap, IsAntisymmetric, get, insert, empty, entries, entries_sorted, entries-insert, entries-from_sorted, get-from_sorted, same_entries_map, empty_of_len, len-entries, from_sorted}
 use Rattle.std.specs.FinMap.Entries.{find, put, is_sorted, below_all, by_order, is_sorted-put}
 use Rattle.std.proofs.lemmas.Bool.{and_parts, cases_lt}
 use Rattle.std.proofs.lemmas.Cmp.{alike_right}
 use Rattle.std.proofs.lemmas.List.Sorted.{searchable_from_sorted}
-use Rattle.custody_records.specs.Tables.{entries_of, is_below_all, is_rising, row_at, table_map, IsAdded}
+use Rattle.custody_records.specs.Tables.{entries_of, is_below_all, is_rising, table_map}
+
+-- the row of a key
+abbrev pub row_at : {T K : Type 0} → (K → K → Ordering) → (T → K) → List T → K → Option T
+row_at order key [] sought = None
+row_at order key (row ∷ rows) sought = cond (is_eq (order sought (key row))) (Some row) (row_at order key rows sought)
+
+-- a row more in its place: rows of smaller keys before it, and of greater keys after it
+pub record IsAdded {T K : Type 0} (order : K → K → Ordering) (key : T → K) (old new : List T) (row : T) : Type 0 where
+  pub place : ℕ
+  pub is : new ≡ list.insert old place row
+  pub below : (i : ℕ) (d : T) → i < place → i < length old → order (key (get_or old i d)) (key row) ≡ Less
+  pub above : (i : ℕ) (d : T) → place ≤ i → i < length old → order (key (get_or old i d)) (key row) ≡ Greater
 
 less_is : (o : Ordering) → is_lt o ≡ true → o ≡ Less
 less_is Less e = refl
@@ -69,7 +80,7 @@ module _ {Row K : Type 0} (order : K → K → Ordering) (key : Row → K) where
   below_at low (row ∷ rows) zero d below lt = less_is _ (and_parts _ _ below).0
   below_at low (row ∷ rows) (suc i) d below lt = below_at low rows i d (and_parts (is_lt (order low (key row))) _ below).1 (omega arith)
 
-  pub rises : (rows : List Row) (i : ℕ) (d : Row) → is_rising order key rows ≡ true → suc i < length rows → order (key (get_or rows i d)) (key (get_or rows (suc i) d)) ≡ Less
+  rises : (rows : List Row) (i : ℕ) (d : Row) → is_rising order key rows ≡ true → suc i < length rows → order (key (get_or rows i d)) (key (get_or rows (suc i) d)) ≡ Less
   rises [] i d rising lt = absurd (omega arith)
   rises (row ∷ rows) zero d rising lt = below_at (key row) rows 0 d (and_parts _ _ rising).0 (omega arith)
   rises (row ∷ rows) (suc i) d rising lt = rises rows i d (and_parts (is_below_all order key (key row) rows) _ rising).1 (omega arith)
@@ -81,7 +92,7 @@ module _ {Row K : Type 0} (order : K → K → Ordering) (key : Row → K) where
     not_above : (rows : List Row) (i : ℕ) (d : Row) → is_rising order key rows ≡ true → suc i < length rows → is_lt (order (key (get_or rows (suc i) d)) (key (get_or rows i d))) ≡ false
     not_above rows i d rising lt = ap is_lt (turned _ _ Less (rises rows i d rising lt))
 
-    pub answers_rise : (rows : List Row) (sought : K) → is_rising order key rows ≡ true → IsNonDecreasingBy (λ row. ordering_index (order (key row) sought)) rows
+    answers_rise : (rows : List Row) (sought : K) → is_rising order key rows ≡ true → IsNonDecreasingBy (λ row. ordering_index (order (key row) sought)) rows
     answers_rise rows sought rising = searchable_from_sorted o key rows sought (λ k d low lt.
         rw add-one (not_above rows k d rising (omega arith)))
 
@@ -171,6 +182,17 @@ module _ {Row K : Type 0} (order : K → K → Ordering) (key : Row → K) (o : 
       let split = gap sought place found in
       record { place = place; is = is; below = λ i d lt within. ap (order (key (get_or rows i d))) (sym same) ∙ split.0 i d lt within; above = λ i d le within. ap (order (key (get_or rows i d))) (sym same) ∙ split.1 i d le within }
 
+  -- whether the row was put there or not, the keys rise
+  pub rising_tried : (row : Row) (sought : K) (place : ℕ) (new : List Row) (is_put : Bool) → sought ≡ key row → IsBinarySearchResult (λ r. order (key r) sought) rows (Err place)
+      → new ≡ cond is_put (list.insert rows place row) rows → is_rising order key new ≡ true
+  rising_tried row sought place new true same found is = rising_added order key o (added_at row sought place new same found is) rising
+  rising_tried row sought place new false same found is = ap (is_rising order key) is ∙ rising
+
+  -- a key that is not found is not in the map
+  pub absent_key : {X : Type 0} (value : Row → X) (sought wanted : K) (place : ℕ) → sought ≡ wanted → IsBinarySearchResult (λ row. order (key row) sought) rows (Err place) → get (table_map order key value rows) wanted ≡ None
+  absent_key value sought wanted place same found =
+      get_table order key value rows wanted rising ∙ ap (option_map value) (ap (row_at order key rows) (sym same) ∙ absent_at sought place found)
+
   -- a key that the map does not have is that of no row
   pub absent_row : {X : Type 0} (value : Row → X) (sought : K) → get (table_map order key value rows) sought ≡ None → row_at order key rows sought ≡ None
   absent_row value sought none = by (row_at order key rows sought) (sym (get_table order key value rows sought rising) ∙ none)
@@ -189,12 +211,6 @@ module _ {Row K : Type 0} (order : K → K → Ordering) (key : Row → K) (o : 
 pub not_both : {A : Type 0} (o : Option A) (x : A) → o ≡ Some x → o ≡ None → ⊥
 not_both o x some none = let clash : Some x ≡ None = sym some ∙ none in cc
 
--- after a row that may be refused
-pub rising_either : {Row K A E : Type 0} (order : K → K → Ordering) (key : Row → K) (o : IsTotalOrder order) (old new : List Row) (row : Row) (r : Result A E)
-    → OnOk r (IsAdded order key old new row) → OnErr r (new ≡ old) → is_rising order key old ≡ true → is_rising order key new ≡ true
-rising_either order key o old new row (Ok x) added same rising = rising_added order key o added rising
-rising_either order key o old new row (Err e) added same rising = ap (is_rising order key) same ∙ rising
-
 -- the row that is found has the key
 pub key_found : {Row K : Type 0} (order : K → K → Ordering) (key : Row → K) → IsAntisymmetric order → (rows : List Row) (sought : K) (row : Row) → row_at order key rows sought ≡ Some row → key row ≡ sought
 key_found order key exact [] sought row e = cc
@@ -204,7 +220,3 @@ key_found {Row} order key exact (r ∷ rows) sought row e = by (order sought (ke
     by Less is e rest = rest e
     by Equal is e rest = let same : r ≡ row = cc e in sym (exact sought (key r) is ∙ ap key same)
     by Greater is e rest = rest e
-
-pub lent_key : {Row K : Type 0} (order : K → K → Ordering) (key : Row → K) → IsAntisymmetric order → (rows : List Row) (sought : K) (found : Option (Bor Row)) → option_copied found ≡ row_at order key rows sought → IfSome found (λ row. key row.now ≡ sought)
-lent_key order key exact rows sought None e = tt
-lent_key order key exact rows sought (Some row) e = key_found order key exact rows sought row.now (sym e)

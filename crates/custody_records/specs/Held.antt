@@ -1,31 +1,30 @@
 -- The records in memory, seen as records.
-use Rattle.std.specs.Prelude.{◌<◌, vec_len, vec_capacity}
 use Rattle.custody_records.specs.declared.records.Records as held
 use Rattle.custody_records.specs.Keys.{text_cmp, part_cmp, notice_cmp}
 use Rattle.custody_records.specs.Records.{Records}
-use Rattle.custody_records.specs.Tables.{table_map}
+use Rattle.custody_records.specs.Tables.{HasRoom, table_map}
 use Rattle.custody_records.specs.Typed.{registry_key, registry_value, part_place, part_value, notice_key, notice_value, release_key, release_value}
 
 abbrev pub records_of : held.Records → Records
 records_of r = record {
   number = r.number;
   blocks = r.blocks;
-  registries = table_map text_cmp registry_key registry_value r.registries.items;
-  parts = table_map part_cmp part_place part_value r.parts.items;
-  notices = table_map notice_cmp notice_key notice_value r.notices.items;
-  releases = table_map text_cmp release_key release_value r.releases.items;
+  registries = table_map text_cmp registry_key registry_value r.registries.rows.items;
+  parts = table_map part_cmp part_place part_value r.parts.rows.items;
+  notices = table_map notice_cmp notice_key notice_value r.notices.rows.items;
+  releases = table_map text_cmp release_key release_value r.releases.rows.items;
 }
 
 -- ---- room for one more, which is taken without memory
 
 abbrev pub HasRegistryRoom : held.Records → Type 0
-HasRegistryRoom r = vec_len r.registries < vec_capacity r.registries
+HasRegistryRoom r = HasRoom r.registries.rows
 
 abbrev pub HasPartRoom : held.Records → Type 0
-HasPartRoom r = vec_len r.parts < vec_capacity r.parts
+HasPartRoom r = HasRoom r.parts.rows
 
 abbrev pub HasNoticeRoom : held.Records → Type 0
-HasNoticeRoom r = vec_len r.notices < vec_capacity r.notices
+HasNoticeRoom r = HasRoom r.notices.rows
 
 abbrev pub HasReleaseRoom : held.Records → Type 0
-HasReleaseRoom r = vec_len r.releases < vec_capacity r.releases
+HasReleaseRoom r = HasRoom r.releases.rows

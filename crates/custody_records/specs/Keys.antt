@@ -19,6 +19,10 @@ pub record PartKey : Type 0 where
 abbrev pub part_cmp : PartKey → PartKey → Ordering
 part_cmp a b = ordering_then (text_cmp a.tld b.tld) (ordering_then (nat_cmp a.day b.day) (ordering_then (nat_cmp a.rev b.rev) (nat_cmp a.part b.part)))
 
+-- by registry, day and revision, whatever the place in the series
+abbrev pub revision_cmp : PartKey → PartKey → Ordering
+revision_cmp a b = ordering_then (text_cmp a.tld b.tld) (ordering_then (nat_cmp a.day b.day) (nat_cmp a.rev b.rev))
+
 -- the number of a notice among those of its registry
 pub record NoticeKey : Type 0 where
   pub tld : List ℕ

@@ -9,7 +9,7 @@ use Rattle.deposit_name.specs.Name.{Name}
 use Rattle.desk.specs.declared.notices.NoticeKind.{NoticeKind}
 use Rattle.desk.specs.declared.grounds.Ground.{Ground}
 use Rattle.extent_map.specs.declared.extent.Extent.{Extent}
-use Rattle.custody_records.specs.Keys.{text_cmp, PartKey, part_cmp, NoticeKey, notice_cmp}
+use Rattle.custody_records.specs.Keys.{text_cmp, PartKey, part_cmp, revision_cmp, NoticeKey, notice_cmp}
 
 -- a part: its kind, when it was received, its length and SHA-256, and the extents of its bytes
 pub record PartRecord : Type 0 where
@@ -55,6 +55,14 @@ key_of name = record { tld = name.tld; day = name.day; rev = name.rev; part = na
 -- the parts of a registry with their places, by day, revision and place in the series
 abbrev pub parts_of : Records → List ℕ → List (PartKey × PartRecord)
 parts_of records tld = filter (λ (e : PartKey × PartRecord). is_eq (text_cmp e.0.tld tld)) (map.entries records.parts)
+
+-- the parts of the revision of a name with their places, by place in the series
+abbrev pub parts_of_revision : Records → Name → List (PartKey × PartRecord)
+parts_of_revision records name = filter (λ (e : PartKey × PartRecord). is_eq (revision_cmp e.0 (key_of name))) (map.entries records.parts)
+
+-- the notices of a registry with their keys, by number
+abbrev pub notices_of : Records → List ℕ → List (NoticeKey × Notice)
+notices_of records tld = filter (λ (e : NoticeKey × Notice). is_eq (text_cmp e.0.tld tld)) (map.entries records.notices)
 
 -- ---- one record more
 

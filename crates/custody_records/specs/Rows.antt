@@ -1,5 +1,6 @@
 -- The tables of a custody as rows, in the order in which they were added. A table that is not there is None.
-use Rattle.std.specs.Prelude.{ℕ, ℤ, pos, List, [], ◌∷◌, ◌++◌, Option, Some, option_map}
+use Rattle.std.specs.Prelude.{ℕ, ℤ, pos, List, [], ◌∷◌, ◌++◌, Option, Some, option_map, slice_get}
+use Rattle.std.specs.Option.{option_and_then}
 
 pub record MetaRow : Type 0 where
   pub one : ℤ
@@ -46,6 +47,10 @@ pub record Rows : Type 0 where
   pub parts : Option (List PartRow)
   pub notices : Option (List NoticeRow)
   pub handovers : Option (List HandoverRow)
+
+-- the first row of meta
+abbrev pub first_meta : Rows → Option MetaRow
+first_meta rows = option_and_then (λ metas. slice_get metas 0) rows.meta
 
 -- a row more
 abbrev pub and_then : {X : Type 0} → X → Option (List X) → Option (List X)

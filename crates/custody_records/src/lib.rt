@@ -2,7 +2,6 @@
 //! of their tables.
 #![tactic(auto)]
 
-mod by_registry;
 mod damage;
 mod errors;
 mod extents;

@@ -1,12 +1,18 @@
 //! Notices as rows.
 ghost use Rattle.std.specs.Prelude.{◌≡◌, None, Some, if◌then◌else◌, option_map};
 ghost use Rattle.custody_records.specs.Form.{check_in, is_within, natural, notice_in, notice_kind_in};
-ghost use Rattle.custody_records.specs.Typed.{notice_entry, notice_row};
+ghost use Rattle.custody_records.specs.Keys.{notice_cmp, text_cmp};
+ghost use Rattle.custody_records.specs.Orders.{notice_exact, notice_registries_ascend, notice_total};
+ghost use Rattle.custody_records.specs.Records as records;
+ghost use Rattle.custody_records.specs.Typed.{notice_entry, notice_key, notice_row, notice_value};
 
+use crate::NoticeKey;
 use crate::fields::number_within;
+use crate::tables::{Group, Keyed};
 use deposit_name::{DepositId, Tld};
 use desk::{Check, Notice, NoticeKind, Revision};
 use schedule::{Day, Sec};
+use std::cmp::Ordering;
 
 /// The columns of a row of the table of notices.
 #[derive(Clone, Copy, Debug)]
@@ -76,4 +82,43 @@ fn read_check(number: i64) -> Option<Check>
     ensures { result ≡ check_in (natural number) }
 {
     Check::from_number(number_within(number, 1, 13)? as u8)
+}
+
+impl Keyed for Notice {
+    type Key = NoticeKey;
+
+    ghost key_of = { notice_key };
+
+    ghost order = { notice_cmp };
+
+    ghost Value = { records.Notice };
+
+    ghost value_of = { notice_value };
+
+    ghost total = { notice_total };
+
+    ghost exact = { notice_exact };
+
+    fn key(&self) -> NoticeKey {
+        NoticeKey {
+            tld: self.tld,
+            number: self.number,
+        }
+    }
+
+    fn compare(&self, sought: &NoticeKey) -> Ordering {
+        let registries = self.tld.as_bytes().cmp(sought.tld.as_bytes());
+        registries.then(self.number.cmp(&sought.number))
+    }
+}
+
+/// The notices of a registry.
+impl Group<Notice> for Tld {
+    ghost place = { λ tld key. text_cmp key.tld tld };
+
+    ghost ascends = { notice_registries_ascend };
+
+    fn compare(&self, notice: &Notice) -> Ordering {
+        notice.tld.as_bytes().cmp(self.as_bytes())
+    }
 }

@@ -1,15 +1,20 @@
 //! Parts of deposits.
 ghost use Rattle.std.specs.Prelude.{◌≡◌, MatchResult};
 ghost use Rattle.custody_records.specs.Form.{part_in};
-ghost use Rattle.custody_records.specs.Typed.{part_entry, part_row, name_in, received_in};
+ghost use Rattle.custody_records.specs.Keys.{part_cmp, revision_cmp, text_cmp};
+ghost use Rattle.custody_records.specs.Orders.{part_exact, part_registries_ascend, part_revisions_ascend, part_total};
+ghost use Rattle.custody_records.specs.Records.{PartRecord, key_of};
+ghost use Rattle.custody_records.specs.Typed.{part_entry, part_place, part_row, part_value, name_in, received_in};
 ghost use Rattle.custody_records.specs.declared.errors.RowError.TheVariants.{OutOfForm};
 
-use crate::RowError;
 use crate::extents::read_extents;
 use crate::fields::{digest_of, number_within};
+use crate::tables::{Group, Keyed};
+use crate::{PartKey, RowError};
 use deposit_name::{DepositName, Kind, Tld};
 use schedule::{Day, Sec, keep_until};
 use std::alloc::Global;
+use std::cmp::Ordering;
 use vault_volume::Extent;
 
 /// A part of a deposit.
@@ -81,5 +86,60 @@ impl PartColumns<'_> {
         } else {
             None
         }
+    }
+}
+
+impl Keyed for Part {
+    type Key = PartKey;
+
+    ghost key_of = { part_place };
+
+    ghost order = { part_cmp };
+
+    ghost Value = { PartRecord };
+
+    ghost value_of = { part_value };
+
+    ghost total = { part_total };
+
+    ghost exact = { part_exact };
+
+    fn key(&self) -> PartKey {
+        PartKey::of(&self.name)
+    }
+
+    fn compare(&self, sought: &PartKey) -> Ordering {
+        let name = &self.name;
+        let registries = name.tld.as_bytes().cmp(sought.tld.as_bytes());
+        let days = name.day.cmp(&sought.day);
+        let revisions = name.rev.cmp(&sought.rev);
+        let places = name.part.cmp(&sought.part);
+        registries.then(days.then(revisions.then(places)))
+    }
+}
+
+/// The parts of a registry.
+impl Group<Part> for Tld {
+    ghost place = { λ tld key. text_cmp key.tld tld };
+
+    ghost ascends = { part_registries_ascend };
+
+    fn compare(&self, part: &Part) -> Ordering {
+        part.name.tld.as_bytes().cmp(self.as_bytes())
+    }
+}
+
+/// The parts of the revision of a name.
+impl Group<Part> for DepositName {
+    ghost place = { λ name key. revision_cmp key (key_of name) };
+
+    ghost ascends = { λ name. part_revisions_ascend (key_of name) };
+
+    fn compare(&self, part: &Part) -> Ordering {
+        let name = &part.name;
+        let registries = name.tld.as_bytes().cmp(self.tld.as_bytes());
+        let days = name.day.cmp(&self.day);
+        let revisions = name.rev.cmp(&self.rev);
+        registries.then(days.then(revisions))
     }
 }

@@ -1,10 +1,13 @@
 //! Bytes of parts that are dropped.
 ghost use Rattle.std.specs.Prelude.{◌≡◌, length};
 ghost use Rattle.custody_records.specs.Purge.{is_due, dropped_if_due, entries_without_due};
-ghost use Rattle.custody_records.specs.Tables.{entries_of};
+ghost use Rattle.std.specs.FinMap.{entries};
+ghost use Rattle.custody_records.specs.Keys.{part_cmp};
+ghost use Rattle.custody_records.specs.Tables.{entries_of, table_map};
 ghost use Rattle.custody_records.specs.Typed.{part_place, part_value};
 
 use crate::Part;
+use crate::tables::Table;
 use schedule::{Day, keep_until};
 
 /// Whether the bytes of a part are held, and the last day of their keeping is before today.
@@ -25,10 +28,19 @@ fn drop_if_due(part: &mut Part, today: Day)
 }
 
 /// Drops the bytes of the parts that are due.
-pub(crate) fn drop_due(parts: &mut Vec<Part>, today: Day)
+fn drop_due(parts: &mut Vec<Part>, today: Day)
     ensures { entries_of part_place part_value parts.new.items ≡ entries_without_due today (entries_of part_place part_value parts.old.items) }
 {
     for part in parts.iter_mut() {
         drop_if_due(part, today);
+    }
+}
+
+impl Table<Part> {
+    /// Drops the bytes of the parts that are due.
+    pub(crate) fn drop_due(&mut self, today: Day)
+        ensures { entries (table_map part_cmp part_place part_value self.new.rows.items) ≡ entries_without_due today (entries (table_map part_cmp part_place part_value self.old.rows.items)) }
+    {
+        drop_due(&mut self.rows, today);
     }
 }

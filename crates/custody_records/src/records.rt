@@ -3,38 +3,29 @@ ghost use Rattle.std.specs.Prelude.{◌≡◌, true, None, IsSome, IfSome, OnOk,
 ghost use Rattle.std.specs.FinMap.{get, entries};
 ghost use Rattle.custody_records.specs.Purge.{entries_without_due};
 ghost use Rattle.custody_records.specs.Keys.{text_cmp, part_cmp, notice_cmp};
-ghost use Rattle.custody_records.specs.Orders.{text_total, part_total, notice_total};
 ghost use Rattle.custody_records.specs.Tables.{entries_of, is_rising, table_map};
 ghost use Rattle.custody_records.specs.Typed.{registry_key, registry_value, part_place, part_value, notice_key, notice_value, release_key, release_value};
 
-use crate::by_registry::parts_of;
-use crate::purge::drop_due;
-use crate::tables::{Keyed, add, find, insert};
+use crate::tables::Table;
 use crate::{NoticeKey, Part, PartKey, Registry, Release, RowError};
-use deposit_name::{Reference, Tld};
+use deposit_name::{DepositName, Reference, Tld};
 use desk::{Notice, NoticeKind};
 use schedule::Day;
 use std::alloc::{AllocError, Global};
-use std::cmp::Ordering;
 
-/// The records of a custody, each table in the order of its keys, and the number and the blocks of the
-/// volume that they belong to.
+/// The records of a custody, and the number and the blocks of the volume that they belong to.
 #[derive(Debug, Drop)]
 pub struct Records {
     number: u64,
     blocks: u32,
-    registries: Vec<Registry>,
-    parts: Vec<Part>,
-    notices: Vec<Notice>,
-    releases: Vec<Release>,
-    ghost registries_rise: { is_rising text_cmp registry_key registries.items ≡ true },
-    ghost parts_rise: { is_rising part_cmp part_place parts.items ≡ true },
-    ghost notices_rise: { is_rising notice_cmp notice_key notices.items ≡ true },
-    ghost releases_rise: { is_rising text_cmp release_key releases.items ≡ true },
+    registries: Table<Registry>,
+    parts: Table<Part>,
+    notices: Table<Notice>,
+    releases: Table<Release>,
 }
 
 impl Records {
-    ghost use Rattle.custody_records.specs.Records.{new_records, parts_of, with_registry, with_part, with_notice, with_release};
+    ghost use Rattle.custody_records.specs.Records.{new_records, notices_of, parts_of, parts_of_revision, with_registry, with_part, with_notice, with_release};
     ghost use Rattle.custody_records.specs.Held.{records_of, HasRegistryRoom, HasPartRoom, HasNoticeRoom, HasReleaseRoom};
     ghost use Rattle.custody_records.specs.declared.errors.RowError.TheVariants.{OutOfForm, NoMemory};
 
@@ -45,10 +36,10 @@ impl Records {
         Records {
             number,
             blocks,
-            registries: Vec::new(alloc),
-            parts: Vec::new(alloc),
-            notices: Vec::new(alloc),
-            releases: Vec::new(alloc),
+            registries: Table::new(alloc),
+            parts: Table::new(alloc),
+            notices: Table::new(alloc),
+            releases: Table::new(alloc),
         }
     }
 
@@ -70,7 +61,7 @@ impl Records {
     pub fn first_day(&self, tld: &Tld) -> Option<Day>
         ensures { result ≡ get (records_of self.now).registries tld.now }
     {
-        let registry = find(&self.registries, tld)?;
+        let registry = self.registries.find(tld)?;
         Some(registry.first_day)
     }
 
@@ -79,7 +70,7 @@ impl Records {
         ensures found { option_map part_value (option_copied result) ≡ get (records_of self.now).parts place.now }
         ensures key { IfSome result (λ part. part_place part.now ≡ place.now) }
     {
-        find(&self.parts, place)
+        self.parts.find(place)
     }
 
     /// The notice of that number.
@@ -87,7 +78,7 @@ impl Records {
         ensures found { option_map notice_value (option_copied result) ≡ get (records_of self.now).notices key.now }
         ensures key { IfSome result (λ notice. notice_key notice.now ≡ key.now) }
     {
-        find(&self.notices, key)
+        self.notices.find(key)
     }
 
     /// The release of that reference.
@@ -95,7 +86,7 @@ impl Records {
         ensures found { option_map release_value (option_copied result) ≡ get (records_of self.now).releases reference.now }
         ensures key { IfSome result (λ release. release_key release.now ≡ reference.now) }
     {
-        find(&self.releases, reference)
+        self.releases.find(reference)
     }
 
     /// The registries, by their names.
@@ -103,7 +94,7 @@ impl Records {
         ensures all { (records_of self.now).registries ≡ table_map text_cmp registry_key registry_value result.now }
         ensures rising { is_rising text_cmp registry_key result.now ≡ true }
     {
-        &self.registries
+        self.registries.rows()
     }
 
     /// Makes room for one more registry.
@@ -112,7 +103,7 @@ impl Records {
         ensures room { OnOk result (HasRegistryRoom self.new) }
         ensures no_memory { OnErr result (¬ HasRegistryRoom self.old) }
     {
-        self.registries.try_reserve(1)
+        self.registries.try_reserve()
     }
 
     /// Adds a registry that is not there, without taking memory.
@@ -121,18 +112,18 @@ impl Records {
         requires new { get (records_of self.old).registries (registry_key registry) ≡ None }
         ensures { records_of self.new ≡ with_registry (records_of self.old) (registry_key registry) (registry_value registry) }
     {
-        add(&mut self.registries, registry);
+        self.registries.add(registry);
     }
 
     /// Adds a registry, or refuses one that is there.
-    pub fn insert_registry(&mut self, registry: Registry) -> Result<(), RowError>
+    pub fn try_add_registry(&mut self, registry: Registry) -> Result<(), RowError>
         ensures added { OnOk result (records_of self.new ≡ with_registry (records_of self.old) (registry_key registry) (registry_value registry)) }
         ensures new { OnOk result (get (records_of self.old).registries (registry_key registry) ≡ None) }
         ensures taken { IsErrOf result OutOfForm → IsSome (get (records_of self.old).registries (registry_key registry)) }
         ensures no_memory { IsErrOf result NoMemory → (get (records_of self.old).registries (registry_key registry) ≡ None) × ¬ HasRegistryRoom self.old }
         ensures same { OnErr result (records_of self.new ≡ records_of self.old) }
     {
-        insert(&mut self.registries, registry)
+        self.registries.try_add(registry)
     }
 
     /// The parts, by registry, day, revision and place.
@@ -140,14 +131,21 @@ impl Records {
         ensures all { (records_of self.now).parts ≡ table_map part_cmp part_place part_value result.now }
         ensures rising { is_rising part_cmp part_place result.now ≡ true }
     {
-        &self.parts
+        self.parts.rows()
     }
 
     /// The parts of a registry, by day, revision and place.
     pub fn parts_of(&self, tld: &Tld) -> &[Part]
         ensures { entries_of part_place part_value result.now ≡ parts_of (records_of self.now) tld.now }
     {
-        parts_of(&self.parts, tld)
+        self.parts.group(tld)
+    }
+
+    /// The parts of the revision of a name, by place.
+    pub fn parts_of_revision(&self, name: &DepositName) -> &[Part]
+        ensures { entries_of part_place part_value result.now ≡ parts_of_revision (records_of self.now) name.now }
+    {
+        self.parts.group(name)
     }
 
     /// Makes room for one more part.
@@ -156,7 +154,7 @@ impl Records {
         ensures room { OnOk result (HasPartRoom self.new) }
         ensures no_memory { OnErr result (¬ HasPartRoom self.old) }
     {
-        self.parts.try_reserve(1)
+        self.parts.try_reserve()
     }
 
     /// Adds a part that is not there, without taking memory.
@@ -165,7 +163,7 @@ impl Records {
         requires new { get (records_of self.old).parts (part_place part) ≡ None }
         ensures { records_of self.new ≡ with_part (records_of self.old) (part_place part) (part_value part) }
     {
-        add(&mut self.parts, part);
+        self.parts.add(part);
     }
 
     /// Drops the bytes of the parts whose last day of keeping is before today, without taking memory.
@@ -173,18 +171,18 @@ impl Records {
         ensures parts { entries (records_of self.new).parts ≡ entries_without_due today (entries (records_of self.old).parts) }
         ensures others { records_of self.new ≡ record (records_of self.old) { parts = (records_of self.new).parts } }
     {
-        drop_due(&mut self.parts, today);
+        self.parts.drop_due(today);
     }
 
     /// Adds a part, or refuses one that is there.
-    pub fn insert_part(&mut self, part: Part) -> Result<(), RowError>
+    pub fn try_add_part(&mut self, part: Part) -> Result<(), RowError>
         ensures added { OnOk result (records_of self.new ≡ with_part (records_of self.old) (part_place part) (part_value part)) }
         ensures new { OnOk result (get (records_of self.old).parts (part_place part) ≡ None) }
         ensures taken { IsErrOf result OutOfForm → IsSome (get (records_of self.old).parts (part_place part)) }
         ensures no_memory { IsErrOf result NoMemory → (get (records_of self.old).parts (part_place part) ≡ None) × ¬ HasPartRoom self.old }
         ensures same { OnErr result (records_of self.new ≡ records_of self.old) }
     {
-        insert(&mut self.parts, part)
+        self.parts.try_add(part)
     }
 
     /// The notices, by registry and number.
@@ -192,7 +190,14 @@ impl Records {
         ensures all { (records_of self.now).notices ≡ table_map notice_cmp notice_key notice_value result.now }
         ensures rising { is_rising notice_cmp notice_key result.now ≡ true }
     {
-        &self.notices
+        self.notices.rows()
+    }
+
+    /// The notices of a registry, by number.
+    pub fn notices_of(&self, tld: &Tld) -> &[Notice]
+        ensures { entries_of notice_key notice_value result.now ≡ notices_of (records_of self.now) tld.now }
+    {
+        self.notices.group(tld)
     }
 
     /// Makes room for one more notice.
@@ -201,7 +206,7 @@ impl Records {
         ensures room { OnOk result (HasNoticeRoom self.new) }
         ensures no_memory { OnErr result (¬ HasNoticeRoom self.old) }
     {
-        self.notices.try_reserve(1)
+        self.notices.try_reserve()
     }
 
     /// Adds a notice that is not there, without taking memory.
@@ -211,11 +216,11 @@ impl Records {
         ensures { records_of self.new ≡ with_notice (records_of self.old) (notice_key notice.now) (notice_value notice.now) }
     {
         let kind: NoticeKind = notice.kind;
-        add(&mut self.notices, Notice { kind, ..*notice });
+        self.notices.add(Notice { kind, ..*notice });
     }
 
     /// Adds a notice, or refuses one that is there.
-    pub fn insert_notice(&mut self, notice: &Notice) -> Result<(), RowError>
+    pub fn try_add_notice(&mut self, notice: &Notice) -> Result<(), RowError>
         ensures added { OnOk result (records_of self.new ≡ with_notice (records_of self.old) (notice_key notice.now) (notice_value notice.now)) }
         ensures new { OnOk result (get (records_of self.old).notices (notice_key notice.now) ≡ None) }
         ensures taken { IsErrOf result OutOfForm → IsSome (get (records_of self.old).notices (notice_key notice.now)) }
@@ -223,7 +228,7 @@ impl Records {
         ensures same { OnErr result (records_of self.new ≡ records_of self.old) }
     {
         let kind: NoticeKind = notice.kind;
-        insert(&mut self.notices, Notice { kind, ..*notice })
+        self.notices.try_add(Notice { kind, ..*notice })
     }
 
     /// The releases, by their references.
@@ -231,7 +236,7 @@ impl Records {
         ensures all { (records_of self.now).releases ≡ table_map text_cmp release_key release_value result.now }
         ensures rising { is_rising text_cmp release_key result.now ≡ true }
     {
-        &self.releases
+        self.releases.rows()
     }
 
     /// Makes room for one more release.
@@ -240,7 +245,7 @@ impl Records {
         ensures room { OnOk result (HasReleaseRoom self.new) }
         ensures no_memory { OnErr result (¬ HasReleaseRoom self.old) }
     {
-        self.releases.try_reserve(1)
+        self.releases.try_reserve()
     }
 
     /// Adds a release that is not there, without taking memory.
@@ -249,98 +254,17 @@ impl Records {
         requires new { get (records_of self.old).releases (release_key release) ≡ None }
         ensures { records_of self.new ≡ with_release (records_of self.old) (release_key release) (release_value release) }
     {
-        add(&mut self.releases, release);
+        self.releases.add(release);
     }
 
     /// Adds a release, or refuses one that is there.
-    pub fn insert_release(&mut self, release: Release) -> Result<(), RowError>
+    pub fn try_add_release(&mut self, release: Release) -> Result<(), RowError>
         ensures added { OnOk result (records_of self.new ≡ with_release (records_of self.old) (release_key release) (release_value release)) }
         ensures new { OnOk result (get (records_of self.old).releases (release_key release) ≡ None) }
         ensures taken { IsErrOf result OutOfForm → IsSome (get (records_of self.old).releases (release_key release)) }
         ensures no_memory { IsErrOf result NoMemory → (get (records_of self.old).releases (release_key release) ≡ None) × ¬ HasReleaseRoom self.old }
         ensures same { OnErr result (records_of self.new ≡ records_of self.old) }
     {
-        insert(&mut self.releases, release)
-    }
-}
-
-impl Keyed for Registry {
-    type Key = Tld;
-
-    ghost key_of = { registry_key };
-
-    ghost order = { text_cmp };
-
-    ghost total = { text_total };
-
-    fn key(&self) -> Tld {
-        self.tld
-    }
-
-    fn compare(&self, sought: &Tld) -> Ordering {
-        self.tld.as_bytes().cmp(sought.as_bytes())
-    }
-}
-
-impl Keyed for Part {
-    type Key = PartKey;
-
-    ghost key_of = { part_place };
-
-    ghost order = { part_cmp };
-
-    ghost total = { part_total };
-
-    fn key(&self) -> PartKey {
-        PartKey::of(&self.name)
-    }
-
-    fn compare(&self, sought: &PartKey) -> Ordering {
-        let name = &self.name;
-        let registries = name.tld.as_bytes().cmp(sought.tld.as_bytes());
-        let days = name.day.cmp(&sought.day);
-        let revisions = name.rev.cmp(&sought.rev);
-        let places = name.part.cmp(&sought.part);
-        registries.then(days.then(revisions.then(places)))
-    }
-}
-
-impl Keyed for Notice {
-    type Key = NoticeKey;
-
-    ghost key_of = { notice_key };
-
-    ghost order = { notice_cmp };
-
-    ghost total = { notice_total };
-
-    fn key(&self) -> NoticeKey {
-        NoticeKey {
-            tld: self.tld,
-            number: self.number,
-        }
-    }
-
-    fn compare(&self, sought: &NoticeKey) -> Ordering {
-        let registries = self.tld.as_bytes().cmp(sought.tld.as_bytes());
-        registries.then(self.number.cmp(&sought.number))
-    }
-}
-
-impl Keyed for Release {
-    type Key = Reference;
-
-    ghost key_of = { release_key };
-
-    ghost order = { text_cmp };
-
-    ghost total = { text_total };
-
-    fn key(&self) -> Reference {
-        self.reference
-    }
-
-    fn compare(&self, sought: &Reference) -> Ordering {
-        self.reference.as_bytes().cmp(sought.as_bytes())
+        self.releases.try_add(release)
     }
 }

@@ -1,14 +1,19 @@
 //! Releases of deposits.
 ghost use Rattle.std.specs.Prelude.{◌≡◌, MatchResult};
 ghost use Rattle.custody_records.specs.Form.{ground_in, release_in};
-ghost use Rattle.custody_records.specs.Typed.{release_entry, handover_row};
+ghost use Rattle.custody_records.specs.Keys.{text_cmp};
+ghost use Rattle.custody_records.specs.Orders.{text_exact, text_total};
+ghost use Rattle.custody_records.specs.Records as records;
+ghost use Rattle.custody_records.specs.Typed.{release_entry, release_key, release_value, handover_row};
 ghost use Rattle.custody_records.specs.declared.errors.RowError.TheVariants.{OutOfForm};
 
+use crate::tables::Keyed;
 use crate::{Names, RowError};
 use deposit_name::{Reference, Tld};
 use desk::Ground;
 use schedule::Sec;
 use std::alloc::Global;
+use std::cmp::Ordering;
 use std::str;
 
 /// Deposits of a registry handed over on a ground (Specification 2, Part B section 6).
@@ -60,5 +65,29 @@ fn read_ground(text: &[u8]) -> Option<Ground>
     match str::from_utf8(text) {
         Ok(text) => Ground::parse(text),
         Err(_) => None,
+    }
+}
+
+impl Keyed for Release {
+    type Key = Reference;
+
+    ghost key_of = { release_key };
+
+    ghost order = { text_cmp };
+
+    ghost Value = { records.Release };
+
+    ghost value_of = { release_value };
+
+    ghost total = { text_total };
+
+    ghost exact = { text_exact };
+
+    fn key(&self) -> Reference {
+        self.reference
+    }
+
+    fn compare(&self, sought: &Reference) -> Ordering {
+        self.reference.as_bytes().cmp(sought.as_bytes())
     }
 }

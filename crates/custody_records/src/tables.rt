@@ -1,12 +1,17 @@
-//! Tables in memory: rows in the order of their keys.
-ghost use Rattle.std.specs.Prelude.{◌≡◌, ◌<◌, ◌≤◌, true, length, vec_len, vec_capacity, None, IsSome, OnOk, OnErr, option_copied, IsErrOf};
+//! A table in memory: rows in the order of their keys, each key once.
+ghost use Rattle.std.specs.Prelude.{◌≡◌, ◌≤◌, length, true, None, IsSome, IfSome, OnOk, OnErr, IsErrOf, option_map, option_copied};
 ghost use Rattle.std.specs.Cmp.{IsTotalOrder};
-ghost use Rattle.std.specs.declared.cmp.Ordering.{Ordering};
+ghost use Rattle.std.specs.FinMap.{IsAntisymmetric, empty, entries, get, insert};
+ghost use Rattle.std.specs.List.{filter};
 ghost use Rattle.std.specs.List.Sorted.{IsSearchInRange, IsBinarySearchResult};
-ghost use Rattle.custody_records.specs.Tables.{IsAdded, is_rising, row_at};
+ghost use Rattle.std.specs.Ordering.{is_eq, ordering_index};
+ghost use Rattle.std.specs.declared.cmp.Ordering.{Ordering};
+ghost use Rattle.std.specs.declared.cmp.Ordering.TheVariants.{Less};
+ghost use Rattle.custody_records.specs.Tables.{HasRoom, entries_of, is_rising, table_map};
 ghost use Rattle.custody_records.specs.declared.errors.RowError.TheVariants.{OutOfForm, NoMemory};
 
 use crate::RowError;
+use std::alloc::{AllocError, Global};
 use std::cmp::Ordering;
 
 /// A row that is found by its key.
@@ -17,6 +22,11 @@ pub(crate) trait Keyed: Drop {
 
     ghost order: { Self.Key → Self.Key → Ordering };
 
+    // What the row records of its key.
+    ghost Value: { Type 0 };
+
+    ghost value_of: { Self → Value };
+
     /// The row's key.
     fn key(&self) -> Self::Key
         ensures { result ≡ key_of self.now };
@@ -26,53 +36,110 @@ pub(crate) trait Keyed: Drop {
         ensures { result ≡ order (key_of self.now) sought.now };
 
     ghost total: { IsTotalOrder order };
+
+    ghost exact: { IsAntisymmetric order };
 }
 
-/// Where the row of that key is, or where it would go.
-fn place_of<T: Keyed>(rows: &[T], sought: &T::Key) -> Result<usize, usize>
-    ensures range { IsSearchInRange result (length rows.now) }
-    ensures place { IsBinarySearchResult (λ row. T.order (T.key_of row) sought.now) rows.now result }
-{
-    rows.binary_search_by(|row| row.compare(sought))
+/// A group of rows that stand together in their table: those whose keys begin with the same fields.
+pub(crate) trait Group<T: Keyed> {
+    ghost place: { Self → T.Key → Ordering };
+
+    /// Whether the row stands before the group, in it or behind it.
+    fn compare(&self, row: &T) -> Ordering
+        ensures { result ≡ place self.now (T.key_of row.now) };
+
+    // A row stands no further behind the group than the rows behind it.
+    ghost ascends: { (group : Self) (a b : T.Key) → T.order a b ≡ Less → ordering_index (place group a) ≤ ordering_index (place group b) };
 }
 
-/// The row of that key.
-pub(crate) fn find<'a, T: Keyed>(rows: &'a [T], sought: &T::Key) -> Option<&'a T>
-    requires { is_rising T.order T.key_of rows.now ≡ true }
-    ensures { option_copied result ≡ row_at T.order T.key_of rows.now sought.now }
-{
-    match place_of(rows, sought) {
-        Ok(place) => Some(&rows[place]),
-        Err(_) => None,
-    }
+/// Rows in the order of their keys, each key once.
+#[derive(Debug, Drop)]
+pub(crate) struct Table<T: Keyed> {
+    pub(crate) rows: Vec<T>,
+    ghost rising: { is_rising T.order T.key_of rows.items ≡ true },
 }
 
-/// Adds a row of a new key in its place, without taking memory.
-pub(crate) fn add<T: Keyed>(rows: &mut Vec<T>, row: T)
-    requires rising { is_rising T.order T.key_of rows.old.items ≡ true }
-    requires room { vec_len rows.old < vec_capacity rows.old }
-    requires new { row_at T.order T.key_of rows.old.items (T.key_of row) ≡ None }
-    ensures { IsAdded T.order T.key_of rows.old.items rows.new.items row }
-{
-    match place_of(rows, &row.key()) {
-        Err(place) => {
-            let _ = rows.insert(place, row);
+impl<T: Keyed> Table<T> {
+    /// A table with no row.
+    pub(crate) fn new(alloc: Global) -> Table<T>
+        ensures { table_map T.order T.key_of T.value_of result.rows.items ≡ empty }
+    {
+        Table {
+            rows: Vec::new(alloc),
         }
-        Ok(_) => unreachable!(),
     }
-}
 
-/// Adds a row in its place, or refuses one whose key is there.
-pub(crate) fn insert<T: Keyed>(rows: &mut Vec<T>, row: T) -> Result<(), RowError>
-    requires rising { is_rising T.order T.key_of rows.old.items ≡ true }
-    ensures added { OnOk result (IsAdded T.order T.key_of rows.old.items rows.new.items row) }
-    ensures new { OnOk result (row_at T.order T.key_of rows.old.items (T.key_of row) ≡ None) }
-    ensures taken { IsErrOf result OutOfForm → IsSome (row_at T.order T.key_of rows.old.items (T.key_of row)) }
-    ensures no_memory { IsErrOf result NoMemory → (row_at T.order T.key_of rows.old.items (T.key_of row) ≡ None) × (vec_capacity rows.old ≤ vec_len rows.old) }
-    ensures same { OnErr result (rows.new.items ≡ rows.old.items) }
-{
-    match place_of(rows, &row.key()) {
-        Err(place) => Ok(rows.insert(place, row)?),
-        Ok(_) => Err(RowError::OutOfForm),
+    /// The rows, by their keys.
+    pub(crate) fn rows(&self) -> &[T]
+        ensures all { result.now ≡ self.now.rows.items }
+        ensures rising { is_rising T.order T.key_of result.now ≡ true }
+    {
+        &self.rows
+    }
+
+    /// Where the row of that key is, or where it would go.
+    fn place_of(&self, sought: &T::Key) -> Result<usize, usize>
+        ensures range { IsSearchInRange result (length self.now.rows.items) }
+        ensures place { IsBinarySearchResult (λ row. T.order (T.key_of row) sought.now) self.now.rows.items result }
+    {
+        self.rows.binary_search_by(|row| row.compare(sought))
+    }
+
+    /// The row of that key.
+    pub(crate) fn find(&self, sought: &T::Key) -> Option<&T>
+        ensures found { option_map T.value_of (option_copied result) ≡ get (table_map T.order T.key_of T.value_of self.now.rows.items) sought.now }
+        ensures key { IfSome result (λ row. T.key_of row.now ≡ sought.now) }
+    {
+        match self.place_of(sought) {
+            Ok(place) => Some(&self.rows[place]),
+            Err(_) => None,
+        }
+    }
+
+    /// The rows of a group, which stand together.
+    pub(crate) fn group<G: Group<T>>(&self, group: &G) -> &[T]
+        ensures { entries_of T.key_of T.value_of result.now ≡ filter (λ e. is_eq (G.place group.now e.0)) (entries (table_map T.order T.key_of T.value_of self.now.rows.items)) }
+    {
+        let start = self.rows.partition_point(|row| group.compare(row).is_lt());
+        let rest = &self.rows[start..];
+        let count = rest.partition_point(|row| group.compare(row).is_le());
+        &rest[..count]
+    }
+
+    /// Makes room for one more row.
+    pub(crate) fn try_reserve(&mut self) -> Result<(), AllocError>
+        ensures same { self.new.rows.items ≡ self.old.rows.items }
+        ensures room { OnOk result (HasRoom self.new.rows) }
+        ensures no_memory { OnErr result (¬ HasRoom self.old.rows) }
+    {
+        self.rows.try_reserve(1)
+    }
+
+    /// Adds a row of a new key, without taking memory.
+    pub(crate) fn add(&mut self, row: T)
+        requires room { HasRoom self.old.rows }
+        requires new { get (table_map T.order T.key_of T.value_of self.old.rows.items) (T.key_of row) ≡ None }
+        ensures { table_map T.order T.key_of T.value_of self.new.rows.items ≡ insert (table_map T.order T.key_of T.value_of self.old.rows.items) (T.key_of row) (T.value_of row) }
+    {
+        match self.place_of(&row.key()) {
+            Err(place) => {
+                let _ = self.rows.insert(place, row);
+            }
+            Ok(_) => unreachable!(),
+        }
+    }
+
+    /// Adds a row, or refuses one whose key is there.
+    pub(crate) fn try_add(&mut self, row: T) -> Result<(), RowError>
+        ensures added { OnOk result (table_map T.order T.key_of T.value_of self.new.rows.items ≡ insert (table_map T.order T.key_of T.value_of self.old.rows.items) (T.key_of row) (T.value_of row)) }
+        ensures new { OnOk result (get (table_map T.order T.key_of T.value_of self.old.rows.items) (T.key_of row) ≡ None) }
+        ensures taken { IsErrOf result OutOfForm → IsSome (get (table_map T.order T.key_of T.value_of self.old.rows.items) (T.key_of row)) }
+        ensures no_memory { IsErrOf result NoMemory → (get (table_map T.order T.key_of T.value_of self.old.rows.items) (T.key_of row) ≡ None) × ¬ HasRoom self.old.rows }
+        ensures same { OnErr result (self.new.rows.items ≡ self.old.rows.items) }
+    {
+        match self.place_of(&row.key()) {
+            Err(place) => Ok(self.rows.insert(place, row)?),
+            Ok(_) => Err(RowError::OutOfForm),
+        }
     }
 }

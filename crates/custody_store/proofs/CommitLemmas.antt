@@ -123,3 +123,6 @@ commits_none s after e = record { trust = λ honest. honest; mode = λ _ autocom
 pub commits_err : {A B E F : Type 0} (old new : Standing) (after : Rows) (x : E) (r : Result B F) → IsErr r → Commits {A = A} old new after (Err x) → Commits old new after r
 commits_err old new after x (Ok y) is p = absurd (let e = is in cc)
 commits_err old new after x (Err y) is p = record { trust = p.trust; mode = p.mode; effect = λ honest ready. let it = p.effect honest ready in record { done = tt; kept = it.kept; left = it.left; ended = it.ended } }
+
+pub commits_ok : {A B E F : Type 0} (old new : Standing) (after : Rows) (x : A) (y : B) → Commits {E = E} old new after (Ok x) → Commits {E = F} old new after (Ok y)
+commits_ok old new after x y p = record { trust = p.trust; mode = p.mode; effect = λ honest ready. let it = p.effect honest ready in record { done = it.done; kept = tt; left = it.left; ended = it.ended } }

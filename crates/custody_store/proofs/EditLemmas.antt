@@ -1,5 +1,5 @@
 -- An edit that takes rows out and puts each back with other columns changes them where they stand.
-use Rattle.std.proofs.Common.{◌≡◌, ◌⊎◌, inl, inr, ℤ, Bool, true, false, cond, List, [], ◌∷◌, map, filter, Less, Equal, is_eq, refl, sym, ap, ap₂, subst, ◌∙◌, IsTrue}
+use Rattle.std.proofs.Common.{◌≡◌, inl, inr, ℤ, Bool, true, cond, List, [], ◌∷◌, map, Less, Equal, is_eq, refl, sym, ap, ap₂, subst, ◌∙◌}
 use Rattle.std.specs.List.{AllByRecursion}
 use Rattle.std.specs.Ordering.{ordering_reverse}
 use Rattle.std.proofs.lemmas.Bool.{cases_Bool, and_parts}
@@ -7,7 +7,7 @@ use Rattle.std.proofs.lemmas.Cmp.{tied_itself}
 use Rattle.sqlite_value.specs.Order.{Row, value_cmp}
 use Rattle.sqlite_value.specs.declared.value.Value.TheVariants.{Int}
 use Rattle.sqlite_value.proofs.OrderLemmas.{value_cmp_total}
-use Rattle.sqlite_trees.specs.Tree.{rowid, IsAscending, IsTable, has_rowid}
+use Rattle.sqlite_trees.specs.Tree.{rowid, IsTable, has_rowid}
 use Rattle.sqlite_trees.specs.View.{IsShaped, is_int}
 use Rattle.sqlite_trees.specs.declared.store.Shape.TheVariants.{Table}
 use Rattle.sqlite_trees.proofs.TreeLemmas.{IsShaped-filter, IsShaped-put_row}
@@ -17,7 +17,6 @@ use Rattle.sqlite_rules.proofs.ListLemmas.{all_has, all_from}
 use Rattle.sqlite_rules.proofs.ProbeLemmas.{has_mapped, mapped_has}
 use Rattle.sqlite_rules.proofs.PlaceLemmas.{tied_same, row_at_is, left_or_taken}
 use Rattle.sqlite_rules.proofs.TableLemmas.{int_is, put_all_has, put_all_keeps, put_all_adds, without_all_has}
-use Rattle.sqlite_keyed.proofs.ListLemmas.{ascending-map}
 
 never_both : (a b : Row) → value_cmp (rowid a) (rowid b) ≡ Less → value_cmp (rowid b) (rowid a) ≡ Less → ⊥
 never_both a b p q = let e = value_cmp_total.antisymm (rowid a) (rowid b) ∙ ap ordering_reverse q in cc

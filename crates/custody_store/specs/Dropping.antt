@@ -1,5 +1,5 @@
 -- The rows after the bytes of the parts were dropped whose keeping is over.
-use Rattle.std.specs.Prelude.{ℕ, pos, int_lt, Bool, ◌&&◌, if◌then◌else◌, List, length, map, filter, None, is_some, option_map, unwrap_or, []}
+use Rattle.std.specs.Prelude.{ℕ, pos, int_lt, Bool, ◌&&◌, if◌then◌else◌, length, map, filter, None, is_some, option_map, unwrap_or, []}
 use Rattle.custody_records.specs.Rows.{PartRow, Rows}
 
 -- the bytes are held, and the last day of their keeping is before this day

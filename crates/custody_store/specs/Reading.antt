@@ -1,6 +1,5 @@
 -- The rows that a database holds, by the list of its tables.
-use Rattle.std.specs.Prelude.{ℕ, ◌-◌, ◌&&◌, Bool, List, map, find, codes, bytes_eq, Option, Some, None, option_map, slice_get}
-use Rattle.std.specs.Option.{option_and_then}
+use Rattle.std.specs.Prelude.{ℕ, ◌-◌, ◌&&◌, Bool, List, map, find, codes, bytes_eq, Option, Some, None, option_map}
 use Rattle.sqlite.specs.declared.types.Value.{Value}
 use Rattle.sqlite.specs.declared.types.Value.TheVariants.{Null, Int, Real, Text, Blob}
 use Rattle.sqlite.specs.Order.{Row, column, bytes}
@@ -73,10 +72,6 @@ rows_in trees = record {
   notices = rows_named notice_row (codes "notice") trees;
   handovers = rows_named handover_row (codes "handover") trees;
 }
-
--- the first row of meta
-abbrev pub first_meta : Rows → Option MetaRow
-first_meta rows = option_and_then (λ all. slice_get all 0) rows.meta
 
 -- the rows of a database without tables
 abbrev pub no_rows : Rows

@@ -1,5 +1,5 @@
 -- Records as rows.
-use Rattle.std.specs.Prelude.{ℕ, Some, List, []}
+use Rattle.std.specs.Prelude.{ℕ, Some}
 use Rattle.deposit_name.specs.Name.{Name}
 use Rattle.desk.specs.declared.notices.Notice as desk
 use Rattle.custody_records.specs.declared.releases.Release as given
@@ -15,10 +15,6 @@ received_part name received staged = record { kind = name.kind; received = recei
 
 abbrev pub staged_row : Name → ℕ → StagedPart → PartRow
 staged_row name received staged = row_of_part (key_of name) (received_part name received staged)
-
--- the same, with the bytes of its extents
-abbrev pub held_row : Name → ℕ → ℕ → List ℕ → List ℕ → PartRow
-held_row name received len digest blob = record (staged_row name received (record { extents = []; len = len; digest = digest })) { extents = Some blob }
 
 abbrev pub notice_row_of : desk.Notice → NoticeRow
 notice_row_of it = row_of_notice (notice_key it) (notice_value it)

@@ -1,14 +1,13 @@
 //! The tables and the row of meta, made in one transaction.
-ghost use Rattle.std.specs.Prelude.{◌≡◌, true, pos, [], IsTrue, OnOk, Ok, Err, IfErr};
+ghost use Rattle.std.specs.Prelude.{◌≡◌, pos, [], IsTrue, OnOk, Ok, IfErr};
 ghost use Rattle.sqlite.specs.State.{HasCleanDisk, Survives, ExecutesInside, KeepsCommit};
 ghost use Rattle.sqlite.specs.Held.{state};
 ghost use Rattle.custody_store.specs.Schema.{no_schema, record_schema};
 ghost use Rattle.custody_store.specs.Making.{IsMaking, IsMade};
 ghost use Rattle.custody_records.specs.Rows.{fresh};
-ghost use Rattle.custody_store.specs.Standing.{standing, Founds, has_any};
+ghost use Rattle.custody_store.specs.Standing.{standing, Founds};
 
 use crate::faults::StoreFault;
-use crate::tables::has_any;
 use crate::values::{number, text};
 use sqlite::{Alter, Connection, Transaction};
 
@@ -78,7 +77,7 @@ fn make_tables<S: Alter>(tx: &mut Transaction<'_, S>) -> Result<(), StoreFault>
 }
 
 /// Makes the tables and the row of meta in one transaction.
-fn found<S: Alter>(db: &mut Connection<S>, digits: &[u8], blocks: u32) -> Result<(), StoreFault>
+pub fn found<S: Alter>(db: &mut Connection<S>, digits: &[u8], blocks: u32) -> Result<(), StoreFault>
     ensures founds { Founds (standing S.Store db.old) (standing S.Store db.new) (fresh digits.now (pos blocks)) result }
     ensures kind { IfErr result (λ e. e ≡ StoreFault.Failed) }
 {
@@ -92,20 +91,4 @@ fn found<S: Alter>(db: &mut Connection<S>, digits: &[u8], blocks: u32) -> Result
         Ok(()) => Ok(()),
         Err(_) => Err(StoreFault::Failed),
     }
-}
-
-/// The same, or a failure where one of the tables is there.
-pub fn create<S: Alter>(
-    db: &mut Connection<S>,
-    digits: &[u8],
-    blocks: u32,
-) -> Result<(), StoreFault>
-    ensures founds { Founds (standing S.Store db.old) (standing S.Store db.new) (fresh digits.now (pos blocks)) result }
-    ensures taken { has_any (standing S.Store db.old) ≡ true → (result ≡ Err StoreFault.Failed) × (db.new ≡ db.old) }
-    ensures kind { IfErr result (λ e. e ≡ StoreFault.Failed) }
-{
-    if has_any(db) {
-        return Err(StoreFault::Failed);
-    }
-    found(db, digits, blocks)
 }

@@ -12,6 +12,7 @@ mod parts;
 mod registries;
 mod releases;
 mod store;
+mod stored;
 mod tables;
 mod values;
 

@@ -9,16 +9,13 @@ ghost use Rattle.custody_records.specs.declared.damage.Damage.TheVariants as dam
 ghost use Rattle.custody_records.specs.declared.errors.RowError.TheVariants as row_error;
 ghost use Rattle.custody_store.specs.Loaded.{answered_rows};
 ghost use Rattle.custody_store.specs.Reading.{answered_meta};
-ghost use Rattle.custody_store.specs.Standing.{standing, Selects, Reads, has_all};
+ghost use Rattle.custody_store.specs.Standing.{standing, Selects};
 
 use crate::faults::StoreFault;
 use crate::meta::{first_of, select_meta};
-use crate::notices::{gather_notices, select_notices};
-use crate::parts::{gather_parts, select_parts};
-use crate::registries::{gather_registries, select_registries};
-use crate::releases::{gather_releases, select_releases};
-use crate::tables::has_all;
-use custody_records::{Damage, Records, RowError};
+use crate::stored::{Stored, gather};
+use custody_records::{Damage, Part, Records, Registry, Release, RowError};
+use desk::Notice;
 use sqlite::{Alter, Connection, Row};
 use std::alloc::Global;
 
@@ -40,10 +37,10 @@ pub fn select_all<S: Alter>(db: &mut Connection<S>) -> Result<TableRows, StoreFa
     ensures kind { IfErr result (λ e. e ≡ StoreFault.Failed) }
 {
     let meta = select_meta(db)?;
-    let registries = select_registries(db)?;
-    let parts = select_parts(db)?;
-    let notices = select_notices(db)?;
-    let releases = select_releases(db)?;
+    let registries = Registry::select(db)?;
+    let parts = Part::select(db)?;
+    let notices = Notice::select(db)?;
+    let releases = Release::select(db)?;
     Ok(TableRows {
         meta,
         registries,
@@ -81,14 +78,14 @@ fn gather_all(records: &mut Records, alloc: Global, rows: &TableRows) -> Result<
         (λ _. records_in (records_of records.old).number (records_of records.old).blocks (answered_rows rows.now) ≡ Some (records_of records.new))
         (λ e. e ≡ row_error.OutOfForm → records_in (records_of records.old).number (records_of records.old).blocks (answered_rows rows.now) ≡ None) }
 {
-    gather_registries(records, &rows.registries)?;
-    gather_parts(records, alloc, &rows.parts)?;
-    gather_notices(records, &rows.notices)?;
-    gather_releases(records, alloc, &rows.releases)
+    gather::<Registry>(records, alloc, &rows.registries)?;
+    gather::<Part>(records, alloc, &rows.parts)?;
+    gather::<Notice>(records, alloc, &rows.notices)?;
+    gather::<Release>(records, alloc, &rows.releases)
 }
 
 /// The records of the rows, where all are in form.
-fn read_all(alloc: Global, rows: &TableRows) -> Result<Records, StoreFault>
+pub fn read_all(alloc: Global, rows: &TableRows) -> Result<Records, StoreFault>
     ensures { MatchResult result
         (λ records. form_of (answered_rows rows.now) ≡ InForm (records_of records))
         (λ e. (why : Damage) → e ≡ StoreFault.Damaged why → form_of (answered_rows rows.now) ≡ OutOfForm why) }
@@ -100,20 +97,4 @@ fn read_all(alloc: Global, rows: &TableRows) -> Result<Records, StoreFault>
         Err(RowError::OutOfForm) => Err(StoreFault::Damaged(Damage::Form)),
         Err(RowError::NoMemory) => Err(StoreFault::Failed),
     }
-}
-
-/// The records of a database whose table meta has a row. Where it has none, it fails.
-pub fn load<S: Alter>(db: &mut Connection<S>, alloc: Global) -> Result<Records, StoreFault>
-    ensures found { (standing S.Store db.new).IsHonest → (standing S.Store db.old).IsReady → MatchResult result
-        (λ records. form_of (standing S.Store db.old).rows ≡ InForm (records_of records))
-        (λ e. (why : Damage) → e ≡ StoreFault.Damaged why → form_of (standing S.Store db.old).rows ≡ OutOfForm why) }
-    ensures reads { Reads (standing S.Store db.old) (standing S.Store db.new) result }
-    // Where a table is not there, the rows are damaged, whatever else is.
-    ensures missing { has_all (standing S.Store db.old) ≡ false → (result ≡ Err (StoreFault.Damaged damage.Form)) × (db.new ≡ db.old) }
-{
-    if !has_all(db) {
-        return Err(StoreFault::Damaged(Damage::Form));
-    }
-    let rows = select_all(db)?;
-    read_all(alloc, &rows)
 }

@@ -1,25 +1,24 @@
-//! The notices.
-ghost use Rattle.std.specs.Prelude.{◌≡◌, [], ◌∷◌, None, map, Some, IfOk, IfErr, OnOk, IsErrOf};
-ghost use Rattle.custody_records.specs.Rows.{with_notice_row};
-ghost use Rattle.custody_records.specs.Written.{kind_number, kind_rev, kind_id};
-ghost use Rattle.custody_store.specs.Records.{notice_row_of};
-ghost use Rattle.custody_records.specs.Form.{gather, notice_in};
-ghost use Rattle.custody_records.specs.Held.{records_of};
-ghost use Rattle.custody_records.specs.declared.errors.RowError.TheVariants.{OutOfForm};
+//! The rows of notices.
+ghost use Rattle.std.specs.Prelude.{◌≡◌, refl};
+ghost use Rattle.custody_records.specs.Form.{notice_in};
+ghost use Rattle.custody_records.specs.Keys.{NoticeKey, notice_cmp};
+ghost use Rattle.custody_records.specs.Records as specs;
+ghost use Rattle.custody_records.specs.Rows.{NoticeRow};
 ghost use Rattle.custody_records.specs.Typed.{notice_row};
+ghost use Rattle.custody_records.specs.Written.{kind_number, kind_rev, kind_id};
 ghost use Rattle.custody_store.specs.Reading.{answered_notice};
-ghost use Rattle.custody_store.specs.Standing.{standing, Commits, Selects};
 
-use crate::calls::{ask, run};
+use crate::calls::ask;
 use crate::columns::{bytes_at, integer_at};
 use crate::faults::StoreFault;
-use crate::values::{day, large, moment, small, text};
+use crate::stored::Stored;
 use custody_records::{NoticeColumns, Records, RowError};
 use desk::{Notice, NoticeKind};
 use sqlite::{Alter, Connection, Row};
+use std::alloc::Global;
 
 /// The number of a kind in a row.
-fn number_of(kind: &NoticeKind) -> u8
+pub(crate) fn number_of(kind: &NoticeKind) -> u8
     ensures { result ≡ kind_number kind.now }
 {
     match kind {
@@ -30,7 +29,7 @@ fn number_of(kind: &NoticeKind) -> u8
 }
 
 /// The revision that is told of, and 0 for an absence.
-fn rev_of(kind: &NoticeKind) -> u8
+pub(crate) fn rev_of(kind: &NoticeKind) -> u8
     ensures { result ≡ kind_rev kind.now }
 {
     match kind {
@@ -40,49 +39,13 @@ fn rev_of(kind: &NoticeKind) -> u8
 }
 
 /// The id of the deposit that is told of, and no text for an absence.
-fn id_of(kind: &NoticeKind) -> &[u8]
+pub(crate) fn id_of(kind: &NoticeKind) -> &[u8]
     ensures { result.now ≡ kind_id kind.now }
 {
     match kind {
         NoticeKind::Receipt { id, .. } | NoticeKind::Failure { id, .. } => id.as_bytes(),
         NoticeKind::Absence => &[],
     }
-}
-
-/// Adds a notice, and commits it.
-pub fn add_notice<S: Alter>(db: &mut Connection<S>, notice: &Notice) -> Result<(), StoreFault>
-    ensures commits { Commits (standing S.Store db.old) (standing S.Store db.new) (with_notice_row (notice_row_of notice.now) (standing S.Store db.old).rows) result }
-    ensures kind { IfErr result (λ e. e ≡ StoreFault.Failed) }
-{
-    let Some(number) = large(notice.number) else {
-        return Err(StoreFault::Failed);
-    };
-    run(
-        db,
-        "INSERT INTO notice (tld, number, kind, day, rev, id, at) VALUES (?1, ?2, ?3, ?4, ?5, ?6, ?7)",
-        &[
-            text(notice.tld.as_bytes()),
-            number,
-            small(number_of(&notice.kind)),
-            day(notice.day),
-            small(rev_of(&notice.kind)),
-            text(id_of(&notice.kind)),
-            moment(notice.at),
-        ],
-    )
-}
-
-/// The rows of notice, in the order in which they were added.
-pub fn select_notices<S: Alter>(db: &mut Connection<S>) -> Result<Vec<Row>, StoreFault>
-    ensures found { (standing S.Store db.new).IsHonest → (standing S.Store db.old).IsReady
-        → IfOk result (λ rows. (standing S.Store db.old).rows.notices ≡ Some (map answered_notice rows.items)) }
-    ensures selects { Selects (standing S.Store db.old) (standing S.Store db.new) result }
-    ensures kind { IfErr result (λ e. e ≡ StoreFault.Failed) }
-{
-    ask(
-        db,
-        "SELECT tld, number, kind, day, rev, id, at FROM notice ORDER BY rowid",
-    )
 }
 
 fn notice_columns(row: &Row) -> NoticeColumns<'_>
@@ -99,26 +62,40 @@ fn notice_columns(row: &Row) -> NoticeColumns<'_>
     }
 }
 
-/// Adds the record of a row.
-fn gather_notice(records: &mut Records, row: &Row) -> Result<(), RowError>
-    ensures gathered { OnOk result (gather notice_in (records_of records.old).notices (answered_notice row.now ∷ []) ≡ Some (records_of records.new).notices) }
-    ensures others { OnOk result (records_of records.new ≡ record (records_of records.old) { notices = (records_of records.new).notices }) }
-    ensures refused { IsErrOf result OutOfForm → gather notice_in (records_of records.old).notices (answered_notice row.now ∷ []) ≡ None }
-{
-    match notice_columns(row).read() {
-        Some(notice) => records.insert_notice(&notice),
-        None => Err(RowError::OutOfForm),
-    }
-}
+impl Stored for Notice {
+    ghost Columns = { NoticeRow };
 
-/// Adds the records of the rows in turn.
-pub fn gather_notices(records: &mut Records, rows: &[Row]) -> Result<(), RowError>
-    ensures gathered { OnOk result (gather notice_in (records_of records.old).notices (map answered_notice rows.now) ≡ Some (records_of records.new).notices) }
-    ensures others { OnOk result (records_of records.new ≡ record (records_of records.old) { notices = (records_of records.new).notices }) }
-    ensures refused { IsErrOf result OutOfForm → gather notice_in (records_of records.old).notices (map answered_notice rows.now) ≡ None }
-{
-    for row in rows {
-        gather_notice(records, row)?;
+    ghost Key = { NoticeKey };
+
+    ghost Value = { specs.Notice };
+
+    ghost order = { notice_cmp };
+
+    ghost rows_of = { λ rows. rows.notices };
+
+    ghost answered = { answered_notice };
+
+    ghost read = { notice_in };
+
+    ghost map_of = { λ records. records.notices };
+
+    ghost with_map = { λ records notices. record records { notices = notices } };
+
+    fn select<S: Alter>(db: &mut Connection<S>) -> Result<Vec<Row>, StoreFault> {
+        ask(
+            db,
+            "SELECT tld, number, kind, day, rev, id, at FROM notice ORDER BY rowid",
+        )
     }
-    Ok(())
+
+    fn add_row(records: &mut Records, _alloc: Global, row: &Row) -> Result<(), RowError> {
+        match notice_columns(row).read() {
+            Some(notice) => records.try_add_notice(&notice),
+            None => Err(RowError::OutOfForm),
+        }
+    }
+
+    ghost kept = { λ _ _ _. refl };
+
+    ghost same = { λ _. refl };
 }

@@ -10,14 +10,15 @@ ghost use Rattle.custody_store.specs.Dropping.{without_due, count_due};
 ghost use Rattle.custody_store.specs.Records.{staged_row, notice_row_of, release_row_of};
 ghost use Rattle.custody_store.specs.Standing.{standing, Commits, Founds, Reads, has_any, has_all};
 
-use crate::create::create;
+use crate::calls::{change, run};
+use crate::create::found;
 use crate::faults::StoreFault;
-use crate::loading::load;
-use crate::notices::add_notice;
-use crate::parts::{drop_due, insert_part};
-use crate::registries::add_registry;
-use crate::releases::add_release;
-use custody_records::{Records, Registry, Release, write_number};
+use crate::loading::{read_all, select_all};
+use crate::notices::{id_of, number_of, rev_of};
+use crate::releases::ground_of;
+use crate::tables::{has_all, has_any};
+use crate::values::{blob, day, kept_until, large, moment, number, small, text};
+use custody_records::{Damage, Records, Registry, Release, write_blob, write_number};
 use deposit_name::DepositName;
 use desk::Notice;
 use schedule::{Day, Sec};
@@ -65,7 +66,10 @@ impl<S: Alter> Store<S> {
         ensures taken { has_any (standing S.Store self.old) ≡ true → (result ≡ Err StoreFault.Failed) × (self.new ≡ self.old) }
         ensures kind { IfErr result (λ e. e ≡ StoreFault.Failed) }
     {
-        create(&mut self.db, &write_number(number), blocks)
+        if has_any(&self.db) {
+            return Err(StoreFault::Failed);
+        }
+        found(&mut self.db, &write_number(number), blocks)
     }
 
     /// Adds a registry, and commits it.
@@ -74,7 +78,11 @@ impl<S: Alter> Store<S> {
             (with_registry_row (row_of_registry registry.now.tld registry.now.first_day) (standing S.Store self.old).rows) result }
         ensures kind { IfErr result (λ e. e ≡ StoreFault.Failed) }
     {
-        add_registry(&mut self.db, registry)
+        run(
+            &mut self.db,
+            "INSERT INTO registry (tld, first_day) VALUES (?1, ?2)",
+            &[text(registry.tld.as_bytes()), day(registry.first_day)],
+        )
     }
 
     /// Adds a part where its bytes were staged, and commits it. The extents, the length and the digest
@@ -91,7 +99,26 @@ impl<S: Alter> Store<S> {
             (with_part_row (staged_row name.now received staged) (standing S.Store self.old).rows) result }
         ensures kind { IfErr result (λ e. e ≡ StoreFault.Failed) }
     {
-        insert_part(&mut self.db, name, received, staged)
+        let (extents, len, digest) = staged.spend();
+        let mut bytes = [0; 2048];
+        let size = write_blob(&extents, &mut bytes);
+        run(
+            &mut self.db,
+            "INSERT INTO part (tld, day, rev, part, kind, received, keep_day, len, sha, extents) VALUES (?1, ?2, ?3, ?4, ?5, ?6, ?7, ?8, ?9, ?10)",
+            &[
+                text(name.tld.as_bytes()),
+                day(name.day),
+                small(name.rev),
+                small(name.part),
+                text(name.kind.as_bytes()),
+                moment(received),
+                kept_until(received.day()),
+                number(len),
+                blob(&digest),
+                blob(&bytes[..size]),
+            ],
+        )?;
+        Ok((extents, len, digest))
     }
 
     /// Adds a notice, and commits it.
@@ -100,7 +127,22 @@ impl<S: Alter> Store<S> {
             (with_notice_row (notice_row_of notice.now) (standing S.Store self.old).rows) result }
         ensures kind { IfErr result (λ e. e ≡ StoreFault.Failed) }
     {
-        add_notice(&mut self.db, notice)
+        let Some(number) = large(notice.number) else {
+            return Err(StoreFault::Failed);
+        };
+        run(
+            &mut self.db,
+            "INSERT INTO notice (tld, number, kind, day, rev, id, at) VALUES (?1, ?2, ?3, ?4, ?5, ?6, ?7)",
+            &[
+                text(notice.tld.as_bytes()),
+                number,
+                small(number_of(&notice.kind)),
+                day(notice.day),
+                small(rev_of(&notice.kind)),
+                text(id_of(&notice.kind)),
+                moment(notice.at),
+            ],
+        )
     }
 
     /// Adds a release, and commits it.
@@ -109,7 +151,17 @@ impl<S: Alter> Store<S> {
             (with_handover_row (release_row_of release.now) (standing S.Store self.old).rows) result }
         ensures kind { IfErr result (λ e. e ≡ StoreFault.Failed) }
     {
-        add_release(&mut self.db, release)
+        run(
+            &mut self.db,
+            "INSERT INTO handover (reference, tld, ground, at, names) VALUES (?1, ?2, ?3, ?4, ?5)",
+            &[
+                text(release.reference.as_bytes()),
+                text(release.tld.as_bytes()),
+                text(ground_of(&release.reason)),
+                moment(release.at),
+                text(release.names.as_text()),
+            ],
+        )
     }
 
     /// Drops the bytes of the parts whose last day of keeping is before today, and commits it. It answers
@@ -119,7 +171,11 @@ impl<S: Alter> Store<S> {
         ensures count { (standing S.Store self.new).IsHonest → (standing S.Store self.old).IsReady → IfOk result (λ count. count ≡ count_due today (standing S.Store self.old).rows) }
         ensures kind { IfErr result (λ e. e ≡ StoreFault.Failed) }
     {
-        drop_due(&mut self.db, today)
+        change(
+            &mut self.db,
+            "UPDATE part SET extents = NULL WHERE extents IS NOT NULL AND keep_day < ?1",
+            &[day(today)],
+        )
     }
 
     /// The records, where meta has a row. It fails where meta has none.
@@ -131,6 +187,10 @@ impl<S: Alter> Store<S> {
         // Where a table is not there, the rows are damaged, whatever else is.
         ensures missing { has_all (standing S.Store self.old) ≡ false → (result ≡ Err (StoreFault.Damaged damage.Form)) × (self.new ≡ self.old) }
     {
-        load(&mut self.db, alloc)
+        if !has_all(&self.db) {
+            return Err(StoreFault::Damaged(Damage::Form));
+        }
+        let rows = select_all(&mut self.db)?;
+        read_all(alloc, &rows)
     }
 }

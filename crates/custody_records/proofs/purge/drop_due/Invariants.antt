@@ -1,4 +1,4 @@
-use Rattle.std.proofs.Common.{◌≡◌, ◌++◌, take, drop}
+use Rattle.std.proofs.Common.{◌≡◌, take, drop}
 use Rattle.custody_records.specs.Purge.{entries_without_due}
 use Rattle.custody_records.specs.Tables.{entries_of}
 use Rattle.custody_records.specs.Typed.{part_place, part_value}

@@ -1,6 +1,6 @@
 use Rattle.std.proofs.Common.{inl, inr, sym, ap, rules, option_map}
 use Rattle.sqlite.specs.Held.{state}
-use Rattle.custody_store.specs.Reading.{first_meta}
+use Rattle.custody_records.specs.Rows.{first_meta}
 use Rattle.custody_records.specs.Typed.{meta_of}
 use Rattle.custody_store.proofs.BareLemmas.{rows_bare}
 use Rattle.custody_store.proofs.ReadLemmas.{reads_none, meta_there}

@@ -1,4 +1,4 @@
-use Rattle.std.proofs.Common.{◌≡◌, ◌∙◌, ℕ, List, [], ◌∷◌, ◌++◌, map, true, sym, ap, rules, Vec, Global}
+use Rattle.std.proofs.Common.{◌≡◌, ◌∙◌, ℕ, List, [], ◌∷◌, ◌++◌, map, sym, ap, rules, Vec, Global}
 use Rattle.std.specs.List.{list_all}
 use Rattle.custody_records.specs.Written.{is_line, text_of}
 use Rattle.custody_records.proofs.ReadLemmas.{lines_push, text_of_push}

@@ -1,23 +1,9 @@
-use Rattle.custody_records.specs.Keys.{text_cmp, part_cmp, notice_cmp}
-use Rattle.custody_records.specs.Orders.{text_total}
-use Rattle.custody_records.specs.Tables.{table_map}
-use Rattle.custody_records.specs.Typed.{registry_key, registry_value, part_place, part_value, notice_key, notice_value, release_key, release_value}
-use Rattle.custody_records.proofs.TableLemmas.{absent_row, rising_added, map_added}
+use Rattle.std.proofs.Common.{ap}
+use Rattle.std.specs.FinMap.{FinMap}
+use Rattle.custody_records.specs.Held.{records_of}
+use Rattle.custody_records.specs.Keys.{text_cmp}
+use Rattle.custody_records.specs.Records.{Release}
 use Rattle.custody_records.proofs.records.Records.add_release.Goals as goal
 
-pub add-requires-clause-new : goal.add-requires-clause-new
-add-requires-clause-new c = absent_row text_cmp release_key text_total c.args.self.now.releases.items c.args.self.now.releases_rise release_value (release_key c.args.release) c.requires.new
-
-pub invariant_of-self-clause-releases_rise : goal.invariant_of-self-clause-releases_rise
-invariant_of-self-clause-releases_rise c = rising_added text_cmp release_key text_total c.add.ensures c.args.self.now.releases_rise
-
 pub returns : goal.returns
-returns c = λ i.
-    record {
-      number = c.args.self.now.number;
-      blocks = c.args.self.now.blocks;
-      registries = table_map text_cmp registry_key registry_value c.args.self.now.registries.items;
-      parts = table_map part_cmp part_place part_value c.args.self.now.parts.items;
-      notices = table_map notice_cmp notice_key notice_value c.args.self.now.notices.items;
-      releases = map_added text_cmp release_key text_total c.add.ensures c.args.self.now.releases_rise release_value i;
-    }
+returns c = ap (λ (m : FinMap text_cmp Release). record (records_of c.args.self.now) { releases = m }) c.add.ensures

@@ -1,0 +1,10 @@
+use Rattle.std.proofs.Common.{ap}
+use Rattle.std.proofs.lemmas.Result.{on_ok_weaker}
+use Rattle.std.specs.FinMap.{FinMap}
+use Rattle.custody_records.specs.Held.{records_of}
+use Rattle.custody_records.specs.Keys.{notice_cmp}
+use Rattle.custody_records.specs.Records.{Notice}
+use Rattle.custody_records.proofs.records.Records.try_add_notice.Goals as goal
+
+pub returns-clause-added : goal.returns-clause-added
+returns-clause-added c = on_ok_weaker c.try_add.result (ap (λ (m : FinMap notice_cmp Notice). record (records_of c.args.self.now) { notices = m })) c.try_add.ensures.added
