@@ -1,40 +1,49 @@
 -- A part that is kept, compared with the bytes of a command; and what a call leaves at its moments.
-use Rattle.std.proofs.Common.{◌≡◌, ◌≢◌, ◌⊎◌, inl, inr, ℕ, List, [], ◌∷◌, length, Option, Some, Bool, true, false, refl, sym, ◌∙◌, ap, subst, arith}
+use Rattle.std.proofs.Common.{◌≡◌, ◌≢◌, ◌⊎◌, inl, inr, ℕ, List, [], ◌∷◌, Option, Some, Bool, true, false, refl, sym, ◌∙◌, ap, subst, arith}
 use Rattle.std.specs.FinMap.{get}
+use Rattle.deposit_name.specs.Name.{Name}
 use Rattle.sha2.specs.Sha256.{sha256}
 use Rattle.extent_map.specs.declared.extent.Extent.{Extent}
 use Rattle.vault_volume.specs.Disk.{LeavesOnly}
 use Rattle.vault_volume.specs.Extents.{part_bytes}
 use Rattle.custody_records.specs.Keys.{PartKey}
-use Rattle.custody_records.specs.Records.{PartRecord, Records}
+use Rattle.custody_records.specs.Records.{PartRecord, Records, key_of}
 use Rattle.custody_machine.specs.Names.{is_same_text}
 use Rattle.custody_machine.specs.State.{State}
-use Rattle.custody_machine.specs.Machine.{Receive, OfPart, Reply, Ruling, Refuse, Accept, OtherBytes, step, reads, Accepted, Refused, Failed, Fault, NoMemory, VolumeFailed, Damaged, MayFail}
+use Rattle.custody_machine.specs.Machine.{Command, Register, Receive, OfPart, Reply, Outcome, Refuse, Accept, OtherBytes, step, reads, Accepted, Refused, Failed, Fault, NoMemory, VolumeFailed, Damaged, MayFail}
 use Rattle.custody_machine.specs.declared.damage.Damage.TheVariants.{Digest}
 use Rattle.custody_machine.specs.Stored.{part_of, state_in, HasDigestAt}
 use Rattle.custody_machine.specs.Moves.{RestsOnBytes}
-use Rattle.custody_machine.specs.Custody.{LeftSince, ByBytes, Decides, Same, Other, Broken, Compares}
+use Rattle.custody_machine.specs.Rulings.{ByBytes, Decides, IsUnder, bytes_of}
+use Rattle.custody_machine.specs.Custody.{LeftSince, Same, Other, Broken, Compares}
 use Rattle.custody_machine.proofs.SameValues.{text_decides}
 use Rattle.custody_machine.proofs.Keeping.{step_accepts}
 use Rattle.custody_machine.proofs.Composed.{nothing_in, one_in, first_in, reads_accepted, reads_other}
 
-module _ (records : Records) (i : List ℕ) (text bytes : List ℕ) (now : ℕ) (key : PartKey) (part : PartRecord) (extents : List Extent) (d : Decides (ByBytes key part extents) records text (length bytes) now) where
-  pub same_rules : Compares Same (part_bytes i extents part.len) bytes part.digest → step (state_in records i) (Receive text bytes) now ≡ Accept (record { entry = OfPart key (part_of i part); is_repeat = true }) (state_in records i)
-  same_rules same = (d.5 i bytes refl).0 same
+module _ (records : Records) (i : List ℕ) (command : Command) (now : ℕ) (name : Name) (part : PartRecord) (extents : List Extent) (d : Decides (ByBytes name part extents) records command now) where
+  abbrev bytes : List ℕ
+  bytes = bytes_of command
 
-  pub other_rules : part_bytes i extents part.len ≢ bytes → step (state_in records i) (Receive text bytes) now ≡ Refuse OtherBytes
-  other_rules other = (d.5 i bytes refl).1 other
+  pub same_rules : Compares Same (part_bytes i extents part.len) bytes part.digest → step (state_in records i) command now ≡ Accept (record { entry = OfPart (key_of name) (part_of i part); is_repeat = true }) (state_in records i)
+  same_rules same = (d.1 i).0 same
 
-  reads_key : part_bytes i extents part.len ≢ bytes → reads (state_in records i) (Receive text bytes) now ≡ key ∷ []
-  reads_key other = reads_other (state_in records i) text bytes now d.0 (other_rules other) d.1 ∙ ap (λ k. k ∷ []) (sym d.2)
+  pub other_rules : part_bytes i extents part.len ≢ bytes → step (state_in records i) command now ≡ Refuse OtherBytes
+  other_rules other = (d.1 i).1 other
 
-  pub same_rests : Compares Same (part_bytes i extents part.len) bytes part.digest → (reply : Reply) → RestsOnBytes records i (Receive text bytes) now (Accepted reply)
-  same_rests same reply k within = absurd (nothing_in _ k (reads_accepted (state_in records i) (Receive text bytes) now (step_accepts (state_in records i) (Receive text bytes) now _ _ (same_rules same)).0) within)
+  reads_key : part_bytes i extents part.len ≢ bytes → reads (state_in records i) command now ≡ key_of name ∷ []
+  reads_key other = by command (other_rules other) d.0.named
+    where
+      by : (command : Command) → step (state_in records i) command now ≡ Refuse OtherBytes → IsUnder command name → reads (state_in records i) command now ≡ key_of name ∷ []
+      by (Register tld first_day) refused under = absurd under
+      by (Receive text bytes) refused under = reads_other (state_in records i) text bytes now name refused under
 
-  has_digest : sha256 (part_bytes i extents part.len) ≡ part.digest → HasDigestAt i records key
+  pub same_rests : Compares Same (part_bytes i extents part.len) bytes part.digest → (reply : Reply) → RestsOnBytes records i command now (Accepted reply)
+  same_rests same reply k within = absurd (nothing_in _ k (reads_accepted (state_in records i) command now (step_accepts (state_in records i) command now _ _ (same_rules same)).0) within)
+
+  has_digest : sha256 (part_bytes i extents part.len) ≡ part.digest → HasDigestAt i records (key_of name)
   has_digest is p es at held =
-      let one : part ≡ p = same_part part p (get records.parts key) d.3 at in
-      let all : extents ≡ es = same_extents extents es part.extents d.4 (ap (λ (q : PartRecord). q.extents) one ∙ held) in
+      let one : part ≡ p = same_part part p (get records.parts (key_of name)) d.0.recorded at in
+      let all : extents ≡ es = same_extents extents es part.extents d.0.held (ap (λ (q : PartRecord). q.extents) one ∙ held) in
       subst (λ q. sha256 (part_bytes i es q.len) ≡ q.digest) one (subst (λ l. sha256 (part_bytes i l part.len) ≡ part.digest) all is)
     where
       same_part : (a b : PartRecord) (o : Option PartRecord) → o ≡ Some a → o ≡ Some b → a ≡ b
@@ -44,43 +53,43 @@ module _ (records : Records) (i : List ℕ) (text bytes : List ℕ) (now : ℕ) 
       same_extents a b o p q = cc
 
   -- other bytes are told of a part that has its digest
-  pub other_rests : Compares Other (part_bytes i extents part.len) bytes part.digest → RestsOnBytes records i (Receive text bytes) now (Refused OtherBytes)
-  other_rests other k within = subst (HasDigestAt i records) (one_in _ key k (reads_key other.0) within) (has_digest other.1)
+  pub other_rests : Compares Other (part_bytes i extents part.len) bytes part.digest → RestsOnBytes records i command now (Refused OtherBytes)
+  other_rests other k within = subst (HasDigestAt i records) (one_in _ (key_of name) k (reads_key other.0) within) (has_digest other.1)
 
   -- and damage of one that has not
-  pub broken_rests : Compares Broken (part_bytes i extents part.len) bytes part.digest → RestsOnBytes records i (Receive text bytes) now (Failed (Damaged Digest))
-  broken_rests broken = (key, first_in _ key (reads_key broken.0), λ has. broken.1 (has part extents d.3 d.4))
+  pub broken_rests : Compares Broken (part_bytes i extents part.len) bytes part.digest → RestsOnBytes records i command now (Failed (Damaged Digest))
+  broken_rests broken = (key_of name, first_in _ (key_of name) (reads_key broken.0), λ has. broken.1 (has part extents d.0.recorded d.0.held))
 
-  pub broken_may_fail : Compares Broken (part_bytes i extents part.len) bytes part.digest → MayFail (step (state_in records i) (Receive text bytes) now) (reads (state_in records i) (Receive text bytes) now) (Damaged Digest)
-  broken_may_fail broken = subst (λ r. MayFail r (reads (state_in records i) (Receive text bytes) now) (Damaged Digest)) (sym (other_rules broken.0)) (refl, λ none. some_not_none (sym (reads_key broken.0) ∙ none))
+  pub broken_may_fail : Compares Broken (part_bytes i extents part.len) bytes part.digest → MayFail (step (state_in records i) command now) (reads (state_in records i) command now) (Damaged Digest)
+  broken_may_fail broken = subst (λ r. MayFail r (reads (state_in records i) command now) (Damaged Digest)) (sym (other_rules broken.0)) (refl, λ none. some_not_none (sym (reads_key broken.0) ∙ none))
     where
-      some_not_none : ◌≡◌ {A = List PartKey} (key ∷ []) [] → ⊥
+      some_not_none : ◌≡◌ {A = List PartKey} (key_of name ∷ []) [] → ⊥
       some_not_none e = cc
 
   -- whichever it is, memory or the volume may fail
-  pub may_fail : (fault : Fault) → ((r : Ruling) → (r ≡ Refuse OtherBytes) ⊎ ((reply : Reply) × (new : State) × (r ≡ Accept reply new)) → MayFail r (reads (state_in records i) (Receive text bytes) now) fault) → MayFail (step (state_in records i) (Receive text bytes) now) (reads (state_in records i) (Receive text bytes) now) fault
+  pub may_fail : (fault : Fault) → ((r : Outcome) → (r ≡ Refuse OtherBytes) ⊎ ((reply : Reply) × (new : State) × (r ≡ Accept reply new)) → MayFail r (reads (state_in records i) command now) fault) → MayFail (step (state_in records i) command now) (reads (state_in records i) command now) fault
   may_fail fault may = by (is_same_text (part_bytes i extents part.len) bytes) refl
     where
-      by : (b : Bool) → is_same_text (part_bytes i extents part.len) bytes ≡ b → MayFail (step (state_in records i) (Receive text bytes) now) (reads (state_in records i) (Receive text bytes) now) fault
+      by : (b : Bool) → is_same_text (part_bytes i extents part.len) bytes ≡ b → MayFail (step (state_in records i) command now) (reads (state_in records i) command now) fault
       by true e = may _ (inr (_, _, same_rules ((text_decides (part_bytes i extents part.len) bytes).0 e)))
       by false e = may _ (inl (other_rules (λ same. never ((text_decides (part_bytes i extents part.len) bytes).1 same) e)))
         where
           never : {b : Bool} → b ≡ true → b ≡ false → ⊥
           never p q = cc
 
-  pub no_memory_may_be : MayFail (step (state_in records i) (Receive text bytes) now) (reads (state_in records i) (Receive text bytes) now) NoMemory
+  pub no_memory_may_be : MayFail (step (state_in records i) command now) (reads (state_in records i) command now) NoMemory
   no_memory_may_be = may_fail NoMemory by
     where
-      by : (r : Ruling) → (r ≡ Refuse OtherBytes) ⊎ ((reply : Reply) × (new : State) × (r ≡ Accept reply new)) → MayFail r (reads (state_in records i) (Receive text bytes) now) NoMemory
-      by r (inl e) = subst (λ r. MayFail r (reads (state_in records i) (Receive text bytes) now) NoMemory) (sym e) refl
-      by r (inr e) = subst (λ r. MayFail r (reads (state_in records i) (Receive text bytes) now) NoMemory) (sym e.2) tt
+      by : (r : Outcome) → (r ≡ Refuse OtherBytes) ⊎ ((reply : Reply) × (new : State) × (r ≡ Accept reply new)) → MayFail r (reads (state_in records i) command now) NoMemory
+      by r (inl e) = subst (λ r. MayFail r (reads (state_in records i) command now) NoMemory) (sym e) refl
+      by r (inr e) = subst (λ r. MayFail r (reads (state_in records i) command now) NoMemory) (sym e.2) tt
 
-  pub volume_failed_may_be : MayFail (step (state_in records i) (Receive text bytes) now) (reads (state_in records i) (Receive text bytes) now) VolumeFailed
+  pub volume_failed_may_be : MayFail (step (state_in records i) command now) (reads (state_in records i) command now) VolumeFailed
   volume_failed_may_be = may_fail VolumeFailed by
     where
-      by : (r : Ruling) → (r ≡ Refuse OtherBytes) ⊎ ((reply : Reply) × (new : State) × (r ≡ Accept reply new)) → MayFail r (reads (state_in records i) (Receive text bytes) now) VolumeFailed
-      by r (inl e) = subst (λ r. MayFail r (reads (state_in records i) (Receive text bytes) now) VolumeFailed) (sym e) refl
-      by r (inr e) = subst (λ r. MayFail r (reads (state_in records i) (Receive text bytes) now) VolumeFailed) (sym e.2) tt
+      by : (r : Outcome) → (r ≡ Refuse OtherBytes) ⊎ ((reply : Reply) × (new : State) × (r ≡ Accept reply new)) → MayFail r (reads (state_in records i) command now) VolumeFailed
+      by r (inl e) = subst (λ r. MayFail r (reads (state_in records i) command now) VolumeFailed) (sym e) refl
+      by r (inr e) = subst (λ r. MayFail r (reads (state_in records i) command now) VolumeFailed) (sym e.2) tt
 
 -- ---- moments
 

@@ -152,7 +152,7 @@ module _ (records : Records) (rows : Rows) (i : List ℕ) (size failures : ℕ) 
   pub changes_nothing : (command : Command) (now : ℕ) (answer : Answer) (is_open : Bool) (new : Records) (later : List ℕ) (since : List ℕ → Type 0) (rows_then : Rows → Type 0) (images_then : List ℕ → Type 0)
       → Answers (state_in records i) command now answer (state_in records i) → RestsOnBytes records i command now answer → is_open ≡ is_open_after answer → (is_open ≡ true → (new ≡ records) × (later ≡ i))
       → ((j : List ℕ) → since j → DiffersOnlyIn free i j) → ((r : Rows) → rows_then r → left_rows r) → ((j : List ℕ) → images_then j → DiffersOnlyIn free i j)
-      → Serves records i command now answer is_open new later left_rows since rows_then images_then
+      → Serves (record { records = records; image = i }) command now answer is_open (record { records = new; image = later }) (record { rows_before = left_rows; images_since = since; rows_then = rows_then; images_then = images_then })
   changes_nothing command now answer is_open new later since rows_then images_then allowed rests opened goes_on during rows_same images_same = record {
     next = place_after records i command now answer records i;
     moves = (records, i, allowed, rests, keeps_itself records i, refl);
@@ -188,7 +188,7 @@ module _ (records : Records) (rows : Rows) (i : List ℕ) (size failures : ℕ) 
   pub accepts : (new : Records) (later : List ℕ) (since : List ℕ → Type 0) (rows_then : Rows → Type 0) (images_then : List ℕ → Type 0)
       → RestsOnBytes records i command now (Accepted reply) → (new ≡ changed) × (later ≡ j)
       → ((k : List ℕ) → since k → DiffersOnlyIn free i k) → ((r : Rows) → rows_then r → form_of r ≡ InForm changed) → ((k : List ℕ) → images_then k → DiffersOnlyIn g j k)
-      → Serves records i command now (Accepted reply) true new later left_rows since rows_then images_then
+      → Serves (record { records = records; image = i }) command now (Accepted reply) true (record { records = new; image = later }) (record { rows_before = left_rows; images_since = since; rows_then = rows_then; images_then = images_then })
   accepts new later since rows_then images_then rests goes_on during only same = record {
     next = Serving changed j;
     moves = (changed, j, ruled, rests, change.keeps, refl);
@@ -203,7 +203,7 @@ module _ (records : Records) (rows : Rows) (i : List ℕ) (size failures : ℕ) 
   pub in_doubt : (new : Records) (later : List ℕ) (since : List ℕ → Type 0) (rows_then : Rows → Type 0) (images_then : List ℕ → Type 0)
       → reply.is_repeat ≡ false
       → ((k : List ℕ) → since k → DiffersOnlyIn free i k) → ((r : Rows) → rows_then r → (form_of r ≡ InForm records) ⊎ (form_of r ≡ InForm changed)) → ((k : List ℕ) → images_then k → DiffersOnlyIn g j k)
-      → Serves records i command now (Failed StoreFailed) false new later left_rows since rows_then images_then
+      → Serves (record { records = records; image = i }) command now (Failed StoreFailed) false (record { records = new; image = later }) (record { rows_before = left_rows; images_since = since; rows_then = rows_then; images_then = images_then })
   in_doubt new later since rows_then images_then first during either same = record {
     next = Shut records i (Some (command, now));
     moves = (records, i, (subst (λ r. MayFail r (reads (state_in records i) command now) StoreFailed) (sym ruled) first, refl), tt, keeps_itself records i, refl);

@@ -11,13 +11,13 @@ use Rattle.custody_records.specs.declared.damage.Damage as rows_damage
 use Rattle.custody_records.specs.declared.damage.Damage.TheVariants as form
 use Rattle.custody_records.specs.Keys.{PartKey, NoticeKey}
 use Rattle.custody_records.specs.Records.{Records}
-use Rattle.custody_records.specs.Rows.{MetaRow, Rows}
+use Rattle.custody_records.specs.Rows.{MetaRow, Rows, first_meta}
 use Rattle.custody_records.specs.Form.{Form, NoVault, OutOfForm, InForm, form_of}
 use Rattle.custody_machine.specs.declared.damage.Damage.{Damage}
 use Rattle.custody_machine.specs.declared.damage.Damage.TheVariants.{NoRecord, Head, Volume, Schema, Form as FormDamage, Extent as ExtentDamage, Overlap, Link, Digest}
 use Rattle.custody_machine.specs.State.{State}
 use Rattle.custody_machine.specs.Stored.{ForExtents, AreExtents, AreInRange, AreOnce, AreLinked, state_in, Stands}
-use Rattle.custody_machine.specs.Damage.{meta_of, IsRowOf, IsDamaged, damage_number, NoneBefore, IsFirstDamage, IsRefinement}
+use Rattle.custody_machine.specs.Damage.{IsRowOf, IsDamaged, damage_number, NoneBefore, IsFirstDamage, IsRefinement}
 use Rattle.custody_machine.proofs.SameValues.{text_decides, key_decides, notice_key_decides}
 use Rattle.custody_records.proofs.FormLemmas.{InForm-injective}
 use Rattle.custody_machine.proofs.Forms.{IsRecordsOf, meta_in_form, row_in_form}
@@ -96,10 +96,10 @@ stable_linked records denied = record {
 -- ---- damaged: no state
 
 -- the volume of whole records is that of the row
-volume_stands : (rows : Rows) (image : List ℕ) (state : State) → Stands rows image state → (meta : MetaRow) (number : ℕ) → meta_of rows ≡ Some meta → bytes_at image 0 4096 ≡ head_of number → IsRowOf meta number image
+volume_stands : (rows : Rows) (image : List ℕ) (state : State) → Stands rows image state → (meta : MetaRow) (number : ℕ) → first_meta rows ≡ Some meta → bytes_at image 0 4096 ≡ head_of number → IsRowOf meta number image
 volume_stands rows image state s meta number is head =
     let row = meta_in_form rows s.records s.in_form in
-    let same : row.0 ≡ meta = one row.0 meta (meta_of rows) row.1 is in
+    let same : row.0 ≡ meta = one row.0 meta (first_meta rows) row.1 is in
     subst (λ m. IsRowOf m number image) same (record {
       number_is = row.2.digits ∙ digits_by_head s.records.number number (sym s.good.volume.head ∙ head);
       size = s.good.volume.size ∙ ap (λ n. 4096 * n) (sym row.2.blocks);
@@ -112,7 +112,7 @@ not_both : (form : Form) (damage : rows_damage.Damage) (records : Records) → f
 not_both form damage records p q = cc
 
 pub damaged_stands : (damage : Damage) (rows : Rows) (image : List ℕ) (state : State) → IsDamaged damage rows image → ¬ Stands rows image state
-damaged_stands NoRecord rows image state none s = let row = meta_in_form rows s.records s.in_form in denied row.0 (meta_of rows) row.1 none
+damaged_stands NoRecord rows image state none s = let row = meta_in_form rows s.records s.in_form in denied row.0 (first_meta rows) row.1 none
   where
     denied : (a : MetaRow) (o : Option MetaRow) → o ≡ Some a → o ≡ None → ⊥
     denied a o p q = cc
@@ -129,7 +129,7 @@ damaged_stands Digest rows image state none s = absurd none
 
 module _ (rows : Rows) (image : List ℕ) (undamaged : (damage : Damage) → ¬ IsDamaged damage rows image) where
   module _ (records : Records) (is : form_of rows ≡ InForm records) where
-    row : (meta : MetaRow) × (meta_of rows ≡ Some meta) × IsRecordsOf meta records
+    row : (meta : MetaRow) × (first_meta rows ≡ Some meta) × IsRecordsOf meta records
     row = meta_in_form rows records is
 
     head : bytes_at image 0 4096 ≡ head_of records.number
@@ -161,12 +161,12 @@ module _ (rows : Rows) (image : List ℕ) (undamaged : (damage : Damage) → ¬ 
   undamaged_stands : (state : State) × Stands rows image state
   undamaged_stands = by (form_of rows) refl
     where
-      by_meta : (o : Option MetaRow) → meta_of rows ≡ o → form_of rows ≡ NoVault → ⊥
+      by_meta : (o : Option MetaRow) → first_meta rows ≡ o → form_of rows ≡ NoVault → ⊥
       by_meta None none e = undamaged NoRecord none
       by_meta (Some meta) some e = row_in_form rows meta some e
 
       by : (f : Form) → form_of rows ≡ f → (state : State) × Stands rows image state
-      by NoVault e = absurd (by_meta (meta_of rows) refl e)
+      by NoVault e = absurd (by_meta (first_meta rows) refl e)
       by (OutOfForm form.Schema) e = absurd (undamaged Schema e)
       by (OutOfForm form.Form) e = absurd (undamaged FormDamage e)
       by (InForm records) e = in_form_stands records e

@@ -1,7 +1,7 @@
 -- The laws of histories. Nothing here looks into the machine's `step`: they hold whatever the commands are.
 use Rattle.std.proofs.Common.{◌≡◌, ℕ, List, [], ◌∷◌, ◌++◌, Option, Some, None, Bool, true, false, ◌⊎◌, inl, inr, refl, sym, ◌∙◌, ap, subst, if◌then◌else◌, append_assoc, append-nil}
 use Rattle.custody_machine.specs.State.{State}
-use Rattle.custody_machine.specs.Machine.{Command, Entry, Ruling, Refuse, Accept, step, state_of, state_after, after, Answer, Accepted, Refused, Failed, NoMemory, VolumeFailed, StoreFailed, Closed, Damaged}
+use Rattle.custody_machine.specs.Machine.{Command, Entry, Outcome, Refuse, Accept, step, state_of, state_after, after, Answer, Accepted, Refused, Failed, NoMemory, VolumeFailed, StoreFailed, Closed, Damaged}
 use Rattle.custody_machine.specs.SameValues.{is_same_state}
 use Rattle.custody_machine.specs.History.{IsFoundWithin, MayFind, Pair, OpenAnswer, Opened, NotOpened, MayOpen, Event, Answered, ShutDown, StoppedAtRest, StoppedWithin, OpenedWith, Condition, Running, Halted, Resting, OpensSoundly, Happens, Run, Begins, Found, leads_to, settled, or_else, found_then, found_after, none_found, OpeningsAreRight, NothingIsTakenBack, AcceptedIsFound}
 use Rattle.custody_machine.proofs.SameValues.{state_decides}
@@ -20,7 +20,7 @@ pub weaker : {P Q : State → Type 0} (pair : Pair) → ((s : State) → P s →
 weaker pair f h = (h.0, h.1, f h.0 h.2, h.3)
 
 -- the command in doubt is found exactly where the state found is the new one
-chosen : (first : State) (r : Ruling) (old s : State) (xs ys : List Entry) → after first xs ≡ old → after first ys ≡ state_of old r → (s ≡ old) ⊎ (s ≡ state_of old r) → s ≡ after first (if leads_to r (Some s) then ys else xs)
+chosen : (first : State) (r : Outcome) (old s : State) (xs ys : List Entry) → after first xs ≡ old → after first ys ≡ state_of old r → (s ≡ old) ⊎ (s ≡ state_of old r) → s ≡ after first (if leads_to r (Some s) then ys else xs)
 chosen first (Refuse q) old s xs ys is_old is_new (inl p) = p ∙ sym is_old
 chosen first (Refuse q) old s xs ys is_old is_new (inr p) = p ∙ sym is_old
 chosen first (Accept reply new) old s xs ys is_old is_new w = by_test (is_same_state s new) refl w
@@ -40,7 +40,7 @@ module _ (first : State) where
   settled_by : (commands : List Entry) (entry : Entry) (pair : Pair) → OpensSoundly (IsFoundWithin (after first commands) entry.0 entry.1) pair
       → OpensSoundly (λ s. s ≡ after first (settled first commands (Some entry) pair).commands) pair
   settled_by commands entry pair h =
-      let r : Ruling = step (after first commands) entry.0 entry.1 in (
+      let r : Outcome = step (after first commands) entry.0 entry.1 in (
         h.0,
         h.1,
         subst (λ o. h.0 ≡ after first (if leads_to r o then commands ++ entry ∷ [] else commands)) (sym h.1)

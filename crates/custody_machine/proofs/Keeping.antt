@@ -20,7 +20,7 @@ use Rattle.custody_records.specs.Tables.{is_rising}
 use Rattle.custody_machine.specs.Names.{is_same_text, read_name}
 use Rattle.custody_machine.specs.SameValues.{is_same_kind}
 use Rattle.custody_machine.specs.State.{State, Part, Content, Held, Dropped, places}
-use Rattle.custody_machine.specs.Machine.{Command, Test, refusal_number, TestsAreInOrder, Register, Receive, Refusal, NameRefused, RegistryUnknown, DateOutOfRange, Size, OtherBytes, DroppedAfterKeeping, RevisionNotDue, AlreadyStated, TypeDiffers, PartOutOfOrder, Record, OfRegistry, OfPart, Reply, Ruling, Refuse, Accept, first_day_of, part_at, of_kind, recorded, has_other_kind, is_held_with, is_held_with_other, holds_other, is_dropped, is_gone, part_in, refusal_of, with_registry, with_part, received_part, held_with, kept_under, kept, effect, received, unless_kept, unless_refused, step, state_of, reads, read_by, HasRecord, is_unregistered, is_out_of_range, is_out_of_size, is_not_due, is_stated, differs_in_kind, is_out_of_order, receive_tests, named_tests, first_standing}
+use Rattle.custody_machine.specs.Machine.{Command, Test, refusal_number, TestsAreInOrder, Register, Receive, Refusal, NameRefused, RegistryUnknown, DateOutOfRange, Size, OtherBytes, DroppedAfterKeeping, RevisionNotDue, AlreadyStated, TypeDiffers, PartOutOfOrder, Record, OfRegistry, OfPart, Reply, Outcome, Refuse, Accept, first_day_of, part_at, of_kind, recorded, has_other_kind, is_held_with, is_held_with_other, holds_other, is_dropped, is_gone, part_in, refusal_of, with_registry, with_part, received_part, held_with, kept_under, kept, effect, received, unless_kept, unless_refused, step, state_of, reads, read_by, HasRecord, is_unregistered, is_out_of_range, is_out_of_size, is_not_due, is_stated, differs_in_kind, is_out_of_order, receive_tests, named_tests, first_standing}
 use Rattle.custody_machine.specs.Retries.{has_same_key, asked, IsDroppedSince, without_bytes, IsKeptAs, StillHas, KeepsRecords, NothingIsRemoved, RepliesAreRecords, IsOfCommand}
 use Rattle.custody_machine.proofs.NameReading.{read_is, is_reading}
 use Rattle.custody_machine.proofs.SameValues.{text_decides, kind_decides}
@@ -105,7 +105,7 @@ tests_are_in_order s (Receive text bytes) now = by (read_name text)
     by (Err fault) = refl
     by (Ok name) = refl
 
--- accepted: no refusal stands, and the ruling is that of a repeat or of the effect
+-- accepted: no refusal stands, and the outcome is that of a repeat or of the effect
 pub step_accepts : (s : State) (c : Command) (now : ℕ) (reply : Reply) (new : State) → step s c now ≡ Accept reply new → (refusal_of s c now ≡ None) × (unless_kept s (kept s c) (effect s c now) ≡ Accept reply new)
 unfolding step
 step_accepts s c now reply new e = by (refusal_of s c now) e
@@ -196,7 +196,7 @@ held_bytes part bytes other gone = by part.content other gone
     by (Dropped n) other gone = cc
 
 -- a part that is recorded is answered, and one that is not is recorded
-abbrev pub answered : State → Name → List ℕ → ℕ → Option Part → Ruling
+abbrev pub answered : State → Name → List ℕ → ℕ → Option Part → Outcome
 answered s name bytes now (Some part) = Accept (record { entry = OfPart (key_of name) part; is_repeat = true }) s
 answered s name bytes now None = Accept (record { entry = OfPart (key_of name) (received_part name bytes now); is_repeat = false }) (with_part s (key_of name) (received_part name bytes now))
 
@@ -217,17 +217,17 @@ pub record Receives (s : State) (text bytes : List ℕ) (now : ℕ) (reply : Rep
   pub name : Name
   pub named : read_name text ≡ Ok name
   pub none : NoneStands s name bytes now
-  pub ruling : answered s name bytes now (recorded s name) ≡ Accept reply new
+  pub outcome : answered s name bytes now (recorded s name) ≡ Accept reply new
 
 pub receives : (s : State) (text bytes : List ℕ) (now : ℕ) (reply : Reply) (new : State) → step s (Receive text bytes) now ≡ Accept reply new → Receives s text bytes now reply new
 receives s text bytes now reply new e =
     let h = step_accepts s (Receive text bytes) now reply new e in by (read_name text) refl h.0 h.1
   where
     by : (r : Result Name NameError) → read_name text ≡ r → first_standing (named_tests s r bytes now) ≡ None → unless_kept s (kept s (Receive text bytes)) (effect s (Receive text bytes) now) ≡ Accept reply new → Receives s text bytes now reply new
-    by (Err fault) named none ruling = let stands = refused_name s bytes now fault in cc
-    by (Ok name) named none ruling =
+    by (Err fault) named none outcome = let stands = refused_name s bytes now fault in cc
+    by (Ok name) named none outcome =
         let stand = none_stand s name bytes now none in
-        record { name = name; named = named; none = stand; ruling = sym (rules_part s text bytes now name named stand.bytes stand.dropped) ∙ ruling }
+        record { name = name; named = named; none = stand; outcome = sym (rules_part s text bytes now name named stand.bytes stand.dropped) ∙ outcome }
 
 -- ---- nothing is removed
 
@@ -250,8 +250,8 @@ keeps_adding : (s : State) (key : PartKey) (part : Part) → part_at s key ≡ N
 keeps_adding s key part none (OfPart q x) e = still (with_part s key part) (OfPart q x) (insert_new part_total s.parts key part q x none e)
 keeps_adding s key part none entry e = still (with_part s key part) entry e
 
--- the ruling of a registration, by what is known of its registry
-abbrev pub registered : State → List ℕ → ℕ → ℕ → Option ℕ → Ruling
+-- the outcome of a registration, by what is known of its registry
+abbrev pub registered : State → List ℕ → ℕ → ℕ → Option ℕ → Outcome
 registered s tld day now o = unless_kept s (option_map (λ (d : ℕ). OfRegistry tld d) o) (effect s (Register tld day) now)
 
 pub step_keeps : (s : State) (c : Command) (now : ℕ) (reply : Reply) (new : State) → step s c now ≡ Accept reply new → KeepsRecords s new
@@ -260,7 +260,7 @@ step_keeps s (Register tld day) now reply new e = by (first_day_of s tld) refl (
     by : (o : Option ℕ) → first_day_of s tld ≡ o → registered s tld day now o ≡ Accept reply new → KeepsRecords s new
     by (Some kept) at e = subst (KeepsRecords s) (accept_inj _ _ _ _ e).1 (keeps_itself s)
     by None at e = subst (KeepsRecords s) (accept_inj _ _ _ _ e).1 (keeps_registering s tld day at)
-step_keeps s (Receive text bytes) now reply new e = let r = receives s text bytes now reply new e in by r (recorded s r.name) refl r.ruling
+step_keeps s (Receive text bytes) now reply new e = let r = receives s text bytes now reply new e in by r (recorded s r.name) refl r.outcome
   where
     by : (r : Receives s text bytes now reply new) (o : Option Part) → recorded s r.name ≡ o → answered s r.name bytes now o ≡ Accept reply new → KeepsRecords s new
     by r (Some kept) at e = subst (KeepsRecords s) (accept_inj _ _ _ _ e).1 (keeps_itself s)
@@ -270,7 +270,7 @@ step_keeps s (Receive text bytes) now reply new e = let r = receives s text byte
 pub nothing_is_removed : NothingIsRemoved
 nothing_is_removed old command now = by (step old command now) refl
   where
-    by : (r : Ruling) → step old command now ≡ r → KeepsRecords old (state_of old r)
+    by : (r : Outcome) → step old command now ≡ r → KeepsRecords old (state_of old r)
     by (Refuse q) e = keeps_itself old
     by (Accept reply new) e = step_keeps old command now reply new e
 
@@ -367,7 +367,7 @@ accepted_is_kept s (Register tld day) now reply new e = by (first_day_of s tld) 
         (kept, ap (λ (n : State). first_day_of n tld) (sym h.1) ∙ at, ap (λ (r : Reply). r.entry) (sym h.0))
     by None at e = let h = accept_inj _ _ _ _ e in
         (day, ap (λ (n : State). first_day_of n tld) (sym h.1) ∙ insert_here text_total s.registries tld day, ap (λ (r : Reply). r.entry) (sym h.0))
-accepted_is_kept s (Receive text bytes) now reply new e = let r = receives s text bytes now reply new e in by r (recorded s r.name) refl r.ruling
+accepted_is_kept s (Receive text bytes) now reply new e = let r = receives s text bytes now reply new e in by r (recorded s r.name) refl r.outcome
   where
     by : (r : Receives s text bytes now reply new) (o : Option Part) → recorded s r.name ≡ o → answered s r.name bytes now o ≡ Accept reply new → KeepsPart new text bytes reply.entry
     by r (Some kept) at e = let h = accept_inj _ _ _ _ e in let is = recorded_is s r.name kept at in
@@ -406,7 +406,7 @@ replies_are_records old new (Register tld day) now reply e = by (first_day_of ol
     by : (o : Option ℕ) → first_day_of old tld ≡ o → registered old tld day now o ≡ Accept reply new → HasRecord new reply.entry
     by (Some kept) at e = let h = accept_inj _ _ _ _ e in subst (λ (r : Reply). HasRecord new r.entry) h.0 (ap (λ (n : State). first_day_of n tld) (sym h.1) ∙ at)
     by None at e = let h = accept_inj _ _ _ _ e in subst (λ (r : Reply). HasRecord new r.entry) h.0 (ap (λ (n : State). first_day_of n tld) (sym h.1) ∙ insert_here text_total old.registries tld day)
-replies_are_records old new (Receive text bytes) now reply e = let r = receives old text bytes now reply new e in by r (recorded old r.name) refl r.ruling
+replies_are_records old new (Receive text bytes) now reply e = let r = receives old text bytes now reply new e in by r (recorded old r.name) refl r.outcome
   where
     by : (r : Receives old text bytes now reply new) (o : Option Part) → recorded old r.name ≡ o → answered old r.name bytes now o ≡ Accept reply new → HasRecord new reply.entry
     by r (Some kept) at e = let h = accept_inj _ _ _ _ e in subst (λ (q : Reply). HasRecord new q.entry) h.0 (ap (λ (n : State). part_at n (key_of r.name)) (sym h.1) ∙ (recorded_is old r.name kept at).0)
@@ -432,14 +432,14 @@ pub same_key_is_kept : (s : State) (c d : Command) (entry : Record) (now : ℕ) 
 same_key_is_kept s (Register tld day) (Register other first) entry now reply new h same e =
     let is : other ≡ tld = (text_decides other tld).0 same in
     let at : first_day_of s other ≡ Some h.0 = ap (first_day_of s) is ∙ h.1 in
-    let ruling : registered s other first now (Some h.0) ≡ Accept reply new = ap (registered s other first now) (sym at) ∙ (step_accepts s (Register other first) now reply new e).1 in
-    ((h.0, at, h.2 ∙ ap (λ t. OfRegistry t h.0) (sym is)), sym (accept_inj _ _ _ _ ruling).1)
+    let outcome : registered s other first now (Some h.0) ≡ Accept reply new = ap (registered s other first now) (sym at) ∙ (step_accepts s (Register other first) now reply new e).1 in
+    ((h.0, at, h.2 ∙ ap (λ t. OfRegistry t h.0) (sym is)), sym (accept_inj _ _ _ _ outcome).1)
 same_key_is_kept s (Receive text bytes) (Receive other others) entry now reply new h same e =
     let is : other ≡ text = (text_decides other text).0 same in
     let r = receives s other others now reply new e in
     let name : r.name ≡ h.name = one_name other text r.name h.name is r.named h.named in
     let at : recorded s r.name ≡ Some h.kept = ap (recorded s) name ∙ recorded_of s h.name h.kept h.at (kept_kind h.part h.kept h.name.kind h.same h.kind) in
-    let ruling : answered s r.name others now (Some h.kept) ≡ Accept reply new = ap (answered s r.name others now) (sym at) ∙ r.ruling in
+    let outcome : answered s r.name others now (Some h.kept) ≡ Accept reply new = ap (answered s r.name others now) (sym at) ∙ r.outcome in
     let held : h.kept.content ≡ Held others = held_bytes h.kept others (ap (holds_other others) (sym at) ∙ r.none.bytes) (ap is_dropped (sym at) ∙ r.none.dropped) in (
       record {
         name = h.name;
@@ -454,7 +454,7 @@ same_key_is_kept s (Receive text bytes) (Receive other others) entry now reply n
         at = h.at;
         same = h.same;
       },
-      sym (accept_inj _ _ _ _ ruling).1,
+      sym (accept_inj _ _ _ _ outcome).1,
     )
   where
     one_name : (a b : List ℕ) (m n : Name) → a ≡ b → read_name a ≡ Ok m → read_name b ≡ Ok n → m ≡ n
@@ -465,7 +465,7 @@ same_key_is_kept s (Receive text bytes) (Receive other others) entry now reply n
     undropped part kept bytes (inr p) e = let gone = ap (λ (q : Part). q.content) (sym p) ∙ e in cc
 same_key_is_kept s c d entry now reply new h same e = cc
 
--- the ruling of a command that asks again
+-- the outcome of a command that asks again
 abbrev pub Again : State → Command → Record → ℕ → Type 0
 Again s d entry now = (step s d now ≡ Accept (record { entry = entry; is_repeat = true }) s) ⊎ ((step s d now ≡ Refuse DroppedAfterKeeping) × IsDroppedSince s d)
 

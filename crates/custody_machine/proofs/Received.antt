@@ -8,7 +8,7 @@ use Rattle.custody_records.specs.Keys.{PartKey, part_cmp}
 use Rattle.custody_records.specs.Records.{key_of}
 use Rattle.custody_machine.specs.Names.{read_name}
 use Rattle.custody_machine.specs.State.{State, Part, Held}
-use Rattle.custody_machine.specs.Machine.{Command, Register, Receive, Entry, Ruling, Refuse, Accept, Reply, step, state_of, state_after, recorded, received_part, with_part, first_day_of}
+use Rattle.custody_machine.specs.Machine.{Command, Register, Receive, Entry, Outcome, Refuse, Accept, Reply, step, state_of, state_after, recorded, received_part, with_part, first_day_of}
 use Rattle.custody_machine.specs.History.{WasReceived, HeldAsReceived}
 use Rattle.custody_records.specs.Orders.{part_total, part_exact}
 use Rattle.custody_machine.proofs.Keeping.{Receives, receives, answered, registered, step_accepts, accept_inj}
@@ -39,20 +39,20 @@ by_step s (Register tld day) now rest key part bytes reply new held is at = by (
     by : (o : Option ℕ) → registered s tld day now o ≡ Accept reply new → (get s.parts key ≡ Some part) ⊎ WasReceived ((Register tld day, now) ∷ rest) key part bytes
     by (Some kept) r = inl (ap (λ (t : State). get t.parts key) (accept_inj _ _ _ _ r).1 ∙ at)
     by None r = inl (ap (λ (t : State). get t.parts key) (accept_inj _ _ _ _ r).1 ∙ at)
-by_step s (Receive text others) now rest key part bytes reply new held is at = let h = receives s text others now reply new is in by h (recorded s h.name) h.ruling
+by_step s (Receive text others) now rest key part bytes reply new held is at = let h = receives s text others now reply new is in by h (recorded s h.name) h.outcome
   where
     by : (h : Receives s text others now reply new) (o : Option Part) → answered s h.name others now o ≡ Accept reply new → (get s.parts key ≡ Some part) ⊎ WasReceived ((Receive text others, now) ∷ rest) key part bytes
     by h (Some kept) r = inl (ap (λ (t : State). get t.parts key) (accept_inj _ _ _ _ r).1 ∙ at)
     by h None r = by_key s rest key part bytes text others h.name now held h.named (ap (λ (t : State). get t.parts key) (accept_inj _ _ _ _ r).1 ∙ at)
 
-by_ruling : (s : State) (entry : Entry) (rest : List Entry) (key : PartKey) (part : Part) (bytes : List ℕ) → part.content ≡ Held bytes → (r : Ruling) → step s entry.0 entry.1 ≡ r → get (state_of s r).parts key ≡ Some part → (get s.parts key ≡ Some part) ⊎ WasReceived (entry ∷ rest) key part bytes
-by_ruling s entry rest key part bytes held (Refuse q) is at = inl at
-by_ruling s entry rest key part bytes held (Accept reply new) is at = by_step s entry.0 entry.1 rest key part bytes reply new held is at
+by_outcome : (s : State) (entry : Entry) (rest : List Entry) (key : PartKey) (part : Part) (bytes : List ℕ) → part.content ≡ Held bytes → (r : Outcome) → step s entry.0 entry.1 ≡ r → get (state_of s r).parts key ≡ Some part → (get s.parts key ≡ Some part) ⊎ WasReceived (entry ∷ rest) key part bytes
+by_outcome s entry rest key part bytes held (Refuse q) is at = inl at
+by_outcome s entry rest key part bytes held (Accept reply new) is at = by_step s entry.0 entry.1 rest key part bytes reply new held is at
 
 pub held_as_received : (first : State) → HeldAsReceived first
 held_as_received s [] key part bytes at held = inl at
 held_as_received s (e ∷ entries) key part bytes at held = by (held_as_received (state_after s e.0 e.1) entries key part bytes at held)
   where
     by : (get (state_after s e.0 e.1).parts key ≡ Some part) ⊎ WasReceived entries key part bytes → (get s.parts key ≡ Some part) ⊎ WasReceived (e ∷ entries) key part bytes
-    by (inl here) = by_ruling s e entries key part bytes held (step s e.0 e.1) refl here
+    by (inl here) = by_outcome s e entries key part bytes held (step s e.0 e.1) refl here
     by (inr w) = inr (e ∷ w.0, w.1, w.2, w.3, (λ i. e ∷ w.4 i), w.5, w.6, w.7)

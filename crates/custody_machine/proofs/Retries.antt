@@ -2,7 +2,7 @@
 use Rattle.std.proofs.Common.{◌≡◌, ℕ, List, [], ◌∷◌, ◌++◌, Option, Some, None, is_some, Bool, true, false, ◌||◌, inl, inr, refl, sym, ◌∙◌, ap, subst, cond, if◌then◌else◌, append_assoc}
 use Rattle.std.specs.List.{list_any}
 use Rattle.custody_machine.specs.State.{State}
-use Rattle.custody_machine.specs.Machine.{Command, Entry, Record, Reply, Ruling, Refuse, Accept, step, state_of, state_after, after, reads, Answer, Accepted, Refused, Failed, NoMemory, VolumeFailed, StoreFailed, Closed, Damaged, Answers, MayRefuse, MayFail}
+use Rattle.custody_machine.specs.Machine.{Command, Entry, Record, Reply, Outcome, Refuse, Accept, step, state_of, state_after, after, reads, Answer, Accepted, Refused, Failed, NoMemory, VolumeFailed, StoreFailed, Closed, Damaged, Answers, MayRefuse, MayFail}
 use Rattle.custody_machine.specs.SameValues.{is_same_state}
 use Rattle.custody_machine.specs.History.{Pair, Opened, Event, Answered, ShutDown, StoppedAtRest, StoppedWithin, OpenedWith, Condition, Running, Halted, Resting, Happens, Run, Found, leads_to, settled, or_else, found_then, found_after, found, none_found}
 use Rattle.custody_machine.specs.Retries.{Key, OfTld, OfName, key, are_same_keys, has_same_key, KeysAreCompared, once_after, ActsOnce, AsksAgain, record_of, first_record, IsAnsweredAgain, RepeatsAreAnswered, IsOfCommand, StillHas, AcknowledgedIsKept}
@@ -28,7 +28,7 @@ module _ (first : State) where
   settled_accepted commands None pair all = all
   settled_accepted commands (Some e) pair all = by (step (after first commands) e.0 e.1) refl pair.opens
     where
-      by : (r : Ruling) → step (after first commands) e.0 e.1 ≡ r → (o : Option State) → AllAccepted first (if leads_to r o then commands ++ e ∷ [] else commands)
+      by : (r : Outcome) → step (after first commands) e.0 e.1 ≡ r → (o : Option State) → AllAccepted first (if leads_to r o then commands ++ e ∷ [] else commands)
       by (Refuse q) h o = all
       by (Accept reply new) h None = all
       by (Accept reply new) h (Some s) = test (is_same_state s new)
@@ -184,8 +184,8 @@ repeated : (first : State) (c next : Condition) (f : Found) (entry : Entry) (kep
     IsAnsweredAgain (after first f.commands) command (Some kept) answer × (after first (found_then first f (Answered command now answer)).commands ≡ after first f.commands)
 repeated first (Running old) next f entry kept command now answer fits h keeps again =
     let here = kept_again old entry.0 command kept (subst (λ s. Keeps s entry.0 kept) fits.0 keeps) again.1 in
-    let ruling = asked_again old command kept now here in
-    (subst (λ s. IsAnsweredAgain s command (Some kept) answer) (sym fits.0) (answered_by old h.0 command now kept answer (kept_is_there old command kept here).0 ruling.0 ruling.1 h.1), unchanged_by first f old command now kept answer fits.0 ruling.0)
+    let outcome = asked_again old command kept now here in
+    (subst (λ s. IsAnsweredAgain s command (Some kept) answer) (sym fits.0) (answered_by old h.0 command now kept answer (kept_is_there old command kept here).0 outcome.0 outcome.1 h.1), unchanged_by first f old command now kept answer fits.0 outcome.0)
 repeated first (Halted old doubt) next f entry kept command now answer fits h keeps again =
     subst (λ a. IsAnsweredAgain (after first f.commands) command (Some kept) a × (after first (found_then first f (Answered command now a)).commands ≡ after first f.commands)) (sym h.0) (tt, refl)
 repeated first (Resting pair) next f entry kept command now answer fits h keeps again = absurd h

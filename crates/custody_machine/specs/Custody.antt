@@ -1,22 +1,18 @@
 -- What holds of an open custody, and what its calls do. The volume's and the database's words come as sets: the blocks that are free, and the images and rows that a stop may leave.
-use Rattle.std.specs.Prelude.{◌≡◌, ◌≢◌, ◌⊎◌, ℕ, ◌-◌, ◌<◌, ◌≤◌, ◌^◌, List, length, Some, None, Bool, true, false, Ok}
-use Rattle.std.specs.FinMap.{get}
+use Rattle.std.specs.Prelude.{◌≡◌, ◌≢◌, ◌⊎◌, ℕ, ◌-◌, ◌<◌, ◌≤◌, ◌^◌, List, length, Some, Bool, true, false}
 use Rattle.sha2.specs.Sha256.{sha256}
 use Rattle.deposit_name.specs.Name.{Name}
-use Rattle.extent_map.specs.declared.extent.Extent.{Extent}
 use Rattle.vault_volume.specs.Image.{DiffersOnlyIn}
 use Rattle.vault_volume.specs.Extents.{AreChosen, HasAtLeast, Takes, block_count, part_bytes}
 use Rattle.vault_volume.specs.Staged.{StagedPart}
-use Rattle.custody_records.specs.Keys.{PartKey}
-use Rattle.custody_records.specs.Records.{PartRecord, Records, key_of}
+use Rattle.custody_records.specs.Records.{PartRecord, Records}
 use Rattle.custody_records.specs.Rows.{Rows}
 use Rattle.custody_records.specs.Form.{form_of, InForm}
 use Rattle.custody_machine.specs.declared.damage.Damage.TheVariants.{NoRecord}
-use Rattle.custody_machine.specs.Names.{read_name}
 use Rattle.custody_machine.specs.State.{empty}
-use Rattle.custody_machine.specs.Machine.{Command, Register, Receive, OfPart, Refuse, Accept, Refusal, OtherBytes, VolumeFull, Answer, step, received_part, with_part}
+use Rattle.custody_machine.specs.Machine.{Command, Register, Receive, Answer}
 use Rattle.custody_machine.specs.History.{Answered}
-use Rattle.custody_machine.specs.Stored.{IsNamed, AreWhole, IsVolumeOf, part_of, state_in}
+use Rattle.custody_machine.specs.Stored.{IsNamed, AreWhole, IsVolumeOf}
 use Rattle.custody_machine.specs.Damage.{IsDamaged}
 use Rattle.custody_machine.specs.Moves.{Place, Serving, Shut, Left, MayLeave, MayLeaveWithin, Moves, IsBegun}
 
@@ -78,23 +74,7 @@ pub record IsSettled (old new : List ℕ) (was_free : ℕ → Type 0) (left : Li
 abbrev pub staged_record : Name → ℕ → StagedPart → PartRecord
 staged_record name now staged = record { kind = name.kind; received = now; len = staged.len; digest = staged.digest; extents = Some staged.extents }
 
--- ---- what the records decide of a part, whatever its bytes
-
-pub data PartRuling : Type 0 where
-  Refuses : Refusal → PartRuling
-  -- a part is held under the name: its bytes decide
-  ByBytes : PartKey → PartRecord → List Extent → PartRuling
-  -- the name is new, and nothing but room can refuse it
-  Goes : Name → PartRuling
-
--- the machine's ruling, in the state of the records with any image and for any bytes so long
-abbrev pub Decides : PartRuling → Records → List ℕ → ℕ → ℕ → Type 0
-Decides (Refuses refusal) records text len now = (refusal ≢ OtherBytes) × (refusal ≢ VolumeFull) × ((image bytes : List ℕ) → length bytes ≡ len → step (state_in records image) (Receive text bytes) now ≡ Refuse refusal)
-Decides (ByBytes key part extents) records text len now = (name : Name) × (read_name text ≡ Ok name) × (key ≡ key_of name) × (get records.parts key ≡ Some part) × (part.extents ≡ Some extents) × ((image bytes : List ℕ) → length bytes ≡ len →
-    (part_bytes image extents part.len ≡ bytes → step (state_in records image) (Receive text bytes) now ≡ Accept (record { entry = OfPart key (part_of image part); is_repeat = true }) (state_in records image))
-    × (part_bytes image extents part.len ≢ bytes → step (state_in records image) (Receive text bytes) now ≡ Refuse OtherBytes))
-Decides (Goes name) records text len now = (read_name text ≡ Ok name) × (get records.parts (key_of name) ≡ None) × ((image bytes : List ℕ) → length bytes ≡ len →
-    step (state_in records image) (Receive text bytes) now ≡ Accept (record { entry = OfPart (key_of name) (received_part name bytes now); is_repeat = false }) (with_part (state_in records image) (key_of name) (received_part name bytes now)))
+-- ---- how bytes compare
 
 -- how the bytes of a part compare with others
 pub data Comparison : Type 0 where
@@ -111,10 +91,24 @@ Compares Broken stored bytes digest = (stored ≢ bytes) × (sha256 stored ≢ d
 
 -- ---- what a call did
 
--- What a stop may leave of a call: within it, the rows from before with an image of any moment of it; and after it.
-pub record Leaves (rows_before : Rows → Type 0) (images_since : List ℕ → Type 0) (rows_then : Rows → Type 0) (images_then : List ℕ → Type 0) (Within Then : Rows → List ℕ → Type 0) : Type 0 where
-  pub within : (rows : Rows) (image : List ℕ) → rows_before rows → images_since image → Within rows image
-  pub at_exit : (rows : Rows) (image : List ℕ) → rows_then rows → images_then image → Then rows image
+-- What a custody has: its records, and the image that a read of its volume gives.
+pub record Contents : Type 0 where
+  pub records : Records
+  pub image : List ℕ
+
+-- What a stop may leave of a call.
+pub record LeftByCall : Type 1 where
+  -- within it, the rows from before with an image of any moment of it
+  pub rows_before : Rows → Type 0
+  pub images_since : List ℕ → Type 0
+  -- and after it
+  pub rows_then : Rows → Type 0
+  pub images_then : List ℕ → Type 0
+
+-- This is left within it, and that after it.
+pub record Leaves (left : LeftByCall) (Within Then : Rows → List ℕ → Type 0) : Type 0 where
+  pub within : (rows : Rows) (image : List ℕ) → left.rows_before rows → left.images_since image → Within rows image
+  pub at_exit : (rows : Rows) (image : List ℕ) → left.rows_then rows → left.images_then image → Then rows image
 
 -- a custody with these records and this image is at a place, if it is open; and if not, at that of a closed one
 abbrev pub IsAt : Bool → Records → List ℕ → Place → Type 0
@@ -125,13 +119,12 @@ IsAt false records image (Serving there left) = ⊥
 IsAt false records image (Shut there left doubt) = Unit {0}
 IsAt false records image (Left rows left) = ⊥
 
--- A command in an open custody with the old records and image: it moves by the answer, and leaves at each moment what its place may.
-pub record Serves (old : Records) (image : List ℕ) (command : Command) (now : ℕ) (answer : Answer) (is_open : Bool) (new : Records) (later : List ℕ)
-    (rows_before : Rows → Type 0) (images_since : List ℕ → Type 0) (rows_then : Rows → Type 0) (images_then : List ℕ → Type 0) : Type 0 where
+-- A command in an open custody: it moves by the answer, and leaves at each moment what its place may.
+pub record Serves (old : Contents) (command : Command) (now : ℕ) (answer : Answer) (is_open : Bool) (new : Contents) (left : LeftByCall) : Type 0 where
   pub next : Place
-  pub moves : Moves (Serving old image) (Answered command now answer) next
-  pub is_at : IsAt is_open new later next
-  pub leaves : Leaves rows_before images_since rows_then images_then (MayLeaveWithin (Serving old image) command now) (MayLeave next)
+  pub moves : Moves (Serving old.records old.image) (Answered command now answer) next
+  pub is_at : IsAt is_open new.records new.image next
+  pub leaves : Leaves left (MayLeaveWithin (Serving old.records old.image) command now) (MayLeave next)
 
 -- what an initialisation over no record may leave: no record still, or what stands for the empty state
 abbrev pub MayInitialise : Rows → List ℕ → Type 0

@@ -1,25 +1,16 @@
 -- What may be wrong with database and volume, each a sentence over the rows of the tables and the image; and that what is not damaged stands for one state.
-use Rattle.std.specs.Prelude.{◌≡◌, ◌≢◌, ℕ, ◌*◌, ◌<◌, ◌^◌, List, [], ◌∷◌, length, Option, Some, None}
-use Rattle.std.specs.Option.{option_and_then}
+use Rattle.std.specs.Prelude.{◌≡◌, ◌≢◌, ℕ, ◌*◌, ◌<◌, ◌^◌, List, length, Some, None}
 use Rattle.vault_volume.specs.Image.{bytes_at}
 use Rattle.vault_volume.specs.Head.{head_of}
 use Rattle.custody_records.specs.declared.damage.Damage.TheVariants as rows_damage
 use Rattle.custody_records.specs.Records.{Records}
-use Rattle.custody_records.specs.Rows.{MetaRow, Rows}
+use Rattle.custody_records.specs.Rows.{MetaRow, Rows, first_meta}
 use Rattle.custody_records.specs.Written.{digits_of}
 use Rattle.custody_records.specs.Form.{form_of, OutOfForm, InForm, natural}
 use Rattle.custody_machine.specs.declared.damage.Damage.{Damage}
 use Rattle.custody_machine.specs.declared.damage.Damage.TheVariants.{NoRecord, Head, Volume, Schema, Form, Extent, Overlap, Link, Digest}
 use Rattle.custody_machine.specs.State.{State}
 use Rattle.custody_machine.specs.Stored.{AreInRange, AreOnce, AreLinked, Stands}
-
-abbrev pub first_of : List MetaRow → Option MetaRow
-first_of [] = None
-first_of (meta ∷ others) = Some meta
-
--- the row of `meta`, where there is one
-abbrev pub meta_of : Rows → Option MetaRow
-meta_of rows = option_and_then first_of rows.meta
 
 -- a row of `meta` is of a volume with this number and this image
 pub record IsRowOf (meta : MetaRow) (number : ℕ) (image : List ℕ) : Type 0 where
@@ -28,9 +19,9 @@ pub record IsRowOf (meta : MetaRow) (number : ℕ) (image : List ℕ) : Type 0 w
 
 -- What is wrong, in the order in which an opening looks for it. An opening reads no part, so no digest is among them.
 abbrev pub IsDamaged : Damage → Rows → List ℕ → Type 0
-IsDamaged NoRecord rows image = meta_of rows ≡ None
+IsDamaged NoRecord rows image = first_meta rows ≡ None
 IsDamaged Head rows image = (number : ℕ) → number < 2 ^ 64 → bytes_at image 0 4096 ≢ head_of number
-IsDamaged Volume rows image = (meta : MetaRow) × (number : ℕ) × (number < 2 ^ 64) × (meta_of rows ≡ Some meta) × (bytes_at image 0 4096 ≡ head_of number) × (¬ IsRowOf meta number image)
+IsDamaged Volume rows image = (meta : MetaRow) × (number : ℕ) × (number < 2 ^ 64) × (first_meta rows ≡ Some meta) × (bytes_at image 0 4096 ≡ head_of number) × (¬ IsRowOf meta number image)
 IsDamaged Schema rows image = form_of rows ≡ OutOfForm rows_damage.Schema
 IsDamaged Form rows image = form_of rows ≡ OutOfForm rows_damage.Form
 IsDamaged Extent rows image = (records : Records) × (form_of rows ≡ InForm records) × (¬ AreInRange records)

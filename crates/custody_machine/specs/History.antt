@@ -6,7 +6,7 @@ use Rattle.custody_records.specs.Keys.{PartKey}
 use Rattle.custody_records.specs.Records.{key_of}
 use Rattle.custody_machine.specs.Names.{read_name}
 use Rattle.custody_machine.specs.State.{State, Part, Held}
-use Rattle.custody_machine.specs.Machine.{Receive, Command, Entry, Ruling, Refuse, Accept, Reply, step, state_after, after, Answer, Accepted, Refused, Failed, Fault, NoMemory, VolumeFailed, StoreFailed, Closed, Damaged, Answers}
+use Rattle.custody_machine.specs.Machine.{Receive, Command, Entry, Outcome, Refuse, Accept, Reply, step, state_after, after, Answer, Accepted, Refused, Failed, Fault, NoMemory, VolumeFailed, StoreFailed, Closed, Damaged, Answers}
 use Rattle.custody_machine.specs.SameValues.{is_same_state}
 
 -- ---- what a stop may leave, and what opening may answer. The contracts of the calls cite these too
@@ -132,7 +132,7 @@ pub record Found : Type 0 where
   pub in_doubt : Option Entry
 
 -- whether a state is the one to which the machine goes on
-abbrev pub leads_to : Ruling → Option State → Bool
+abbrev pub leads_to : Outcome → Option State → Bool
 leads_to (Refuse refusal) found = false
 leads_to (Accept reply new) None = false
 leads_to (Accept reply new) (Some found) = is_same_state found new

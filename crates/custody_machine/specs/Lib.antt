@@ -2,6 +2,7 @@ pub mod Names
 pub mod State
 pub mod SameValues
 pub mod Machine
+pub mod Codes
 pub mod Texts
 pub mod History
 pub mod Retries
@@ -10,6 +11,7 @@ pub mod Stored
 pub mod Purge
 pub mod Damage
 pub mod Moves
+pub mod Rulings
 pub mod Custody
 pub mod Commands
 pub mod Examples

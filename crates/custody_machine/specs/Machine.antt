@@ -42,9 +42,9 @@ pub record Reply : Type 0 where
   pub entry : Record
   pub is_repeat : Bool
 
-pub data Ruling : Type 0 where
-  Refuse : Refusal → Ruling
-  Accept : Reply → State → Ruling
+pub data Outcome : Type 0 where
+  Refuse : Refusal → Outcome
+  Accept : Reply → State → Outcome
 
 -- ---- the state, as the rules read it
 
@@ -212,29 +212,29 @@ with_part state key part = record state { parts = insert state.parts key part }
 abbrev pub received_part : Name → List ℕ → ℕ → Part
 received_part name bytes now = record { kind = name.kind; received = now; content = Held bytes }
 
-abbrev pub received : State → Result Name NameError → List ℕ → ℕ → Ruling
+abbrev pub received : State → Result Name NameError → List ℕ → ℕ → Outcome
 received state (Err fault) bytes now = Refuse (NameRefused fault)
 received state (Ok name) bytes now = Accept (record { entry = OfPart (key_of name) (received_part name bytes now); is_repeat = false }) (with_part state (key_of name) (received_part name bytes now))
 
 -- what a command does that is no repeat
-abbrev pub effect : State → Command → ℕ → Ruling
+abbrev pub effect : State → Command → ℕ → Outcome
 effect state (Register tld first_day) now = Accept (record { entry = OfRegistry tld first_day; is_repeat = false }) (with_registry state tld first_day)
 effect state (Receive text bytes) now = received state (read_name text) bytes now
 
-abbrev pub unless_kept : State → Option Record → Ruling → Ruling
-unless_kept state (Some entry) ruling = Accept (record { entry = entry; is_repeat = true }) state
-unless_kept state None ruling = ruling
+abbrev pub unless_kept : State → Option Record → Outcome → Outcome
+unless_kept state (Some entry) outcome = Accept (record { entry = entry; is_repeat = true }) state
+unless_kept state None outcome = outcome
 
-abbrev pub unless_refused : Option Refusal → Ruling → Ruling
-unless_refused (Some refusal) ruling = Refuse refusal
-unless_refused None ruling = ruling
+abbrev pub unless_refused : Option Refusal → Outcome → Outcome
+unless_refused (Some refusal) outcome = Refuse refusal
+unless_refused None outcome = outcome
 
 -- what the state alone decides of a command at a moment
-unfoldable pub step : State → Command → ℕ → Ruling
+unfoldable pub step : State → Command → ℕ → Outcome
 step state command now = unless_refused (refusal_of state command now) (unless_kept state (kept state command) (effect state command now))
 
--- the state after a ruling
-abbrev pub state_of : State → Ruling → State
+-- the state after an outcome
+abbrev pub state_of : State → Outcome → State
 state_of old (Refuse _) = old
 state_of old (Accept _ new) = new
 
@@ -270,7 +270,7 @@ takes_room (Register _ _) = false
 takes_room (Receive _ _) = true
 
 -- The one free choice: a new part may be refused for want of room.
-abbrev pub MayRefuse : Command → Ruling → Refusal → Type 0
+abbrev pub MayRefuse : Command → Outcome → Refusal → Type 0
 MayRefuse command (Refuse least) refusal = refusal ≡ least
 MayRefuse command (Accept reply new) refusal = (refusal ≡ VolumeFull) × (takes_room command ≡ true) × (reply.is_repeat ≡ false)
 
@@ -288,16 +288,16 @@ abbrev pub reads : State → Command → ℕ → List PartKey
 reads state (Register tld first_day) now = []
 reads state (Receive text bytes) now = read_by (refusal_of state (Receive text bytes) now) (read_name text)
 
-abbrev pub MayFail : Ruling → List PartKey → Fault → Type 0
+abbrev pub MayFail : Outcome → List PartKey → Fault → Type 0
 MayFail (Refuse least) read NoMemory = is_early least ≡ false
 MayFail (Refuse least) read VolumeFailed = is_early least ≡ false
 MayFail (Refuse least) read StoreFailed = ⊥
 MayFail (Accept reply new) read NoMemory = Unit {0}
 MayFail (Accept reply new) read VolumeFailed = Unit {0}
 MayFail (Accept reply new) read StoreFailed = reply.is_repeat ≡ false
-MayFail ruling read Closed = ⊥
+MayFail outcome read Closed = ⊥
 -- where a part that is read has not its recorded digest
-MayFail ruling read (Damaged damage) = (damage ≡ Digest) × (read ≢ [])
+MayFail outcome read (Damaged damage) = (damage ≡ Digest) × (read ≢ [])
 
 -- what an open custody in the old state may answer, and its state then
 abbrev pub Answers : State → Command → ℕ → Answer → State → Type 0

@@ -5,7 +5,7 @@ use Rattle.deposit_name.specs.Name.{Name}
 use Rattle.custody_records.specs.Records.{key_of}
 use Rattle.custody_machine.specs.Names.{is_same_text, read_name}
 use Rattle.custody_machine.specs.State.{State, Part, Content, Held, Dropped}
-use Rattle.custody_machine.specs.Machine.{Command, Register, Receive, DroppedAfterKeeping, Record, OfRegistry, OfPart, Reply, Ruling, Refuse, Accept, Entry, step, state_after, after, recorded, is_dropped, Answer, Accepted, Refused, Failed, NoMemory, VolumeFailed, StoreFailed, Closed, Damaged, HasRecord}
+use Rattle.custody_machine.specs.Machine.{Command, Register, Receive, DroppedAfterKeeping, Record, OfRegistry, OfPart, Reply, Outcome, Refuse, Accept, Entry, step, state_after, after, recorded, is_dropped, Answer, Accepted, Refused, Failed, NoMemory, VolumeFailed, StoreFailed, Closed, Damaged, HasRecord}
 use Rattle.custody_machine.specs.History.{Event, Answered, OpenedWith, Pair, Opened, IsHistory, found}
 
 -- ---- keys
@@ -95,7 +95,7 @@ asked command = command
 abbrev pub AsksAgain : Command → Command → Type 0
 AsksAgain a b = (is_some (key a) ≡ true) × (asked a ≡ asked b)
 
-abbrev pub record_of : Ruling → Option Record
+abbrev pub record_of : Outcome → Option Record
 record_of (Refuse refusal) = None
 record_of (Accept reply new) = Some reply.entry
 

@@ -53,18 +53,10 @@ impl fmt::Display for Refusal {
     ghost output = { λ r. Some (refusal_text r) };
 
     fn fmt<W: fmt::Write>(&self, f: &mut fmt::Formatter<W>) -> fmt::Result {
+        let code = self.code();
         match self {
-            Refusal::NameRefused(fault) => write!(f, "Q1 {fault} name refused"),
-            Refusal::RegistryUnknown => f.write_str("Q2 registry unknown"),
-            Refusal::DateOutOfRange => f.write_str("Q3 date out of range"),
-            Refusal::Size => f.write_str("Q4 size"),
-            Refusal::OtherBytes => f.write_str("Q5 other bytes under this name"),
-            Refusal::DroppedAfterKeeping => f.write_str("Q6 dropped after keeping"),
-            Refusal::RevisionNotDue => f.write_str("Q7 revision not due"),
-            Refusal::AlreadyStated => f.write_str("Q8 already stated"),
-            Refusal::TypeDiffers => f.write_str("Q9 type differs"),
-            Refusal::PartOutOfOrder => f.write_str("Q10 part out of order"),
-            Refusal::VolumeFull => f.write_str("Q11 volume full"),
+            Refusal::NameRefused(fault) => write!(f, "{} {fault} {}", code.number, code.text),
+            _ => write!(f, "{code}"),
         }
     }
 }
@@ -76,12 +68,10 @@ impl fmt::Display for Fault {
     ghost output = { λ e. Some (fault_text e) };
 
     fn fmt<W: fmt::Write>(&self, f: &mut fmt::Formatter<W>) -> fmt::Result {
+        let code = self.code();
         match self {
-            Fault::NoMemory => f.write_str("C1 no memory"),
-            Fault::VolumeFailed => f.write_str("C2 volume failed"),
-            Fault::StoreFailed => f.write_str("C3 store failed"),
-            Fault::Closed => f.write_str("C4 closed"),
-            Fault::Damaged(damage) => write!(f, "C5 damaged {damage}"),
+            Fault::Damaged(damage) => write!(f, "{code} {damage}"),
+            _ => write!(f, "{code}"),
         }
     }
 }

@@ -3,11 +3,13 @@
 #![tactic(auto)]
 
 mod answers;
+mod codes;
 mod command;
 mod damage;
 mod laws;
 
 pub use answers::{Fault, Refusal};
+pub use codes::{Code, HttpStatus, Status};
 pub use command::Command;
 pub use damage::Damage;
 pub use laws::{law_damage, law_histories, law_read_name, law_refusals, law_retries};

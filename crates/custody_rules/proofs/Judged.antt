@@ -1,5 +1,5 @@
 -- What the records tell of a part is what the machine decides of it, in their state with any image.
-use Rattle.std.proofs.Common.{◌≡◌, ◌≢◌, ℕ, ◌+◌, ◌-◌, List, length, Option, Some, None, Bool, true, false, not, ◌&&◌, ◌||◌, ◌==◌, nat_lt, cond, refl, sym, ◌∙◌, ap, count_by, is_none, Ok}
+use Rattle.std.proofs.Common.{◌≡◌, ◌≢◌, ℕ, ◌+◌, ◌-◌, List, length, Option, Some, None, Bool, true, false, not, ◌&&◌, ◌||◌, ◌==◌, nat_lt, cond, refl, sym, ◌∙◌, ap, subst, count_by, is_none, Ok}
 use Rattle.std.specs.Prelude.{option_map, is_some, unwrap_or}
 use Rattle.std.specs.List.{list_any}
 use Rattle.std.specs.FinMap.{get}
@@ -16,19 +16,20 @@ use Rattle.vault_volume.specs.Extents.{part_bytes}
 use Rattle.custody_records.specs.declared.parts.Part as typed
 use Rattle.custody_records.specs.Keys.{part_cmp}
 use Rattle.custody_records.specs.Records.{PartRecord, Records, key_of}
-use Rattle.custody_records.specs.Typed.{part_place, part_value}
+use Rattle.custody_records.specs.Typed.{part_value}
 use Rattle.custody_machine.specs.Names.{is_same_text, read_name}
 use Rattle.custody_machine.specs.SameValues.{is_same_kind}
 use Rattle.custody_machine.specs.State.{State, places, at_place, has_notice}
 use Rattle.custody_machine.specs.Stored.{part_of, content_of, state_in}
 use Rattle.custody_machine.specs.declared.answers.Refusal.{Refusal}
 use Rattle.custody_machine.specs.declared.answers.Refusal.TheVariants.{NameRefused, RegistryUnknown, Size, OtherBytes, DroppedAfterKeeping, VolumeFull}
-use Rattle.custody_machine.specs.Machine.{Receive, OfPart, Accept, Refuse, first_day_of, of_kind, recorded, part_in, has_other_kind, is_receipt, is_failure_of, is_verdict_of, is_held_with_other, holds_other, is_gone, is_dropped, max_part_len, refusal_of, step, is_unregistered, is_out_of_range, is_out_of_size, receive_tests, named_tests, first_standing}
-use Rattle.custody_machine.specs.Custody.{Refuses, ByBytes, Goes, Decides}
+use Rattle.custody_machine.specs.Machine.{Register, Receive, OfRegistry, OfPart, Accept, Refuse, first_day_of, of_kind, recorded, part_in, has_other_kind, is_receipt, is_failure_of, is_verdict_of, is_held_with_other, holds_other, is_gone, is_dropped, max_part_len, refusal_of, step, is_unregistered, is_out_of_range, is_out_of_size, receive_tests, named_tests, first_standing}
+use Rattle.custody_machine.specs.Rulings.{AddsRegistry, AddsPart, Refuses, Repeats, ByBytes, Makes, Decides, DecidesPart}
 use Rattle.custody_machine.proofs.MapValues.{get-map_values}
-use Rattle.custody_machine.proofs.SameValues.{text_decides}
+use Rattle.custody_machine.proofs.SameValues.{text_decides, kind_decides}
+use Rattle.custody_machine.proofs.Composed.{register_repeats, register_adds}
 use Rattle.custody_machine.proofs.Keeping.{none_stand, part_refusals, find_none, find_dropped, step_none, step_refuses, step_refuses_text, rules_part, answered, place_is_empty}
-use Rattle.custody_rules.specs.Judged.{if_of_kind, recorded_under, is_of_other_kind, IsUnder}
+use Rattle.custody_rules.specs.Judged.{if_of_kind, recorded_under, is_of_other_kind, IsRecordedUnder}
 
 -- ---- the records in a state
 
@@ -95,29 +96,28 @@ first_in_records records image name bytes len now first sized known new =
 
 -- ---- what is decided of a text
 
-pub refuses_text : (records : Records) (text : List ℕ) (len now : ℕ) (fault : NameError) → IsFault text fault → Decides (Refuses (NameRefused fault)) records text len now
-refuses_text records text len now fault is = (λ e. cc, λ e. cc, λ image bytes sized. step_refuses_text (state_in records image) text bytes now fault is)
+pub refuses_text : (records : Records) (text : List ℕ) (len now : ℕ) (fault : NameError) → IsFault text fault → DecidesPart (Refuses (NameRefused fault)) records text len now
+refuses_text records text len now fault is = λ bytes sized. (λ e. cc, λ e. cc, λ image. step_refuses_text (state_in records image) text bytes now fault is)
 
 module _ (records : Records) (text : List ℕ) (name : Name) (len now : ℕ) (named : read_name text ≡ Ok name) where
   refusal_is : (image bytes : List ℕ) (o : Option Refusal) → first_standing (receive_tests (state_in records image) name bytes now) ≡ o → refusal_of (state_in records image) (Receive text bytes) now ≡ o
   refusal_is image bytes o first = ap (λ r. first_standing (named_tests (state_in records image) r bytes now)) named ∙ first
 
   -- a refusal that stands first, whatever the image and the bytes
-  pub refuses : (q : Refusal) → q ≢ OtherBytes → q ≢ VolumeFull → ((image bytes : List ℕ) → length bytes ≡ len → first_standing (receive_tests (state_in records image) name bytes now) ≡ Some q) → Decides (Refuses q) records text len now
-  refuses q other full first = (other, full, λ image bytes sized. step_refuses (state_in records image) (Receive text bytes) now q (refusal_is image bytes (Some q) (first image bytes sized)))
+  pub refuses : (q : Refusal) → q ≢ OtherBytes → q ≢ VolumeFull → ((image bytes : List ℕ) → length bytes ≡ len → first_standing (receive_tests (state_in records image) name bytes now) ≡ Some q) → DecidesPart (Refuses q) records text len now
+  refuses q other full first = λ bytes sized. (other, full, λ image. step_refuses (state_in records image) (Receive text bytes) now q (refusal_is image bytes (Some q) (first image bytes sized)))
 
-  pub refuses_registry : get records.registries name.tld ≡ None → Decides (Refuses RegistryUnknown) records text len now
+  pub refuses_registry : get records.registries name.tld ≡ None → DecidesPart (Refuses RegistryUnknown) records text len now
   refuses_registry unknown = refuses RegistryUnknown (λ e. cc) (λ e. cc) (λ image bytes sized. by (is_unregistered (state_in records image) name) _ (ap is_none unknown))
     where
       by : (a : Bool) (rest : Option Refusal) → a ≡ true → cond a (Some RegistryUnknown) rest ≡ Some RegistryUnknown
       by a rest e = ap (λ b. cond b (Some RegistryUnknown) rest) e
 
   -- a new name that no refusal stands for
-  pub goes : recorded_under records name ≡ None → ((image bytes : List ℕ) → length bytes ≡ len → first_standing (receive_tests (state_in records image) name bytes now) ≡ None) → Decides (Goes name) records text len now
-  goes new none = (
-    named,
-    empty,
-    λ image bytes sized.
+  pub goes : recorded_under records name ≡ None → ((image bytes : List ℕ) → length bytes ≡ len → first_standing (receive_tests (state_in records image) name bytes now) ≡ None) → DecidesPart (Makes (AddsPart name)) records text len now
+  goes new none = λ bytes sized. (
+    (named, empty),
+    λ image.
         let first = none image bytes sized in
         let stand = none_stand (state_in records image) name bytes now first in
         step_none (state_in records image) (Receive text bytes) now (refusal_is image bytes None first) ∙ rules_part (state_in records image) text bytes now name named stand.bytes stand.dropped ∙ ap (answered (state_in records image) name bytes now) (new_in_state records image name new),
@@ -136,7 +136,7 @@ module _ (records : Records) (text : List ℕ) (name : Name) (len now : ℕ) (na
 
 -- ---- what is decided of a name that is recorded
 
-module _ (records : Records) (text : List ℕ) (name : Name) (part : typed.Part) (len now : ℕ) (under : IsUnder records text name part) where
+module _ (records : Records) (text : List ℕ) (name : Name) (part : typed.Part) (len now : ℕ) (under : IsRecordedUnder records text name part) where
   recorded_is : (image : List ℕ) → recorded (state_in records image) name ≡ Some (part_of image (part_value part))
   recorded_is image = recorded_in_state records image name ∙ ap (option_map (part_of image)) under.recorded
 
@@ -153,14 +153,14 @@ module _ (records : Records) (text : List ℕ) (name : Name) (part : typed.Part)
   size_is : (b : Bool) → (len == 0 || nat_lt max_part_len len) ≡ b → (image bytes : List ℕ) → length bytes ≡ len → is_out_of_size (length bytes) ≡ b
   size_is b e image bytes sized = ap (λ n. n == 0 || nat_lt max_part_len n) sized ∙ e
 
-  pub refuses_size : (len == 0 || nat_lt max_part_len len) ≡ true → Decides (Refuses Size) records text len now
+  pub refuses_size : (len == 0 || nat_lt max_part_len len) ≡ true → DecidesPart (Refuses Size) records text len now
   refuses_size e = refuses records text name len now under.named Size (λ e. cc) (λ e. cc) (λ image bytes sized. by _ _ _ _ _ _ _ _ _ known_is (in_range image bytes) (size_is true e image bytes sized))
     where
       by : (a b c d e f g h i : Bool) → a ≡ false → b ≡ false → c ≡ true → part_refusals a b c d e f g h i ≡ Some Size
       by a b c d e f g h i p q r = rw (p, q, r) refl
 
   module _ (sized_well : (len == 0 || nat_lt max_part_len len) ≡ false) where
-    pub refuses_dropped : (part_value part).extents ≡ None → Decides (Refuses DroppedAfterKeeping) records text len now
+    pub refuses_dropped : (part_value part).extents ≡ None → DecidesPart (Refuses DroppedAfterKeeping) records text len now
     refuses_dropped none = refuses records text name len now under.named DroppedAfterKeeping (λ e. cc) (λ e. cc) (λ image bytes sized.
         find_dropped (state_in records image) name bytes now known_is (in_range image bytes) (size_is false sized_well image bytes sized)
         (ap (holds_other bytes) (recorded_is image) ∙ ap (λ o. is_held_with_other bytes (content_of image part.len o)) none)
@@ -206,6 +206,14 @@ module _ (records : Records) (text : List ℕ) (name : Name) (part : typed.Part)
           by : (a b c d e f g h i : Bool) → a ≡ false → b ≡ false → c ≡ false → d ≡ true → part_refusals a b c d e f g h i ≡ Some OtherBytes
           by a b c d e f g h i p q r t = rw (p, q, r, t) refl
 
+      of_kind_is : part.name.kind ≡ name.kind
+      of_kind_is = by (get records.parts (key_of name)) under.recorded
+        where
+          by : (o : Option PartRecord) → option_and_then (if_of_kind name.kind) o ≡ Some (part_value part) → (part_value part).kind ≡ name.kind
+          by None e = cc
+          by (Some found) e = let found_is = cond_some (is_same_kind found.kind name.kind) found (part_value part) e in
+              ap (λ (p : PartRecord). p.kind) (sym found_is.1) ∙ (kind_decides found.kind name.kind).0 found_is.0
+
       stands_at : get records.parts (key_of name) ≡ Some (part_value part)
       stands_at = by (get records.parts (key_of name)) under.recorded
         where
@@ -213,15 +221,19 @@ module _ (records : Records) (text : List ℕ) (name : Name) (part : typed.Part)
           by None e = cc
           by (Some found) e = ap Some (cond_some (is_same_kind found.kind name.kind) found (part_value part) e).1
 
-      pub compares : Decides (ByBytes (part_place part) (part_value part) extents) records text len now
-      compares = (
-        name,
-        under.named,
-        under.place,
-        ap (get records.parts) under.place ∙ stands_at,
-        held,
-        λ image bytes sized. (
-          λ same. accepts image bytes sized same ∙ ap (λ key. Accept (record { entry = OfPart key (part_of image (part_value part)); is_repeat = true }) (state_in records image)) (sym under.place),
-          λ other. refuses_other image bytes sized other,
-        ),
-      )
+      named_alike : part.name ≡ name
+      named_alike = λ i. record { tld = (under.place i).tld; day = (under.place i).day; kind = of_kind_is i; part = (under.place i).part; rev = (under.place i).rev }
+
+      pub compares : DecidesPart (ByBytes part.name (part_value part) extents) records text len now
+      compares = subst (λ n. DecidesPart (ByBytes n (part_value part) extents) records text len now) (sym named_alike) (λ bytes sized. (
+        record { named = under.named; recorded = stands_at; kind = of_kind_is; held = held },
+        λ image. (λ same. accepts image bytes sized same, λ other. refuses_other image bytes sized other),
+      ))
+
+-- ---- what is decided of a registry
+
+pub registry_repeats : (records : Records) (tld : List ℕ) (first_day now kept : ℕ) → get records.registries tld ≡ Some kept → Decides (Repeats (OfRegistry tld kept)) records (Register tld first_day) now
+registry_repeats records tld first_day now kept at = λ image. register_repeats (state_in records image) tld first_day now kept at
+
+pub registry_is_new : (records : Records) (tld : List ℕ) (first_day now : ℕ) → get records.registries tld ≡ None → Decides (Makes (AddsRegistry tld first_day)) records (Register tld first_day) now
+registry_is_new records tld first_day now new = ((refl, new), λ image. register_adds records image tld first_day now new)

@@ -11,8 +11,8 @@ use Rattle.std.specs.FinMap.{FinMap, IsAntisymmetric, entries, get}
 use Rattle.std.proofs.lemmas.Bool.{and_parts}
 use Rattle.std.proofs.lemmas.Cmp.{tied_itself}
 use Rattle.std.proofs.lemmas.List.Sums.{AllPass-from_list_all, list_all-from_AllPass}
-use Rattle.custody_records.specs.Tables.{entries_of, is_below_all, is_rising, row_at, table_map}
-use Rattle.custody_records.proofs.TableLemmas.{get_table, found_at, key_found, below_at, entries-table_map, entries_rise, table_map-entries}
+use Rattle.custody_records.specs.Tables.{entries_of, is_below_all, is_rising, table_map}
+use Rattle.custody_records.proofs.TableLemmas.{row_at, get_table, found_at, key_found, below_at, entries-table_map, entries_rise, table_map-entries}
 use Rattle.custody_rules.specs.Links.{each_passes}
 
 -- a row of this key and value, and where it stands

@@ -11,7 +11,7 @@ use Rattle.custody_records.specs.Typed.{part_place, part_value}
 use Rattle.custody_records.specs.Records.{PartRecord, Records, key_of}
 use Rattle.custody_machine.specs.Names.{is_same_text, read_name}
 use Rattle.custody_machine.specs.SameValues.{is_same_kind}
-use Rattle.custody_machine.specs.Custody.{PartRuling, Decides}
+use Rattle.custody_machine.specs.Rulings.{Ruling, DecidesPart}
 
 -- whether a notice of a name's registry and day passes a test
 abbrev pub tells : Name → (NoticeKind → Bool) → told.Notice → Bool
@@ -30,12 +30,12 @@ is_of_other_kind kind None = false
 is_of_other_kind kind (Some part) = not (is_same_kind part.kind kind)
 
 -- a part is recorded under the name that a text is, in a registry that is known
-pub record IsUnder (records : Records) (text : List ℕ) (name : Name) (part : typed.Part) : Type 0 where
+pub record IsRecordedUnder (records : Records) (text : List ℕ) (name : Name) (part : typed.Part) : Type 0 where
   pub named : read_name text ≡ Ok name
   pub known : is_some (get records.registries name.tld) ≡ true
   pub place : part_place part ≡ key_of name
   pub recorded : recorded_under records name ≡ Some (part_value part)
 
 -- the ruling of any name that the part is recorded under
-abbrev pub RulesRecorded : PartRuling → typed.Part → ℕ → Type 0
-RulesRecorded ruling part len = (records : Records) (text : List ℕ) (name : Name) (now : ℕ) → IsUnder records text name part → Decides ruling records text len now
+abbrev pub RulesRecorded : Ruling → typed.Part → ℕ → Type 0
+RulesRecorded ruling part len = (records : Records) (text : List ℕ) (name : Name) (now : ℕ) → IsRecordedUnder records text name part → DecidesPart ruling records text len now

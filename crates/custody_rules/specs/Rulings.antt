@@ -1,10 +1,23 @@
--- A ruling of the code, as one of the machine's.
-use Rattle.custody_records.specs.Typed.{part_place, part_value}
-use Rattle.custody_machine.specs.Custody as machine
-use Rattle.custody_rules.specs.declared.judge.PartRuling as code
-use Rattle.custody_rules.specs.declared.judge.PartRuling.TheVariants.{Refuse, Compare, Go}
+-- The rulings of the code, as those of the machine.
+use Rattle.custody_records.specs.Typed.{part_value}
+use Rattle.custody_machine.specs.Machine.{Record, OfRegistry}
+use Rattle.custody_machine.specs.Rulings as machine
+use Rattle.custody_rules.specs.declared.ruling.Change as change
+use Rattle.custody_rules.specs.declared.ruling.Change.TheVariants as makes
+use Rattle.custody_rules.specs.declared.ruling.Kept as kept
+use Rattle.custody_rules.specs.declared.ruling.Kept.TheVariants as answers
+use Rattle.custody_rules.specs.declared.ruling.Ruling as code
+use Rattle.custody_rules.specs.declared.ruling.Ruling.TheVariants.{Refuse, Repeat, Compare, Make}
 
-abbrev pub ruling_of : code.PartRuling → machine.PartRuling
+abbrev pub change_of : change.Change → machine.Change
+change_of (makes.Registry registry) = machine.AddsRegistry registry.tld registry.first_day
+change_of (makes.Part name) = machine.AddsPart name
+
+abbrev pub record_of : kept.Kept → Record
+record_of (answers.Registry registry) = OfRegistry registry.tld registry.first_day
+
+abbrev pub ruling_of : code.Ruling → machine.Ruling
 ruling_of (Refuse refusal) = machine.Refuses refusal
-ruling_of (Compare part extents) = machine.ByBytes (part_place part.now) (part_value part.now) extents.now
-ruling_of (Go name) = machine.Goes name
+ruling_of (Repeat kept) = machine.Repeats (record_of kept)
+ruling_of (Compare part extents) = machine.ByBytes part.now.name (part_value part.now) extents.now
+ruling_of (Make change) = machine.Makes (change_of change)

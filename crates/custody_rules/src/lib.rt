@@ -1,12 +1,14 @@
-//! What records decide: how a part that is sent is judged, and whether records belong together.
+//! What records decide: how a command is judged, and whether records belong together.
 #![tactic(auto)]
 
 mod blocks;
 mod extents;
-mod judge;
+mod judging;
 mod linked;
+mod ruling;
 mod whole;
 
 pub use blocks::map_of;
-pub use judge::{PartRuling, judge_part};
+pub use judging::{judge, judge_part};
+pub use ruling::{Change, Kept, Ruling};
 pub use whole::damage_in;

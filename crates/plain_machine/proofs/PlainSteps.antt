@@ -1,4 +1,4 @@
--- The plain program's answers are the machine's rulings.
+-- The plain program's answers are the machine's outcomes.
 use Rattle.std.proofs.Common.{◌≡◌, ℕ, List, [], ◌∷◌, ◌++◌, length, Option, Some, None, true, false, ◌&&◌, map, refl, sym, ◌∙◌, ap, subst, is_none, Ok}
 use Rattle.std.specs.List.{list_any}
 use Rattle.std.specs.FinMap.{IsAntisymmetric, get, insert, from_entries, get-from_entries, from_entries_push}
@@ -15,10 +15,10 @@ use Rattle.plain_machine.specs.declared.plain.PlainPart.{PlainPart}
 use Rattle.plain_machine.specs.declared.plain.PlainAnswer.{PlainAnswer}
 use Rattle.plain_machine.specs.declared.plain.PlainAnswer.TheVariants as answer
 use Rattle.custody_machine.specs.Names.{read_name}
-use Rattle.plain_machine.specs.Plain.{registry_entry, part_entry, part_shown, IsRuling}
+use Rattle.plain_machine.specs.Plain.{registry_entry, part_entry, part_shown, IsOutcome}
 use Rattle.custody_machine.specs.Retries.{content_len}
 use Rattle.custody_machine.specs.State.{State, Part, places}
-use Rattle.custody_machine.specs.Machine.{Register, Receive, OfRegistry, OfPart, Ruling, Accept, first_day_of, part_at, part_in, recorded, has_other_kind, holds_other, is_dropped, refusal_of, step, with_registry, with_part, received_part, receive_tests, named_tests, first_standing}
+use Rattle.custody_machine.specs.Machine.{Register, Receive, OfRegistry, OfPart, Outcome, Accept, first_day_of, part_at, part_in, recorded, has_other_kind, holds_other, is_dropped, refusal_of, step, with_registry, with_part, received_part, receive_tests, named_tests, first_standing}
 use Rattle.custody_records.specs.Orders.{text_total, part_total, part_exact}
 use Rattle.custody_machine.specs.declared.answers.Refusal.{Refusal}
 use Rattle.custody_machine.specs.declared.answers.Refusal.TheVariants.{NameRefused}
@@ -42,34 +42,34 @@ registry_pushed = pushed text_total exact_bytes registry_entry
 pub part_pushed : (es : List PlainPart) (p : PlainPart) → get (from_entries {R = part_cmp} (map part_entry es)) (key_of p.name) ≡ None → from_entries {R = part_cmp} (map part_entry (es ++ p ∷ [])) ≡ insert (from_entries (map part_entry es)) (key_of p.name) (part_shown p)
 part_pushed = pushed part_total part_exact part_entry
 
-pub as_answered : (a b : PlainAnswer) (old new : State) (r : Ruling) → a ≡ b → IsRuling b old new r → IsRuling a old new r
-as_answered a b old new r e h = subst (λ c. IsRuling c old new r) (sym e) h
+pub as_answered : (a b : PlainAnswer) (old new : State) (r : Outcome) → a ≡ b → IsOutcome b old new r → IsOutcome a old new r
+as_answered a b old new r e h = subst (λ c. IsOutcome c old new r) (sym e) h
 
 -- ---- registrations
 
-pub registers_again : (s : State) (tld : List ℕ) (day now first : ℕ) → first_day_of s tld ≡ Some first → IsRuling (answer.Registered tld first true) s s (step s (Register tld day) now)
+pub registers_again : (s : State) (tld : List ℕ) (day now first : ℕ) → first_day_of s tld ≡ Some first → IsOutcome (answer.Registered tld first true) s s (step s (Register tld day) now)
 registers_again s tld day now first e = register_repeats s tld day now first e
 
-pub registers : (s new : State) (tld : List ℕ) (day now : ℕ) → first_day_of s tld ≡ None → new ≡ with_registry s tld day → IsRuling (answer.Registered tld day false) s new (step s (Register tld day) now)
+pub registers : (s new : State) (tld : List ℕ) (day now : ℕ) → first_day_of s tld ≡ None → new ≡ with_registry s tld day → IsOutcome (answer.Registered tld day false) s new (step s (Register tld day) now)
 registers s new tld day now e is = step_none s (Register tld day) now refl ∙ ap (registered s tld day now) e ∙ ap (Accept (record { entry = OfRegistry tld day; is_repeat = false })) (sym is)
 
 -- ---- parts
 
 -- a text that is refused
-pub refuses_text : (s : State) (text bytes : List ℕ) (now : ℕ) (fault : NameError) → IsFault text fault → IsRuling (answer.Refused (NameRefused fault)) s s (step s (Receive text bytes) now)
+pub refuses_text : (s : State) (text bytes : List ℕ) (now : ℕ) (fault : NameError) → IsFault text fault → IsOutcome (answer.Refused (NameRefused fault)) s s (step s (Receive text bytes) now)
 refuses_text s text bytes now fault is = (step_refuses_text s text bytes now fault is, refl)
 
 module _ (s : State) (text bytes : List ℕ) (now : ℕ) (name : Name) (named : read_name text ≡ Ok name) where
   refusal_is : (o : Option Refusal) → first_standing (receive_tests s name bytes now) ≡ o → refusal_of s (Receive text bytes) now ≡ o
   refusal_is o e = ap (λ r. first_standing (named_tests s r bytes now)) named ∙ e
 
-  pub refuses : (q : Refusal) → first_standing (receive_tests s name bytes now) ≡ Some q → IsRuling (answer.Refused q) s s (step s (Receive text bytes) now)
+  pub refuses : (q : Refusal) → first_standing (receive_tests s name bytes now) ≡ Some q → IsOutcome (answer.Refused q) s s (step s (Receive text bytes) now)
   refuses q e = (step_refuses s (Receive text bytes) now q (refusal_is (Some q) e), refl)
 
   ruled : first_standing (receive_tests s name bytes now) ≡ None → step s (Receive text bytes) now ≡ answered s name bytes now (recorded s name)
   ruled none = let stand = none_stand s name bytes now none in step_none s (Receive text bytes) now (refusal_is None none) ∙ rules_part s text bytes now name named stand.bytes stand.dropped
 
-  pub repeats : (part : Part) → first_standing (receive_tests s name bytes now) ≡ None → recorded s name ≡ Some part → IsRuling (answer.Received name part.received (length bytes) true) s s (step s (Receive text bytes) now)
+  pub repeats : (part : Part) → first_standing (receive_tests s name bytes now) ≡ None → recorded s name ≡ Some part → IsOutcome (answer.Received name part.received (length bytes) true) s s (step s (Receive text bytes) now)
   repeats part none at =
       let stand = none_stand s name bytes now none in
       let content = held_bytes part bytes (ap (holds_other bytes) (sym at) ∙ stand.bytes) (ap is_dropped (sym at) ∙ stand.dropped) in
@@ -80,6 +80,6 @@ module _ (s : State) (text bytes : List ℕ) (now : ℕ) (name : Name) (named : 
       place_is_empty s text name named at (ap (λ o. is_none o && list_any (λ place. has_other_kind name.kind (part_in s name place)) places) (sym at) ∙ stand.kind)
 
   pub receives_new : (new : State) → first_standing (receive_tests s name bytes now) ≡ None → recorded s name ≡ None → new ≡ with_part s (key_of name) (received_part name bytes now)
-      → IsRuling (answer.Received name now (length bytes) false) s new (step s (Receive text bytes) now)
+      → IsOutcome (answer.Received name now (length bytes) false) s new (step s (Receive text bytes) now)
   receives_new new none at is =
       (received_part name bytes now, ruled none ∙ ap (answered s name bytes now) at ∙ ap (Accept (record { entry = OfPart (key_of name) (received_part name bytes now); is_repeat = false })) (sym is), refl, refl, refl)

@@ -13,7 +13,7 @@ use Rattle.plain_machine.specs.declared.plain.PlainAnswer.TheVariants as answer
 use Rattle.custody_machine.specs.Names.{is_same_text}
 use Rattle.custody_machine.specs.SameValues.{is_same_key}
 use Rattle.custody_machine.specs.State.{State, Part, Content, Held, Dropped}
-use Rattle.custody_machine.specs.Machine.{OfRegistry, OfPart, Ruling, Refuse, Accept}
+use Rattle.custody_machine.specs.Machine.{OfRegistry, OfPart, Outcome, Refuse, Accept}
 use Rattle.custody_machine.specs.Retries.{content_len}
 
 abbrev pub registry_entry : PlainRegistry → List ℕ × ℕ
@@ -37,12 +37,12 @@ shown state = record {
   releases = empty;
 }
 
--- The answer and the new state are those of a ruling in the old state. A part is shown without its bytes.
-abbrev pub IsRuling : PlainAnswer → State → State → Ruling → Type 0
-IsRuling (answer.Registered tld first_day is_repeat) old new ruling = ruling ≡ Accept (record { entry = OfRegistry tld first_day; is_repeat = is_repeat }) new
-IsRuling (answer.Received name received len is_repeat) old new ruling =
-    (part : Part) × (ruling ≡ Accept (record { entry = OfPart (key_of name) part; is_repeat = is_repeat }) new) × (part.kind ≡ name.kind) × (part.received ≡ received) × (content_len part.content ≡ len)
-IsRuling (answer.Refused refusal) old new ruling = (ruling ≡ Refuse refusal) × (new ≡ old)
+-- The answer and the new state are those of a outcome in the old state. A part is shown without its bytes.
+abbrev pub IsOutcome : PlainAnswer → State → State → Outcome → Type 0
+IsOutcome (answer.Registered tld first_day is_repeat) old new outcome = outcome ≡ Accept (record { entry = OfRegistry tld first_day; is_repeat = is_repeat }) new
+IsOutcome (answer.Received name received len is_repeat) old new outcome =
+    (part : Part) × (outcome ≡ Accept (record { entry = OfPart (key_of name) part; is_repeat = is_repeat }) new) × (part.kind ≡ name.kind) × (part.received ≡ received) × (content_len part.content ≡ len)
+IsOutcome (answer.Refused refusal) old new outcome = (outcome ≡ Refuse refusal) × (new ≡ old)
 
 -- ---- what the loops look for
 

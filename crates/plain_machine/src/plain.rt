@@ -3,7 +3,7 @@ ghost use Rattle.std.specs.Prelude.{◌≡◌, ◌≤◌, ◌||◌, ◌==◌, []
 ghost use Rattle.std.specs.FinMap.{get};
 ghost use Rattle.std.specs.List.{list_any};
 ghost use Rattle.custody_records.specs.Records.{key_of};
-ghost use Rattle.plain_machine.specs.Plain.{shown, part_shown, content_shown, IsRuling, is_of, is_at};
+ghost use Rattle.plain_machine.specs.Plain.{shown, part_shown, content_shown, IsOutcome, is_of, is_at};
 ghost use Rattle.custody_machine.specs.Commands.{command_of};
 ghost use Rattle.custody_machine.specs.Names.{read_name};
 ghost use Rattle.custody_machine.specs.SameValues.{is_same_kind};
@@ -294,7 +294,7 @@ impl PlainState {
     }
 
     fn register(&mut self, tld: Tld, first_day: Day) -> Result<PlainAnswer, AllocError>
-        ensures step { (now : ℕ) → IfOk result (λ answer. IsRuling answer (shown self.old) (shown self.new) (step (shown self.old) (Register tld first_day) now)) }
+        ensures step { (now : ℕ) → IfOk result (λ answer. IsOutcome answer (shown self.old) (shown self.new) (step (shown self.old) (Register tld first_day) now)) }
         ensures err { OnErr result (shown self.new ≡ shown self.old) }
     {
         match self.first_day(&tld) {
@@ -313,7 +313,7 @@ impl PlainState {
         bytes: &[u8],
         now: Sec,
     ) -> Result<PlainAnswer, AllocError>
-        ensures step { IfOk result (λ answer. IsRuling answer (shown self.old) (shown self.new) (step (shown self.old) (Receive text.now bytes.now) now)) }
+        ensures step { IfOk result (λ answer. IsOutcome answer (shown self.old) (shown self.new) (step (shown self.old) (Receive text.now bytes.now) now)) }
         ensures err { OnErr result (shown self.new ≡ shown self.old) }
     {
         match DepositName::parse(text) {
@@ -329,7 +329,7 @@ impl PlainState {
         bytes: &[u8],
         now: Sec,
     ) -> Result<PlainAnswer, AllocError>
-        ensures step { (text : List ℕ) → read_name text ≡ Ok name.now → IfOk result (λ answer. IsRuling answer (shown self.old) (shown self.new) (step (shown self.old) (Receive text bytes.now) now)) }
+        ensures step { (text : List ℕ) → read_name text ≡ Ok name.now → IfOk result (λ answer. IsOutcome answer (shown self.old) (shown self.new) (step (shown self.old) (Receive text bytes.now) now)) }
         ensures err { OnErr result (shown self.new ≡ shown self.old) }
     {
         match self.refusal_of(name, bytes, now) {
@@ -357,7 +357,7 @@ pub fn step_plain(
     command: &Command<'_>,
     now: Sec,
 ) -> Result<PlainAnswer, AllocError>
-    ensures step { IfOk result (λ answer. IsRuling answer (shown state.old) (shown state.new) (step (shown state.old) (command_of command.now) now)) }
+    ensures step { IfOk result (λ answer. IsOutcome answer (shown state.old) (shown state.new) (step (shown state.old) (command_of command.now) now)) }
     ensures err { OnErr result (shown state.new ≡ shown state.old) }
 {
     match command {

@@ -3,7 +3,7 @@ use Rattle.std.specs.Prelude.{option_map}
 use Rattle.std.specs.FinMap.{from_entries}
 use Rattle.plain_machine.specs.declared.plain.PlainContent.TheVariants.{Held}
 use Rattle.custody_machine.specs.State as state
-use Rattle.plain_machine.specs.Plain.{shown, part_entry, part_shown, IsRuling}
+use Rattle.plain_machine.specs.Plain.{shown, part_entry, part_shown, IsOutcome}
 use Rattle.custody_machine.specs.Machine.{Receive, step, with_part}
 use Rattle.custody_records.specs.Records.{key_of}
 use Rattle.plain_machine.proofs.PlainSteps.{as_answered, part_pushed, refuses, repeats, place_is_free, receives_new}
@@ -14,7 +14,7 @@ returns-in-Some-clause-step c = λ text named. refuses (shown c.args.self.now) t
 
 pub returns-in-Some-recorded-clause-step : goal.returns-in-Some-recorded-clause-step
 returns-in-Some-recorded-clause-step c = λ text named.
-    subst (λ a. IsRuling a (shown c.args.self.now) (shown c.args.self.now) (step (shown c.args.self.now) (Receive text c.args.bytes.now) c.args.now)) (sym c.received.ensures)
+    subst (λ a. IsOutcome a (shown c.args.self.now) (shown c.args.self.now) (step (shown c.args.self.now) (Receive text c.args.bytes.now) c.args.now)) (sym c.received.ensures)
     (repeats (shown c.args.self.now) text c.args.bytes.now c.args.now c.args.name.now named (part_shown c.in-Some-recorded.part.now) (sym c.refusal_of.ensures ∙ c.in-None.is) (sym c.recorded.ensures ∙ ap (option_map (λ p. part_shown p.now)) c.in-Some-recorded.is))
 
 pub returns-in_ok-push-in-None-recorded-clause-step : goal.returns-in_ok-push-in-None-recorded-clause-step

@@ -1,13 +1,13 @@
 use Rattle.std.proofs.Common.{◌∙◌, sym, ap, subst, map}
 use Rattle.std.specs.FinMap.{from_entries}
-use Rattle.plain_machine.specs.Plain.{shown, registry_entry, IsRuling}
+use Rattle.plain_machine.specs.Plain.{shown, registry_entry, IsOutcome}
 use Rattle.custody_machine.specs.Machine.{Register, step}
 use Rattle.plain_machine.proofs.PlainSteps.{as_answered, registry_pushed, registers_again, registers}
 use Rattle.plain_machine.proofs.plain.PlainState.register.Goals as goal
 
 pub returns-in-Some-clause-step : goal.returns-in-Some-clause-step
 returns-in-Some-clause-step c = λ now.
-    subst (λ a. IsRuling a (shown c.args.self.now) (shown c.args.self.now) (step (shown c.args.self.now) (Register c.args.tld c.args.first_day) now)) (sym c.registered.ensures)
+    subst (λ a. IsOutcome a (shown c.args.self.now) (shown c.args.self.now) (step (shown c.args.self.now) (Register c.args.tld c.args.first_day) now)) (sym c.registered.ensures)
     (registers_again (shown c.args.self.now) c.args.tld c.args.first_day now c.in-Some.kept (sym c.first_day.ensures ∙ c.in-Some.is))
 
 pub returns-in_ok-push-in-None-clause-step : goal.returns-in_ok-push-in-None-clause-step

@@ -1,7 +1,7 @@
 use Rattle.custody_records.specs.Held.{records_of}
 use Rattle.custody_machine.proofs.Keeping.{read_of}
 use Rattle.custody_rules.proofs.Judged.{refuses_text}
-use Rattle.custody_rules.proofs.judge.judge_part.Goals as goal
+use Rattle.custody_rules.proofs.judging.judge_part.Goals as goal
 
 pub returns-in-Ok : goal.returns-in-Ok
 returns-in-Ok c = c.judge_named.ensures c.args.name.now (read_of c.args.name.now c.in-Ok.name c.in-Ok.ensures.name)

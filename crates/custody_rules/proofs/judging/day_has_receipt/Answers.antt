@@ -4,7 +4,7 @@ use Rattle.std.proofs.lemmas.Iterator.Search.{any_from_yields_List}
 use Rattle.custody_machine.specs.Machine.{is_receipt}
 use Rattle.custody_rules.specs.Judged.{tells}
 use Rattle.custody_rules.proofs.Notices.{some_notice}
-use Rattle.custody_rules.proofs.judge.day_has_receipt.Goals as goal
+use Rattle.custody_rules.proofs.judging.day_has_receipt.Goals as goal
 
 pub returns : goal.returns
 returns c =

@@ -3,9 +3,9 @@ use Rattle.std.specs.Prelude.{is_some}
 use Rattle.std.specs.FinMap.{get}
 use Rattle.deposit_name.specs.Name.{Name}
 use Rattle.custody_records.specs.Held.{records_of}
-use Rattle.custody_machine.specs.Custody.{Goes, Decides}
+use Rattle.custody_machine.specs.Rulings.{AddsPart, Makes, DecidesPart}
 use Rattle.custody_rules.proofs.Judged.{new_in_state, refuses, refuses_registry, goes}
-use Rattle.custody_rules.proofs.judge.judge_named.Goals as goal
+use Rattle.custody_rules.proofs.judging.judge_named.Goals as goal
 
 pub returns-in_default : goal.returns-in_default
 returns-in_default c = λ text named.
@@ -29,6 +29,6 @@ returns-in-Some-refusal_of_new c = λ text named.
 pub returns-in-None-refusal_of_new : goal.returns-in-None-refusal_of_new
 returns-in-None-refusal_of_new c = λ text named.
     let known = ap (λ (n : Name). get (records_of c.args.records.now).registries n.tld) (sym c.name.view_is) ∙ sym c.first_day.ensures ∙ c.in-Some.is in
-    subst (λ n. Decides (Goes n) (records_of c.args.records.now) text c.args.len c.args.now) (sym c.name.view_is)
+    subst (λ n. DecidesPart (Makes (AddsPart n)) (records_of c.args.records.now) text c.args.len c.args.now) (sym c.name.view_is)
     (goes (records_of c.args.records.now) text c.args.name.now c.args.len c.args.now named (sym c.in-None.ensures.found)
     (λ image bytes sized. sym (c.in-None-refusal_of_new.ensures.first image bytes sized known (new_in_state (records_of c.args.records.now) image c.args.name.now (sym c.in-None.ensures.found)))))

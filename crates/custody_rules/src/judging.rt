@@ -1,4 +1,4 @@
-//! How a part is judged by the records, before its bytes are looked at.
+//! How a command is judged by the records, before any volume is looked at.
 ghost use Rattle.std.specs.Prelude.{◌≡◌, ◌≢◌, ◌≤◌, ◌+◌, ◌-◌, ◌==◌, ◌&&◌, ◌||◌, ℕ, List, Ok, None, Some, not, nat_lt, true, length, find, count_by, is_some, IfSome, option_map, option_copied};
 ghost use Rattle.std.specs.List.{list_any};
 ghost use Rattle.std.specs.FinMap.{get};
@@ -10,30 +10,20 @@ ghost use Rattle.custody_machine.specs.Names.{is_same_text, read_name};
 ghost use Rattle.custody_machine.specs.SameValues.{is_same_kind};
 ghost use Rattle.custody_machine.specs.State.{places, at_place, has_notice};
 ghost use Rattle.custody_machine.specs.Stored.{state_in};
-ghost use Rattle.custody_machine.specs.Machine.{is_receipt, is_failure_of, is_verdict_of, recorded, max_part_len, receive_tests, first_standing};
+ghost use Rattle.custody_machine.specs.Machine.{Register, is_receipt, is_failure_of, is_verdict_of, recorded, max_part_len, receive_tests, first_standing};
 ghost use Rattle.custody_machine.specs.declared.answers.Refusal.TheVariants.{OtherBytes, VolumeFull};
-ghost use Rattle.custody_machine.specs.Custody.{Decides};
+ghost use Rattle.custody_machine.specs.Commands.{command_of};
+ghost use Rattle.custody_machine.specs.Rulings.{Decides, DecidesPart};
 ghost use Rattle.custody_rules.specs.Rulings.{ruling_of};
 ghost use Rattle.custody_rules.specs.Judged.{tells, recorded_under, is_of_other_kind, RulesRecorded};
 
 use crate::linked::has_failed;
-use custody_machine::Refusal;
-use custody_records::{Part, PartKey, Records};
-use deposit_name::{DepositName, Kind};
+use crate::{Change, Kept, Ruling};
+use custody_machine::{Command, Refusal};
+use custody_records::{Part, PartKey, Records, Registry};
+use deposit_name::{DepositName, Kind, Tld};
 use desk::{Notice, NoticeKind};
 use schedule::{Day, Sec};
-use vault_volume::Extent;
-
-/// What the records decide of a part, whatever its bytes.
-#[derive(Clone, Copy, Debug)]
-pub enum PartRuling<'a> {
-    /// It is refused.
-    Refuse(Refusal),
-    /// A part is held under the name, at these extents: its bytes decide.
-    Compare(&'a Part, &'a [Extent]),
-    /// The name is new, and nothing but room can refuse it.
-    Go(DepositName),
-}
 
 /// The places in the series of a revision's parts.
 const PLACES: [u8; 8] = [1, 2, 3, 4, 5, 6, 7, 8];
@@ -41,41 +31,64 @@ const PLACES: [u8; 8] = [1, 2, 3, 4, 5, 6, 7, 8];
 /// The most bytes of a part.
 const MAX_PART_LEN: usize = 1_048_576;
 
-/// Judges a part of so many bytes that is sent under a name.
-pub fn judge_part<'a>(records: &'a Records, name: &[u8], len: usize, now: Sec) -> PartRuling<'a>
-    ensures { Decides (ruling_of result) (records_of records.now) name.now len now }
+/// Judges a command by the records: the least refusal that they decide, the record that answers a
+/// repeat, the part whose bytes decide, or the one change that is to be made.
+pub fn judge<'a>(records: &'a Records, command: &Command<'_>, now: Sec) -> Ruling<'a>
+    ensures { Decides (ruling_of result) (records_of records.now) (command_of command.now) now }
 {
-    match DepositName::parse(name) {
-        Ok(name) => judge_named(records, &name, len, now),
-        Err(fault) => PartRuling::Refuse(Refusal::NameRefused(fault)),
+    match command {
+        Command::Register(tld, first_day) => judge_registry(records, *tld, *first_day),
+        Command::Receive(name, bytes) => judge_part(records, name, bytes.len(), now),
     }
 }
 
-fn judge_named<'a>(records: &'a Records, name: &DepositName, len: usize, now: Sec) -> PartRuling<'a>
-    ensures { (text : List ℕ) → read_name text ≡ Ok name.now → Decides (ruling_of result) (records_of records.now) text len now }
+fn judge_registry(records: &Records, tld: Tld, first_day: Day) -> Ruling<'_>
+    ensures { (now : ℕ) → Decides (ruling_of result) (records_of records.now) (Register tld first_day) now }
+{
+    match records.first_day(&tld) {
+        Some(kept) => Ruling::Repeat(Kept::Registry(Registry {
+            tld,
+            first_day: kept,
+        })),
+        None => Ruling::Make(Change::Registry(Registry { tld, first_day })),
+    }
+}
+
+/// Judges a part of so many bytes that is sent under a name.
+pub fn judge_part<'a>(records: &'a Records, name: &[u8], len: usize, now: Sec) -> Ruling<'a>
+    ensures { DecidesPart (ruling_of result) (records_of records.now) name.now len now }
+{
+    match DepositName::parse(name) {
+        Ok(name) => judge_named(records, &name, len, now),
+        Err(fault) => Ruling::Refuse(Refusal::NameRefused(fault)),
+    }
+}
+
+fn judge_named<'a>(records: &'a Records, name: &DepositName, len: usize, now: Sec) -> Ruling<'a>
+    ensures { (text : List ℕ) → read_name text ≡ Ok name.now → DecidesPart (ruling_of result) (records_of records.now) text len now }
 {
     let Some(first_day) = records.first_day(&name.tld) else {
-        return PartRuling::Refuse(Refusal::RegistryUnknown);
+        return Ruling::Refuse(Refusal::RegistryUnknown);
     };
     match recorded(records, name) {
         Some(part) => judge_recorded(part, len),
         None => match refusal_of_new(records, name, first_day, len, now) {
-            Some(refusal) => PartRuling::Refuse(refusal),
-            None => PartRuling::Go(*name),
+            Some(refusal) => Ruling::Refuse(refusal),
+            None => Ruling::Make(Change::Part(*name)),
         },
     }
 }
 
 // A part that is recorded under the name already.
-fn judge_recorded(part: &Part, len: usize) -> PartRuling<'_>
+fn judge_recorded(part: &Part, len: usize) -> Ruling<'_>
     ensures { RulesRecorded (ruling_of result) part.now len }
 {
     if is_out_of_size(len) {
-        return PartRuling::Refuse(Refusal::Size);
+        return Ruling::Refuse(Refusal::Size);
     }
     match &part.extents {
-        Some(extents) => PartRuling::Compare(part, extents),
-        None => PartRuling::Refuse(Refusal::DroppedAfterKeeping),
+        Some(extents) => Ruling::Compare(part, extents),
+        None => Ruling::Refuse(Refusal::DroppedAfterKeeping),
     }
 }
 

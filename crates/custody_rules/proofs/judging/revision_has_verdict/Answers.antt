@@ -4,7 +4,7 @@ use Rattle.std.proofs.lemmas.Iterator.Search.{any_from_yields_List}
 use Rattle.custody_machine.specs.Machine.{is_verdict_of}
 use Rattle.custody_rules.specs.Judged.{tells}
 use Rattle.custody_rules.proofs.Notices.{some_notice}
-use Rattle.custody_rules.proofs.judge.revision_has_verdict.Goals as goal
+use Rattle.custody_rules.proofs.judging.revision_has_verdict.Goals as goal
 
 pub returns : goal.returns
 returns c =

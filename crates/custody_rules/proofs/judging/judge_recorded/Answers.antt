@@ -2,7 +2,7 @@ use Rattle.std.proofs.Common.{Some, Vec, Global, ◌∙◌, sym, ap}
 use Rattle.std.specs.Prelude.{option_map}
 use Rattle.extent_map.specs.declared.extent.Extent.{Extent}
 use Rattle.custody_rules.proofs.Judged.{refuses_size, refuses_dropped, compares}
-use Rattle.custody_rules.proofs.judge.judge_recorded.Goals as goal
+use Rattle.custody_rules.proofs.judging.judge_recorded.Goals as goal
 
 pub returns-then-is_out_of_size : goal.returns-then-is_out_of_size
 returns-then-is_out_of_size c = λ records text name now under. refuses_size records text name c.args.part.now c.args.len now under (sym c.is_out_of_size.ensures ∙ c.if-is_out_of_size.true)

@@ -1,0 +1,24 @@
+use Rattle.std.proofs.Common.{rules, ◌≡◌, ◌∙◌, ◌++◌, codes, refl, ap}
+use Rattle.deposit_name.specs.Name.{decimal}
+use Rattle.custody_machine.specs.Codes.{Row, refusal_row}
+use Rattle.custody_machine.specs.Machine.{Refusal, NameRefused, RegistryUnknown, DateOutOfRange, Size, OtherBytes, DroppedAfterKeeping, RevisionNotDue, AlreadyStated, TypeDiffers, PartOutOfOrder, VolumeFull, refusal_number}
+use Rattle.custody_machine.proofs.answers.Refusal.code.Goals as goal
+
+numbers_agree : (refusal : Refusal) → (refusal_row refusal).0 ≡ codes "Q" ++ decimal (refusal_number refusal)
+numbers_agree (NameRefused fault) = refl
+numbers_agree RegistryUnknown = refl
+numbers_agree DateOutOfRange = refl
+numbers_agree Size = refl
+numbers_agree OtherBytes = refl
+numbers_agree DroppedAfterKeeping = refl
+numbers_agree RevisionNotDue = refl
+numbers_agree AlreadyStated = refl
+numbers_agree TypeDiffers = refl
+numbers_agree PartOutOfOrder = refl
+numbers_agree VolumeFull = refl
+
+pub returns-clause-row : goal.returns-clause-row
+returns-clause-row c = search rules
+
+pub returns-clause-numbered : goal.returns-clause-numbered
+returns-clause-numbered c = ap (λ (row : Row). row.number) (returns-clause-row c) ∙ numbers_agree c.args.self.now

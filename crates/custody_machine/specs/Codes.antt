@@ -1,0 +1,81 @@
+-- What a refusal or a failure is told as: one row each.
+use Rattle.std.specs.Prelude.{ℕ, List, ◌++◌, Option, Some, codes}
+use Rattle.custody_machine.specs.declared.answers.Refusal.{Refusal}
+use Rattle.custody_machine.specs.declared.answers.Refusal.TheVariants.{NameRefused, RegistryUnknown, DateOutOfRange, Size, OtherBytes, DroppedAfterKeeping, RevisionNotDue, AlreadyStated, TypeDiffers, PartOutOfOrder, VolumeFull}
+use Rattle.custody_machine.specs.declared.answers.Fault.{Fault}
+use Rattle.custody_machine.specs.declared.answers.Fault.TheVariants.{NoMemory, VolumeFailed, StoreFailed, Closed, Damaged}
+use Rattle.custody_machine.specs.declared.codes.Code.{Code}
+use Rattle.custody_machine.specs.declared.codes.Status.{Status}
+use Rattle.custody_machine.specs.declared.codes.Status.TheVariants.{Done, Refused, Misused, Failed}
+use Rattle.custody_machine.specs.declared.codes.HttpStatus.{HttpStatus}
+use Rattle.custody_machine.specs.declared.codes.HttpStatus.TheVariants.{BadRequest, NotFound, Conflict, Gone, ContentTooLarge, InternalServerError, ServiceUnavailable, InsufficientStorage}
+
+-- the exit status of the program
+abbrev pub status_number : Status → ℕ
+status_number Done = 0
+status_number Refused = 1
+status_number Misused = 2
+status_number Failed = 3
+
+-- the status code of a response (RFC 9110, section 15; of the last RFC 4918, section 11.5)
+abbrev pub http_number : HttpStatus → ℕ
+http_number BadRequest = 400
+http_number NotFound = 404
+http_number Conflict = 409
+http_number Gone = 410
+http_number ContentTooLarge = 413
+http_number InternalServerError = 500
+http_number ServiceUnavailable = 503
+http_number InsufficientStorage = 507
+
+-- number and text, how the program ends, and the status of a response where there is one
+pub record Row : Type 0 where
+  pub number : List ℕ
+  pub text : List ℕ
+  pub status : Status
+  pub http : Option HttpStatus
+
+-- number, text, and the status of a response
+abbrev pub refusal_row : Refusal → List ℕ × List ℕ × HttpStatus
+refusal_row (NameRefused fault) = (codes "Q1", codes "name refused", BadRequest)
+refusal_row RegistryUnknown = (codes "Q2", codes "registry unknown", NotFound)
+refusal_row DateOutOfRange = (codes "Q3", codes "date out of range", Conflict)
+refusal_row Size = (codes "Q4", codes "size", ContentTooLarge)
+refusal_row OtherBytes = (codes "Q5", codes "other bytes under this name", Conflict)
+refusal_row DroppedAfterKeeping = (codes "Q6", codes "dropped after keeping", Gone)
+refusal_row RevisionNotDue = (codes "Q7", codes "revision not due", Conflict)
+refusal_row AlreadyStated = (codes "Q8", codes "already stated", Conflict)
+refusal_row TypeDiffers = (codes "Q9", codes "type differs", Conflict)
+refusal_row PartOutOfOrder = (codes "Q10", codes "part out of order", Conflict)
+refusal_row VolumeFull = (codes "Q11", codes "volume full", InsufficientStorage)
+
+abbrev pub fault_row : Fault → List ℕ × List ℕ × HttpStatus
+fault_row NoMemory = (codes "C1", codes "no memory", ServiceUnavailable)
+fault_row VolumeFailed = (codes "C2", codes "volume failed", ServiceUnavailable)
+fault_row StoreFailed = (codes "C3", codes "store failed", ServiceUnavailable)
+fault_row Closed = (codes "C4", codes "closed", ServiceUnavailable)
+fault_row (Damaged damage) = (codes "C5", codes "damaged", InternalServerError)
+
+abbrev pub refusal_code : Refusal → Row
+refusal_code refusal = record {
+  number = (refusal_row refusal).0;
+  text = (refusal_row refusal).1;
+  status = Refused;
+  http = Some (refusal_row refusal).2;
+}
+
+abbrev pub fault_code : Fault → Row
+fault_code fault = record {
+  number = (fault_row fault).0;
+  text = (fault_row fault).1;
+  status = Failed;
+  http = Some (fault_row fault).2;
+}
+
+-- the row that a code is
+abbrev pub row_of : Code → Row
+row_of code = record { number = code.number.now; text = code.text.now; status = code.status; http = code.http }
+
+-- number, space, text
+abbrev pub row_text : Row → List ℕ
+row_text row = row.number ++ codes " " ++ row.text

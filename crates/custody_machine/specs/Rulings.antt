@@ -1,0 +1,79 @@
+-- What the records decide of a command, whatever the volume holds: one definition for every command.
+use Rattle.std.specs.Prelude.{◌≡◌, ◌≢◌, ℕ, List, [], length, None, Some, true, false, Ok}
+use Rattle.std.specs.FinMap.{get}
+use Rattle.deposit_name.specs.Name.{Name}
+use Rattle.extent_map.specs.declared.extent.Extent.{Extent}
+use Rattle.vault_volume.specs.Extents.{part_bytes}
+use Rattle.custody_records.specs.Records.{PartRecord, Records, key_of}
+use Rattle.custody_machine.specs.Names.{read_name}
+use Rattle.custody_machine.specs.State.{State}
+use Rattle.custody_machine.specs.Machine.{Command, Register, Receive, Record, OfRegistry, OfPart, Outcome, Refuse, Accept, Refusal, OtherBytes, VolumeFull, step, received_part, with_registry, with_part}
+use Rattle.custody_machine.specs.Stored.{part_of, state_in}
+
+-- ---- what may be decided
+
+-- the one change of the records that a command makes
+pub data Change : Type 0 where
+  -- a registry is taken on, with the first day of its deposits
+  AddsRegistry : (tld : List ℕ) → (first_day : ℕ) → Change
+  -- a part is kept under this name, with the bytes of the command
+  AddsPart : Name → Change
+
+pub data Ruling : Type 0 where
+  Refuses : Refusal → Ruling
+  -- it is a repeat: this record answers it
+  Repeats : Record → Ruling
+  -- a part is held under its name at these extents: the bytes there decide
+  ByBytes : Name → PartRecord → List Extent → Ruling
+  -- it makes this change, unless there is no room
+  Makes : Change → Ruling
+
+-- ---- when it is decided
+
+-- the bytes that a command brings
+abbrev pub bytes_of : Command → List ℕ
+bytes_of (Register tld first_day) = []
+bytes_of (Receive name bytes) = bytes
+
+-- the machine has this outcome for the command in the state of the records, whatever the volume holds
+abbrev pub Gives : Records → Command → ℕ → (State → Outcome) → Type 0
+Gives records command now outcome = (image : List ℕ) → step (state_in records image) command now ≡ outcome (state_in records image)
+
+-- the command brings a part under this name
+abbrev pub IsUnder : Command → Name → Type 0
+IsUnder (Register tld first_day) name = ⊥
+IsUnder (Receive text bytes) name = read_name text ≡ Ok name
+
+-- the part of the command's name is recorded, and held at these extents
+pub record IsHeldUnder (records : Records) (command : Command) (name : Name) (part : PartRecord) (extents : List Extent) : Type 0 where
+  pub named : IsUnder command name
+  pub recorded : get records.parts (key_of name) ≡ Some part
+  pub kind : part.kind ≡ name.kind
+  pub held : part.extents ≡ Some extents
+
+-- the same bytes are a repeat, and any others are refused
+abbrev pub AreCompared : Records → Command → ℕ → Name → PartRecord → List Extent → Type 0
+AreCompared records command now name part extents = (image : List ℕ) →
+    (part_bytes image extents part.len ≡ bytes_of command → step (state_in records image) command now ≡ Accept (record { entry = OfPart (key_of name) (part_of image part); is_repeat = true }) (state_in records image))
+    × (part_bytes image extents part.len ≢ bytes_of command → step (state_in records image) command now ≡ Refuse OtherBytes)
+
+-- what the command asks for is this change, and the records have it not
+abbrev pub IsNew : Change → Records → Command → Type 0
+IsNew (AddsRegistry tld first_day) records command = (command ≡ Register tld first_day) × (get records.registries tld ≡ None)
+IsNew (AddsPart name) records command = IsUnder command name × (get records.parts (key_of name) ≡ None)
+
+-- a change is accepted with these bytes at a moment, and made
+abbrev pub made : Change → List ℕ → ℕ → State → Outcome
+made (AddsRegistry tld first_day) bytes now state = Accept (record { entry = OfRegistry tld first_day; is_repeat = false }) (with_registry state tld first_day)
+made (AddsPart name) bytes now state = Accept (record { entry = OfPart (key_of name) (received_part name bytes now); is_repeat = false }) (with_part state (key_of name) (received_part name bytes now))
+
+-- The ruling of a command. (That the bytes differ is for the volume to say, and that there is no room for its map.)
+abbrev pub Decides : Ruling → Records → Command → ℕ → Type 0
+Decides (Refuses refusal) records command now = (refusal ≢ OtherBytes) × (refusal ≢ VolumeFull) × Gives records command now (λ state. Refuse refusal)
+Decides (Repeats entry) records command now = Gives records command now (λ state. Accept (record { entry = entry; is_repeat = true }) state)
+Decides (ByBytes name part extents) records command now = IsHeldUnder records command name part extents × AreCompared records command now name part extents
+Decides (Makes change) records command now = IsNew change records command × Gives records command now (made change (bytes_of command) now)
+
+-- the ruling of a part by its name and length: it is that of any bytes so long
+abbrev pub DecidesPart : Ruling → Records → List ℕ → ℕ → ℕ → Type 0
+DecidesPart ruling records name len now = (bytes : List ℕ) → length bytes ≡ len → Decides ruling records (Receive name bytes) now

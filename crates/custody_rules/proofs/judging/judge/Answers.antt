@@ -1,0 +1,16 @@
+use Rattle.std.proofs.Common.{refl, sym, subst}
+use Rattle.custody_records.specs.Held.{records_of}
+use Rattle.custody_machine.specs.Commands.{command_of}
+use Rattle.custody_machine.specs.Rulings.{Decides}
+use Rattle.custody_rules.specs.Rulings.{ruling_of}
+use Rattle.custody_rules.proofs.judging.judge.Goals as goal
+
+pub returns-in-Register : goal.returns-in-Register
+returns-in-Register c =
+    subst (λ command. Decides (ruling_of c.judge_registry.result) (records_of c.args.records.now) (command_of command) c.args.now) (sym c.in-Register.is)
+    (c.judge_registry.ensures c.args.now)
+
+pub returns-in-Receive : goal.returns-in-Receive
+returns-in-Receive c =
+    subst (λ command. Decides (ruling_of c.judge_part.result) (records_of c.args.records.now) (command_of command) c.args.now) (sym c.in-Receive.is)
+    (c.judge_part.ensures c.in-Receive.bytes.now refl)

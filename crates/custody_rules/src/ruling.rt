@@ -1,0 +1,33 @@
+//! What records decide of a command.
+use custody_machine::Refusal;
+use custody_records::{Part, Registry};
+use deposit_name::DepositName;
+use vault_volume::Extent;
+
+/// What the records decide of a command, whatever the volume holds.
+#[derive(Clone, Copy, Debug)]
+pub enum Ruling<'a> {
+    /// It is refused.
+    Refuse(Refusal),
+    /// It is a repeat, and answered by this record.
+    Repeat(Kept),
+    /// A part is held under its name, at these extents: the bytes there decide.
+    Compare(&'a Part, &'a [Extent]),
+    /// It makes this change, and nothing but room can refuse it.
+    Make(Change),
+}
+
+/// A record that answers a repeat.
+#[derive(Clone, Copy, Debug, PartialEq)]
+pub enum Kept {
+    Registry(Registry),
+}
+
+/// The one change of the records that a command makes.
+#[derive(Clone, Copy, Debug, PartialEq)]
+pub enum Change {
+    /// A registry is taken on.
+    Registry(Registry),
+    /// A part is kept under this name, with the bytes of the command.
+    Part(DepositName),
+}
