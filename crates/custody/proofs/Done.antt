@@ -21,6 +21,7 @@ use Rattle.custody_machine.specs.State.{State}
 use Rattle.custody_machine.specs.History.{is_open_after}
 use Rattle.custody_machine.specs.Stored.{IsVolumeOf, IsGood, state_in}
 use Rattle.custody_machine.specs.Moves.{RestsOnBytes}
+use Rattle.custody_machine.specs.Rulings.{bytes_of}
 use Rattle.custody_machine.specs.Custody.{IsInOrder, IsInStore}
 use Rattle.custody_machine.specs.declared.answers.Fault.{Fault}
 use Rattle.custody_machine.specs.declared.answers.Refusal.{Refusal}
@@ -31,12 +32,12 @@ use Rattle.custody_machine.proofs.Composed.{IsChange, nothing_in}
 use Rattle.custody.specs.declared.answers.Reply.{Reply}
 use Rattle.custody.specs.declared.answers.Refused as not_accepted
 use Rattle.custody.specs.declared.answers.Refused.TheVariants as refused
-use Rattle.custody.specs.declared.holdings.Holdings.{Holdings}
-use Rattle.custody.specs.Answers.{bytes_of, answer_of, stays_open, uses_volume}
+use Rattle.custody.specs.declared.keeper.Keeper.{Keeper}
+use Rattle.custody.specs.Answers.{answer_of, stays_open, uses_volume}
 use Rattle.custody.specs.Ruled.{IsRuled}
 use Rattle.custody.specs.Shown.{IsShown, HoldsBytes}
-use Rattle.custody.specs.Holdings.{recorded, stored, image_of, failures_of, left_by, left_since, KeepsOrder, KeepsImage, KeepsRows, IsSafe, IsUnwritten, HasDone}
-use Rattle.custody.proofs.HoldingLemmas.{on_ok, stays_still, leaves_more, either_form, form_then, rows_then, safe_done, safe_undone, image_same, order_same, good_before, does_nothing, does_change, is_in_doubt}
+use Rattle.custody.specs.Keeper.{recorded, stored, image_of, failures_of, left_by, left_since, KeepsOrder, KeepsImage, KeepsRows, IsSafe, IsUnwritten, HasDone}
+use Rattle.custody.proofs.KeeperLemmas.{on_ok, stays_still, leaves_more, either_form, form_then, rows_then, safe_done, safe_undone, image_same, order_same, good_before, does_nothing, does_change, is_in_doubt}
 
 -- the machine closes where the code does
 pub opens_alike : (command : Command) (answer : Result Reply not_accepted.Refused) → stays_open answer ≡ is_open_after (answer_of command answer)
@@ -58,10 +59,10 @@ fault_not_full fault e = cc
 pub refusal_not_full : (refusal : Refusal) → refusal ≢ VolumeFull → ◌≢◌ {A = Result Reply not_accepted.Refused} (Err (refused.Refusal refusal)) (Err (refused.Refusal VolumeFull))
 refusal_not_full refusal other e = let same : refusal ≡ VolumeFull = cc in other same
 
-module _ {V S : Type 0} {g : volume.Ghosts V} (database : Ghosts S) (old : Holdings V S g) (order : KeepsOrder old) (command : Command) (now : ℕ) where
+module _ {V S : Type 0} {g : volume.Ghosts V} (database : Ghosts S) (old : Keeper V S g) (order : KeepsOrder old) (command : Command) (now : ℕ) where
   -- ---- nothing was written: it is refused, it is a repeat, or it failed before the commit and is open still
 
-  module _ (new : Holdings V S g) (same : recorded new ≡ recorded old) (store_same : new.store ≡ old.store) (free : SameFree (IsFree old.vault) (IsFree new.vault)) (unwritten : g.tells → IsUnwritten old new) where
+  module _ (new : Keeper V S g) (same : recorded new ≡ recorded old) (store_same : new.store ≡ old.store) (free : SameFree (IsFree old.vault) (IsFree new.vault)) (unwritten : g.tells → IsUnwritten old new) where
     pub reads_done : (answer : Result Reply not_accepted.Refused) → IsSafe old command answer new → IsRuled (recorded old) command now answer (recorded new)
         → IfOk answer (λ reply. IsShown (recorded new) reply.record) → (g.tells → IfOk answer (λ reply. HoldsBytes (image_of new) reply.record (bytes_of command)))
         → (g.tells → Answers (state_in (recorded old) (image_of old)) command now (answer_of command answer) (state_in (recorded old) (image_of old)) × RestsOnBytes (recorded old) (image_of old) command now (answer_of command answer))
@@ -88,7 +89,7 @@ module _ {V S : Type 0} {g : volume.Ghosts V} (database : Ghosts S) (old : Holdi
   -- ---- nothing was called
 
   module _ (r : held.Records) (same : records_of r ≡ recorded old) (answer : Result Reply not_accepted.Refused) (stays : stays_open answer ≡ true) where
-    abbrev resting : Holdings V S g
+    abbrev resting : Keeper V S g
     resting = record { vault = old.vault; store = old.store; records = r }
 
     pub rests_done : answer ≢ Err (refused.Refusal VolumeFull) → IsRuled (recorded old) command now answer (records_of r)
@@ -129,7 +130,7 @@ module _ {V S : Type 0} {g : volume.Ghosts V} (database : Ghosts S) (old : Holdi
   -- ---- a command that is one commit
 
   -- Its records and its reply are the machine's. What it wrote before lies in free blocks, and a stop after it leaves all but the blocks that are free then.
-  pub record IsOneChange (new : Holdings V S g) (changed : Records) (reply : machine.Reply) : Type 0 where
+  pub record IsOneChange (new : Keeper V S g) (changed : Records) (reply : machine.Reply) : Type 0 where
     pub uncalled : uses_volume command ≡ false → volume_of new.vault ≡ volume_of old.vault
     pub failures : failures_of new ≡ failures_of old
     pub in_order : IsInOrder changed (g.size (volume_of new.vault)) (failures_of new) (IsFree new.vault)
@@ -161,7 +162,7 @@ module _ {V S : Type 0} {g : volume.Ghosts V} (database : Ghosts S) (old : Holdi
     after = λ _ kept. kept.elsewhere;
   }
 
-  module _ (new : Holdings V S g) (changed : Records) (reply : machine.Reply) (is : IsOneChange new changed reply) {A E : Type 0} (result : Result A E) (after : Rows)
+  module _ (new : Keeper V S g) (changed : Records) (reply : machine.Reply) (is : IsOneChange new changed reply) {A E : Type 0} (result : Result A E) (after : Rows)
       (commits : Commits (stored database old) (stored database new) after result) (means : form_of (stored database old).rows ≡ InForm (recorded old) → form_of after ≡ InForm changed) where
     during : g.tells → KeepsImage old → (j : List ℕ) → left_since old new j → DiffersOnlyIn (IsFree old.vault) (image_of old) j
     during tells volume = each_of g.moment g.left_at (volume_of old.vault) (volume_of new.vault) _ (is.any_moment tells volume)

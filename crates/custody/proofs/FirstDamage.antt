@@ -1,22 +1,28 @@
 -- That nothing before it is true, where an opening tells of damage.
-use Rattle.std.proofs.Common.{◌≡◌, ℕ, pos, ◌*◌, ◌<◌, ◌^◌, List, [], ◌∷◌, length, Option, Some, None, Bool, true, false, cond, refl, sym, ◌∙◌, ap}
-use Rattle.std.specs.Prelude.{option_map}
+use Rattle.std.proofs.Common.{◌≡◌, ℕ, pos, ◌*◌, ◌<◌, ◌^◌, List, [], ◌∷◌, length, Option, Some, None, Bool, true, false, cond, refl, sym, ◌∙◌, ap, subst}
+use Rattle.std.specs.Prelude.{option_map, is_some}
 use Rattle.std.specs.Str.{bytes_eq}
 use Rattle.std.proofs.lemmas.Slice.Eq.{bytes_eq-Decides}
 use Rattle.vault_volume.specs.Image.{bytes_at}
 use Rattle.vault_volume.specs.Head.{head_of}
 use Rattle.custody_records.specs.declared.meta.Meta.{Meta}
-use Rattle.custody_records.specs.Rows.{MetaRow, Rows}
-use Rattle.custody_records.specs.declared.damage.Damage.TheVariants as rows_damage
-use Rattle.custody_records.specs.Form.{natural, number_in, is_number, is_known, OutOfForm, form_by, form_of}
+use Rattle.custody_records.specs.Rows.{MetaRow, Rows, first_meta}
+use Rattle.custody_records.specs.declared.damage.Damage as rows_damage
+use Rattle.custody_records.specs.declared.damage.Damage.TheVariants as form
+use Rattle.custody_records.specs.Form.{natural, number_in, is_number, is_known, OutOfForm, InForm, form_by, form_of}
 use Rattle.custody_records.specs.Written.{digits_of}
 use Rattle.custody_records.specs.Typed as typed
-use Rattle.custody_store.specs.Reading.{first_meta}
 use Rattle.custody_machine.specs.declared.damage.Damage.TheVariants as wrong
-use Rattle.custody_machine.specs.Damage.{meta_of, IsDamaged, NoneBefore}
+use Rattle.custody_machine.specs.Damage.{IsDamaged, NoneBefore}
 use Rattle.custody_machine.proofs.Damages.{none_before_all, none_before_next}
 use Rattle.custody_machine.proofs.Heads.{digits_by_head}
-use Rattle.custody.specs.Opening.{HasNoRecord}
+use Rattle.custody_machine.specs.declared.damage.Damage.{Damage}
+use Rattle.custody_machine.specs.Stored.{AreInRange, AreOnce}
+use Rattle.custody_records.specs.Records.{Records}
+use Rattle.custody_records.proofs.FormLemmas.{InForm-injective}
+use Rattle.custody_rules.specs.Breaks.{BreaksFirst}
+use Rattle.custody.specs.Opening.{HasNoRecord, IsRowDamage}
+use Rattle.custody.proofs.Opened.{broken_damaged}
 
 -- a row that was found is there
 pub has_record : (rows : Rows) (found : Meta) → Some found ≡ option_map typed.meta_of (first_meta rows) → ¬ HasNoRecord rows
@@ -25,14 +31,32 @@ has_record rows found is = by rows.meta refl is
     by : (metas : Option (List MetaRow)) → rows.meta ≡ metas → Some found ≡ option_map typed.meta_of (first_meta (record rows { meta = metas })) → ¬ HasNoRecord rows
     by None at is = cc
     by (Some []) at is = cc
-    by (Some (row ∷ others)) at is = λ none. let some : meta_of rows ≡ Some row = ap (λ metas. meta_of (record rows { meta = metas })) at in cc
+    by (Some (row ∷ others)) at is = λ none. let some : first_meta rows ≡ Some row = ap (λ metas. first_meta (record rows { meta = metas })) at in cc
+
+-- and where none was found there is none
+pub has_none : (rows : Rows) → None ≡ option_map typed.meta_of (first_meta rows) → HasNoRecord rows
+has_none rows is = by rows.meta refl is
+  where
+    by : (metas : Option (List MetaRow)) → rows.meta ≡ metas → None ≡ option_map typed.meta_of (first_meta (record rows { meta = metas })) → HasNoRecord rows
+    by None at is = ap (λ metas. first_meta (record rows { meta = metas })) at
+    by (Some []) at is = ap (λ metas. first_meta (record rows { meta = metas })) at
+    by (Some (row ∷ others)) at is = cc
+
+-- whether one was found
+pub is_there : (rows : Rows) (found : Option Meta) → found ≡ option_map typed.meta_of (first_meta rows) → is_some found ≡ is_some (first_meta rows)
+is_there rows found is = ap is_some is ∙ by rows.meta
+  where
+    by : (metas : Option (List MetaRow)) → is_some (option_map typed.meta_of (first_meta (record rows { meta = metas }))) ≡ is_some (first_meta (record rows { meta = metas }))
+    by None = refl
+    by (Some []) = refl
+    by (Some (row ∷ others)) = refl
 
 -- a schema that is not known is told, whatever the tables are
 pub unknown_schema : (rows : Rows) (found : Meta) (image : List ℕ) → Some found ≡ option_map typed.meta_of (first_meta rows) → is_number 1 found.schema_no ≡ false → IsDamaged wrong.Schema rows image
 unfolding form_of
 unknown_schema rows found image is schema = by rows.meta refl is
   where
-    by : (metas : Option (List MetaRow)) → rows.meta ≡ metas → Some found ≡ option_map typed.meta_of (first_meta (record rows { meta = metas })) → form_by metas rows ≡ OutOfForm rows_damage.Schema
+    by : (metas : Option (List MetaRow)) → rows.meta ≡ metas → Some found ≡ option_map typed.meta_of (first_meta (record rows { meta = metas })) → form_by metas rows ≡ OutOfForm form.Schema
     by None at is = cc
     by (Some []) at is = cc
     by (Some (row ∷ others)) at is =
@@ -64,7 +88,7 @@ module _ (rows : Rows) (found : Meta) (image : List ℕ) (is : Some found ≡ op
         by (Some []) at is = cc
         by (Some (row ∷ others)) at is =
             let same : found ≡ typed.meta_of row = cc in
-            let some : meta_of rows ≡ Some row = ap (λ metas. meta_of (record rows { meta = metas })) at in
+            let some : first_meta rows ≡ Some row = ap (λ metas. first_meta (record rows { meta = metas })) at in
             let at_row : other.0 ≡ row = cc in
             other.5 (record {
               number_is = ap (λ (m : MetaRow). m.number) at_row ∙ digits_read row.number number (ap (λ (m : Meta). m.number) (sym same) ∙ same_number) ∙ digits_by_head number other.1 (sym head ∙ other.4);
@@ -73,3 +97,34 @@ module _ (rows : Rows) (found : Meta) (image : List ℕ) (is : Some found ≡ op
 
     pub none_before_schema : (size : ℕ) → length image ≡ 4096 * size → found.number ≡ Some number → found.blocks ≡ pos size → NoneBefore wrong.Schema rows image
     none_before_schema size long same_number same_blocks = none_before_next wrong.Volume wrong.Schema rows image refl none_before_volume (no_other_volume size long same_number same_blocks)
+
+-- ---- rows whose volume is found and whose schema is known
+
+-- records in form that break a rule
+module _ (records : Records) (rows : Rows) (is : form_of rows ≡ InForm records) where
+  in_form_not : (why : rows_damage.Damage) → ¬ (form_of rows ≡ OutOfForm why)
+  in_form_not why out = let clash : InForm records ≡ OutOfForm why = sym is ∙ out in cc
+
+  module _ (image : List ℕ) (before : NoneBefore wrong.Schema rows image) where
+    before_range : NoneBefore wrong.Extent rows image
+    before_range = none_before_next wrong.Form wrong.Extent rows image refl (none_before_next wrong.Schema wrong.Form rows image refl before (in_form_not form.Schema)) (in_form_not form.Form)
+
+    before_once : AreInRange records → NoneBefore wrong.Overlap rows image
+    before_once range = none_before_next wrong.Extent wrong.Overlap rows image refl before_range (λ other. other.2 (subst AreInRange (InForm-injective records other.0 (sym is ∙ other.1)) range))
+
+    before_linked : AreInRange records → AreOnce records → NoneBefore wrong.Link rows image
+    before_linked range once = none_before_next wrong.Overlap wrong.Link rows image refl (before_once range) (λ other. other.2 (subst AreOnce (InForm-injective records other.0 (sym is ∙ other.1)) once))
+
+  first_broken : (damage : Damage) → BreaksFirst damage records → (image : List ℕ) → NoneBefore wrong.Schema rows image → NoneBefore damage rows image
+  first_broken wrong.NoRecord breaks image before = absurd breaks
+  first_broken wrong.Head breaks image before = absurd breaks
+  first_broken wrong.Volume breaks image before = absurd breaks
+  first_broken wrong.Schema breaks image before = absurd breaks
+  first_broken wrong.Form breaks image before = absurd breaks
+  first_broken wrong.Extent breaks image before = before_range image before
+  first_broken wrong.Overlap breaks image before = before_once image before breaks.0
+  first_broken wrong.Link breaks image before = before_linked image before breaks.0 breaks.1
+  first_broken wrong.Digest breaks image before = absurd breaks
+
+  pub broken_rows : (damage : Damage) → BreaksFirst damage records → IsRowDamage rows damage
+  broken_rows damage breaks = record { is_true = λ image. broken_damaged damage records rows image is breaks; first = first_broken damage breaks }

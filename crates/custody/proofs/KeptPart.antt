@@ -20,39 +20,40 @@ use Rattle.custody_machine.specs.Machine as machine
 use Rattle.custody_machine.specs.Machine.{Receive, OfPart, Accept, Accepted, received_part, step}
 use Rattle.custody_machine.proofs.Keeping.{insert_here}
 use Rattle.custody_machine.specs.Stored.{state_in}
-use Rattle.custody_machine.specs.Custody.{Decides, Goes, IsInOrder, IsPlaced, IsSettled, staged_record}
+use Rattle.custody_machine.specs.Rulings.{AddsPart, Makes, Decides}
+use Rattle.custody_machine.specs.Custody.{IsInOrder, IsPlaced, IsSettled, staged_record}
 use Rattle.custody_machine.proofs.Composed.{IsChange, nothing_in, has_size, reads_nothing, part_changes, part_ruled, part_in_order}
 use Rattle.custody.specs.declared.answers.Record.{Record}
-use Rattle.custody.specs.declared.holdings.Holdings.{Holdings}
+use Rattle.custody.specs.declared.keeper.Keeper.{Keeper}
 use Rattle.custody.specs.Answers.{answer_of}
 use Rattle.custody.specs.Ruled.{IsRuled, received_record}
 use Rattle.custody.specs.Shown.{ShowsPart, IsShown, HoldsBytes}
-use Rattle.custody.specs.Holdings.{recorded, image_of, failures_of, left_by, KeepsOrder, KeepsImage}
+use Rattle.custody.specs.Keeper.{recorded, image_of, failures_of, left_by, KeepsOrder, KeepsImage}
 use Rattle.custody.proofs.Done.{IsOneChange}
 use Rattle.custody.proofs.PartLemmas.{part_means}
 use Rattle.custody.proofs.ShownLemmas.{shown_of, holds_of, entry_of}
 
-module _ {V S : Type 0} {g : volume.Ghosts V} (old new : Holdings V S g) (text bytes : List ℕ) (now : ℕ) (n : Name) (order : KeepsOrder old) (ruled : Decides (Goes n) (recorded old) text (length bytes) now)
+module _ {V S : Type 0} {g : volume.Ghosts V} (old new : Keeper V S g) (text bytes : List ℕ) (now : ℕ) (n : Name) (order : KeepsOrder old) (ruled : Decides (Makes (AddsPart n)) (recorded old) (Receive text bytes) now)
     (staged : StagedPart) (placed : IsPlaced (g.size (volume_of old.vault)) (IsFree old.vault) (IsFree new.vault) bytes staged) where
   abbrev pub records_then : Records
   records_then = with_part (recorded old) (key_of n) (staged_record n now staged)
 
   pub kept_sized : (0 < length bytes) × (length bytes ≤ 1_048_576)
-  kept_sized = has_size (recorded old) [] order.whole text bytes now n ruled.0 ruled.1 (ruled.2 [] bytes refl)
+  kept_sized = has_size (recorded old) [] order.whole text bytes now n ruled.0.0 ruled.0.1 (ruled.1 [])
 
   -- what the row says
   pub kept_means : IsMoment now → (rows : Rows) → form_of rows ≡ InForm (recorded old) → form_of (with_part_row (row_of_part (key_of n) (staged_record n now staged)) rows) ≡ InForm records_then
-  kept_means moment rows is = part_means n now (g.size (volume_of old.vault)) (IsFree old.vault) (IsFree new.vault) bytes staged placed rows (recorded old) text is ruled.0 moment order.blocks kept_sized ruled.1
+  kept_means moment rows is = part_means n now (g.size (volume_of old.vault)) (IsFree old.vault) (IsFree new.vault) bytes staged placed rows (recorded old) text is ruled.0.0 moment order.blocks kept_sized ruled.0.1
 
   module _ (volume : KeepsImage old) (settled : IsSettled (image_of old) (image_of new) (IsFree old.vault) (left_by new) bytes staged) where
     change : IsChange (recorded old) (image_of old) (IsFree old.vault) records_then (image_of new) (IsFree new.vault)
-    change = part_changes (recorded old) (image_of old) order.whole text bytes now n ruled.0 ruled.1 (ruled.2 (image_of old) bytes refl) (g.size (volume_of old.vault)) (failures_of old) (IsFree old.vault) order (IsFree new.vault) staged placed volume.volume (image_of new) (left_by new) settled
+    change = part_changes (recorded old) (image_of old) order.whole text bytes now n ruled.0.0 ruled.0.1 (ruled.1 (image_of old)) (g.size (volume_of old.vault)) (failures_of old) (IsFree old.vault) order (IsFree new.vault) staged placed volume.volume (image_of new) (left_by new) settled
 
     abbrev shown_reply : machine.Reply
     shown_reply = record { entry = OfPart (key_of n) (received_part n bytes now); is_repeat = false }
 
     accepted : step (state_in (recorded old) (image_of old)) (Receive text bytes) now ≡ Accept shown_reply (state_in records_then (image_of new))
-    accepted = part_ruled (recorded old) (image_of old) order.whole text bytes now n ruled.0 ruled.1 (ruled.2 (image_of old) bytes refl) (g.size (volume_of old.vault)) (failures_of old) (IsFree old.vault) order (IsFree new.vault) staged placed volume.volume (image_of new) (left_by new) settled
+    accepted = part_ruled (recorded old) (image_of old) order.whole text bytes now n ruled.0.0 ruled.0.1 (ruled.1 (image_of old)) (g.size (volume_of old.vault)) (failures_of old) (IsFree old.vault) order (IsFree new.vault) staged placed volume.volume (image_of new) (left_by new) settled
 
     only : (j : List ℕ) → left_by new j → DiffersOnlyIn (IsFree new.vault) (image_of new) j
     only j w = subst (DiffersOnlyIn (IsFree new.vault) (image_of new)) (sym (settled.settled j w)) (same_in (IsFree new.vault) (image_of new))
@@ -65,11 +66,11 @@ module _ {V S : Type 0} {g : volume.Ghosts V} (old new : Holdings V S g) (text b
     uncalled = λ e. cc;
     failures = failures;
     in_order = subst (λ s. IsInOrder records_then s (failures_of new) (IsFree new.vault)) (sym size)
-        (part_in_order (recorded old) [] order.whole text bytes now n ruled.0 ruled.1 (ruled.2 [] bytes refl) (g.size (volume_of old.vault)) (failures_of old) (IsFree old.vault) order (IsFree new.vault) staged placed (failures_of new) (subst (λ k. k < 2 ^ 64 - 1) (sym failures) order.count));
+        (part_in_order (recorded old) [] order.whole text bytes now n ruled.0.0 ruled.0.1 (ruled.1 []) (g.size (volume_of old.vault)) (failures_of old) (IsFree old.vault) order (IsFree new.vault) staged placed (failures_of new) (subst (λ k. k < 2 ^ 64 - 1) (sym failures) order.count));
     first = refl;
     written = λ tells. (settled tells).elsewhere;
     accepted = λ tells volume. accepted volume (settled tells);
-    rests = λ _ _ key within. absurd (nothing_in _ key (reads_nothing (recorded old) (image_of old) order.whole text bytes now n ruled.0 ruled.1 (ruled.2 (image_of old) bytes refl)) within);
+    rests = λ _ _ key within. absurd (nothing_in _ key (reads_nothing (recorded old) (image_of old) order.whole text bytes now n ruled.0.0 ruled.0.1 (ruled.1 (image_of old))) within);
     change = λ tells volume _. change volume (settled tells);
     volume = λ tells volume. (change volume (settled tells)).good.volume;
     any_moment = leaves;
@@ -80,7 +81,7 @@ module _ {V S : Type 0} {g : volume.Ghosts V} (old new : Holdings V S g) (text b
 
   module _ (same : recorded new ≡ records_then) (told : Record) (shows : ShowsPart told n (staged_record n now staged)) where
     pub kept_ruled : IsRuled (recorded old) (Receive text bytes) now (Ok (record { «record» = told; is_repeat = false })) (recorded new)
-    kept_ruled = (Goes n, ruled, (staged.extents, subst (ShowsPart told n) received shows, refl, same ∙ ap (with_part (recorded old) (key_of n)) received))
+    kept_ruled = (Makes (AddsPart n), ruled, (staged.extents, subst (ShowsPart told n) received shows, refl, same ∙ ap (with_part (recorded old) (key_of n)) received))
       where
         received : staged_record n now staged ≡ received_record n now bytes staged.extents
         received = λ i. record { kind = n.kind; received = now; len = placed.len i; digest = placed.digest i; extents = Some staged.extents }

@@ -1,14 +1,14 @@
 pub mod Done
 pub mod FirstDamage
-pub mod HoldingLemmas
+pub mod KeeperLemmas
 pub mod KeptPart
-pub mod NamedPart
 pub mod Opened
 pub mod PartLemmas
 pub mod PurgeLemmas
 pub mod Registered
 pub mod Repeats
 pub mod Room
+pub mod Ruled
 pub mod RunLemmas
 pub mod RunMoves
 pub mod SessionLemmas

@@ -7,14 +7,13 @@ use Rattle.vault_volume.specs.Disk.{LeavesOne, LeavesOnly}
 use Rattle.vault_volume.specs.Head.{head_of}
 use Rattle.custody_records.specs.declared.meta.Meta.{Meta}
 use Rattle.custody_records.specs.Records.{Records}
-use Rattle.custody_records.specs.Rows.{MetaRow, Rows}
+use Rattle.custody_records.specs.Rows.{MetaRow, Rows, first_meta}
 use Rattle.custody_records.specs.Form.{form_of, InForm, natural}
 use Rattle.custody_records.specs.Typed as typed
 use Rattle.custody_records.proofs.MetaLemmas.{number_reads}
-use Rattle.custody_store.specs.Reading.{first_meta}
 use Rattle.custody_machine.specs.declared.damage.Damage.{Damage}
 use Rattle.custody_machine.specs.declared.damage.Damage.TheVariants as wrong
-use Rattle.custody_machine.specs.Damage.{meta_of, IsDamaged}
+use Rattle.custody_machine.specs.Damage.{IsDamaged}
 use Rattle.custody_rules.specs.Breaks.{BreaksFirst}
 use Rattle.std.specs.FinMap.{get, empty, get-empty, same_map}
 use Rattle.std.specs.declared.cmp.Ordering.{Ordering}
@@ -25,7 +24,7 @@ use Rattle.custody_records.specs.Rows.{fresh}
 use Rattle.custody_records.specs.Written.{digits_of}
 use Rattle.custody_records.proofs.FormLemmas.{fresh_in_form}
 use Rattle.custody_store.specs.Reading.{rows_in, has_table}
-use Rattle.custody_store.specs.Standing.{Standing, shown, IsReady, IsBare, leaves, has_any, has_all, Founds, Reads}
+use Rattle.custody_store.specs.Standing.{Standing, standing, shown, IsReady, IsBare, leaves, has_any, has_all, Founds, Reads}
 use Rattle.custody_store.proofs.BareLemmas.{rows_bare}
 use Rattle.custody_store.proofs.ReadLemmas.{reads_then, meta_there, all_there}
 use Rattle.custody_machine.specs.State.{empty as nothing}
@@ -36,7 +35,15 @@ use Rattle.custody_machine.proofs.MapValues.{get-map_values}
 use Rattle.custody_machine.proofs.Stored.{keeps_itself}
 use Rattle.custody_records.specs.Orders.{part_total, part_exact}
 use Rattle.custody_records.proofs.FormLemmas.{InForm-injective}
-use Rattle.custody.specs.Opening.{HasNoRecord}
+use Rattle.vault_volume.specs.declared.volume.Volume as volume
+use Rattle.sqlite.specs.Store.{Ghosts}
+use Rattle.sqlite.specs.Held.{Held, state}
+use Rattle.custody_machine.specs.declared.answers.Fault.{Fault}
+use Rattle.custody_machine.specs.declared.answers.Fault.TheVariants as fault
+use Rattle.custody.specs.declared.answers.InitError.{InitError}
+use Rattle.custody.specs.declared.answers.InitError.TheVariants as init_error
+use Rattle.custody.specs.Opening.{HasNoRecord, IsUnwritten, IsSize, ReadsVolume, OnlyReads}
+use Rattle.custody.specs.Calls.{LeavesNone}
 
 pub some_is : {T : Type 0} (P : T → Type 0) (o : Option T) (x : T) → o ≡ Some x → IfSome o P → P x
 some_is {T} P o x e h = subst (λ (o : Option T). IfSome o P) e h
@@ -79,7 +86,7 @@ other_volume rows found number size image is lt long head other = by rows.meta r
           row,
           number,
           lt,
-          ap (λ metas. meta_of (record rows { meta = metas })) at,
+          ap (λ metas. first_meta (record rows { meta = metas })) at,
           head,
           λ of. other (
             ap (λ (m : Meta). m.number) same ∙ sym (number_reads row.number number lt of.number_is),
@@ -91,15 +98,15 @@ other_volume rows found number size image is lt long head other = by rows.meta r
 
 -- a database without tables has no record
 pub bare_has_none : (s : State) → IsBare s → HasNoRecord (rows_in s.now.trees)
-bare_has_none s bare = ap meta_of (rows_bare s bare)
+bare_has_none s bare = ap first_meta (rows_bare s bare)
 
 -- nor has what a stop leaves of it
 pub none_left : (s : State) → IsBare s → (rows : Rows) → leaves s rows → HasNoRecord rows
-none_left s bare rows left = ap meta_of (bare.only rows left) ∙ bare_has_none s bare
+none_left s bare rows left = ap first_meta (bare.only rows left) ∙ bare_has_none s bare
 
 -- where there is no record, what a stop leaves has none
 pub still_none : (s : State) → IsReady s ⊎ IsBare s → HasNoRecord (rows_in s.now.trees) → (rows : Rows) → leaves s rows → HasNoRecord rows
-still_none s (inl ready) none rows left = ap meta_of (ready.only rows left) ∙ none
+still_none s (inl ready) none rows left = ap first_meta (ready.only rows left) ∙ none
 still_none s (inr bare) none rows left = none_left s bare rows left
 
 -- where all tables are there, one is
@@ -164,17 +171,17 @@ module _ (number blocks : ℕ) where
   pub new_begun : (records : Records) (image : List ℕ) → records ≡ new_records number blocks → IsBegun nothing (Serving records image)
   new_begun records image is = subst (λ r. IsBegun nothing (Serving r image)) (sym is) (new_empty image, new_digests image)
 
-  module _ (image : List ℕ) (lt : number < 2 ^ 64) (low : 2 ≤ blocks) (high : blocks ≤ 262_144) (head : bytes_at image 0 4096 ≡ head_of number) (long : length image ≡ 4096 * blocks) where
+  module _ (image : List ℕ) (lt : number < 2 ^ 64) (fits : IsSize blocks) (head : bytes_at image 0 4096 ≡ head_of number) (long : length image ≡ 4096 * blocks) where
     -- the rows that are made, with the volume that is begun, stand for it
     fresh_begun : IsBegun nothing (Left (fresh (digits_of number) (pos blocks)) image)
     fresh_begun = (
       record {
         records = new_records number blocks;
-        in_form = fresh_in_form number blocks lt low high;
+        in_form = fresh_in_form number blocks lt fits.0 fits.1;
         good = record { whole = new_whole; volume = record { head = head; size = long } };
         meaning = sym (new_empty image);
       },
-      λ records is. subst (HasDigests image) (InForm-injective (new_records number blocks) records (sym (fresh_in_form number blocks lt low high) ∙ is)) (new_digests image),
+      λ records is. subst (HasDigests image) (InForm-injective (new_records number blocks) records (sym (fresh_in_form number blocks lt fits.0 fits.1) ∙ is)) (new_digests image),
     )
 
     pub begun_left : (rows : Rows) (left : List ℕ) → rows ≡ fresh (digits_of number) (pos blocks) → left ≡ image → IsBegun nothing (Left rows left)
@@ -207,23 +214,16 @@ module _ {A E : Type 0} (old mid new : Standing) (x : A) (reads : Reads {E = E} 
       (subst (λ s. s.IsReady) (sym is) kept.0, ap (λ s. s.rows) is ∙ kept.1)
 
   -- and then another such call
-  pub reads_on_ok : {B C F G : Type 0} (later end : Standing) (y : B) (z : C) → Reads {E = F} new later (Ok y) → end ≡ later → Reads {E = G} old end (Ok z)
-  reads_on_ok {F = F} {G = G} later end y z then at =
-      let from_mid = subst (λ s. Reads {E = F} s later (Ok y)) is then in
-      let all = reads_then old mid later x (Ok y) reads from_mid in
-      subst (λ s. Reads {E = G} old s (Ok z)) (sym at) (record { trust = all.trust; mode = all.mode; same = all.same; bare = all.bare; still_open = all.still_open })
+  pub reads_on : {B F : Type 0} (later end : Standing) (r : Result B F) → Reads new later r → end ≡ later → Reads old end r
+  reads_on later end r then at = subst (λ s. Reads old s r) (sym at) (reads_then old mid later x r reads (subst (λ s. Reads s later r) is then))
 
-  pub reads_on_err : {B C F G : Type 0} (later end : Standing) (y : F) (z : G) → Reads {A = B} new later (Err y) → end ≡ later → Reads {A = C} old end (Err z)
-  reads_on_err {B = B} {C = C} later end y z then at =
-      let from_mid = subst (λ s. Reads {A = B} s later (Err y)) is then in
-      let all = reads_then old mid later x (Err y) reads from_mid in
-      subst (λ s. Reads {A = C} old s (Err z)) (sym at) (record { trust = all.trust; mode = all.mode; same = all.same; bare = all.bare; still_open = λ _ _. tt })
+-- the same call, where another error is told
+pub reads_fails : {A B E F : Type 0} (old new : Standing) (r : Result A E) (f : F) → Reads old new r → Reads {A = B} old new (Err f)
+reads_fails old new r f p = record { trust = p.trust; mode = p.mode; same = p.same; bare = p.bare; still_open = λ _ _. tt }
 
-  pub reads_on_late : {B C F G : Type 0} (later end : Standing) (y : B) (z : G) → Reads {E = F} new later (Ok y) → end ≡ later → Reads {A = C} old end (Err z)
-  reads_on_late {C = C} {F = F} later end y z then at =
-      let from_mid = subst (λ s. Reads {E = F} s later (Ok y)) is then in
-      let all = reads_then old mid later x (Ok y) reads from_mid in
-      subst (λ s. Reads {A = C} old s (Err z)) (sym at) (record { trust = all.trust; mode = all.mode; same = all.same; bare = all.bare; still_open = λ _ _. tt })
+-- or another value answered
+pub reads_answers : {A B E F : Type 0} (old new : Standing) (x : A) (y : B) → Reads {E = E} old new (Ok x) → Reads {E = F} old new (Ok y)
+reads_answers old new x y p = record { trust = p.trust; mode = p.mode; same = p.same; bare = p.bare; still_open = p.still_open }
 
 -- ---- what an opening leaves
 
@@ -244,12 +244,46 @@ rows_same s (inr bare) rows left = bare.only rows left
 -- a stop within it, or after it
 pub leaves_start : {A E V : Type 0} (s : State) (new : Standing) (r : Result A E) (moment : V → ℕ) (left_at : V → ℕ → List ℕ → Type 0) (old later : V) (image : List ℕ) → IsReady s ⊎ IsBare s → Reads (shown s) new r → new.IsHonest
     → LeavesOne image (left_at old (moment old)) → LeavesOnly moment left_at old later (left_at old (moment old))
-    → Leaves (leaves s) (LeftSince moment left_at old later) new.may_leave (left_at later (moment later)) (MayLeave (Left (rows_in s.now.trees) image)) (MayLeave (Left (rows_in s.now.trees) image))
+    → Leaves (record { rows_before = leaves s; images_since = LeftSince moment left_at old later; rows_then = new.may_leave; images_then = left_at later (moment later) }) (MayLeave (Left (rows_in s.now.trees) image)) (MayLeave (Left (rows_in s.now.trees) image))
 leaves_start s new r moment left_at old later image either reads honest one only = record {
   within = λ rows j h since. left_same (rows_in s.now.trees) image rows j (rows_same s either rows h) ((one j).0 (only.since since.0 j since.1 since.2 since.3));
   at_exit = λ rows j h left. left_same (rows_in s.now.trees) image rows j (rows_same s either rows (reads_left (shown s) new r reads honest either rows h))
       ((one j).0 (only.since (moment later) j only.later (omega arith) left));
 }
+
+-- volume and database are only read
+module _ {V S : Type 0} (device : volume.Ghosts V) (database : Ghosts S) where
+  pub only_reads : {A E : Type 0} (volume : V) (db : Held S) (later : V) (then : Held S) (r : Result A E) → ReadsVolume device volume later → Reads (standing database db) (standing database then) r → OnlyReads device database volume db later then r
+  only_reads volume db later then r image rows = record {
+    image = image;
+    rows = rows;
+    leaves = λ tells one either honest. leaves_start (state database db) (standing database then) r device.moment device.left_at volume later (device.image volume) either rows honest one (image.any_moment tells);
+  }
+
+-- ---- what a beginning leaves that makes nothing
+
+-- a failure of volume or database is told where something was written
+pub is_written : (why : Fault) → (why ≡ fault.VolumeFailed) ⊎ (why ≡ fault.StoreFailed) → ¬ IsUnwritten (init_error.Fault why)
+is_written why kind (inl same) = cc
+is_written why kind (inr (inl same)) = cc
+is_written why (inl is) (inr (inr same)) = cc
+is_written why (inr is) (inr (inr same)) = cc
+
+-- where the database was only read
+pub none_made : {A E V S : Type 0} (device : volume.Ghosts V) (database : Ghosts S) (volume : V) (db : Held S) (number : ℕ) (error : InitError) (later : V) (then : Held S) (r : Result A E) → Reads (standing database db) (standing database then) r → (standing database then).IsHonest
+    → ((standing database db).IsReady ⊎ (standing database db).IsBare → error ≡ init_error.AlreadyInitialised → ¬ HasNoRecord (standing database db).rows) → ((standing database db).IsReady ⊎ (standing database db).IsBare → error ≡ init_error.Size → HasNoRecord (standing database db).rows)
+    → LeavesNone device database volume db number error later then
+none_made device database volume db number error later then r reads honest taken not_taken = record {
+  taken = taken;
+  not_taken = not_taken;
+  untouched = λ ready rows left. reads_left (standing database db) (standing database then) r reads honest (inl ready) rows left;
+  unwritten = λ either _ rows left. reads_left (standing database db) (standing database then) r reads honest either rows left;
+  rows = λ either none rows left. inl (none_then either none rows left);
+  fails = λ tells either none rows image left _. inl (none_then either none rows left);
+}
+  where
+    none_then : (standing database db).IsReady ⊎ (standing database db).IsBare → HasNoRecord (standing database db).rows → (rows : Rows) → (standing database then).may_leave rows → HasNoRecord rows
+    none_then either none rows left = still_none (state database db) either none rows (reads_left (standing database db) (standing database then) r reads honest either rows left)
 
 -- ---- what is kept of the volume and the rows
 
@@ -266,8 +300,8 @@ on_volume image_in moment left_at v w is records free head long one = subst (λ 
 })
 
 -- the tables with the row of meta, which were made at once
-pub fresh_in_store : {A E : Type 0} (old : Standing) (new : State) (x : A) (number blocks : ℕ) → number < 2 ^ 64 → 2 ≤ blocks → blocks ≤ 262_144 → Founds {E = E} old (shown new) (fresh (digits_of number) (pos blocks)) (Ok x)
+pub fresh_in_store : {A E : Type 0} (old : Standing) (new : State) (x : A) (number blocks : ℕ) → number < 2 ^ 64 → IsSize blocks → Founds {E = E} old (shown new) (fresh (digits_of number) (pos blocks)) (Ok x)
     → HasCleanDisk new → old.IsBare → (records : Records) → records ≡ new_records number blocks → IsInStore records (shown new).rows (IsReady new) (leaves new)
-fresh_in_store old new x number blocks lt low high founds honest bare records is =
+fresh_in_store old new x number blocks lt fits founds honest bare records is =
     let done = (founds.effect honest bare).done in
-    record { ready = done.0; in_form = ap form_of done.1 ∙ fresh_in_form number blocks lt low high ∙ ap InForm (sym is); settled = done.0.only }
+    record { ready = done.0; in_form = ap form_of done.1 ∙ fresh_in_form number blocks lt fits.0 fits.1 ∙ ap InForm (sym is); settled = done.0.only }

@@ -1,5 +1,5 @@
 -- A part that is compared with the bytes of a command.
-use Rattle.std.proofs.Common.{◌≡◌, ◌≢◌, ℕ, ◌+◌, List, length, inl, inr, true, false, refl, sym, ◌∙◌, ap, subst, arith, Result, Ok, Err}
+use Rattle.std.proofs.Common.{◌≡◌, ◌≢◌, ℕ, ◌+◌, List, inl, inr, true, false, refl, sym, ◌∙◌, ap, subst, arith, Result, Ok, Err}
 use Rattle.std.specs.Prelude.{IfOk}
 use Rattle.std.specs.FinMap.{get}
 use Rattle.sqlite.specs.Store.{Ghosts}
@@ -13,10 +13,11 @@ use Rattle.custody_records.specs.declared.parts.Part.{Part}
 use Rattle.custody_records.specs.Records.{Records}
 use Rattle.custody_records.specs.Typed.{part_place, part_value}
 use Rattle.custody_machine.specs.State.{Held}
-use Rattle.custody_machine.specs.Machine.{Receive, OfPart, Accept, Answer, Accepted, Answers, MayRefuse}
+use Rattle.custody_machine.specs.Machine.{Command, Register, Receive, OfPart, Accept, Answer, Accepted, Answers, MayRefuse}
 use Rattle.custody_machine.specs.Moves.{RestsOnBytes}
 use Rattle.custody_machine.specs.Stored.{ForExtents, AreExtents, content_of, state_in}
-use Rattle.custody_machine.specs.Custody.{ByBytes, Decides, Compares, Same, Other, Broken}
+use Rattle.custody_machine.specs.Rulings.{ByBytes, Decides, IsUnder, bytes_of}
+use Rattle.custody_machine.specs.Custody.{Compares, Same, Other, Broken}
 use Rattle.custody_machine.specs.declared.answers.Fault.TheVariants as fault
 use Rattle.custody_machine.specs.declared.answers.Refusal.TheVariants.{OtherBytes, VolumeFull}
 use Rattle.custody_machine.specs.declared.damage.Damage.TheVariants.{Digest}
@@ -25,78 +26,90 @@ use Rattle.custody.specs.declared.answers.Record.{Record}
 use Rattle.custody.specs.declared.answers.Reply.{Reply}
 use Rattle.custody.specs.declared.answers.Refused as not_accepted
 use Rattle.custody.specs.declared.answers.Refused.TheVariants as refused
-use Rattle.custody.specs.declared.holdings.Holdings.{Holdings}
-use Rattle.custody.specs.Answers.{answer_of, may_call, unread}
+use Rattle.custody.specs.declared.keeper.Keeper.{Keeper}
+use Rattle.custody.specs.Answers.{answer_of, may_call, uses_volume, unread}
 use Rattle.custody.specs.Ruled.{IsCompared}
 use Rattle.custody.specs.Shown.{ShowsPart, IsShown, HoldsBytes}
-use Rattle.custody.specs.Holdings.{recorded, image_of, failures_of, KeepsOrder, IsSafe, IsUnwritten, HasDone}
-use Rattle.custody.proofs.HoldingLemmas.{stays_still, order_same, safe_undone}
-use Rattle.custody.proofs.NamedPart.{named}
+use Rattle.custody.specs.Keeper.{recorded, image_of, failures_of, KeepsOrder, IsSafe, IsUnwritten, HasDone}
+use Rattle.custody.proofs.KeeperLemmas.{stays_still, order_same, safe_undone}
 use Rattle.custody.proofs.ShownLemmas.{shown_of, holds_of, entry_of}
 use Rattle.custody.proofs.Done.{reads_done}
 
-module _ {V S : Type 0} {g : volume.Ghosts V} (old : Holdings V S g) (order : KeepsOrder old) (text bytes : List ℕ) (now : ℕ) (part : Part) (extents : List Extent) (d : Decides (ByBytes (part_place part) (part_value part) extents) (recorded old) text (length bytes) now) where
+module _ {V S : Type 0} {g : volume.Ghosts V} (old : Keeper V S g) (order : KeepsOrder old) (command : Command) (now : ℕ) (part : Part) (extents : List Extent) (d : Decides (ByBytes part.name (part_value part) extents) (recorded old) command now) where
+  abbrev bytes : List ℕ
+  bytes = bytes_of command
+
+  uses : uses_volume command ≡ true
+  uses = by command d.0.named
+    where
+      by : (command : Command) → IsUnder command part.name → uses_volume command ≡ true
+      by (Register tld first_day) under = absurd under
+      by (Receive text bytes) under = refl
+
+  never_idle : {P : Type 0} → uses_volume command ≡ false → P
+  never_idle idle = let clash : true ≡ false = sym uses ∙ idle in cc
+
   -- the part may be read
   pub held_in_range : AreExtents (g.size (volume_of old.vault)) part.len extents
-  held_in_range = subst (λ size. AreExtents size part.len extents) (sym order.blocks) (subst (λ o. ForExtents o (AreExtents (recorded old).blocks part.len)) d.4 (order.whole.extents (part_place part) (part_value part) d.3))
+  held_in_range = subst (λ size. AreExtents size part.len extents) (sym order.blocks) (subst (λ o. ForExtents o (AreExtents (recorded old).blocks part.len)) d.0.held (order.whole.extents (part_place part) (part_value part) d.0.recorded))
 
-  module _ (new : Holdings V S g) (records_same : recorded new ≡ recorded old) (store_same : new.store ≡ old.store) (free : SameFree (IsFree old.vault) (IsFree new.vault)) (size : g.size (volume_of new.vault) ≡ g.size (volume_of old.vault))
+  module _ (new : Keeper V S g) (records_same : recorded new ≡ recorded old) (store_same : new.store ≡ old.store) (free : SameFree (IsFree old.vault) (IsFree new.vault)) (size : g.size (volume_of new.vault) ≡ g.size (volume_of old.vault))
       (unwritten : g.tells → IsUnwritten old new) (database : Ghosts S) where
     -- what the machine may answer, and on which bytes it rests
     abbrev MayTell : Answer → Type 0
-    MayTell told = Answers (state_in (recorded old) (image_of old)) (Receive text bytes) now told (state_in (recorded old) (image_of old)) × RestsOnBytes (recorded old) (image_of old) (Receive text bytes) now told
+    MayTell told = Answers (state_in (recorded old) (image_of old)) command now told (state_in (recorded old) (image_of old)) × RestsOnBytes (recorded old) (image_of old) command now told
 
     compared_safe : (answer : Result Reply not_accepted.Refused) → failures_of new ≡ failures_of old → answer ≢ Err (refused.Fault fault.Closed) → answer ≢ Err (refused.Fault fault.VolumeFailed) → answer ≢ Err (refused.Refusal VolumeFull)
-        → (may_call (Receive text bytes) answer ≡ false → volume_of new.vault ≡ volume_of old.vault) → IsSafe old (Receive text bytes) answer new
+        → (may_call command answer ≡ false → volume_of new.vault ≡ volume_of old.vault) → IsSafe old command answer new
     compared_safe answer failures closed failed full uncalled =
-        safe_undone old new records_same free (Receive text bytes) answer closed (λ h. absurd (failed h)) (λ _. failures) (λ h. absurd (full h)) uncalled store_same (λ _. order_same old new records_same free size failures order)
+        safe_undone old new records_same free command answer closed (λ h. absurd (failed h)) (λ _. failures) (λ h. absurd (full h)) uncalled store_same (λ _. order_same old new records_same free size failures order)
 
-    compared_done : (answer : Result Reply not_accepted.Refused) → IsSafe old (Receive text bytes) answer new → IsCompared text (part_value part) answer → IfOk answer (λ reply. IsShown (recorded new) reply.record) → (g.tells → IfOk answer (λ reply. HoldsBytes (image_of new) reply.record bytes)) → (g.tells → MayTell (answer_of (Receive text bytes) answer)) → HasDone database old (Receive text bytes) now answer new
-    compared_done answer safe compared shown holds told = reads_done database old order (Receive text bytes) now new records_same store_same free unwritten answer safe (ByBytes (part_place part) (part_value part) extents, d, compared) shown holds told
+    compared_done : (answer : Result Reply not_accepted.Refused) → IsSafe old command answer new → IsCompared part.name (part_value part) answer → IfOk answer (λ reply. IsShown (recorded new) reply.record) → (g.tells → IfOk answer (λ reply. HoldsBytes (image_of new) reply.record bytes)) → (g.tells → MayTell (answer_of command answer)) → HasDone database old command now answer new
+    compared_done answer safe compared shown holds told = reads_done database old order command now new records_same store_same free unwritten answer safe (ByBytes part.name (part_value part) extents, d, compared) shown holds told
 
     pub repeat_done : (told : Record) → ShowsPart told part.name (part_value part) → failures_of new ≡ failures_of old → (g.tells → Compares Same (part_bytes (image_of old) extents part.len) bytes part.digest)
-        → HasDone database old (Receive text bytes) now (Ok (record { «record» = told; is_repeat = true })) new
-    repeat_done told shows failures same = compared_done answer (compared_safe answer failures (λ h. cc) (λ h. cc) (λ h. cc) (λ h. cc))
-        (part.name, named (recorded old) text bytes now part extents d, shows, refl)
-        (shown_of part.name (part_value part) (recorded new) told shows (ap (λ (r : Records). get r.parts (part_place part)) records_same ∙ d.3))
-        (λ tells. holds_of part.name (part_value part) (image_of new) bytes extents told shows d.4 (ap (λ i. part_bytes i extents part.len) (unwritten tells).0 ∙ same tells))
+        → HasDone database old command now (Ok (record { «record» = told; is_repeat = true })) new
+    repeat_done told shows failures same = compared_done answer (compared_safe answer failures (λ h. cc) (λ h. cc) (λ h. cc) never_idle)
+        (shows, refl)
+        (shown_of part.name (part_value part) (recorded new) told shows (ap (λ (r : Records). get r.parts (part_place part)) records_same ∙ d.0.recorded))
+        (λ tells. holds_of part.name (part_value part) (image_of new) bytes extents told shows d.0.held (ap (λ i. part_bytes i extents part.len) (unwritten tells).0 ∙ same tells))
         (λ tells. subst (λ e. MayTell (Accepted (record { entry = e; is_repeat = true }))) (sym (entry_of part.name (part_value part) bytes told shows)) (
-          same_rules (recorded old) (image_of old) text bytes now (part_place part) (part_value part) extents d (same tells)
+          same_rules (recorded old) (image_of old) command now part.name (part_value part) extents d (same tells)
               ∙ (λ i. Accept (record { entry = OfPart (part_place part) (record { kind = part.name.kind; received = part.received; content = content (same tells) i }); is_repeat = true }) (state_in (recorded old) (image_of old))),
-          same_rests (recorded old) (image_of old) text bytes now (part_place part) (part_value part) extents d (same tells) (record { entry = OfPart (part_place part) (record { kind = part.name.kind; received = part.received; content = Held bytes }); is_repeat = true }),
+          same_rests (recorded old) (image_of old) command now part.name (part_value part) extents d (same tells) (record { entry = OfPart (part_place part) (record { kind = part.name.kind; received = part.received; content = Held bytes }); is_repeat = true }),
         ))
       where
         answer : Result Reply not_accepted.Refused
         answer = Ok (record { «record» = told; is_repeat = true })
 
         content : part_bytes (image_of old) extents part.len ≡ bytes → content_of (image_of old) part.len (part_value part).extents ≡ Held bytes
-        content same = ap (content_of (image_of old) part.len) d.4 ∙ ap Held same
+        content same = ap (content_of (image_of old) part.len) d.0.held ∙ ap Held same
 
-    pub other_done : failures_of new ≡ failures_of old → (g.tells → Compares Other (part_bytes (image_of old) extents part.len) bytes part.digest) → HasDone database old (Receive text bytes) now (Err (refused.Refusal OtherBytes)) new
-    other_done failures other = compared_done (Err (refused.Refusal OtherBytes)) (compared_safe (Err (refused.Refusal OtherBytes)) failures (λ h. cc) (λ h. cc) (λ h. cc) (λ h. cc)) refl tt (λ _. tt)
+    pub other_done : failures_of new ≡ failures_of old → (g.tells → Compares Other (part_bytes (image_of old) extents part.len) bytes part.digest) → HasDone database old command now (Err (refused.Refusal OtherBytes)) new
+    other_done failures other = compared_done (Err (refused.Refusal OtherBytes)) (compared_safe (Err (refused.Refusal OtherBytes)) failures (λ h. cc) (λ h. cc) (λ h. cc) never_idle) refl tt (λ _. tt)
         (λ tells. (
-          (subst (λ r. MayRefuse (Receive text bytes) r OtherBytes) (sym (other_rules (recorded old) (image_of old) text bytes now (part_place part) (part_value part) extents d (other tells).0)) refl, refl),
-          other_rests (recorded old) (image_of old) text bytes now (part_place part) (part_value part) extents d (other tells),
+          (subst (λ r. MayRefuse command r OtherBytes) (sym (other_rules (recorded old) (image_of old) command now part.name (part_value part) extents d (other tells).0)) refl, refl),
+          other_rests (recorded old) (image_of old) command now part.name (part_value part) extents d (other tells),
         ))
 
-    pub broken_done : failures_of new ≡ failures_of old → (g.tells → Compares Broken (part_bytes (image_of old) extents part.len) bytes part.digest) → HasDone database old (Receive text bytes) now (Err (refused.Fault (fault.Damaged Digest))) new
-    broken_done failures broken = compared_done (Err (refused.Fault (fault.Damaged Digest))) (compared_safe (Err (refused.Fault (fault.Damaged Digest))) failures (λ h. cc) (λ h. cc) (λ h. cc) (λ h. cc)) (inr (inr refl)) tt (λ _. tt)
+    pub broken_done : failures_of new ≡ failures_of old → (g.tells → Compares Broken (part_bytes (image_of old) extents part.len) bytes part.digest) → HasDone database old command now (Err (refused.Fault (fault.Damaged Digest))) new
+    broken_done failures broken = compared_done (Err (refused.Fault (fault.Damaged Digest))) (compared_safe (Err (refused.Fault (fault.Damaged Digest))) failures (λ h. cc) (λ h. cc) (λ h. cc) never_idle) (inr (inr refl)) tt (λ _. tt)
         (λ tells. (
-          (broken_may_fail (recorded old) (image_of old) text bytes now (part_place part) (part_value part) extents d (broken tells), refl),
-          broken_rests (recorded old) (image_of old) text bytes now (part_place part) (part_value part) extents d (broken tells),
+          (broken_may_fail (recorded old) (image_of old) command now part.name (part_value part) extents d (broken tells), refl),
+          broken_rests (recorded old) (image_of old) command now part.name (part_value part) extents d (broken tells),
         ))
 
-    pub unread_done : (e : ReadError) → (e ≡ read.NoMemory → volume_of new.vault ≡ volume_of old.vault) → (e ≡ read.VolumeFailed → failures_of new ≡ failures_of old + 1) → (answer : Result Reply not_accepted.Refused) → answer ≡ Err (unread e) → HasDone database old (Receive text bytes) now answer new
-    unread_done e memory failed answer is = subst (λ a. HasDone database old (Receive text bytes) now a new) (sym is) (by e memory failed)
+    pub unread_done : (e : ReadError) → (e ≡ read.NoMemory → volume_of new.vault ≡ volume_of old.vault) → (e ≡ read.VolumeFailed → failures_of new ≡ failures_of old + 1) → (answer : Result Reply not_accepted.Refused) → answer ≡ Err (unread e) → HasDone database old command now answer new
+    unread_done e memory failed answer is = subst (λ a. HasDone database old command now a new) (sym is) (by e memory failed)
       where
-        by : (e : ReadError) → (e ≡ read.NoMemory → volume_of new.vault ≡ volume_of old.vault) → (e ≡ read.VolumeFailed → failures_of new ≡ failures_of old + 1) → HasDone database old (Receive text bytes) now (Err (unread e)) new
+        by : (e : ReadError) → (e ≡ read.NoMemory → volume_of new.vault ≡ volume_of old.vault) → (e ≡ read.VolumeFailed → failures_of new ≡ failures_of old + 1) → HasDone database old command now (Err (unread e)) new
         by read.NoMemory memory failed = compared_done (Err (refused.Fault fault.NoMemory)) (compared_safe (Err (refused.Fault fault.NoMemory)) (ap g.failures (memory refl)) (λ h. cc) (λ h. cc) (λ h. cc) (λ _. memory refl)) (inl refl) tt (λ _. tt)
-            (λ _. ((no_memory_may_be (recorded old) (image_of old) text bytes now (part_place part) (part_value part) extents d, refl), tt))
+            (λ _. ((no_memory_may_be (recorded old) (image_of old) command now part.name (part_value part) extents d, refl), tt))
         by read.VolumeFailed memory failed = let one = failed refl in
             compared_done (Err (refused.Fault fault.VolumeFailed))
-            (safe_undone old new records_same free (Receive text bytes) (Err (refused.Fault fault.VolumeFailed)) (λ h. cc) (λ h. omega (arith, one)) (λ other. absurd (other refl)) (λ h. cc) (λ h. cc) store_same (λ h. cc))
-            (inr (inl refl)) tt (λ _. tt) (λ _. ((volume_failed_may_be (recorded old) (image_of old) text bytes now (part_place part) (part_value part) extents d, refl), tt))
+            (safe_undone old new records_same free command (Err (refused.Fault fault.VolumeFailed)) (λ h. cc) (λ h. omega (arith, one)) (λ other. absurd (other refl)) (λ h. cc) never_idle store_same (λ h. cc))
+            (inr (inl refl)) tt (λ _. tt) (λ _. ((volume_failed_may_be (recorded old) (image_of old) command now part.name (part_value part) extents d, refl), tt))
 
   -- there is no memory for the reply
-  pub unshown_done : (database : Ghosts S) → HasDone database old (Receive text bytes) now (Err (refused.Fault fault.NoMemory)) old
+  pub unshown_done : (database : Ghosts S) → HasDone database old command now (Err (refused.Fault fault.NoMemory)) old
   unshown_done database = unread_done old refl refl (λ b. (λ f. f, λ f. f)) refl (λ _. (refl, stays_still g.moment g.left_at (volume_of old.vault))) database read.NoMemory (λ _. refl) (λ e. cc) (Err (refused.Fault fault.NoMemory)) refl

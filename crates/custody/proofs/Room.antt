@@ -1,6 +1,6 @@
 -- How many blocks are free, and that a part that was received had room.
-use Rattle.std.proofs.Common.{◌≡◌, ℕ, ◌+◌, ◌-◌, List, [], ◌∷◌, Option, Some, None, true, false, Result, Ok, Err, refl, sym, ◌∙◌, ap, subst, arith}
-use Rattle.std.specs.Prelude.{All, IfOk, length, sum_by, option_map}
+use Rattle.std.proofs.Common.{◌≡◌, ℕ, ◌+◌, ◌-◌, List, [], ◌∷◌, Option, Some, None, true, false, Result, Ok, Err, refl, sym, ◌∙◌, ap, subst}
+use Rattle.std.specs.Prelude.{All, IfOk, sum_by, option_map}
 use Rattle.std.specs.FinMap.{FinMap, entries}
 use Rattle.std.proofs.lemmas.List.Elements.{All-head, All-tail}
 use Rattle.std.proofs.lemmas.List.Sums.{sum_by-append, sum_by-cons}
@@ -20,17 +20,17 @@ use Rattle.custody_records.specs.Typed.{part_place, part_value}
 use Rattle.custody_records.proofs.TableLemmas.{entries-table_map}
 use Rattle.custody_machine.specs.Machine.{Command, Register, Receive}
 use Rattle.custody_machine.specs.Stored.{ForExtents, AreExtents, AreWhole}
-use Rattle.custody_machine.specs.Custody.{PartRuling, Refuses, ByBytes, Goes, Decides, IsInOrder, HasRoomFor}
+use Rattle.custody_machine.specs.Rulings.{AddsRegistry, AddsPart, Ruling, Refuses, Repeats, ByBytes, Makes, Decides}
+use Rattle.custody_machine.specs.Custody.{IsInOrder, HasRoomFor}
 use Rattle.custody_machine.proofs.Room.{room_for_part}
 use Rattle.custody_rules.specs.Blocks.{IsInRange, all_extents, extents_of}
 use Rattle.custody_rules.specs.Blocks as rules
 use Rattle.custody_rules.proofs.PartBlocks.{each_extent, in_range_rows, once_rows, named_rows, rows_named}
 use Rattle.custody.specs.declared.answers.Reply.{Reply}
 use Rattle.custody.specs.declared.answers.Refused.{Refused}
-use Rattle.custody.specs.declared.holdings.Holdings.{Holdings}
-use Rattle.custody.specs.Answers.{stays_open}
-use Rattle.custody.specs.Ruled.{IsRuledBy, received_record}
-use Rattle.custody.specs.Holdings.{recorded, KeepsOrder, HasDone}
+use Rattle.custody.specs.declared.keeper.Keeper.{Keeper}
+use Rattle.custody.specs.Ruled.{Follows, received_record}
+use Rattle.custody.specs.Keeper.{recorded, KeepsOrder, HasDone}
 use Rattle.custody.specs.Opening.{blocks_held, free_blocks}
 
 sum_by-entries_of : {Row K X : Type 0} (key : Row → K) (value : Row → X) (f : K × X → ℕ) (rows : List Row) → sum_by f (entries_of key value rows) ≡ sum_by (λ row. f (key row, value row)) rows
@@ -76,17 +76,18 @@ free_count records rows all rising size failures free order count counted =
     ∙ ap (λ n. records.blocks - 1 - n) (blocks_of_rows records.blocks rows ranges ∙ sym (blocks_of_parts records.parts rows all rising))
 
 -- a new part is accepted only where there is room
-pub had_room : {V S : Type 0} {g : volume.Ghosts V} (database : Ghosts S) (old new : Holdings V S g) → KeepsOrder old → (command : Command) (now : ℕ) (answer : Result Reply Refused)
+pub had_room : {V S : Type 0} {g : volume.Ghosts V} (database : Ghosts S) (old new : Keeper V S g) → KeepsOrder old → (command : Command) (now : ℕ) (answer : Result Reply Refused)
     → HasDone database old command now answer new → IfOk answer (λ reply. reply.is_repeat ≡ false → HasRoomFor (recorded old) command)
+had_room database old new order command now (Err e) done = tt
 had_room database old new order (Register tld first_day) now (Ok reply) done = λ _. tt
-had_room database old new order (Register tld first_day) now (Err e) done = tt
-had_room database old new order (Receive text bytes) now (Err e) done = tt
 had_room {V} {S} {g} database old new order (Receive text bytes) now (Ok reply) done = by done.ruled.0 done.ruled.1 done.ruled.2
   where
-    by : (ruling : PartRuling) → Decides ruling (recorded old) text (length bytes) now → IsRuledBy ruling (recorded old) text now bytes (Ok reply) (recorded new) → reply.is_repeat ≡ false → HasRoomFor (recorded old) (Receive text bytes)
+    by : (ruling : Ruling) → Decides ruling (recorded old) (Receive text bytes) now → Follows ruling (recorded old) bytes now (Ok reply) (recorded new) → reply.is_repeat ≡ false → HasRoomFor (recorded old) (Receive text bytes)
     by (Refuses refusal) decides ruled first = cc
-    by (ByBytes key part extents) decides ruled first = let repeat = ruled.3 in cc
-    by (Goes name) decides ruled first =
+    by (Repeats entry) decides ruled first = let repeat = ruled.1 in cc
+    by (ByBytes name part extents) decides ruled first = let repeat = ruled.1 in cc
+    by (Makes (AddsRegistry tld first_day)) decides ruled first = let other = decides.0.0 in cc
+    by (Makes (AddsPart name)) decides ruled first =
         let counted = counted_in old.vault in
         let kept = done.safe.order refl in
-        room_for_part (recorded old) (g.size (volume_of old.vault)) _ (IsFree old.vault) order counted.0 counted.1 (key_of name) (received_record name now bytes ruled.0) ruled.0 refl decides.1 (subst AreWhole ruled.3 kept.whole)
+        room_for_part (recorded old) (g.size (volume_of old.vault)) _ (IsFree old.vault) order counted.0 counted.1 (key_of name) (received_record name now bytes ruled.0) ruled.0 refl decides.0.1 (subst AreWhole ruled.3 kept.whole)

@@ -24,10 +24,10 @@ use Rattle.custody.specs.declared.answers.Reply.{Reply}
 use Rattle.custody.specs.declared.answers.Refused as not_accepted
 use Rattle.custody.specs.declared.custody.Custody.{Custody}
 use Rattle.custody.specs.Answers.{answer_of, stays_open}
-use Rattle.custody.specs.Holdings.{recorded, stored, image_of, failures_of, left_by, left_since, KeepsPast, KeepsOrder}
-use Rattle.custody.specs.Custody.{held_by, is_open, HasApplied, HasRun}
+use Rattle.custody.specs.Keeper.{recorded, stored, image_of, failures_of, left_by, left_since, KeepsPast, KeepsOrder}
+use Rattle.custody.specs.Custody.{keeper_of, is_open, HasApplied, HasRun}
 use Rattle.custody.specs.Sessions.{answers_of, accepted, in_doubt, IsServing, place_of, state_of, Leaves, SparesFree, HasMoved, RunsMove, StopsMove}
-use Rattle.custody.proofs.HoldingLemmas.{since_same, past_same, past_join}
+use Rattle.custody.proofs.KeeperLemmas.{since_same, past_same, past_join}
 
 -- ---- moves and states
 
@@ -122,22 +122,22 @@ module _ {V S : Type 0} {g : volume.Ghosts V} {database : Ghosts S} where
   -- ---- at rest
 
   module _ (c : Custody V S g database) (serving : IsServing database c) where
-    order : KeepsOrder (held_by c)
+    order : KeepsOrder (keeper_of c)
     order = c.order serving.opened
 
     pub rests : Leaves database c (MayLeave (place_of database c))
     rests rows left h w =
-        let held = held_by c in
+        let held = keeper_of c in
         at_rest (recorded held) (stored database held).rows (image_of held) (g.size (volume_of held.vault)) (failures_of held) (IsFree held.vault) (stored database held).IsReady (stored database held).may_leave (left_by held) order serving.image serving.rows rows left h w
 
     pub rests_in_state : Leaves database c (λ rows image. Stands rows image (state_of database c))
     rests_in_state rows left h w =
         let may = rests rows left h w in
-        subst (Stands rows left) may.state (stands_of (recorded (held_by c)) (image_of (held_by c)) (λ found. found ≡ state_of database c) rows left may)
+        subst (Stands rows left) may.state (stands_of (recorded (keeper_of c)) (image_of (keeper_of c)) (λ found. found ≡ state_of database c) rows left may)
 
     pub rests_apart : Leaves database c (λ rows image. SparesFree database c rows)
     rests_apart rows left h w records is b named =
-        let held = held_by c in
+        let held = keeper_of c in
         let form = ap form_of (serving.rows.settled rows h) ∙ serving.rows.in_form in
         let same : recorded held ≡ records = InForm-injective (recorded held) records (sym form ∙ is) in
         named_used (recorded held) (g.size (volume_of held.vault)) (failures_of held) (IsFree held.vault) order b (subst (λ r. IsNamed r b) (sym same) named)
@@ -156,40 +156,40 @@ module _ {V S : Type 0} {g : volume.Ghosts V} {database : Ghosts S} where
       (rest.0 ∙ one.1, (Shut records image doubt, (ap (answer_of e.0) one.0, refl), rest.1))
 
   -- so a database that is honest was so before a command
-  pub trusts : (old new : Custody V S g database) (command : Command) (now : ℕ) (answer : Result Reply not_accepted.Refused) → HasApplied old command now answer new → (stored database (held_by new)).IsHonest → (stored database (held_by old)).IsHonest
+  pub trusts : (old new : Custody V S g database) (command : Command) (now : ℕ) (answer : Result Reply not_accepted.Refused) → HasApplied old command now answer new → (stored database (keeper_of new)).IsHonest → (stored database (keeper_of old)).IsHonest
   trusts old new command now answer applied honest = by (is_open old) refl
     where
-      by : (b : Bool) → is_open old ≡ b → (stored database (held_by old)).IsHonest
+      by : (b : Bool) → is_open old ≡ b → (stored database (keeper_of old)).IsHonest
       by true opened = (applied.done opened).trust honest
-      by false shut = subst (λ c. (stored database (held_by c)).IsHonest) (applied.closed shut).1 honest
+      by false shut = subst (λ c. (stored database (keeper_of c)).IsHonest) (applied.closed shut).1 honest
 
   -- and before commands in order
-  pub honest_then : (old new : Custody V S g database) (entries : List Entry) (answers : List (Result Reply not_accepted.Refused)) → HasRun old entries answers new → (stored database (held_by new)).IsHonest → (stored database (held_by old)).IsHonest
-  honest_then old new [] [] run honest = subst (λ c. (stored database (held_by c)).IsHonest) run honest
+  pub honest_then : (old new : Custody V S g database) (entries : List Entry) (answers : List (Result Reply not_accepted.Refused)) → HasRun old entries answers new → (stored database (keeper_of new)).IsHonest → (stored database (keeper_of old)).IsHonest
+  honest_then old new [] [] run honest = subst (λ c. (stored database (keeper_of c)).IsHonest) run honest
   honest_then old new [] (a ∷ answers) run honest = absurd run
   honest_then old new (e ∷ entries) [] run honest = absurd run
   honest_then old new (e ∷ entries) (a ∷ answers) run honest = trusts old run.0 e.0 e.1 a run.1 (honest_then run.0 new entries answers run.2 honest)
 
   -- where a custody is, and what a stop leaves of it
   record IsThere (c : Custody V S g database) (next : Place) : Type 0 where
-    at : IsAt (is_open c) (recorded (held_by c)) (image_of (held_by c)) next
+    at : IsAt (is_open c) (recorded (keeper_of c)) (image_of (keeper_of c)) next
     leaves : Leaves database c (MayLeave next)
-    mode : (stored database (held_by c)).in_transaction ≡ false
+    mode : (stored database (keeper_of c)).in_transaction ≡ false
     serves : is_open c ≡ true → IsServing database c
 
   module _ (tells : g.tells) where
-    run_from : (old new : Custody V S g database) (entries : List Entry) (answers : List (Result Reply not_accepted.Refused)) → IsServing database old → (stored database (held_by new)).IsHonest → HasRun old entries answers new
-        → (next : Place) × Chain MovesBy (place_of database old) entries (answers_of entries answers) next × IsThere new next × KeepsPast (held_by old) (held_by new)
+    run_from : (old new : Custody V S g database) (entries : List Entry) (answers : List (Result Reply not_accepted.Refused)) → IsServing database old → (stored database (keeper_of new)).IsHonest → HasRun old entries answers new
+        → (next : Place) × Chain MovesBy (place_of database old) entries (answers_of entries answers) next × IsThere new next × KeepsPast (keeper_of old) (keeper_of new)
     run_from old new [] [] serving honest run = (
       place_of database old,
       refl,
       subst (λ c. IsThere c (place_of database old)) (sym run) (record {
-        at = subst (λ b. IsAt b (recorded (held_by old)) (image_of (held_by old)) (place_of database old)) (sym serving.opened) (refl, refl);
+        at = subst (λ b. IsAt b (recorded (keeper_of old)) (image_of (keeper_of old)) (place_of database old)) (sym serving.opened) (refl, refl);
         leaves = rests old serving;
         mode = serving.rows.ready.autocommit;
         serves = λ _. serving;
       }),
-      subst (λ c. KeepsPast (held_by old) (held_by c)) (sym run) (past_same (held_by old)),
+      subst (λ c. KeepsPast (keeper_of old) (keeper_of c)) (sym run) (past_same (keeper_of old)),
     )
     run_from old new [] (a ∷ answers) serving honest run = absurd run
     run_from old new (e ∷ entries) [] serving honest run = absurd run
@@ -204,34 +204,34 @@ module _ {V S : Type 0} {g : volume.Ghosts V} {database : Ghosts S} where
         then : HasRun mid entries answers new
         then = run.2
 
-        honest_mid : (stored database (held_by mid)).IsHonest
+        honest_mid : (stored database (keeper_of mid)).IsHonest
         honest_mid = honest_then mid new entries answers then honest
 
-        moment : LeavesOnly g.moment g.left_at (volume_of (held_by old).vault) (volume_of (held_by mid).vault) (DiffersOnlyIn (IsFree (held_by old).vault) (image_of (held_by old)))
+        moment : LeavesOnly g.moment g.left_at (volume_of (keeper_of old).vault) (volume_of (keeper_of mid).vault) (DiffersOnlyIn (IsFree (keeper_of old).vault) (image_of (keeper_of old)))
         moment = (applied.done serving.opened).any_moment tells serving.image
 
-        by : (IsServing database mid → (next : Place) × Chain MovesBy (place_of database mid) entries (answers_of entries answers) next × IsThere new next × KeepsPast (held_by mid) (held_by new))
-            → (b : Bool) → stays_open a ≡ b → (next : Place) × Chain MovesBy (place_of database old) (e ∷ entries) (answers_of (e ∷ entries) (a ∷ answers)) next × IsThere new next × KeepsPast (held_by old) (held_by new)
+        by : (IsServing database mid → (next : Place) × Chain MovesBy (place_of database mid) entries (answers_of entries answers) next × IsThere new next × KeepsPast (keeper_of mid) (keeper_of new))
+            → (b : Bool) → stays_open a ≡ b → (next : Place) × Chain MovesBy (place_of database old) (e ∷ entries) (answers_of (e ∷ entries) (a ∷ answers)) next × IsThere new next × KeepsPast (keeper_of old) (keeper_of new)
         by go_on true stays =
             let s = (applied.done serving.opened).serves tells honest_mid serving.image serving.rows in
             let opened = applied.opened serving.opened ∙ stays in
-            let is = is_serving (stays_open a) (recorded (held_by mid)) (image_of (held_by mid)) s.next stays s.is_at in
+            let is = is_serving (stays_open a) (recorded (keeper_of mid)) (image_of (keeper_of mid)) s.next stays s.is_at in
             let more = go_on (record { opened = opened; image = (applied.done serving.opened).image stays tells serving.image; rows = (applied.done serving.opened).rows stays honest_mid serving.rows }) in
-            (more.0, (s.next, s.moves, subst (λ p. Chain MovesBy p entries (answers_of entries answers) more.0) (sym is) more.1), more.2, past_join (held_by old) (held_by mid) (held_by new) (moment.later, moment.past) more.3)
+            (more.0, (s.next, s.moves, subst (λ p. Chain MovesBy p entries (answers_of entries answers) more.0) (sym is) more.1), more.2, past_join (keeper_of old) (keeper_of mid) (keeper_of new) (moment.later, moment.past) more.3)
         by go_on false stays =
             let s = (applied.done serving.opened).serves tells honest_mid serving.image serving.rows in
             let opened = applied.opened serving.opened in
-            let shut = is_shut (stays_open a) (recorded (held_by mid)) (image_of (held_by mid)) s.next stays s.is_at in
+            let shut = is_shut (stays_open a) (recorded (keeper_of mid)) (image_of (keeper_of mid)) s.next stays s.is_at in
             let closed = closed_run shut.0 shut.1 shut.2 mid new entries answers (opened ∙ stays) then in (
               s.next,
               (s.next, s.moves, subst (λ p. Chain MovesBy p entries (answers_of entries answers) p) (sym shut.3) closed.1),
               subst (λ c. IsThere c s.next) (sym closed.0) (record {
-                at = subst (λ b. IsAt b (recorded (held_by mid)) (image_of (held_by mid)) s.next) (sym opened) s.is_at;
+                at = subst (λ b. IsAt b (recorded (keeper_of mid)) (image_of (keeper_of mid)) s.next) (sym opened) s.is_at;
                 leaves = s.leaves.at_exit;
                 mode = (applied.done serving.opened).mode honest_mid serving.rows;
                 serves = λ is. never (sym is ∙ (opened ∙ stays));
               }),
-              subst (λ c. KeepsPast (held_by old) (held_by c)) (sym closed.0) (moment.later, moment.past),
+              subst (λ c. KeepsPast (keeper_of old) (keeper_of c)) (sym closed.0) (moment.later, moment.past),
             )
           where
             never : {P : Type 0} → true ≡ false → P
@@ -241,7 +241,7 @@ module _ {V S : Type 0} {g : volume.Ghosts V} {database : Ghosts S} where
     runs_move old new serving honest entries answers run =
         let moved = run_from old new entries answers serving honest run in
         let there = moved.2 in
-        let still = still_at (recorded (held_by old)) (image_of (held_by old)) entries (answers_of entries answers) moved.0 moved.1 in
+        let still = still_at (recorded (keeper_of old)) (image_of (keeper_of old)) entries (answers_of entries answers) moved.0 moved.1 in
         record {
           next = moved.0;
           moves = moved.1;
@@ -267,11 +267,11 @@ module _ {V S : Type 0} {g : volume.Ghosts V} {database : Ghosts S} where
         by true opened =
             let serving_mid = moved.serves opened in
             let s = (applied.done opened).serves tells honest serving_mid.image serving_mid.rows in
-            let is = is_serving (is_open mid) (recorded (held_by mid)) (image_of (held_by mid)) moved.next opened moved.is_at in
+            let is = is_serving (is_open mid) (recorded (keeper_of mid)) (image_of (keeper_of mid)) moved.next opened moved.is_at in
             then (subst (λ p. MovesAlong p (StoppedWithin command now pair ∷ []) (Left rows image)) (sym is) (Left rows image, (rows, image, s.leaves.within rows image left since, finds, refl), refl))
         by false shut =
-            let place = is_shut (is_open mid) (recorded (held_by mid)) (image_of (held_by mid)) moved.next shut moved.is_at in
+            let place = is_shut (is_open mid) (recorded (keeper_of mid)) (image_of (keeper_of mid)) moved.next shut moved.is_at in
             let same = applied.closed shut in
-            let here = since_same g.moment g.left_at (volume_of (held_by mid).vault) image (subst (λ (c : Custody V S g database). left_since (held_by mid) (held_by c) image) same.1 since) in
+            let here = since_same g.moment g.left_at (volume_of (keeper_of mid).vault) image (subst (λ (c : Custody V S g database). left_since (keeper_of mid) (keeper_of c) image) same.1 since) in
             let may : MayLeave (Shut place.0 place.1 place.2) rows image = subst (λ p. MayLeave p rows image) place.3 (moved.leaves rows image left here) in
             then (subst (λ p. MovesAlong p (StoppedWithin command now pair ∷ []) (Left rows image)) (sym place.3) (Left rows image, (rows, image, may, finds, refl), refl))

@@ -25,8 +25,8 @@ use Rattle.custody_machine.proofs.Stored.{stands_for_one}
 use Rattle.custody.specs.declared.answers.Reply.{Reply}
 use Rattle.custody.specs.declared.answers.Refused as not_accepted
 use Rattle.custody.specs.declared.custody.Custody.{Custody}
-use Rattle.custody.specs.Holdings.{recorded, stored, image_of, left_by}
-use Rattle.custody.specs.Custody.{held_by, HasRun}
+use Rattle.custody.specs.Keeper.{recorded, stored, image_of, left_by}
+use Rattle.custody.specs.Custody.{keeper_of, HasRun}
 use Rattle.custody.specs.Sessions.{answers_of, IsAfter, IsServing, place_of, state_of, IsSession, IsNotOpened, IsReopened, IsResumed, RestsMayStop, SessionsGoOn, OpeningsMayFail}
 use Rattle.custody.proofs.Opened.{reads_left, left_same}
 use Rattle.custody.proofs.RunMoves.{along_join, runs_move}
@@ -122,10 +122,10 @@ reopened_as rows image entries answers rows_left images_left session left later 
 module _ {V S : Type 0} {g : volume.Ghosts V} {database : Ghosts S} (tells : g.tells) where
   -- an opening of rows and an image, and then commands
   pub session_made : (old new : Custody V S g database) (rows : Rows) (image : List ℕ) (entries : List Entry) (answers : List (Result Reply not_accepted.Refused)) → IsServing database old
-      → form_of rows ≡ InForm (recorded (held_by old)) → IsGood (recorded (held_by old)) image → image_of (held_by old) ≡ image → HasRun old entries answers new → (stored database (held_by new)).IsHonest
-      → IsSession rows image entries (answers_of entries answers) (stored database (held_by new)).may_leave (left_by (held_by new))
+      → form_of rows ≡ InForm (recorded (keeper_of old)) → IsGood (recorded (keeper_of old)) image → image_of (keeper_of old) ≡ image → HasRun old entries answers new → (stored database (keeper_of new)).IsHonest
+      → IsSession rows image entries (answers_of entries answers) (stored database (keeper_of new)).may_leave (left_by (keeper_of new))
   session_made old new rows image entries answers serving is good same run honest =
-      let records = recorded (held_by old) in
+      let records = recorded (keeper_of old) in
       let moved = runs_move tells old new serving honest entries answers run in
       record {
         answered = same_length (place_of database old) moved.next entries (answers_of entries answers) moved.moves;
@@ -143,12 +143,12 @@ module _ {V S : Type 0} {g : volume.Ghosts V} {database : Ghosts S} (tells : g.t
 
   -- a beginning, commands, a stop that left rows and an image, and their opening
   pub resumed : (old new later : Custody V S g database) (entries : List Entry) (answers : List (Result Reply not_accepted.Refused)) → IsServing database old → IsBegun nothing (place_of database old)
-      → HasRun old entries answers new → (stored database (held_by new)).IsHonest → (stopped : V) (db : Held S) → stopped ≡ volume_of (held_by new).vault → db ≡ (held_by new).store
-      → (rows : Rows) (image : List ℕ) → (standing database db).may_leave rows → g.left_at stopped (g.moment stopped) image → form_of rows ≡ InForm (recorded (held_by later)) → IsGood (recorded (held_by later)) image → image_of (held_by later) ≡ image → IsServing database later → IsResumed database entries (answers_of entries answers) later
+      → HasRun old entries answers new → (stored database (keeper_of new)).IsHonest → (stopped : V) (db : Held S) → stopped ≡ volume_of (keeper_of new).vault → db ≡ (keeper_of new).store
+      → (rows : Rows) (image : List ℕ) → (standing database db).may_leave rows → g.left_at stopped (g.moment stopped) image → form_of rows ≡ InForm (recorded (keeper_of later)) → IsGood (recorded (keeper_of later)) image → image_of (keeper_of later) ≡ image → IsServing database later → IsResumed database entries (answers_of entries answers) later
   resumed old new later entries answers serving begun run honest stopped db same_volume same_store rows image rows_left image_left is good same serves =
       let h = subst (λ d. (standing database d).may_leave rows) same_store rows_left in
       let w = subst (λ v. g.left_at v (g.moment v) image) same_volume image_left in
-      let records = recorded (held_by later) in
+      let records = recorded (keeper_of later) in
       let told = answers_of entries answers in
       let moved = runs_move tells old new serving honest entries answers run in
       let there = moved.finds rows image h w in

@@ -15,7 +15,8 @@ use Rattle.custody_machine.specs.History.{is_open_after}
 use Rattle.custody_machine.specs.Moves.{RestsOnBytes}
 use Rattle.custody_machine.specs.Stored.{state_in}
 use Rattle.custody_store.specs.Standing.{standing}
-use Rattle.custody_machine.specs.Custody.{Decides, Goes, IsInStore}
+use Rattle.custody_machine.specs.Rulings.{AddsPart, Makes, Decides}
+use Rattle.custody_machine.specs.Custody.{IsInStore}
 use Rattle.custody_machine.specs.declared.answers.Fault.TheVariants as fault
 use Rattle.custody_machine.specs.declared.answers.Refusal.TheVariants.{VolumeFull}
 use Rattle.custody_machine.proofs.Composed.{nothing_in, reads_nothing}
@@ -24,13 +25,13 @@ use Rattle.custody_machine.proofs.Room.{no_room}
 use Rattle.custody.specs.declared.answers.Reply.{Reply}
 use Rattle.custody.specs.declared.answers.Refused as not_accepted
 use Rattle.custody.specs.declared.answers.Refused.TheVariants as refused
-use Rattle.custody.specs.declared.holdings.Holdings.{Holdings}
+use Rattle.custody.specs.declared.keeper.Keeper.{Keeper}
 use Rattle.custody.specs.Answers.{answer_of, stays_open, may_call, unstaged}
 use Rattle.custody.specs.Ruled.{IsReceived}
-use Rattle.custody.specs.Holdings.{recorded, stored, image_of, failures_of, left_by, KeepsOrder, KeepsImage, KeepsRows, IsSafe, HasServed, HasDone}
-use Rattle.custody.proofs.HoldingLemmas.{stays_still, order_same, image_same, safe_undone, does_nothing}
+use Rattle.custody.specs.Keeper.{recorded, stored, image_of, failures_of, left_by, KeepsOrder, KeepsImage, KeepsRows, IsSafe, HasServed, HasDone}
+use Rattle.custody.proofs.KeeperLemmas.{stays_still, order_same, image_same, safe_undone, does_nothing}
 
-module _ {V S : Type 0} {g : volume.Ghosts V} (old new : Holdings V S g) (same : recorded new ≡ recorded old) (store_same : new.store ≡ old.store) (text bytes : List ℕ) (now : ℕ) (n : Name) (order : KeepsOrder old) (ruled : Decides (Goes n) (recorded old) text (length bytes) now)
+module _ {V S : Type 0} {g : volume.Ghosts V} (old new : Keeper V S g) (same : recorded new ≡ recorded old) (store_same : new.store ≡ old.store) (text bytes : List ℕ) (now : ℕ) (n : Name) (order : KeepsOrder old) (ruled : Decides (Makes (AddsPart n)) (recorded old) (Receive text bytes) now)
     (e : StageError) (free : SameFree (IsFree old.vault) (IsFree new.vault)) (full_same : e ≡ Full → volume_of new.vault ≡ volume_of old.vault) (memory_same : e ≡ NoMemory → volume_of new.vault ≡ volume_of old.vault) where
   -- while it stays open, the volume was not called
   volume_same : stays_open (Err (unstaged e)) ≡ true → volume_of new.vault ≡ volume_of old.vault
@@ -79,7 +80,7 @@ module _ {V S : Type 0} {g : volume.Ghosts V} (old new : Holdings V S g) (same :
         (each_of g.moment g.left_at (volume_of old.vault) (volume_of new.vault) _ leaves) (λ r w. subst (λ s. (standing database s).may_leave r) store_same w) (now_of g.moment g.left_at (volume_of old.vault) (volume_of new.vault) _ leaves))
       where
         accepted : step (state_in (recorded old) (image_of old)) (Receive text bytes) now ≡ Accept (record { entry = OfPart (key_of n) (received_part n bytes now); is_repeat = false }) (with_part (state_in (recorded old) (image_of old)) (key_of n) (received_part n bytes now))
-        accepted = ruled.2 (image_of old) bytes refl
+        accepted = ruled.1 (image_of old)
 
         may : (d : StageError) → Answers (state_in (recorded old) (image_of old)) (Receive text bytes) now (answer_of (Receive text bytes) (Err (unstaged d))) (state_in (recorded old) (image_of old))
         may Full = (subst (λ r. MayRefuse (Receive text bytes) r VolumeFull) (sym accepted) (refl, refl, refl), refl)
@@ -87,7 +88,7 @@ module _ {V S : Type 0} {g : volume.Ghosts V} (old new : Holdings V S g) (same :
         may VolumeFailed = (subst (λ r. MayFail r (reads (state_in (recorded old) (image_of old)) (Receive text bytes) now) fault.VolumeFailed) (sym accepted) tt, refl)
 
         rests : (d : StageError) → RestsOnBytes (recorded old) (image_of old) (Receive text bytes) now (answer_of (Receive text bytes) (Err (unstaged d)))
-        rests Full = λ key within. absurd (nothing_in _ key (reads_nothing (recorded old) (image_of old) order.whole text bytes now n ruled.0 ruled.1 accepted) within)
+        rests Full = λ key within. absurd (nothing_in _ key (reads_nothing (recorded old) (image_of old) order.whole text bytes now n ruled.0.0 ruled.0.1 accepted) within)
         rests NoMemory = tt
         rests VolumeFailed = tt
 
@@ -105,7 +106,7 @@ module _ {V S : Type 0} {g : volume.Ghosts V} (old new : Holdings V S g) (same :
       → (answer : Result Reply not_accepted.Refused) → answer ≡ Err (unstaged e) → HasDone database old (Receive text bytes) now answer new
   unstaged_done database failed full written leaves answer is = subst (λ a. HasDone database old (Receive text bytes) now a new) (sym is) (record {
     safe = unstaged_safe failed full (Err (unstaged e)) refl;
-    ruled = (Goes n, ruled, received e);
+    ruled = (Makes (AddsPart n), ruled, received e);
     shown = tt;
     holds = λ _. tt;
     written = written;

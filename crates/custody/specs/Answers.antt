@@ -1,5 +1,5 @@
 -- The answers of a custody, as those of the machine, and their lines.
-use Rattle.std.specs.Prelude.{ℕ, List, [], codes, Bool, true, false, not, ◌&&◌, Result, Ok, Err}
+use Rattle.std.specs.Prelude.{ℕ, List, codes, Bool, true, false, not, ◌&&◌, None, Result, Ok, Err}
 use Rattle.custody_records.specs.Records.{key_of}
 use Rattle.vault_volume.specs.declared.errors.StageError.{StageError}
 use Rattle.vault_volume.specs.declared.errors.StageError.TheVariants as stage
@@ -10,7 +10,12 @@ use Rattle.custody_machine.specs.Machine as machine
 use Rattle.custody_machine.specs.Machine.{Command, Register, Receive, Answer, Accepted, Refused, Failed, OfRegistry, OfPart}
 use Rattle.custody_machine.specs.declared.answers.Refusal.TheVariants.{OtherBytes, VolumeFull}
 use Rattle.custody_machine.specs.declared.answers.Fault.TheVariants.{NoMemory, VolumeFailed, StoreFailed, Closed, Damaged}
+use Rattle.custody_machine.specs.Rulings.{bytes_of}
+use Rattle.custody_machine.specs.declared.codes.Status.TheVariants as status
+use Rattle.custody_machine.specs.Codes.{Row, fault_code, row_text}
 use Rattle.custody_machine.specs.Texts.{refusal_text, fault_text}
+use Rattle.custody_rules.specs.declared.ruling.Kept as kept
+use Rattle.custody_rules.specs.declared.ruling.Kept.TheVariants as found
 use Rattle.custody.specs.declared.answers.Record as code
 use Rattle.custody.specs.declared.answers.Record.TheVariants as record_of_kind
 use Rattle.custody.specs.declared.answers.Reply.{Reply}
@@ -23,20 +28,27 @@ abbrev pub refused_text : not_accepted.Refused → List ℕ
 refused_text (refused.Refusal refusal) = refusal_text refusal
 refused_text (refused.Fault fault) = fault_text fault
 
-abbrev pub init_error_text : InitError → List ℕ
-init_error_text init_error.AlreadyInitialised = codes "I1 already initialised"
-init_error_text init_error.Size = codes "I2 size"
-init_error_text (init_error.Fault fault) = fault_text fault
+-- the number and the text with which nothing is begun; no response tells them
+abbrev pub not_begun : List ℕ → List ℕ → Row
+not_begun number text = record { number = number; text = text; status = status.Refused; http = None }
 
--- the bytes that a command brings
-abbrev pub bytes_of : Command → List ℕ
-bytes_of (Register tld first_day) = []
-bytes_of (Receive name bytes) = bytes
+abbrev pub init_error_code : InitError → Row
+init_error_code init_error.AlreadyInitialised = not_begun (codes "I1") (codes "already initialised")
+init_error_code init_error.Size = not_begun (codes "I2") (codes "size")
+init_error_code (init_error.Fault fault) = fault_code fault
+
+abbrev pub init_error_text : InitError → List ℕ
+init_error_text (init_error.Fault fault) = fault_text fault
+init_error_text error = row_text (init_error_code error)
 
 -- the record that is answered, with the bytes of the command: those that the answer's extents hold
 abbrev pub record_shown : List ℕ → code.Record → machine.Record
 record_shown bytes (record_of_kind.Registry tld first_day) = OfRegistry tld first_day
 record_shown bytes (record_of_kind.Part name received len digest extents) = OfPart (key_of name) (record { kind = name.kind; received = received; content = Held bytes })
+
+-- the record that answers a repeat
+abbrev pub told_by : kept.Kept → code.Record
+told_by (found.Registry registry) = record_of_kind.Registry registry.tld registry.first_day
 
 -- the answer of the machine
 abbrev pub answer_of : Command → Result Reply not_accepted.Refused → Answer

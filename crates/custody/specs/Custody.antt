@@ -10,14 +10,14 @@ use Rattle.custody.specs.declared.answers.Reply.{Reply}
 use Rattle.custody.specs.declared.answers.Refused.{Refused}
 use Rattle.custody.specs.declared.answers.Refused.TheVariants as refused
 use Rattle.custody.specs.declared.custody.Custody.{Custody}
-use Rattle.custody.specs.declared.holdings.Holdings.{Holdings}
+use Rattle.custody.specs.declared.keeper.Keeper.{Keeper}
 use Rattle.custody.specs.Answers.{stays_open}
-use Rattle.custody.specs.Holdings.{recorded, HasDone}
+use Rattle.custody.specs.Keeper.{recorded, HasDone}
 use Rattle.custody_machine.specs.Custody.{HasRoomFor}
 
 module _ {V S : Type 0} {g : volume.Ghosts V} {database : Ghosts S} where
-  abbrev pub held_by : Custody V S g database → Holdings V S g
-  held_by custody = custody.holdings
+  abbrev pub keeper_of : Custody V S g database → Keeper V S g
+  keeper_of custody = custody.keeper
 
   abbrev pub is_open : Custody V S g database → Bool
   is_open custody = custody.is_open
@@ -27,11 +27,11 @@ module _ {V S : Type 0} {g : volume.Ghosts V} {database : Ghosts S} where
     -- a closed one says so, and is as it was
     pub closed : is_open old ≡ false → (answer ≡ Err (refused.Fault Closed)) × (new ≡ old)
     -- an open one does it
-    pub done : is_open old ≡ true → HasDone database (held_by old) command now answer (held_by new)
+    pub done : is_open old ≡ true → HasDone database (keeper_of old) command now answer (keeper_of new)
     -- it is closed by a failure of the volume or the database, and by nothing else
     pub opened : is_open old ≡ true → is_open new ≡ stays_open answer
     -- a new part is accepted only where there is room for it, as a want of room is told only where there is none
-    pub room : is_open old ≡ true → IfOk answer (λ reply. reply.is_repeat ≡ false → HasRoomFor (recorded (held_by old)) command)
+    pub room : is_open old ≡ true → IfOk answer (λ reply. reply.is_repeat ≡ false → HasRoomFor (recorded (keeper_of old)) command)
 
 -- commands, each with its moment
 abbrev pub entries_of : List (asked.Command × ℕ) → List Entry

@@ -1,7 +1,8 @@
 pub mod Answers
+pub mod Calls
 pub mod Compared
 pub mod Custody
-pub mod Holdings
+pub mod Keeper
 pub mod Opening
 pub mod Order
 pub mod Ruled

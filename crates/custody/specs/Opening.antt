@@ -1,19 +1,30 @@
--- What an opening and a beginning find.
-use Rattle.std.specs.Prelude.{◌≡◌, ◌⊎◌, ℕ, ◌-◌, List, Option, Some, None, sum_by}
+-- What an opening and a beginning find, and what their steps give.
+use Rattle.std.specs.Prelude.{◌≡◌, ◌≢◌, ◌⊎◌, ℕ, ◌-◌, ◌<◌, ◌≤◌, List, Option, Some, None, sum_by, Result}
 use Rattle.std.specs.FinMap.{entries}
 use Rattle.extent_map.specs.declared.extent.Extent.{Extent}
+use Rattle.vault_volume.specs.declared.volume.Volume as volume
+use Rattle.vault_volume.specs.Disk.{LeavesOne, LeavesOnly}
 use Rattle.vault_volume.specs.Extents.{block_count}
+use Rattle.vault_volume.specs.Head.{head_of}
+use Rattle.vault_volume.specs.Image.{bytes_at}
+use Rattle.sqlite.specs.Store.{Ghosts}
+use Rattle.sqlite.specs.Held.{Held}
 use Rattle.custody_records.specs.Keys.{PartKey}
 use Rattle.custody_records.specs.Records.{PartRecord, Records}
 use Rattle.custody_records.specs.declared.damage.Damage.TheVariants as rows_damage
-use Rattle.custody_records.specs.Rows.{Rows}
-use Rattle.custody_store.specs.Standing.{Standing}
+use Rattle.custody_records.specs.Rows.{Rows, first_meta}
+use Rattle.custody_store.specs.Standing.{Standing, standing, Reads}
 use Rattle.custody_store.specs.declared.faults.StoreFault.{StoreFault}
 use Rattle.custody_store.specs.declared.faults.StoreFault.TheVariants as store
 use Rattle.custody_machine.specs.declared.answers.Fault.{Fault}
-use Rattle.custody_machine.specs.declared.answers.Fault.TheVariants.{NoMemory, StoreFailed, Damaged}
-use Rattle.custody_machine.specs.declared.damage.Damage.TheVariants.{Schema, Form}
-use Rattle.custody_machine.specs.Damage.{meta_of}
+use Rattle.custody_machine.specs.declared.answers.Fault.TheVariants.{NoMemory, StoreFailed, Closed, Damaged}
+use Rattle.custody_machine.specs.declared.damage.Damage as machine
+use Rattle.custody_machine.specs.declared.damage.Damage.TheVariants.{NoRecord, Head, Volume, Schema, Form}
+use Rattle.custody_machine.specs.Damage.{damage_number, IsDamaged, NoneBefore, IsFirstDamage}
+use Rattle.custody_machine.specs.Stored.{AreWhole}
+use Rattle.custody_machine.specs.Moves.{Left, MayLeave}
+use Rattle.custody_machine.specs.Custody.{LeftSince, LeftByCall, Leaves}
+use Rattle.custody.specs.declared.opening.TheConstants.{FEWEST_BLOCKS, MOST_BLOCKS}
 use Rattle.custody.specs.declared.answers.InitError.{InitError}
 use Rattle.custody.specs.declared.answers.InitError.TheVariants as init_error
 
@@ -23,7 +34,7 @@ HasAllOrNone s = s.IsReady ⊎ s.IsBare
 
 -- the database has no record of a vault
 abbrev pub HasNoRecord : Rows → Type 0
-HasNoRecord rows = meta_of rows ≡ None
+HasNoRecord rows = first_meta rows ≡ None
 
 -- why there is no custody where the records were not loaded
 abbrev pub fault_of : StoreFault → Fault
@@ -43,3 +54,104 @@ blocks_held len (Some extents) = block_count len
 -- all blocks but block 0 and those of the parts that are held
 abbrev pub free_blocks : Records → ℕ
 free_blocks records = records.blocks - 1 - sum_by (λ (entry : PartKey × PartRecord). blocks_held entry.1.len entry.1.extents) (entries records.parts)
+
+-- ---- what a step does
+
+-- how many blocks a volume may have
+abbrev pub IsSize : ℕ → Type 0
+IsSize blocks = (FEWEST_BLOCKS ≤ blocks) × (blocks ≤ MOST_BLOCKS)
+
+-- The volume counted a failure where that is told, and none where it is not.
+pub record CountsFailures (IsTold : Type 0) (before after : ℕ) : Type 0 where
+  pub failed : IsTold → before < after
+  pub not_failed : ¬ IsTold → after ≡ before
+
+-- The volume is read, and not written.
+pub record ReadsVolume {V : Type 0} (device : volume.Ghosts V) (old new : V) : Type 0 where
+  -- it has its size
+  pub size : device.size new ≡ device.size old
+  -- a read gives what it gave
+  pub image : device.tells → device.image new ≡ device.image old
+  -- the clock does not go back, what a stop could leave before stays, and since then it leaves what it could leave at the start
+  pub any_moment : device.tells → LeavesOnly device.moment device.left_at old new (device.left_at old (device.moment old))
+
+module _ {V S : Type 0} (device : volume.Ghosts V) (database : Ghosts S) where
+  -- what a stop may leave of a call that went from volume and database to later ones
+  abbrev pub left_by_reading : V → Held S → V → Held S → LeftByCall
+  left_by_reading volume db later then = record {
+    rows_before = (standing database db).may_leave;
+    images_since = LeftSince device.moment device.left_at volume later;
+    rows_then = (standing database then).may_leave;
+    images_then = device.left_at later (device.moment later);
+  }
+
+  -- Volume and database are read, and not written.
+  pub record OnlyReads {A E : Type 0} (volume : V) (db : Held S) (later : V) (then : Held S) (result : Result A E) : Type 0 where
+    -- of the volume
+    pub image : ReadsVolume device volume later
+    -- of the database
+    pub rows : Reads (standing database db) (standing database then) result
+    -- what a stop within it or after it may leave is what the start may leave
+    pub leaves : device.tells → LeavesOne (device.image volume) (device.left_at volume (device.moment volume)) → HasAllOrNone (standing database db) → (standing database then).IsHonest
+        → let start = MayLeave (Left (standing database db).rows (device.image volume)) in
+        Leaves (left_by_reading volume db later then) start start
+
+-- ---- damage that is told
+
+-- Damage that is told of rows, and of an image where the volume tells it.
+pub record IsDamageTold (tells : Type 0) (rows : Rows) (image : List ℕ) (damage : machine.Damage) : Type 0 where
+  -- it is true, and none with a lower number is
+  pub is_first : tells → IsFirstDamage damage rows image
+  -- no record is told before anything else, whatever the volume is
+  pub not_before : damage ≢ NoRecord → ¬ HasNoRecord rows
+  -- what is told of the rows alone is true, whatever the volume is
+  pub of_rows : damage ≢ Head → damage ≢ Volume → (any : List ℕ) → IsDamaged damage rows any
+
+-- where a fault is damage, it is damage so told
+abbrev pub TellsDamage : Type 0 → Rows → List ℕ → Fault → Type 0
+TellsDamage tells rows image fault = (damage : machine.Damage) → fault ≡ Damaged damage → IsDamageTold tells rows image damage
+
+-- Why the volume of a record was not found.
+pub record IsNotIdentified (fault : Fault) : Type 0 where
+  -- nothing was closed
+  pub not_closed : fault ≢ Closed
+  -- it is one of H0 to H3
+  pub told : (damage : machine.Damage) → fault ≡ Damaged damage → damage_number damage ≤ 3
+
+-- The number and the blocks of a volume that was found.
+pub record NamesVolume {V : Type 0} (device : volume.Ghosts V) (volume : V) (found : ℕ × ℕ) : Type 0 where
+  -- the blocks are its size
+  pub blocks : found.1 ≡ device.size volume
+  -- block 0 has the number
+  pub head : device.tells → bytes_at (device.image volume) 0 4096 ≡ head_of found.0
+
+-- It is that of the record, whose schema is known.
+pub record IsIdentified (tells : Type 0) (rows : Rows) (image : List ℕ) : Type 0 where
+  -- there is a record
+  pub row : ¬ HasNoRecord rows
+  -- and none of H0 to H2 is true
+  pub undamaged : tells → NoneBefore Schema rows image
+
+-- Why a beginning over these rows is refused.
+pub record IsRefusedBy (rows : Rows) (error : InitError) : Type 0 where
+  -- as begun already only where they have a record
+  pub taken : error ≡ init_error.AlreadyInitialised → ¬ HasNoRecord rows
+  -- for its size only where they have none
+  pub not_taken : error ≡ init_error.Size → HasNoRecord rows
+
+-- Whole records, of a volume with this number and so many blocks.
+pub record AreWholeOf (number blocks : ℕ) (records : Records) : Type 0 where
+  -- no rule among them is broken
+  pub whole : AreWhole records
+  -- they are of this volume
+  pub number_is : records.number ≡ number
+  pub blocks_is : records.blocks ≡ blocks
+  -- block 0 is there
+  pub head : 1 ≤ blocks
+
+-- Damage of rows whose volume is found and whose schema is known.
+pub record IsRowDamage (rows : Rows) (damage : machine.Damage) : Type 0 where
+  -- it is true with any image
+  pub is_true : (image : List ℕ) → IsDamaged damage rows image
+  -- and the first, where none of H0 to H2 is true
+  pub first : (image : List ℕ) → NoneBefore Schema rows image → NoneBefore damage rows image

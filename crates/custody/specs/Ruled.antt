@@ -1,38 +1,42 @@
--- What the records decide of a command, and what is answered then, whatever volume and database are.
-use Rattle.std.specs.Prelude.{◌≡◌, ◌⊎◌, ℕ, List, length, Option, Some, None, true, false, Result, Ok, Err}
-use Rattle.std.specs.FinMap.{get}
+-- What is answered to a ruling, and what is recorded then, whatever volume and database are.
+use Rattle.std.specs.Prelude.{◌≡◌, ◌⊎◌, ℕ, List, [], length, Some, true, false, Result, Ok, Err}
 use Rattle.sha2.specs.Sha256.{sha256}
 use Rattle.deposit_name.specs.Name.{Name}
 use Rattle.extent_map.specs.declared.extent.Extent.{Extent}
 use Rattle.custody_records.specs.Records.{PartRecord, Records, key_of, with_registry, with_part}
-use Rattle.custody_machine.specs.Names.{read_name}
-use Rattle.custody_machine.specs.Machine.{Command, Register, Receive}
+use Rattle.custody_machine.specs.Machine.{Command}
+use Rattle.custody_machine.specs.Machine as machine
 use Rattle.custody_machine.specs.declared.answers.Refusal.TheVariants.{OtherBytes, VolumeFull}
 use Rattle.custody_machine.specs.declared.answers.Fault.TheVariants.{NoMemory, VolumeFailed, StoreFailed, Damaged}
 use Rattle.custody_machine.specs.declared.damage.Damage.TheVariants.{Digest}
-use Rattle.custody_machine.specs.Custody.{PartRuling, Refuses, ByBytes, Goes, Decides}
+use Rattle.custody_machine.specs.Rulings.{Change, AddsRegistry, AddsPart, Ruling, Refuses, Repeats, ByBytes, Makes, Decides, bytes_of}
 use Rattle.custody.specs.declared.answers.Record.TheVariants as of
 use Rattle.custody.specs.declared.answers.Reply.{Reply}
 use Rattle.custody.specs.declared.answers.Refused.{Refused}
-use Rattle.custody.specs.Shown.{ShowsPart}
 use Rattle.custody.specs.declared.answers.Refused.TheVariants as refused
+use Rattle.custody.specs.Answers.{record_shown}
+use Rattle.custody.specs.Shown.{ShowsPart}
 
--- ---- registrations
+-- ---- repeats
 
--- a registry that is recorded is answered, with its first day; a new one is recorded, or memory or the database fails
-abbrev pub IsRegistered : Records → List ℕ → ℕ → Option ℕ → Result Reply Refused → Records → Type 0
-IsRegistered records tld first_day (Some kept) answer later = answer ≡ Ok (record { «record» = of.Registry tld kept; is_repeat = true })
-IsRegistered records tld first_day None (Ok reply) later = (reply ≡ record { «record» = of.Registry tld first_day; is_repeat = false }) × (later ≡ with_registry records tld first_day)
-IsRegistered records tld first_day None (Err (refused.Refusal refusal)) later = ⊥
-IsRegistered records tld first_day None (Err (refused.Fault fault)) later = (fault ≡ NoMemory) ⊎ (fault ≡ StoreFailed)
+-- a repeat is answered by the record that is kept
+abbrev pub IsRepeated : machine.Record → Result Reply Refused → Type 0
+IsRepeated entry (Ok reply) = (record_shown [] reply.record ≡ entry) × (reply.is_repeat ≡ true)
+IsRepeated entry (Err e) = ⊥
 
--- ---- parts
+-- a part that is held is answered as it is recorded; or other bytes or damage are told, or memory or the volume fails
+abbrev pub IsCompared : Name → PartRecord → Result Reply Refused → Type 0
+IsCompared name part (Ok reply) = ShowsPart reply.record name part × (reply.is_repeat ≡ true)
+IsCompared name part (Err (refused.Refusal refusal)) = refusal ≡ OtherBytes
+IsCompared name part (Err (refused.Fault fault)) = (fault ≡ NoMemory) ⊎ ((fault ≡ VolumeFailed) ⊎ (fault ≡ Damaged Digest))
 
--- a part that is held is answered as it is recorded, under the name of the command; or other bytes or damage are told, or memory or the volume fails
-abbrev pub IsCompared : List ℕ → PartRecord → Result Reply Refused → Type 0
-IsCompared text part (Ok reply) = (name : Name) × (read_name text ≡ Ok name) × ShowsPart reply.record name part × (reply.is_repeat ≡ true)
-IsCompared text part (Err (refused.Refusal refusal)) = refusal ≡ OtherBytes
-IsCompared text part (Err (refused.Fault fault)) = (fault ≡ NoMemory) ⊎ ((fault ≡ VolumeFailed) ⊎ (fault ≡ Damaged Digest))
+-- ---- changes
+
+-- a new registry is recorded and answered, or memory or the database fails
+abbrev pub IsTakenOn : Records → List ℕ → ℕ → Result Reply Refused → Records → Type 0
+IsTakenOn records tld first_day (Ok reply) later = (reply ≡ record { «record» = of.Registry tld first_day; is_repeat = false }) × (later ≡ with_registry records tld first_day)
+IsTakenOn records tld first_day (Err (refused.Refusal refusal)) later = ⊥
+IsTakenOn records tld first_day (Err (refused.Fault fault)) later = (fault ≡ NoMemory) ⊎ (fault ≡ StoreFailed)
 
 -- the record of a part that was received: its kind, moment and length, the SHA-256 of its bytes, and some extents
 abbrev pub received_record : Name → ℕ → List ℕ → List Extent → PartRecord
@@ -45,13 +49,18 @@ IsReceived records name now bytes (Ok reply) later =
 IsReceived records name now bytes (Err (refused.Refusal refusal)) later = refusal ≡ VolumeFull
 IsReceived records name now bytes (Err (refused.Fault fault)) later = (fault ≡ NoMemory) ⊎ ((fault ≡ VolumeFailed) ⊎ (fault ≡ StoreFailed))
 
-abbrev pub IsRuledBy : PartRuling → Records → List ℕ → ℕ → List ℕ → Result Reply Refused → Records → Type 0
-IsRuledBy (Refuses refusal) records text now bytes answer later = answer ≡ Err (refused.Refusal refusal)
-IsRuledBy (ByBytes key part extents) records text now bytes answer later = IsCompared text part answer
-IsRuledBy (Goes name) records text now bytes answer later = IsReceived records name now bytes answer later
+abbrev pub IsMade : Change → Records → List ℕ → ℕ → Result Reply Refused → Records → Type 0
+IsMade (AddsRegistry tld first_day) records bytes now answer later = IsTakenOn records tld first_day answer later
+IsMade (AddsPart name) records bytes now answer later = IsReceived records name now bytes answer later
 
 -- ---- commands
 
+abbrev pub Follows : Ruling → Records → List ℕ → ℕ → Result Reply Refused → Records → Type 0
+Follows (Refuses refusal) records bytes now answer later = answer ≡ Err (refused.Refusal refusal)
+Follows (Repeats entry) records bytes now answer later = IsRepeated entry answer
+Follows (ByBytes name part extents) records bytes now answer later = IsCompared name part answer
+Follows (Makes change) records bytes now answer later = IsMade change records bytes now answer later
+
+-- the answer to a command follows what the records decide of it
 abbrev pub IsRuled : Records → Command → ℕ → Result Reply Refused → Records → Type 0
-IsRuled records (Register tld first_day) now answer later = IsRegistered records tld first_day (get records.registries tld) answer later
-IsRuled records (Receive text bytes) now answer later = (ruling : PartRuling) × Decides ruling records text (length bytes) now × IsRuledBy ruling records text now bytes answer later
+IsRuled records command now answer later = (ruling : Ruling) × Decides ruling records command now × Follows ruling records (bytes_of command) now answer later

@@ -17,8 +17,8 @@ use Rattle.custody.specs.declared.answers.Reply.{Reply}
 use Rattle.custody.specs.declared.answers.Refused as not_accepted
 use Rattle.custody.specs.declared.custody.Custody.{Custody}
 use Rattle.custody.specs.Answers.{answer_of}
-use Rattle.custody.specs.Holdings.{recorded, stored, image_of, left_by, left_since, KeepsPast, KeepsImage, KeepsRows}
-use Rattle.custody.specs.Custody.{held_by, is_open, HasApplied, HasRun}
+use Rattle.custody.specs.Keeper.{recorded, stored, image_of, left_by, left_since, KeepsPast, KeepsImage, KeepsRows}
+use Rattle.custody.specs.Custody.{keeper_of, is_open, HasApplied, HasRun}
 
 -- ---- answers
 
@@ -52,46 +52,46 @@ module _ {V S : Type 0} {g : volume.Ghosts V} where
   -- it is open, and volume and database are as it has them in memory
   pub record IsServing (database : Ghosts S) (custody : Custody V S g database) : Type 0 where
     pub opened : is_open custody ≡ true
-    pub image : KeepsImage (held_by custody)
-    pub rows : KeepsRows database (held_by custody)
+    pub image : KeepsImage (keeper_of custody)
+    pub rows : KeepsRows database (keeper_of custody)
 
   -- where it is, if it is open
   abbrev pub place_of : (database : Ghosts S) → Custody V S g database → Place
-  place_of database custody = Serving (recorded (held_by custody)) (image_of (held_by custody))
+  place_of database custody = Serving (recorded (keeper_of custody)) (image_of (keeper_of custody))
 
   abbrev pub state_of : (database : Ghosts S) → Custody V S g database → State
-  state_of database custody = state_in (recorded (held_by custody)) (image_of (held_by custody))
+  state_of database custody = state_in (recorded (keeper_of custody)) (image_of (keeper_of custody))
 
   -- what a stop may leave of both now
   abbrev pub Leaves : (database : Ghosts S) → Custody V S g database → (Rows → List ℕ → Type 0) → Type 0
-  Leaves database custody P = (rows : Rows) (image : List ℕ) → (stored database (held_by custody)).may_leave rows → left_by (held_by custody) image → P rows image
+  Leaves database custody P = (rows : Rows) (image : List ℕ) → (stored database (keeper_of custody)).may_leave rows → left_by (keeper_of custody) image → P rows image
 
   -- no part of these rows names a block that is free
   abbrev pub SparesFree : (database : Ghosts S) → Custody V S g database → Rows → Type 0
-  SparesFree database custody rows = (records : Records) → form_of rows ≡ InForm records → (b : ℕ) → IsNamed records b → ¬ IsFree (held_by custody).vault b
+  SparesFree database custody rows = (records : Records) → form_of rows ≡ InForm records → (b : ℕ) → IsNamed records b → ¬ IsFree (keeper_of custody).vault b
 
   -- Commands have moved it: to where it is, and a stop leaves what it may leave there.
   pub record HasMoved (database : Ghosts S) (old new : Custody V S g database) (entries : List Entry) (answers : List Answer) : Type 0 where
     pub next : Place
     pub moves : Chain MovesBy (place_of database old) entries answers next
-    pub is_at : IsAt (is_open new) (recorded (held_by new)) (image_of (held_by new)) next
+    pub is_at : IsAt (is_open new) (recorded (keeper_of new)) (image_of (keeper_of new)) next
     pub leaves : Leaves database new (MayLeave next)
     pub finds : Leaves database new (λ rows image. (state : State) × Stands rows image state × IsAfter (state_of database old) entries answers state)
     -- what a stop could leave at each moment before stays so
-    pub past : KeepsPast (held_by old) (held_by new)
+    pub past : KeepsPast (keeper_of old) (keeper_of new)
     -- no transaction is open, whether it is closed or not
-    pub mode : (stored database (held_by new)).in_transaction ≡ false
+    pub mode : (stored database (keeper_of new)).in_transaction ≡ false
     pub serves : is_open new ≡ true → IsServing database new
 
   -- where the database was honest to the end, commands in order move an open custody
   abbrev pub RunsMove : (database : Ghosts S) → (old new : Custody V S g database) → Type 0
-  RunsMove database old new = IsServing database old → (stored database (held_by new)).IsHonest → (entries : List Entry) (answers : List (Result Reply not_accepted.Refused)) → HasRun old entries answers new → HasMoved database old new entries (answers_of entries answers)
+  RunsMove database old new = IsServing database old → (stored database (keeper_of new)).IsHonest → (entries : List Entry) (answers : List (Result Reply not_accepted.Refused)) → HasRun old entries answers new → HasMoved database old new entries (answers_of entries answers)
 
   -- a stop at any moment within a command, after others
   abbrev pub StopsMove : (database : Ghosts S) → (old mid new : Custody V S g database) → Type 0
-  StopsMove database old mid new = IsServing database old → (stored database (held_by new)).IsHonest → (entries : List Entry) (answers : List (Result Reply not_accepted.Refused)) → HasRun old entries answers mid
+  StopsMove database old mid new = IsServing database old → (stored database (keeper_of new)).IsHonest → (entries : List Entry) (answers : List (Result Reply not_accepted.Refused)) → HasRun old entries answers mid
       → (command : Command) (now : ℕ) (answer : Result Reply not_accepted.Refused) → HasApplied mid command now answer new
-      → (rows : Rows) (image : List ℕ) (pair : Pair) → (stored database (held_by mid)).may_leave rows → left_since (held_by mid) (held_by new) image → Finds rows image pair
+      → (rows : Rows) (image : List ℕ) (pair : Pair) → (stored database (keeper_of mid)).may_leave rows → left_since (keeper_of mid) (keeper_of new) image → Finds rows image pair
       → MovesAlong (place_of database old) (answered_all entries (answers_of entries answers) ++ StoppedWithin command now pair ∷ []) (Left rows image)
 
 -- ---- sessions
@@ -135,7 +135,7 @@ module _ {V S : Type 0} {g : volume.Ghosts V} where
     -- from nothing, the state is that after the commands that were accepted, in order, and then at most the one in doubt
     pub state : IsAfter empty entries answers (state_of database custody)
     -- each part has its digest
-    pub sound : HasDigests (image_of (held_by custody)) (recorded (held_by custody))
+    pub sound : HasDigests (image_of (keeper_of custody)) (recorded (keeper_of custody))
     -- and it serves
     pub serves : IsServing database custody
 

@@ -3,8 +3,9 @@ ghost use Rattle.std.specs.Prelude.{◌≡◌, IfOk, Some};
 ghost use Rattle.custody_records.specs.Typed.{part_value};
 ghost use Rattle.custody.specs.Shown.{ShowsPart};
 
-use custody_machine::{Fault, Refusal};
-use custody_records::Part;
+use custody_machine::{Code, Fault, Refusal, Status};
+use custody_records::{Part, Registry};
+use custody_rules::Kept;
 use deposit_name::{DepositName, Tld};
 use schedule::{Day, Sec};
 use std::alloc::{AllocError, Global};
@@ -48,6 +49,33 @@ impl Record {
     }
 }
 
+impl From<Registry> for Record {
+    ghost use Rattle.std.specs.Prelude.{◌≡◌};
+    ghost use Rattle.custody.specs.declared.answers.Record.TheVariants as of;
+
+    ghost from_gives = { λ registry r. r ≡ of.Registry registry.tld registry.first_day };
+
+    fn from(registry: Registry) -> Record {
+        Record::Registry {
+            tld: registry.tld,
+            first_day: registry.first_day,
+        }
+    }
+}
+
+impl From<Kept> for Record {
+    ghost use Rattle.std.specs.Prelude.{◌≡◌};
+    ghost use Rattle.custody.specs.Answers.{told_by};
+
+    ghost from_gives = { λ kept r. r ≡ told_by kept };
+
+    fn from(kept: Kept) -> Record {
+        match kept {
+            Kept::Registry(registry) => Record::from(registry),
+        }
+    }
+}
+
 /// A command was accepted.
 #[derive(Debug, PartialEq, Drop)]
 pub struct Reply {
@@ -71,6 +99,29 @@ pub enum InitError {
     /// The volume has fewer than 2 blocks, or more than 262,144.
     Size,
     Fault(Fault),
+}
+
+impl InitError {
+    ghost use Rattle.std.specs.Prelude.{◌≡◌};
+    ghost use Rattle.custody.specs.Answers.{init_error_code};
+    ghost use Rattle.custody_machine.specs.Codes.{row_of};
+
+    /// Its row.
+    pub fn code(&self) -> Code
+        ensures { row_of result ≡ init_error_code self.now }
+    {
+        let (number, text) = match self {
+            InitError::AlreadyInitialised => ("I1", "already initialised"),
+            InitError::Size => ("I2", "size"),
+            InitError::Fault(fault) => return fault.code(),
+        };
+        Code {
+            number,
+            text,
+            status: Status::Refused,
+            http: None,
+        }
+    }
 }
 
 impl From<StageError> for Refused {
@@ -124,9 +175,8 @@ impl fmt::Display for InitError {
 
     fn fmt<W: fmt::Write>(&self, f: &mut fmt::Formatter<W>) -> fmt::Result {
         match self {
-            InitError::AlreadyInitialised => f.write_str("I1 already initialised"),
-            InitError::Size => f.write_str("I2 size"),
             InitError::Fault(fault) => write!(f, "{fault}"),
+            _ => write!(f, "{}", self.code()),
         }
     }
 }

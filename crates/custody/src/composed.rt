@@ -4,8 +4,8 @@ ghost use Rattle.std.specs.Prelude.{◌≡◌, ◌<◌, ◌-◌, ◌*◌, ◌^�
 ghost use Rattle.vault_volume.specs.Disk.{LeavesOne};
 ghost use Rattle.sqlite.specs.Steps.{over_memory};
 ghost use Rattle.custody_store.specs.Standing.{standing};
-ghost use Rattle.custody.specs.Custody.{entries_of, held_by};
-ghost use Rattle.custody.specs.Holdings.{recorded, stored, image_of};
+ghost use Rattle.custody.specs.Custody.{entries_of, keeper_of};
+ghost use Rattle.custody.specs.Keeper.{recorded, stored, image_of};
 ghost use Rattle.custody.specs.Sessions.{answers_of, IsSession, IsNotOpened, IsReopened, IsResumed};
 
 use crate::{Custody, InitError, Refused, Reply};
@@ -84,10 +84,10 @@ pub fn open_run_and_reopen<S: Alter + Drop>(
     requires { ⟦<MemVolume as Volume>⟧.failures volume < 2 ^ 64 - 1 }
     ensures { LeavesOne (⟦<MemVolume as Volume>⟧.image volume) (⟦<MemVolume as Volume>⟧.left_at volume (⟦<MemVolume as Volume>⟧.moment volume))
         → (standing S.Store db).IsReady → (standing S.Store left).IsReady
-        → IfOk result (λ r. (standing S.Store r.stopped).IsHonest → (stored S.Store (held_by r.custody)).IsHonest
+        → IfOk result (λ r. (standing S.Store r.stopped).IsHonest → (stored S.Store (keeper_of r.custody)).IsHonest
         → (standing S.Store r.stopped).may_leave (standing S.Store left).rows
         → IsReopened (standing S.Store db).rows (⟦<MemVolume as Volume>⟧.image volume) (entries_of commands.now) (answers_of (entries_of commands.now) r.answers.items)
-        (standing S.Store left).rows (recorded (held_by r.custody)) (image_of (held_by r.custody))) }
+        (standing S.Store left).rows (recorded (keeper_of r.custody)) (image_of (keeper_of r.custody))) }
 {
     let session = match serve_session(alloc, volume, db, commands) {
         Ok(session) => session,

@@ -7,7 +7,7 @@ mod compare;
 mod composed;
 mod custody;
 mod forms;
-mod holdings;
+mod keeper;
 mod laws;
 mod opening;
 

@@ -1,27 +1,26 @@
 //! What an opening and a beginning look at.
-ghost use Rattle.std.specs.Prelude.{◌≡◌, ◌≢◌, ◌⊎◌, ◌↔◌, ℕ, pos, IsTrue, List, ◌-◌, ◌<◌, ◌≤◌, ◌^◌, is_some, option_map, IfOk, IfErr, OnOk, MatchResult};
-ghost use Rattle.vault_volume.specs.Disk.{LeavesOne, LeavesOnly};
+ghost use Rattle.std.specs.Prelude.{◌≡◌, ◌≢◌, ◌⊎◌, ◌↔◌, ℕ, pos, codes, false, IsTrue, List, ◌-◌, ◌<◌, ◌≤◌, ◌^◌, is_some, option_map, IfOk, IfErr, OnOk, MatchResult};
+ghost use Rattle.vault_volume.specs.Disk.{LeavesOne};
 ghost use Rattle.vault_volume.specs.Head.{head_of};
 ghost use Rattle.vault_volume.specs.Image.{bytes_at};
 ghost use Rattle.vault_volume.specs.Vault.{volume_of};
 ghost use Rattle.custody_records.specs.Form.{form_of, InForm};
 ghost use Rattle.custody_records.specs.Held.{records_of};
-ghost use Rattle.custody_records.specs.Rows.{Rows, fresh};
+ghost use Rattle.custody_records.specs.Rows.{Rows, fresh, first_meta};
 ghost use Rattle.custody_records.specs.Written.{digits_of};
 ghost use Rattle.custody_records.specs.Typed as typed;
-ghost use Rattle.custody_store.specs.Reading.{first_meta};
 ghost use Rattle.custody_store.specs.Standing.{standing, Reads, Founds};
 ghost use Rattle.custody_machine.specs.declared.damage.Damage as wrong;
-ghost use Rattle.custody_machine.specs.Damage.{meta_of, IsDamaged, IsFirstDamage, NoneBefore, damage_number};
+ghost use Rattle.custody_machine.specs.Damage.{IsDamaged};
 ghost use Rattle.custody_machine.specs.Stored.{AreWhole};
 ghost use Rattle.custody_machine.specs.Custody.{MayInitialise};
 ghost use Rattle.custody_machine.specs.declared.answers.Fault as why;
-ghost use Rattle.custody.specs.Holdings.{recorded, KeepsOrder};
+ghost use Rattle.custody.specs.Keeper.{recorded, KeepsOrder};
 ghost use Rattle.custody_rules.specs.Blocks.{IsMapOf};
-ghost use Rattle.custody.specs.Opening.{HasAllOrNone, HasNoRecord, fault_of};
+ghost use Rattle.custody.specs.Opening.{HasAllOrNone, HasNoRecord, fault_of, CountsFailures, IsSize, ReadsVolume, NamesVolume, IsNotIdentified, IsIdentified, IsRefusedBy, TellsDamage, AreWholeOf, IsRowDamage};
 
 use crate::InitError;
-use crate::holdings::Holdings;
+use crate::keeper::Keeper;
 use custody_machine::{Damage, Fault};
 use custody_records::{Meta, Records};
 use custody_rules::damage_in;
@@ -30,12 +29,20 @@ use sqlite::{Alter, Connection};
 use std::alloc::Global;
 use vault_volume::{ExtentMap, Vault, Volume, read_head, write_head};
 
+/// The fewest blocks of a volume: block 0, and one for a part.
+pub const FEWEST_BLOCKS: u32 = 2;
+
+/// The most: with 4,096 bytes each they are 1 GiB.
+pub const MOST_BLOCKS: u32 = 262_144;
+
 /// The first row of meta.
 fn find_record<S: Alter>(db: &mut Connection<S>) -> Result<Option<Meta>, Fault>
     ensures found { (standing S.Store db.new).IsHonest → HasAllOrNone (standing S.Store db.old)
         → IfOk result (λ found. found ≡ option_map typed.meta_of (first_meta (standing S.Store db.old).rows)) }
     ensures reads { Reads (standing S.Store db.old) (standing S.Store db.new) result }
     ensures kind { IfErr result (λ fault. fault ≡ Fault.StoreFailed) }
+    // Where there is no table meta, the database is not called.
+    ensures missing { (standing S.Store db.old).has_table (codes "meta") ≡ false → (result ≡ Ok None) × (db.new ≡ db.old) }
 {
     match find_meta(db) {
         Ok(found) => Ok(found),
@@ -46,9 +53,11 @@ fn find_record<S: Alter>(db: &mut Connection<S>) -> Result<Option<Meta>, Fault>
 /// Whether a database has a record of a vault.
 pub fn has_record<S: Alter>(db: &mut Connection<S>) -> Result<bool, Fault>
     ensures found { (standing S.Store db.new).IsHonest → HasAllOrNone (standing S.Store db.old)
-        → IfOk result (λ is_there. is_there ≡ is_some (meta_of (standing S.Store db.old).rows)) }
+        → IfOk result (λ is_there. is_there ≡ is_some (first_meta (standing S.Store db.old).rows)) }
     ensures reads { Reads (standing S.Store db.old) (standing S.Store db.new) result }
     ensures kind { IfErr result (λ fault. fault ≡ Fault.StoreFailed) }
+    // Where there is no table meta, the database is not called.
+    ensures missing { (standing S.Store db.old).has_table (codes "meta") ≡ false → (result ≡ Ok false) × (db.new ≡ db.old) }
 {
     match find_record(db) {
         Ok(found) => Ok(found.is_some()),
@@ -59,16 +68,13 @@ pub fn has_record<S: Alter>(db: &mut Connection<S>) -> Result<bool, Fault>
 /// The number in block 0.
 fn read_number<V: Volume>(volume: &mut V) -> Result<u64, Fault>
     requires { V.failures volume.old < 2 ^ 64 - 1 }
-    ensures size { V.size volume.new ≡ V.size volume.old }
-    ensures failed { IfErr result (λ fault. fault ≡ Fault.VolumeFailed → V.failures volume.old < V.failures volume.new) }
-    ensures not_failed { IfErr result (λ fault. fault ≢ Fault.VolumeFailed → V.failures volume.new ≡ V.failures volume.old) }
-    ensures no_failure { OnOk result (V.failures volume.new ≡ V.failures volume.old) }
-    ensures not_closed { IfErr result (λ fault. fault ≢ Fault.Closed) }
+    ensures reads { ReadsVolume V.Volume volume.old volume.new }
+    ensures failures { MatchResult result (λ _. V.failures volume.new ≡ V.failures volume.old)
+        (λ fault. CountsFailures (fault ≡ Fault.VolumeFailed) (V.failures volume.old) (V.failures volume.new)) }
     ensures head { V.tells → IfOk result (λ number. bytes_at (V.image volume.old) 0 4096 ≡ head_of number) }
+    ensures not_closed { IfErr result (λ fault. fault ≢ Fault.Closed) }
     ensures kind { IfErr result (λ fault. (damage : wrong.Damage) → fault ≡ Fault.Damaged damage → damage ≡ Damage.Head) }
     ensures damaged { V.tells → IfErr result (λ fault. (damage : wrong.Damage) → fault ≡ Fault.Damaged damage → (rows : Rows) → IsDamaged damage rows (V.image volume.old)) }
-    ensures image { V.tells → V.image volume.new ≡ V.image volume.old }
-    ensures any_moment { V.tells → LeavesOnly V.moment V.left_at volume.old volume.new (V.left_at volume.old (V.moment volume.old)) }
 {
     match read_head(volume) {
         Ok(Some(number)) => Ok(number),
@@ -90,30 +96,19 @@ pub fn identify<V: Volume, S: Alter>(
     db: &mut Connection<S>,
 ) -> Result<(u64, u32), Fault>
     requires { V.failures volume.old < 2 ^ 64 - 1 }
-    ensures size { V.size volume.new ≡ V.size volume.old }
-    ensures blocks { IfOk result (λ found. found.1 ≡ V.size volume.old) }
-    ensures failed { IfErr result (λ fault. fault ≡ Fault.VolumeFailed → V.failures volume.old < V.failures volume.new) }
-    ensures not_failed { IfErr result (λ fault. fault ≢ Fault.VolumeFailed → V.failures volume.new ≡ V.failures volume.old) }
-    ensures no_failure { OnOk result (V.failures volume.new ≡ V.failures volume.old) }
-    ensures not_closed { IfErr result (λ fault. fault ≢ Fault.Closed) }
-    ensures head { V.tells → IfOk result (λ found. bytes_at (V.image volume.old) 0 4096 ≡ head_of found.0) }
-    ensures row { (standing S.Store db.new).IsHonest → HasAllOrNone (standing S.Store db.old)
-        → OnOk result (¬ HasNoRecord (standing S.Store db.old).rows) }
-    ensures damaged { V.tells → (standing S.Store db.new).IsHonest → HasAllOrNone (standing S.Store db.old)
-        → IfErr result (λ fault. (damage : wrong.Damage) → fault ≡ Fault.Damaged damage → IsFirstDamage damage (standing S.Store db.old).rows (V.image volume.old)) }
-    ensures undamaged { V.tells → (standing S.Store db.new).IsHonest → HasAllOrNone (standing S.Store db.old)
-        → OnOk result (NoneBefore Damage.Schema (standing S.Store db.old).rows (V.image volume.old)) }
-    // No record is told before anything else, whatever the volume is.
-    ensures first { (standing S.Store db.new).IsHonest → HasAllOrNone (standing S.Store db.old)
-        → IfErr result (λ fault. (damage : wrong.Damage) → fault ≡ Fault.Damaged damage → damage ≢ Damage.NoRecord → ¬ HasNoRecord (standing S.Store db.old).rows) }
-    ensures told { IfErr result (λ fault. (damage : wrong.Damage) → fault ≡ Fault.Damaged damage → damage_number damage ≤ 3) }
-    // What is told of the rows alone is true, whatever the volume is.
-    ensures rows_damaged { (standing S.Store db.new).IsHonest → HasAllOrNone (standing S.Store db.old)
-        → IfErr result (λ fault. (damage : wrong.Damage) → fault ≡ Fault.Damaged damage → damage ≢ Damage.Head → damage ≢ Damage.Volume
-        → (image : List ℕ) → IsDamaged damage (standing S.Store db.old).rows image) }
+    ensures volume { ReadsVolume V.Volume volume.old volume.new }
     ensures reads { Reads (standing S.Store db.old) (standing S.Store db.new) result }
-    ensures image { V.tells → V.image volume.new ≡ V.image volume.old }
-    ensures any_moment { V.tells → LeavesOnly V.moment V.left_at volume.old volume.new (V.left_at volume.old (V.moment volume.old)) }
+    ensures failures { MatchResult result (λ _. V.failures volume.new ≡ V.failures volume.old)
+        (λ fault. CountsFailures (fault ≡ Fault.VolumeFailed) (V.failures volume.old) (V.failures volume.new)) }
+    ensures found { IfOk result (λ found. NamesVolume V.Volume volume.old found) }
+    ensures told { IfErr result (λ fault. IsNotIdentified fault) }
+    // What the rows say, where the database is honest and has all five tables or none.
+    ensures rows { (standing S.Store db.new).IsHonest → HasAllOrNone (standing S.Store db.old) → MatchResult result
+        (λ _. IsIdentified V.tells (standing S.Store db.old).rows (V.image volume.old))
+        (λ fault. TellsDamage V.tells (standing S.Store db.old).rows (V.image volume.old) fault) }
+    // Where there is no table meta, nothing is called.
+    ensures missing { (standing S.Store db.old).has_table (codes "meta") ≡ false
+        → (result ≡ Err (Fault.Damaged Damage.NoRecord)) × (volume.new ≡ volume.old) × (db.new ≡ db.old) }
 {
     let meta = match find_record(db) {
         Ok(Some(meta)) => meta,
@@ -153,16 +148,11 @@ pub fn load_whole<S: Alter>(
     number: u64,
     blocks: u32,
 ) -> Result<Records, Fault>
-    ensures whole { IfOk result (λ records. AreWhole (records_of records)) }
-    ensures volume { IfOk result (λ records. ((records_of records).number ≡ number) × ((records_of records).blocks ≡ blocks) × (1 ≤ blocks)) }
+    ensures whole { IfOk result (λ records. AreWholeOf number blocks (records_of records)) }
     ensures kind { IfErr result (λ fault. (fault ≢ Fault.VolumeFailed) × (fault ≢ Fault.Closed) × (fault ≢ Fault.Damaged Damage.Digest)) }
-    ensures found { (standing S.Store store.new).IsHonest → (standing S.Store store.old).IsReady
-        → IfOk result (λ records. form_of (standing S.Store store.old).rows ≡ InForm (records_of records)) }
-    ensures damaged { (standing S.Store store.new).IsHonest → (standing S.Store store.old).IsReady
-        → IfErr result (λ fault. (damage : wrong.Damage) → fault ≡ Fault.Damaged damage → (image : List ℕ) → IsDamaged damage (standing S.Store store.old).rows image) }
-    ensures first { (standing S.Store store.new).IsHonest → (standing S.Store store.old).IsReady
-        → IfErr result (λ fault. (damage : wrong.Damage) → fault ≡ Fault.Damaged damage → (image : List ℕ)
-        → NoneBefore Damage.Schema (standing S.Store store.old).rows image → NoneBefore damage (standing S.Store store.old).rows image) }
+    ensures rows { (standing S.Store store.new).IsHonest → (standing S.Store store.old).IsReady → MatchResult result
+        (λ records. form_of (standing S.Store store.old).rows ≡ InForm (records_of records))
+        (λ fault. (damage : wrong.Damage) → fault ≡ Fault.Damaged damage → IsRowDamage (standing S.Store store.old).rows damage) }
     ensures reads { Reads (standing S.Store store.old) (standing S.Store store.new) result }
 {
     let records = match store.load(alloc) {
@@ -182,37 +172,36 @@ pub fn load_whole<S: Alter>(
 
 /// Whether a custody may be begun.
 pub fn may_begin<S: Alter>(db: &mut Connection<S>, blocks: u32) -> Result<(), InitError>
-    ensures fits { OnOk result ((2 ≤ blocks) × (blocks ≤ 262144)) }
-    ensures size { IfErr result (λ e. e ≡ InitError.Size → ¬ ((2 ≤ blocks) × (blocks ≤ 262144))) }
-    ensures taken { (standing S.Store db.new).IsHonest → HasAllOrNone (standing S.Store db.old)
-        → IfErr result (λ e. e ≡ InitError.AlreadyInitialised → ¬ HasNoRecord (standing S.Store db.old).rows) }
-    ensures not_taken { (standing S.Store db.new).IsHonest → HasAllOrNone (standing S.Store db.old)
-        → MatchResult result (λ _. HasNoRecord (standing S.Store db.old).rows) (λ e. e ≡ InitError.Size → HasNoRecord (standing S.Store db.old).rows) }
+    ensures size { MatchResult result (λ _. IsSize blocks) (λ e. e ≡ InitError.Size → ¬ IsSize blocks) }
     ensures kind { IfErr result (λ e. (fault : why.Fault) → e ≡ InitError.Fault fault → fault ≡ Fault.StoreFailed) }
     ensures reads { Reads (standing S.Store db.old) (standing S.Store db.new) result }
+    // A database with a record is refused, and no other.
+    ensures rows { (standing S.Store db.new).IsHonest → HasAllOrNone (standing S.Store db.old) → MatchResult result
+        (λ _. HasNoRecord (standing S.Store db.old).rows) (λ e. IsRefusedBy (standing S.Store db.old).rows e) }
+    // Where there is no table meta, the database is not called, and nothing but the size is refused.
+    ensures missing { (standing S.Store db.old).has_table (codes "meta") ≡ false → IfErr result (λ e. e ≡ InitError.Size) × (db.new ≡ db.old) }
 {
     match has_record(db) {
         Ok(true) => Err(InitError::AlreadyInitialised),
-        Ok(false) if (2..=262_144).contains(&blocks) => Ok(()),
+        Ok(false) if (FEWEST_BLOCKS..=MOST_BLOCKS).contains(&blocks) => Ok(()),
         Ok(false) => Err(InitError::Size),
         Err(fault) => Err(InitError::Fault(fault)),
     }
 }
 
 /// Writes block 0, and then makes the records.
-pub fn prepare<V: Volume, S: Alter>(
+pub fn make_records<V: Volume, S: Alter>(
     volume: &mut V,
     store: &mut Store<S>,
     number: u64,
     blocks: u32,
 ) -> Result<(), Fault>
     requires count { V.failures volume.old < 2 ^ 64 - 1 }
-    requires fits { (2 ≤ blocks) × (blocks ≤ 262144) }
+    requires fits { IsSize blocks }
     requires blocks { V.size volume.old ≡ blocks }
     ensures size { V.size volume.new ≡ V.size volume.old }
-    ensures failed { IfErr result (λ fault. fault ≡ Fault.VolumeFailed → V.failures volume.old < V.failures volume.new) }
-    ensures not_failed { IfErr result (λ fault. fault ≢ Fault.VolumeFailed → V.failures volume.new ≡ V.failures volume.old) }
-    ensures no_failure { OnOk result (V.failures volume.new ≡ V.failures volume.old) }
+    ensures failures { MatchResult result (λ _. V.failures volume.new ≡ V.failures volume.old)
+        (λ fault. CountsFailures (fault ≡ Fault.VolumeFailed) (V.failures volume.old) (V.failures volume.new)) }
     ensures kind { IfErr result (λ fault. (fault ≡ Fault.VolumeFailed) ⊎ (fault ≡ Fault.StoreFailed)) }
     ensures head { V.tells → OnOk result (bytes_at (V.image volume.new) 0 4096 ≡ head_of number) }
     ensures settled { V.tells → OnOk result (LeavesOne (V.image volume.new) (V.left_at volume.new (V.moment volume.new))) }
@@ -230,12 +219,12 @@ pub fn prepare<V: Volume, S: Alter>(
 }
 
 /// Whole records with their volume and database, and the map of their free blocks.
-pub fn hold<V: Volume, S: Alter>(
+pub fn keeper_over<V: Volume, S: Alter>(
     volume: V,
     store: Store<S>,
     records: Records,
     map: ExtentMap,
-) -> Holdings<V, S>
+) -> Keeper<V, S>
     requires whole { AreWhole (records_of records) }
     requires map { IsMapOf (records_of records) map }
     requires size { V.size volume ≡ (records_of records).blocks }
@@ -245,7 +234,7 @@ pub fn hold<V: Volume, S: Alter>(
     ensures records { recorded result ≡ records_of records }
     ensures order { KeepsOrder result }
 {
-    Holdings {
+    Keeper {
         vault: Vault::over(volume, map),
         store,
         records,

@@ -5,7 +5,7 @@ use Rattle.sqlite.specs.Steps.{over_memory}
 use Rattle.sqlite.proofs.Callers.{memory_is_clean}
 use Rattle.custody_store.specs.Reading.{rows_in}
 use Rattle.custody_store.specs.Standing.{standing}
-use Rattle.custody.specs.Custody.{entries_of, held_by}
+use Rattle.custody.specs.Custody.{entries_of, keeper_of}
 use Rattle.custody.specs.Sessions.{IsServing}
 use Rattle.custody.proofs.RunMoves.{runs_move}
 use Rattle.custody.proofs.SessionLemmas.{resumed}
@@ -19,14 +19,14 @@ returns-in-Ok-open c =
     let new = c.run.new.self in
     let later = c.in-Ok-open.custody in
     let db = c.close-stopped.result.1 in
-    let honest = memory_is_clean (held_by new).store in
-    let honest_later = memory_is_clean (held_by later).store in
-    let serving : IsServing over_memory old = record { opened = c.in-Ok-init.ensures.open; image = c.in-Ok-init.ensures.image tt; rows = c.in-Ok-init.ensures.rows (inr c.in-Ok.ensures.bare) (memory_is_clean (held_by old).store) } in
+    let honest = memory_is_clean (keeper_of new).store in
+    let honest_later = memory_is_clean (keeper_of later).store in
+    let serving : IsServing over_memory old = record { opened = c.in-Ok-init.ensures.new.opened; image = c.in-Ok-init.ensures.kept.image tt; rows = c.in-Ok-init.ensures.kept.rows (inr c.in-Ok.ensures.bare) (memory_is_clean (keeper_of old).store) } in
     let run = c.in-Ok-run.ensures.run in
     let there : IsServing over_memory new = (runs_move tt old new serving honest entries answers run).serves c.in_default-records.ensures.found.0 in
     let ready = subst (λ d. (standing over_memory d).IsReady) (sym c.close-stopped.ensures.store) there.rows.ready in
     let shown : (standing over_memory db).may_leave (standing over_memory db).rows = ((state over_memory db).committed.trees, refl, ap (λ (d : Database). rows_in d.trees) (sym ready.committed)) in
-    let found = c.in-Ok-open.ensures.records tt ready honest_later in
-    resumed tt old new later entries answers serving c.in-Ok-init.ensures.begun run honest c.close-stopped.result.0 db c.close-stopped.ensures.volume c.close-stopped.ensures.store
-    (standing over_memory db).rows c.restart.new.self.image.items shown c.restart.ensures.restarted.found found.0 found.1 found.2
-    (record { opened = c.in-Ok-open.ensures.open; image = c.in-Ok-open.ensures.image tt c.restart.ensures.restarted.settled; rows = c.in-Ok-open.ensures.rows ready honest_later })
+    let loaded = c.in-Ok-open.ensures.loaded in
+    resumed tt old new later entries answers serving c.in-Ok-init.ensures.new.begun run honest c.close-stopped.result.0 db c.close-stopped.ensures.volume c.close-stopped.ensures.store
+    (standing over_memory db).rows c.restart.new.self.image.items shown c.restart.ensures.restarted.found (loaded.in_form ready honest_later) (loaded.good tt) (loaded.same_image tt)
+    (record { opened = c.in-Ok-open.ensures.opened.opened; image = loaded.image tt c.restart.ensures.restarted.settled; rows = loaded.rows ready honest_later })

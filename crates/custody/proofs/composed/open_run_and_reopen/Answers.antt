@@ -1,6 +1,6 @@
 use Rattle.custody_store.specs.Standing.{standing}
-use Rattle.custody.specs.Custody.{entries_of, held_by}
-use Rattle.custody.specs.Holdings.{recorded, image_of}
+use Rattle.custody.specs.Custody.{entries_of, keeper_of}
+use Rattle.custody.specs.Keeper.{recorded, image_of}
 use Rattle.custody.specs.Sessions.{answers_of}
 use Rattle.custody.proofs.SessionLemmas.{reopened_as}
 use Rattle.custody.proofs.composed.open_run_and_reopen.Goals as goal
@@ -10,7 +10,7 @@ returns-in-Ok-open g c one ready ready_left honest honest_later may_leave =
     let entries = entries_of c.args.commands.now in
     let answers = answers_of entries c.in-Ok.session.answers.items in
     let session = c.in-Ok.ensures.served tt one ready honest in
-    let opened = c.in-Ok-open.ensures.records tt ready_left honest_later in
+    let loaded = c.in-Ok-open.ensures.loaded in
     reopened_as (standing g.S.Store c.args.db).rows c.args.volume.image.items entries answers _ _ session
-    (standing g.S.Store c.args.left).rows c.restart.new.self.image.items (image_of (held_by c.in-Ok-open.custody)) (recorded (held_by c.in-Ok-open.custody))
-    opened.2 may_leave c.restart.ensures.restarted.found opened.0 opened.1
+    (standing g.S.Store c.args.left).rows c.restart.new.self.image.items (image_of (keeper_of c.in-Ok-open.custody)) (recorded (keeper_of c.in-Ok-open.custody))
+    (loaded.same_image tt) may_leave c.restart.ensures.restarted.found (loaded.in_form ready_left honest_later) (loaded.good tt)

@@ -1,4 +1,4 @@
-use Rattle.std.proofs.Common.{◌≡◌, inl, inr, refl, pos, ◌<◌, ◌^◌, ◌*◌, length, sym, ◌∙◌, ap, subst, arith}
+use Rattle.std.proofs.Common.{◌≡◌, ◌⊎◌, inl, inr, refl, pos, true, false, ◌<◌, ◌^◌, ◌*◌, sym, ◌∙◌, ap, subst, arith}
 use Rattle.vault_volume.specs.Head.{head_of}
 use Rattle.vault_volume.specs.Vault.{volume_of, IsFree}
 use Rattle.sqlite.specs.Held.{state}
@@ -6,115 +6,63 @@ use Rattle.custody_records.specs.Records.{Records, new_records}
 use Rattle.custody_records.specs.Rows.{fresh}
 use Rattle.custody_records.specs.Written.{digits_of}
 use Rattle.custody_store.specs.Standing.{standing}
+use Rattle.custody_machine.specs.declared.answers.Fault.TheVariants as fault
 use Rattle.custody_machine.specs.Stored.{AreWhole}
 use Rattle.custody_machine.specs.Custody.{IsInStore}
-use Rattle.custody.specs.Holdings.{recorded, image_of}
-use Rattle.custody.proofs.Opened.{none_left, still_none, none_ready, bare_where_none, reads_left, bare_still, new_whole, new_begun, begun_left, on_volume, fresh_in_store}
+use Rattle.custody.specs.declared.answers.InitError.TheVariants as init_error
+use Rattle.custody.specs.Keeper.{recorded, image_of}
+use Rattle.custody.specs.Opening.{IsSize}
+use Rattle.custody.proofs.Opened.{none_left, still_none, none_ready, bare_where_none, bare_still, new_whole, new_begun, begun_left, on_volume, fresh_in_store, is_written, none_made}
 use Rattle.custody.proofs.custody.Custody.init.Goals as goal
 
-pub returns-in-Err-clause-rows_left : goal.returns-in-Err-clause-rows_left
-returns-in-Err-clause-rows_left g c either honest _ rows left = reads_left (standing g.S.Store c.args.db) (standing g.S.Store c.may_begin.new.db) _ c.in-Err.ensures.reads honest either rows left
+-- ---- it is refused, or the database was not read
+
+pub returns-in-Err-clause-not_begun : goal.returns-in-Err-clause-not_begun
+returns-in-Err-clause-not_begun g c = record {
+  size = λ same fits. c.in-Err.ensures.size same (subst IsSize (sym c.size-blocks.ensures) fits);
+  failures = record { failed = λ same. let other = c.in-Err.ensures.kind fault.VolumeFailed same in cc; not_failed = λ _. refl };
+  kind = λ why same. inr (inr (c.in-Err.ensures.kind why same));
+  unwritten = λ _. refl;
+  tables = λ _. refl;
+  ready = λ _. refl;
+  same_size = refl;
+  missing = λ some none. let is = c.in-Err.ensures.missing none in (inl is.0, is.1);
+  mode = c.in-Err.ensures.reads.mode;
+  trust = c.in-Err.ensures.reads.trust;
+}
+
+pub returns-in-Err-clause-leaves : goal.returns-in-Err-clause-leaves
+returns-in-Err-clause-leaves g c honest =
+    none_made g.V.Volume g.S.Store c.args.volume c.args.db c.args.number _ c.args.volume c.may_begin.new.db _ c.in-Err.ensures.reads honest
+    (λ either. (c.in-Err.ensures.rows honest either).taken) (λ either. (c.in-Err.ensures.rows honest either).not_taken)
 
 pub returns-in-Err-clause-within : goal.returns-in-Err-clause-within
 returns-in-Err-clause-within g c either none rows image left = still_none (state g.S.Store c.args.db) either none rows left
 
-pub returns-in-Err-clause-untouched : goal.returns-in-Err-clause-untouched
-returns-in-Err-clause-untouched g c ready = (refl, λ honest rows left. reads_left (standing g.S.Store c.args.db) (standing g.S.Store c.may_begin.new.db) _ c.in-Err.ensures.reads honest (inl ready) rows left)
+-- ---- a table is there
 
-pub returns-in-Err-clause-fails : goal.returns-in-Err-clause-fails
-returns-in-Err-clause-fails g c tells either none honest rows image left _ =
-    inl (still_none (state g.S.Store c.args.db) either none rows (reads_left (standing g.S.Store c.args.db) (standing g.S.Store c.may_begin.new.db) _ c.in-Err.ensures.reads honest either rows left))
+pub returns-then-has_tables-clause-not_begun : goal.returns-then-has_tables-clause-not_begun
+returns-then-has_tables-clause-not_begun g c = record {
+  size = λ same. cc;
+  failures = record { failed = λ same. cc; not_failed = λ _. refl };
+  kind = λ why same. inr (inr (cc));
+  unwritten = λ _. refl;
+  tables = λ _. refl;
+  ready = λ _. refl;
+  same_size = refl;
+  missing = λ some none. (inr refl, (c.in_default.ensures.missing none).1);
+  mode = c.in_default.ensures.reads.mode;
+  trust = c.in_default.ensures.reads.trust;
+}
 
-pub returns-in-Err-clause-fails_rows : goal.returns-in-Err-clause-fails_rows
-returns-in-Err-clause-fails_rows g c either none honest rows left =
-    inl (still_none (state g.S.Store c.args.db) either none rows (reads_left (standing g.S.Store c.args.db) (standing g.S.Store c.may_begin.new.db) _ c.in-Err.ensures.reads honest either rows left))
+pub returns-then-has_tables-clause-leaves : goal.returns-then-has_tables-clause-leaves
+returns-then-has_tables-clause-leaves g c honest =
+    none_made g.V.Volume g.S.Store c.args.volume c.args.db c.args.number _ c.args.volume c.may_begin.new.db _ c.in_default.ensures.reads honest (λ _ same none. cc) (λ _ same. cc)
 
 pub returns-then-has_tables-clause-within : goal.returns-then-has_tables-clause-within
 returns-then-has_tables-clause-within g c either none rows image left = still_none (state g.S.Store c.args.db) either none rows left
 
-pub returns-then-has_tables-clause-fails : goal.returns-then-has_tables-clause-fails
-returns-then-has_tables-clause-fails g c tells either none honest rows image left _ =
-    inl (still_none (state g.S.Store c.args.db) either none rows (reads_left (standing g.S.Store c.args.db) (standing g.S.Store c.may_begin.new.db) _ c.in_default.ensures.reads honest either rows left))
-
-pub returns-then-has_tables-clause-fails_rows : goal.returns-then-has_tables-clause-fails_rows
-returns-then-has_tables-clause-fails_rows g c either none honest rows left =
-    inl (still_none (state g.S.Store c.args.db) either none rows (reads_left (standing g.S.Store c.args.db) (standing g.S.Store c.may_begin.new.db) _ c.in_default.ensures.reads honest either rows left))
-
-pub returns-in-Err-prepare-clause-within : goal.returns-in-Err-prepare-clause-within
-returns-in-Err-prepare-clause-within g c either none rows image left = still_none (state g.S.Store c.args.db) either none rows left
-
-pub returns-in-Err-prepare-clause-untouched : goal.returns-in-Err-prepare-clause-untouched
-returns-in-Err-prepare-clause-untouched g c ready = absurd (none_ready (state g.S.Store c.args.db) c.if-has_tables.ensures ready)
-
-pub returns-in-Err-prepare-clause-fails : goal.returns-in-Err-prepare-clause-fails
-returns-in-Err-prepare-clause-fails g c tells either none honest rows image left there =
-    let at = c.into_inner.ensures in
-    let clean = subst (λ db. (standing g.S.Store db).IsHonest) at honest in
-    let bare = bare_where_none (state g.S.Store c.args.db) c.if-has_tables.ensures either in
-    let bare_then = bare_still (standing g.S.Store c.args.db) (standing g.S.Store c.may_begin.new.db) (standing g.S.Store c.over-store.result) _ c.in_default.ensures.reads (ap (standing g.S.Store) c.over-store.ensures)
-    (c.in-Err-prepare.ensures.founds.trust clean) bare in
-    c.in-Err-prepare.ensures.at_exit tells clean bare_then rows image (subst (λ db. (standing g.S.Store db).may_leave rows) at left) there
-
-pub returns-in-Err-prepare-clause-fails_rows : goal.returns-in-Err-prepare-clause-fails_rows
-returns-in-Err-prepare-clause-fails_rows g c either none honest rows left =
-    let at = c.into_inner.ensures in
-    let clean = subst (λ db. (standing g.S.Store db).IsHonest) at honest in
-    let bare = bare_where_none (state g.S.Store c.args.db) c.if-has_tables.ensures either in
-    let bare_then = bare_still (standing g.S.Store c.args.db) (standing g.S.Store c.may_begin.new.db) (standing g.S.Store c.over-store.result) _ c.in_default.ensures.reads (ap (standing g.S.Store) c.over-store.ensures)
-    (c.in-Err-prepare.ensures.founds.trust clean) bare in
-    elim ((c.in-Err-prepare.ensures.founds.effect clean bare_then).left rows (subst (λ db. (standing g.S.Store db).may_leave rows) at left)) [
-      | inl old ↦ inl (none_left (state g.S.Store c.over-store.result) bare_then rows old)
-      | inr new ↦ inr (new ∙ ap (λ n. fresh (digits_of c.args.number) (pos n)) c.size-blocks.ensures)
-    ]
-
-pub hold-requires-clause-whole : goal.hold-requires-clause-whole
-hold-requires-clause-whole g c = subst AreWhole (sym c.new-records.ensures) (new_whole c.args.number c.size-blocks.result)
-
-pub returns-clause-begun : goal.returns-clause-begun
-returns-clause-begun g c = new_begun c.args.number c.size-blocks.result (recorded c.hold.result) (image_of c.hold.result) (c.hold.ensures.records ∙ c.new-records.ensures)
-
-pub returns-clause-image : goal.returns-clause-image
-returns-clause-image g c tells =
-    let volume = c.prepare.new.volume in
-    let is : recorded c.hold.result ≡ new_records c.args.number c.size-blocks.result = c.hold.ensures.records ∙ c.new-records.ensures in
-    let size : g.V.Volume.size volume ≡ (recorded c.hold.result).blocks = c.in_default-prepare.ensures.size ∙ sym c.size-blocks.ensures ∙ ap (λ (r : Records). r.blocks) (sym is) in
-    on_volume g.V.Volume.image g.V.Volume.moment g.V.Volume.left_at (volume_of c.hold.result.vault) volume c.hold.ensures.volume (recorded c.hold.result) (IsFree c.hold.result.vault)
-    (c.in_default-prepare.ensures.head tells ∙ ap (λ (r : Records). head_of r.number) (sym is)) (g.met.V.Volume.image_length volume tells ∙ ap (λ n. 4096 * n) size) (λ i left. (c.in_default-prepare.ensures.settled tells i).0 left)
-
-pub returns-clause-rows : goal.returns-clause-rows
-returns-clause-rows g c either honest =
-    let bare = bare_where_none (state g.S.Store c.args.db) c.if-has_tables.ensures either in
-    let at = c.hold.ensures.store in
-    let clean = subst (λ db. (standing g.S.Store db).IsHonest) at honest in
-    let fits : c.args.number < 2 ^ 64 = omega arith in
-    let room = c.in_default.ensures.fits in
-    let bare_then = bare_still (standing g.S.Store c.args.db) (standing g.S.Store c.may_begin.new.db) (standing g.S.Store c.over-store.result) _ c.in_default.ensures.reads (ap (standing g.S.Store) c.over-store.ensures)
-    (c.in_default-prepare.ensures.founds.trust clean) bare in
-    subst (λ db. IsInStore (recorded c.hold.result) (standing g.S.Store db).rows (standing g.S.Store db).IsReady (standing g.S.Store db).may_leave) (sym at)
-    (fresh_in_store (standing g.S.Store c.over-store.result) (state g.S.Store c.prepare.new.store) _ c.args.number c.size-blocks.result fits room.0 room.1 c.in_default-prepare.ensures.founds clean bare_then (recorded c.hold.result)
-    (c.hold.ensures.records ∙ c.new-records.ensures))
-
-pub returns-clause-within : goal.returns-clause-within
-returns-clause-within g c either none rows image left = still_none (state g.S.Store c.args.db) either none rows left
-
-pub returns-clause-untouched : goal.returns-clause-untouched
-returns-clause-untouched g c ready = absurd (none_ready (state g.S.Store c.args.db) c.if-has_tables.ensures ready)
-
-pub returns-clause-begins : goal.returns-clause-begins
-returns-clause-begins g c tells either honest rows image left there =
-    let bare = bare_where_none (state g.S.Store c.args.db) c.if-has_tables.ensures either in
-    let at = c.hold.ensures.store in
-    let volume = c.prepare.new.volume in
-    let clean = subst (λ db. (standing g.S.Store db).IsHonest) at honest in
-    let fits : c.args.number < 2 ^ 64 = omega arith in
-    let room = c.in_default.ensures.fits in
-    let long : length (g.V.Volume.image volume) ≡ 4096 * c.size-blocks.result = g.met.V.Volume.image_length volume tells ∙ ap (λ n. 4096 * n) (c.in_default-prepare.ensures.size ∙ sym c.size-blocks.ensures) in
-    let bare_then = bare_still (standing g.S.Store c.args.db) (standing g.S.Store c.may_begin.new.db) (standing g.S.Store c.over-store.result) _ c.in_default.ensures.reads (ap (standing g.S.Store) c.over-store.ensures)
-    (c.in_default-prepare.ensures.founds.trust clean) bare in
-    let done = (c.in_default-prepare.ensures.founds.effect clean bare_then).done in
-    begun_left c.args.number c.size-blocks.result (g.V.Volume.image volume) fits room.0 room.1 (c.in_default-prepare.ensures.head tells) long rows image
-    (done.0.only rows (subst (λ db. (standing g.S.Store db).may_leave rows) at left) ∙ done.1)
-    ((c.in_default-prepare.ensures.settled tells image).0 (subst (λ v. g.V.Volume.left_at v (g.V.Volume.moment v) image) c.hold.ensures.volume there))
+-- ---- no memory for the map
 
 pub map_of-requires-clause-range : goal.map_of-requires-clause-range
 map_of-requires-clause-range g c = (subst AreWhole (sym c.new-records.ensures) (new_whole c.args.number c.size-blocks.result)).extents
@@ -122,16 +70,127 @@ map_of-requires-clause-range g c = (subst AreWhole (sym c.new-records.ensures) (
 pub map_of-requires-clause-once : goal.map_of-requires-clause-once
 map_of-requires-clause-once g c = (subst AreWhole (sym c.new-records.ensures) (new_whole c.args.number c.size-blocks.result)).once
 
+pub returns-in_default-map_of-clause-not_begun : goal.returns-in_default-map_of-clause-not_begun
+returns-in_default-map_of-clause-not_begun g c = record {
+  size = λ same. cc;
+  failures = record { failed = λ same. cc; not_failed = λ _. refl };
+  kind = λ why same. inl (cc);
+  unwritten = λ _. refl;
+  tables = λ _. refl;
+  ready = λ _. refl;
+  same_size = refl;
+  missing = λ some none. let clash : false ≡ true = c.if-has_tables.ensures ∙ some in cc;
+  mode = c.in_default.ensures.reads.mode;
+  trust = c.in_default.ensures.reads.trust;
+}
+
+pub returns-in_default-map_of-clause-leaves : goal.returns-in_default-map_of-clause-leaves
+returns-in_default-map_of-clause-leaves g c honest =
+    none_made g.V.Volume g.S.Store c.args.volume c.args.db c.args.number _ c.args.volume c.may_begin.new.db _ c.in_default.ensures.reads honest (λ _ same none. cc) (λ _ same. cc)
+
 pub returns-in_default-map_of-clause-within : goal.returns-in_default-map_of-clause-within
 returns-in_default-map_of-clause-within g c either none rows image left = still_none (state g.S.Store c.args.db) either none rows left
 
-pub returns-in_default-map_of-clause-rows_left : goal.returns-in_default-map_of-clause-rows_left
-returns-in_default-map_of-clause-rows_left g c either honest _ rows left = reads_left (standing g.S.Store c.args.db) (standing g.S.Store c.may_begin.new.db) _ c.in_default.ensures.reads honest either rows left
+-- ---- block 0 was not written, or the tables were not made
 
-pub returns-in_default-map_of-clause-fails : goal.returns-in_default-map_of-clause-fails
-returns-in_default-map_of-clause-fails g c tells either none honest rows image left _ =
-    inl (still_none (state g.S.Store c.args.db) either none rows (reads_left (standing g.S.Store c.args.db) (standing g.S.Store c.may_begin.new.db) _ c.in_default.ensures.reads honest either rows left))
+pub returns-in-Err-make_records-clause-not_begun : goal.returns-in-Err-make_records-clause-not_begun
+returns-in-Err-make_records-clause-not_begun g c =
+    let made = c.in-Err-make_records.ensures in
+    let over = ap (standing g.S.Store) c.over-store.ensures in
+    let at = ap (standing g.S.Store) c.into_inner.ensures in
+    record {
+      size = λ same. cc;
+      failures = record { failed = λ same. made.failures.failed (cc); not_failed = λ other. made.failures.not_failed (λ same. other (ap init_error.Fault same)) };
+      kind = λ why same. let is : c.in-Err-make_records.fault ≡ why = cc in inr (subst (λ f. (f ≡ fault.VolumeFailed) ⊎ (f ≡ fault.StoreFailed)) is made.kind);
+      unwritten = λ un. absurd (is_written _ made.kind un);
+      tables = λ some. let clash : false ≡ true = c.if-has_tables.ensures ∙ some in cc;
+      ready = λ ready. absurd (none_ready (state g.S.Store c.args.db) c.if-has_tables.ensures ready);
+      same_size = made.size;
+      missing = λ some none. let clash : false ≡ true = c.if-has_tables.ensures ∙ some in cc;
+      mode = λ closed. ap (λ s. s.in_transaction) at ∙ made.founds.mode (ap (λ s. s.in_transaction) over ∙ c.in_default.ensures.reads.mode closed);
+      trust = λ honest. c.in_default.ensures.reads.trust (subst (λ s. s.IsHonest) over (made.founds.trust (subst (λ s. s.IsHonest) at honest)));
+    }
 
-pub returns-in_default-map_of-clause-fails_rows : goal.returns-in_default-map_of-clause-fails_rows
-returns-in_default-map_of-clause-fails_rows g c either none honest rows left =
-    inl (still_none (state g.S.Store c.args.db) either none rows (reads_left (standing g.S.Store c.args.db) (standing g.S.Store c.may_begin.new.db) _ c.in_default.ensures.reads honest either rows left))
+pub returns-in-Err-make_records-clause-leaves : goal.returns-in-Err-make_records-clause-leaves
+returns-in-Err-make_records-clause-leaves g c honest =
+    let made = c.in-Err-make_records.ensures in
+    let at = c.into_inner.ensures in
+    let clean = subst (λ db. (standing g.S.Store db).IsHonest) at honest in
+    record {
+      taken = λ _ same none. cc;
+      not_taken = λ _ same. cc;
+      untouched = λ ready. absurd (none_ready (state g.S.Store c.args.db) c.if-has_tables.ensures ready);
+      unwritten = λ _ un. absurd (is_written _ made.kind un);
+      rows = λ either none rows left.
+          let bare = bare_where_none (state g.S.Store c.args.db) c.if-has_tables.ensures either in
+          let bare_then = bare_still (standing g.S.Store c.args.db) (standing g.S.Store c.may_begin.new.db) (standing g.S.Store c.over-store.result) _ c.in_default.ensures.reads (ap (standing g.S.Store) c.over-store.ensures) (made.founds.trust clean) bare in
+          elim ((made.founds.effect clean bare_then).left rows (subst (λ db. (standing g.S.Store db).may_leave rows) at left)) [
+            | inl old ↦ inl (none_left (state g.S.Store c.over-store.result) bare_then rows old)
+            | inr new ↦ inr (new ∙ ap (λ n. fresh (digits_of c.args.number) (pos n)) c.size-blocks.ensures)
+          ];
+      fails = λ tells either none rows image left there.
+          let bare = bare_where_none (state g.S.Store c.args.db) c.if-has_tables.ensures either in
+          let bare_then = bare_still (standing g.S.Store c.args.db) (standing g.S.Store c.may_begin.new.db) (standing g.S.Store c.over-store.result) _ c.in_default.ensures.reads (ap (standing g.S.Store) c.over-store.ensures) (made.founds.trust clean) bare in
+          made.at_exit tells clean bare_then rows image (subst (λ db. (standing g.S.Store db).may_leave rows) at left) there;
+    }
+
+pub returns-in-Err-make_records-clause-within : goal.returns-in-Err-make_records-clause-within
+returns-in-Err-make_records-clause-within g c either none rows image left = still_none (state g.S.Store c.args.db) either none rows left
+
+-- ---- it is begun
+
+pub keeper_over-requires-clause-whole : goal.keeper_over-requires-clause-whole
+keeper_over-requires-clause-whole g c = subst AreWhole (sym c.new-records.ensures) (new_whole c.args.number c.size-blocks.result)
+
+pub returns-clause-new : goal.returns-clause-new
+returns-clause-new g c =
+    let made = c.in_default-make_records.ensures in
+    let over = ap (standing g.S.Store) c.over-store.ensures in
+    let at = ap (standing g.S.Store) c.keeper_over.ensures.store in
+    let is = c.keeper_over.ensures.records ∙ c.new-records.ensures in
+    record {
+      opened = refl;
+      records = is ∙ ap (new_records c.args.number) c.size-blocks.ensures;
+      begun = new_begun c.args.number c.size-blocks.result (recorded c.keeper_over.result) (image_of c.keeper_over.result) is;
+      size = subst IsSize c.size-blocks.ensures c.in_default.ensures.size;
+      failures = ap g.V.Volume.failures c.keeper_over.ensures.volume ∙ made.failures;
+      tables = sym c.if-has_tables.ensures;
+      not_ready = none_ready (state g.S.Store c.args.db) c.if-has_tables.ensures;
+      mode = λ closed. ap (λ s. s.in_transaction) at ∙ made.founds.mode (ap (λ s. s.in_transaction) over ∙ c.in_default.ensures.reads.mode closed);
+      trust = λ honest. c.in_default.ensures.reads.trust (subst (λ s. s.IsHonest) over (made.founds.trust (subst (λ s. s.IsHonest) at honest)));
+    }
+
+pub returns-clause-kept : goal.returns-clause-kept
+returns-clause-kept g c =
+    let made = c.in_default-make_records.ensures in
+    let volume = c.make_records.new.volume in
+    let at = c.keeper_over.ensures.store in
+    let over = ap (standing g.S.Store) c.over-store.ensures in
+    let is : recorded c.keeper_over.result ≡ new_records c.args.number c.size-blocks.result = c.keeper_over.ensures.records ∙ c.new-records.ensures in
+    let fits : c.args.number < 2 ^ 64 = omega arith in
+    let room = c.in_default.ensures.size in
+    let size : g.V.Volume.size volume ≡ c.size-blocks.result = made.size ∙ sym c.size-blocks.ensures in
+    record {
+      image = λ tells.
+          on_volume g.V.Volume.image g.V.Volume.moment g.V.Volume.left_at (volume_of c.keeper_over.result.vault) volume c.keeper_over.ensures.volume (recorded c.keeper_over.result) (IsFree c.keeper_over.result.vault)
+          (made.head tells ∙ ap (λ (r : Records). head_of r.number) (sym is)) (g.met.V.Volume.image_length volume tells ∙ ap (λ n. 4096 * n) (size ∙ ap (λ (r : Records). r.blocks) (sym is))) (λ i left. (made.settled tells i).0 left);
+      rows = λ either honest.
+          let clean = subst (λ db. (standing g.S.Store db).IsHonest) at honest in
+          let bare = bare_where_none (state g.S.Store c.args.db) c.if-has_tables.ensures either in
+          let bare_then = bare_still (standing g.S.Store c.args.db) (standing g.S.Store c.may_begin.new.db) (standing g.S.Store c.over-store.result) _ c.in_default.ensures.reads over (made.founds.trust clean) bare in
+          subst (λ db. IsInStore (recorded c.keeper_over.result) (standing g.S.Store db).rows (standing g.S.Store db).IsReady (standing g.S.Store db).may_leave) (sym at)
+          (fresh_in_store (standing g.S.Store c.over-store.result) (state g.S.Store c.make_records.new.store) _ c.args.number c.size-blocks.result fits room made.founds clean bare_then (recorded c.keeper_over.result) is);
+      not_taken = λ either honest.
+          c.in_default.ensures.rows (subst (λ s. s.IsHonest) over (made.founds.trust (subst (λ db. (standing g.S.Store db).IsHonest) at honest))) either;
+      begins = λ tells either honest rows image left there.
+          let clean = subst (λ db. (standing g.S.Store db).IsHonest) at honest in
+          let bare = bare_where_none (state g.S.Store c.args.db) c.if-has_tables.ensures either in
+          let bare_then = bare_still (standing g.S.Store c.args.db) (standing g.S.Store c.may_begin.new.db) (standing g.S.Store c.over-store.result) _ c.in_default.ensures.reads over (made.founds.trust clean) bare in
+          let done = (made.founds.effect clean bare_then).done in
+          begun_left c.args.number c.size-blocks.result (g.V.Volume.image volume) fits room (made.head tells) (g.met.V.Volume.image_length volume tells ∙ ap (λ n. 4096 * n) size) rows image
+          (done.0.only rows (subst (λ db. (standing g.S.Store db).may_leave rows) at left) ∙ done.1)
+          ((made.settled tells image).0 (subst (λ v. g.V.Volume.left_at v (g.V.Volume.moment v) image) c.keeper_over.ensures.volume there));
+    }
+
+pub returns-clause-within : goal.returns-clause-within
+returns-clause-within g c either none rows image left = still_none (state g.S.Store c.args.db) either none rows left

@@ -2,60 +2,62 @@ use Rattle.std.proofs.Common.{◌≡◌, refl, sym, ◌∙◌, ap, [], false, Ok
 use Rattle.vault_volume.specs.Vault.{volume_of, IsFree}
 use Rattle.custody_records.specs.Records.{key_of, with_part}
 use Rattle.custody_machine.specs.Machine.{Receive, OfPart, received_part}
-use Rattle.custody_machine.specs.Custody.{IsPlaced, Goes, staged_record}
+use Rattle.custody_machine.specs.Rulings.{AddsPart, Makes}
+use Rattle.custody_machine.specs.Custody.{IsPlaced, staged_record}
 use Rattle.custody_machine.proofs.Composed.{has_size}
 use Rattle.custody.specs.declared.answers.Record.TheVariants as of
 use Rattle.custody.specs.declared.answers.Record.{Record}
 use Rattle.custody.specs.Shown.{ShowsPart}
-use Rattle.custody.specs.declared.holdings.Holdings.{Holdings}
-use Rattle.custody.specs.Holdings.{recorded, stored, image_of}
-use Rattle.custody.proofs.HoldingLemmas.{err_is}
+use Rattle.custody.specs.declared.keeper.Keeper.{Keeper}
+use Rattle.custody.specs.Keeper.{recorded, stored, image_of}
+use Rattle.custody.proofs.KeeperLemmas.{err_is}
 use Rattle.custody.proofs.Done.{no_memory_done, commits_done, commits_in_doubt}
 use Rattle.custody.proofs.KeptPart.{kept_means, kept_change, kept_ruled, kept_shown, kept_holds, kept_entry}
 use Rattle.custody.proofs.Unstaged.{unstaged_done}
-use Rattle.custody.proofs.holdings.Holdings.keep_part.Goals as goal
+use Rattle.custody.proofs.keeper.Keeper.keep_part.Goals as goal
 
 pub returns-in_default : goal.returns-in_default
-returns-in_default g c =
+returns-in_default g c = λ text ruled.
     let old = c.args.self.now in
-    let command = Receive c.args.text.now c.args.bytes.now in
-    no_memory_done g.S.Store old c.requires.order command c.args.now c.make_room.new.records c.make_room.ensures.same _ _ (c.requires.ruled.2 (image_of old) c.args.bytes.now refl) (Goes c.args.name.now, c.requires.ruled, inl refl)
+    let command = Receive text c.args.bytes.now in
+    no_memory_done g.S.Store old c.requires.order command c.args.now c.make_room.new.records c.make_room.ensures.same _ _ (ruled.1 (image_of old)) (Makes (AddsPart c.args.name.now), ruled, inl refl)
 
 pub stage-requires-clause-size : goal.stage-requires-clause-size
 stage-requires-clause-size g c =
-    has_size (recorded c.args.self.now) [] c.requires.order.whole c.args.text.now c.args.bytes.now c.args.now c.args.name.now c.requires.ruled.0 c.requires.ruled.1 (c.requires.ruled.2 [] c.args.bytes.now refl)
+    let ruled = c.requires.ruled.1 in
+    has_size (recorded c.args.self.now) [] c.requires.order.whole c.requires.ruled.0 c.args.bytes.now c.args.now c.args.name.now ruled.0.0 ruled.0.1 (ruled.1 [])
 
 pub returns-in_err-staged : goal.returns-in_err-staged
-returns-in_err-staged g c =
+returns-in_err-staged g c = λ text ruled.
     let old = c.args.self.now in
-    let new : Holdings g.row.V.Denot g.row.S.Denot g.V.Volume = record { vault = c.stage.new.self; store = old.store; records = c.make_room.new.records } in
+    let new : Keeper g.row.V.Denot g.row.S.Denot g.V.Volume = record { vault = c.stage.new.self; store = old.store; records = c.make_room.new.records } in
     let h = c.in_err-staged.ensures in
-    unstaged_done old new c.make_room.ensures.same refl c.args.text.now c.args.bytes.now c.args.now c.args.name.now c.requires.order c.requires.ruled
+    unstaged_done old new c.make_room.ensures.same refl text c.args.bytes.now c.args.now c.args.name.now c.requires.order ruled
     c.in_err-staged.field-0.0 h.free (λ e. h.full_unwritten (ap Err e)) (λ e. h.no_memory_unwritten (ap Err e)) g.S.Store (λ e. h.failed (ap Err e)) (λ e. h.full (ap Err e))
     h.image (λ tells volume. h.any_moment tells volume.elsewhere) c.from_residual.result (err_is _ _ c.from_residual.ensures.1)
 
 pub returns-in_default-insert_part : goal.returns-in_default-insert_part
-returns-in_default-insert_part g c =
+returns-in_default-insert_part g c = λ text ruled.
     let old = c.args.self.now in
-    let command = Receive c.args.text.now c.args.bytes.now in
-    let new : Holdings g.row.V.Denot g.row.S.Denot g.V.Volume = record { vault = c.stage.new.self; store = c.insert_part.new.self; records = c.make_room.new.records } in
+    let command = Receive text c.args.bytes.now in
+    let new : Keeper g.row.V.Denot g.row.S.Denot g.V.Volume = record { vault = c.stage.new.self; store = c.insert_part.new.self; records = c.make_room.new.records } in
     let h = c.in_ok-staged.ensures in
     let staged = c.in_ok-staged.staged in
     let placed : IsPlaced (g.V.Volume.size (volume_of old.vault)) (IsFree old.vault) (IsFree new.vault) c.args.bytes.now staged =
     record { len = h.part.0; digest = h.part.1; chosen = h.chosen; taken = h.taken } in
     commits_in_doubt g.S.Store old c.requires.order command c.args.now new (with_part (recorded old) (key_of c.args.name.now) (staged_record c.args.name.now c.args.now staged))
     (record { entry = OfPart (key_of c.args.name.now) (received_part c.args.name.now c.args.bytes.now c.args.now); is_repeat = false })
-    (kept_change old new c.args.text.now c.args.bytes.now c.args.now c.args.name.now c.requires.order c.requires.ruled staged placed g.S.Store h.size h.no_failure
+    (kept_change old new text c.args.bytes.now c.args.now c.args.name.now c.requires.order ruled staged placed g.S.Store h.size h.no_failure
     (λ tells. record { holds = h.bytes tells; elsewhere = h.image tells; settled = λ j w. (h.settled tells j).0 w }) (λ tells volume. h.any_moment tells volume.elsewhere))
     c.insert_part.result _ c.insert_part.ensures.commits
-    (kept_means old new c.args.text.now c.args.bytes.now c.args.now c.args.name.now c.requires.order c.requires.ruled staged placed c.show_range_of_moment.ensures (stored g.S.Store old).rows)
-    (Goes c.args.name.now, c.requires.ruled, inr (inr refl))
+    (kept_means old new text c.args.bytes.now c.args.now c.args.name.now c.requires.order ruled staged placed c.show_range_of_moment.ensures (stored g.S.Store old).rows)
+    (Makes (AddsPart c.args.name.now), ruled, inr (inr refl))
 
 pub returns : goal.returns
-returns g c =
+returns g c = λ text ruled.
     let old = c.args.self.now in
-    let command = Receive c.args.text.now c.args.bytes.now in
-    let new : Holdings g.row.V.Denot g.row.S.Denot g.V.Volume = record { vault = c.stage.new.self; store = c.insert_part.new.self; records = c.add_part.new.self } in
+    let command = Receive text c.args.bytes.now in
+    let new : Keeper g.row.V.Denot g.row.S.Denot g.V.Volume = record { vault = c.stage.new.self; store = c.insert_part.new.self; records = c.add_part.new.self } in
     let h = c.in_ok-staged.ensures in
     let staged = c.in_ok-staged.staged in
     let placed : IsPlaced (g.V.Volume.size (volume_of old.vault)) (IsFree old.vault) (IsFree new.vault) c.args.bytes.now staged =
@@ -68,12 +70,12 @@ returns g c =
     (refl, λ i. record { kind = c.args.name.now.kind; received = c.args.now; len = sym handed.1 i; digest = sym handed.2 i; extents = Some ((sym handed.0 ∙ sym (c.copy_into.ensures ∙ c.deref.ensures.value)) i) }) in
     commits_done g.S.Store old c.requires.order command c.args.now new (with_part (recorded old) (key_of c.args.name.now) (staged_record c.args.name.now c.args.now staged))
     (record { entry = OfPart (key_of c.args.name.now) (received_part c.args.name.now c.args.bytes.now c.args.now); is_repeat = false })
-    (kept_change old new c.args.text.now c.args.bytes.now c.args.now c.args.name.now c.requires.order c.requires.ruled staged placed g.S.Store h.size h.no_failure
+    (kept_change old new text c.args.bytes.now c.args.now c.args.name.now c.requires.order ruled staged placed g.S.Store h.size h.no_failure
     (λ tells. record { holds = h.bytes tells; elsewhere = h.image tells; settled = λ j w. (h.settled tells j).0 w }) (λ tells volume. h.any_moment tells volume.elsewhere))
     (Ok c.in-Ok-insert_part.kept) _ c.in-Ok-insert_part.ensures.commits
-    (kept_means old new c.args.text.now c.args.bytes.now c.args.now c.args.name.now c.requires.order c.requires.ruled staged placed c.show_range_of_moment.ensures (stored g.S.Store old).rows)
+    (kept_means old new text c.args.bytes.now c.args.now c.args.name.now c.requires.order ruled staged placed c.show_range_of_moment.ensures (stored g.S.Store old).rows)
     refl same (record { «record» = told; is_repeat = false }) refl
-    (kept_entry old new c.args.text.now c.args.bytes.now c.args.now c.args.name.now c.requires.order c.requires.ruled staged placed same told shows)
-    (kept_ruled old new c.args.text.now c.args.bytes.now c.args.now c.args.name.now c.requires.order c.requires.ruled staged placed same told shows)
-    (kept_shown old new c.args.text.now c.args.bytes.now c.args.now c.args.name.now c.requires.order c.requires.ruled staged placed same told shows)
-    (λ tells. kept_holds old new c.args.text.now c.args.bytes.now c.args.now c.args.name.now c.requires.order c.requires.ruled staged placed same told shows (h.bytes tells))
+    (kept_entry old new text c.args.bytes.now c.args.now c.args.name.now c.requires.order ruled staged placed same told shows)
+    (kept_ruled old new text c.args.bytes.now c.args.now c.args.name.now c.requires.order ruled staged placed same told shows)
+    (kept_shown old new text c.args.bytes.now c.args.now c.args.name.now c.requires.order ruled staged placed same told shows)
+    (λ tells. kept_holds old new text c.args.bytes.now c.args.now c.args.name.now c.requires.order ruled staged placed same told shows (h.bytes tells))

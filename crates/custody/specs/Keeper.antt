@@ -11,65 +11,66 @@ use Rattle.custody_store.specs.Standing.{Standing, standing}
 use Rattle.custody_machine.specs.Machine.{Command}
 use Rattle.custody_machine.specs.declared.answers.Refusal.TheVariants.{VolumeFull}
 use Rattle.custody_machine.specs.declared.answers.Fault.TheVariants.{VolumeFailed, Closed}
-use Rattle.custody_machine.specs.Custody.{IsInOrder, IsOnVolume, IsInStore, LeftSince, HasRoomFor, Serves}
+use Rattle.custody_machine.specs.Rulings.{bytes_of}
+use Rattle.custody_machine.specs.Custody.{IsInOrder, IsOnVolume, IsInStore, LeftSince, HasRoomFor, Contents, LeftByCall, Serves}
 use Rattle.custody.specs.declared.answers.Reply.{Reply}
 use Rattle.custody.specs.declared.answers.Refused.{Refused}
 use Rattle.custody.specs.declared.answers.Refused.TheVariants as refused
-use Rattle.custody.specs.declared.holdings.Holdings.{Holdings}
-use Rattle.custody.specs.Answers.{bytes_of, answer_of, stays_open, may_change, may_call}
+use Rattle.custody.specs.declared.keeper.Keeper.{Keeper}
+use Rattle.custody.specs.Answers.{answer_of, stays_open, may_change, may_call}
 use Rattle.custody.specs.Order.{IsInOrder-prop}
 use Rattle.custody.specs.Ruled.{IsRuled}
 use Rattle.custody.specs.Shown.{IsShown, HoldsBytes}
 
 module _ {V S : Type 0} {g : volume.Ghosts V} where
-  abbrev pub recorded : Holdings V S g → Records
+  abbrev pub recorded : Keeper V S g → Records
   recorded h = records_of h.records
 
   -- what the database shows
-  abbrev pub stored : Ghosts S → Holdings V S g → Standing
+  abbrev pub stored : Ghosts S → Keeper V S g → Standing
   stored database h = standing database h.store
 
   -- the bytes of the volume, as a read gives them
-  abbrev pub image_of : Holdings V S g → List ℕ
+  abbrev pub image_of : Keeper V S g → List ℕ
   image_of h = g.image (volume_of h.vault)
 
-  abbrev pub failures_of : Holdings V S g → ℕ
+  abbrev pub failures_of : Keeper V S g → ℕ
   failures_of h = g.failures (volume_of h.vault)
 
   -- the images that a stop may leave now
-  abbrev pub left_by : Holdings V S g → List ℕ → Type 0
+  abbrev pub left_by : Keeper V S g → List ℕ → Type 0
   left_by h = g.left_at (volume_of h.vault) (g.moment (volume_of h.vault))
 
   -- and those that a stop may leave at a moment from the old ones to the new ones
-  abbrev pub left_since : Holdings V S g → Holdings V S g → List ℕ → Type 0
+  abbrev pub left_since : Keeper V S g → Keeper V S g → List ℕ → Type 0
   left_since old new = LeftSince g.moment g.left_at (volume_of old.vault) (volume_of new.vault)
 
   -- the clock of the volume does not go back, and what a stop could leave at each moment up to then stays
-  abbrev pub KeepsPast : Holdings V S g → Holdings V S g → Type 0
+  abbrev pub KeepsPast : Keeper V S g → Keeper V S g → Type 0
   KeepsPast old new = (g.moment (volume_of old.vault) ≤ g.moment (volume_of new.vault))
       × ((t : ℕ) (c : List ℕ) → t ≤ g.moment (volume_of old.vault) → g.left_at (volume_of new.vault) t c ↔ g.left_at (volume_of old.vault) t c)
 
   -- ---- what holds while a custody is open
 
   -- in memory, whatever volume and database are
-  abbrev pub KeepsOrder : Holdings V S g → Type 0
+  abbrev pub KeepsOrder : Keeper V S g → Type 0
   KeepsOrder h = IsInOrder (recorded h) (g.size (volume_of h.vault)) (failures_of h) (IsFree h.vault)
 
-  pub KeepsOrder-prop : (h : Holdings V S g) → IsProp (KeepsOrder h)
+  pub KeepsOrder-prop : (h : Keeper V S g) → IsProp (KeepsOrder h)
   KeepsOrder-prop h = IsInOrder-prop (recorded h) (g.size (volume_of h.vault)) (failures_of h) (IsFree h.vault) (IsFree-prop h.vault)
 
   -- on a volume that tells its images
-  abbrev pub KeepsImage : Holdings V S g → Type 0
+  abbrev pub KeepsImage : Keeper V S g → Type 0
   KeepsImage h = IsOnVolume (recorded h) (image_of h) (IsFree h.vault) (left_by h)
 
   -- in a database that is honest
-  abbrev pub KeepsRows : Ghosts S → Holdings V S g → Type 0
+  abbrev pub KeepsRows : Ghosts S → Keeper V S g → Type 0
   KeepsRows database h = IsInStore (recorded h) (stored database h).rows (stored database h).IsReady (stored database h).may_leave
 
   -- ---- what a command does
 
   -- What is known of a command that an open custody does, whatever volume and database are.
-  pub record IsSafe (old : Holdings V S g) (command : Command) (answer : Result Reply Refused) (new : Holdings V S g) : Type 0 where
+  pub record IsSafe (old : Keeper V S g) (command : Command) (answer : Result Reply Refused) (new : Keeper V S g) : Type 0 where
     -- it is open, and does not say that it is closed
     pub answers : answer ≢ Err (refused.Fault Closed)
     -- the volume has failed where it says so
@@ -85,18 +86,30 @@ module _ {V S : Type 0} {g : volume.Ghosts V} where
     -- what is known in memory goes on
     pub order : stays_open answer ≡ true → KeepsOrder new
 
+  -- what it has
+  abbrev pub contents_of : Keeper V S g → Contents
+  contents_of h = record { records = recorded h; image = image_of h }
+
+  -- what a stop may leave of a call from the old one to the new one
+  abbrev pub left_by_call : Ghosts S → Keeper V S g → Keeper V S g → LeftByCall
+  left_by_call database old new = record {
+    rows_before = (stored database old).may_leave;
+    images_since = left_since old new;
+    rows_then = (stored database new).may_leave;
+    images_then = left_by new;
+  }
+
   -- What a command does and leaves, where the volume tells its images and the database was honest to the end.
-  abbrev pub HasServed : Ghosts S → Holdings V S g → Command → ℕ → Result Reply Refused → Holdings V S g → Type 0
+  abbrev pub HasServed : Ghosts S → Keeper V S g → Command → ℕ → Result Reply Refused → Keeper V S g → Type 0
   HasServed database old command now answer new =
-      Serves (recorded old) (image_of old) command now (answer_of command answer) (stays_open answer) (recorded new) (image_of new)
-      (stored database old).may_leave (left_since old new) (stored database new).may_leave (left_by new)
+      Serves (contents_of old) command now (answer_of command answer) (stays_open answer) (contents_of new) (left_by_call database old new)
 
   -- nothing was written: the volume is read as before, and a stop leaves at each moment what it left before
-  abbrev pub IsUnwritten : Holdings V S g → Holdings V S g → Type 0
+  abbrev pub IsUnwritten : Keeper V S g → Keeper V S g → Type 0
   IsUnwritten old new = (image_of new ≡ image_of old) × LeavesOnly g.moment g.left_at (volume_of old.vault) (volume_of new.vault) (left_by old)
 
   -- What a command does to an open custody.
-  pub record HasDone (database : Ghosts S) (old : Holdings V S g) (command : Command) (now : ℕ) (answer : Result Reply Refused) (new : Holdings V S g) : Type 0 where
+  pub record HasDone (database : Ghosts S) (old : Keeper V S g) (command : Command) (now : ℕ) (answer : Result Reply Refused) (new : Keeper V S g) : Type 0 where
     -- whatever volume and database are
     pub safe : IsSafe old command answer new
     -- what the records decide is answered

@@ -1,5 +1,5 @@
 use Rattle.std.proofs.Common.{◌<◌, ◌^◌, ◌-◌, ◌∙◌, sym, ap, subst}
-use Rattle.custody.proofs.opening.hold.Goals as goal
+use Rattle.custody.proofs.opening.keeper_over.Goals as goal
 
 pub returns-clause-order : goal.returns-clause-order
 returns-clause-order g c =

@@ -1,4 +1,4 @@
--- How the calls of volume and database make up a command over holdings.
+-- How the calls of volume and database make up a command over keeper.
 use Rattle.std.proofs.Common.{◌≡◌, ◌≢◌, ◌⊎◌, inl, inr, ⊎_elim, ℕ, ◌-◌, ◌<◌, ◌^◌, List, None, Bool, true, false, not, refl, sym, ◌∙◌, ap, subst, arith, Result, Ok, Err}
 use Rattle.std.proofs.Math.Nat.{le_refl}
 use Rattle.std.specs.Prelude.{is_err, OnOk, IsErrAnd}
@@ -32,9 +32,9 @@ use Rattle.custody_machine.proofs.Composed.{IsChange, good_now, changes_nothing,
 use Rattle.custody.specs.declared.answers.Reply.{Reply}
 use Rattle.custody.specs.declared.answers.Refused.{Refused}
 use Rattle.custody.specs.declared.answers.Refused.TheVariants as refused
-use Rattle.custody.specs.declared.holdings.Holdings.{Holdings}
+use Rattle.custody.specs.declared.keeper.Keeper.{Keeper}
 use Rattle.custody.specs.Answers.{answer_of, stays_open, uses_volume, may_call}
-use Rattle.custody.specs.Holdings.{recorded, stored, image_of, failures_of, left_by, left_since, KeepsPast, KeepsOrder, KeepsImage, KeepsRows, IsSafe, HasServed}
+use Rattle.custody.specs.Keeper.{recorded, stored, image_of, failures_of, left_by, left_since, contents_of, left_by_call, KeepsPast, KeepsOrder, KeepsImage, KeepsRows, IsSafe, HasServed}
 
 -- ---- results
 
@@ -83,7 +83,7 @@ registry_means rows records tld day is form in_range new = registry_inserted row
 
 -- ---- answers
 
-module _ {V S : Type 0} {g : volume.Ghosts V} (old new : Holdings V S g) (command : Command) where
+module _ {V S : Type 0} {g : volume.Ghosts V} (old new : Keeper V S g) (command : Command) where
   -- a command is done
   pub safe_done : (reply : Reply) → reply.is_repeat ≡ false → (uses_volume command ≡ false → volume_of new.vault ≡ volume_of old.vault) → failures_of new ≡ failures_of old → KeepsOrder new → IsSafe old command (Ok reply) new
   safe_done reply first uncalled failures order = record {
@@ -100,7 +100,7 @@ module _ {V S : Type 0} {g : volume.Ghosts V} (old new : Holdings V S g) (comman
       by true e same = cc
       by false e same = cc
 
-module _ {V S : Type 0} {g : volume.Ghosts V} (database : Ghosts S) (old new : Holdings V S g) (order : KeepsOrder old) (volume : KeepsImage old) (store : KeepsRows database old) (command : Command) (now : ℕ) where
+module _ {V S : Type 0} {g : volume.Ghosts V} (database : Ghosts S) (old new : Keeper V S g) (order : KeepsOrder old) (volume : KeepsImage old) (store : KeepsRows database old) (command : Command) (now : ℕ) where
   pub good_before : IsGood (recorded old) (image_of old)
   good_before = good_now (recorded old) (stored database old).rows (image_of old) _ _ (IsFree old.vault) (stored database old).IsReady (stored database old).may_leave (left_by old) order volume store
 
@@ -120,7 +120,7 @@ module _ {V S : Type 0} {g : volume.Ghosts V} (database : Ghosts S) (old new : H
         → ((j : List ℕ) → left_since old new j → DiffersOnlyIn (IsFree old.vault) (image_of old) j) → ((r : Rows) → (stored database new).may_leave r → form_of r ≡ InForm changed) → ((j : List ℕ) → left_by new j → DiffersOnlyIn (IsFree new.vault) (image_of new) j)
         → HasServed database old command now (Ok reply) new
     does_change reply shown_reply is ruled rests same during only images_same =
-        subst (λ a. Serves (recorded old) (image_of old) command now a true (recorded new) (image_of new) (stored database old).may_leave (left_since old new) (stored database new).may_leave (left_by new)) (sym is)
+        subst (λ a. Serves (contents_of old) command now a true (contents_of new) (left_by_call database old new)) (sym is)
         (accepts (recorded old) (stored database old).rows (image_of old) _ _ (IsFree old.vault) (stored database old).IsReady (stored database old).may_leave (left_by old) order volume store
         changed (image_of new) (IsFree new.vault) change command now shown_reply ruled (recorded new) (image_of new) (left_since old new) (stored database new).may_leave (left_by new) rests (same, refl) during only images_same)
 
@@ -132,9 +132,9 @@ module _ {V S : Type 0} {g : volume.Ghosts V} (database : Ghosts S) (old new : H
         in_doubt (recorded old) (stored database old).rows (image_of old) _ _ (IsFree old.vault) (stored database old).IsReady (stored database old).may_leave (left_by old) order volume store
         changed (image_of new) (IsFree new.vault) change command now shown_reply ruled (recorded new) (image_of new) (left_since old new) (stored database new).may_leave (left_by new) first during either images_same
 
--- ---- holdings whose blocks and records are as they were
+-- ---- keeper whose blocks and records are as they were
 
-module _ {V S : Type 0} {g : volume.Ghosts V} (old new : Holdings V S g) (same : recorded new ≡ recorded old) (free : SameFree (IsFree old.vault) (IsFree new.vault)) where
+module _ {V S : Type 0} {g : volume.Ghosts V} (old new : Keeper V S g) (same : recorded new ≡ recorded old) (free : SameFree (IsFree old.vault) (IsFree new.vault)) where
   pub order_same : g.size (volume_of new.vault) ≡ g.size (volume_of old.vault) → failures_of new ≡ failures_of old → KeepsOrder old → KeepsOrder new
   order_same size failures order = record {
     whole = subst AreWhole (sym same) order.whole;
@@ -157,10 +157,10 @@ module _ {V S : Type 0} {g : volume.Ghosts V} (old new : Holdings V S g) (same :
 -- ---- the clock
 
 module _ {V S : Type 0} {g : volume.Ghosts V} where
-  pub past_same : (h : Holdings V S g) → KeepsPast h h
+  pub past_same : (h : Keeper V S g) → KeepsPast h h
   past_same h = (le_refl (g.moment (volume_of h.vault)), λ t c before. (λ w. w, λ w. w))
 
-  pub past_join : (first mid last : Holdings V S g) → KeepsPast first mid → KeepsPast mid last → KeepsPast first last
+  pub past_join : (first mid last : Keeper V S g) → KeepsPast first mid → KeepsPast mid last → KeepsPast first last
   past_join first mid last a b = let from = a.0 in let to = b.0 in (
     omega arith,
     λ t c before. let here = a.1 t c before in let there = b.1 t c (omega arith) in (λ w. here.0 (there.0 w), λ w. there.1 (here.1 w)),
