@@ -2,4 +2,3 @@ pub mod FormLemmas
 pub mod OneReading
 pub mod PathLemmas
 pub mod Readings
-mod PrintLemmas

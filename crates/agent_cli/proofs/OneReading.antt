@@ -4,11 +4,12 @@ use Rattle.std.specs.Prelude.{MatchBool}
 use Rattle.std.specs.Str.{bytes_eq}
 use Rattle.clap.specs.Words.{Row, Text, fault_of, subcommand_of}
 use Rattle.clap.specs.Walk.{is_empty}
-use Rattle.agent_cli.specs.Command.{escrow_app}
+use Rattle.agent_cli.specs.Grammar.{escrow_app}
 use Rattle.agent_cli.specs.Forms.{ShowsMoment}
 use Rattle.agent_cli.specs.Order.{Asks, InitReading, IsOneReading, MetReading, NamedReading, PutReading, ReadsValue, Reading, RegisterReading, StateReading, refused}
 use Rattle.agent_cli.specs.declared.order.Argument.{Argument}
-use Rattle.agent_cli.proofs.FormLemmas.{if_given_one, digits_of-injective}
+use Rattle.agent_cli.proofs.FormLemmas.{if_given_one}
+use Rattle.answer_lines.proofs.NumberLemmas.{digits_of-injective}
 use Rattle.schedule.proofs.TextLemmas.{day_text-injective, moment_text-injective}
 
 abbrev IsOne : (Reading → Type 0) → Type 0

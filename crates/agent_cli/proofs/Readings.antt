@@ -17,7 +17,7 @@ use Rattle.clap.specs.declared.builder.ValueParser.TheVariants.{Unsigned}
 use Rattle.clap.specs.declared.error.Error.{Error}
 use Rattle.clap.specs.declared.error.ErrorKind.{ErrorKind}
 use Rattle.clap.proofs.ValueTestLemmas.{accepts-Accepts, Accepts-accepts}
-use Rattle.agent_cli.specs.Command.{escrow_app}
+use Rattle.agent_cli.specs.Grammar.{escrow_app}
 use Rattle.agent_cli.specs.Forms.{count_in_text}
 use Rattle.agent_cli.specs.Order.{Answers, Asks, IsFaultFrom, NamedReading, Reading, is_subcommand, refused}
 use Rattle.agent_cli.specs.declared.order.Order.{Order}

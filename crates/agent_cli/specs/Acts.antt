@@ -4,17 +4,17 @@ use Rattle.std.specs.List.{after_last}
 use Rattle.vault_volume.specs.declared.volume.Volume as volume
 use Rattle.sqlite.specs.Store.{Ghosts}
 use Rattle.custody_machine.specs.Machine.{Command, Register, Receive}
-use Rattle.custody.specs.Custody.{HasApplied, held_by, is_open}
-use Rattle.custody.specs.Holdings.{recorded}
+use Rattle.custody.specs.Custody.{HasApplied, keeper_of, is_open}
+use Rattle.custody.specs.Keeper.{recorded}
 use Rattle.custody.specs.Opening.{free_blocks}
 use Rattle.custody.specs.declared.custody.Custody.{Custody}
 use Rattle.custody.specs.Answers.{init_error_text}
 use Rattle.custody.specs.declared.answers.InitError.TheVariants.{AlreadyInitialised}
 use Rattle.custody.specs.declared.answers.Reply.{Reply}
 use Rattle.custody.specs.declared.answers.Refused.{Refused}
-use Rattle.agent_cli.specs.Printed.{IsTold, IsUnused, Takes, Writer}
-use Rattle.agent_cli.specs.State.{state_text}
-use Rattle.agent_cli.specs.Statuses.{IsStatus, IsStatusAfter, answer_status}
+use Rattle.answer_lines.specs.Printed.{IsTold, IsUnused, Takes, Writer}
+use Rattle.answer_lines.specs.State.{state_text}
+use Rattle.answer_lines.specs.Statuses.{IsStatus, IsStatusAfter, answer_status}
 use Rattle.agent_cli.specs.declared.order.Order.{Order}
 use Rattle.agent_cli.specs.declared.order.Order.TheVariants as order
 
@@ -31,7 +31,7 @@ module _ {V S : Type 0} {g : volume.Ghosts V} {database : Ghosts S} where
   -- an open agent prints its records and its free blocks, and one that is closed nothing of them
   pub record Shows (custody : Custody V S g database) (status : ℕ) (output errors : Writer) : Type 0 where
     pub shown : status ≡ 0 → (is_open custody ≡ true)
-        × Takes output (state_text (recorded (held_by custody)) (free_blocks (recorded (held_by custody))) ((recorded (held_by custody)).blocks - 1))
+        × Takes output (state_text (recorded (keeper_of custody)) (free_blocks (recorded (keeper_of custody))) ((recorded (keeper_of custody)).blocks - 1))
     pub while_open : is_open custody ≡ true → IsUnused errors
     pub while_closed : is_open custody ≡ false → IsUnused output
 

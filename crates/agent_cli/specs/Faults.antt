@@ -2,6 +2,8 @@
 use Rattle.std.specs.Prelude.{◌≡◌, ◌≢◌, ℕ, List, [], ◌∷◌, ◌++◌, Option, None, Some, codes}
 use Rattle.clap.specs.Words.{kind_of}
 use Rattle.clap.specs.declared.error.ErrorKind.TheVariants.{DisplayHelp}
+use Rattle.custody_machine.specs.Texts as machine
+use Rattle.custody_machine.specs.declared.answers.Fault.TheVariants.{NoMemory}
 use Rattle.agent_cli.specs.declared.order.Argument.{Argument}
 use Rattle.agent_cli.specs.declared.order.Argument.TheVariants.{Tld, Date, First, Kind, Id, Reference, Ground, Number, Now}
 use Rattle.agent_cli.specs.declared.order.WordFault.{WordFault}
@@ -22,7 +24,7 @@ argument_text Now = codes "NOW"
 abbrev pub fault_text : WordFault → Option (List ℕ)
 fault_text (fault.Words e) = None
 fault_text (fault.Bad a) = Some (codes "bad value for " ++ argument_text a ++ 10 ∷ [])
-fault_text fault.NoMemory = Some (codes "C1 no memory" ++ 10 ∷ [])
+fault_text fault.NoMemory = Some (machine.fault_text NoMemory ++ 10 ∷ [])
 
 -- help is asked for and no mistake
 abbrev pub IsStatusOf : WordFault → ℕ → Type 0

@@ -1,17 +1,12 @@
 -- The values that the texts of arguments show.
-use Rattle.std.specs.Prelude.{◌≡◌, ℕ, ◌^◌, ◌<◌, List, Option, Some, None, IsSomeAnd, if◌then◌else◌}
+use Rattle.std.specs.Prelude.{◌≡◌, ℕ, List, Option, Some, None, IsSomeAnd, if◌then◌else◌}
 use Rattle.std.specs.Option.{option_map_or}
 use Rattle.std.specs.Str.Parse.{digits_value, without_leading_plus}
-use Rattle.custody_records.specs.Written.{digits_of}
 use Rattle.clap.specs.Words.{Row, Text, one_of}
 use Rattle.clap.specs.ValueTests.{is_unsigned_in}
 use Rattle.schedule.specs.Schedule.{IsDay, IsMoment}
 use Rattle.schedule.specs.Text.{day_text, moment_text}
 use Rattle.deposit_name.specs.Identifiers.{IsTld}
-
--- the number of a volume, as 16 lower-case hexadecimal digits
-abbrev pub ShowsNumber : Text → ℕ → Type 0
-ShowsNumber text n = (n < 2 ^ 64) × (text ≡ digits_of n)
 
 abbrev pub ShowsTld : Text → List ℕ → Type 0
 ShowsTld text tld = (tld ≡ text) × IsTld tld

@@ -1,9 +1,5 @@
 pub mod Acts
-pub mod Command
 pub mod Faults
 pub mod Forms
-pub mod Lines
+pub mod Grammar
 pub mod Order
-pub mod Printed
-pub mod State
-pub mod Statuses

@@ -6,8 +6,9 @@ use Rattle.clap.specs.Words.{Row, Text, fault_of, first_of, kind_of, subcommand_
 use Rattle.clap.specs.Walk.{is_empty}
 use Rattle.clap.specs.declared.error.Error.{Error}
 use Rattle.clap.specs.declared.error.ErrorKind.TheVariants.{OutOfMemory}
-use Rattle.agent_cli.specs.Command.{escrow_app, text_of}
-use Rattle.agent_cli.specs.Forms.{ShowsDay, ShowsIfGiven, ShowsMoment, ShowsNumber, ShowsTld, count_of}
+use Rattle.answer_lines.specs.Number.{ShowsNumber}
+use Rattle.agent_cli.specs.Grammar.{escrow_app, text_of}
+use Rattle.agent_cli.specs.Forms.{ShowsDay, ShowsIfGiven, ShowsMoment, ShowsTld, count_of}
 use Rattle.agent_cli.specs.declared.order.Argument.{Argument}
 use Rattle.agent_cli.specs.declared.order.Argument.TheVariants as argument
 use Rattle.agent_cli.specs.declared.order.Order.{Order}

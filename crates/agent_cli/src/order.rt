@@ -3,8 +3,9 @@ ghost use Rattle.std.specs.Prelude.{◌≡◌, Some};
 ghost use Rattle.agent_cli.specs.Faults.{IsStatusOf, argument_text, fault_text};
 ghost use Rattle.agent_cli.specs.declared.order.WordFault.TheVariants.{NoMemory};
 
-use crate::VolumeNumber;
+use answer_lines::VolumeNumber;
 use clap::error::ErrorKind;
+use custody_machine::{Fault, Status};
 use deposit_name::Tld;
 use schedule::{Day, Sec};
 use std::alloc::AllocError;
@@ -82,14 +83,15 @@ impl WordFault {
     pub fn status(&self) -> u8
         ensures { IsStatusOf self.now result }
     {
-        match self {
+        let status = match self {
             WordFault::Words(error) => match error.kind() {
-                ErrorKind::DisplayHelp => 0,
-                _ => 2,
+                ErrorKind::DisplayHelp => Status::Done,
+                _ => Status::Misused,
             },
-            WordFault::Bad(_) => 2,
-            WordFault::NoMemory => 3,
-        }
+            WordFault::Bad(_) => Status::Misused,
+            WordFault::NoMemory => Fault::NoMemory.code().status,
+        };
+        status.number()
     }
 }
 
@@ -100,7 +102,7 @@ impl fmt::Display for WordFault {
         match self {
             WordFault::Words(error) => write!(f, "{error}"),
             WordFault::Bad(argument) => writeln!(f, "bad value for {argument}"),
-            WordFault::NoMemory => writeln!(f, "C1 no memory"),
+            WordFault::NoMemory => writeln!(f, "{}", Fault::NoMemory),
         }
     }
 }

@@ -1,11 +1,13 @@
 //! The values of arguments, each in its form.
 ghost use Rattle.std.specs.Prelude.{◌≡◌, codes};
 ghost use Rattle.clap.specs.Words.{first_of, found_of, rows_of};
-ghost use Rattle.agent_cli.specs.Command.{text_of};
-ghost use Rattle.agent_cli.specs.Forms.{ShowsDay, ShowsIfGiven, ShowsMoment, ShowsNumber, ShowsTld, count_of};
+ghost use Rattle.answer_lines.specs.Number.{ShowsNumber};
+ghost use Rattle.agent_cli.specs.Grammar.{text_of};
+ghost use Rattle.agent_cli.specs.Forms.{ShowsDay, ShowsIfGiven, ShowsMoment, ShowsTld, count_of};
 ghost use Rattle.agent_cli.specs.Order.{AnswersValue};
 
-use crate::{Argument, VolumeNumber, WordFault};
+use crate::{Argument, WordFault};
+use answer_lines::VolumeNumber;
 use clap::ArgMatches;
 use deposit_name::Tld;
 use schedule::{Day, Sec, read_day, read_moment};

@@ -4,7 +4,7 @@ ghost use Rattle.std.specs.String.{string_bytes};
 ghost use Rattle.clap.specs.Words.{found_of, rows_of};
 ghost use Rattle.agent_cli.specs.Order.{Answers, Asks, InitReading, IsFaultFrom, NamedReading, PutReading, RegisterReading, StateReading, is_subcommand};
 
-use crate::commands::escrow_command;
+use crate::grammar::escrow_command;
 use crate::values::{count_in, first_in, now_in, number_in, text_in, tld_in};
 use crate::{Order, WordFault};
 use clap::ArgMatches;

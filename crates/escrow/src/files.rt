@@ -3,7 +3,8 @@ ghost use Rattle.std.specs.Prelude.{◌≡◌, IfOk};
 ghost use Rattle.vault_volume.specs.declared.file.FileVolume.{FileVolume};
 
 use crate::stop::Stop;
-use custody::{Custody, has_record};
+use crate::vault::Ended;
+use custody::has_record;
 use custody_machine::Fault;
 use sqlite::{Alter, Connection, Error, ErrorCode, File, FileStore};
 use std::alloc::{AllocError, Global};
@@ -13,9 +14,6 @@ use vault_volume::{FileError, FileVolume, Volume};
 
 /// The database in a file.
 pub type Database = Connection<FileStore<File>>;
-
-/// A vault over two files.
-pub type FileCustody = Custody<FileVolume, FileStore<File>>;
 
 /// One byte more than a part may have: of a longer file no more is read, and it is refused for its size.
 const READ_BYTES: u64 = 1_048_577;
@@ -40,9 +38,7 @@ pub fn find(rt: &HostRuntime, folder: &str) -> Result<(FileVolume, Database), St
 {
     there(rt, String::from_str(rt.alloc(), folder)?)?;
     let volume = open_volume(rt, folder)?;
-    let path = there(rt, database_path(rt.alloc(), folder)?)?;
-    let db = open_database(rt, path)?;
-    Ok((volume, db))
+    with_database(rt, folder, volume)
 }
 
 /// Makes the two files of a folder. A volume of which the database has a record is left as it is.
@@ -51,32 +47,49 @@ pub fn make(rt: &HostRuntime, folder: &str, blocks: u32) -> Result<(FileVolume, 
 {
     there(rt, String::from_str(rt.alloc(), folder)?)?;
     let path = database_path(rt.alloc(), folder)?;
-    let mut db = open_database(rt, path)?;
-    let volume = volume_for(rt, folder, blocks, &mut db)?;
+    let db = open_database(rt, path)?;
+    with_volume(rt, folder, blocks, db)
+}
+
+/// The volume of a folder with its database, which has to be there.
+fn with_database<V: Volume>(
+    rt: &HostRuntime,
+    folder: &str,
+    volume: V,
+) -> Result<(V, Database), Stop>
+    ensures { IfOk result (λ files. files.0 ≡ volume) }
+{
+    let path = there(rt, database_path(rt.alloc(), folder)?)?;
+    let db = open_database(rt, path)?;
     Ok((volume, db))
 }
 
-/// The volume of a folder: a new one where the database has no record.
-fn volume_for<S: Alter>(
+/// The database of a folder with its volume: a new one where the database has no record.
+fn with_volume<S: Alter + Drop>(
     rt: &HostRuntime,
     folder: &str,
     blocks: u32,
-    db: &mut Connection<S>,
-) -> Result<FileVolume, Stop>
-    ensures { IfOk result (λ v. ⟦<FileVolume as Volume>⟧.failures v ≡ 0) }
+    mut db: Connection<S>,
+) -> Result<(FileVolume, Connection<S>), Stop>
+    ensures { IfOk result (λ files. ⟦<FileVolume as Volume>⟧.failures files.0 ≡ 0) }
 {
-    match has_record(db) {
-        Ok(true) => open_volume(rt, folder),
-        Ok(false) => create_volume(rt, folder, blocks),
-        Err(fault) => Err(Stop::Fault(fault)),
-    }
+    let volume = match has_record(&mut db) {
+        Ok(true) => open_volume(rt, folder)?,
+        Ok(false) => create_volume(rt, folder, blocks)?,
+        Err(fault) => return Err(Stop::Fault(fault)),
+    };
+    Ok((volume, db))
 }
 
-/// Closes a vault. What was acknowledged is kept also where the database's log cannot be copied.
-pub fn close(custody: FileCustody) {
-    let (volume, db) = custody.close();
-    let _ = db.close();
-    drop(volume);
+/// Closes the files of a vault, and answers the exit status. What was acknowledged is kept also where
+/// the database's log cannot be copied.
+pub fn close(ended: Ended<FileVolume, FileStore<File>>) -> u8 {
+    let Ended { status, vault } = ended;
+    if let Some((volume, db)) = vault {
+        let _ = db.close();
+        drop(volume);
+    }
+    status
 }
 
 /// The path, where something is there.

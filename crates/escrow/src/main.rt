@@ -4,19 +4,18 @@
 mod clock;
 mod files;
 mod stop;
+mod vault;
 
-use agent_cli::{Line, Order, VolumeNumber, WordFault, act, order_of, print_line, tell_init};
-use custody::Custody;
-use custody_machine::Fault;
-use files::{FileCustody, close, find, make, read_file};
+use agent_cli::{Order, WordFault, order_of};
+use answer_lines::VolumeNumber;
+use custody_machine::{Fault, Status};
+use files::{close, find, make, read_file};
 use schedule::Sec;
 use std::env;
 use std::io::{self, BufWriter};
 use std::process::ExitCode;
 use stop::Stop;
-
-/// The exit status of output that cannot be written.
-const UNWRITTEN: u8 = 3;
+use vault::{begin, serve};
 
 /// Prints the text of words that are no order, help among them, and answers the status.
 fn tell_words(rt: &HostRuntime, fault: &WordFault) -> u8 {
@@ -26,7 +25,7 @@ fn tell_words(rt: &HostRuntime, fault: &WordFault) -> u8 {
     };
     match printed {
         Ok(()) => fault.status(),
-        Err(_) => UNWRITTEN,
+        Err(_) => Status::Failed.number(),
     }
 }
 
@@ -34,7 +33,7 @@ fn tell_words(rt: &HostRuntime, fault: &WordFault) -> u8 {
 fn tell_stop(rt: &HostRuntime, stop: &Stop) -> u8 {
     match eprintln!(rt; "{stop}") {
         Ok(()) => stop.status(),
-        Err(_) => UNWRITTEN,
+        Err(_) => Status::Failed.number(),
     }
 }
 
@@ -43,24 +42,10 @@ fn init(rt: &HostRuntime, folder: &str, blocks: u32, number: VolumeNumber) -> Re
     let mut out = BufWriter::new(rt.alloc(), io::writer(rt)).map_err(|_| Stop::Fault(
         Fault::NoMemory,
     ))?;
-    let (volume, db) = make(rt, folder, blocks)?;
-    match Custody::init(rt.alloc(), volume, db, number.get()) {
-        Ok(custody) => {
-            let status = print_line(&Line::Ready { blocks, number }, &mut out);
-            close(custody);
-            Ok(status)
-        }
-        Err((error, _, _)) => Ok(tell_init(&error, &mut rt.stderr())),
-    }
-}
-
-/// Opens the vault of a folder, from its two files.
-fn open(rt: &HostRuntime, folder: &str) -> Result<FileCustody, Stop> {
-    let (volume, db) = find(rt, folder)?;
-    match Custody::open(rt.alloc(), volume, db) {
-        Ok(custody) => Ok(custody),
-        Err((fault, _, _)) => Err(Stop::Fault(fault)),
-    }
+    let files = make(rt, folder, blocks)?;
+    let mut err = rt.stderr();
+    let ended = begin(rt.alloc(), files, blocks, number, &mut out, &mut err);
+    Ok(close(ended))
 }
 
 /// Carries out an order on the vault of a folder.
@@ -74,19 +59,10 @@ fn work(
     let mut out = BufWriter::new(rt.alloc(), io::writer(rt)).map_err(|_| Stop::Fault(
         Fault::NoMemory,
     ))?;
-    let mut custody = open(rt, folder)?;
+    let files = find(rt, folder)?;
     let mut err = rt.stderr();
-    let status = act(
-        rt.alloc(),
-        &mut custody,
-        order,
-        file,
-        now,
-        &mut out,
-        &mut err,
-    );
-    close(custody);
-    Ok(status)
+    let ended = serve(rt.alloc(), files, order, file, now, &mut out, &mut err);
+    Ok(close(ended))
 }
 
 fn carry_out(rt: &HostRuntime, order: &Order<'_>) -> Result<u8, Stop> {

@@ -1,5 +1,5 @@
 //! Why an order is not carried out.
-use custody_machine::Fault;
+use custody_machine::{Fault, Status};
 use sqlite::Error;
 use std::alloc::AllocError;
 use std::{fmt, io};
@@ -23,10 +23,11 @@ pub enum Stop {
 impl Stop {
     /// The exit status.
     pub fn status(&self) -> u8 {
-        match self {
-            Stop::Words => 2,
-            _ => 3,
-        }
+        let status = match self {
+            Stop::Words => Status::Misused,
+            _ => Status::Failed,
+        };
+        status.number()
     }
 
     /// The stop by an error of a file.

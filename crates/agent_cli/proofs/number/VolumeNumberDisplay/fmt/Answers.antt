@@ -1,5 +1,0 @@
-use Rattle.agent_cli.proofs.FormLemmas.{IsAscii-digits_of}
-use Rattle.agent_cli.proofs.number.VolumeNumberDisplay.fmt.Goals as goal
-
-pub ascii_str-requires : goal.ascii_str-requires
-ascii_str-requires g c = rw c.write_number.ensures (IsAscii-digits_of _)

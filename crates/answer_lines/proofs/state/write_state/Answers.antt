@@ -1,0 +1,41 @@
+use Rattle.std.proofs.Common.{◌≡◌, ◌∙◌, ℕ, List, [], ◌∷◌, ◌++◌, take, sym, ap, subst, append_assoc, arith}
+use Rattle.std.specs.FinMap.{entries}
+use Rattle.std.specs.List.{flat_map}
+use Rattle.std.specs.Io.KnownBytes.{Appends}
+use Rattle.std.proofs.KnownBytes.{Appends-trans, Appends-kept}
+use Rattle.std.proofs.lemmas.List.{take_all}
+use Rattle.custody_records.specs.Held.{records_of}
+use Rattle.custody_records.specs.Keys.{text_cmp, PartKey}
+use Rattle.custody_records.specs.Records.{PartRecord, parts_of}
+use Rattle.custody_records.specs.Tables.{entries_of}
+use Rattle.custody_records.specs.Typed.{registry_entry, registry_key, registry_value}
+use Rattle.custody_records.proofs.TableLemmas.{entries-table_map}
+use Rattle.answer_lines.specs.Lines.{room_text}
+use Rattle.answer_lines.specs.State.{lines_text, registry_lines, state_text}
+use Rattle.answer_lines.proofs.PrintLemmas.{on_ok, rows_step}
+use Rattle.answer_lines.proofs.state.write_state.Goals as goal
+
+pub loop-registry-preserved : goal.loop-registry-preserved
+loop-registry-preserved g c =
+    let records = records_of c.args.records.now in
+    let text = λ (registry : List ℕ × ℕ). lines_text (registry_lines registry (parts_of records registry.0)) in
+    let items = c.registries-registry-items.result.now in
+    let i = c.loop-registry.registry-index in
+    let item = c.registry-item.result in
+    let next = rows_step registry_key registry_value text items i item (omega arith) c.registry-item.is in
+    subst (λ (l : List ℕ). Appends (g.W.Write.contents c.args.out.now) (g.W.Write.contents c.write_registry.new.out) l)
+    (ap (λ (parts : List (PartKey × PartRecord)). flat_map text (entries_of registry_key registry_value (take i items)) ++ lines_text (registry_lines (registry_entry item) parts)) c.parts_of.ensures ∙ sym next)
+    (Appends-trans _ _ _ _ _ c.loop-registry.invariant c.in_ok-write_registry.ensures)
+
+pub returns : goal.returns
+returns g c =
+    let records = records_of c.args.records.now in
+    let text = λ (registry : List ℕ × ℕ). lines_text (registry_lines registry (parts_of records registry.0)) in
+    let items = c.registries-registry-items.result.now in
+    let room = room_text c.args.free c.args.total in
+    let all : take c.loop-registry.registry-index items ≡ items = take_all _ items (omega arith) in
+    let entries_are : entries_of registry_key registry_value (take c.loop-registry.registry-index items) ≡ entries records.registries =
+    ap (entries_of registry_key registry_value) all ∙ sym (ap entries c.registries-registry-items.ensures.all ∙ entries-table_map text_cmp registry_key registry_value items c.registries-registry-items.ensures.rising) in
+    let whole : flat_map text (entries_of registry_key registry_value (take c.loop-registry.registry-index items)) ++ (room ++ 10 ∷ []) ≡ state_text records c.args.free c.args.total ++ 10 ∷ [] =
+    ap (λ es. flat_map text es ++ (room ++ 10 ∷ [])) entries_are ∙ sym (append_assoc (flat_map text (entries records.registries)) room (10 ∷ [])) in
+    on_ok _ _ (Appends-kept _ _ _ _ (subst (λ (l : List ℕ). Appends (g.W.Write.contents c.args.out.now) (g.W.Write.contents c.writeln.new.self) l) whole (Appends-trans _ _ _ _ _ c.loop-registry.invariant c.in_ok-writeln.ensures.bytes)) c.flush.ensures.bytes)

@@ -1,0 +1,5 @@
+pub mod Lines
+pub mod Number
+pub mod Printed
+pub mod State
+pub mod Statuses

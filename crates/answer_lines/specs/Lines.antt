@@ -1,0 +1,23 @@
+-- The lines of replies, without their line feed.
+use Rattle.std.specs.Prelude.{ℕ, List, ◌++◌, codes}
+use Rattle.std.specs.Fmt.{decimal}
+use Rattle.schedule.specs.Text.{day_text, moment_text}
+use Rattle.deposit_name.specs.Name.{name_text}
+use Rattle.custody_records.specs.Written.{digits_of}
+use Rattle.answer_lines.specs.declared.lines.Line.{Line}
+use Rattle.answer_lines.specs.declared.lines.Line.TheVariants.{Ready, Registered, Received, Registry, Part, Dropped, Room}
+
+abbrev pub room_text : ℕ → ℕ → List ℕ
+room_text free total = codes "free " ++ decimal free ++ codes " of " ++ decimal total
+
+abbrev pub line_text : Line → List ℕ
+line_text (Ready blocks number) = codes "ready " ++ decimal blocks ++ codes " " ++ digits_of number
+line_text (Registered tld first) = codes "registered " ++ tld ++ codes " " ++ day_text first
+line_text (Received name length at) =
+    codes "received " ++ name_text name ++ codes " " ++ decimal length ++ codes " " ++ moment_text at
+line_text (Registry tld first) = codes "registry " ++ tld ++ codes " " ++ day_text first
+line_text (Part name length at) =
+    codes "part " ++ name_text name ++ codes " " ++ decimal length ++ codes " held " ++ moment_text at
+line_text (Dropped name length at) =
+    codes "part " ++ name_text name ++ codes " " ++ decimal length ++ codes " dropped " ++ moment_text at
+line_text (Room free total) = room_text free total

@@ -1,0 +1,71 @@
+//! What a call does over a volume and a database, of whatever kinds they are.
+ghost use Rattle.std.specs.Prelude.{◌-◌, ◌^◌, ◌<◌};
+
+use agent_cli::{Order, act};
+use answer_lines::{Line, VolumeNumber, print_line, tell, tell_init};
+use custody::Custody;
+use schedule::Sec;
+use sqlite::{Alter, Connection};
+use std::alloc::Global;
+use std::io::Write;
+use vault_volume::Volume;
+
+/// How a call ended: the exit status, and what is to be closed where there is a vault.
+#[derive(Drop)]
+pub struct Ended<V: Volume, S: Alter> {
+    pub status: u8,
+    pub vault: Option<(V, Connection<S>)>,
+}
+
+/// Makes a vault, and prints that it stands.
+pub fn begin<V: Volume, S: Alter + Drop, W: Write, E: Write>(
+    alloc: Global,
+    files: (V, Connection<S>),
+    blocks: u32,
+    number: VolumeNumber,
+    out: &mut W,
+    err: &mut E,
+) -> Ended<V, S>
+    requires { V.failures files.0 < 2 ^ 64 - 1 }
+{
+    let (volume, db) = files;
+    match Custody::init(alloc, volume, db, number.get()) {
+        Ok(custody) => Ended {
+            status: print_line(&Line::Ready { blocks, number }, out),
+            vault: Some(custody.close()),
+        },
+        Err((error, _, _)) => Ended {
+            status: tell_init(&error, err),
+            vault: None,
+        },
+    }
+}
+
+/// Opens a vault, and carries out an order on it.
+pub fn serve<V: Volume, S: Alter + Drop, W: Write, E: Write>(
+    alloc: Global,
+    files: (V, Connection<S>),
+    order: &Order<'_>,
+    file: &[u8],
+    now: Sec,
+    out: &mut W,
+    err: &mut E,
+) -> Ended<V, S>
+    requires { V.failures files.0 < 2 ^ 64 - 1 }
+{
+    let (volume, db) = files;
+    let mut custody = match Custody::open(alloc, volume, db) {
+        Ok(custody) => custody,
+        Err((fault, _, _)) => {
+            return Ended {
+                status: tell(&fault, err),
+                vault: None,
+            };
+        }
+    };
+    let status = act(alloc, &mut custody, order, file, now, out, err);
+    Ended {
+        status,
+        vault: Some(custody.close()),
+    }
+}
