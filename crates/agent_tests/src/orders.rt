@@ -2,7 +2,8 @@
 mod help;
 mod rows;
 
-use agent_cli::{Argument, Line, Order, VolumeNumber, WordFault, last_part, order_of};
+use agent_cli::{Argument, Order, WordFault, last_part, order_of};
+use answer_lines::{Line, VolumeNumber};
 use deposit_name::{DepositName, Tld};
 use schedule::{read_day, read_moment};
 use std::alloc::{AllocError, Global};
@@ -74,53 +75,57 @@ fn fault_text(alloc: Global, texts: &[&str]) -> Result<String, Fail> {
     }
 }
 
+/// Words with a value out of form, and the text of their fault.
+static OUT_OF_FORM: [(&[&str], &str); 6] = [
+    (
+        &["register", "d", "-", "--first", "x"],
+        "bad value for TLD\n",
+    ),
+    (
+        &["register", "--first", "2026-02-29", "d", "example"],
+        "bad value for FIRST\n",
+    ),
+    (
+        &["init", "d", "--blocks", "8", "--number", "00000000000000FF"],
+        "bad value for NUMBER\n",
+    ),
+    (
+        &["init", "d", "--blocks", "8", "--number", "1"],
+        "bad value for NUMBER\n",
+    ),
+    (
+        &["put", "d", "a", "--now", "2026-08-02"],
+        "bad value for NOW\n",
+    ),
+    (&["put", "d", "a", "--now", ""], "bad value for NOW\n"),
+];
+
 #[test]
 fn names_the_first_argument_out_of_form(rt: HostRuntime) -> Result<(), Fail> {
-    let rows: [(&[&str], &str); 6] = [
-        (
-            &["register", "d", "-", "--first", "x"],
-            "bad value for TLD\n",
-        ),
-        (
-            &["register", "--first", "2026-02-29", "d", "example"],
-            "bad value for FIRST\n",
-        ),
-        (
-            &["init", "d", "--blocks", "8", "--number", "00000000000000FF"],
-            "bad value for NUMBER\n",
-        ),
-        (
-            &["init", "d", "--blocks", "8", "--number", "1"],
-            "bad value for NUMBER\n",
-        ),
-        (
-            &["put", "d", "a", "--now", "2026-08-02"],
-            "bad value for NOW\n",
-        ),
-        (&["put", "d", "a", "--now", ""], "bad value for NOW\n"),
-    ];
-    for (texts, wanted) in rows {
+    for &(texts, wanted) in &OUT_OF_FORM {
         let text = fault_text(rt.alloc(), texts)?;
         assert_eq!(rt; text.as_str(), wanted);
     }
     Ok(())
 }
 
+/// Arguments with their names.
+static ARGUMENTS: [(Argument, &str); 9] = [
+    (Argument::Tld, "TLD"),
+    (Argument::Date, "DATE"),
+    (Argument::First, "FIRST"),
+    (Argument::Kind, "KIND"),
+    (Argument::Id, "ID"),
+    (Argument::Reference, "REF"),
+    (Argument::Ground, "GROUND"),
+    (Argument::Number, "NUMBER"),
+    (Argument::Now, "NOW"),
+];
+
 #[test]
 fn tells_arguments_and_want_of_memory(rt: HostRuntime) -> Result<(), Fail> {
     let alloc = rt.alloc();
-    let arguments = [
-        (Argument::Tld, "TLD"),
-        (Argument::Date, "DATE"),
-        (Argument::First, "FIRST"),
-        (Argument::Kind, "KIND"),
-        (Argument::Id, "ID"),
-        (Argument::Reference, "REF"),
-        (Argument::Ground, "GROUND"),
-        (Argument::Number, "NUMBER"),
-        (Argument::Now, "NOW"),
-    ];
-    for (argument, wanted) in arguments {
+    for &(argument, wanted) in &ARGUMENTS {
         let text = format!(in alloc; "{argument}")?;
         assert_eq!(rt; text.as_str(), wanted);
     }
@@ -129,82 +134,88 @@ fn tells_arguments_and_want_of_memory(rt: HostRuntime) -> Result<(), Fail> {
     Ok(())
 }
 
+/// Words that the command line does not have, and the text of their fault.
+static OTHER_WORDS: [(&[&str], &str); 5] = [
+    (
+        &[],
+        "error: 'escrow' requires a subcommand but one was not provided\n  [subcommands: init, register, put, state]\n\nUsage: escrow <COMMAND>\n\nFor more information, try '--help'.\n",
+    ),
+    (
+        &["audit", "d"],
+        "error: unrecognized subcommand 'audit'\n\nUsage: escrow <COMMAND>\n\nFor more information, try '--help'.\n",
+    ),
+    (
+        &["help"],
+        "error: unrecognized subcommand 'help'\n\nUsage: escrow <COMMAND>\n\nFor more information, try '--help'.\n",
+    ),
+    (
+        &["state", "d", "--now", "2026-08-02T10:00:00Z"],
+        "error: unexpected argument '--now' found\n\n  tip: to pass '--now' as a value, use '-- --now'\n\nUsage: escrow state <DIR>\n\nFor more information, try '--help'.\n",
+    ),
+    (
+        &["state", "d", "e"],
+        "error: unexpected argument 'e' found\n\nUsage: escrow state <DIR>\n\nFor more information, try '--help'.\n",
+    ),
+];
+
 #[test]
 fn other_words_are_faults_of_the_command(rt: HostRuntime) -> Result<(), Fail> {
-    let rows: [(&[&str], &str); 5] = [
-        (
-            &[],
-            "error: 'escrow' requires a subcommand but one was not provided\n  [subcommands: init, register, put, state]\n\nUsage: escrow <COMMAND>\n\nFor more information, try '--help'.\n",
-        ),
-        (
-            &["audit", "d"],
-            "error: unrecognized subcommand 'audit'\n\nUsage: escrow <COMMAND>\n\nFor more information, try '--help'.\n",
-        ),
-        (
-            &["help"],
-            "error: unrecognized subcommand 'help'\n\nUsage: escrow <COMMAND>\n\nFor more information, try '--help'.\n",
-        ),
-        (
-            &["state", "d", "--now", "2026-08-02T10:00:00Z"],
-            "error: unexpected argument '--now' found\n\n  tip: to pass '--now' as a value, use '-- --now'\n\nUsage: escrow state <DIR>\n\nFor more information, try '--help'.\n",
-        ),
-        (
-            &["state", "d", "e"],
-            "error: unexpected argument 'e' found\n\nUsage: escrow state <DIR>\n\nFor more information, try '--help'.\n",
-        ),
-    ];
-    for (texts, wanted) in rows {
+    for &(texts, wanted) in &OTHER_WORDS {
         let text = fault_text(rt.alloc(), texts)?;
         assert_eq!(rt; text.as_str(), wanted);
     }
     Ok(())
 }
+
+/// Words with an argument missing or a count out of range, and the text of their fault.
+static MISSING: [(&[&str], &str); 4] = [
+    (
+        &["state"],
+        "error: the following required arguments were not provided:\n  <DIR>\n\nUsage: escrow state <DIR>\n\nFor more information, try '--help'.\n",
+    ),
+    (
+        &["register", "d", "example"],
+        "error: the following required arguments were not provided:\n  --first <DATE>\n\nUsage: escrow register --first <DATE> <DIR> <TLD>\n\nFor more information, try '--help'.\n",
+    ),
+    (
+        &["init", "d", "--blocks", "1", "--number", "0000000000000001"],
+        "error: invalid value '1' for '--blocks <N>': 1 is not in 2..=262144\n\nFor more information, try '--help'.\n",
+    ),
+    (
+        &[
+            "init",
+            "d",
+            "--blocks",
+            "262145",
+            "--number",
+            "0000000000000001",
+        ],
+        "error: invalid value '262145' for '--blocks <N>': 262145 is not in 2..=262144\n\nFor more information, try '--help'.\n",
+    ),
+];
 
 #[test]
 fn missing_arguments_and_block_counts_are_faults_of_the_command(
     rt: HostRuntime,
 ) -> Result<(), Fail> {
-    let rows: [(&[&str], &str); 4] = [
-        (
-            &["state"],
-            "error: the following required arguments were not provided:\n  <DIR>\n\nUsage: escrow state <DIR>\n\nFor more information, try '--help'.\n",
-        ),
-        (
-            &["register", "d", "example"],
-            "error: the following required arguments were not provided:\n  --first <DATE>\n\nUsage: escrow register --first <DATE> <DIR> <TLD>\n\nFor more information, try '--help'.\n",
-        ),
-        (
-            &["init", "d", "--blocks", "1", "--number", "0000000000000001"],
-            "error: invalid value '1' for '--blocks <N>': 1 is not in 2..=262144\n\nFor more information, try '--help'.\n",
-        ),
-        (
-            &[
-                "init",
-                "d",
-                "--blocks",
-                "262145",
-                "--number",
-                "0000000000000001",
-            ],
-            "error: invalid value '262145' for '--blocks <N>': 262145 is not in 2..=262144\n\nFor more information, try '--help'.\n",
-        ),
-    ];
-    for (texts, wanted) in rows {
+    for &(texts, wanted) in &MISSING {
         let text = fault_text(rt.alloc(), texts)?;
         assert_eq!(rt; text.as_str(), wanted);
     }
     Ok(())
 }
 
+/// Words that are no order, and the exit status.
+static STATUSES: [(&[&str], u8); 4] = [
+    (&["--help"], 0),
+    (&["put", "-h"], 0),
+    (&["put"], 2),
+    (&["put", "d", "a", "--now", "x"], 2),
+];
+
 #[test]
 fn faults_have_statuses(rt: HostRuntime) -> Result<(), Fail> {
-    let rows: [(&[&str], u8); 4] = [
-        (&["--help"], 0),
-        (&["put", "-h"], 0),
-        (&["put"], 2),
-        (&["put", "d", "a", "--now", "x"], 2),
-    ];
-    for (texts, wanted) in rows {
+    for &(texts, wanted) in &STATUSES {
         let words = words_of(rt.alloc(), texts)?;
         let Err(fault) = order_of(rt.alloc(), words.as_slice()) else {
             return Err("a fault".into());
@@ -214,16 +225,18 @@ fn faults_have_statuses(rt: HostRuntime) -> Result<(), Fail> {
     Ok(())
 }
 
+/// Paths with their last parts.
+static PATHS: [(&str, &[u8]); 5] = [
+    ("a", b"a"),
+    ("in/b", b"b"),
+    ("/tmp//c", b"c"),
+    ("in/", b""),
+    ("", b""),
+];
+
 #[test]
 fn names_files_by_the_last_part(rt: HostRuntime) {
-    let rows: [(&str, &[u8]); 5] = [
-        ("a", b"a"),
-        ("in/b", b"b"),
-        ("/tmp//c", b"c"),
-        ("in/", b""),
-        ("", b""),
-    ];
-    for (path, wanted) in rows {
+    for &(path, wanted) in &PATHS {
         assert_eq!(rt; last_part(path), wanted);
     }
 }

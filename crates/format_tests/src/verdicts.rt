@@ -2,13 +2,13 @@
 use deposit_name::{DepositId, DepositName};
 use deposit_verify::{About, Verdict, law_one_verdict, verify};
 use desk::Check;
-use std::alloc::Global;
+use std::alloc::{AllocError, Global};
 use std::test::Fail;
 
-// The SHA-256 of no bytes.
+/// The SHA-256 of no bytes.
 const NO_BYTES: &str = "e3b0c44298fc1c149afbf4c8996fb92427ae41e4649b934ca495991b7852b855";
 
-// A full deposit with no rows. `<none>` stands for the digest of no bytes, `<ns>` for what URIs begin with.
+/// A full deposit with no rows. `<none>` stands for the digest of no bytes, `<ns>` for what URIs begin with.
 const FULL: &str = concat!(
     r#"{"contents":[{"length":0,"name":"domain","sha256":"<none>"},"#,
     r#"{"length":0,"name":"domainContacts","sha256":"<none>"},"#,
@@ -25,7 +25,7 @@ const FULL: &str = concat!(
     r#""resend":0,"type":"FULL","watermark":"2026-08-02T00:00:00Z"}"#,
 );
 
-// A differential deposit with no files, which follows the full one.
+/// A differential deposit with no files, which follows the full one.
 const DIFF: &str = concat!(
     r#"{"contents":[],"deletes":[],"#,
     r#""header":{"count":{"<ns>csvContact-1.0":0,"<ns>csvDomain-1.0":0,"<ns>csvHost-1.0":0,"#,
@@ -47,7 +47,7 @@ const DIFF_ID: &str = "20260803001";
 
 type Change = (&'static str, &'static str);
 
-// One domain, whose registrar is R9.
+/// One domain, whose registrar is R9.
 const DOMAIN: &str = "a.example,D1-EX,,R9,2020-01-01T00:00:00Z,2030-01-01T00:00:00Z\n";
 
 const HAS_DOMAIN: Change = (
@@ -59,7 +59,7 @@ const ONE_DOMAIN: Change = (r#"csvDomain-1.0":0"#, r#"csvDomain-1.0":1"#);
 
 const TWO_DOMAINS: Change = (r#"csvDomain-1.0":0"#, r#"csvDomain-1.0":2"#);
 
-// The registrar R9, and its line without an end.
+/// The registrar R9, and its line without an end.
 const REGISTRAR: &str = "R9,Example,292,ok\n";
 
 const HAS_REGISTRAR: Change = (
@@ -76,13 +76,13 @@ const HAS_CUT_REGISTRAR: Change = (
     r#"17,"name":"registrar","sha256":"b67f4b58b8f93ac2275731999f04a9da4b11c0a33fba585016edf59a3ec11f2e"#,
 );
 
-// The key R1 twice.
+/// The key R1 twice.
 const KEY_TWICE: Change = (
     r#""deletes":[]"#,
     r#""deletes":[{"length":6,"name":"registrar","sha256":"75e2450189eb6fce49242b5168d2aea401a9031e83807b10e91e9c604163d7c9"}]"#,
 );
 
-// One registrar's line among the contents of a differential deposit, whole and without its end.
+/// One registrar's line among the contents of a differential deposit, whole and without its end.
 const HAS_SOME: Change = (
     r#""contents":[]"#,
     r#""contents":[{"length":18,"name":"registrar","sha256":"035400494cc5a3bf9669af824fa7953239b629d1e673a5daf136bfb0d9db9796"}]"#,
@@ -98,7 +98,7 @@ const DELETES_HOST: Change = (
     r#""deletes":[{"length":14,"name":"host","sha256":"b56dcb9bcf737923206f2d92fcbb4637d5879066f9f15181a75aebcc4297db7a"}]"#,
 );
 
-// The registrar R9 twice, and a row of empty fields.
+/// The registrar R9 twice, and a row of empty fields.
 const HAS_TWO_REGISTRARS: Change = (
     r#"0,"name":"registrar","sha256":"<none>"#,
     r#"34,"name":"registrar","sha256":"8cb475fc8c6fac07ef0818f779fbc56fdd4cff6ec77840c0cc8c535bb094b50c"#,
@@ -135,471 +135,404 @@ const OF_OTHER_BYTES: Change = (
     "2cf24dba5fb0a30e26e83b2ac5b9e29e1b161e5c1fa7425e73043362938b9824",
 );
 
-// A deposit, as an envelope that is changed and the files behind it, and its verdict.
-#[derive(Drop)]
-struct Case<'t> {
-    tells: &'t str,
-    envelope: &'t str,
-    changes: &'t [Change],
-    files: &'t [&'t str],
-    name: &'t str,
-    id: &'t str,
-    latest: &'t str,
+/// What is known of a deposit: its name, its id and the latest id, or `-`.
+type Known = (&'static str, &'static str, &'static str);
+
+/// A full deposit before any other.
+const NEW_FULL: Known = (FULL_NAME, FULL_ID, "-");
+
+/// A differential deposit after the full one.
+const NEXT_DIFF: Known = (DIFF_NAME, DIFF_ID, FULL_ID);
+
+/// A deposit, as an envelope that is changed and the files behind it, and its verdict.
+#[derive(Clone, Copy)]
+struct Case {
+    tells: &'static str,
+    envelope: &'static str,
+    changes: &'static [Change],
+    files: &'static [&'static str],
+    known: Known,
     verdict: Verdict,
 }
 
-fn known(alloc: Global, name: &str, id: &str, latest: &str) -> Result<About, Fail> {
+/// Deposits that pass.
+static ACCEPTED: [Case; 4] = [
+    Case {
+        tells: "a full deposit with no rows",
+        envelope: FULL,
+        changes: &[],
+        files: &[],
+        known: NEW_FULL,
+        verdict: Verdict::Pass,
+    },
+    Case {
+        tells: "a full deposit with a domain",
+        envelope: FULL,
+        changes: &[HAS_DOMAIN, HAS_REGISTRAR, ONE_DOMAIN, ONE_REGISTRAR],
+        files: &[DOMAIN, REGISTRAR],
+        known: NEW_FULL,
+        verdict: Verdict::Pass,
+    },
+    Case {
+        tells: "a differential deposit with no files",
+        envelope: DIFF,
+        changes: &[],
+        files: &[],
+        known: NEXT_DIFF,
+        verdict: Verdict::Pass,
+    },
+    Case {
+        tells: "a differential deposit with a table and a deleted host",
+        envelope: DIFF,
+        changes: &[HAS_SOME, DELETES_HOST],
+        files: &[REGISTRAR, "ns1.a.example\n"],
+        known: NEXT_DIFF,
+        verdict: Verdict::Pass,
+    },
+];
+
+/// For each check but the first, a deposit where it alone fails.
+static ONE_FAILS: [Case; 12] = [
+    Case {
+        tells: "an envelope with a space",
+        envelope: FULL,
+        changes: &[SPACED],
+        files: &[],
+        known: NEW_FULL,
+        verdict: Verdict::Fail(Check::Envelope),
+    },
+    Case {
+        tells: "another resend number than the name's",
+        envelope: FULL,
+        changes: &[SENT_AGAIN],
+        files: &[],
+        known: NEW_FULL,
+        verdict: Verdict::Fail(Check::Name),
+    },
+    Case {
+        tells: "another id than the stated one",
+        envelope: FULL,
+        changes: &[],
+        files: &[],
+        known: (FULL_NAME, "X", "-"),
+        verdict: Verdict::Fail(Check::Statement),
+    },
+    Case {
+        tells: "a differential deposit of a Sunday",
+        envelope: DIFF,
+        changes: &[OF_SUNDAY],
+        files: &[],
+        known: (SUNDAY_NAME, DIFF_ID, FULL_ID),
+        verdict: Verdict::Fail(Check::Weekday),
+    },
+    Case {
+        tells: "another prevId than the latest",
+        envelope: DIFF,
+        changes: &[FOLLOWS_X],
+        files: &[],
+        known: NEXT_DIFF,
+        verdict: Verdict::Fail(Check::PrevId),
+    },
+    Case {
+        tells: "an id that has passed",
+        envelope: FULL,
+        changes: &[],
+        files: &[],
+        known: (FULL_NAME, FULL_ID, FULL_ID),
+        verdict: Verdict::Fail(Check::IdTaken),
+    },
+    Case {
+        tells: "another object in the menu",
+        envelope: FULL,
+        changes: &[OTHER_HEADER],
+        files: &[],
+        known: NEW_FULL,
+        verdict: Verdict::Fail(Check::Menu),
+    },
+    Case {
+        tells: "the digest of another file",
+        envelope: FULL,
+        changes: &[OF_OTHER_BYTES],
+        files: &[],
+        known: NEW_FULL,
+        verdict: Verdict::Fail(Check::Files),
+    },
+    Case {
+        tells: "a line without its end",
+        envelope: FULL,
+        changes: &[HAS_CUT_REGISTRAR, ONE_REGISTRAR],
+        files: &[CUT_REGISTRAR],
+        known: NEW_FULL,
+        verdict: Verdict::Fail(Check::Table),
+    },
+    Case {
+        tells: "two domains counted in place of one",
+        envelope: FULL,
+        changes: &[HAS_DOMAIN, HAS_REGISTRAR, TWO_DOMAINS, ONE_REGISTRAR],
+        files: &[DOMAIN, REGISTRAR],
+        known: NEW_FULL,
+        verdict: Verdict::Fail(Check::Counts),
+    },
+    Case {
+        tells: "a registrar that is not there",
+        envelope: FULL,
+        changes: &[HAS_DOMAIN, ONE_DOMAIN],
+        files: &[DOMAIN],
+        known: NEW_FULL,
+        verdict: Verdict::Fail(Check::References),
+    },
+    Case {
+        tells: "a deleted key twice",
+        envelope: DIFF,
+        changes: &[KEY_TWICE],
+        files: &["R1\nR1\n"],
+        known: NEXT_DIFF,
+        verdict: Verdict::Fail(Check::Deletes),
+    },
+];
+
+/// Deposits where two checks fail, with the lower one.
+static TWO_FAIL: [Case; 10] = [
+    Case {
+        tells: "envelope and statement",
+        envelope: FULL,
+        changes: &[SPACED],
+        files: &[],
+        known: (FULL_NAME, "X", "-"),
+        verdict: Verdict::Fail(Check::Envelope),
+    },
+    Case {
+        tells: "name and statement",
+        envelope: FULL,
+        changes: &[SENT_AGAIN],
+        files: &[],
+        known: (FULL_NAME, "X", "-"),
+        verdict: Verdict::Fail(Check::Name),
+    },
+    Case {
+        tells: "statement and weekday",
+        envelope: DIFF,
+        changes: &[OF_SUNDAY],
+        files: &[],
+        known: (SUNDAY_NAME, "X", FULL_ID),
+        verdict: Verdict::Fail(Check::Statement),
+    },
+    Case {
+        tells: "weekday and prevId",
+        envelope: DIFF,
+        changes: &[OF_SUNDAY],
+        files: &[],
+        known: (SUNDAY_NAME, DIFF_ID, "-"),
+        verdict: Verdict::Fail(Check::Weekday),
+    },
+    Case {
+        tells: "prevId and id taken",
+        envelope: DIFF,
+        changes: &[],
+        files: &[],
+        known: (DIFF_NAME, DIFF_ID, DIFF_ID),
+        verdict: Verdict::Fail(Check::PrevId),
+    },
+    Case {
+        tells: "id taken and menu",
+        envelope: FULL,
+        changes: &[OTHER_HEADER],
+        files: &[],
+        known: (FULL_NAME, FULL_ID, FULL_ID),
+        verdict: Verdict::Fail(Check::IdTaken),
+    },
+    Case {
+        tells: "menu and files",
+        envelope: FULL,
+        changes: &[OTHER_HEADER],
+        files: &["\n"],
+        known: NEW_FULL,
+        verdict: Verdict::Fail(Check::Menu),
+    },
+    Case {
+        tells: "files and table",
+        envelope: FULL,
+        changes: &[HAS_CUT_REGISTRAR, OF_OTHER_BYTES],
+        files: &[CUT_REGISTRAR],
+        known: NEW_FULL,
+        verdict: Verdict::Fail(Check::Files),
+    },
+    Case {
+        tells: "table and deletes",
+        envelope: DIFF,
+        changes: &[HAS_SOME_CUT, KEY_TWICE],
+        files: &[CUT_REGISTRAR, "R1\nR1\n"],
+        known: NEXT_DIFF,
+        verdict: Verdict::Fail(Check::Table),
+    },
+    Case {
+        tells: "counts and references",
+        envelope: FULL,
+        changes: &[HAS_DOMAIN, TWO_DOMAINS],
+        files: &[DOMAIN],
+        known: NEW_FULL,
+        verdict: Verdict::Fail(Check::Counts),
+    },
+];
+
+/// Deposits that were made to mislead.
+static HOSTILE: [Case; 8] = [
+    Case {
+        tells: "eight MiB promised before no bytes",
+        envelope: FULL,
+        changes: &[LONG],
+        files: &[],
+        known: NEW_FULL,
+        verdict: Verdict::Fail(Check::Files),
+    },
+    Case {
+        tells: "a length above any file's",
+        envelope: FULL,
+        changes: &[TOO_LONG],
+        files: &[],
+        known: NEW_FULL,
+        verdict: Verdict::Fail(Check::Envelope),
+    },
+    Case {
+        tells: "an envelope with a byte behind it",
+        envelope: FULL,
+        changes: &[("00Z\"}", "00Z\"}\n")],
+        files: &[],
+        known: NEW_FULL,
+        verdict: Verdict::Fail(Check::Envelope),
+    },
+    Case {
+        tells: "a byte behind the files",
+        envelope: FULL,
+        changes: &[],
+        files: &["\n"],
+        known: NEW_FULL,
+        verdict: Verdict::Fail(Check::Files),
+    },
+    Case {
+        tells: "a row of empty fields",
+        envelope: FULL,
+        changes: &[HAS_COMMAS, ONE_DOMAIN],
+        files: &[",,,,,\n"],
+        known: NEW_FULL,
+        verdict: Verdict::Fail(Check::Table),
+    },
+    Case {
+        tells: "files in another order",
+        envelope: FULL,
+        changes: &[HAS_DOMAIN, HAS_REGISTRAR, ONE_DOMAIN, ONE_REGISTRAR],
+        files: &[REGISTRAR, DOMAIN],
+        known: NEW_FULL,
+        verdict: Verdict::Fail(Check::Files),
+    },
+    Case {
+        tells: "tables in another order",
+        envelope: FULL,
+        changes: &[DOMAIN_IS_HOST, HOST_IS_DOMAIN],
+        files: &[],
+        known: NEW_FULL,
+        verdict: Verdict::Fail(Check::Menu),
+    },
+    Case {
+        tells: "one key in two rows",
+        envelope: FULL,
+        changes: &[HAS_TWO_REGISTRARS, ONE_REGISTRAR],
+        files: &["R9,Example,292,ok\nR9,Other,293,ok\n"],
+        known: NEW_FULL,
+        verdict: Verdict::Fail(Check::Table),
+    },
+];
+
+fn about(alloc: Global, (name, id, latest): Known) -> Option<About> {
     let latest = DepositId::parse(latest.as_bytes());
     let mut passed = Vec::new(alloc);
-    passed.extend(latest)?;
-    Ok(About {
-        name: DepositName::parse(name.as_bytes()).ok().ok_or("a name")?,
-        id: DepositId::parse(id.as_bytes()).ok_or("an id")?,
+    passed.extend(latest).ok()?;
+    Some(About {
+        name: DepositName::parse(name.as_bytes()).ok()?,
+        id: DepositId::parse(id.as_bytes())?,
         latest,
         passed,
     })
 }
 
-fn changed(alloc: Global, text: &str, changes: &[Change]) -> Result<String, Fail> {
+fn changed(alloc: Global, text: &str, changes: &[Change]) -> Result<String, AllocError> {
     let mut changed = String::from_str(alloc, text)?;
     for (from, to) in changes {
         changed = changed.replacen(alloc, *from, to, 1)?;
     }
     let digests = changed.replace(alloc, "<none>", NO_BYTES)?;
-    Ok(digests.replace(alloc, "<ns>", "urn:ietf:params:xml:ns:")?)
+    digests.replace(alloc, "<ns>", "urn:ietf:params:xml:ns:")
 }
 
-fn verdict_on(alloc: Global, case: &Case<'_>) -> Result<Verdict, Fail> {
+fn joined(alloc: Global, case: &Case) -> Result<String, AllocError> {
     let envelope = changed(alloc, case.envelope, case.changes)?;
     let mut joined = format!(in alloc; "RDE1 {:08}\n{}", envelope.len(), envelope)?;
     for file in case.files {
         joined.push_str(file)?;
     }
-    Ok(verify(
-        alloc,
-        joined.as_bytes(),
-        &known(alloc, case.name, case.id, case.latest)?,
-    )?)
+    Ok(joined)
+}
+
+fn verdict_on(alloc: Global, case: &Case) -> Option<Verdict> {
+    let about = about(alloc, case.known)?;
+    let joined = joined(alloc, case).ok()?;
+    verify(alloc, joined.as_bytes(), &about).ok()
+}
+
+/// What the first case tells that has another verdict.
+fn first_wrong(alloc: Global, cases: &[Case]) -> Option<&'static str> {
+    cases
+        .iter()
+        .find(|case| verdict_on(alloc, case) != Some(case.verdict))
+        .map(|case| case.tells)
 }
 
 #[test]
-fn accepts_deposits(rt: HostRuntime) -> Result<(), Fail> {
-    let cases = [
-        Case {
-            tells: "a full deposit with no rows",
-            envelope: FULL,
-            changes: &[],
-            files: &[],
-            name: FULL_NAME,
-            id: FULL_ID,
-            latest: "-",
-            verdict: Verdict::Pass,
-        },
-        Case {
-            tells: "a full deposit with a domain",
-            envelope: FULL,
-            changes: &[HAS_DOMAIN, HAS_REGISTRAR, ONE_DOMAIN, ONE_REGISTRAR],
-            files: &[DOMAIN, REGISTRAR],
-            name: FULL_NAME,
-            id: FULL_ID,
-            latest: "-",
-            verdict: Verdict::Pass,
-        },
-        Case {
-            tells: "a differential deposit with no files",
-            envelope: DIFF,
-            changes: &[],
-            files: &[],
-            name: DIFF_NAME,
-            id: DIFF_ID,
-            latest: FULL_ID,
-            verdict: Verdict::Pass,
-        },
-        Case {
-            tells: "a differential deposit with a table and a deleted host",
-            envelope: DIFF,
-            changes: &[HAS_SOME, DELETES_HOST],
-            files: &[REGISTRAR, "ns1.a.example\n"],
-            name: DIFF_NAME,
-            id: DIFF_ID,
-            latest: FULL_ID,
-            verdict: Verdict::Pass,
-        },
-    ];
-    for case in &cases {
-        assert_eq!(rt;
-            verdict_on(rt.alloc(), case)?,
-            case.verdict,
-            "{}",
-            case.tells
-        );
-    }
-    Ok(())
+fn accepts_deposits(rt: HostRuntime) {
+    assert_eq!(rt; first_wrong(rt.alloc(), &ACCEPTED), None);
 }
 
 #[test]
-fn tells_the_check_that_fails(rt: HostRuntime) -> Result<(), Fail> {
-    let cases = [
-        Case {
-            tells: "an envelope with a space",
-            envelope: FULL,
-            changes: &[SPACED],
-            files: &[],
-            name: FULL_NAME,
-            id: FULL_ID,
-            latest: "-",
-            verdict: Verdict::Fail(Check::Envelope),
-        },
-        Case {
-            tells: "another resend number than the name's",
-            envelope: FULL,
-            changes: &[SENT_AGAIN],
-            files: &[],
-            name: FULL_NAME,
-            id: FULL_ID,
-            latest: "-",
-            verdict: Verdict::Fail(Check::Name),
-        },
-        Case {
-            tells: "another id than the stated one",
-            envelope: FULL,
-            changes: &[],
-            files: &[],
-            name: FULL_NAME,
-            id: "X",
-            latest: "-",
-            verdict: Verdict::Fail(Check::Statement),
-        },
-        Case {
-            tells: "a differential deposit of a Sunday",
-            envelope: DIFF,
-            changes: &[OF_SUNDAY],
-            files: &[],
-            name: SUNDAY_NAME,
-            id: DIFF_ID,
-            latest: FULL_ID,
-            verdict: Verdict::Fail(Check::Weekday),
-        },
-        Case {
-            tells: "another prevId than the latest",
-            envelope: DIFF,
-            changes: &[FOLLOWS_X],
-            files: &[],
-            name: DIFF_NAME,
-            id: DIFF_ID,
-            latest: FULL_ID,
-            verdict: Verdict::Fail(Check::PrevId),
-        },
-        Case {
-            tells: "an id that has passed",
-            envelope: FULL,
-            changes: &[],
-            files: &[],
-            name: FULL_NAME,
-            id: FULL_ID,
-            latest: FULL_ID,
-            verdict: Verdict::Fail(Check::IdTaken),
-        },
-        Case {
-            tells: "another object in the menu",
-            envelope: FULL,
-            changes: &[OTHER_HEADER],
-            files: &[],
-            name: FULL_NAME,
-            id: FULL_ID,
-            latest: "-",
-            verdict: Verdict::Fail(Check::Menu),
-        },
-        Case {
-            tells: "the digest of another file",
-            envelope: FULL,
-            changes: &[OF_OTHER_BYTES],
-            files: &[],
-            name: FULL_NAME,
-            id: FULL_ID,
-            latest: "-",
-            verdict: Verdict::Fail(Check::Files),
-        },
-        Case {
-            tells: "a line without its end",
-            envelope: FULL,
-            changes: &[HAS_CUT_REGISTRAR, ONE_REGISTRAR],
-            files: &[CUT_REGISTRAR],
-            name: FULL_NAME,
-            id: FULL_ID,
-            latest: "-",
-            verdict: Verdict::Fail(Check::Table),
-        },
-        Case {
-            tells: "two domains counted in place of one",
-            envelope: FULL,
-            changes: &[HAS_DOMAIN, HAS_REGISTRAR, TWO_DOMAINS, ONE_REGISTRAR],
-            files: &[DOMAIN, REGISTRAR],
-            name: FULL_NAME,
-            id: FULL_ID,
-            latest: "-",
-            verdict: Verdict::Fail(Check::Counts),
-        },
-        Case {
-            tells: "a registrar that is not there",
-            envelope: FULL,
-            changes: &[HAS_DOMAIN, ONE_DOMAIN],
-            files: &[DOMAIN],
-            name: FULL_NAME,
-            id: FULL_ID,
-            latest: "-",
-            verdict: Verdict::Fail(Check::References),
-        },
-        Case {
-            tells: "a deleted key twice",
-            envelope: DIFF,
-            changes: &[KEY_TWICE],
-            files: &["R1\nR1\n"],
-            name: DIFF_NAME,
-            id: DIFF_ID,
-            latest: FULL_ID,
-            verdict: Verdict::Fail(Check::Deletes),
-        },
-    ];
-    for case in &cases {
-        assert_eq!(rt;
-            verdict_on(rt.alloc(), case)?,
-            case.verdict,
-            "{}",
-            case.tells
-        );
-    }
-    Ok(())
+fn tells_the_check_that_fails(rt: HostRuntime) {
+    assert_eq!(rt; first_wrong(rt.alloc(), &ONE_FAILS), None);
 }
 
 #[test]
-fn tells_the_lower_of_two(rt: HostRuntime) -> Result<(), Fail> {
-    let cases = [
-        Case {
-            tells: "envelope and statement",
-            envelope: FULL,
-            changes: &[SPACED],
-            files: &[],
-            name: FULL_NAME,
-            id: "X",
-            latest: "-",
-            verdict: Verdict::Fail(Check::Envelope),
-        },
-        Case {
-            tells: "name and statement",
-            envelope: FULL,
-            changes: &[SENT_AGAIN],
-            files: &[],
-            name: FULL_NAME,
-            id: "X",
-            latest: "-",
-            verdict: Verdict::Fail(Check::Name),
-        },
-        Case {
-            tells: "statement and weekday",
-            envelope: DIFF,
-            changes: &[OF_SUNDAY],
-            files: &[],
-            name: SUNDAY_NAME,
-            id: "X",
-            latest: FULL_ID,
-            verdict: Verdict::Fail(Check::Statement),
-        },
-        Case {
-            tells: "weekday and prevId",
-            envelope: DIFF,
-            changes: &[OF_SUNDAY],
-            files: &[],
-            name: SUNDAY_NAME,
-            id: DIFF_ID,
-            latest: "-",
-            verdict: Verdict::Fail(Check::Weekday),
-        },
-        Case {
-            tells: "prevId and id taken",
-            envelope: DIFF,
-            changes: &[],
-            files: &[],
-            name: DIFF_NAME,
-            id: DIFF_ID,
-            latest: DIFF_ID,
-            verdict: Verdict::Fail(Check::PrevId),
-        },
-        Case {
-            tells: "id taken and menu",
-            envelope: FULL,
-            changes: &[OTHER_HEADER],
-            files: &[],
-            name: FULL_NAME,
-            id: FULL_ID,
-            latest: FULL_ID,
-            verdict: Verdict::Fail(Check::IdTaken),
-        },
-        Case {
-            tells: "menu and files",
-            envelope: FULL,
-            changes: &[OTHER_HEADER],
-            files: &["\n"],
-            name: FULL_NAME,
-            id: FULL_ID,
-            latest: "-",
-            verdict: Verdict::Fail(Check::Menu),
-        },
-        Case {
-            tells: "files and table",
-            envelope: FULL,
-            changes: &[HAS_CUT_REGISTRAR, OF_OTHER_BYTES],
-            files: &[CUT_REGISTRAR],
-            name: FULL_NAME,
-            id: FULL_ID,
-            latest: "-",
-            verdict: Verdict::Fail(Check::Files),
-        },
-        Case {
-            tells: "table and deletes",
-            envelope: DIFF,
-            changes: &[HAS_SOME_CUT, KEY_TWICE],
-            files: &[CUT_REGISTRAR, "R1\nR1\n"],
-            name: DIFF_NAME,
-            id: DIFF_ID,
-            latest: FULL_ID,
-            verdict: Verdict::Fail(Check::Table),
-        },
-        Case {
-            tells: "counts and references",
-            envelope: FULL,
-            changes: &[HAS_DOMAIN, TWO_DOMAINS],
-            files: &[DOMAIN],
-            name: FULL_NAME,
-            id: FULL_ID,
-            latest: "-",
-            verdict: Verdict::Fail(Check::Counts),
-        },
-    ];
-    for case in &cases {
-        assert_eq!(rt;
-            verdict_on(rt.alloc(), case)?,
-            case.verdict,
-            "{}",
-            case.tells
-        );
-    }
-    Ok(())
+fn tells_the_lower_of_two(rt: HostRuntime) {
+    assert_eq!(rt; first_wrong(rt.alloc(), &TWO_FAIL), None);
 }
 
 #[test]
-fn refuses_hostile_deposits(rt: HostRuntime) -> Result<(), Fail> {
-    let cases = [
-        Case {
-            tells: "eight MiB promised before no bytes",
-            envelope: FULL,
-            changes: &[LONG],
-            files: &[],
-            name: FULL_NAME,
-            id: FULL_ID,
-            latest: "-",
-            verdict: Verdict::Fail(Check::Files),
-        },
-        Case {
-            tells: "a length above any file's",
-            envelope: FULL,
-            changes: &[TOO_LONG],
-            files: &[],
-            name: FULL_NAME,
-            id: FULL_ID,
-            latest: "-",
-            verdict: Verdict::Fail(Check::Envelope),
-        },
-        Case {
-            tells: "an envelope with a byte behind it",
-            envelope: FULL,
-            changes: &[("00Z\"}", "00Z\"}\n")],
-            files: &[],
-            name: FULL_NAME,
-            id: FULL_ID,
-            latest: "-",
-            verdict: Verdict::Fail(Check::Envelope),
-        },
-        Case {
-            tells: "a byte behind the files",
-            envelope: FULL,
-            changes: &[],
-            files: &["\n"],
-            name: FULL_NAME,
-            id: FULL_ID,
-            latest: "-",
-            verdict: Verdict::Fail(Check::Files),
-        },
-        Case {
-            tells: "a row of empty fields",
-            envelope: FULL,
-            changes: &[HAS_COMMAS, ONE_DOMAIN],
-            files: &[",,,,,\n"],
-            name: FULL_NAME,
-            id: FULL_ID,
-            latest: "-",
-            verdict: Verdict::Fail(Check::Table),
-        },
-        Case {
-            tells: "files in another order",
-            envelope: FULL,
-            changes: &[HAS_DOMAIN, HAS_REGISTRAR, ONE_DOMAIN, ONE_REGISTRAR],
-            files: &[REGISTRAR, DOMAIN],
-            name: FULL_NAME,
-            id: FULL_ID,
-            latest: "-",
-            verdict: Verdict::Fail(Check::Files),
-        },
-        Case {
-            tells: "tables in another order",
-            envelope: FULL,
-            changes: &[DOMAIN_IS_HOST, HOST_IS_DOMAIN],
-            files: &[],
-            name: FULL_NAME,
-            id: FULL_ID,
-            latest: "-",
-            verdict: Verdict::Fail(Check::Menu),
-        },
-        Case {
-            tells: "one key in two rows",
-            envelope: FULL,
-            changes: &[HAS_TWO_REGISTRARS, ONE_REGISTRAR],
-            files: &["R9,Example,292,ok\nR9,Other,293,ok\n"],
-            name: FULL_NAME,
-            id: FULL_ID,
-            latest: "-",
-            verdict: Verdict::Fail(Check::Table),
-        },
-    ];
-    for case in &cases {
-        assert_eq!(rt;
-            verdict_on(rt.alloc(), case)?,
-            case.verdict,
-            "{}",
-            case.tells
-        );
+fn refuses_hostile_deposits(rt: HostRuntime) {
+    assert_eq!(rt; first_wrong(rt.alloc(), &HOSTILE), None);
+}
+
+fn is_refused_for_its_frame(alloc: Global, joined: &[u8]) -> bool {
+    match about(alloc, (FULL_NAME, "X", "-")) {
+        Some(about) => verify(alloc, joined, &about) == Ok(Verdict::Fail(Check::Frame)),
+        None => false,
     }
-    Ok(())
+}
+
+/// Whether a deposit is refused that promises more than it has, and one that is cut within its envelope.
+fn are_refused_for_their_frames(alloc: Global, whole: &str) -> Result<bool, Fail> {
+    let promising = whole.replacen(alloc, "RDE1 00001408", "RDE1 99999999", 1)?;
+    let cut = whole.as_bytes().get(..1_000).ok_or("a longer one")?;
+    Ok(
+        whole.len() == 1_422
+            && promising.as_str() != whole
+            && is_refused_for_its_frame(alloc, promising.as_bytes())
+            && is_refused_for_its_frame(alloc, cut),
+    )
 }
 
 #[test]
 fn refuses_frames(rt: HostRuntime) -> Result<(), Fail> {
     law_one_verdict();
     let alloc = rt.alloc();
-    let about = known(alloc, FULL_NAME, "X", "-")?;
-    let envelope = changed(alloc, FULL, &[])?;
-    let whole = format!(in alloc; "RDE1 {:08}\n{}", envelope.len(), envelope)?;
-    assert_eq!(rt; whole.len(), 1_422);
-    let promising = format!(in alloc; "RDE1 99999999\n{}", envelope)?;
-    let cut = whole.as_bytes().get(..1_000).ok_or("a longer one")?;
-    for joined in [
-        b"".as_slice(),
-        b"RDE1 0000000x\n{}",
-        promising.as_bytes(),
-        cut,
-    ] {
-        let verdict = verify(alloc, joined, &about)?;
-        assert_eq!(rt; verdict, Verdict::Fail(Check::Frame));
-    }
+    assert!(rt; is_refused_for_its_frame(alloc, b""));
+    assert!(rt; is_refused_for_its_frame(alloc, b"RDE1 0000000x\n{}"));
+    let whole = joined(alloc, &ACCEPTED[0])?;
+    assert!(rt; are_refused_for_their_frames(alloc, whole.as_str())?);
     Ok(())
 }

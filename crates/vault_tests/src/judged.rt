@@ -1,7 +1,7 @@
-//! Worked rulings of parts.
-use custody_machine::Refusal;
+//! Worked rulings of registrations and parts.
+use custody_machine::{Command, Refusal};
 use custody_records::{Part, Records, Registry};
-use custody_rules::{PartRuling, judge_part};
+use custody_rules::{Change, Kept, Ruling, judge, judge_part};
 use deposit_name::{DepositId, DepositName, NameError, Tld};
 use desk::{Check, Notice, NoticeKind, Revision};
 use schedule::{Day, Sec, read_day, read_moment};
@@ -29,7 +29,7 @@ fn moment() -> Result<Sec, Fail> {
 fn registered(alloc: Global) -> Result<Records, Fail> {
     let mut records = Records::new(alloc, 7, 1024);
     let tld = Tld::parse(b"example").ok_or("a domain")?;
-    records.insert_registry(Registry {
+    records.try_add_registry(Registry {
         tld,
         first_day: day()?,
     })?;
@@ -54,14 +54,14 @@ fn part(alloc: Global, name: &[u8], is_held: bool) -> Result<Part, Fail> {
 // The registry with one part.
 fn with_part(alloc: Global, name: &[u8], is_held: bool) -> Result<Records, Fail> {
     let mut records = registered(alloc)?;
-    records.insert_part(part(alloc, name, is_held)?)?;
+    records.try_add_part(part(alloc, name, is_held)?)?;
     Ok(records)
 }
 
 // The registry with its first part and a notice of the day.
 fn after(alloc: Global, kind: NoticeKind) -> Result<Records, Fail> {
     let mut records = with_part(alloc, FIRST, true)?;
-    records.insert_notice(&Notice {
+    records.try_add_notice(&Notice {
         number: 1,
         tld: Tld::parse(b"example").ok_or("a domain")?,
         day: day()?,
@@ -98,27 +98,23 @@ fn records_of(alloc: Global, before: Before) -> Result<Records, Fail> {
 }
 
 #[derive(Clone, Copy, PartialEq, Debug)]
-enum Ruling {
-    Go,
+enum Judged {
+    /// It is kept, under the name that was sent.
+    Kept,
     /// It is compared with the first part, which is held.
-    Compare,
-    Refuse(Refusal),
+    Compared,
+    Refused(Refusal),
 }
 
-fn ruled(alloc: Global, before: Before, name: &[u8], len: usize) -> Result<Ruling, Fail> {
+fn ruled(alloc: Global, before: Before, name: &[u8], len: usize) -> Result<Judged, Fail> {
     let records = records_of(alloc, before)?;
     match judge_part(&records, name, len, moment()?) {
-        PartRuling::Refuse(refusal) => Ok(Ruling::Refuse(refusal)),
-        PartRuling::Go(judged) => {
-            if DepositName::parse(name) == Ok(judged) {
-                Ok(Ruling::Go)
-            } else {
-                Err(Fail::from("another name"))
-            }
-        }
-        PartRuling::Compare(part, extents) => {
+        Ruling::Refuse(refusal) => Ok(Judged::Refused(refusal)),
+        Ruling::Repeat(_) => Err(Fail::from("a record answers it")),
+        Ruling::Make(change) => made(change, name),
+        Ruling::Compare(part, extents) => {
             if part.len == 5 && extents == [HELD].as_slice() {
-                Ok(Ruling::Compare)
+                Ok(Judged::Compared)
             } else {
                 Err(Fail::from("another part"))
             }
@@ -126,99 +122,106 @@ fn ruled(alloc: Global, before: Before, name: &[u8], len: usize) -> Result<Rulin
     }
 }
 
-const RULINGS: [(Before, &[u8], Ruling); 22] = [
-    (Before::Registry, FIRST, Ruling::Go),
-    (Before::Held, SECOND, Ruling::Go),
+fn made(change: Change, name: &[u8]) -> Result<Judged, Fail> {
+    match change {
+        Change::Part(judged) if DepositName::parse(name) == Ok(judged) => Ok(Judged::Kept),
+        _ => Err(Fail::from("another change")),
+    }
+}
+
+static RULINGS: [(Before, &[u8], Judged); 22] = [
+    (Before::Registry, FIRST, Judged::Kept),
+    (Before::Held, SECOND, Judged::Kept),
     (
         Before::Registry,
         b"example_2026-08-02_full_S1_R01.ryde",
-        Ruling::Refuse(Refusal::NameRefused(NameError::Revision)),
+        Judged::Refused(Refusal::NameRefused(NameError::Revision)),
     ),
     (
         Before::Registry,
         b"example_2026-08-02_full_S1_R0",
-        Ruling::Refuse(Refusal::NameRefused(NameError::Suffix)),
+        Judged::Refused(Refusal::NameRefused(NameError::Suffix)),
     ),
     (
         Before::Registry,
         b"examples_2026-08-02_full_S1_R0.ryde",
-        Ruling::Refuse(Refusal::RegistryUnknown),
+        Judged::Refused(Refusal::RegistryUnknown),
     ),
     (
         Before::Registry,
         b"example_2026-08-01_full_S1_R0.ryde",
-        Ruling::Refuse(Refusal::DateOutOfRange),
+        Judged::Refused(Refusal::DateOutOfRange),
     ),
     (
         Before::Registry,
         b"example_2026-08-03_full_S1_R0.ryde",
-        Ruling::Refuse(Refusal::DateOutOfRange),
+        Judged::Refused(Refusal::DateOutOfRange),
     ),
-    (Before::Held, FIRST, Ruling::Compare),
-    (Before::Receipt, FIRST, Ruling::Compare),
+    (Before::Held, FIRST, Judged::Compared),
+    (Before::Receipt, FIRST, Judged::Compared),
     (
         Before::Dropped,
         FIRST,
-        Ruling::Refuse(Refusal::DroppedAfterKeeping),
+        Judged::Refused(Refusal::DroppedAfterKeeping),
     ),
     (
         Before::Held,
         RESENT,
-        Ruling::Refuse(Refusal::RevisionNotDue),
+        Judged::Refused(Refusal::RevisionNotDue),
     ),
-    (Before::Failure, RESENT, Ruling::Go),
+    (Before::Failure, RESENT, Judged::Kept),
     // The failure is of revision 0.
     (
         Before::Failure,
         b"example_2026-08-02_full_S1_R2.ryde",
-        Ruling::Refuse(Refusal::RevisionNotDue),
+        Judged::Refused(Refusal::RevisionNotDue),
     ),
     (
         Before::Receipt,
         SECOND,
-        Ruling::Refuse(Refusal::RevisionNotDue),
+        Judged::Refused(Refusal::RevisionNotDue),
     ),
     (
         Before::Receipt,
         RESENT,
-        Ruling::Refuse(Refusal::RevisionNotDue),
+        Judged::Refused(Refusal::RevisionNotDue),
     ),
     (
         Before::Failure,
         SECOND,
-        Ruling::Refuse(Refusal::AlreadyStated),
+        Judged::Refused(Refusal::AlreadyStated),
     ),
-    (Before::Absence, SECOND, Ruling::Go),
+    (Before::Absence, SECOND, Judged::Kept),
     (
         Before::Absence,
         RESENT,
-        Ruling::Refuse(Refusal::RevisionNotDue),
+        Judged::Refused(Refusal::RevisionNotDue),
     ),
     (
         Before::Held,
         b"example_2026-08-02_diff_S1_R0.ryde",
-        Ruling::Refuse(Refusal::TypeDiffers),
+        Judged::Refused(Refusal::TypeDiffers),
     ),
     (
         Before::Held,
         b"example_2026-08-02_diff_S2_R0.ryde",
-        Ruling::Refuse(Refusal::TypeDiffers),
+        Judged::Refused(Refusal::TypeDiffers),
     ),
     (
         Before::Registry,
         SECOND,
-        Ruling::Refuse(Refusal::PartOutOfOrder),
+        Judged::Refused(Refusal::PartOutOfOrder),
     ),
     (
         Before::Held,
         b"example_2026-08-02_full_S3_R0.ryde",
-        Ruling::Refuse(Refusal::PartOutOfOrder),
+        Judged::Refused(Refusal::PartOutOfOrder),
     ),
 ];
 
 #[test]
 fn rules_by_what_is_recorded(rt: HostRuntime) -> Result<(), Fail> {
-    for (before, name, wanted) in RULINGS {
+    for &(before, name, wanted) in &RULINGS {
         assert_eq!(rt; ruled(rt.alloc(), before, name, 5)?, wanted, "{before:?}");
     }
     Ok(())
@@ -228,11 +231,11 @@ fn rules_by_what_is_recorded(rt: HostRuntime) -> Result<(), Fail> {
 fn a_part_has_a_byte_and_no_more_than_a_mebibyte(rt: HostRuntime) -> Result<(), Fail> {
     // The length is judged before a name that is recorded.
     let rows = [
-        (Before::Registry, 0, Ruling::Refuse(Refusal::Size)),
-        (Before::Registry, 1, Ruling::Go),
-        (Before::Registry, 1_048_576, Ruling::Go),
-        (Before::Registry, 1_048_577, Ruling::Refuse(Refusal::Size)),
-        (Before::Dropped, 0, Ruling::Refuse(Refusal::Size)),
+        (Before::Registry, 0, Judged::Refused(Refusal::Size)),
+        (Before::Registry, 1, Judged::Kept),
+        (Before::Registry, 1_048_576, Judged::Kept),
+        (Before::Registry, 1_048_577, Judged::Refused(Refusal::Size)),
+        (Before::Dropped, 0, Judged::Refused(Refusal::Size)),
     ];
     for (before, len, wanted) in rows {
         assert_eq!(rt;
@@ -241,5 +244,25 @@ fn a_part_has_a_byte_and_no_more_than_a_mebibyte(rt: HostRuntime) -> Result<(), 
             "{len} bytes"
         );
     }
+    Ok(())
+}
+
+// The first day that answers a registration of `tld`, and whether it is a repeat.
+fn taken_on(alloc: Global, tld: &[u8]) -> Result<(Day, bool), Fail> {
+    let records = records_of(alloc, Before::Registry)?;
+    let tld = Tld::parse(tld).ok_or("a registry")?;
+    let later = read_day(b"2026-08-09").ok_or("a day")?;
+    match judge(&records, &Command::Register(tld, later), moment()?) {
+        Ruling::Repeat(Kept::Registry(registry)) => Ok((registry.first_day, true)),
+        Ruling::Make(Change::Registry(registry)) => Ok((registry.first_day, false)),
+        _ => Err(Fail::from("another ruling")),
+    }
+}
+
+#[test]
+fn a_registry_is_taken_on_once(rt: HostRuntime) -> Result<(), Fail> {
+    let later = read_day(b"2026-08-09").ok_or("a day")?;
+    assert_eq!(rt; taken_on(rt.alloc(), b"example")?, (day()?, true));
+    assert_eq!(rt; taken_on(rt.alloc(), b"test")?, (later, false));
     Ok(())
 }

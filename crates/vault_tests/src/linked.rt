@@ -64,10 +64,10 @@ fn release(names: &[u8]) -> ReleaseColumns<'_> {
 fn whole(rt: HostRuntime) -> Result<Records, Fail> {
     let mut records = Records::new(rt.alloc(), 7, 1000);
     for tld in [b"example".as_slice(), b"other"] {
-        records.insert_registry(read_registry(tld, DAY).ok_or("no registry")?)?;
+        records.try_add_registry(read_registry(tld, DAY).ok_or("no registry")?)?;
     }
     for columns in [part(0, 1), part(0, 2), part(1, 1)] {
-        records.insert_part(columns.read(rt.alloc())?)?;
+        records.try_add_part(columns.read(rt.alloc())?)?;
     }
     let absent = absence(3, DAY + 7);
     let other = NoticeColumns {
@@ -75,13 +75,13 @@ fn whole(rt: HostRuntime) -> Result<Records, Fail> {
         ..absence(1, DAY + 7)
     };
     for columns in [notice(1, FAILURE, 0), notice(2, RECEIPT, 1), absent, other] {
-        records.insert_notice(&columns.read().ok_or("no notice")?)?;
+        records.try_add_notice(&columns.read().ok_or("no notice")?)?;
     }
     let released = ReleaseColumns {
         reference: b"R-1",
         ..release(b"example_2026-08-02_full_S2_R0.ryde\nexample_2026-08-02_full_S1_R1.ryde\n")
     };
-    records.insert_release(released.read(rt.alloc())?)?;
+    records.try_add_release(released.read(rt.alloc())?)?;
     Ok(records)
 }
 
@@ -96,19 +96,19 @@ fn are_linked(alloc: Global, records: &Records) -> Result<bool, Fail> {
 
 fn is_linked_with_part(rt: HostRuntime, columns: PartColumns<'_>) -> Result<bool, Fail> {
     let mut records = whole(rt)?;
-    records.insert_part(columns.read(rt.alloc())?)?;
+    records.try_add_part(columns.read(rt.alloc())?)?;
     are_linked(rt.alloc(), &records)
 }
 
 fn is_linked_with_notice(rt: HostRuntime, columns: NoticeColumns<'_>) -> Result<bool, Fail> {
     let mut records = whole(rt)?;
-    records.insert_notice(&columns.read().ok_or("no notice")?)?;
+    records.try_add_notice(&columns.read().ok_or("no notice")?)?;
     are_linked(rt.alloc(), &records)
 }
 
 fn is_linked_with_release(rt: HostRuntime, columns: ReleaseColumns<'_>) -> Result<bool, Fail> {
     let mut records = whole(rt)?;
-    records.insert_release(columns.read(rt.alloc())?)?;
+    records.try_add_release(columns.read(rt.alloc())?)?;
     are_linked(rt.alloc(), &records)
 }
 

@@ -13,7 +13,7 @@ const AT_TEN: &[u8] = b"2026-08-02T10:00:00Z";
 const AT_ELEVEN: &[u8] = b"2026-08-02T11:00:00Z";
 
 // A name that is sent first, and why it is refused.
-const REFUSED: [(&[u8], Refusal); 14] = [
+static REFUSED: [(&[u8], Refusal); 14] = [
     (
         b"example_2026-08-02_full_S1_R01.ryde",
         Refusal::NameRefused(NameError::Revision),
@@ -168,7 +168,7 @@ fn a_part_has_1_to_1048576_bytes(rt: HostRuntime) -> Result<(), Fail> {
 #[test]
 fn refuses_by_the_first_that_stands(rt: HostRuntime) -> Result<(), Fail> {
     let mut state = registered(rt.alloc())?;
-    for (name, refusal) in REFUSED {
+    for &(name, refusal) in &REFUSED {
         let answer = put(rt.alloc(), &mut state, name, b"hello", AT_TEN)?;
         assert_eq!(rt; answer, PlainAnswer::Refused(refusal));
     }

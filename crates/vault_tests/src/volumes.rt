@@ -13,9 +13,9 @@ const NUMBER: u64 = 0x0123_4567_89AB_CDEF;
 
 const HELD: [u8; 3] = *b"abc";
 
-const OLD: [u8; 6000] = [b'o'; 6000];
+static OLD: [u8; 6000] = [b'o'; 6000];
 
-const NEW: [u8; 5000] = [b'n'; 5000];
+static NEW: [u8; 5000] = [b'n'; 5000];
 
 // What the open bytes hold after a restart.
 #[derive(Clone, Copy)]

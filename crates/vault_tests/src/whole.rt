@@ -50,14 +50,14 @@ fn unregistered(alloc: Global, parts: &[Lying]) -> Result<Records, Fail> {
     let mut records = Records::new(alloc, 7, 16);
     for (index, (len, runs)) in parts.iter().enumerate() {
         let place = u8::try_from(index + 1).ok().ok_or("a place")?;
-        records.insert_part(part(alloc, place, *len, Some(runs))?)?;
+        records.try_add_part(part(alloc, place, *len, Some(runs))?)?;
     }
     Ok(records)
 }
 
 fn with_parts(alloc: Global, parts: &[Lying]) -> Result<Records, Fail> {
     let mut records = unregistered(alloc, parts)?;
-    records.insert_registry(Registry {
+    records.try_add_registry(Registry {
         tld: tld()?,
         first_day: day()?,
     })?;
@@ -136,7 +136,7 @@ fn records_that_belong_together_are_whole(rt: HostRuntime) -> Result<(), Fail> {
     )?;
     assert_eq!(rt; damage_in(rt.alloc(), &records)?, None);
     // bytes that are dropped name no block, however many they were
-    records.insert_part(part(rt.alloc(), 4, 1_048_576, None)?)?;
+    records.try_add_part(part(rt.alloc(), 4, 1_048_576, None)?)?;
     assert_eq!(rt; damage_in(rt.alloc(), &records)?, None);
     Ok(())
 }

@@ -17,7 +17,7 @@ const SAME_BLOCK: &str =
     "INSERT INTO part VALUES ('example', 20667, 0, 2, 'full', 1785664800, 21032, 5, x'0707070707070707070707070707070707070707070707070707070707070707', x'0000000100000001')";
 
 /// What is done to a database with a registry and a part, and the first damage that is then told.
-const DAMAGES: [(&str, Damage); 17] = [
+static DAMAGES: [(&str, Damage); 17] = [
     ("DELETE FROM meta", Damage::NoRecord),
     (
         "UPDATE meta SET number = '0000000000000002'",
@@ -96,7 +96,7 @@ fn opens_what_is_whole(rt: HostRuntime) -> Result<(), Fail> {
 #[test]
 fn tells_the_first_damage(rt: HostRuntime) -> Result<(), Fail> {
     let alloc = rt.alloc();
-    for (sql, damage) in DAMAGES {
+    for &(sql, damage) in &DAMAGES {
         let (volume, mut db) = kept(alloc)?;
         db.execute_batch(sql)?;
         let fault = fault_of(alloc, volume, db)?;

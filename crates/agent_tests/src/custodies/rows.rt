@@ -35,7 +35,7 @@ fn first_wrong<V: Volume, S: Alter>(
 const OTHER: Wanted = Wanted::Refused(Refusal::OtherBytes);
 
 /// `hello`, again, and other bytes under its name.
-const UNDER_ONE_NAME: [Sent; 6] = [
+static UNDER_ONE_NAME: [Sent; 6] = [
     (NAME, b"hello", AT_TEN, Wanted::New),
     (NAME, b"hello", AT_ELEVEN, Wanted::Repeat),
     (NAME, b"hellp", AT_ELEVEN, OTHER),
@@ -84,7 +84,7 @@ fn keeps_parts_of_1_to_1048576_bytes(rt: HostRuntime) -> Result<(), Fail> {
 }
 
 /// Names that are refused in a custody with no parts.
-const REFUSED: [(&[u8], Refusal); 11] = [
+static REFUSED: [(&[u8], Refusal); 11] = [
     (SECOND, Refusal::PartOutOfOrder),
     (
         b"example_2026-08-01_full_S1_R0.ryde",

@@ -95,17 +95,19 @@ Prints: registry TLD DATE
 Example: escrow state vault
 ";
 
+/// Words that ask for help, and the text that they get.
+static HELP: [(&[&str], &str); 6] = [
+    (&["--help"], ESCROW),
+    (&["-h"], ESCROW),
+    (&["init", "--help"], INIT),
+    (&["register", "--help"], REGISTER),
+    (&["put", "-h"], PUT),
+    (&["state", "--help"], STATE),
+];
+
 #[test]
 fn help_teaches_each_subcommand(rt: HostRuntime) -> Result<(), Fail> {
-    let rows: [(&[&str], &str); 6] = [
-        (&["--help"], ESCROW),
-        (&["-h"], ESCROW),
-        (&["init", "--help"], INIT),
-        (&["register", "--help"], REGISTER),
-        (&["put", "-h"], PUT),
-        (&["state", "--help"], STATE),
-    ];
-    for (texts, wanted) in rows {
+    for &(texts, wanted) in &HELP {
         let text = fault_text(rt.alloc(), texts)?;
         assert_eq!(rt; text.as_str(), wanted);
     }

@@ -1,6 +1,7 @@
 //! Orders on an agent over memory: what they print, and their exit statuses.
 use super::words_of;
-use agent_cli::{Line, Order, VolumeNumber, act, order_of, print_line, tell, tell_init};
+use agent_cli::{Order, act, order_of};
+use answer_lines::{Line, VolumeNumber, print_line, tell, tell_init};
 use custody::{Custody, InitError};
 use custody_machine::{Damage, Fault};
 use schedule::Sec;
@@ -174,7 +175,7 @@ fn vault_with_part(alloc: Global) -> Result<MemCustody, Fail> {
 }
 
 /// The part again, other bytes under its name, and another beginning.
-const AFTER_A_PART: [Case; 6] = [
+static AFTER_A_PART: [Case; 6] = [
     ONE_PART,
     AGAIN,
     ONE_PART,
@@ -196,7 +197,7 @@ fn a_part_is_received_once(rt: HostRuntime) -> Result<(), Fail> {
 }
 
 /// What was received, and the registry with another first day.
-const AFTER_AN_OPENING: [Case; 3] = [
+static AFTER_AN_OPENING: [Case; 3] = [
     ONE_PART,
     AGAIN,
     (
@@ -241,7 +242,7 @@ fn sevens(alloc: Global, count: usize) -> Result<Vec<u8>, AllocError> {
     vec![in alloc; 7; count]
 }
 
-const REFUSED: [(&str, &str); 11] = [
+static REFUSED: [(&str, &str); 11] = [
     (
         "example_2026-08-02_full_S1_R01.ryde",
         "Q1 N6 name refused\n",
@@ -272,7 +273,7 @@ const REFUSED: [(&str, &str); 11] = [
 
 /// The first of these names that is not refused so.
 fn first_taken(alloc: Global, custody: &mut MemCustody) -> Result<Option<&'static str>, Fail> {
-    for (name, why) in REFUSED {
+    for &(name, why) in &REFUSED {
         if !is_refused(alloc, custody, name, b"hello", why)? {
             return Ok(Some(name));
         }
@@ -316,7 +317,7 @@ fn parts_are_refused_by_size(rt: HostRuntime) -> Result<(), Fail> {
     Ok(())
 }
 
-const REGISTRIES: [&[&str]; 3] = [
+static REGISTRIES: [&[&str]; 3] = [
     &["register", "d", "zz", "--first", "2026-08-02"],
     &["register", "d", "a-b", "--first", "2026-08-02"],
     &["register", "d", "a", "--first", "2026-08-02"],
@@ -324,7 +325,7 @@ const REGISTRIES: [&[&str]; 3] = [
 
 const LATER: &str = "2026-08-03T00:00:01Z";
 
-const PARTS: [&[&str]; 4] = [
+static PARTS: [&[&str]; 4] = [
     &[
         "put",
         "d",
@@ -371,7 +372,7 @@ fn are_done(
 }
 
 /// The state by registries, and a part of more blocks than are free.
-const BY_REGISTRIES: [Case; 2] = [
+static BY_REGISTRIES: [Case; 2] = [
     (
         STATE_WORDS,
         b"",
@@ -480,7 +481,7 @@ fn failures_are_told(rt: HostRuntime) -> Result<(), Fail> {
     Ok(())
 }
 
-const AFTER_A_FAILURE: [Case; 2] = [
+static AFTER_A_FAILURE: [Case; 2] = [
     (
         &[
             "put",

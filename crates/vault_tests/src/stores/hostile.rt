@@ -6,7 +6,7 @@ use sqlite::Connection;
 use std::alloc::Global;
 use std::test::Fail;
 
-const OUT_OF_FORM: [&str; 38] = [
+static OUT_OF_FORM: [&str; 38] = [
     "UPDATE meta SET one = 2",
     "UPDATE meta SET number = '00000000000000AB'",
     "UPDATE meta SET number = 'ab'",
@@ -58,7 +58,7 @@ fn fault_after(alloc: Global, sql: &str) -> Result<Option<StoreFault>, Fail> {
 fn fields_out_of_form(rt: HostRuntime) -> Result<(), Fail> {
     let alloc = rt.alloc();
     let form = Some(StoreFault::Damaged(Damage::Form));
-    for sql in OUT_OF_FORM {
+    for sql in &OUT_OF_FORM {
         assert!(rt; fault_after(alloc, sql)? == form, "{sql}");
     }
     let schema = fault_after(alloc, "UPDATE meta SET schema_no = 2")?;
