@@ -19,7 +19,7 @@ use Rattle.custody_machine.specs.State.{at_place, has_notice}
 use Rattle.custody_machine.specs.Machine.{is_receipt, is_failure_of}
 use Rattle.custody_machine.specs.Stored.{AreLinked, is_part_of, names_part, revision_of, is_absence, AreOfOneDay}
 use Rattle.custody_machine.proofs.SameValues.{text_decides}
-use Rattle.custody_rules.specs.Links.{is_part_linked, has_parts, is_same_revision, are_exclusive, are_rivals, is_only, is_notice_linked, is_release_linked, each_passes}
+use Rattle.custody_rules.specs.Links.{is_part_linked, has_parts, is_same_revision, are_exclusive, are_rivals, is_notice_linked, is_release_linked, each_passes}
 use Rattle.custody_rules.proofs.Tables.{each_decides, all_rows}
 
 itself : (b : Bool) → Decides b (b ≡ true)
@@ -217,9 +217,6 @@ module _ (records : Records) where
 module _ (records : Records) (rows : List told.Notice) (is : records.notices ≡ table_map notice_cmp notice_key notice_value rows) (rising : is_rising notice_cmp notice_key rows ≡ true) where
   pub notices_pass : list_all (λ (n : told.Notice). is_notice_linked records (notice_key n) (notice_value n)) rows ≡ each_passes (is_notice_linked records) records.notices
   notices_pass = all_rows notice_cmp notice_key notice_value rows records.notices is rising (λ (e : NoticeKey × Notice). is_notice_linked records e.0 e.1)
-
-  pub none_rivals : (key : NoticeKey) (notice : Notice) → list_all (λ (n : told.Notice). not (are_rivals key notice (notice_key n) (notice_value n))) rows ≡ is_only records key notice
-  none_rivals key notice = all_rows notice_cmp notice_key notice_value rows records.notices is rising (λ (e : NoticeKey × Notice). not (are_rivals key notice e.0 e.1))
 
 pub parts_pass : (records : Records) (rows : List Part) → records.parts ≡ table_map part_cmp part_place part_value rows → is_rising part_cmp part_place rows ≡ true
     → list_all (λ (p : Part). is_part_linked records (part_place p) (part_value p)) rows ≡ each_passes (is_part_linked records) records.parts

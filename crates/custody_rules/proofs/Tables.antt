@@ -88,11 +88,11 @@ each_decides {K} {X} {R} total exact test P decides m = (there, back)
         (ap (λ (n : FinMap R X). get n entry.0) (sym (table_map-entries m)) ∙ row_in_table R (λ (e : K × X). e.0) (λ (e : K × X). e.1) total (entries m) (entries_rise m) i d within)))
 
 module _ {Row K X : Type 0} (order : K → K → Ordering) (key : Row → K) (value : Row → X) where
-  all_entries : (p : K × X → Bool) (rows : List Row) → list_all (λ row. p (key row, value row)) rows ≡ list_all p (entries_of key value rows)
+  pub all_entries : (p : K × X → Bool) (rows : List Row) → list_all (λ row. p (key row, value row)) rows ≡ list_all p (entries_of key value rows)
   all_entries p [] = refl
   all_entries p (row ∷ rows) = ap (λ b. p (key row, value row) && b) (all_entries p rows)
 
-  any_entries : (p : K × X → Bool) (rows : List Row) → list_any (λ row. p (key row, value row)) rows ≡ list_any p (entries_of key value rows)
+  pub any_entries : (p : K × X → Bool) (rows : List Row) → list_any (λ row. p (key row, value row)) rows ≡ list_any p (entries_of key value rows)
   any_entries p [] = refl
   any_entries p (row ∷ rows) = ap (λ b. p (key row, value row) || b) (any_entries p rows)
 

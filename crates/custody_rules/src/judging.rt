@@ -150,7 +150,7 @@ fn day_has_receipt(records: &Records, name: &DepositName) -> bool
     ensures { result ≡ has_notice (records_of records.now).notices name.now.tld name.now.day is_receipt }
 {
     records
-        .notices()
+        .notices_of(&name.tld)
         .iter()
         .any(|notice| is_receipt_of(notice, name))
 }
@@ -159,7 +159,7 @@ fn revision_has_verdict(records: &Records, name: &DepositName) -> bool
     ensures { result ≡ has_notice (records_of records.now).notices name.now.tld name.now.day (is_verdict_of name.now.rev) }
 {
     records
-        .notices()
+        .notices_of(&name.tld)
         .iter()
         .any(|notice| is_verdict_of(notice, name))
 }

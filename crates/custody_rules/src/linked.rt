@@ -102,7 +102,7 @@ fn is_due(records: &Records, place: &PartKey) -> bool
 pub(crate) fn has_failed(records: &Records, tld: &Tld, day: Day, rev: u8) -> bool
     ensures { result ≡ has_notice (records_of records.now).notices tld.now day (is_failure_of rev) }
 {
-    has_failure(records.notices(), tld, day, rev)
+    has_failure(records.notices_of(tld), tld, day, rev)
 }
 
 fn has_failure(notices: &[Notice], tld: &Tld, day: Day, rev: u8) -> bool
@@ -136,7 +136,7 @@ fn notice_is_linked(records: &Records, notice: &Notice) -> bool
     is_known(records, &notice.tld)
         && is_numbered(records, &notice.tld, notice.number)
         && has_parts(records, notice)
-        && is_only(notice, records.notices())
+        && is_only(notice, records.notices_of(&notice.tld))
 }
 
 /// Whether the number is the first of its registry's, or a notice has the number before.
@@ -182,7 +182,7 @@ fn revision_of(kind: &NoticeKind) -> Option<u8>
 }
 
 /// Whether none of the notices is a rival of this one. Each is looked at: that takes no memory, and
-/// for all notices the square of their number in time.
+/// for all notices of a registry the square of their number in time.
 fn is_only(notice: &Notice, notices: &[Notice]) -> bool
     ensures { result ≡ list_all (λ n. not (are_rivals (notice_key notice.now) (notice_value notice.now) (notice_key n) (notice_value n))) notices.now }
 {

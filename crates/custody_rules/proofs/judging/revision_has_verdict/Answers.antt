@@ -1,6 +1,9 @@
-use Rattle.std.proofs.Common.{◌∙◌, rules, tests}
+use Rattle.std.proofs.Common.{◌∙◌, ap, rules, tests}
 use Rattle.std.proofs.lemmas.Iterator.{YieldsList-from_slice}
 use Rattle.std.proofs.lemmas.Iterator.Search.{any_from_yields_List}
+use Rattle.deposit_name.specs.Name.{Name}
+use Rattle.custody_records.specs.Held.{records_of}
+use Rattle.custody_records.specs.Records.{notices_of}
 use Rattle.custody_machine.specs.Machine.{is_verdict_of}
 use Rattle.custody_rules.specs.Judged.{tells}
 use Rattle.custody_rules.proofs.Notices.{some_notice}
@@ -8,5 +11,6 @@ use Rattle.custody_rules.proofs.judging.revision_has_verdict.Goals as goal
 
 pub returns : goal.returns
 returns c =
-    any_from_yields_List (tells c.args.name.now (is_verdict_of c.args.name.now.rev)) _ _ _ c.any.ensures.ran (YieldsList-from_slice c.notices.result.now cc) (λ x b q k. search (rules, tests))
-    ∙ some_notice _ c.notices.result.now c.notices.ensures.all c.notices.ensures.rising c.args.name.now.tld c.args.name.now.day (is_verdict_of c.args.name.now.rev)
+    any_from_yields_List (tells c.args.name.now (is_verdict_of c.args.name.now.rev)) _ _ _ c.any.ensures.ran (YieldsList-from_slice c.notices_of.result.now cc) (λ x b q k. search (rules, tests))
+    ∙ some_notice (records_of c.args.records.now) c.args.name.now.tld c.notices_of.result.now
+    (c.notices_of.ensures ∙ ap (λ (n : Name). notices_of (records_of c.args.records.now) n.tld) c.name.view_is) c.args.name.now.day (is_verdict_of c.args.name.now.rev)
