@@ -1,21 +1,18 @@
 //! The custody: what a registry data escrow agent keeps for its registries, on a volume and in a
 //! database, through stops.
+//!
+//! `Custody` has the calls. `laws` and `composed` state what holds of them, and no program calls them.
 #![tactic(auto)]
 
 mod answers;
 mod compare;
-mod composed;
+pub mod composed;
 mod custody;
 mod forms;
 mod keeper;
-mod laws;
+pub mod laws;
 mod opening;
 
 pub use answers::{InitError, Record, Refused, Reply};
-pub use composed::{
-    Reopened, Resumed, Session, begin_run_and_reopen, new_database, open_run_and_reopen,
-    serve_session,
-};
 pub use custody::Custody;
-pub use laws::{law_at_rest, law_run, law_sessions, law_shown, law_stop};
 pub use opening::has_record;

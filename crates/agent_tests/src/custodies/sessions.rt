@@ -1,6 +1,7 @@
 //! One session and an opening over what a stop has left of it.
 use super::new_custody;
-use custody::{Refused, Reopened, begin_run_and_reopen, open_run_and_reopen};
+use custody::Refused;
+use custody::composed::{Reopened, begin_run_and_reopen, open_run_and_reopen};
 use custody_machine::{Command, Fault};
 use deposit_name::Tld;
 use schedule::{Day, Sec, read_day, read_moment};
