@@ -29,7 +29,7 @@ module _ {V S : Type 0} (g : volume.Ghosts V) (database : Ghosts S) (volume : V)
   -- ---- a beginning
 
   -- A custody that was begun, whatever volume and database are.
-  pub record IsNew (number : ℕ) (custody : Custody V S g database) : Type 0 where
+  pub record HasBegun (number : ℕ) (custody : Custody V S g database) : Type 0 where
     -- it is open
     pub opened : is_open custody ≡ true
     -- it has no records but the number and the size of the volume

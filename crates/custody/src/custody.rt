@@ -35,7 +35,7 @@ pub struct Custody<V: Volume, S: Alter> {
 
 impl<V: Volume, S: Alter> Custody<V, S> {
     ghost use Rattle.custody.specs.Custody.{HasApplied, HasRun, keeper_of, is_open, entries_of};
-    ghost use Rattle.custody.specs.Calls.{IsNew, IsKept, IsNotBegun, LeavesNone, IsOpened, IsLoaded, IsNotOpenedFor};
+    ghost use Rattle.custody.specs.Calls.{HasBegun, IsKept, IsNotBegun, LeavesNone, IsOpened, IsLoaded, IsNotOpenedFor};
 
     /// Begins a custody over a volume of 2 to 262,144 blocks and a database with no record of one:
     /// block 0 is written and synced, and then the records are made. Over a database with a table of
@@ -48,7 +48,7 @@ impl<V: Volume, S: Alter> Custody<V, S> {
         number: u64,
     ) -> Result<Custody<V, S>, (InitError, V, Connection<S>)>
         requires { V.failures volume < 2 ^ 64 - 1 }
-        ensures new { IfOk result (λ c. IsNew V.Volume S.Store volume db number c) }
+        ensures new { IfOk result (λ c. HasBegun V.Volume S.Store volume db number c) }
         ensures kept { IfOk result (λ c. IsKept V.Volume S.Store volume db c) }
         ensures not_begun { IfErr result (λ e. IsNotBegun V.Volume S.Store volume db e.0 e.1 e.2) }
         ensures leaves { IfErr result (λ e. (standing S.Store e.2).IsHonest → LeavesNone V.Volume S.Store volume db number e.0 e.1 e.2) }
