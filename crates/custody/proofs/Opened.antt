@@ -42,7 +42,7 @@ use Rattle.custody_machine.specs.declared.answers.Fault.{Fault}
 use Rattle.custody_machine.specs.declared.answers.Fault.TheVariants as fault
 use Rattle.custody.specs.declared.answers.InitError.{InitError}
 use Rattle.custody.specs.declared.answers.InitError.TheVariants as init_error
-use Rattle.custody.specs.Opening.{HasNoRecord, IsUnwritten, IsSize, ReadsVolume, OnlyReads}
+use Rattle.custody.specs.Opening.{HasNoRecord, WritesNothing, IsSize, ReadsVolume, OnlyReads}
 use Rattle.custody.specs.Calls.{LeavesNone}
 
 pub some_is : {T : Type 0} (P : T → Type 0) (o : Option T) (x : T) → o ≡ Some x → IfSome o P → P x
@@ -263,7 +263,7 @@ module _ {V S : Type 0} (device : volume.Ghosts V) (database : Ghosts S) where
 -- ---- what a beginning leaves that makes nothing
 
 -- a failure of volume or database is told where something was written
-pub is_written : (why : Fault) → (why ≡ fault.VolumeFailed) ⊎ (why ≡ fault.StoreFailed) → ¬ IsUnwritten (init_error.Fault why)
+pub is_written : (why : Fault) → (why ≡ fault.VolumeFailed) ⊎ (why ≡ fault.StoreFailed) → ¬ WritesNothing (init_error.Fault why)
 is_written why kind (inl same) = cc
 is_written why kind (inr (inl same)) = cc
 is_written why (inl is) (inr (inr same)) = cc

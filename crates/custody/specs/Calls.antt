@@ -23,7 +23,7 @@ use Rattle.custody.specs.declared.answers.InitError.TheVariants as init_error
 use Rattle.custody.specs.declared.custody.Custody.{Custody}
 use Rattle.custody.specs.Keeper.{recorded, stored, image_of, failures_of, left_by, KeepsImage, KeepsRows}
 use Rattle.custody.specs.Custody.{keeper_of, is_open}
-use Rattle.custody.specs.Opening.{HasAllOrNone, HasNoRecord, IsUnwritten, IsSize, CountsFailures}
+use Rattle.custody.specs.Opening.{HasAllOrNone, HasNoRecord, WritesNothing, IsSize, CountsFailures}
 
 module _ {V S : Type 0} (g : volume.Ghosts V) (database : Ghosts S) (volume : V) (db : Held S) where
   -- ---- a beginning
@@ -70,7 +70,7 @@ module _ {V S : Type 0} (g : volume.Ghosts V) (database : Ghosts S) (volume : V)
     -- what else is no refusal is want of memory, or a failed volume or database
     pub kind : (why : Fault) → error ≡ init_error.Fault why → (why ≡ fault.NoMemory) ⊎ ((why ≡ fault.VolumeFailed) ⊎ (why ≡ fault.StoreFailed))
     -- the volume is as it was after a refusal and a want of memory
-    pub unwritten : IsUnwritten error → later ≡ volume
+    pub unwritten : WritesNothing error → later ≡ volume
     -- and where one of the five tables is there
     pub tables : has_any (standing database db) ≡ true → later ≡ volume
     -- and where all are
@@ -94,7 +94,7 @@ module _ {V S : Type 0} (g : volume.Ghosts V) (database : Ghosts S) (volume : V)
     -- no row changes where all five tables are there
     pub untouched : (standing database db).IsReady → (rows : Rows) → (standing database then).may_leave rows → (standing database db).may_leave rows
     -- and after a refusal and a want of memory
-    pub unwritten : HasAllOrNone (standing database db) → IsUnwritten error → (rows : Rows) → (standing database then).may_leave rows → (standing database db).may_leave rows
+    pub unwritten : HasAllOrNone (standing database db) → WritesNothing error → (rows : Rows) → (standing database then).may_leave rows → (standing database db).may_leave rows
     -- where there was no record, a stop leaves none, or the rows of a new custody, whatever the volume is
     pub rows : HasAllOrNone (standing database db) → HasNoRecord (standing database db).rows
         → (rows : Rows) → (standing database then).may_leave rows → HasNoRecord rows ⊎ (rows ≡ fresh (digits_of number) (pos (g.size volume)))

@@ -43,8 +43,8 @@ fault_of (store.Damaged rows_damage.Schema) = Damaged Schema
 fault_of (store.Damaged rows_damage.Form) = Damaged Form
 
 -- a beginning is refused, or has no memory: nothing was written
-abbrev pub IsUnwritten : InitError → Type 0
-IsUnwritten e = (e ≡ init_error.AlreadyInitialised) ⊎ ((e ≡ init_error.Size) ⊎ (e ≡ init_error.Fault NoMemory))
+abbrev pub WritesNothing : InitError → Type 0
+WritesNothing e = (e ≡ init_error.AlreadyInitialised) ⊎ ((e ≡ init_error.Size) ⊎ (e ≡ init_error.Fault NoMemory))
 
 -- the blocks of a part: none where its bytes are dropped
 abbrev pub blocks_held : ℕ → Option (List Extent) → ℕ
