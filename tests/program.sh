@@ -92,6 +92,7 @@ expect 0 "registered example 2026-08-02" "" register d example --first 2027-01-0
 echo "== parts that are refused"
 printf world > in/example_2026-08-02_full_S3_R0.ryde
 printf world > in/example_2026-08-01_full_S1_R0.ryde
+printf hello > in/example_2026-08-02_full_S1_R1.ryde
 printf world > in/other_2026-08-02_full_S1_R0.ryde
 printf world > in/example_2026-08-02_full_S1_R01.ryde
 expect 1 "" "Q10 part out of order" put d in/example_2026-08-02_full_S3_R0.ryde --now $ten
@@ -115,6 +116,143 @@ part $name0 1048576 held $ten
 free 43 of 299" "" state big
 check "the bytes lie in the volume" cmp -s <(tail -c +4097 big/vault.vol | head -c 1048576) sizes/$name0
 
+echo "== a deposit is verified"
+ns=urn:ietf:params:xml:ns:
+# header DOMAINS: the member of an envelope in which so many domains are counted
+header() {
+    printf '"header":{"count":{"%s":0,"%s":%s,"%s":0,"%s":0},"tld":"example"}' \
+        ${ns}csvContact-1.0 ${ns}csvDomain-1.0 "$1" ${ns}csvHost-1.0 ${ns}csvRegistrar-1.0
+}
+menu() {
+    printf '"rdeMenu":{"objURI":["%s","%s","%s","%s","%s"],"version":"1.0"},"resend":0' \
+        ${ns}csvContact-1.0 ${ns}csvDomain-1.0 ${ns}csvHost-1.0 ${ns}csvRegistrar-1.0 ${ns}rdeHeader-1.0
+}
+# full_deposit [TABLE TEXT DOMAINS]: the bytes of a full deposit of 2026-08-02 whose eight tables are empty, but TABLE,
+# which is TEXT, and in which so many domains are counted
+full_deposit() {
+    local tables="" table text envelope
+    for table in domain domainContacts domainStatuses domainNameServers host hostAddresses contact registrar; do
+        text=""
+        [ "$table" = "${1-}" ] && text=$2
+        tables=$tables,'{"length":'${#text}',"name":"'$table'","sha256":"'$(printf %s "$text" | sha256sum | cut -d ' ' -f 1)'"}'
+    done
+    envelope='{"contents":['${tables#,}'],'$(header "${3-0}")',"id":"20260802001",'$(menu)
+    envelope=$envelope',"type":"FULL","watermark":"2026-08-02T00:00:00Z"}'
+    printf 'RDE1 %08d\n%s%s' ${#envelope} "$envelope" "${2-}"
+}
+# diff_deposit DAY PREVIOUS: the bytes of a differential deposit with no files, which follows that id
+diff_deposit() {
+    local envelope='{"contents":[],"deletes":[],'$(header 0)',"id":"20260803001","prevId":"'$2'",'$(menu)
+    envelope=$envelope',"type":"DIFF","watermark":"'$1'T00:00:00Z"}'
+    printf 'RDE1 %08d\n%s' ${#envelope} "$envelope"
+}
+five=2026-08-02T10:05:00Z
+# stated VAULT WORDS..: the words of a statement of the day's full deposit, made at 10:05
+stated() {
+    local vault=$1
+    shift
+    echo verify "$vault" example --date 2026-08-02 --kind full --revision 0 --now $five "$@"
+}
+mkdir deposit
+full_deposit > deposit/$name0
+check "a head of 14 bytes and an envelope of 1408" test "$(stat -c %s deposit/$name0)" = 1422
+vault whole 8
+# shellcheck disable=SC2046
+{
+    receipt="       1 RECEIPT    2026-08-02 R00 20260802001   $five example"
+    expect 1 "" "Q12 parts differ" $(stated whole --parts 1 --id 20260802001)
+    expect 0 "received $name0 1422 $ten" "" put whole deposit/$name0 --now $ten
+    expect 1 "" "Q12 parts differ" $(stated whole --parts 2 --id 20260802001)
+    expect 1 "" "Q9 type differs" verify whole example --date 2026-08-02 --kind diff --revision 0 --parts 1 \
+        --id 20260802001 --now $five
+    expect 1 "" "Q2 registry unknown" verify whole other --date 2026-08-02 --kind full --revision 0 --parts 1 \
+        --id 20260802001 --now $five
+    expect 1 "" "Q3 date out of range" verify whole example --date 2026-08-03 --kind full --revision 0 --parts 1 \
+        --id 20260802001 --now $five
+    expect 0 "$registry
+part $name0 1422 held $ten
+free 6 of 7" "" state whole
+    expect 0 "$receipt" "" $(stated whole --parts 1 --id 20260802001)
+    expect 0 "$receipt" "" $(stated whole --parts 1 --id 20260802001)
+    expect 0 "$receipt" "" verify whole example --date 2026-08-02 --kind full --revision 0 --parts 1 --id 20260802001 \
+        --now 2026-08-03T00:00:00Z
+    expect 0 "$receipt" "" verify whole example --date 2026-08-02 --kind full --revision 0 --parts 1 --id 20260802001
+    expect 1 "" "Q8 already stated" $(stated whole --parts 1 --id X)
+    expect 1 "" "Q12 parts differ" verify whole example --date 2026-08-02 --kind full --revision 1 --parts 1 \
+        --id 20260802001 --now $five
+    expect 1 "" "Q7 revision not due" put whole in/example_2026-08-02_full_S1_R1.ryde --now $five
+    expect 0 "$registry
+part $name0 1422 held $ten
+$receipt
+free 6 of 7" "" state whole
+
+    domains=$'a.example,D1-EX,,R9,2020-01-01T00:00:00Z,2030-01-01T00:00:00Z\n'
+    # fails CHECK: the bytes on standard input are a deposit in which this check fails first
+    fails() {
+        vault fails 8
+        mkdir -p failing
+        cat > failing/$name0
+        expect 0 "received $name0 $(stat -c %s failing/$name0) $ten" "" put fails failing/$name0 --now $ten
+        expect 0 "       1 FAILURE-$1 2026-08-02 R00 20260802001   $five example" "" $(stated fails --parts 1 --id 20260802001)
+        rm -r fails
+    }
+    fails 01 < <(full_deposit | head -c 1000)
+    fails 02 < <(full_deposit | sed '1s/1408/1409/; 2s/,/, /')
+    fails 10 < <(full_deposit registrar R1,Example,,ok 0)
+    fails 11 < <(full_deposit domain "$domains" 2)
+    fails 12 < <(full_deposit domain "$domains" 1)
+
+    # follows DAY PREVIOUS VERDICT: a differential deposit that is stated as the registry's second has this verdict
+    follows() {
+        local part=example_$1_diff_S1_R0.ryde
+        rm -rf following
+        cp -r whole following
+        diff_deposit "$1" "$2" > "in/$part"
+        expect 0 "received $part $(stat -c %s "in/$part") $1T10:00:00Z" "" put following "in/$part" --now "$1T10:00:00Z"
+        expect 0 "       2 $3 $1 R00 20260803001   $1T10:05:00Z example" "" \
+            verify following example --date "$1" --kind diff --revision 0 --parts 1 --id 20260803001 --now "$1T10:05:00Z"
+    }
+    follows 2026-08-03 20260802001 "RECEIPT   "
+    follows 2026-08-03 X FAILURE-06
+    follows 2026-08-09 X FAILURE-05
+    check "a head of 14 bytes and an envelope of 569" test "$(diff_deposit 2026-08-03 20260802001 | wc -c)" = 583
+
+    # where no deposit has passed, a differential one follows none
+    vault none 8
+    expect 0 "received example_2026-08-03_diff_S1_R0.ryde 573 2026-08-03T10:00:00Z" "" \
+        put none in/example_2026-08-03_diff_S1_R0.ryde --now 2026-08-03T10:00:00Z
+    expect 0 "       1 FAILURE-06 2026-08-03 R00 20260803001   2026-08-03T10:05:00Z example" "" \
+        verify none example --date 2026-08-03 --kind diff --revision 0 --parts 1 --id 20260803001 --now 2026-08-03T10:05:00Z
+
+    failure="       1 FAILURE-01 2026-08-02 R00 X             $five example"
+    vault broken 8
+    expect 0 "$received" "" put broken in/$name0 --now $ten
+    expect 0 "$failure" "" $(stated broken --parts 1 --id X)
+    expect 0 "$failure" "" $(stated broken --parts 1 --id X)
+    printf world > in/example_2026-08-02_full_S2_R0.ryde
+    expect 1 "" "Q8 already stated" put broken in/example_2026-08-02_full_S2_R0.ryde --now $five
+    expect 0 "received example_2026-08-02_full_S1_R1.ryde 5 $five" "" \
+        put broken in/example_2026-08-02_full_S1_R1.ryde --now $five
+    expect 0 "       2 FAILURE-01 2026-08-02 R01 X             $five example" "" \
+        verify broken example --date 2026-08-02 --kind full --revision 1 --parts 1 --id X --now $five
+    expect 0 "$registry
+$held
+part example_2026-08-02_full_S1_R1.ryde 5 held $five
+$failure
+       2 FAILURE-01 2026-08-02 R01 X             $five example
+free 5 of 7" "" state broken
+}
+mkdir later
+expect 0 "ready 8 0000000000000001" "" init later --blocks 8 --number 0000000000000001
+expect 0 "registered example 2026-08-01" "" register later example --first 2026-08-01
+expect 0 "received $name0 1422 $ten" "" put later deposit/$name0 --now $ten
+# shellcheck disable=SC2046
+expect 0 "$receipt" "" $(stated later --parts 1 --id 20260802001)
+expect 0 "received example_2026-08-01_full_S1_R0.ryde 5 $five" "" \
+    put later in/example_2026-08-01_full_S1_R0.ryde --now $five
+expect 1 "" "Q13 later day passed" \
+    verify later example --date 2026-08-01 --kind full --revision 0 --parts 1 --id X --now $five
+
 echo "== the moment of the clock"
 today=$(date -u +%F)
 part=clock_${today}_full_S1_R0.ryde
@@ -133,6 +271,12 @@ expect 0 "$received" "" put d in/$name0 --now $ten
 
 echo "== words, and the order of faults"
 expect 2 "" "bad value for NOW" put nowhere nofile --now 10:00
+expect 2 "" "bad value for DATE" verify nowhere example --date 2026-02-30 --kind f --revision 0 --parts 1 --id a-b --now 0
+expect 2 "" "bad value for KIND" verify nowhere example --date 2026-08-02 --kind f --revision 0 --parts 1 --id a-b --now 0
+expect 2 "" "bad value for ID" verify nowhere example --date 2026-08-02 --kind full --revision 0 --parts 1 --id a-b --now 0
+expect 2 "" "bad value for NOW" verify nowhere example --date 2026-08-02 --kind full --revision 0 --parts 1 --id X --now 0
+expect 3 "" "file failed: nowhere: file missing" \
+    verify nowhere example --date 2026-08-02 --kind full --revision 0 --parts 1 --id X
 expect 3 "" "file failed: nofile: file missing" put nowhere nofile
 expect 3 "" "file failed: in: Is a directory (os error 21)" put nowhere in
 expect 3 "" "file failed: nowhere: file missing" put nowhere in/$name0
@@ -198,6 +342,10 @@ expect 0 "$registry
 $held
 free 6 of 7" "" state v
 expect 3 "" "C5 damaged H8" put v in/$name0 --now $ten
+expect 3 "" "C5 damaged H8" verify v example --date 2026-08-02 --kind full --revision 0 --parts 1 --id X --now $ten
+expect 0 "$registry
+$held
+free 6 of 7" "" state v
 with_volume true
 echo "no database" > v/custody.db
 rm -f v/custody.db-wal
@@ -361,13 +509,18 @@ done
 
 echo "== the database is SQLite's"
 if command -v sqlite3 > /dev/null; then
-    for vault in d big many k; do
+    for vault in d whole broken big many k; do
         compare 0 ok "" "integrity of $vault" sqlite3 $vault/custody.db 'PRAGMA integrity_check'
     done
     compare 0 "1|1|0000000000000001|8" "" "meta" sqlite3 d/custody.db 'SELECT * FROM meta'
     compare 0 "example|20667" "" "registry" sqlite3 d/custody.db 'SELECT * FROM registry'
     compare 0 "example|20667|0|1|full|1785664800|21032|5|2CF24DBA5FB0A30E26E83B2AC5B9E29E1B161E5C1FA7425E73043362938B9824|0000000100000001" "" "part" \
         sqlite3 d/custody.db 'SELECT tld, day, rev, part, kind, received, keep_day, len, hex(sha), hex(extents) FROM part'
+    compare 0 "example|1|0|20667|0|20260802001|1785665100" "" "notice of a receipt" \
+        sqlite3 whole/custody.db 'SELECT tld, number, kind, day, rev, id, at FROM notice'
+    compare 0 "example|1|1|20667|0|X|1785665100
+example|2|1|20667|1|X|1785665100" "" "notices of failures" \
+        sqlite3 broken/custody.db 'SELECT tld, number, kind, day, rev, id, at FROM notice'
     compare 0 "0|0" "" "notice and handover" sqlite3 d/custody.db 'SELECT (SELECT count(*) FROM notice), (SELECT count(*) FROM handover)'
     expect 0 "$registry
 $held

@@ -4,9 +4,10 @@ use Rattle.std.specs.Prelude.{MatchBool}
 use Rattle.std.specs.Str.{bytes_eq}
 use Rattle.clap.specs.Words.{Row, Text, fault_of, subcommand_of}
 use Rattle.clap.specs.Walk.{is_empty}
+use Rattle.deposit_name.proofs.NameLemmas.{kind_text-injective}
 use Rattle.agent_cli.specs.Grammar.{escrow_app}
 use Rattle.agent_cli.specs.Forms.{ShowsMoment}
-use Rattle.agent_cli.specs.Order.{Asks, InitReading, IsOneReading, MetReading, NamedReading, PutReading, ReadsValue, Reading, RegisterReading, StateReading, refused}
+use Rattle.agent_cli.specs.Order.{Asks, InitReading, IsOneReading, MetReading, NamedReading, PutReading, ReadsValue, Reading, RegisterReading, StateReading, VerifyReading, refused}
 use Rattle.agent_cli.specs.declared.order.Argument.{Argument}
 use Rattle.agent_cli.proofs.FormLemmas.{if_given_one}
 use Rattle.answer_lines.proofs.NumberLemmas.{digits_of-injective}
@@ -35,6 +36,14 @@ put_one : (rows : List Row) → IsOne (PutReading rows)
 put_one rows =
     value_one _ _ _ (if_given_one ShowsMoment (λ t x y h k. moment_text-injective x y h.0 k.0 (sym h.1 ∙ k.1)) _) (λ x r s h k. h ∙ sym k)
 
+verify_one : (rows : List Row) → IsOne (VerifyReading rows)
+verify_one rows =
+    value_one _ _ _ (λ x y h k. h.0 ∙ sym k.0) (λ tld.
+    value_one _ _ _ (λ x y h k. day_text-injective x y h.0 k.0 (sym h.1 ∙ k.1)) (λ day.
+    value_one _ _ _ (λ x y h k. kind_text-injective x y (sym h ∙ k)) (λ kind.
+    value_one _ _ _ (λ x y h k. h.0 ∙ sym k.0) (λ id.
+    value_one _ _ _ (if_given_one ShowsMoment (λ t x y h k. moment_text-injective x y h.0 k.0 (sym h.1 ∙ k.1)) _) (λ x r s h k. h ∙ sym k)))))
+
 state_one : (rows : List Row) → IsOne (StateReading rows)
 state_one rows r s h k = h ∙ sym k
 
@@ -50,7 +59,8 @@ named_one name rows =
     either_one (bytes_eq name (codes "init")) _ _ (init_one rows) (
     either_one (bytes_eq name (codes "register")) _ _ (register_one rows) (
     either_one (bytes_eq name (codes "put")) _ _ (put_one rows) (
-    either_one (bytes_eq name (codes "state")) _ _ (state_one rows) refused_one)))
+    either_one (bytes_eq name (codes "verify")) _ _ (verify_one rows) (
+    either_one (bytes_eq name (codes "state")) _ _ (state_one rows) refused_one))))
 
 met_one : (met : Option (Text × List Row)) → IsOne (MetReading met)
 met_one None = refused_one

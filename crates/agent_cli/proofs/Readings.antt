@@ -1,25 +1,28 @@
 -- What the matches of a parse give, and where a parse that passes has met a subcommand.
-use Rattle.std.proofs.Common.{◌∙◌, ◌≡◌, arith, refl, sym, inl, inr, List, ℕ, [], ◌∷◌, Bool, true, false, Option, Some, None, Result, Ok, Err, option_map, unwrap_or, IfSome, cond, find, length}
+use Rattle.std.proofs.Common.{◌∙◌, ◌≡◌, ◌≤◌, ◌<◌, ◌^◌, ◌&&◌, if◌then◌else◌, nat_le, nat_lt, ap, arith, refl, sym, subst, IsErrAnd, inl, inr, List, ℕ, [], ◌∷◌, Bool, true, false, Option, Some, None, Result, Ok, Err, option_map, unwrap_or, IfSome, cond, find, length}
 use Rattle.std.specs.Borrow.{Bor}
 use Rattle.std.specs.List.{list_all}
-use Rattle.std.specs.Str.Parse.{ParsesUnsigned}
-use Rattle.clap.specs.Words.{Row, Shape, Text, kind_of, subcommand_of, fault_of, built, HasKind, IsAmong, Kinds}
+use Rattle.std.specs.Option.{option_map_or}
+use Rattle.std.specs.Str.Parse.{ExplainsUnsignedError, HasUnsignedDigitsIfOk, ParsesUnsigned, digits_value, without_leading_plus}
+use Rattle.clap.specs.Words.{Row, Shape, Text, kind_of, subcommand_of, fault_of, built, HasKind, IsAmong, Kinds, one_text, rows_of}
 use Rattle.clap.specs.Walk.{answers_to, is_empty, stop_after}
 use Rattle.clap.specs.Simple.{argument_words, entered, label_of, names_of, rows_at}
 use Rattle.clap.specs.Matches.{subcommand_name_of}
 use Rattle.clap.specs.Words.{subcommand_rows_of}
 use Rattle.clap.specs.declared.parser.ArgMatches.{ArgMatches}
-use Rattle.clap.proofs.WalkLemmas.{both}
+use Rattle.clap.specs.declared.parser.matches.Found.{Found}
+use Rattle.clap.proofs.WalkLemmas.{both, one_text-rows}
 use Rattle.std.proofs.lemmas.Bool.{ne_eqb}
 use Rattle.clap.specs.Matches.{ReadsOne}
-use Rattle.clap.specs.ValueTests.{is_unsigned_in}
+use Rattle.clap.specs.ValueTests.{is_numeral, is_unsigned_in}
 use Rattle.clap.specs.declared.builder.ValueParser.TheVariants.{Unsigned}
 use Rattle.clap.specs.declared.error.Error.{Error}
 use Rattle.clap.specs.declared.error.ErrorKind.{ErrorKind}
 use Rattle.clap.proofs.ValueTestLemmas.{accepts-Accepts, Accepts-accepts}
 use Rattle.agent_cli.specs.Grammar.{escrow_app}
-use Rattle.agent_cli.specs.Forms.{count_in_text}
-use Rattle.agent_cli.specs.Order.{Answers, Asks, IsFaultFrom, NamedReading, Reading, is_subcommand, refused}
+use Rattle.agent_cli.specs.Forms.{count_in_text, count_of}
+use Rattle.agent_cli.specs.Order.{Answers, Asks, IsFaultFrom, NamedReading, Reading, bad, is_subcommand, refused}
+use Rattle.agent_cli.specs.declared.order.Argument.{Argument}
 use Rattle.agent_cli.specs.declared.order.Order.{Order}
 use Rattle.agent_cli.specs.declared.order.WordFault.{WordFault}
 use Rattle.agent_cli.specs.declared.order.WordFault.TheVariants as fault
@@ -32,10 +35,10 @@ shown_or (Some x) d = refl
 
 -- the number that `get_one` reads, and 0 where it reads none
 pub count_read : {E : Type 0} (G : List ℕ → Result ℕ E → Type 0) (t : List ℕ) (r : Option ℕ) → ((u : List ℕ) (x : Result ℕ E) → G u x → ParsesUnsigned 32 10 u x)
-    → ReadsOne G t r → unwrap_or r 0 ≡ count_in_text t
+    → ReadsOne G t r → unwrap_or r 0 ≡ count_in_text 4294967295 t
 count_read {E} G t r only read = go (is_unsigned_in 0 4294967295 t) refl r read
   where
-    go : (b : Bool) → is_unsigned_in 0 4294967295 t ≡ b → (o : Option ℕ) → ReadsOne G t o → unwrap_or o 0 ≡ count_in_text t
+    go : (b : Bool) → is_unsigned_in 0 4294967295 t ≡ b → (o : Option ℕ) → ReadsOne G t o → unwrap_or o 0 ≡ count_in_text 4294967295 t
     go true e (Some v) h = rw e ((only t (Ok v) h).1)
     go true e None h =
         let a = accepts-Accepts false (Unsigned 0 4294967295) t e in
@@ -46,6 +49,39 @@ count_read {E} G t r only read = go (is_unsigned_in 0 4294967295 t) refl r read
         let bad : true ≡ false = sym yes ∙ e in
         absurd (cc)
     go false e None h = rw e refl
+
+-- the number that `get_one` reads of an argument
+pub count_got : (f : Found) (id : Text) (r : Option ℕ) → (one_text f id ≡ None → r ≡ None)
+    → ((t : Text) → one_text f id ≡ Some t → ReadsOne (λ bs v. ParsesUnsigned 32 10 bs v × ExplainsUnsignedError 10 bs v × HasUnsignedDigitsIfOk bs v) t r)
+    → unwrap_or r 0 ≡ count_of id 4294967295 (rows_of f)
+count_got f id r none value =
+    let go : (o : Option Text) → one_text f id ≡ o → unwrap_or r 0 ≡ option_map_or (count_in_text 4294967295) o 0 =
+    λ o e. (elim o as (λ v. one_text f id ≡ v → unwrap_or r 0 ≡ option_map_or (count_in_text 4294967295) v 0) [
+      | None ↦ λ is. ap (λ n. unwrap_or n 0) (none is)
+      | Some t ↦ λ is. count_read (λ bs v. ParsesUnsigned 32 10 bs v × ExplainsUnsignedError 10 bs v × HasUnsignedDigitsIfOk bs v) t r (λ u x g. g.0) (value t is)
+    ]) e in
+    go _ refl ∙ ap (λ o. option_map_or (count_in_text 4294967295) o 0) (one_text-rows f id)
+
+-- The number up to a greatest one: the number itself where it is within, and 0 where it is above.
+within : (numeral : Bool) (n most : ℕ) → most ≤ 4294967295 → (if numeral && (nat_lt n (2 ^ 64) && (nat_le 0 n && nat_le n 4294967295)) then n else 0) ≤ most
+    → (if numeral && (nat_lt n (2 ^ 64) && (nat_le 0 n && nat_le n 4294967295)) then n else 0) ≡ (if numeral && (nat_lt n (2 ^ 64) && (nat_le 0 n && nat_le n most)) then n else 0)
+within false n most bound h = refl
+within true n most bound h = grind arith
+
+above : (numeral : Bool) (n most : ℕ) → most ≤ 4294967295 → most < (if numeral && (nat_lt n (2 ^ 64) && (nat_le 0 n && nat_le n 4294967295)) then n else 0)
+    → 0 ≡ (if numeral && (nat_lt n (2 ^ 64) && (nat_le 0 n && nat_le n most)) then n else 0)
+above false n most bound h = refl
+above true n most bound h = grind arith
+
+pub count_within : (o : Option Text) (most : ℕ) → most ≤ 4294967295 → option_map_or (count_in_text 4294967295) o 0 ≤ most
+    → option_map_or (count_in_text 4294967295) o 0 ≡ option_map_or (count_in_text most) o 0
+count_within None most bound h = refl
+count_within (Some t) most bound h = within (is_numeral (without_leading_plus t)) (digits_value 10 (without_leading_plus t)) most bound h
+
+pub count_above : (o : Option Text) (most : ℕ) → most ≤ 4294967295 → most < option_map_or (count_in_text 4294967295) o 0
+    → 0 ≡ option_map_or (count_in_text most) o 0
+count_above None most bound h = refl
+count_above (Some t) most bound h = above (is_numeral (without_leading_plus t)) (digits_value 10 (without_leading_plus t)) most bound h
 
 -- ---- faults
 
@@ -63,6 +99,12 @@ fault_answers words e (fault.Words f) h (inl no_memory) = absurd (h.1 no_memory)
 fault_answers words e (fault.Words f) h (inr among) = refused_by words (among_some (kind_of e) _ among)
 fault_answers words e (fault.Bad a) h k = absurd h
 fault_answers words e fault.NoMemory h k = tt
+
+-- an argument out of form is an answer
+pub bad_answers : (Reads : Reading → Type 0) (a : Argument) (e : WordFault) → e ≡ fault.Bad a → (r : Result Order WordFault) → IsErrAnd r (λ y. y ≡ e)
+    → Reads (bad a) → Answers Reads r
+bad_answers Reads a e is (Ok o) h reads = absurd h
+bad_answers Reads a e is (Err x) h reads = subst (λ (y : WordFault). Answers Reads (Err y)) (sym (h ∙ is)) reads
 
 -- ---- a subcommand
 

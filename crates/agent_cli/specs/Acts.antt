@@ -3,7 +3,7 @@ use Rattle.std.specs.Prelude.{◌≡◌, ◌==◌, ◌-◌, ℕ, List, Result, t
 use Rattle.std.specs.List.{after_last}
 use Rattle.vault_volume.specs.declared.volume.Volume as volume
 use Rattle.sqlite.specs.Store.{Ghosts}
-use Rattle.custody_machine.specs.Machine.{Command, Register, Receive}
+use Rattle.custody_machine.specs.Machine.{Command, Register, Receive, Statement}
 use Rattle.custody.specs.Custody.{HasApplied, keeper_of, is_open}
 use Rattle.custody.specs.Keeper.{recorded}
 use Rattle.custody.specs.Opening.{free_blocks}
@@ -35,10 +35,11 @@ module _ {V S : Type 0} {g : volume.Ghosts V} {database : Ghosts S} where
     pub while_open : is_open custody ≡ true → IsUnused errors
     pub while_closed : is_open custody ≡ false → IsUnused output
 
-  -- `register` and `put` give it their command, and no other order changes it
+  -- `register`, `put` and `verify` give it their command, and no other order changes it
   abbrev pub Acts : Order → List ℕ → ℕ → Custody V S g database → Custody V S g database → ℕ → Writer → Writer → Type 0
   Acts (order.Init folder blocks number) bytes now old new status output errors =
       (new ≡ old) × IsStatusAfter 1 status × (status ≡ 1 → Takes errors (init_error_text AlreadyInitialised)) × IsUnused output
   Acts (order.Register folder tld first) bytes now old new status output errors = Applies old (Register tld first) now new status output errors
   Acts (order.Put folder file at) bytes now old new status output errors = Applies old (Receive (name_in file.now) bytes) now new status output errors
+  Acts (order.Verify folder statement at) bytes now old new status output errors = Applies old (Statement statement) now new status output errors
   Acts (order.State folder) bytes now old new status output errors = (new ≡ old) × IsStatus status × Shows old status output errors

@@ -6,7 +6,9 @@ use Rattle.clap.specs.Words.{Row, Text, one_of}
 use Rattle.clap.specs.ValueTests.{is_unsigned_in}
 use Rattle.schedule.specs.Schedule.{IsDay, IsMoment}
 use Rattle.schedule.specs.Text.{day_text, moment_text}
-use Rattle.deposit_name.specs.Identifiers.{IsTld}
+use Rattle.deposit_name.specs.declared.kinds.Kind.{Kind}
+use Rattle.deposit_name.specs.Identifiers.{IsDepositId, IsTld}
+use Rattle.deposit_name.specs.Name.{kind_text}
 
 abbrev pub ShowsTld : Text → List ℕ → Type 0
 ShowsTld text tld = (tld ≡ text) × IsTld tld
@@ -19,16 +21,23 @@ ShowsDay text d = IsDay d × (text ≡ day_text d)
 abbrev pub ShowsMoment : Text → ℕ → Type 0
 ShowsMoment text s = IsMoment s × (text ≡ moment_text s)
 
+-- `full` or `diff`
+abbrev pub ShowsKind : Text → Kind → Type 0
+ShowsKind text kind = text ≡ kind_text kind
+
+abbrev pub ShowsId : Text → List ℕ → Type 0
+ShowsId text id = (id ≡ text) × IsDepositId id
+
 -- the value of a text that may be left out
 abbrev pub ShowsIfGiven : {X : Type 0} → (Text → X → Type 0) → Option Text → Option X → Type 0
 ShowsIfGiven Shows None value = value ≡ None
 ShowsIfGiven Shows (Some text) value = IsSomeAnd value (λ x. Shows text x)
 
--- the number below 2 ^ 32 that a text writes in decimal digits
-abbrev pub count_in_text : Text → ℕ
-count_in_text text =
-    if is_unsigned_in 0 4294967295 text then digits_value 10 (without_leading_plus text) else 0
+-- the number up to a greatest one that a text writes in decimal digits
+abbrev pub count_in_text : ℕ → Text → ℕ
+count_in_text most text =
+    if is_unsigned_in 0 most text then digits_value 10 (without_leading_plus text) else 0
 
 -- the number that is the value of an argument, whose bounds clap has tested
-abbrev pub count_of : Text → List Row → ℕ
-count_of id rows = option_map_or count_in_text (one_of id rows) 0
+abbrev pub count_of : Text → ℕ → List Row → ℕ
+count_of id most rows = option_map_or (count_in_text most) (one_of id rows) 0

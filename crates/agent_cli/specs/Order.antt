@@ -6,9 +6,12 @@ use Rattle.clap.specs.Words.{Row, Text, fault_of, first_of, kind_of, subcommand_
 use Rattle.clap.specs.Walk.{is_empty}
 use Rattle.clap.specs.declared.error.Error.{Error}
 use Rattle.clap.specs.declared.error.ErrorKind.TheVariants.{OutOfMemory}
+use Rattle.deposit_name.specs.declared.kinds.Kind.{Kind}
+use Rattle.custody_machine.specs.declared.command.Statement as told
 use Rattle.answer_lines.specs.Number.{ShowsNumber}
+use Rattle.vault_volume.specs.declared.extent.TheConstants.{MOST_BLOCKS}
 use Rattle.agent_cli.specs.Grammar.{escrow_app, text_of}
-use Rattle.agent_cli.specs.Forms.{ShowsDay, ShowsIfGiven, ShowsMoment, ShowsTld, count_of}
+use Rattle.agent_cli.specs.Forms.{ShowsDay, ShowsId, ShowsIfGiven, ShowsKind, ShowsMoment, ShowsTld, count_of}
 use Rattle.agent_cli.specs.declared.order.Argument.{Argument}
 use Rattle.agent_cli.specs.declared.order.Argument.TheVariants as argument
 use Rattle.agent_cli.specs.declared.order.Order.{Order}
@@ -21,6 +24,7 @@ pub data Wanted : Type 0 where
   init : Text → ℕ → ℕ → Wanted
   register : Text → List ℕ → ℕ → Wanted
   put : Text → Text → Option ℕ → Wanted
+  verify : Text → told.Statement → Option ℕ → Wanted
   state : Text → Wanted
 
 -- what words are: an order, words with an argument out of form, or no words of the command
@@ -33,11 +37,22 @@ pub data Reading : Type 0 where
 abbrev pub ReadsValue : {X : Type 0} → Argument → (X → Type 0) → (X → Reading → Type 0) → Reading → Type 0
 ReadsValue {X} a Shows Next r = ((x : X) × Shows x × Next x r) ⊎ (((x : X) → ¬ Shows x) × (r ≡ bad a))
 
+-- what is stated of a deposit
+abbrev pub stated : List ℕ → ℕ → Kind → List ℕ → List Row → told.Statement
+stated tld day kind id rows = record {
+  tld = tld;
+  day = day;
+  kind = kind;
+  rev = count_of (codes "revision") 99 rows;
+  parts = count_of (codes "parts") 8 rows;
+  id = id;
+}
+
 -- Each reading tests the arguments in the order TLD, DATE, FIRST, KIND, ID, REF, GROUND, NUMBER, NOW.
 abbrev pub InitReading : List Row → Reading → Type 0
 InitReading rows =
     ReadsValue argument.Number (ShowsNumber (text_of (codes "number") rows)) (λ number r.
-    r ≡ wanted (init (text_of (codes "DIR") rows) (count_of (codes "blocks") rows) number))
+    r ≡ wanted (init (text_of (codes "DIR") rows) (count_of (codes "blocks") MOST_BLOCKS rows) number))
 
 abbrev pub RegisterReading : List Row → Reading → Type 0
 RegisterReading rows =
@@ -50,6 +65,15 @@ PutReading rows =
     ReadsValue argument.Now (ShowsIfGiven ShowsMoment (first_of (codes "now") rows)) (λ now r.
     r ≡ wanted (put (text_of (codes "DIR") rows) (text_of (codes "FILE") rows) now))
 
+abbrev pub VerifyReading : List Row → Reading → Type 0
+VerifyReading rows =
+    ReadsValue argument.Tld (ShowsTld (text_of (codes "TLD") rows)) (λ tld.
+    ReadsValue argument.Date (ShowsDay (text_of (codes "date") rows)) (λ day.
+    ReadsValue argument.Kind (ShowsKind (text_of (codes "kind") rows)) (λ kind.
+    ReadsValue argument.Id (ShowsId (text_of (codes "id") rows)) (λ id.
+    ReadsValue argument.Now (ShowsIfGiven ShowsMoment (first_of (codes "now") rows)) (λ now r.
+    r ≡ wanted (verify (text_of (codes "DIR") rows) (stated tld day kind id rows) now))))))
+
 abbrev pub StateReading : List Row → Reading → Type 0
 StateReading rows r = r ≡ wanted (state (text_of (codes "DIR") rows))
 
@@ -59,11 +83,12 @@ NamedReading name rows r =
     MatchBool (bytes_eq name (codes "init")) (InitReading rows r) (
     MatchBool (bytes_eq name (codes "register")) (RegisterReading rows r) (
     MatchBool (bytes_eq name (codes "put")) (PutReading rows r) (
-    MatchBool (bytes_eq name (codes "state")) (StateReading rows r) (r ≡ refused))))
+    MatchBool (bytes_eq name (codes "verify")) (VerifyReading rows r) (
+    MatchBool (bytes_eq name (codes "state")) (StateReading rows r) (r ≡ refused)))))
 
 abbrev pub is_subcommand : Text → Bool
 is_subcommand name =
-    list_any (bytes_eq name) (codes "init" ∷ codes "register" ∷ codes "put" ∷ codes "state" ∷ [])
+    list_any (bytes_eq name) (codes "init" ∷ codes "register" ∷ codes "put" ∷ codes "verify" ∷ codes "state" ∷ [])
 
 abbrev pub MetReading : Option (Text × List Row) → Reading → Type 0
 MetReading None r = r ≡ refused
@@ -84,6 +109,7 @@ abbrev pub meaning : Order → Wanted
 meaning (order.Init folder blocks number) = init folder.now blocks number
 meaning (order.Register folder tld first) = register folder.now tld first
 meaning (order.Put folder file now) = put folder.now file.now now
+meaning (order.Verify folder statement now) = verify folder.now statement now
 meaning (order.State folder) = state folder.now
 
 -- the answer is the reading, or memory ran out

@@ -37,6 +37,10 @@ pub fn act<V: Volume, S: Alter, W: Write, E: Write>(
             let answer = custody.apply(alloc, &Command::Receive(last_part(path), file), now);
             tell_answer(&answer, out, err)
         }
+        Order::Verify { statement, .. } => {
+            let answer = custody.apply(alloc, &Command::Statement(*statement), now);
+            tell_answer(&answer, out, err)
+        }
         Order::State { .. } => show(custody, out, err),
     }
 }

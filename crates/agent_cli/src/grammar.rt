@@ -3,11 +3,12 @@
 ghost use Rattle.std.specs.Prelude.{◌≡◌, IfOk, codes, false};
 ghost use Rattle.clap.specs.Words.{app_of, new_app, rule_of, shape_of};
 ghost use Rattle.clap.specs.declared.builder.Command.TheViews.{out-Command};
-ghost use Rattle.agent_cli.specs.Grammar.{bare_app, count_rule, escrow_app, option_rule, positional_rule, init_shape, register_shape, put_shape, state_shape};
+ghost use Rattle.agent_cli.specs.Grammar.{bare_app, count_rule, deposit_app, escrow_app, option_rule, positional_rule, init_shape, register_shape, put_shape, state_shape, verify_shape};
 
 use clap::builder::ValueParser;
 use clap::{Arg, Command};
 use std::alloc::{AllocError, Global};
+use vault_volume::{FEWEST_BLOCKS, MOST_BLOCKS};
 
 fn positional<'a>(alloc: Global, id: &'a str, help: &'a str) -> Arg<'a>
     ensures rule { rule_of result ≡ positional_rule id.entry.now }
@@ -60,7 +61,7 @@ fn init_command<'a>(alloc: Global) -> Result<Command<'a>, AllocError>
     let number = "Number of the volume, 16 lower-case hexadecimal digits";
     subcommand(alloc, "init", about, after)
         .arg(folder(alloc))?
-        .arg(count(alloc, "blocks", 2, 262_144, blocks))?
+        .arg(count(alloc, "blocks", FEWEST_BLOCKS, MOST_BLOCKS, blocks))?
         .arg(option(alloc, "number", true, "HEX16", number))
 }
 
@@ -93,12 +94,54 @@ fn put_command<'a>(alloc: Global) -> Result<Command<'a>, AllocError>
         .arg(option(alloc, "now", false, "MOMENT", now))
 }
 
+/// A subcommand that speaks of a deposit, by its registry, day, kind and revision.
+fn deposit_command<'a>(
+    alloc: Global,
+    name: &'a str,
+    about: &'a str,
+    after: &'a str,
+) -> Result<Command<'a>, AllocError>
+    ensures { IfOk result (λ c. (app_of c ≡ deposit_app name.entry.now) × ((out-Command c).has_globals ≡ false)) }
+{
+    let tld = "Top-level domain of the registry";
+    let date = "Day of the deposit, as 2026-08-02";
+    let kind = "What the deposit holds: full or diff";
+    let revision = "Resend number of the deposit, 0 to 99: 0 where its parts end in R0.ryde";
+    subcommand(alloc, name, about, after)
+        .arg(folder(alloc))?
+        .arg(positional(alloc, "TLD", tld))?
+        .arg(option(alloc, "date", true, "DATE", date))?
+        .arg(option(alloc, "kind", true, "KIND", kind))?
+        .arg(count(alloc, "revision", 0, 99, revision))
+}
+
+fn verify_command<'a>(alloc: Global) -> Result<Command<'a>, AllocError>
+    ensures { IfOk result (λ c. (shape_of c ≡ verify_shape) × ((out-Command c).has_globals ≡ false)) }
+{
+    let about =
+        "Verifies a deposit whose parts are all sent; the same words again are answered as before";
+    let after =
+        "Prints the notice: NUMBER RECEIPT DATE RNN ID MOMENT TLD where the deposit passes,\n        \
+                 else NUMBER FAILURE-NN DATE RNN ID MOMENT TLD, NN the first check that fails\n\
+                 Example: escrow verify vault example --date 2026-08-02 --kind full --revision 0 \
+                 --parts 1 --id 20260802001";
+    let parts = "How many parts the deposit has, 1 to 8";
+    let id = "Id of the deposit, as its envelope has it: 1 to 13 letters and digits";
+    let now = "Moment of the notice, as 2026-08-02T10:05:00Z; else the clock is read";
+    deposit_command(alloc, "verify", about, after)?
+        .arg(count(alloc, "parts", 1, 8, parts))?
+        .arg(option(alloc, "id", true, "ID", id))?
+        .arg(option(alloc, "now", false, "MOMENT", now))
+}
+
 fn state_command<'a>(alloc: Global) -> Result<Command<'a>, AllocError>
     ensures { IfOk result (λ c. (shape_of c ≡ state_shape) × ((out-Command c).has_globals ≡ false)) }
 {
-    let about = "Prints the records: each registry with its parts, then the free blocks";
+    let about =
+        "Prints the records: each registry with its parts and notices, then the free blocks";
     let after = "Prints: registry TLD DATE\n        \
                  part NAME LENGTH held MOMENT\n        \
+                 NUMBER RECEIPT DATE RNN ID MOMENT TLD, as verify prints a notice\n        \
                  free F of T\n\
                  Example: escrow state vault";
     subcommand(alloc, "state", about, after).arg(folder(alloc))
@@ -116,6 +159,8 @@ fn bare_command<'a>(alloc: Global) -> Command<'a>
                  escrow init vault --blocks 8 --number 0000000000000001\n  \
                  escrow register vault example --first 2026-08-02\n  \
                  escrow put vault example_2026-08-02_full_S1_R0.ryde\n  \
+                 escrow verify vault example --date 2026-08-02 --kind full --revision 0 \
+                 --parts 1 --id 20260802001\n  \
                  escrow state vault\n\n\
                  Exit status: 0 done, 1 refused, 2 words out of form, 3 failed";
     Command::new(alloc, "escrow")
@@ -132,5 +177,6 @@ pub(crate) fn escrow_command<'a>(alloc: Global) -> Result<Command<'a>, AllocErro
         .subcommand(init_command(alloc)?)?
         .subcommand(register_command(alloc)?)?
         .subcommand(put_command(alloc)?)?
+        .subcommand(verify_command(alloc)?)?
         .subcommand(state_command(alloc)?)
 }

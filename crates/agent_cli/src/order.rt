@@ -5,7 +5,7 @@ ghost use Rattle.agent_cli.specs.declared.order.WordFault.TheVariants.{NoMemory}
 
 use answer_lines::VolumeNumber;
 use clap::error::ErrorKind;
-use custody_machine::{Fault, Status};
+use custody_machine::{Fault, Statement, Status};
 use deposit_name::Tld;
 use schedule::{Day, Sec};
 use std::alloc::AllocError;
@@ -27,6 +27,12 @@ pub enum Order<'a> {
     Put {
         folder: &'a str,
         file: &'a str,
+        /// The moment of the call, where the words name it.
+        now: Option<Sec>,
+    },
+    Verify {
+        folder: &'a str,
+        statement: Statement,
         /// The moment of the call, where the words name it.
         now: Option<Sec>,
     },

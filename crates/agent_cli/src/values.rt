@@ -1,15 +1,16 @@
 //! The values of arguments, each in its form.
-ghost use Rattle.std.specs.Prelude.{◌≡◌, codes};
+ghost use Rattle.std.specs.Prelude.{◌≡◌, ◌≤◌, codes};
 ghost use Rattle.clap.specs.Words.{first_of, found_of, rows_of};
 ghost use Rattle.answer_lines.specs.Number.{ShowsNumber};
 ghost use Rattle.agent_cli.specs.Grammar.{text_of};
-ghost use Rattle.agent_cli.specs.Forms.{ShowsDay, ShowsIfGiven, ShowsMoment, ShowsTld, count_of};
+ghost use Rattle.agent_cli.specs.Forms.{ShowsDay, ShowsId, ShowsIfGiven, ShowsKind, ShowsMoment, ShowsTld, count_of};
 ghost use Rattle.agent_cli.specs.Order.{AnswersValue};
 
 use crate::{Argument, WordFault};
 use answer_lines::VolumeNumber;
 use clap::ArgMatches;
-use deposit_name::Tld;
+use deposit_name::{DepositId, Kind, Tld};
+use desk::Revision;
 use schedule::{Day, Sec, read_day, read_moment};
 
 /// The value of an argument that is required.
@@ -19,11 +20,25 @@ pub(crate) fn text_in<'a>(matches: &ArgMatches<'a>, id: &str) -> &'a str
     matches.get_str(id).unwrap_or("")
 }
 
-/// A number that the command's parser has tested.
-pub(crate) fn count_in(matches: &ArgMatches<'_>, id: &str) -> u32
-    ensures { result ≡ count_of id.now (rows_of (found_of matches.now)) }
+/// A number that the command's parser has tested to be at most `most`.
+pub(crate) fn count_in(matches: &ArgMatches<'_>, id: &str, most: u32) -> u32
+    ensures count { result ≡ count_of id.now most (rows_of (found_of matches.now)) }
+    ensures most { result ≤ most }
 {
-    matches.get_one::<u32>(id).unwrap_or(0)
+    let count = matches.get_one::<u32>(id).unwrap_or(0);
+    if count > most { 0 } else { count }
+}
+
+pub(crate) fn revision_in(matches: &ArgMatches<'_>) -> Revision
+    ensures { result ≡ count_of (codes "revision") 99 (rows_of (found_of matches.now)) }
+{
+    Revision::new(count_in(matches, "revision", 99) as u8).unwrap()
+}
+
+pub(crate) fn parts_in(matches: &ArgMatches<'_>) -> u8
+    ensures { result ≡ count_of (codes "parts") 8 (rows_of (found_of matches.now)) }
+{
+    count_in(matches, "parts", 8) as u8
 }
 
 pub(crate) fn tld_in(matches: &ArgMatches<'_>) -> Result<Tld, WordFault>
@@ -32,10 +47,28 @@ pub(crate) fn tld_in(matches: &ArgMatches<'_>) -> Result<Tld, WordFault>
     Tld::parse(text_in(matches, "TLD").as_bytes()).ok_or(WordFault::Bad(Argument::Tld))
 }
 
+pub(crate) fn date_in(matches: &ArgMatches<'_>) -> Result<Day, WordFault>
+    ensures { AnswersValue Argument.Date (ShowsDay (text_of (codes "date") (rows_of (found_of matches.now)))) result }
+{
+    read_day(text_in(matches, "date").as_bytes()).ok_or(WordFault::Bad(Argument::Date))
+}
+
 pub(crate) fn first_in(matches: &ArgMatches<'_>) -> Result<Day, WordFault>
     ensures { AnswersValue Argument.First (ShowsDay (text_of (codes "first") (rows_of (found_of matches.now)))) result }
 {
     read_day(text_in(matches, "first").as_bytes()).ok_or(WordFault::Bad(Argument::First))
+}
+
+pub(crate) fn kind_in(matches: &ArgMatches<'_>) -> Result<Kind, WordFault>
+    ensures { AnswersValue Argument.Kind (ShowsKind (text_of (codes "kind") (rows_of (found_of matches.now)))) result }
+{
+    Kind::parse(text_in(matches, "kind").as_bytes()).ok_or(WordFault::Bad(Argument::Kind))
+}
+
+pub(crate) fn id_in(matches: &ArgMatches<'_>) -> Result<DepositId, WordFault>
+    ensures { AnswersValue Argument.Id (ShowsId (text_of (codes "id") (rows_of (found_of matches.now)))) result }
+{
+    DepositId::parse(text_in(matches, "id").as_bytes()).ok_or(WordFault::Bad(Argument::Id))
 }
 
 pub(crate) fn number_in(matches: &ArgMatches<'_>) -> Result<VolumeNumber, WordFault>

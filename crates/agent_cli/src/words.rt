@@ -2,14 +2,19 @@
 ghost use Rattle.std.specs.Prelude.{◌≡◌, map, true};
 ghost use Rattle.std.specs.String.{string_bytes};
 ghost use Rattle.clap.specs.Words.{found_of, rows_of};
-ghost use Rattle.agent_cli.specs.Order.{Answers, Asks, InitReading, IsFaultFrom, NamedReading, PutReading, RegisterReading, StateReading, is_subcommand};
+ghost use Rattle.agent_cli.specs.Order.{Answers, Asks, InitReading, IsFaultFrom, NamedReading, PutReading, RegisterReading, StateReading, VerifyReading, is_subcommand};
 
 use crate::grammar::escrow_command;
-use crate::values::{count_in, first_in, now_in, number_in, text_in, tld_in};
+use crate::values::{
+    count_in, date_in, first_in, id_in, kind_in, now_in, number_in, parts_in, revision_in, text_in,
+    tld_in,
+};
 use crate::{Order, WordFault};
 use clap::ArgMatches;
 use clap::error::ErrorKind;
+use custody_machine::Statement;
 use std::alloc::Global;
+use vault_volume::MOST_BLOCKS;
 
 fn init_order<'a>(matches: &ArgMatches<'a>) -> Result<Order<'a>, WordFault>
     ensures { Answers (InitReading (rows_of (found_of matches.now))) result }
@@ -17,7 +22,7 @@ fn init_order<'a>(matches: &ArgMatches<'a>) -> Result<Order<'a>, WordFault>
     let number = number_in(matches)?;
     Ok(Order::Init {
         folder: text_in(matches, "DIR"),
-        blocks: count_in(matches, "blocks"),
+        blocks: count_in(matches, "blocks", MOST_BLOCKS),
         number,
     })
 }
@@ -45,6 +50,28 @@ fn put_order<'a>(matches: &ArgMatches<'a>) -> Result<Order<'a>, WordFault>
     })
 }
 
+fn verify_order<'a>(matches: &ArgMatches<'a>) -> Result<Order<'a>, WordFault>
+    ensures { Answers (VerifyReading (rows_of (found_of matches.now))) result }
+{
+    let tld = tld_in(matches)?;
+    let day = date_in(matches)?;
+    let kind = kind_in(matches)?;
+    let id = id_in(matches)?;
+    let now = now_in(matches)?;
+    Ok(Order::Verify {
+        folder: text_in(matches, "DIR"),
+        statement: Statement {
+            tld,
+            day,
+            kind,
+            rev: revision_in(matches),
+            parts: parts_in(matches),
+            id,
+        },
+        now,
+    })
+}
+
 fn state_order<'a>(matches: &ArgMatches<'a>) -> Result<Order<'a>, WordFault>
     ensures { Answers (StateReading (rows_of (found_of matches.now))) result }
 {
@@ -64,6 +91,8 @@ fn named_order<'a>(name: &str, matches: &ArgMatches<'a>) -> Result<Order<'a>, Wo
         register_order(matches)
     } else if name == "put" {
         put_order(matches)
+    } else if name == "verify" {
+        verify_order(matches)
     } else {
         state_order(matches)
     }

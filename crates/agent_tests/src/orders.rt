@@ -1,10 +1,13 @@
 //! Worked words, the texts of help, and lines.
+mod bench;
+mod deposits;
 mod help;
 mod rows;
 
 use agent_cli::{Argument, Order, WordFault, last_part, order_of};
 use answer_lines::{Line, VolumeNumber};
-use deposit_name::{DepositName, Tld};
+use deposit_name::{DepositId, DepositName, Kind, Tld};
+use desk::{Check, Notice, NoticeKind, Revision};
 use schedule::{read_day, read_moment};
 use std::alloc::{AllocError, Global};
 use std::test::Fail;
@@ -66,6 +69,47 @@ fn the_moment_of_a_put_may_be_left_out(rt: HostRuntime) -> Result<(), Fail> {
     Ok(())
 }
 
+/// The words of a statement, but for its moment.
+const VERIFY: [&str; 13] = [
+    "verify",
+    "d",
+    "example",
+    "--date",
+    "2026-08-02",
+    "--kind",
+    "diff",
+    "--revision",
+    "7",
+    "--parts",
+    "3",
+    "--id",
+    "20260802001",
+];
+
+#[test]
+fn reads_a_statement(rt: HostRuntime) -> Result<(), Fail> {
+    let words = words_of(rt.alloc(), &VERIFY)?;
+    let Ok(
+        Order::Verify {
+            folder,
+            statement,
+            now: None,
+        },
+    ) = order_of(rt.alloc(), words.as_slice())
+    else {
+        return Err("a statement".into());
+    };
+    assert_eq!(rt; folder, "d");
+    assert_eq!(rt; statement.tld.as_bytes(), b"example".as_slice());
+    assert_eq!(rt;
+        (statement.day.number(), statement.kind),
+        (20_667, Kind::Diff)
+    );
+    assert_eq!(rt; (statement.rev.number(), statement.parts), (7, 3));
+    assert_eq!(rt; statement.id.as_bytes(), b"20260802001".as_slice());
+    Ok(())
+}
+
 // The text of the fault of these words.
 fn fault_text(alloc: Global, texts: &[&str]) -> Result<String, Fail> {
     let words = words_of(alloc, texts)?;
@@ -76,7 +120,7 @@ fn fault_text(alloc: Global, texts: &[&str]) -> Result<String, Fail> {
 }
 
 /// Words with a value out of form, and the text of their fault.
-static OUT_OF_FORM: [(&[&str], &str); 6] = [
+static OUT_OF_FORM: [(&[&str], &str); 9] = [
     (
         &["register", "d", "-", "--first", "x"],
         "bad value for TLD\n",
@@ -98,6 +142,62 @@ static OUT_OF_FORM: [(&[&str], &str); 6] = [
         "bad value for NOW\n",
     ),
     (&["put", "d", "a", "--now", ""], "bad value for NOW\n"),
+    (
+        &[
+            "verify",
+            "d",
+            "example",
+            "--date",
+            "2026-02-30",
+            "--kind",
+            "f",
+            "--revision",
+            "0",
+            "--parts",
+            "1",
+            "--id",
+            "a-b",
+        ],
+        "bad value for DATE\n",
+    ),
+    (
+        &[
+            "verify",
+            "d",
+            "example",
+            "--date",
+            "2026-08-02",
+            "--kind",
+            "f",
+            "--revision",
+            "0",
+            "--parts",
+            "1",
+            "--id",
+            "a-b",
+        ],
+        "bad value for KIND\n",
+    ),
+    (
+        &[
+            "verify",
+            "d",
+            "example",
+            "--date",
+            "2026-08-02",
+            "--kind",
+            "full",
+            "--revision",
+            "0",
+            "--parts",
+            "1",
+            "--id",
+            "a-b",
+            "--now",
+            "x",
+        ],
+        "bad value for ID\n",
+    ),
 ];
 
 #[test]
@@ -138,7 +238,7 @@ fn tells_arguments_and_want_of_memory(rt: HostRuntime) -> Result<(), Fail> {
 static OTHER_WORDS: [(&[&str], &str); 5] = [
     (
         &[],
-        "error: 'escrow' requires a subcommand but one was not provided\n  [subcommands: init, register, put, state]\n\nUsage: escrow <COMMAND>\n\nFor more information, try '--help'.\n",
+        "error: 'escrow' requires a subcommand but one was not provided\n  [subcommands: init, register, put, verify, state]\n\nUsage: escrow <COMMAND>\n\nFor more information, try '--help'.\n",
     ),
     (
         &["audit", "d"],
@@ -168,7 +268,7 @@ fn other_words_are_faults_of_the_command(rt: HostRuntime) -> Result<(), Fail> {
 }
 
 /// Words with an argument missing or a count out of range, and the text of their fault.
-static MISSING: [(&[&str], &str); 4] = [
+static MISSING: [(&[&str], &str); 6] = [
     (
         &["state"],
         "error: the following required arguments were not provided:\n  <DIR>\n\nUsage: escrow state <DIR>\n\nFor more information, try '--help'.\n",
@@ -191,6 +291,42 @@ static MISSING: [(&[&str], &str); 4] = [
             "0000000000000001",
         ],
         "error: invalid value '262145' for '--blocks <N>': 262145 is not in 2..=262144\n\nFor more information, try '--help'.\n",
+    ),
+    (
+        &[
+            "verify",
+            "d",
+            "example",
+            "--date",
+            "2026-08-02",
+            "--kind",
+            "full",
+            "--revision",
+            "100",
+            "--parts",
+            "1",
+            "--id",
+            "X",
+        ],
+        "error: invalid value '100' for '--revision <N>': 100 is not in 0..=99\n\nFor more information, try '--help'.\n",
+    ),
+    (
+        &[
+            "verify",
+            "d",
+            "example",
+            "--date",
+            "2026-08-02",
+            "--kind",
+            "full",
+            "--revision",
+            "0",
+            "--parts",
+            "9",
+            "--id",
+            "X",
+        ],
+        "error: invalid value '9' for '--parts <N>': 9 is not in 1..=8\n\nFor more information, try '--help'.\n",
     ),
 ];
 
@@ -265,6 +401,20 @@ fn prints_lines(rt: HostRuntime) -> Result<(), Fail> {
                 at,
             },
             "received example_2026-08-02_full_S1_R0.ryde 5 2026-08-02T10:00:00Z",
+        ),
+        (
+            Line::Notice(Notice {
+                number: 1,
+                tld,
+                day: first,
+                at,
+                kind: NoticeKind::Failure {
+                    rev: Revision::of(&name),
+                    id: DepositId::parse(b"X").ok_or("an id")?,
+                    check: Check::Frame,
+                },
+            }),
+            "       1 FAILURE-01 2026-08-02 R00 X             2026-08-02T10:00:00Z example",
         ),
         (Line::Registry { tld, first }, "registry example 2026-08-02"),
         (

@@ -1,20 +1,27 @@
 -- The lines of replies, without their line feed.
-use Rattle.std.specs.Prelude.{ℕ, List, ◌++◌, codes}
+use Rattle.std.specs.Prelude.{◌-◌, ℕ, List, ◌++◌, codes, length, take}
 use Rattle.std.specs.Fmt.{decimal}
 use Rattle.schedule.specs.Text.{day_text, moment_text}
 use Rattle.deposit_name.specs.Name.{name_text}
+use Rattle.desk.specs.Lines.{line}
+use Rattle.desk.specs.declared.notices.Notice as told
 use Rattle.custody_records.specs.Written.{digits_of}
 use Rattle.answer_lines.specs.declared.lines.Line.{Line}
-use Rattle.answer_lines.specs.declared.lines.Line.TheVariants.{Ready, Registered, Received, Registry, Part, Dropped, Room}
+use Rattle.answer_lines.specs.declared.lines.Line.TheVariants.{Ready, Registered, Received, Notice, Registry, Part, Dropped, Room}
 
 abbrev pub room_text : ℕ → ℕ → List ℕ
 room_text free total = codes "free " ++ decimal free ++ codes " of " ++ decimal total
+
+-- the line of a notice in a report (Specification 2, Part B section 7)
+abbrev pub notice_text : told.Notice → List ℕ
+notice_text notice = take (length (line notice) - 1) (line notice)
 
 abbrev pub line_text : Line → List ℕ
 line_text (Ready blocks number) = codes "ready " ++ decimal blocks ++ codes " " ++ digits_of number
 line_text (Registered tld first) = codes "registered " ++ tld ++ codes " " ++ day_text first
 line_text (Received name length at) =
     codes "received " ++ name_text name ++ codes " " ++ decimal length ++ codes " " ++ moment_text at
+line_text (Notice notice) = notice_text notice
 line_text (Registry tld first) = codes "registry " ++ tld ++ codes " " ++ day_text first
 line_text (Part name length at) =
     codes "part " ++ name_text name ++ codes " " ++ decimal length ++ codes " held " ++ moment_text at

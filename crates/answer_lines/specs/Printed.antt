@@ -18,6 +18,7 @@ Prints before after text = Appends before after (text ++ 10 ∷ [])
 abbrev pub line_of : Record → Line
 line_of (record_of.Registry tld first_day) = line.Registered tld first_day
 line_of (record_of.Part name received len digest extents) = line.Received name len received
+line_of (record_of.Notice notice) = line.Notice notice
 
 -- what a writer held before a call, and what it holds after it
 pub record Writer : Type 0 where

@@ -1,11 +1,11 @@
--- The lines of `state`: each registry with its parts, and last the free blocks.
+-- The lines of `state`: each registry with its parts and its notices, and last the free blocks.
 use Rattle.std.specs.Prelude.{ℕ, List, [], ◌∷◌, ◌++◌, map, is_some, if◌then◌else◌}
 use Rattle.std.specs.FinMap.{entries}
 use Rattle.std.specs.List.{flat_map}
 use Rattle.deposit_name.specs.declared.kinds.Kind.{Kind}
 use Rattle.deposit_name.specs.Name.{Name}
-use Rattle.custody_records.specs.Keys.{PartKey}
-use Rattle.custody_records.specs.Records.{PartRecord, Records, parts_of}
+use Rattle.custody_records.specs.Keys.{NoticeKey, PartKey}
+use Rattle.custody_records.specs.Records.{Notice, PartRecord, Records, notices_of, parts_of}
 use Rattle.answer_lines.specs.Lines.{line_text, room_text}
 use Rattle.answer_lines.specs.declared.lines.Line.{Line}
 use Rattle.answer_lines.specs.declared.lines.Line.TheVariants as line
@@ -17,15 +17,19 @@ name_of key kind = record { tld = key.tld; day = key.day; kind = kind; part = ke
 abbrev pub part_line : PartKey × PartRecord → Line
 part_line e = if is_some e.1.extents then line.Part (name_of e.0 e.1.kind) e.1.len e.1.received else line.Dropped (name_of e.0 e.1.kind) e.1.len e.1.received
 
+abbrev pub notice_line : NoticeKey × Notice → Line
+notice_line e = line.Notice (record { number = e.0.number; tld = e.0.tld; day = e.1.day; at = e.1.at; kind = e.1.kind })
+
 -- lines, each followed by a line feed
 abbrev pub lines_text : List Line → List ℕ
 lines_text = flat_map (λ l. line_text l ++ 10 ∷ [])
 
--- a registry and its parts, by day, revision and place in the series
-abbrev pub registry_lines : List ℕ × ℕ → List (PartKey × PartRecord) → List Line
-registry_lines registry parts = line.Registry registry.0 registry.1 ∷ map part_line parts
+-- a registry, its parts by day, revision and place in the series, and its notices by number
+abbrev pub registry_lines : Records → List ℕ × ℕ → List Line
+registry_lines records registry =
+    line.Registry registry.0 registry.1 ∷ map part_line (parts_of records registry.0) ++ map notice_line (notices_of records registry.0)
 
 -- all but the line feed of the last line: so many blocks are free, of so many
 abbrev pub state_text : Records → ℕ → ℕ → List ℕ
 state_text records free total =
-    flat_map (λ (registry : List ℕ × ℕ). lines_text (registry_lines registry (parts_of records registry.0))) (entries records.registries) ++ room_text free total
+    flat_map (λ (registry : List ℕ × ℕ). lines_text (registry_lines records registry)) (entries records.registries) ++ room_text free total

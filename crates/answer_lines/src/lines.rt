@@ -1,12 +1,13 @@
 //! The lines of replies.
-ghost use Rattle.std.specs.Prelude.{Some};
-ghost use Rattle.answer_lines.specs.Lines.{line_text};
+ghost use Rattle.std.specs.Prelude.{◌≡◌, IfOk, Some};
+ghost use Rattle.answer_lines.specs.Lines.{line_text, notice_text};
 
 use crate::VolumeNumber;
 use custody::Record;
 use deposit_name::{DepositName, Tld};
+use desk::{LINE_MAX, Notice, write_line};
 use schedule::{Day, Sec};
-use std::fmt;
+use std::{fmt, str};
 
 /// A line of a reply, written without its line feed.
 #[derive(Clone, Copy, Debug, PartialEq, Eq)]
@@ -27,6 +28,8 @@ pub enum Line {
         length: u32,
         at: Sec,
     },
+    /// A notice, as the report of its registry has it.
+    Notice(Notice),
     /// A registry of the records.
     Registry {
         tld: Tld,
@@ -74,8 +77,18 @@ impl Line {
                 length: *len,
                 at: *received,
             },
+            Record::Notice(notice) => Line::Notice(*notice),
         }
     }
+}
+
+/// The line of a notice without its line feed, written into the room. It is ASCII, so there is no
+/// `Err`.
+fn notice_text<'r>(notice: &Notice, room: &'r mut [u8; LINE_MAX]) -> Result<&'r str, fmt::Error>
+    ensures { IfOk result (λ text. text.now ≡ notice_text notice.now) }
+{
+    let length = write_line(notice, room);
+    str::from_utf8(&room[..length - 1]).map_err(|_| fmt::Error)
 }
 
 impl fmt::Display for Line {
@@ -86,6 +99,10 @@ impl fmt::Display for Line {
             Line::Ready { blocks, number } => write!(f, "ready {blocks} {number}"),
             Line::Registered { tld, first } => write!(f, "registered {tld} {first}"),
             Line::Received { name, length, at } => write!(f, "received {name} {length} {at}"),
+            Line::Notice(notice) => {
+                let mut room = [0; LINE_MAX];
+                f.write_str(notice_text(notice, &mut room)?)
+            }
             Line::Registry { tld, first } => write!(f, "registry {tld} {first}"),
             Line::Part { name, length, at } => write!(f, "part {name} {length} held {at}"),
             Line::Dropped { name, length, at } => write!(f, "part {name} {length} dropped {at}"),

@@ -18,7 +18,7 @@ use Rattle.custody_records.specs.Form.{form_of, InForm}
 use Rattle.custody_records.specs.Written.{row_of_part}
 use Rattle.custody_machine.specs.Machine as machine
 use Rattle.custody_machine.specs.Machine.{Receive, OfPart, Accept, Accepted, received_part, step}
-use Rattle.custody_machine.proofs.Keeping.{insert_here}
+use Rattle.custody_machine.proofs.Accepting.{insert_here}
 use Rattle.custody_machine.specs.Stored.{state_in}
 use Rattle.custody_machine.specs.Rulings.{AddsPart, Makes, Decides}
 use Rattle.custody_machine.specs.Custody.{IsInOrder, IsPlaced, IsSettled, staged_record}

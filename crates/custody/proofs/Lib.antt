@@ -7,6 +7,7 @@ pub mod PartLemmas
 pub mod PurgeLemmas
 pub mod Registered
 pub mod Repeats
+pub mod RevisionLemmas
 pub mod Room
 pub mod Ruled
 pub mod RunLemmas
@@ -14,3 +15,4 @@ pub mod RunMoves
 pub mod SessionLemmas
 pub mod ShownLemmas
 pub mod Unstaged
+pub mod Verdicts

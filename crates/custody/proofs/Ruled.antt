@@ -1,17 +1,15 @@
 -- What the records decide alone, or by a change, is done.
-use Rattle.std.proofs.Common.{◌≡◌, ◌≢◌, ℕ, List, [], true, refl, sym, subst, Result, Ok, Err}
+use Rattle.std.proofs.Common.{◌≡◌, ℕ, List, true, refl, sym, subst, Result, Ok, Err}
 use Rattle.sqlite.specs.Store.{Ghosts}
 use Rattle.vault_volume.specs.declared.volume.Volume as volume
 use Rattle.deposit_name.specs.Name.{Name}
 use Rattle.custody_records.specs.Records.{Records}
-use Rattle.custody_machine.specs.State.{State}
-use Rattle.custody_machine.specs.Machine.{Command, Register, Receive, Refuse, step, reads}
+use Rattle.custody_machine.specs.Machine.{Command, Register, Receive, Statement}
 use Rattle.custody_machine.specs.declared.answers.Refusal.{Refusal}
-use Rattle.custody_machine.specs.declared.answers.Refusal.TheVariants.{OtherBytes}
 use Rattle.custody_machine.specs.Stored.{state_in}
 use Rattle.custody_machine.specs.Rulings.{AddsPart, Refuses, Repeats, Makes, Decides, bytes_of}
-use Rattle.custody_machine.proofs.Keeping.{step_accepts, replies_are_records}
-use Rattle.custody_machine.proofs.Composed.{reads_accepted, reads_refused}
+use Rattle.custody_machine.proofs.Keeping.{replies_are_records}
+use Rattle.custody_machine.proofs.Composed.{reads_refused, reads_repeated}
 use Rattle.custody_rules.specs.Rulings.{record_of}
 use Rattle.custody_rules.specs.declared.ruling.Kept.{Kept}
 use Rattle.custody_rules.specs.declared.ruling.Kept.TheVariants as answers
@@ -25,16 +23,11 @@ use Rattle.custody.specs.Answers.{told_by}
 use Rattle.custody.specs.Keeper.{recorded, image_of, KeepsOrder, HasDone}
 use Rattle.custody.proofs.Done.{refuses_done, repeats_done}
 
--- no bytes decide what is refused before they are looked at
-nothing_read : (s : State) (command : Command) (now : ℕ) (refusal : Refusal) → step s command now ≡ Refuse refusal → refusal ≢ OtherBytes → reads s command now ≡ []
-nothing_read s (Register tld first_day) now refusal is other = refl
-nothing_read s (Receive text bytes) now refusal is other = reads_refused s text bytes now refusal is other
-
 module _ {V S : Type 0} {g : volume.Ghosts V} (database : Ghosts S) (old : Keeper V S g) (order : KeepsOrder old) (command : Command) (now : ℕ) where
   pub refused_done : (refusal : Refusal) → Decides (Refuses refusal) (recorded old) command now → HasDone database old command now (Err (refused.Refusal refusal)) old
   refused_done refusal decides =
       let is = decides.2 (image_of old) in
-      refuses_done database old order command now old.records refl refusal decides.1 is (nothing_read (state_in (recorded old) (image_of old)) command now refusal is decides.0) (Refuses refusal, decides, refl)
+      refuses_done database old order command now old.records refl refusal decides.1 is (reads_refused (state_in (recorded old) (image_of old)) command now refusal is decides.0) (Refuses refusal, decides, refl)
 
   pub repeated_done : (kept : Kept) → Decides (Repeats (record_of kept)) (recorded old) command now → (told : Record) → told ≡ told_by kept → HasDone database old command now (Ok (record { «record» = told; is_repeat = true })) old
   repeated_done (answers.Registry registry) decides told at =
@@ -42,7 +35,14 @@ module _ {V S : Type 0} {g : volume.Ghosts V} (database : Ghosts S) (old : Keepe
       let state = state_in (recorded old) (image_of old) in
       subst (λ told. HasDone database old command now (Ok (record { «record» = told; is_repeat = true })) old) (sym at)
       (repeats_done database old order command now old.records refl (record { «record» = of.Registry registry.tld registry.first_day; is_repeat = true }) (record { entry = record_of (answers.Registry registry); is_repeat = true }) refl is
-      (reads_accepted state command now (step_accepts state command now _ _ is).0) (Repeats (record_of (answers.Registry registry)), decides, (refl, refl))
+      (reads_repeated state command now _ _ is refl) (Repeats (record_of (answers.Registry registry)), decides, (refl, refl))
+      (replies_are_records state state command now _ is) (λ _. tt))
+  repeated_done (answers.Notice notice) decides told at =
+      let is = decides (image_of old) in
+      let state = state_in (recorded old) (image_of old) in
+      subst (λ told. HasDone database old command now (Ok (record { «record» = told; is_repeat = true })) old) (sym at)
+      (repeats_done database old order command now old.records refl (record { «record» = of.Notice notice; is_repeat = true }) (record { entry = record_of (answers.Notice notice); is_repeat = true }) refl is
+      (reads_repeated state command now _ _ is refl) (Repeats (record_of (answers.Notice notice)), decides, (refl, refl))
       (replies_are_records state state command now _ is) (λ _. tt))
 
 -- ---- a change that is a part
@@ -50,6 +50,7 @@ module _ {V S : Type 0} {g : volume.Ghosts V} (database : Ghosts S) (old : Keepe
 -- it is sent with the bytes of the command
 pub part_is_sent : (records : Records) (command : Command) (name : Name) (bytes : List ℕ) (now : ℕ) → bytes ≡ bytes_of command → Decides (Makes (AddsPart name)) records command now → (text : List ℕ) × Decides (Makes (AddsPart name)) records (Receive text bytes) now
 part_is_sent records (Register tld first_day) name bytes now brought decides = absurd decides.0.0
+part_is_sent records (Statement stated) name bytes now brought decides = absurd decides.0.0
 part_is_sent records (Receive text sent) name bytes now brought decides = (text, subst (λ b. Decides (Makes (AddsPart name)) records (Receive text b) now) (sym brought) decides)
 
 -- so that it is done where it is kept
@@ -57,5 +58,6 @@ pub part_is_made : {V S : Type 0} {g : volume.Ghosts V} (database : Ghosts S) (o
     → bytes ≡ bytes_of command → Decides (Makes (AddsPart name)) (recorded old) command now
     → ((text : List ℕ) → Decides (Makes (AddsPart name)) (recorded old) (Receive text bytes) now → HasDone database old (Receive text bytes) now answer new) → HasDone database old command now answer new
 part_is_made database old new (Register tld first_day) name bytes now answer brought decides kept = absurd decides.0.0
+part_is_made database old new (Statement stated) name bytes now answer brought decides kept = absurd decides.0.0
 part_is_made database old new (Receive text sent) name bytes now answer brought decides kept =
     subst (λ b. HasDone database old (Receive text b) now answer new) brought (kept text (subst (λ b. Decides (Makes (AddsPart name)) (recorded old) (Receive text b) now) (sym brought) decides))

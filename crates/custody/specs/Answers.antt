@@ -1,13 +1,14 @@
 -- The answers of a custody, as those of the machine, and their lines.
 use Rattle.std.specs.Prelude.{ℕ, List, codes, Bool, true, false, not, ◌&&◌, None, Result, Ok, Err}
 use Rattle.custody_records.specs.Records.{key_of}
+use Rattle.custody_records.specs.Typed.{notice_key, notice_value}
 use Rattle.vault_volume.specs.declared.errors.StageError.{StageError}
 use Rattle.vault_volume.specs.declared.errors.StageError.TheVariants as stage
 use Rattle.vault_volume.specs.declared.errors.ReadError.{ReadError}
 use Rattle.vault_volume.specs.declared.errors.ReadError.TheVariants as read
 use Rattle.custody_machine.specs.State.{Held}
 use Rattle.custody_machine.specs.Machine as machine
-use Rattle.custody_machine.specs.Machine.{Command, Register, Receive, Answer, Accepted, Refused, Failed, OfRegistry, OfPart}
+use Rattle.custody_machine.specs.Machine.{Command, Register, Receive, Statement, Answer, Accepted, Refused, Failed, OfRegistry, OfPart, OfNotice}
 use Rattle.custody_machine.specs.declared.answers.Refusal.TheVariants.{OtherBytes, VolumeFull}
 use Rattle.custody_machine.specs.declared.answers.Fault.TheVariants.{NoMemory, VolumeFailed, StoreFailed, Closed, Damaged}
 use Rattle.custody_machine.specs.Rulings.{bytes_of}
@@ -45,10 +46,12 @@ init_error_text error = row_text (init_error_code error)
 abbrev pub record_shown : List ℕ → code.Record → machine.Record
 record_shown bytes (record_of_kind.Registry tld first_day) = OfRegistry tld first_day
 record_shown bytes (record_of_kind.Part name received len digest extents) = OfPart (key_of name) (record { kind = name.kind; received = received; content = Held bytes })
+record_shown bytes (record_of_kind.Notice notice) = OfNotice (notice_key notice) (notice_value notice)
 
 -- the record that answers a repeat
 abbrev pub told_by : kept.Kept → code.Record
 told_by (found.Registry registry) = record_of_kind.Registry registry.tld registry.first_day
+told_by (found.Notice notice) = record_of_kind.Notice notice
 
 -- the answer of the machine
 abbrev pub answer_of : Command → Result Reply not_accepted.Refused → Answer
@@ -91,17 +94,24 @@ may_change (Err (refused.Fault (Damaged damage))) = false
 abbrev pub uses_volume : Command → Bool
 uses_volume (Register tld first_day) = false
 uses_volume (Receive name bytes) = true
+uses_volume (Statement stated) = true
 
--- whether the volume may have been called: a part is kept or compared, or volume or database failed
-abbrev pub may_follow_a_call : Result Reply not_accepted.Refused → Bool
-may_follow_a_call (Ok reply) = true
-may_follow_a_call (Err (refused.Refusal OtherBytes)) = true
-may_follow_a_call (Err (refused.Refusal _)) = false
-may_follow_a_call (Err (refused.Fault NoMemory)) = false
-may_follow_a_call (Err (refused.Fault VolumeFailed)) = true
-may_follow_a_call (Err (refused.Fault StoreFailed)) = true
-may_follow_a_call (Err (refused.Fault Closed)) = false
-may_follow_a_call (Err (refused.Fault (Damaged damage))) = true
+-- whether it takes memory after the volume was read
+abbrev pub is_verified : Command → Bool
+is_verified (Register tld first_day) = false
+is_verified (Receive name bytes) = false
+is_verified (Statement stated) = true
+
+-- whether the volume may have been called: a part is kept or compared, a deposit is verified, or volume or database failed
+abbrev pub may_follow_a_call : (verified : Bool) → Result Reply not_accepted.Refused → Bool
+may_follow_a_call verified (Ok reply) = true
+may_follow_a_call verified (Err (refused.Refusal OtherBytes)) = true
+may_follow_a_call verified (Err (refused.Refusal _)) = false
+may_follow_a_call verified (Err (refused.Fault NoMemory)) = verified
+may_follow_a_call verified (Err (refused.Fault VolumeFailed)) = true
+may_follow_a_call verified (Err (refused.Fault StoreFailed)) = true
+may_follow_a_call verified (Err (refused.Fault Closed)) = false
+may_follow_a_call verified (Err (refused.Fault (Damaged damage))) = true
 
 abbrev pub may_call : Command → Result Reply not_accepted.Refused → Bool
-may_call command answer = may_follow_a_call answer && uses_volume command
+may_call command answer = may_follow_a_call (is_verified command) answer && uses_volume command

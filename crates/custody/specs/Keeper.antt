@@ -79,7 +79,7 @@ module _ {V S : Type 0} {g : volume.Ghosts V} where
     pub not_failed : answer ≢ Err (refused.Fault VolumeFailed) → failures_of new ≡ failures_of old
     -- there is no room where it says so
     pub full : answer ≡ Err (refused.Refusal VolumeFull) → ¬ HasRoomFor (recorded old) command
-    -- the volume was not called where no part is kept or compared: so C1 and Q11 come before any write
+    -- the volume was not called where no part is kept, compared or verified: so C1 and Q11 come before any write
     pub uncalled : may_call command answer ≡ false → volume_of new.vault ≡ volume_of old.vault
     -- where nothing was done, nothing is recorded, and the database was not called
     pub unchanged : may_change answer ≡ false → (recorded new ≡ recorded old) × (new.store ≡ old.store)

@@ -5,6 +5,8 @@ pub mod Custody
 pub mod Keeper
 pub mod Opening
 pub mod Order
+pub mod Reading
 pub mod Ruled
 pub mod Sessions
 pub mod Shown
+pub mod Verified

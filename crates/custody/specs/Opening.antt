@@ -24,7 +24,7 @@ use Rattle.custody_machine.specs.Damage.{damage_number, IsDamaged, NoneBefore, I
 use Rattle.custody_machine.specs.Stored.{AreWhole}
 use Rattle.custody_machine.specs.Moves.{Left, MayLeave}
 use Rattle.custody_machine.specs.Custody.{LeftSince, LeftByCall, Leaves}
-use Rattle.custody.specs.declared.opening.TheConstants.{FEWEST_BLOCKS, MOST_BLOCKS}
+use Rattle.vault_volume.specs.declared.extent.TheConstants.{FEWEST_BLOCKS, MOST_BLOCKS}
 use Rattle.custody.specs.declared.answers.InitError.{InitError}
 use Rattle.custody.specs.declared.answers.InitError.TheVariants as init_error
 

@@ -3,13 +3,15 @@ use Rattle.std.specs.Prelude.{◌≡◌, ◌⊎◌, ℕ, List, [], length, Some,
 use Rattle.sha2.specs.Sha256.{sha256}
 use Rattle.deposit_name.specs.Name.{Name}
 use Rattle.extent_map.specs.declared.extent.Extent.{Extent}
-use Rattle.custody_records.specs.Records.{PartRecord, Records, key_of, with_registry, with_part}
-use Rattle.custody_machine.specs.Machine.{Command}
+use Rattle.custody_records.specs.Records.{PartRecord, Records, key_of, with_registry, with_part, with_notice}
+use Rattle.deposit_verify.specs.declared.verdict.Verdict.{Verdict}
+use Rattle.custody_machine.specs.declared.command.Statement as told
+use Rattle.custody_machine.specs.Machine.{Command, OfNotice, next_key, verdict_notice}
 use Rattle.custody_machine.specs.Machine as machine
 use Rattle.custody_machine.specs.declared.answers.Refusal.TheVariants.{OtherBytes, VolumeFull}
 use Rattle.custody_machine.specs.declared.answers.Fault.TheVariants.{NoMemory, VolumeFailed, StoreFailed, Damaged}
 use Rattle.custody_machine.specs.declared.damage.Damage.TheVariants.{Digest}
-use Rattle.custody_machine.specs.Rulings.{Change, AddsRegistry, AddsPart, Ruling, Refuses, Repeats, ByBytes, Makes, Decides, bytes_of}
+use Rattle.custody_machine.specs.Rulings.{Change, AddsRegistry, AddsPart, AddsVerdict, Ruling, Refuses, Repeats, ByBytes, Makes, Decides, bytes_of}
 use Rattle.custody.specs.declared.answers.Record.TheVariants as of
 use Rattle.custody.specs.declared.answers.Reply.{Reply}
 use Rattle.custody.specs.declared.answers.Refused.{Refused}
@@ -49,9 +51,18 @@ IsReceived records name now bytes (Ok reply) later =
 IsReceived records name now bytes (Err (refused.Refusal refusal)) later = refusal ≡ VolumeFull
 IsReceived records name now bytes (Err (refused.Fault fault)) later = (fault ≡ NoMemory) ⊎ ((fault ≡ VolumeFailed) ⊎ (fault ≡ StoreFailed))
 
+-- a notice of some verdict is recorded under the next number, and answered as it is recorded; or memory, the volume or the database fails, or a part has not its digest
+abbrev pub IsNoticed : Records → told.Statement → ℕ → Result Reply Refused → Records → Type 0
+IsNoticed records stated now (Ok reply) later =
+    (found : Verdict) × (record_shown [] reply.record ≡ OfNotice (next_key records.notices stated.tld) (verdict_notice stated found now)) × (reply.is_repeat ≡ false)
+    × (later ≡ with_notice records (next_key records.notices stated.tld) (verdict_notice stated found now))
+IsNoticed records stated now (Err (refused.Refusal refusal)) later = ⊥
+IsNoticed records stated now (Err (refused.Fault fault)) later = (fault ≡ NoMemory) ⊎ ((fault ≡ VolumeFailed) ⊎ ((fault ≡ StoreFailed) ⊎ (fault ≡ Damaged Digest)))
+
 abbrev pub IsMade : Change → Records → List ℕ → ℕ → Result Reply Refused → Records → Type 0
 IsMade (AddsRegistry tld first_day) records bytes now answer later = IsTakenOn records tld first_day answer later
 IsMade (AddsPart name) records bytes now answer later = IsReceived records name now bytes answer later
+IsMade (AddsVerdict stated) records bytes now answer later = IsNoticed records stated now answer later
 
 -- ---- commands
 

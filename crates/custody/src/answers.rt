@@ -7,6 +7,7 @@ use custody_machine::{Code, Fault, Refusal, Status};
 use custody_records::{Part, Registry};
 use custody_rules::Kept;
 use deposit_name::{DepositName, Tld};
+use desk::Notice;
 use schedule::{Day, Sec};
 use std::alloc::{AllocError, Global};
 use std::fmt;
@@ -28,6 +29,7 @@ pub enum Record {
         digest: [u8; 32],
         extents: Vec<Extent>,
     },
+    Notice(Notice),
 }
 
 impl Record {
@@ -72,6 +74,7 @@ impl From<Kept> for Record {
     fn from(kept: Kept) -> Record {
         match kept {
             Kept::Registry(registry) => Record::from(registry),
+            Kept::Notice(notice) => Record::Notice(notice),
         }
     }
 }

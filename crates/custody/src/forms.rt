@@ -1,7 +1,9 @@
 //! What the types of fields promise, for proofs: each of these does nothing.
 ghost use Rattle.schedule.specs.Schedule.{IsDay, IsMoment};
-ghost use Rattle.deposit_name.specs.Identifiers.{IsTld};
+ghost use Rattle.deposit_name.specs.Identifiers.{IsTld, IsDepositId};
+ghost use Rattle.std.specs.Prelude.{◌≤◌};
 
+use custody_machine::Statement;
 use custody_records::Registry;
 use schedule::Sec;
 
@@ -12,6 +14,19 @@ pub fn show_form_of_registry(registry: &Registry)
 {
     let _tld = registry.tld.as_bytes();
     let _first_day = registry.first_day.number();
+}
+
+/// The fields of a statement are in form.
+pub fn show_form_of_statement(statement: &Statement)
+    ensures tld { IsTld statement.now.tld }
+    ensures day { IsDay statement.now.day }
+    ensures rev { statement.now.rev ≤ 99 }
+    ensures id { IsDepositId statement.now.id }
+{
+    let _tld = statement.tld.as_bytes();
+    let _day = statement.day.number();
+    let _rev = statement.rev.number();
+    let _id = statement.id.as_bytes();
 }
 
 /// A moment is in range.

@@ -1,21 +1,26 @@
 //! What a custody holds, and the commands over it.
-ghost use Rattle.std.specs.Prelude.{◌≡◌, ℕ, List, ◌≤◌, length, None, OnOk, IfOk, vec_len, vec_capacity};
+ghost use Rattle.std.specs.Prelude.{◌≡◌, ℕ, List, ◌≤◌, length, None, OnOk, IfOk, IfSome, vec_len, vec_capacity};
 ghost use Rattle.std.specs.FinMap.{get};
 ghost use Rattle.custody_records.specs.Held.{records_of, HasPartRoom};
+ghost use Rattle.custody_records.specs.Typed.{notice_key, notice_value};
 ghost use Rattle.custody_machine.specs.Machine as machine;
+ghost use Rattle.custody_machine.specs.Machine.{next_number, verdict_notice};
 ghost use Rattle.custody_machine.specs.Commands.{command_of};
-ghost use Rattle.custody_machine.specs.Rulings.{AddsPart, Makes, Decides};
+ghost use Rattle.custody_machine.specs.Rulings.{AddsPart, AddsVerdict, Makes, Decides};
 ghost use Rattle.custody_rules.specs.Rulings.{change_of};
 ghost use Rattle.custody.specs.Keeper.{recorded, KeepsOrder, HasDone};
 
 use crate::compare::{Comparison, compare};
-use crate::forms::{show_form_of_registry, show_range_of_moment};
+use crate::forms::{show_form_of_registry, show_form_of_statement, show_range_of_moment};
+use crate::verifying::verify_stated;
 use crate::{Record, Refused, Reply};
-use custody_machine::{Command, Damage, Fault, Refusal};
+use custody_machine::{Command, Damage, Fault, Refusal, Statement};
 use custody_records::{Part, Records, Registry};
-use custody_rules::{Change, Ruling, judge};
+use custody_rules::{Change, Ruling, judge, next_number};
 use custody_store::Store;
-use deposit_name::DepositName;
+use deposit_name::{DepositName, Tld};
+use deposit_verify::Verdict;
+use desk::{Notice, NoticeKind};
 use schedule::Sec;
 use sqlite::Alter;
 use std::alloc::{AllocError, Global};
@@ -82,6 +87,7 @@ impl<V: Volume, S: Alter> Keeper<V, S> {
         match change {
             Change::Registry(registry) => self.keep_registry(registry),
             Change::Part(name) => self.keep_part(alloc, &name, command.bytes(), now),
+            Change::Verdict(statement) => self.keep_verdict(alloc, &statement, now),
         }
     }
 
@@ -146,6 +152,68 @@ impl<V: Volume, S: Alter> Keeper<V, S> {
             record,
             is_repeat: false,
         })
+    }
+
+    /// Verifies a deposit whose parts are all there, and records a notice of the verdict.
+    fn keep_verdict(
+        &mut self,
+        alloc: Global,
+        statement: &Statement,
+        now: Sec,
+    ) -> Result<Reply, Refused>
+        requires order { KeepsOrder self.old }
+        requires ruled { Decides (Makes (AddsVerdict statement.now)) (recorded self.old) (machine.Statement statement.now) now }
+        ensures { HasDone S.Store self.old (machine.Statement statement.now) now result self.new }
+    {
+        show_form_of_statement(statement);
+        show_range_of_moment(now);
+        if self.records.reserve_notice().is_err() {
+            return Err(Refused::Fault(Fault::NoMemory));
+        }
+        let Some(number) = number_for(&self.records, &statement.tld) else {
+            return Err(Refused::Fault(Fault::NoMemory));
+        };
+        let verdict = verify_stated(alloc, &mut self.vault, &self.records, statement)?;
+        let notice = notice_of(statement, verdict, number, now);
+        if self.store.insert_notice(&notice).is_err() {
+            return Err(Refused::Fault(Fault::StoreFailed));
+        }
+        self.records.add_notice(&notice);
+        Ok(Reply {
+            record: Record::Notice(notice),
+            is_repeat: false,
+        })
+    }
+}
+
+/// The number of a registry's next notice, where a row can hold it.
+fn number_for(records: &Records, tld: &Tld) -> Option<u64>
+    ensures next { IfSome result (λ number. number ≡ next_number (records_of records.now).notices tld.now) }
+    ensures small { IfSome result (λ number. number ≤ 9_223_372_036_854_775_807) }
+{
+    let number = next_number(records, tld)?;
+    if number > i64::MAX as u64 {
+        return None;
+    }
+    Some(number)
+}
+
+/// The notice of a verdict on the deposit that is stated.
+fn notice_of(statement: &Statement, verdict: Verdict, number: u64, now: Sec) -> Notice
+    ensures key { notice_key result ≡ record { tld = statement.now.tld; number = number } }
+    ensures value { notice_value result ≡ verdict_notice statement.now verdict now }
+{
+    let rev = statement.rev;
+    let id = statement.id;
+    Notice {
+        number,
+        tld: statement.tld,
+        day: statement.day,
+        at: now,
+        kind: match verdict {
+            Verdict::Pass => NoticeKind::Receipt { rev, id },
+            Verdict::Fail(check) => NoticeKind::Failure { rev, id, check },
+        },
     }
 }
 

@@ -12,6 +12,8 @@ mod forms;
 mod keeper;
 pub mod laws;
 mod opening;
+mod reading;
+mod verifying;
 
 pub use answers::{InitError, Record, Refused, Reply};
 pub use custody::Custody;

@@ -27,13 +27,7 @@ use custody_rules::damage_in;
 use custody_store::{Store, StoreFault, find_meta};
 use sqlite::{Alter, Connection};
 use std::alloc::Global;
-use vault_volume::{ExtentMap, Vault, Volume, read_head, write_head};
-
-/// The fewest blocks of a volume: block 0, and one for a part.
-pub const FEWEST_BLOCKS: u32 = 2;
-
-/// The most: with 4,096 bytes each they are 1 GiB.
-pub const MOST_BLOCKS: u32 = 262_144;
+use vault_volume::{ExtentMap, FEWEST_BLOCKS, MOST_BLOCKS, Vault, Volume, read_head, write_head};
 
 /// The first row of meta.
 fn find_record<S: Alter>(db: &mut Connection<S>) -> Result<Option<Meta>, Fault>

@@ -1,5 +1,5 @@
 -- A part that is kept, compared with the bytes of a command; and what a call leaves at its moments.
-use Rattle.std.proofs.Common.{◌≡◌, ◌≢◌, ◌⊎◌, inl, inr, ℕ, List, [], ◌∷◌, Option, Some, Bool, true, false, refl, sym, ◌∙◌, ap, subst, arith}
+use Rattle.std.proofs.Common.{◌≡◌, ◌≢◌, ◌⊎◌, inl, inr, ℕ, List, [], ◌∷◌, Option, Some, None, Bool, true, false, refl, sym, ◌∙◌, ap, subst, arith}
 use Rattle.std.specs.FinMap.{get}
 use Rattle.deposit_name.specs.Name.{Name}
 use Rattle.sha2.specs.Sha256.{sha256}
@@ -10,14 +10,14 @@ use Rattle.custody_records.specs.Keys.{PartKey}
 use Rattle.custody_records.specs.Records.{PartRecord, Records, key_of}
 use Rattle.custody_machine.specs.Names.{is_same_text}
 use Rattle.custody_machine.specs.State.{State}
-use Rattle.custody_machine.specs.Machine.{Command, Register, Receive, OfPart, Reply, Outcome, Refuse, Accept, OtherBytes, step, reads, Accepted, Refused, Failed, Fault, NoMemory, VolumeFailed, Damaged, MayFail}
+use Rattle.custody_machine.specs.Machine.{Command, Register, Receive, Statement, OfPart, Reply, Outcome, Refuse, Accept, OtherBytes, refusal_of, step, reads, Accepted, Refused, Failed, Fault, NoMemory, VolumeFailed, Damaged, MayFail}
 use Rattle.custody_machine.specs.declared.damage.Damage.TheVariants.{Digest}
 use Rattle.custody_machine.specs.Stored.{part_of, state_in, HasDigestAt}
 use Rattle.custody_machine.specs.Moves.{RestsOnBytes}
 use Rattle.custody_machine.specs.Rulings.{ByBytes, Decides, IsUnder, bytes_of}
 use Rattle.custody_machine.specs.Custody.{LeftSince, Same, Other, Broken, Compares}
 use Rattle.custody_machine.proofs.SameValues.{text_decides}
-use Rattle.custody_machine.proofs.Keeping.{step_accepts}
+use Rattle.custody_machine.proofs.Accepting.{step_accepts}
 use Rattle.custody_machine.proofs.Composed.{nothing_in, one_in, first_in, reads_accepted, reads_other}
 
 module _ (records : Records) (i : List ℕ) (command : Command) (now : ℕ) (name : Name) (part : PartRecord) (extents : List Extent) (d : Decides (ByBytes name part extents) records command now) where
@@ -36,9 +36,18 @@ module _ (records : Records) (i : List ℕ) (command : Command) (now : ℕ) (nam
       by : (command : Command) → step (state_in records i) command now ≡ Refuse OtherBytes → IsUnder command name → reads (state_in records i) command now ≡ key_of name ∷ []
       by (Register tld first_day) refused under = absurd under
       by (Receive text bytes) refused under = reads_other (state_in records i) text bytes now name refused under
+      by (Statement stated) refused under = absurd under
+
+  reads_none : refusal_of (state_in records i) command now ≡ None → reads (state_in records i) command now ≡ []
+  reads_none none = by command none d.0.named
+    where
+      by : (command : Command) → refusal_of (state_in records i) command now ≡ None → IsUnder command name → reads (state_in records i) command now ≡ []
+      by (Register tld first_day) none under = absurd under
+      by (Receive text bytes) none under = reads_accepted (state_in records i) text bytes now none
+      by (Statement stated) none under = absurd under
 
   pub same_rests : Compares Same (part_bytes i extents part.len) bytes part.digest → (reply : Reply) → RestsOnBytes records i command now (Accepted reply)
-  same_rests same reply k within = absurd (nothing_in _ k (reads_accepted (state_in records i) command now (step_accepts (state_in records i) command now _ _ (same_rules same)).0) within)
+  same_rests same reply k within = absurd (nothing_in _ k (reads_none (step_accepts (state_in records i) command now _ _ (same_rules same)).0) within)
 
   has_digest : sha256 (part_bytes i extents part.len) ≡ part.digest → HasDigestAt i records (key_of name)
   has_digest is p es at held =

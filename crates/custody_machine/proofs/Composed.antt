@@ -21,14 +21,14 @@ use Rattle.custody_records.specs.Form.{form_of, InForm}
 use Rattle.custody_machine.specs.Names.{read_name}
 use Rattle.custody_machine.specs.SameValues.{is_same_kind}
 use Rattle.custody_machine.specs.State.{State, Held, places, at_place, has_notice}
-use Rattle.custody_machine.specs.Machine.{Command, Register, Receive, Refusal, NameRefused, RegistryUnknown, DateOutOfRange, Size, OtherBytes, DroppedAfterKeeping, RevisionNotDue, AlreadyStated, TypeDiffers, PartOutOfOrder, VolumeFull, Record, OfRegistry, OfPart, Reply, Refuse, Accept, max_part_len, of_kind, recorded, part_in, has_other_kind, is_failure_of, refusal_of, kept, effect, received, unless_kept, unless_refused, step, state_of, state_after, received_part, with_part, Entry, read_by, reads, Answer, Accepted, Failed, StoreFailed, MayFail, Answers, named_tests, first_standing}
+use Rattle.custody_machine.specs.Machine.{Statement, first_part, part_keys, if_made, Command, Register, Receive, Refusal, NameRefused, RegistryUnknown, DateOutOfRange, Size, OtherBytes, DroppedAfterKeeping, RevisionNotDue, AlreadyStated, TypeDiffers, PartOutOfOrder, VolumeFull, PartsDiffer, LaterDayPassed, Record, OfRegistry, OfPart, Reply, Refuse, Accept, max_part_len, of_kind, recorded, part_in, has_other_kind, is_failure_of, refusal_of, kept, effect, received, unless_kept, unless_refused, step, state_of, state_after, received_part, with_part, Entry, read_by, reads, Answer, Accepted, Failed, StoreFailed, MayFail, Answers, named_tests, first_standing}
 use Rattle.custody_machine.specs.History.{IsFoundWithin, doubt_of, MayFind, is_open_after}
 use Rattle.custody_machine.specs.Stored.{AreNaming, IsNamed, AreWhole, IsVolumeOf, is_part_of, IsGood, part_of, state_in, KeepsParts, OpensFrom}
 use Rattle.custody_machine.specs.Moves.{Place, Serving, Shut, MayLeave, MayLeaveWithin, RestsOnBytes, place_after}
 use Rattle.custody_machine.specs.Custody.{IsPlaceable, IsInOrder, IsOnVolume, IsInStore, IsPlaced, IsSettled, staged_record, IsAt, Serves}
 use Rattle.custody_machine.proofs.MapValues.{get-map_values}
 use Rattle.custody_machine.proofs.Series.{prior_taken, is_place}
-use Rattle.custody_machine.proofs.Keeping.{NoneStands, refused_name, step_none, step_accepts, registered, receives, place_passes, insert_here}
+use Rattle.custody_machine.proofs.Accepting.{accept_inj, NoneStands, refused_name, step_none, step_accepts, registered, receives, place_passes, insert_here}
 use Rattle.custody_records.specs.Orders.{part_total}
 use Rattle.custody_machine.proofs.Stored.{state_in-elsewhere, digest-elsewhere, good-elsewhere, keeps_same, keeps_itself, keeps_on, whole-with_registry, good-with_registry, keeps-with_registry, state_in-with_part, inserted, part_still, IsInPlace, whole-with_part, good-with_part, keeps-with_part}
 
@@ -64,9 +64,9 @@ refusal_is s text bytes now q e = by (refusal_of s (Receive text bytes) now) ref
     by None is e = absurd (by_name (read_name text) refl is e)
     by (Some r) is e = let same : r ≡ q = cc in ap Some same
 
-pub reads_accepted : (s : State) (command : Command) (now : ℕ) → refusal_of s command now ≡ None → reads s command now ≡ []
-reads_accepted s (Register tld day) now e = refl
-reads_accepted s (Receive text bytes) now e = ap (λ o. read_by o (read_name text)) e
+-- of a part that is accepted
+pub reads_accepted : (s : State) (text bytes : List ℕ) (now : ℕ) → refusal_of s (Receive text bytes) now ≡ None → reads s (Receive text bytes) now ≡ []
+reads_accepted s text bytes now e = ap (λ o. read_by o (read_name text)) e
 
 read_none : (q : Refusal) → q ≢ OtherBytes → (r : Result Name NameError) → read_by (Some q) r ≡ []
 read_none q other (Err fault) = refl
@@ -81,9 +81,35 @@ read_none AlreadyStated other (Ok name) = refl
 read_none TypeDiffers other (Ok name) = refl
 read_none PartOutOfOrder other (Ok name) = refl
 read_none VolumeFull other (Ok name) = refl
+read_none PartsDiffer other (Ok name) = refl
+read_none LaterDayPassed other (Ok name) = refl
 
-pub reads_refused : (s : State) (text bytes : List ℕ) (now : ℕ) (q : Refusal) → step s (Receive text bytes) now ≡ Refuse q → q ≢ OtherBytes → reads s (Receive text bytes) now ≡ []
-reads_refused s text bytes now q e other = ap (λ o. read_by o (read_name text)) (refusal_is s text bytes now q e) ∙ read_none q other (read_name text)
+part_refused : (s : State) (text bytes : List ℕ) (now : ℕ) (q : Refusal) → step s (Receive text bytes) now ≡ Refuse q → q ≢ OtherBytes → reads s (Receive text bytes) now ≡ []
+part_refused s text bytes now q e other = ap (λ o. read_by o (read_name text)) (refusal_is s text bytes now q e) ∙ read_none q other (read_name text)
+
+-- of a command that is refused, but not for its bytes
+pub reads_refused : (s : State) (command : Command) (now : ℕ) (q : Refusal) → step s command now ≡ Refuse q → q ≢ OtherBytes → reads s command now ≡ []
+unfolding step
+reads_refused s (Register tld day) now q e other = refl
+reads_refused s (Receive text bytes) now q e other = part_refused s text bytes now q e other
+reads_refused s (Statement stated) now q e other = by (refusal_of s (Statement stated) now) (kept s (Statement stated)) e
+  where
+    by : (o : Option Refusal) (k : Option Record) → unless_refused o (unless_kept s k (effect s (Statement stated) now)) ≡ Refuse q → if_made o k (part_keys s (first_part stated)) ≡ []
+    by None None e = cc
+    by None (Some entry) e = refl
+    by (Some r) k e = refl
+
+-- of a repeat
+pub reads_repeated : (s : State) (command : Command) (now : ℕ) (reply : Reply) (new : State) → step s command now ≡ Accept reply new → reply.is_repeat ≡ true → reads s command now ≡ []
+unfolding step
+reads_repeated s (Register tld day) now reply new e again = refl
+reads_repeated s (Receive text bytes) now reply new e again = reads_accepted s text bytes now (step_accepts s (Receive text bytes) now reply new e).0
+reads_repeated s (Statement stated) now reply new e again = by (refusal_of s (Statement stated) now) (kept s (Statement stated)) e
+  where
+    by : (o : Option Refusal) (k : Option Record) → unless_refused o (unless_kept s k (effect s (Statement stated) now)) ≡ Accept reply new → if_made o k (part_keys s (first_part stated)) ≡ []
+    by None None e = let first : false ≡ true = ap (λ (r : Reply). r.is_repeat) (accept_inj _ _ _ _ e).0 ∙ again in cc
+    by None (Some entry) e = refl
+    by (Some r) k e = refl
 
 pub reads_other : (s : State) (text bytes : List ℕ) (now : ℕ) (name : Name) → step s (Receive text bytes) now ≡ Refuse OtherBytes → read_name text ≡ Ok name → reads s (Receive text bytes) now ≡ key_of name ∷ []
 reads_other s text bytes now name e named = λ i. read_by (refusal_is s text bytes now OtherBytes e i) (named i)
@@ -242,6 +268,24 @@ module _ (records : Records) (i : List ℕ) (size failures failures_then : ℕ) 
   pub registry_in_order : failures_then < 2 ^ 64 - 1 → IsInOrder (recorded_in.with_registry records tld day) size failures_then free
   registry_in_order count = record { whole = whole-with_registry records tld day order.whole; blocks = order.blocks; placeable = order.placeable; count = count }
 
+-- ---- the parts of a revision
+
+module _ (records : Records) (i : List ℕ) (whole : AreWhole records) (n : Name) where
+  -- a place of the revision, in the records
+  pub place_is : (place : ℕ) → part_in (state_in records i) n place ≡ option_map (part_of i) (get records.parts (at_place (key_of n) place))
+  place_is place = get-map_values part_cmp (part_of i) records.parts (at_place (key_of n) place)
+
+  some_of : (o : Option PartRecord) (kind : Kind) → is_part_of kind o ≡ true → is_some (option_map (part_of i) o) ≡ true
+  some_of None kind h = cc
+  some_of (Some p) kind h = refl
+
+  pub closed : (m : ℕ) → is_some (part_in (state_in records i) n (suc (suc m))) ≡ true → is_some (part_in (state_in records i) n (suc m)) ≡ true
+  closed m e = by (get records.parts (at_place (key_of n) (suc (suc m)))) refl (ap is_some (sym (place_is (suc (suc m)))) ∙ e)
+    where
+      by : (o : Option PartRecord) → get records.parts (at_place (key_of n) (suc (suc m))) ≡ o → is_some (option_map (part_of i) o) ≡ true → is_some (part_in (state_in records i) n (suc m)) ≡ true
+      by None at h = cc
+      by (Some p) at h = ap is_some (place_is (suc m)) ∙ some_of _ p.kind (whole.linked.series (at_place (key_of n) (suc (suc m))) p at m refl)
+
 -- ---- a new part
 
 -- what none of the refusals of a new part tells
@@ -264,26 +308,11 @@ module _ (records : Records) (i : List ℕ) (whole : AreWhole records) (text byt
   is_new_name : is_none (recorded (state_in records i) n) ≡ true
   is_new_name = ap (λ o. is_none (option_and_then (of_kind n.kind) o)) (get-map_values part_cmp (part_of i) records.parts (key_of n) ∙ ap (option_map (part_of i)) empty_place)
 
-  -- a place of the revision, in the records
-  place_is : (place : ℕ) → part_in (state_in records i) n place ≡ option_map (part_of i) (get records.parts (at_place (key_of n) place))
-  place_is place = get-map_values part_cmp (part_of i) records.parts (at_place (key_of n) place)
-
-  some_of : (o : Option PartRecord) (kind : Kind) → is_part_of kind o ≡ true → is_some (option_map (part_of i) o) ≡ true
-  some_of None kind h = cc
-  some_of (Some p) kind h = refl
-
-  closed : (m : ℕ) → is_some (part_in (state_in records i) n (suc (suc m))) ≡ true → is_some (part_in (state_in records i) n (suc m)) ≡ true
-  closed m e = by (get records.parts (at_place (key_of n) (suc (suc m)))) refl (ap is_some (sym (place_is (suc (suc m)))) ∙ e)
-    where
-      by : (o : Option PartRecord) → get records.parts (at_place (key_of n) (suc (suc m))) ≡ o → is_some (option_map (part_of i) o) ≡ true → is_some (part_in (state_in records i) n (suc m)) ≡ true
-      by None at h = cc
-      by (Some p) at h = ap is_some (place_is (suc m)) ∙ some_of _ p.kind (whole.linked.series (at_place (key_of n) (suc (suc m))) p at m refl)
-
   series : (m : ℕ) → n.part ≡ suc (suc m) → is_part_of n.kind (get records.parts (at_place (key_of n) (suc m))) ≡ true
   series m e =
       let count = counted_to (is_none (recorded (state_in records i) n)) is_new_name _ none_stand.order in
-      let taken = prior_taken (λ place. is_some (part_in (state_in records i) n place)) closed n.part m ((Decides-eqb _ _).0 count) e in
-      by (get records.parts (at_place (key_of n) (suc m))) refl (ap is_some (sym (place_is (suc m))) ∙ taken.0) taken.1
+      let taken = prior_taken (λ place. is_some (part_in (state_in records i) n place)) (closed records i whole n) n.part m ((Decides-eqb _ _).0 count) e in
+      by (get records.parts (at_place (key_of n) (suc m))) refl (ap is_some (sym (place_is records i whole n (suc m))) ∙ taken.0) taken.1
     where
       counted_to : (b : Bool) → b ≡ true → (t : Bool) → (b && not t) ≡ false → t ≡ true
       counted_to true e true h = refl
@@ -301,7 +330,7 @@ module _ (records : Records) (i : List ℕ) (whole : AreWhole records) (text byt
           by_kind : (t : Bool) → is_same_kind prior.kind n.kind ≡ t → t ≡ true
           by_kind true k = refl
           by_kind false k =
-              let other : has_other_kind n.kind (part_in (state_in records i) n (suc m)) ≡ true = ap (has_other_kind n.kind) (place_is (suc m) ∙ ap (option_map (part_of i)) at) ∙ ap not k in
+              let other : has_other_kind n.kind (part_in (state_in records i) n (suc m)) ≡ true = ap (has_other_kind n.kind) (place_is records i whole n (suc m) ∙ ap (option_map (part_of i)) at) ∙ ap not k in
               let some : list_any (λ place. has_other_kind n.kind (part_in (state_in records i) n place)) places ≡ true = place_passes (λ place. has_other_kind n.kind (part_in (state_in records i) n place)) places (suc m) (is_place m lt) other in
               let none : list_any (λ place. has_other_kind n.kind (part_in (state_in records i) n place)) places ≡ false = second (is_none (recorded (state_in records i) n)) is_new_name _ none_stand.kind in cc
 
@@ -327,7 +356,7 @@ module _ (records : Records) (i : List ℕ) (whole : AreWhole records) (text byt
 
   -- nothing is read of it
   pub reads_nothing : reads (state_in records i) (Receive text bytes) now ≡ []
-  reads_nothing = let r = step_accepts (state_in records i) (Receive text bytes) now _ _ ruled in reads_accepted (state_in records i) (Receive text bytes) now r.0
+  reads_nothing = let r = step_accepts (state_in records i) (Receive text bytes) now _ _ ruled in reads_accepted (state_in records i) text bytes now r.0
 
   module _ (size failures : ℕ) (free : ℕ → Type 0) (kept_order : IsInOrder records size failures free) (g : ℕ → Type 0) (staged : StagedPart) (p : IsPlaced size free g bytes staged) where
     in_place : IsInPlace records (key_of n) (staged_record n now staged) staged.extents

@@ -1,233 +1,34 @@
 -- What the machine keeps of an accepted command for good.
-use Rattle.std.proofs.Common.{◌≡◌, ℕ, zero, suc, List, [], ◌∷◌, Option, Some, None, Bool, true, false, not, ◌&&◌, ◌||◌, ◌⊎◌, inl, inr, refl, sym, ◌∙◌, ap, subst, cond, ◌==◌, is_none, length, Result, Ok, Err, arith}
-use Rattle.std.specs.Prelude.{option_map}
+use Rattle.std.proofs.Common.{◌≡◌, ℕ, List, [], ◌∷◌, Option, Some, None, Bool, true, false, not, ◌&&◌, ◌||◌, ◌⊎◌, inl, inr, refl, sym, ◌∙◌, ap, subst, cond, ◌==◌, is_none, length, Ok}
+use Rattle.std.specs.Prelude.{option_map, if◌then◌else◌}
+use Rattle.std.specs.Prelude.{is_some, count_by}
+use Rattle.std.specs.List as list
 use Rattle.std.specs.List.{list_any}
-use Rattle.std.specs.Int.{IsInRange}
-use Rattle.std.specs.Ordering.{eq_by_cmp, is_eq, nat_cmp}
-use Rattle.std.specs.FinMap.{FinMap, get, insert, get-insert, get_tied}
-use Rattle.std.specs.Cmp.{IsTotalOrder, tied_itself, Equal-is}
-use Rattle.std.specs.declared.cmp.Ordering.{Ordering}
+use Rattle.std.specs.Ordering.{eq_by_cmp}
+use Rattle.std.specs.FinMap.{entries, get, get-insert}
+use Rattle.std.specs.Cmp.{Equal-is}
 use Rattle.std.specs.Option.{option_and_then}
 use Rattle.std.proofs.lemmas.Bool.Decides.{Decides-eqb}
 use Rattle.std.proofs.lemmas.Option.{cond_some}
 use Rattle.deposit_name.specs.declared.kinds.Kind.{Kind}
-use Rattle.deposit_name.specs.declared.faults.NameError.{NameError}
-use Rattle.deposit_name.specs.Name.{Name, IsName, name_text}
-use Rattle.deposit_name.specs.Fault.{IsFault}
-use Rattle.custody_records.specs.Keys.{PartKey}
-use Rattle.custody_records.specs.Records.{key_of}
-use Rattle.custody_records.specs.Tables.{is_rising}
-use Rattle.custody_machine.specs.Names.{is_same_text, read_name}
+use Rattle.deposit_name.specs.Name.{Name}
+use Rattle.deposit_verify.specs.declared.verdict.Verdict.{Verdict}
+use Rattle.deposit_verify.specs.declared.verdict.Verdict.TheVariants.{Pass, Fail}
+use Rattle.desk.specs.declared.notices.NoticeKind.{NoticeKind}
+use Rattle.desk.specs.declared.notices.NoticeKind.TheVariants.{Receipt, Failure, Absence}
+use Rattle.custody_records.specs.Keys.{PartKey, part_cmp, NoticeKey}
+use Rattle.custody_records.specs.Records.{Notice, key_of}
+use Rattle.custody_machine.specs.declared.command.Statement as told
+use Rattle.custody_machine.specs.Names.{read_name}
 use Rattle.custody_machine.specs.SameValues.{is_same_kind}
-use Rattle.custody_machine.specs.State.{State, Part, Content, Held, Dropped, places}
-use Rattle.custody_machine.specs.Machine.{Command, Test, refusal_number, TestsAreInOrder, Register, Receive, Refusal, NameRefused, RegistryUnknown, DateOutOfRange, Size, OtherBytes, DroppedAfterKeeping, RevisionNotDue, AlreadyStated, TypeDiffers, PartOutOfOrder, Record, OfRegistry, OfPart, Reply, Outcome, Refuse, Accept, first_day_of, part_at, of_kind, recorded, has_other_kind, is_held_with, is_held_with_other, holds_other, is_dropped, is_gone, part_in, refusal_of, with_registry, with_part, received_part, held_with, kept_under, kept, effect, received, unless_kept, unless_refused, step, state_of, reads, read_by, HasRecord, is_unregistered, is_out_of_range, is_out_of_size, is_not_due, is_stated, differs_in_kind, is_out_of_order, receive_tests, named_tests, first_standing}
+use Rattle.custody_machine.specs.State.{State, Part, Held, places, at_place, is_notice_of, has_notice}
+use Rattle.custody_machine.specs.Machine.{OfNotice, is_outside, has_part_of_other_kind, differ_in_number, has_later_receipt, first_part, part_keys, if_made, if_of_id, has_id, is_verdict_of, verdict_told, has_verdict, has_dropped_part, are_as_stated, kept_verdict, with_notice, next_key, verdict_notice, notice_kind, verdict_on, Command, Register, Receive, Statement, Refusal, DroppedAfterKeeping, Record, OfRegistry, OfPart, Reply, Outcome, Refuse, Accept, first_day_of, part_at, recorded, has_other_kind, is_held_with_other, holds_other, is_dropped, is_gone, part_in, refusal_of, with_registry, with_part, received_part, kept, step, state_of, reads, read_by, HasRecord, is_unregistered, is_out_of_size, receive_tests, named_tests, first_standing}
 use Rattle.custody_machine.specs.Retries.{has_same_key, asked, IsDroppedSince, without_bytes, IsKeptAs, StillHas, KeepsRecords, NothingIsRemoved, RepliesAreRecords, IsOfCommand}
-use Rattle.custody_machine.proofs.NameReading.{read_is, is_reading}
 use Rattle.custody_machine.proofs.SameValues.{text_decides, kind_decides}
-use Rattle.custody_records.specs.Orders.{text_total, part_total}
-use Rattle.custody_machine.proofs.Series.{is_place}
-
--- ---- what acceptance tells
-
-none_head : {A : Type 0} (b : Bool) (x : A) (o : Option A) → cond b (Some x) o ≡ None → (b ≡ false) × (o ≡ None)
-none_head true x o e = cc
-none_head false x o e = (refl, e)
-
--- none of the refusals of a part stands
-pub record NoneStands (s : State) (name : Name) (sent : List ℕ) (now : ℕ) : Type 0 where
-  pub registry : is_unregistered s name ≡ false
-  pub date : is_out_of_range s name now ≡ false
-  pub size : is_out_of_size (length sent) ≡ false
-  pub bytes : holds_other sent (recorded s name) ≡ false
-  pub dropped : is_dropped (recorded s name) ≡ false
-  pub due : is_not_due s name ≡ false
-  pub stated : is_stated s name ≡ false
-  pub kind : differs_in_kind s name ≡ false
-  pub order : is_out_of_order s name ≡ false
-
-module _ (s : State) (name : Name) (bytes : List ℕ) (now : ℕ) where
-  pub none_stand : first_standing (receive_tests s name bytes now) ≡ None → NoneStands s name bytes now
-  none_stand e =
-      let b = none_head (is_unregistered s name) RegistryUnknown _ e in
-      let c = none_head (is_out_of_range s name now) DateOutOfRange _ b.1 in
-      let d = none_head (is_out_of_size (length bytes)) Size _ c.1 in
-      let f = none_head (holds_other bytes (recorded s name)) OtherBytes _ d.1 in
-      let g = none_head (is_dropped (recorded s name)) DroppedAfterKeeping _ f.1 in
-      let h = none_head (is_not_due s name) RevisionNotDue _ g.1 in
-      let i = none_head (is_stated s name) AlreadyStated _ h.1 in
-      let j = none_head (differs_in_kind s name) TypeDiffers _ i.1 in
-      let k = none_head (is_out_of_order s name) PartOutOfOrder _ j.1 in
-      record { registry = b.0; date = c.0; size = d.0; bytes = f.0; dropped = g.0; due = h.0; stated = i.0; kind = j.0; order = k.0 }
-
--- the refusals that follow those of the name
-abbrev pub part_refusals : (RegistryUnknown DateOutOfRange Size OtherBytes DroppedAfterKeeping RevisionNotDue AlreadyStated TypeDiffers PartOutOfOrder : Bool) → Option Refusal
-part_refusals a b c d e f g h i = cond a (Some RegistryUnknown) (cond b (Some DateOutOfRange) (cond c (Some Size) (cond d (Some OtherBytes) (cond e (Some DroppedAfterKeeping)
-    (cond f (Some RevisionNotDue) (cond g (Some AlreadyStated) (cond h (Some TypeDiffers) (cond i (Some PartOutOfOrder) None))))))))
-
-nine_none : (a b c d e f g h i : Bool) → a ≡ false → b ≡ false → c ≡ false → d ≡ false → e ≡ false → f ≡ false → g ≡ false → h ≡ false → i ≡ false → part_refusals a b c d e f g h i ≡ None
-nine_none a b c d e f g h i p q r t u v w x y = rw (p, q, r, t, u, v, w, x, y) refl
-
-five_dropped : (a b c d e f g h i : Bool) → a ≡ false → b ≡ false → c ≡ false → d ≡ false → e ≡ true → part_refusals a b c d e f g h i ≡ Some DroppedAfterKeeping
-five_dropped a b c d e f g h i p q r t u = rw (p, q, r, t, u) refl
-
-pub find_none : (s : State) (name : Name) (bytes : List ℕ) (now : ℕ) → NoneStands s name bytes now → first_standing (receive_tests s name bytes now) ≡ None
-find_none s name bytes now h = nine_none _ _ _ _ _ _ _ _ _ h.registry h.date h.size h.bytes h.dropped h.due h.stated h.kind h.order
-
-pub find_dropped : (s : State) (name : Name) (bytes : List ℕ) (now : ℕ) → is_unregistered s name ≡ false → is_out_of_range s name now ≡ false → is_out_of_size (length bytes) ≡ false → holds_other bytes (recorded s name) ≡ false → is_dropped (recorded s name) ≡ true
-    → first_standing (receive_tests s name bytes now) ≡ Some DroppedAfterKeeping
-find_dropped s name bytes now a b c d e = five_dropped _ _ _ _ _ _ _ _ _ a b c d e
-
--- the first of the refusals that stand
-module _ (a b c d e f g h i : Bool) (p : a ≡ false) (q : b ≡ false) (r : c ≡ false) (s : d ≡ false) (t : e ≡ false) (u : f ≡ false) (v : g ≡ false) where
-  pub differs_first : h ≡ true → Some TypeDiffers ≡ part_refusals a b c d e f g h i
-  differs_first w = rw (p, q, r, s, t, u, v, w) refl
-
-  pub order_first : h ≡ false → i ≡ true → Some PartOutOfOrder ≡ part_refusals a b c d e f g h i
-  order_first w x = rw (p, q, r, s, t, u, v, w, x) refl
-
-  pub none_first : h ≡ false → i ≡ false → None ≡ part_refusals a b c d e f g h i
-  none_first w x = rw (p, q, r, s, t, u, v, w, x) refl
-
--- what a test has answered
-pub so : (b c d : Bool) → b ≡ c → b ≡ d → c ≡ d
-so b c d e f = sym e ∙ f
-
--- a text that is no name is refused
-pub refused_name : (s : State) (bytes : List ℕ) (now : ℕ) (fault : NameError) → first_standing (named_tests s (Err fault) bytes now) ≡ Some (NameRefused fault)
-refused_name s bytes now fault = refl
-
--- the tests of each command stand in the order of their numbers
-pub tests_are_in_order : TestsAreInOrder
-tests_are_in_order s (Register tld day) now = refl
-tests_are_in_order s (Receive text bytes) now = by (read_name text)
-  where
-    by : (r : Result Name NameError) → is_rising nat_cmp (λ (test : Test). refusal_number test.0) (named_tests s r bytes now) ≡ true
-    by (Err fault) = refl
-    by (Ok name) = refl
-
--- accepted: no refusal stands, and the outcome is that of a repeat or of the effect
-pub step_accepts : (s : State) (c : Command) (now : ℕ) (reply : Reply) (new : State) → step s c now ≡ Accept reply new → (refusal_of s c now ≡ None) × (unless_kept s (kept s c) (effect s c now) ≡ Accept reply new)
-unfolding step
-step_accepts s c now reply new e = by (refusal_of s c now) e
-  where
-    by : (o : Option Refusal) → unless_refused o (unless_kept s (kept s c) (effect s c now)) ≡ Accept reply new → (o ≡ None) × (unless_kept s (kept s c) (effect s c now) ≡ Accept reply new)
-    by None e = (refl, e)
-    by (Some q) e = cc
-
-pub step_none : (s : State) (c : Command) (now : ℕ) → refusal_of s c now ≡ None → step s c now ≡ unless_kept s (kept s c) (effect s c now)
-unfolding step
-step_none s c now e = ap (λ o. unless_refused o (unless_kept s (kept s c) (effect s c now))) e
-
-pub step_refuses : (s : State) (c : Command) (now : ℕ) (q : Refusal) → refusal_of s c now ≡ Some q → step s c now ≡ Refuse q
-unfolding step
-step_refuses s c now q e = ap (λ o. unless_refused o (unless_kept s (kept s c) (effect s c now))) e
-
--- a name is read from its text
-pub read_of : (text : List ℕ) (name : Name) → IsName name × (text ≡ name_text name) → read_name text ≡ Ok name
-read_of text name h = (is_reading.names text name).1 h
-
--- a text with a fault is refused
-pub step_refuses_text : (s : State) (text bytes : List ℕ) (now : ℕ) (fault : NameError) → IsFault text fault → step s (Receive text bytes) now ≡ Refuse (NameRefused fault)
-step_refuses_text s text bytes now fault is = step_refuses s (Receive text bytes) now (NameRefused fault) (ap (λ r. first_standing (named_tests s r bytes now)) ((is_reading.faults text fault).1 is) ∙ refused_name s bytes now fault)
-
-pub accept_inj : (r q : Reply) (s t : State) → Accept r s ≡ Accept q t → (r ≡ q) × (s ≡ t)
-accept_inj r q s t e = (cc, cc)
-
--- ---- maps
-
-module _ {K X : Type 0} {R : K → K → Ordering} (o : IsTotalOrder R) where
-  pub insert_here : (m : FinMap R X) (k : K) (v : X) → get (insert m k v) k ≡ Some v
-  insert_here m k v = get-insert o m k v k ∙ ap (λ r. cond (is_eq r) (Some v) (get m k)) (tied_itself o k)
-
-  -- a new key takes nothing away
-  pub insert_new : (m : FinMap R X) (k : K) (v : X) (q : K) (x : X) → get m k ≡ None → get m q ≡ Some x → get (insert m k v) q ≡ Some x
-  insert_new m k v q x none e = get-insert o m k v q ∙ by (eq_by_cmp R q k) refl
-    where
-      by : (b : Bool) → eq_by_cmp R q k ≡ b → cond b (Some v) (get m q) ≡ Some x
-      by true t = let same : get m k ≡ get m q = get_tied o m q k ((Equal-is (R q k)).0 t) in cc
-      by false t = e
-
-or_true : (a b : Bool) → b ≡ true → (a || b) ≡ true
-or_true true b e = refl
-or_true false b e = e
-
--- ---- a new name's part is new
-
-pub place_passes : (q : ℕ → Bool) (xs : List ℕ) (n : ℕ) → list_any (λ place. place == n) xs ≡ true → q n ≡ true → list_any q xs ≡ true
-place_passes q [] n e h = e
-place_passes q (x ∷ xs) n e h = by (x == n) refl e (λ rest. place_passes q xs n rest h)
-  where
-    by : (b : Bool) → (x == n) ≡ b → (b || list_any (λ place. place == n) xs) ≡ true → (list_any (λ place. place == n) xs ≡ true → list_any q xs ≡ true) → (q x || list_any q xs) ≡ true
-    by true t e rest = let same : x ≡ n = (Decides-eqb x n).0 t in rw (ap q same ∙ h) refl
-    by false t e rest = or_true (q x) (list_any q xs) (rest e)
-
-pub place_in_range : (n : ℕ) → IsInRange 1 8 n → list_any (λ place. place == n) places ≡ true
-place_in_range zero r = let low = r.0 in absurd (omega arith)
-place_in_range (suc n) r = let high = r.1 in is_place n (omega arith)
-
-pub name_in_form : (text : List ℕ) (name : Name) → read_name text ≡ Ok name → list_any (λ place. place == name.part) places ≡ true
-name_in_form text name e = place_in_range name.part (read_is text name e).0.part
-
--- where a name is new and no part of its revision is of another kind, its place is empty
-pub place_is_empty : (s : State) (text : List ℕ) (name : Name) → read_name text ≡ Ok name → recorded s name ≡ None → list_any (λ place. has_other_kind name.kind (part_in s name place)) places ≡ false → part_at s (key_of name) ≡ None
-place_is_empty s text name e new kinds = by (part_at s (key_of name)) refl
-  where
-    by : (o : Option Part) → part_at s (key_of name) ≡ o → o ≡ None
-    by None at = refl
-    by (Some part) at = by_kind (is_same_kind part.kind name.kind) refl
-      where
-        by_kind : (b : Bool) → is_same_kind part.kind name.kind ≡ b → Some part ≡ None
-        by_kind true k = let found : recorded s name ≡ Some part = ap (option_and_then (of_kind name.kind)) at ∙ ap (λ b. cond b (Some part) None) k in cc
-        by_kind false k = let other : has_other_kind name.kind (part_in s name name.part) ≡ true = ap (has_other_kind name.kind) at ∙ ap not k in
-            let some : list_any (λ place. has_other_kind name.kind (part_in s name place)) places ≡ true = place_passes (λ place. has_other_kind name.kind (part_in s name place)) places name.part (name_in_form text name e) other in cc
-
--- ---- what is answered where no refusal stands
-
--- a held part that is not other bytes has these bytes
-pub held_bytes : (part : Part) (bytes : List ℕ) → is_held_with_other bytes part.content ≡ false → is_gone part.content ≡ false → part.content ≡ Held bytes
-held_bytes part bytes other gone = by part.content other gone
-  where
-    by : (c : Content) → is_held_with_other bytes c ≡ false → is_gone c ≡ false → c ≡ Held bytes
-    by (Held kept) other gone = ap Held ((text_decides kept bytes).0 (not_false (is_same_text kept bytes) other))
-      where
-        not_false : (b : Bool) → not b ≡ false → b ≡ true
-        not_false true e = refl
-        not_false false e = cc
-    by (Dropped n) other gone = cc
-
--- a part that is recorded is answered, and one that is not is recorded
-abbrev pub answered : State → Name → List ℕ → ℕ → Option Part → Outcome
-answered s name bytes now (Some part) = Accept (record { entry = OfPart (key_of name) part; is_repeat = true }) s
-answered s name bytes now None = Accept (record { entry = OfPart (key_of name) (received_part name bytes now); is_repeat = false }) (with_part s (key_of name) (received_part name bytes now))
-
-pub rules_part : (s : State) (text bytes : List ℕ) (now : ℕ) (name : Name) → read_name text ≡ Ok name → holds_other bytes (recorded s name) ≡ false → is_dropped (recorded s name) ≡ false
-    → unless_kept s (kept s (Receive text bytes)) (effect s (Receive text bytes) now) ≡ answered s name bytes now (recorded s name)
-rules_part s text bytes now name named other dropped =
-    (λ i. unless_kept s (kept_under s (named i) bytes) (received s (named i) bytes now)) ∙ by (recorded s name) other dropped
-  where
-    by : (o : Option Part) → holds_other bytes o ≡ false → is_dropped o ≡ false
-        → unless_kept s (option_map (λ (part : Part). OfPart (key_of name) part) (option_and_then (held_with bytes) o)) (received s (Ok name) bytes now) ≡ answered s name bytes now o
-    by None other dropped = refl
-    by (Some part) other dropped =
-        let same : is_held_with bytes part.content ≡ true = ap (is_held_with bytes) (held_bytes part bytes other dropped) ∙ (text_decides bytes bytes).1 refl in
-        ap (λ b. unless_kept s (option_map (λ (part : Part). OfPart (key_of name) part) (cond b (Some part) None)) (received s (Ok name) bytes now)) same
-
--- what acceptance of a part tells
-pub record Receives (s : State) (text bytes : List ℕ) (now : ℕ) (reply : Reply) (new : State) : Type 0 where
-  pub name : Name
-  pub named : read_name text ≡ Ok name
-  pub none : NoneStands s name bytes now
-  pub outcome : answered s name bytes now (recorded s name) ≡ Accept reply new
-
-pub receives : (s : State) (text bytes : List ℕ) (now : ℕ) (reply : Reply) (new : State) → step s (Receive text bytes) now ≡ Accept reply new → Receives s text bytes now reply new
-receives s text bytes now reply new e =
-    let h = step_accepts s (Receive text bytes) now reply new e in by (read_name text) refl h.0 h.1
-  where
-    by : (r : Result Name NameError) → read_name text ≡ r → first_standing (named_tests s r bytes now) ≡ None → unless_kept s (kept s (Receive text bytes)) (effect s (Receive text bytes) now) ≡ Accept reply new → Receives s text bytes now reply new
-    by (Err fault) named none outcome = let stands = refused_name s bytes now fault in cc
-    by (Ok name) named none outcome =
-        let stand = none_stand s name bytes now none in
-        record { name = name; named = named; none = stand; outcome = sym (rules_part s text bytes now name named stand.bytes stand.dropped) ∙ outcome }
+use Rattle.custody_records.specs.Orders.{text_total, part_total, part_exact, notice_total}
+use Rattle.custody_machine.proofs.Entries.{passes_found, any_of_found, get_found, find_insert, find_new, next_is_new}
+use Rattle.custody_machine.proofs.Stated.{NoneStandsOf, find_none_of, stated_by, IsStated, accepts_statement}
+use Rattle.custody_machine.proofs.Accepting.{NoneStands, find_none, find_dropped, step_accepts, step_none, step_refuses, accept_inj, insert_here, insert_new, place_is_empty, held_bytes, answered, rules_part, Receives, receives, registered, recorded_is, recorded_of}
 
 -- ---- nothing is removed
 
@@ -250,9 +51,9 @@ keeps_adding : (s : State) (key : PartKey) (part : Part) → part_at s key ≡ N
 keeps_adding s key part none (OfPart q x) e = still (with_part s key part) (OfPart q x) (insert_new part_total s.parts key part q x none e)
 keeps_adding s key part none entry e = still (with_part s key part) entry e
 
--- the outcome of a registration, by what is known of its registry
-abbrev pub registered : State → List ℕ → ℕ → ℕ → Option ℕ → Outcome
-registered s tld day now o = unless_kept s (option_map (λ (d : ℕ). OfRegistry tld d) o) (effect s (Register tld day) now)
+keeps_noticing : (s : State) (key : NoticeKey) (notice : Notice) → get s.notices key ≡ None → KeepsRecords s (with_notice s key notice)
+keeps_noticing s key notice none (OfNotice q x) e = still (with_notice s key notice) (OfNotice q x) (insert_new notice_total s.notices key notice q x none e)
+keeps_noticing s key notice none entry e = still (with_notice s key notice) entry e
 
 pub step_keeps : (s : State) (c : Command) (now : ℕ) (reply : Reply) (new : State) → step s c now ≡ Accept reply new → KeepsRecords s new
 step_keeps s (Register tld day) now reply new e = by (first_day_of s tld) refl (step_accepts s (Register tld day) now reply new e).1
@@ -266,6 +67,11 @@ step_keeps s (Receive text bytes) now reply new e = let r = receives s text byte
     by r (Some kept) at e = subst (KeepsRecords s) (accept_inj _ _ _ _ e).1 (keeps_itself s)
     by r None at e = subst (KeepsRecords s) (accept_inj _ _ _ _ e).1 (keeps_adding s (key_of r.name) _
         (place_is_empty s text r.name r.named at (ap (λ o. is_none o && list_any (λ place. has_other_kind r.name.kind (part_in s r.name place)) places) (sym at) ∙ r.none.kind)))
+step_keeps s (Statement stated) now reply new e = let r = accepts_statement s stated now reply new e in by (kept_verdict s stated) r.outcome
+  where
+    by : (o : Option (NoticeKey × Notice)) → stated_by s stated now o ≡ Accept reply new → KeepsRecords s new
+    by (Some kept) e = subst (KeepsRecords s) (accept_inj _ _ _ _ e).1 (keeps_itself s)
+    by None e = subst (KeepsRecords s) (accept_inj _ _ _ _ e).1 (keeps_noticing s (next_key s.notices stated.tld) _ (next_is_new s.notices stated.tld))
 
 pub nothing_is_removed : NothingIsRemoved
 nothing_is_removed old command now = by (step old command now) refl
@@ -304,10 +110,140 @@ pub record KeepsPart (s : State) (text bytes : List ℕ) (entry : Record) : Type
   pub at : part_at s (key_of name) ≡ Some kept
   pub same : IsKeptPart part kept
 
+-- ---- a revision that has a verdict
+
+and_both : (a b : Bool) → (a && b) ≡ true → (a ≡ true) × (b ≡ true)
+and_both true b h = (refl, h)
+and_both false b h = cc
+
+-- an entry is a verdict on the revision
+abbrev is_verdict_on : told.Statement → NoticeKey × Notice → Bool
+is_verdict_on st = is_notice_of st.tld st.day (is_verdict_of st.rev)
+
+-- what is kept of a statement that was accepted
+pub record KeepsVerdict (s : State) (st : told.Statement) (entry : Record) : Type 0 where
+  pub kept : NoticeKey × Notice
+  pub found : kept_verdict s st ≡ Some kept
+  pub made : entry ≡ OfNotice kept.0 kept.1
+  pub registry : is_unregistered s (first_part st) ≡ false
+
+-- what a verdict that is kept tells: the parts are as stated, it is the one of the revision, and it has the id
+pub kept_tells : (s : State) (st : told.Statement) (kept : NoticeKey × Notice) → kept_verdict s st ≡ Some kept → (are_as_stated s st ≡ true) × (verdict_told s st ≡ Some kept) × (has_id st.id kept.1.kind ≡ true)
+kept_tells s st kept e = by (are_as_stated s st) refl e
+  where
+    by_id : (o : Option (NoticeKey × Notice)) → option_and_then (if_of_id st.id) o ≡ Some kept → (o ≡ Some kept) × (has_id st.id kept.1.kind ≡ true)
+    by_id None e = cc
+    by_id (Some found) e = let h = cond_some (has_id st.id found.1.kind) found kept e in (ap Some h.1, ap (λ (x : NoticeKey × Notice). has_id st.id x.1.kind) (sym h.1) ∙ h.0)
+
+    by : (b : Bool) → are_as_stated s st ≡ b → (if b then option_and_then (if_of_id st.id) (verdict_told s st) else None) ≡ Some kept → (are_as_stated s st ≡ true) × (verdict_told s st ≡ Some kept) × (has_id st.id kept.1.kind ≡ true)
+    by true t e = let h = by_id (verdict_told s st) e in (t, h.0, h.1)
+    by false t e = cc
+
+pub kept_of : (s : State) (st : told.Statement) (kept : NoticeKey × Notice) → are_as_stated s st ≡ true → verdict_told s st ≡ Some kept → has_id st.id kept.1.kind ≡ true → kept_verdict s st ≡ Some kept
+kept_of s st kept as_stated told has = ap (λ b. if b then option_and_then (if_of_id st.id) (verdict_told s st) else None) as_stated ∙ ap (option_and_then (if_of_id st.id)) told ∙ ap (λ b. if b then Some kept else None) has
+
+pub told_is_there : (s : State) (st : told.Statement) (kept : NoticeKey × Notice) → verdict_told s st ≡ Some kept → (get s.notices kept.0 ≡ Some kept.1) × (has_verdict s st ≡ true)
+told_is_there s st kept e = (
+  get_found notice_total s.notices (is_notice_of st.tld st.day (is_verdict_of st.rev)) kept e,
+  any_of_found (is_notice_of st.tld st.day (is_verdict_of st.rev)) (is_notice_of st.tld st.day (is_verdict_of st.rev)) (entries s.notices) kept e (passes_found (is_notice_of st.tld st.day (is_verdict_of st.rev)) (entries s.notices) kept e),
+)
+
+-- the same parts are as stated alike
+pub as_stated_alike : (s t : State) (st : told.Statement) → ((place : ℕ) → part_in t (first_part st) place ≡ part_in s (first_part st) place) → are_as_stated t st ≡ are_as_stated s st
+as_stated_alike s t st e = λ i. not (list_any (λ place. has_other_kind st.kind (e place i)) places)
+    && not ((count_by (λ place. is_some (e place i)) places == 0) || not (count_by (λ place. is_some (e place i)) places == st.parts))
+
+-- a part of another revision is no part of this one
+part_elsewhere : (s : State) (key : PartKey) (part : Part) (st : told.Statement) → ((key.tld ≡ st.tld) → (key.day ≡ st.day) → (key.rev ≡ st.rev) → ⊥) → (place : ℕ) → part_in (with_part s key part) (first_part st) place ≡ part_in s (first_part st) place
+part_elsewhere s key part st other place = get-insert part_total s.parts key part (at_place (key_of (first_part st)) place) ∙ by (at_place (key_of (first_part st)) place) (λ e. e) (eq_by_cmp part_cmp (at_place (key_of (first_part st)) place) key) refl
+  where
+    by : (q : PartKey) → (q ≡ key → at_place (key_of (first_part st)) place ≡ key) → (b : Bool) → eq_by_cmp part_cmp q key ≡ b → cond b (Some part) (get s.parts q) ≡ get s.parts q
+    by q is true t =
+        let same : at_place (key_of (first_part st)) place ≡ key = is (part_exact q key ((Equal-is (part_cmp q key)).0 t)) in
+        absurd (other (ap (λ (k : PartKey). k.tld) (sym same)) (ap (λ (k : PartKey). k.day) (sym same)) (ap (λ (k : PartKey). k.rev) (sym same)))
+    by q is false t = refl
+
+verdict_rev : (st : told.Statement) (v : Verdict) (rev : ℕ) → is_verdict_of rev (notice_kind st v) ≡ (st.rev == rev)
+verdict_rev st Pass rev = refl
+verdict_rev st (Fail check) rev = refl
+
+verdict_id : (st : told.Statement) (v : Verdict) → has_id st.id (notice_kind st v) ≡ true
+verdict_id st Pass = (text_decides st.id st.id).1 refl
+verdict_id st (Fail check) = (text_decides st.id st.id).1 refl
+
+-- a state that goes on from another: it has its records, and what was stated is stated still
+pub record Continues (s new : State) : Type 0 where
+  pub records : KeepsRecords s new
+  pub verdicts : (st : told.Statement) (kept : NoticeKey × Notice) → kept_verdict s st ≡ Some kept → kept_verdict new st ≡ Some kept
+
+continues_itself : (s : State) → Continues s s
+continues_itself s = record { records = keeps_itself s; verdicts = λ st kept e. e }
+
+continues_adding : (s : State) (text bytes : List ℕ) (now : ℕ) (name : Name) → NoneStands s name bytes now → recorded s name ≡ None → KeepsRecords s (with_part s (key_of name) (received_part name bytes now)) → Continues s (with_part s (key_of name) (received_part name bytes now))
+continues_adding s text bytes now name none at records = record {
+  records = records;
+  verdicts = λ st kept e.
+      let h = kept_tells s st kept e in
+      kept_of (with_part s (key_of name) (received_part name bytes now)) st kept
+      (as_stated_alike s (with_part s (key_of name) (received_part name bytes now)) st (part_elsewhere s (key_of name) (received_part name bytes now) st (elsewhere st (told_is_there s st kept h.1).1)) ∙ h.0) h.1 h.2;
+}
+  where
+    unstated : has_notice s.notices name.tld name.day (is_verdict_of name.rev) ≡ false
+    unstated = ap (λ o. is_none o && has_notice s.notices name.tld name.day (is_verdict_of name.rev)) (sym at) ∙ none.stated
+
+    elsewhere : (st : told.Statement) → has_verdict s st ≡ true → (name.tld ≡ st.tld) → (name.day ≡ st.day) → (name.rev ≡ st.rev) → ⊥
+    elsewhere st has a b c = let same : has_notice s.notices name.tld name.day (is_verdict_of name.rev) ≡ has_verdict s st = (λ i. has_notice s.notices (a i) (b i) (is_verdict_of (c i))) in
+        let clash : true ≡ false = sym has ∙ sym same ∙ unstated in cc
+
+continues_noticing : (s : State) (st : told.Statement) (now : ℕ) (v : Verdict) → has_verdict s st ≡ false → Continues s (with_notice s (next_key s.notices st.tld) (verdict_notice st v now))
+continues_noticing s st now v unstated = record {
+  records = keeps_noticing s (next_key s.notices st.tld) (verdict_notice st v now) (next_is_new s.notices st.tld);
+  verdicts = λ other kept e.
+      let h = kept_tells s other kept e in
+      kept_of (with_notice s (next_key s.notices st.tld) (verdict_notice st v now)) other kept h.0
+      (find_insert notice_total s.notices (next_key s.notices st.tld) (verdict_notice st v now) (next_is_new s.notices st.tld) (is_notice_of other.tld other.day (is_verdict_of other.rev)) (miss other (told_is_there s other kept h.1).1) ∙ h.1) h.2;
+}
+  where
+    miss : (other : told.Statement) → has_verdict s other ≡ true → is_notice_of other.tld other.day (is_verdict_of other.rev) (next_key s.notices st.tld, verdict_notice st v now) ≡ false
+    miss other has = by (is_notice_of other.tld other.day (is_verdict_of other.rev) (next_key s.notices st.tld, verdict_notice st v now)) refl
+      where
+        by : (b : Bool) → is_notice_of other.tld other.day (is_verdict_of other.rev) (next_key s.notices st.tld, verdict_notice st v now) ≡ b → b ≡ false
+        by false t = refl
+        by true t =
+            let x = and_both _ _ t in let y = and_both _ _ x.1 in
+            let a : st.tld ≡ other.tld = (text_decides st.tld other.tld).0 x.0 in
+            let b : st.day ≡ other.day = (Decides-eqb st.day other.day).0 y.0 in
+            let c : st.rev ≡ other.rev = (Decides-eqb st.rev other.rev).0 (sym (verdict_rev st v other.rev) ∙ y.1) in
+            let same : has_verdict s st ≡ has_verdict s other = (λ i. has_notice s.notices (a i) (b i) (is_verdict_of (c i))) in
+            sym has ∙ sym same ∙ unstated
+
+-- where no verdict is kept and none of the refusals stands, the revision has none
+pub unstated_of : (s : State) (st : told.Statement) (now : ℕ) → NoneStandsOf s st now → kept_verdict s st ≡ None → has_verdict s st ≡ false
+unstated_of s st now none e = ap (λ o. is_none o && has_verdict s st) (sym e) ∙ none.stated
+
+pub step_continues : (s : State) (c : Command) (now : ℕ) (reply : Reply) (new : State) → step s c now ≡ Accept reply new → Continues s new
+step_continues s (Register tld day) now reply new e = record { records = step_keeps s (Register tld day) now reply new e; verdicts = λ st kept h. by st kept h (first_day_of s tld) (step_accepts s (Register tld day) now reply new e).1 }
+  where
+    by : (st : told.Statement) (kept : NoticeKey × Notice) → kept_verdict s st ≡ Some kept → (o : Option ℕ) → registered s tld day now o ≡ Accept reply new → kept_verdict new st ≡ Some kept
+    by st kept h (Some first) e = subst (λ t. kept_verdict t st ≡ Some kept) (accept_inj _ _ _ _ e).1 h
+    by st kept h None e = subst (λ t. kept_verdict t st ≡ Some kept) (accept_inj _ _ _ _ e).1 h
+step_continues s (Receive text bytes) now reply new e = let r = receives s text bytes now reply new e in by r (recorded s r.name) refl r.outcome
+  where
+    by : (r : Receives s text bytes now reply new) (o : Option Part) → recorded s r.name ≡ o → answered s r.name bytes now o ≡ Accept reply new → Continues s new
+    by r (Some kept) at e = subst (Continues s) (accept_inj _ _ _ _ e).1 (continues_itself s)
+    by r None at e = subst (Continues s) (accept_inj _ _ _ _ e).1 (continues_adding s text bytes now r.name r.none at (keeps_adding s (key_of r.name) _
+        (place_is_empty s text r.name r.named at (ap (λ o. is_none o && list_any (λ place. has_other_kind r.name.kind (part_in s r.name place)) places) (sym at) ∙ r.none.kind))))
+step_continues s (Statement st) now reply new e = let r = accepts_statement s st now reply new e in by r (kept_verdict s st) refl r.outcome
+  where
+    by : (r : IsStated s st now reply new) (o : Option (NoticeKey × Notice)) → kept_verdict s st ≡ o → stated_by s st now o ≡ Accept reply new → Continues s new
+    by r (Some kept) at e = subst (Continues s) (accept_inj _ _ _ _ e).1 (continues_itself s)
+    by r None at e = subst (Continues s) (accept_inj _ _ _ _ e).1 (continues_noticing s st now (verdict_on s st) (unstated_of s st now r.none at))
+
 -- The state keeps what a command made.
 abbrev pub Keeps : State → Command → Record → Type 0
 Keeps s (Register tld day) entry = (kept : ℕ) × (first_day_of s tld ≡ Some kept) × (entry ≡ OfRegistry tld kept)
 Keeps s (Receive text bytes) entry = KeepsPart s text bytes entry
+Keeps s (Statement stated) entry = KeepsVerdict s stated entry
 
 -- what was kept of a part, and is still
 pub still_kept : (part a b : Part) → IsKeptPart part a → IsKeptPart a b → IsKeptPart part b
@@ -323,10 +259,11 @@ is_known s new tld k e = by (first_day_of s tld) refl e
     by None at e = cc
     by (Some day) at e = ap is_none (registry_is_kept s new tld day k at)
 
-pub keeps_on : (s new : State) (c : Command) (entry : Record) → KeepsRecords s new → Keeps s c entry → Keeps new c entry
-keeps_on s new (Register tld day) entry k h = (h.0, registry_is_kept s new tld h.0 k h.1, h.2)
+pub keeps_on : (s new : State) (c : Command) (entry : Record) → Continues s new → Keeps s c entry → Keeps new c entry
+keeps_on s new (Statement st) entry k h = record { kept = h.kept; found = k.verdicts st h.kept h.found; made = h.made; registry = is_known s new st.tld k.records h.registry }
+keeps_on s new (Register tld day) entry k h = (h.0, registry_is_kept s new tld h.0 k.records h.1, h.2)
 keeps_on s new (Receive text bytes) entry k h =
-    let on = part_is_kept s new (key_of h.name) h.kept k h.at in
+    let on = part_is_kept s new (key_of h.name) h.kept k.records h.at in
     record {
       name = h.name;
       part = h.part;
@@ -335,25 +272,11 @@ keeps_on s new (Receive text bytes) entry k h =
       made = h.made;
       content = h.content;
       kind = h.kind;
-      registry = is_known s new h.name.tld k h.registry;
+      registry = is_known s new h.name.tld k.records h.registry;
       size = h.size;
       at = on.1;
       same = still_kept h.part h.kept on.0 h.same on.2;
     }
-
-of_kind_some : (kind : Kind) (part found : Part) → of_kind kind part ≡ Some found → (is_same_kind part.kind kind ≡ true) × (part ≡ found)
-of_kind_some kind part found e = cond_some (is_same_kind part.kind kind) part found e
-
--- the part recorded under a name
-pub recorded_is : (s : State) (name : Name) (part : Part) → recorded s name ≡ Some part → (part_at s (key_of name) ≡ Some part) × (is_same_kind part.kind name.kind ≡ true)
-recorded_is s name part e = by (part_at s (key_of name)) e
-  where
-    by : (o : Option Part) → option_and_then (of_kind name.kind) o ≡ Some part → (o ≡ Some part) × (is_same_kind part.kind name.kind ≡ true)
-    by None e = cc
-    by (Some found) e = let h = of_kind_some name.kind found part e in (ap Some h.1, subst (λ (p : Part). is_same_kind p.kind name.kind ≡ true) h.1 h.0)
-
-pub recorded_of : (s : State) (name : Name) (part : Part) → part_at s (key_of name) ≡ Some part → is_same_kind part.kind name.kind ≡ true → recorded s name ≡ Some part
-recorded_of s name part at kind = ap (option_and_then (of_kind name.kind)) at ∙ ap (λ b. cond b (Some part) None) kind
 
 kind_itself : (kind : Kind) → is_same_kind kind kind ≡ true
 kind_itself kind = (kind_decides kind kind).1 refl
@@ -398,6 +321,30 @@ accepted_is_kept s (Receive text bytes) now reply new e = let r = receives s tex
           at = insert_here part_total s.parts (key_of r.name) (received_part r.name bytes now);
           same = inl refl;
         })
+accepted_is_kept s (Statement st) now reply new e = let r = accepts_statement s st now reply new e in by r (kept_verdict s st) refl r.outcome
+  where
+    passes : is_verdict_on st (next_key s.notices st.tld, verdict_notice st (verdict_on s st) now) ≡ true
+    passes = λ i. (text_decides st.tld st.tld).1 refl i && ((Decides-eqb st.day st.day).1 refl i && (verdict_rev st (verdict_on s st) st.rev ∙ (Decides-eqb st.rev st.rev).1 refl) i)
+
+    none_found : (es : List (NoticeKey × Notice)) → list_any (is_verdict_on st) es ≡ false → list.find (is_verdict_on st) es ≡ None
+    none_found [] h = refl
+    none_found (x ∷ es) h = by_test (is_verdict_on st x) h (none_found es)
+      where
+        by_test : (b : Bool) → (b || list_any (is_verdict_on st) es) ≡ false → (list_any (is_verdict_on st) es ≡ false → list.find (is_verdict_on st) es ≡ None) → cond b (Some x) (list.find (is_verdict_on st) es) ≡ None
+        by_test true h rest = cc
+        by_test false h rest = rest h
+
+    by : (r : IsStated s st now reply new) (o : Option (NoticeKey × Notice)) → kept_verdict s st ≡ o → stated_by s st now o ≡ Accept reply new → KeepsVerdict new st reply.entry
+    by r (Some kept) at e = let h = accept_inj _ _ _ _ e in
+        subst (λ (n : State). KeepsVerdict n st reply.entry) h.1 (record { kept = kept; found = at; made = ap (λ (q : Reply). q.entry) (sym h.0); registry = r.none.registry })
+    by r None at e = let h = accept_inj _ _ _ _ e in
+        subst (λ (n : State). KeepsVerdict n st reply.entry) h.1 (record {
+          kept = (next_key s.notices st.tld, verdict_notice st (verdict_on s st) now);
+          found = kept_of (with_notice s (next_key s.notices st.tld) (verdict_notice st (verdict_on s st) now)) st (next_key s.notices st.tld, verdict_notice st (verdict_on s st) now) (λ i. not (r.none.kind i) && not (r.none.number i))
+              (find_new notice_total s.notices (next_key s.notices st.tld) (verdict_notice st (verdict_on s st) now) (next_is_new s.notices st.tld) (is_verdict_on st) passes (none_found (entries s.notices) (unstated_of s st now r.none at))) (verdict_id st (verdict_on s st));
+          made = ap (λ (q : Reply). q.entry) (sym h.0);
+          registry = r.none.registry;
+        })
 
 -- the record that a reply shows is that of the state
 pub replies_are_records : RepliesAreRecords
@@ -411,6 +358,13 @@ replies_are_records old new (Receive text bytes) now reply e = let r = receives 
     by : (r : Receives old text bytes now reply new) (o : Option Part) → recorded old r.name ≡ o → answered old r.name bytes now o ≡ Accept reply new → HasRecord new reply.entry
     by r (Some kept) at e = let h = accept_inj _ _ _ _ e in subst (λ (q : Reply). HasRecord new q.entry) h.0 (ap (λ (n : State). part_at n (key_of r.name)) (sym h.1) ∙ (recorded_is old r.name kept at).0)
     by r None at e = let h = accept_inj _ _ _ _ e in subst (λ (q : Reply). HasRecord new q.entry) h.0 (ap (λ (n : State). part_at n (key_of r.name)) (sym h.1) ∙ insert_here part_total old.parts (key_of r.name) (received_part r.name bytes now))
+replies_are_records old new (Statement st) now reply e = let r = accepts_statement old st now reply new e in by (kept_verdict old st) refl r.outcome
+  where
+    by : (o : Option (NoticeKey × Notice)) → kept_verdict old st ≡ o → stated_by old st now o ≡ Accept reply new → HasRecord new reply.entry
+    by (Some kept) at e = let h = accept_inj _ _ _ _ e in
+        subst (λ (q : Reply). HasRecord new q.entry) h.0 (ap (λ (n : State). get n.notices kept.0) (sym h.1) ∙ (told_is_there old st kept (kept_tells old st kept at).1).0)
+    by None at e = let h = accept_inj _ _ _ _ e in
+        subst (λ (q : Reply). HasRecord new q.entry) h.0 (ap (λ (n : State). get n.notices (next_key old.notices st.tld)) (sym h.1) ∙ insert_here notice_total old.notices (next_key old.notices st.tld) (verdict_notice st (verdict_on old st) now))
 
 -- what is kept is of its command, and is there
 pub kept_is_there : (s : State) (c : Command) (entry : Record) → Keeps s c entry → IsOfCommand c entry × StillHas s entry
@@ -421,6 +375,18 @@ kept_is_there s (Receive text bytes) entry h = subst (λ e. IsOfCommand (Receive
     by : IsKeptPart h.part h.kept → IsKeptAs (OfPart (key_of h.name) h.part) (OfPart (key_of h.name) h.kept)
     by (inl p) = inl (ap (OfPart (key_of h.name)) p)
     by (inr p) = inr (ap (OfPart (key_of h.name)) p)
+kept_is_there s (Statement st) entry h =
+    let tells = kept_tells s st h.kept h.found in
+    let passes = and_both _ _ (passes_found (is_notice_of st.tld st.day (is_verdict_of st.rev)) (entries s.notices) h.kept tells.1) in
+    let rest = and_both _ _ passes.1 in
+    let told = verdict_in h.kept.1.kind rest.1 tells.2 in
+    subst (λ e. IsOfCommand (Statement st) e × StillHas s e) (sym h.made)
+    (((text_decides h.kept.0.tld st.tld).0 passes.0, (Decides-eqb h.kept.1.day st.day).0 rest.0, told.0, told.1), still s (OfNotice h.kept.0 h.kept.1) (told_is_there s st h.kept tells.1).0)
+  where
+    verdict_in : (kind : NoticeKind) → is_verdict_of st.rev kind ≡ true → has_id st.id kind ≡ true → (v : Verdict) × (kind ≡ notice_kind st v)
+    verdict_in (Receipt rev id) a b = (Pass, λ i. Receipt ((Decides-eqb rev st.rev).0 a i) ((text_decides id st.id).0 b i))
+    verdict_in (Failure rev id check) a b = (Fail check, λ i. Failure ((Decides-eqb rev st.rev).0 a i) ((text_decides id st.id).0 b i) check)
+    verdict_in Absence a b = cc
 
 -- the kind of what is kept
 kept_kind : (part kept : Part) (kind : Kind) → IsKeptPart part kept → is_same_kind part.kind kind ≡ true → is_same_kind kept.kind kind ≡ true
@@ -463,6 +429,23 @@ same_key_is_kept s (Receive text bytes) (Receive other others) entry now reply n
     undropped : (part kept : Part) (bytes : List ℕ) → IsKeptPart part kept → kept.content ≡ Held bytes → part.content ≡ Held bytes
     undropped part kept bytes (inl p) e = ap (λ (q : Part). q.content) (sym p) ∙ e
     undropped part kept bytes (inr p) e = let gone = ap (λ (q : Part). q.content) (sym p) ∙ e in cc
+same_key_is_kept s (Statement st) (Statement other) entry now reply new h same e =
+    let x = and_both _ _ same in let y = and_both _ _ x.1 in
+    let a : other.tld ≡ st.tld = (text_decides other.tld st.tld).0 x.0 in
+    let b : other.day ≡ st.day = (Decides-eqb other.day st.day).0 y.0 in
+    let c : other.rev ≡ st.rev = (Decides-eqb other.rev st.rev).0 y.1 in
+    let tells = kept_tells s st h.kept h.found in
+    let r = accepts_statement s other now reply new e in
+    let told : verdict_told s other ≡ Some h.kept = (λ i. list.find (is_notice_of (a i) (b i) (is_verdict_of (c i))) (entries s.notices)) ∙ tells.1 in
+    by r told (kept_verdict s other) refl r.outcome
+  where
+    one : (p q : NoticeKey × Notice) (o : Option (NoticeKey × Notice)) → o ≡ Some p → o ≡ Some q → p ≡ q
+    one p q o x y = cc
+
+    by : (r : IsStated s other now reply new) → verdict_told s other ≡ Some h.kept → (o : Option (NoticeKey × Notice)) → kept_verdict s other ≡ o → stated_by s other now o ≡ Accept reply new → KeepsVerdict s other entry × (new ≡ s)
+    by r told (Some kept) at e = let is = accept_inj _ _ _ _ e in
+        (record { kept = h.kept; found = at ∙ ap Some (one kept h.kept (verdict_told s other) (kept_tells s other kept at).1 told); made = h.made; registry = r.none.registry }, sym is.1)
+    by r told None at e = let clash : true ≡ false = sym (told_is_there s other h.kept told).1 ∙ unstated_of s other now r.none at in cc
 same_key_is_kept s c d entry now reply new h same e = cc
 
 -- the outcome of a command that asks again
@@ -529,3 +512,28 @@ asked_again s (Receive text bytes) entry now h = by h.same
         let dropped : is_dropped (recorded s h.name) ≡ true = ap is_dropped at ∙ content in
         let stands = find_dropped s h.name bytes now h.registry (not_new _) h.size other_bytes dropped in
         (inr (step_refuses s (Receive text bytes) now DroppedAfterKeeping (refusal_by (Some DroppedAfterKeeping) stands), (h.name, h.named, dropped)), reads_by (Some DroppedAfterKeeping) stands refl)
+asked_again s (Statement st) entry now h = (
+  inl (step_none s (Statement st) now none ∙ ap (stated_by s st now) h.found ∙ ap (λ e. Accept (record { entry = e; is_repeat = true }) s) (sym h.made)),
+  (λ i. if_made (none i) (option_map (λ (e : NoticeKey × Notice). OfNotice e.0 e.1) (h.found i)) (part_keys s (first_part st))),
+)
+  where
+    tells : (are_as_stated s st ≡ true) × (verdict_told s st ≡ Some h.kept) × (has_id st.id h.kept.1.kind ≡ true)
+    tells = kept_tells s st h.kept h.found
+
+    not_new : (b : Bool) → (is_none (kept_verdict s st) && b) ≡ false
+    not_new b = ap (λ o. is_none o && b) h.found
+
+    false_of : (b : Bool) → not b ≡ true → b ≡ false
+    false_of true e = cc
+    false_of false e = refl
+
+    none : refusal_of s (Statement st) now ≡ None
+    none = find_none_of s st now (record {
+      registry = h.registry;
+      date = not_new (is_outside s (first_part st) now);
+      dropped = ap (λ b. not b && has_dropped_part s (first_part st)) (told_is_there s st h.kept tells.1).1;
+      stated = not_new (has_verdict s st);
+      kind = false_of (has_part_of_other_kind s (first_part st)) (and_both (not (has_part_of_other_kind s (first_part st))) (not (differ_in_number s st)) tells.0).0;
+      number = false_of (differ_in_number s st) (and_both (not (has_part_of_other_kind s (first_part st))) (not (differ_in_number s st)) tells.0).1;
+      later = not_new (has_later_receipt s st);
+    })

@@ -2,6 +2,9 @@ pub mod NameReading
 pub mod MapValues
 pub mod Series
 pub mod SameValues
+pub mod Entries
+pub mod Accepting
+pub mod Stated
 pub mod Keeping
 pub mod Histories
 pub mod Retries
@@ -12,6 +15,7 @@ pub mod Stored
 pub mod Damages
 pub mod Moves
 pub mod Composed
+pub mod Noticed
 pub mod Purged
 pub mod Compared
 pub mod Room

@@ -4,14 +4,15 @@ use Rattle.std.specs.Ordering.{eq_by_cmp}
 use Rattle.std.specs.Cmp.{Equal-is}
 use Rattle.std.specs.FinMap.{get, get-insert}
 use Rattle.deposit_name.specs.Name.{Name}
-use Rattle.custody_records.specs.Keys.{PartKey, part_cmp}
-use Rattle.custody_records.specs.Records.{key_of}
+use Rattle.custody_records.specs.Keys.{PartKey, NoticeKey, part_cmp}
+use Rattle.custody_records.specs.Records.{Notice, key_of}
+use Rattle.custody_machine.proofs.Stated.{accepts_statement, stated_by}
 use Rattle.custody_machine.specs.Names.{read_name}
 use Rattle.custody_machine.specs.State.{State, Part, Held}
-use Rattle.custody_machine.specs.Machine.{Command, Register, Receive, Entry, Outcome, Refuse, Accept, Reply, step, state_of, state_after, recorded, received_part, with_part, first_day_of}
+use Rattle.custody_machine.specs.Machine.{Command, Register, Receive, Statement, kept_verdict, Entry, Outcome, Refuse, Accept, Reply, step, state_of, state_after, recorded, received_part, with_part, first_day_of}
 use Rattle.custody_machine.specs.History.{WasReceived, HeldAsReceived}
 use Rattle.custody_records.specs.Orders.{part_total, part_exact}
-use Rattle.custody_machine.proofs.Keeping.{Receives, receives, answered, registered, step_accepts, accept_inj}
+use Rattle.custody_machine.proofs.Accepting.{Receives, receives, answered, registered, step_accepts, accept_inj}
 
 -- a new part is the one received, or another that was kept
 by_key : (s : State) (entries : List Entry) (key : PartKey) (part : Part) (bytes text others : List ℕ) (name : Name) (now : ℕ) → part.content ≡ Held bytes → read_name text ≡ Ok name
@@ -44,6 +45,11 @@ by_step s (Receive text others) now rest key part bytes reply new held is at = l
     by : (h : Receives s text others now reply new) (o : Option Part) → answered s h.name others now o ≡ Accept reply new → (get s.parts key ≡ Some part) ⊎ WasReceived ((Receive text others, now) ∷ rest) key part bytes
     by h (Some kept) r = inl (ap (λ (t : State). get t.parts key) (accept_inj _ _ _ _ r).1 ∙ at)
     by h None r = by_key s rest key part bytes text others h.name now held h.named (ap (λ (t : State). get t.parts key) (accept_inj _ _ _ _ r).1 ∙ at)
+by_step s (Statement stated) now rest key part bytes reply new held is at = by (kept_verdict s stated) (accepts_statement s stated now reply new is).outcome
+  where
+    by : (o : Option (NoticeKey × Notice)) → stated_by s stated now o ≡ Accept reply new → (get s.parts key ≡ Some part) ⊎ WasReceived ((Statement stated, now) ∷ rest) key part bytes
+    by (Some kept) r = inl (ap (λ (t : State). get t.parts key) (accept_inj _ _ _ _ r).1 ∙ at)
+    by None r = inl (ap (λ (t : State). get t.parts key) (accept_inj _ _ _ _ r).1 ∙ at)
 
 by_outcome : (s : State) (entry : Entry) (rest : List Entry) (key : PartKey) (part : Part) (bytes : List ℕ) → part.content ≡ Held bytes → (r : Outcome) → step s entry.0 entry.1 ≡ r → get (state_of s r).parts key ≡ Some part → (get s.parts key ≡ Some part) ⊎ WasReceived (entry ∷ rest) key part bytes
 by_outcome s entry rest key part bytes held (Refuse q) is at = inl at

@@ -1,14 +1,16 @@
--- The laws of commands that come again. They rest on four facts of the machine, `step_keeps`, `accepted_is_kept`, `same_key_is_kept` and `asked_again`.
-use Rattle.std.proofs.Common.{◌≡◌, ℕ, List, [], ◌∷◌, ◌++◌, Option, Some, None, is_some, Bool, true, false, ◌||◌, inl, inr, refl, sym, ◌∙◌, ap, subst, cond, if◌then◌else◌, append_assoc}
+-- The laws of commands that come again. They rest on four facts of the machine, `step_continues`, `accepted_is_kept`, `same_key_is_kept` and `asked_again`.
+use Rattle.std.proofs.Common.{◌≡◌, ℕ, List, [], ◌∷◌, ◌++◌, Option, Some, None, is_some, Bool, true, false, ◌&&◌, ◌||◌, inl, inr, refl, sym, ◌∙◌, ap, subst, cond, if◌then◌else◌, append_assoc}
 use Rattle.std.specs.List.{list_any}
+use Rattle.std.proofs.lemmas.Bool.Decides.{Decides-eqb}
 use Rattle.custody_machine.specs.State.{State}
 use Rattle.custody_machine.specs.Machine.{Command, Entry, Record, Reply, Outcome, Refuse, Accept, step, state_of, state_after, after, reads, Answer, Accepted, Refused, Failed, NoMemory, VolumeFailed, StoreFailed, Closed, Damaged, Answers, MayRefuse, MayFail}
 use Rattle.custody_machine.specs.SameValues.{is_same_state}
 use Rattle.custody_machine.specs.History.{Pair, Opened, Event, Answered, ShutDown, StoppedAtRest, StoppedWithin, OpenedWith, Condition, Running, Halted, Resting, Happens, Run, Found, leads_to, settled, or_else, found_then, found_after, found, none_found}
-use Rattle.custody_machine.specs.Retries.{Key, OfTld, OfName, key, are_same_keys, has_same_key, KeysAreCompared, once_after, ActsOnce, AsksAgain, record_of, first_record, IsAnsweredAgain, RepeatsAreAnswered, IsOfCommand, StillHas, AcknowledgedIsKept}
+use Rattle.custody_machine.specs.Retries.{Key, OfTld, OfName, OfRevision, key, are_same_keys, has_same_key, KeysAreCompared, once_after, ActsOnce, AsksAgain, record_of, first_record, IsAnsweredAgain, RepeatsAreAnswered, IsOfCommand, StillHas, AcknowledgedIsKept}
 use Rattle.custody_machine.proofs.SameValues.{text_decides}
 use Rattle.custody_machine.proofs.Histories.{after-append, Fits, fits_then, fits_after, fits_first, run_split, found_after-append, all_more, openings_are_right}
-use Rattle.custody_machine.proofs.Keeping.{accept_inj, kept_itself, Keeps, keeps_on, step_keeps, accepted_is_kept, same_key_is_kept, kept_again, asked_again, Again, kept_is_there}
+use Rattle.custody_machine.proofs.Accepting.{accept_inj}
+use Rattle.custody_machine.proofs.Keeping.{kept_itself, Keeps, keeps_on, step_continues, accepted_is_kept, same_key_is_kept, kept_again, asked_again, Again, kept_is_there}
 
 -- ---- the commands found were accepted, one after the other
 
@@ -64,7 +66,7 @@ AllKept s (c ∷ cs) = ((entry : Record) × Keeps s c entry) × AllKept s cs
 
 all_kept_on : (s : State) (e : Entry) (reply : Reply) (new : State) → step s e.0 e.1 ≡ Accept reply new → (cs : List Command) → AllKept s cs → AllKept new cs
 all_kept_on s e reply new h [] kept = tt
-all_kept_on s e reply new h (c ∷ cs) kept = ((kept.0.0, keeps_on s new c kept.0.0 (step_keeps s e.0 e.1 reply new h) kept.0.1), all_kept_on s e reply new h cs kept.1)
+all_kept_on s e reply new h (c ∷ cs) kept = ((kept.0.0, keeps_on s new c kept.0.0 (step_continues s e.0 e.1 reply new h) kept.0.1), all_kept_on s e reply new h cs kept.1)
 
 one_of_them : (s : State) (d : Command) (cs : List Command) → AllKept s cs → list_any (has_same_key d) cs ≡ true → (c : Command) × (entry : Record) × Keeps s c entry × (has_same_key d c ≡ true)
 one_of_them s d [] kept e = cc
@@ -104,7 +106,7 @@ acts_once first events history =
 kept_through : (s : State) (c : Command) (entry : Record) (es : List Entry) → Keeps s c entry → AllAccepted s es → Keeps (after s es) c entry
 kept_through s c entry [] k all = k
 kept_through s c entry (e ∷ es) k all =
-    subst (λ t. Keeps (after t es) c entry) (sym (goes_to s e all.0 all.1 all.2)) (kept_through all.1 c entry es (keeps_on s all.1 c entry (step_keeps s e.0 e.1 all.0 all.1 all.2) k) all.3)
+    subst (λ t. Keeps (after t es) c entry) (sym (goes_to s e all.0 all.1 all.2)) (kept_through all.1 c entry es (keeps_on s all.1 c entry (step_continues s e.0 e.1 all.0 all.1 all.2) k) all.3)
 
 -- a command whose key was kept before it, and what comes behind it
 kept_at : (s : State) (c : Command) (entry : Record) (before behind : List Entry) (e : Entry) → Keeps s c entry → has_same_key e.0 c ≡ true → AllAccepted s (before ++ e ∷ behind) → Keeps (after s (before ++ e ∷ behind)) e.0 entry
@@ -113,7 +115,7 @@ kept_at s c entry [] behind e k same all =
     subst (λ t. Keeps (after t behind) e.0 entry) (sym (goes_to s e all.0 all.1 all.2)) (kept_through all.1 e.0 entry behind (subst (λ t. Keeps t e.0 entry) (sym here.1) here.0) all.3)
 kept_at s c entry (x ∷ before) behind e k same all =
     subst (λ t. Keeps (after t (before ++ e ∷ behind)) e.0 entry) (sym (goes_to s x all.0 all.1 all.2))
-    (kept_at all.1 c entry before behind e (keeps_on s all.1 c entry (step_keeps s x.0 x.1 all.0 all.1 all.2) k) same all.3)
+    (kept_at all.1 c entry before behind e (keeps_on s all.1 c entry (step_continues s x.0 x.1 all.0 all.1 all.2) k) same all.3)
 
 -- what the first command with its key made is kept of each command
 first_is_kept : (s : State) (before behind : List Entry) (e : Entry) → has_same_key e.0 e.0 ≡ true → AllAccepted s (before ++ e ∷ behind) → (entry : Record) × (first_record s (before ++ e ∷ behind) e.0 ≡ Some entry) × Keeps (after s (before ++ e ∷ behind)) e.0 entry
@@ -139,14 +141,27 @@ first_is_kept s (x ∷ before) behind e own all = by (has_same_key e.0 x.0) refl
     )
     by false same later = (later.0, ap (λ t. first_record t rest e.0) to ∙ later.1, subst (λ t. Keeps (after t rest) e.0 later.0) (sym to) later.2)
 
+and_true : (a b : Bool) → a ≡ true → b ≡ true → (a && b) ≡ true
+and_true true b p q = q
+and_true false b p q = cc
+
+and_split : (a b : Bool) → (a && b) ≡ true → (a ≡ true) × (b ≡ true)
+and_split true b p = (refl, p)
+and_split false b p = cc
+
 own_key : (k : Option Key) → is_some k ≡ true → are_same_keys k k ≡ true
 own_key (Some (OfTld a)) h = (text_decides a a).1 refl
 own_key (Some (OfName a)) h = (text_decides a a).1 refl
+own_key (Some (OfRevision a d r)) h = and_true _ _ ((text_decides a a).1 refl) (and_true _ _ ((Decides-eqb d d).1 refl) ((Decides-eqb r r).1 refl))
 own_key None h = h
 
 one_key : (a b : Option Key) → are_same_keys a b ≡ true → (is_some a ≡ true) × (a ≡ b)
 one_key (Some (OfTld a)) (Some (OfTld b)) e = (refl, ap (λ t. Some (OfTld t)) ((text_decides a b).0 e))
 one_key (Some (OfName a)) (Some (OfName b)) e = (refl, ap (λ t. Some (OfName t)) ((text_decides a b).0 e))
+one_key (Some (OfRevision a d r)) (Some (OfRevision b e s)) is =
+    let x = and_split _ _ is in
+    let y = and_split _ _ x.1 in
+    (refl, λ i. Some (OfRevision ((text_decides a b).0 x.0 i) ((Decides-eqb d e).0 y.0 i) ((Decides-eqb r s).0 y.1 i)))
 one_key a b e = cc
 
 pub keys_are_compared : KeysAreCompared

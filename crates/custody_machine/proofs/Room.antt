@@ -10,7 +10,7 @@ use Rattle.custody_records.specs.Orders.{part_total}
 use Rattle.custody_records.specs.Records.{PartRecord, Records, with_part}
 use Rattle.custody_machine.specs.Stored.{ForExtents, AreExtents, AreNaming, AreWhole, IsNamed}
 use Rattle.custody_machine.specs.Custody.{IsPlaceable, HasRoom, IsInOrder}
-use Rattle.custody_machine.proofs.Keeping.{insert_here}
+use Rattle.custody_machine.proofs.Accepting.{insert_here}
 use Rattle.custody_machine.proofs.Stored.{part_still}
 
 module _ (records : Records) (size failures : ℕ) (free : ℕ → Type 0) (order : IsInOrder records size failures free) (len : ℕ) where

@@ -52,6 +52,13 @@ module _ (q : ℕ → Bool) (closed : (n : ℕ) → q (suc (suc n)) ≡ true →
       let same : suc (0 + n) ≡ suc n = omega arith in
       (sym (ap q same) ∙ taken_at 0 8 n lt, omega (arith, lt, most))
 
+  -- where some place is taken, the first is
+  pub first_taken : 0 < count_by q places → q 1 ≡ true
+  first_taken lt =
+      let some : 0 < count_from 1 8 = omega (arith, lt, counted) in
+      let same : suc (0 + 0) ≡ 1 = omega arith in
+      sym (ap q same) ∙ taken_at 0 8 0 some
+
 pub is_place : (n : ℕ) → n < 8 → list_any (λ place. place == suc n) places ≡ true
 is_place zero lt = refl
 is_place (suc zero) lt = refl

@@ -23,7 +23,7 @@ use Rattle.custody_machine.specs.Machine.{is_failure_of, with_part}
 use Rattle.custody_machine.specs.Stored.{ForExtents, AreNaming, IsNamed, AreExtents, is_part_of, names_part, AreWhole, IsGood, content_of, part_of, state_in, Stands, HasDigestAt, HasDigests, IsSound, IsKeptRecord, KeepsParts, OpensFrom}
 use Rattle.custody_machine.proofs.MapValues.{get-map_values, map_values-insert}
 use Rattle.custody_records.specs.Orders.{text_total, part_total, part_exact}
-use Rattle.custody_machine.proofs.Keeping.{insert_new}
+use Rattle.custody_machine.proofs.Accepting.{insert_new}
 use Rattle.custody_records.proofs.FormLemmas.{InForm-injective}
 
 -- rows and image determine the state

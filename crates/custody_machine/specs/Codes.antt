@@ -1,7 +1,7 @@
 -- What a refusal or a failure is told as: one row each.
 use Rattle.std.specs.Prelude.{ℕ, List, ◌++◌, Option, Some, codes}
 use Rattle.custody_machine.specs.declared.answers.Refusal.{Refusal}
-use Rattle.custody_machine.specs.declared.answers.Refusal.TheVariants.{NameRefused, RegistryUnknown, DateOutOfRange, Size, OtherBytes, DroppedAfterKeeping, RevisionNotDue, AlreadyStated, TypeDiffers, PartOutOfOrder, VolumeFull}
+use Rattle.custody_machine.specs.declared.answers.Refusal.TheVariants.{NameRefused, RegistryUnknown, DateOutOfRange, Size, OtherBytes, DroppedAfterKeeping, RevisionNotDue, AlreadyStated, TypeDiffers, PartOutOfOrder, VolumeFull, PartsDiffer, LaterDayPassed}
 use Rattle.custody_machine.specs.declared.answers.Fault.{Fault}
 use Rattle.custody_machine.specs.declared.answers.Fault.TheVariants.{NoMemory, VolumeFailed, StoreFailed, Closed, Damaged}
 use Rattle.custody_machine.specs.declared.codes.Code.{Code}
@@ -48,6 +48,8 @@ refusal_row AlreadyStated = (codes "Q8", codes "already stated", Conflict)
 refusal_row TypeDiffers = (codes "Q9", codes "type differs", Conflict)
 refusal_row PartOutOfOrder = (codes "Q10", codes "part out of order", Conflict)
 refusal_row VolumeFull = (codes "Q11", codes "volume full", InsufficientStorage)
+refusal_row PartsDiffer = (codes "Q12", codes "parts differ", Conflict)
+refusal_row LaterDayPassed = (codes "Q13", codes "later day passed", Conflict)
 
 abbrev pub fault_row : Fault → List ℕ × List ℕ × HttpStatus
 fault_row NoMemory = (codes "C1", codes "no memory", ServiceUnavailable)

@@ -1,8 +1,8 @@
 -- The machine of commands: what each is answered, and what is kept after it (Specification 2, Part B).
-use Rattle.std.specs.Prelude.{◌≡◌, ◌≢◌, ℕ, ◌+◌, ◌-◌, List, [], ◌∷◌, length, Option, Some, None, option_map, Bool, true, false, not, ◌&&◌, ◌||◌, if◌then◌else◌, nat_lt, ◌==◌, is_some, is_none, unwrap_or, count_by, Result, Ok, Err}
-use Rattle.std.specs.List.{list_any}
+use Rattle.std.specs.Prelude.{◌≡◌, ◌≢◌, ℕ, suc, ◌+◌, ◌-◌, max, List, [], ◌∷◌, map, length, Option, Some, None, option_map, Bool, true, false, not, ◌&&◌, ◌||◌, if◌then◌else◌, nat_lt, nat_le, ◌==◌, is_some, is_none, unwrap_or, count_by, Result, Ok, Err}
+use Rattle.std.specs.List.{filter, filter_map, find, flat_map, list_all, list_any}
 use Rattle.std.specs.Option.{option_and_then}
-use Rattle.std.specs.FinMap.{get, insert}
+use Rattle.std.specs.FinMap.{FinMap, entries, get, insert}
 use Rattle.std.specs.Ordering.{nat_cmp}
 use Rattle.schedule.specs.Schedule.{day_of}
 use Rattle.deposit_name.specs.declared.kinds.Kind.{Kind}
@@ -10,18 +10,24 @@ use Rattle.deposit_name.specs.declared.faults.NameError.{NameError}
 use Rattle.deposit_name.specs.Name.{Name}
 use Rattle.desk.specs.declared.notices.NoticeKind.{NoticeKind}
 use Rattle.desk.specs.declared.notices.NoticeKind.TheVariants.{Receipt, Failure, Absence}
-use Rattle.custody_records.specs.Keys.{PartKey, NoticeKey}
+use Rattle.deposit_verify.specs.declared.verdict.Verdict.{Verdict}
+use Rattle.deposit_verify.specs.declared.verdict.Verdict.TheVariants.{Pass, Fail}
+use Rattle.deposit_verify.specs.Known.{Known}
+use Rattle.deposit_verify.specs.Verdict.{verdict}
+use Rattle.custody_records.specs.Keys.{PartKey, NoticeKey, notice_cmp}
 use Rattle.custody_records.specs.Records.{Notice, Release, key_of}
 use Rattle.custody_records.specs.Tables.{is_rising}
 pub use Rattle.custody_machine.specs.declared.damage.Damage.{Damage}
 pub use Rattle.custody_machine.specs.declared.answers.Refusal.{Refusal}
-pub use Rattle.custody_machine.specs.declared.answers.Refusal.TheVariants.{NameRefused, RegistryUnknown, DateOutOfRange, Size, OtherBytes, DroppedAfterKeeping, RevisionNotDue, AlreadyStated, TypeDiffers, PartOutOfOrder, VolumeFull}
+pub use Rattle.custody_machine.specs.declared.answers.Refusal.TheVariants.{NameRefused, RegistryUnknown, DateOutOfRange, Size, OtherBytes, DroppedAfterKeeping, RevisionNotDue, AlreadyStated, TypeDiffers, PartOutOfOrder, VolumeFull, PartsDiffer, LaterDayPassed}
 pub use Rattle.custody_machine.specs.declared.answers.Fault.{Fault}
 pub use Rattle.custody_machine.specs.declared.answers.Fault.TheVariants.{NoMemory, VolumeFailed, StoreFailed, Closed, Damaged}
 use Rattle.custody_machine.specs.declared.damage.Damage.TheVariants.{Digest}
+use Rattle.vault_volume.specs.declared.extent.TheConstants.{MAX_PART_LEN}
 use Rattle.custody_machine.specs.Names.{is_same_text, read_name}
 use Rattle.custody_machine.specs.SameValues.{is_same_kind}
-use Rattle.custody_machine.specs.State.{State, Part, Content, Held, Dropped, places, at_place, has_notice}
+use Rattle.custody_machine.specs.declared.command.Statement as told
+use Rattle.custody_machine.specs.State.{State, Part, Content, Held, Dropped, places, at_place, is_notice_of, has_notice}
 
 -- ---- what is asked and answered
 
@@ -30,6 +36,8 @@ pub data Command : Type 0 where
   Register : (tld : List ℕ) → (first_day : ℕ) → Command
   -- takes a part of a deposit under its file name (Part A section 5)
   Receive : (name : List ℕ) → (bytes : List ℕ) → Command
+  -- has a deposit verified whose parts are all there, as its operator states (Part A section 7)
+  Statement : told.Statement → Command
 
 -- a record of the state: the one that a command made, or found made
 pub data Record : Type 0 where
@@ -49,7 +57,7 @@ pub data Outcome : Type 0 where
 -- ---- the state, as the rules read it
 
 abbrev pub max_part_len : ℕ
-max_part_len = 1_048_576
+max_part_len = MAX_PART_LEN
 
 abbrev pub first_day_of : State → List ℕ → Option ℕ
 first_day_of state tld = get state.registries tld
@@ -107,9 +115,94 @@ abbrev pub is_dropped : Option Part → Bool
 is_dropped None = false
 is_dropped (Some part) = is_gone part.content
 
+-- the bytes of a part, none where they are dropped
+abbrev pub bytes_in : Content → List ℕ
+bytes_in (Held bytes) = bytes
+bytes_in (Dropped _) = []
+
+abbrev pub bytes_held : Option Part → List ℕ
+bytes_held None = []
+bytes_held (Some part) = bytes_in part.content
+
+-- ---- what a statement speaks of
+
+-- the name of the first of its parts
+abbrev pub first_part : told.Statement → Name
+first_part stated = record { tld = stated.tld; day = stated.day; kind = stated.kind; part = 1; rev = stated.rev }
+
+-- how many parts the revision of a name has
+abbrev pub count_parts : State → Name → ℕ
+count_parts state name = count_by (λ place. is_some (part_in state name place)) places
+
+abbrev pub has_part_of_other_kind : State → Name → Bool
+has_part_of_other_kind state name = list_any (λ place. has_other_kind name.kind (part_in state name place)) places
+
+abbrev pub has_dropped_part : State → Name → Bool
+has_dropped_part state name = list_any (λ place. is_dropped (part_in state name place)) places
+
+-- the bytes of the revision's parts, joined in the order of the series
+abbrev pub joined : State → Name → List ℕ
+joined state name = flat_map (λ place. bytes_held (part_in state name place)) places
+
+-- a verdict has this id
+abbrev pub has_id : List ℕ → NoticeKind → Bool
+has_id id (Receipt _ of) = is_same_text of id
+has_id id (Failure _ of _) = is_same_text of id
+has_id id Absence = false
+
+-- the verdict on its revision, with its number
+abbrev pub verdict_told : State → told.Statement → Option (NoticeKey × Notice)
+verdict_told state stated = find (is_notice_of stated.tld stated.day (is_verdict_of stated.rev)) (entries state.notices)
+
+abbrev pub if_of_id : List ℕ → NoticeKey × Notice → Option (NoticeKey × Notice)
+if_of_id id entry = if has_id id entry.1.kind then Some entry else None
+
+abbrev pub has_verdict : State → told.Statement → Bool
+has_verdict state stated = has_notice state.notices stated.tld stated.day (is_verdict_of stated.rev)
+
+-- the revision has no part, or another number of them than is stated
+abbrev pub differ_in_number : State → told.Statement → Bool
+differ_in_number state stated = count_parts state (first_part stated) == 0 || not (count_parts state (first_part stated) == stated.parts)
+
+-- the parts are those stated, by their kind and their number
+abbrev pub are_as_stated : State → told.Statement → Bool
+are_as_stated state stated = not (has_part_of_other_kind state (first_part stated)) && not (differ_in_number state stated)
+
+-- the verdict that was made on the same statement: it has its id
+abbrev pub kept_verdict : State → told.Statement → Option (NoticeKey × Notice)
+kept_verdict state stated = if are_as_stated state stated then option_and_then (if_of_id stated.id) (verdict_told state stated) else None
+
+abbrev pub has_later_receipt : State → told.Statement → Bool
+has_later_receipt state stated = list_any (λ (entry : NoticeKey × Notice). is_same_text entry.0.tld stated.tld && (nat_lt stated.day entry.1.day && is_receipt entry.1.kind)) (entries state.notices)
+
+-- ---- deposits that passed
+
+-- the id of a deposit that passed
+abbrev pub passed_id : NoticeKind → Option (List ℕ)
+passed_id (Receipt _ id) = Some id
+passed_id (Failure _ _ _) = None
+passed_id Absence = None
+
+-- the days and ids of those of a registry, in the order of their notices
+abbrev pub passed_of : FinMap notice_cmp Notice → List ℕ → List (ℕ × List ℕ)
+passed_of notices tld = filter_map (λ (entry : NoticeKey × Notice). if is_same_text entry.0.tld tld then option_map (λ (id : List ℕ). (entry.1.day, id)) (passed_id entry.1.kind) else None) (entries notices)
+
+-- the id of the latest: of one that no other is later than
+abbrev pub latest_of : List (ℕ × List ℕ) → Option (List ℕ)
+latest_of passed = option_map (λ (one : ℕ × List ℕ). one.1) (find (λ (one : ℕ × List ℕ). list_all (λ (other : ℕ × List ℕ). nat_le other.0 one.0) passed) passed)
+
+-- what is known of a stated deposit
+abbrev pub known_of : FinMap notice_cmp Notice → told.Statement → Known
+known_of notices stated = record {
+  name = first_part stated;
+  id = stated.id;
+  latest = latest_of (passed_of notices stated.tld);
+  passed = map (λ (one : ℕ × List ℕ). one.1) (passed_of notices stated.tld);
+}
+
 -- ---- refusals
 
--- the numbers Q1 to Q11
+-- the numbers Q1 to Q13
 abbrev pub refusal_number : Refusal → ℕ
 refusal_number (NameRefused _) = 1
 refusal_number RegistryUnknown = 2
@@ -122,6 +215,8 @@ refusal_number AlreadyStated = 8
 refusal_number TypeDiffers = 9
 refusal_number PartOutOfOrder = 10
 refusal_number VolumeFull = 11
+refusal_number PartsDiffer = 12
+refusal_number LaterDayPassed = 13
 
 -- The tests of the part of a name. Those of the day, of notices and of the revision's parts are for a new name.
 abbrev pub is_unregistered : State → Name → Bool
@@ -130,8 +225,12 @@ is_unregistered state name = is_none (first_day_of state name.tld)
 abbrev pub is_new : State → Name → Bool
 is_new state name = is_none (recorded state name)
 
+-- the day is before the registry's first, or after today
+abbrev pub is_outside : State → Name → ℕ → Bool
+is_outside state name now = nat_lt name.day (unwrap_or (first_day_of state name.tld) 0) || nat_lt (day_of now) name.day
+
 abbrev pub is_out_of_range : State → Name → ℕ → Bool
-is_out_of_range state name now = is_new state name && (nat_lt name.day (unwrap_or (first_day_of state name.tld) 0) || nat_lt (day_of now) name.day)
+is_out_of_range state name now = is_new state name && is_outside state name now
 
 abbrev pub is_out_of_size : ℕ → Bool
 is_out_of_size len = len == 0 || nat_lt max_part_len len
@@ -144,10 +243,10 @@ abbrev pub is_stated : State → Name → Bool
 is_stated state name = is_new state name && has_notice state.notices name.tld name.day (is_verdict_of name.rev)
 
 abbrev pub differs_in_kind : State → Name → Bool
-differs_in_kind state name = is_new state name && list_any (λ place. has_other_kind name.kind (part_in state name place)) places
+differs_in_kind state name = is_new state name && has_part_of_other_kind state name
 
 abbrev pub is_out_of_order : State → Name → Bool
-is_out_of_order state name = is_new state name && not (count_by (λ place. is_some (part_in state name place)) places + 1 == name.part)
+is_out_of_order state name = is_new state name && not (count_parts state name + 1 == name.part)
 
 -- a refusal, and whether it stands
 abbrev pub Test : Type 0
@@ -170,10 +269,23 @@ abbrev pub named_tests : State → Result Name NameError → List ℕ → ℕ �
 named_tests state (Err fault) bytes now = (NameRefused fault, true) ∷ []
 named_tests state (Ok name) bytes now = receive_tests state name bytes now
 
+-- The tests of a statement. Those of the day and of later days are for one that was not made before, that of dropped parts for a revision without a verdict.
+abbrev pub statement_tests : State → told.Statement → ℕ → List Test
+statement_tests state stated now =
+    (RegistryUnknown, is_unregistered state (first_part stated))
+    ∷ (DateOutOfRange, is_none (kept_verdict state stated) && is_outside state (first_part stated) now)
+    ∷ (DroppedAfterKeeping, not (has_verdict state stated) && has_dropped_part state (first_part stated))
+    ∷ (AlreadyStated, is_none (kept_verdict state stated) && has_verdict state stated)
+    ∷ (TypeDiffers, has_part_of_other_kind state (first_part stated))
+    ∷ (PartsDiffer, differ_in_number state stated)
+    ∷ (LaterDayPassed, is_none (kept_verdict state stated) && has_later_receipt state stated)
+    ∷ []
+
 -- the tests of a command, in the order of their numbers
 abbrev pub tests_of : State → Command → ℕ → List Test
 tests_of state (Register tld first_day) now = []
 tests_of state (Receive text bytes) now = named_tests state (read_name text) bytes now
+tests_of state (Statement stated) now = statement_tests state stated now
 
 abbrev pub TestsAreInOrder : Type 0
 TestsAreInOrder = (state : State) (command : Command) (now : ℕ) → is_rising nat_cmp (λ (test : Test). refusal_number test.0) (tests_of state command now) ≡ true
@@ -196,10 +308,11 @@ abbrev pub kept_under : State → Result Name NameError → List ℕ → Option 
 kept_under state (Err fault) bytes = None
 kept_under state (Ok name) bytes = option_map (λ (part : Part). OfPart (key_of name) part) (option_and_then (held_with bytes) (recorded state name))
 
--- The record that answers a command which is a repeat. Of a registration the first day is not compared, of a part each byte is.
+-- The record that answers a command which is a repeat. Of a registration the first day is not compared, of a part each byte is, and of a statement all that it says.
 abbrev pub kept : State → Command → Option Record
 kept state (Register tld first_day) = option_map (λ (day : ℕ). OfRegistry tld day) (first_day_of state tld)
 kept state (Receive text bytes) = kept_under state (read_name text) bytes
+kept state (Statement stated) = option_map (λ (entry : NoticeKey × Notice). OfNotice entry.0 entry.1) (kept_verdict state stated)
 
 -- ---- effects
 
@@ -216,10 +329,44 @@ abbrev pub received : State → Result Name NameError → List ℕ → ℕ → O
 received state (Err fault) bytes now = Refuse (NameRefused fault)
 received state (Ok name) bytes now = Accept (record { entry = OfPart (key_of name) (received_part name bytes now); is_repeat = false }) (with_part state (key_of name) (received_part name bytes now))
 
+abbrev pub with_notice : State → NoticeKey → Notice → State
+with_notice state key notice = record state { notices = insert state.notices key notice }
+
+abbrev pub greatest_number : List (NoticeKey × Notice) → ℕ
+greatest_number [] = 0
+greatest_number (entry ∷ others) = max entry.0.number (greatest_number others)
+
+-- the next number among the notices of a registry
+abbrev pub next_number : FinMap notice_cmp Notice → List ℕ → ℕ
+next_number notices tld = suc (greatest_number (filter (λ (entry : NoticeKey × Notice). is_same_text entry.0.tld tld) (entries notices)))
+
+-- a deposit that passes has a receipt, and any other a failure of the least check that fails
+abbrev pub notice_kind : told.Statement → Verdict → NoticeKind
+notice_kind stated Pass = Receipt stated.rev stated.id
+notice_kind stated (Fail check) = Failure stated.rev stated.id check
+
+abbrev pub next_key : FinMap notice_cmp Notice → List ℕ → NoticeKey
+next_key notices tld = record { tld = tld; number = next_number notices tld }
+
+abbrev pub verdict_notice : told.Statement → Verdict → ℕ → Notice
+verdict_notice stated told now = record { day = stated.day; at = now; kind = notice_kind stated told }
+
+-- the verdict on the deposit whose parts are kept
+abbrev pub verdict_on : State → told.Statement → Verdict
+verdict_on state stated = verdict (joined state (first_part stated)) (known_of state.notices stated)
+
+-- a notice of the verdict is recorded
+abbrev pub noticed : State → NoticeKey → Notice → Outcome
+noticed state key notice = Accept (record { entry = OfNotice key notice; is_repeat = false }) (with_notice state key notice)
+
+abbrev pub stated_as : State → told.Statement → ℕ → Outcome
+stated_as state stated now = noticed state (next_key state.notices stated.tld) (verdict_notice stated (verdict_on state stated) now)
+
 -- what a command does that is no repeat
 abbrev pub effect : State → Command → ℕ → Outcome
 effect state (Register tld first_day) now = Accept (record { entry = OfRegistry tld first_day; is_repeat = false }) (with_registry state tld first_day)
 effect state (Receive text bytes) now = received state (read_name text) bytes now
+effect state (Statement stated) now = stated_as state stated now
 
 abbrev pub unless_kept : State → Option Record → Outcome → Outcome
 unless_kept state (Some entry) outcome = Accept (record { entry = entry; is_repeat = true }) state
@@ -268,6 +415,7 @@ is_early _ = false
 abbrev pub takes_room : Command → Bool
 takes_room (Register _ _) = false
 takes_room (Receive _ _) = true
+takes_room (Statement _) = false
 
 -- The one free choice: a new part may be refused for want of room.
 abbrev pub MayRefuse : Command → Outcome → Refusal → Type 0
@@ -283,10 +431,21 @@ read_by (Some refusal) (Ok name) = if is_other_bytes refusal then key_of name �
     is_other_bytes OtherBytes = true
     is_other_bytes _ = false
 
--- The parts whose bytes decide a command: where other bytes are sent under a name, the part that is kept under it.
+-- the places of the parts of a name's revision
+abbrev pub part_keys : State → Name → List PartKey
+part_keys state name = map (at_place (key_of name)) (filter (λ place. is_some (part_in state name place)) places)
+
+-- where the command is made
+abbrev pub if_made : Option Refusal → Option Record → List PartKey → List PartKey
+if_made None None keys = keys
+if_made None (Some entry) keys = []
+if_made (Some refusal) entry keys = []
+
+-- The parts whose bytes decide a command: where other bytes are sent under a name, the part that is kept under it; and where a deposit is verified, its parts.
 abbrev pub reads : State → Command → ℕ → List PartKey
 reads state (Register tld first_day) now = []
 reads state (Receive text bytes) now = read_by (refusal_of state (Receive text bytes) now) (read_name text)
+reads state (Statement stated) now = if_made (refusal_of state (Statement stated) now) (kept state (Statement stated)) (part_keys state (first_part stated))
 
 abbrev pub MayFail : Outcome → List PartKey → Fault → Type 0
 MayFail (Refuse least) read NoMemory = is_early least ≡ false

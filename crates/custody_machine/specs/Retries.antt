@@ -1,11 +1,12 @@
 -- Commands that come again, and what is kept of those that were accepted.
-use Rattle.std.specs.Prelude.{◌≡◌, ◌↔◌, ◌⊎◌, ℕ, List, [], ◌∷◌, ◌++◌, length, Option, Some, None, is_some, Bool, true, false, if◌then◌else◌, Ok}
+use Rattle.std.specs.Prelude.{◌≡◌, ◌↔◌, ◌⊎◌, ℕ, List, [], ◌∷◌, ◌++◌, length, Option, Some, None, is_some, Bool, true, false, ◌&&◌, ◌==◌, if◌then◌else◌, Ok}
 use Rattle.std.specs.List.{list_any}
 use Rattle.deposit_name.specs.Name.{Name}
+use Rattle.deposit_verify.specs.declared.verdict.Verdict.{Verdict}
 use Rattle.custody_records.specs.Records.{key_of}
 use Rattle.custody_machine.specs.Names.{is_same_text, read_name}
 use Rattle.custody_machine.specs.State.{State, Part, Content, Held, Dropped}
-use Rattle.custody_machine.specs.Machine.{Command, Register, Receive, DroppedAfterKeeping, Record, OfRegistry, OfPart, Reply, Outcome, Refuse, Accept, Entry, step, state_after, after, recorded, is_dropped, Answer, Accepted, Refused, Failed, NoMemory, VolumeFailed, StoreFailed, Closed, Damaged, HasRecord}
+use Rattle.custody_machine.specs.Machine.{Command, Register, Receive, Statement, notice_kind, DroppedAfterKeeping, Record, OfRegistry, OfPart, OfNotice, Reply, Outcome, Refuse, Accept, Entry, step, state_after, after, recorded, is_dropped, Answer, Accepted, Refused, Failed, NoMemory, VolumeFailed, StoreFailed, Closed, Damaged, HasRecord}
 use Rattle.custody_machine.specs.History.{Event, Answered, OpenedWith, Pair, Opened, IsHistory, found}
 
 -- ---- keys
@@ -14,16 +15,19 @@ use Rattle.custody_machine.specs.History.{Event, Answered, OpenedWith, Pair, Ope
 pub data Key : Type 0 where
   OfTld : (tld : List ℕ) → Key
   OfName : (name : List ℕ) → Key
+  OfRevision : (tld : List ℕ) → (day : ℕ) → (rev : ℕ) → Key
 
--- The key of a command: of a registration its registry, of a part its name. One that makes no record of its own has none.
+-- The key of a command: of a registration its registry, of a part its name, of a statement its revision. One that makes no record of its own has none.
 abbrev pub key : Command → Option Key
 key (Register tld _) = Some (OfTld tld)
 key (Receive name _) = Some (OfName name)
+key (Statement stated) = Some (OfRevision stated.tld stated.day stated.rev)
 
 -- whether two keys are there, and are the same
 abbrev pub are_same_keys : Option Key → Option Key → Bool
 are_same_keys (Some (OfTld a)) (Some (OfTld b)) = is_same_text a b
 are_same_keys (Some (OfName a)) (Some (OfName b)) = is_same_text a b
+are_same_keys (Some (OfRevision a d r)) (Some (OfRevision b e s)) = is_same_text a b && (d == e && r == s)
 are_same_keys _ _ = false
 
 abbrev pub has_same_key : Command → Command → Bool
@@ -78,10 +82,11 @@ NothingIsRemoved = (old : State) (command : Command) (now : ℕ) → KeepsRecord
 abbrev pub RepliesAreRecords : Type 0
 RepliesAreRecords = (old new : State) (command : Command) (now : ℕ) (reply : Reply) → step old command now ≡ Accept reply new → HasRecord new reply.entry
 
--- the record is that of the command: of a registration its registry, of a part its name and its bytes
+-- the record is that of the command: of a registration its registry, of a part its name and its bytes, of a statement its revision and its id
 abbrev pub IsOfCommand : Command → Record → Type 0
 IsOfCommand (Register tld first_day) (OfRegistry other day) = other ≡ tld
 IsOfCommand (Receive text bytes) (OfPart key part) = (name : Name) × (read_name text ≡ Ok name) × (key ≡ key_of name) × (part.kind ≡ name.kind) × (part.content ≡ Held bytes)
+IsOfCommand (Statement stated) (OfNotice key notice) = (key.tld ≡ stated.tld) × (notice.day ≡ stated.day) × (verdict : Verdict) × (notice.kind ≡ notice_kind stated verdict)
 IsOfCommand _ _ = ⊥
 
 -- ---- what a command that comes again is answered
@@ -129,7 +134,7 @@ RepeatsAreAnswered first = (earlier later : List Event) (before behind : List En
 
 -- ---- what the client sees
 
--- What was acknowledged is there at each later opening: a registry with the day that was told, a part of the name's kind with the moment that was told, and held with the bytes that were sent, or dropped with their number.
+-- What was acknowledged is there at each later opening: a registry with the day that was told, a part of the name's kind with the moment that was told, and held with the bytes that were sent, or dropped with their number, a notice as it was told.
 abbrev pub AcknowledgedIsKept : State → Type 0
 AcknowledgedIsKept first = (earlier between later : List Event) (command : Command) (now : ℕ) (reply : Reply) (pair : Pair) (state : State) →
     IsHistory first (earlier ++ Answered command now (Accepted reply) ∷ between ++ OpenedWith pair (Opened state) ∷ later) →

@@ -41,6 +41,10 @@ places = 1 ∷ 2 ∷ 3 ∷ 4 ∷ 5 ∷ 6 ∷ 7 ∷ 8 ∷ []
 abbrev pub at_place : PartKey → ℕ → PartKey
 at_place key place = record { tld = key.tld; day = key.day; rev = key.rev; part = place }
 
+-- whether it is a notice of a registry's day, and passes a test
+abbrev pub is_notice_of : List ℕ → ℕ → (NoticeKind → Bool) → NoticeKey × Notice → Bool
+is_notice_of tld day test entry = is_same_text entry.0.tld tld && (entry.1.day == day && test entry.1.kind)
+
 -- whether a notice of a registry's day passes a test
 abbrev pub has_notice : FinMap notice_cmp Notice → List ℕ → ℕ → (NoticeKind → Bool) → Bool
-has_notice notices tld day test = list_any (λ (entry : NoticeKey × Notice). is_same_text entry.0.tld tld && (entry.1.day == day && test entry.1.kind)) (entries notices)
+has_notice notices tld day test = list_any (is_notice_of tld day test) (entries notices)

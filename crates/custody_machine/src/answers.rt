@@ -28,6 +28,10 @@ pub enum Refusal {
     PartOutOfOrder,
     /// The volume has no room.
     VolumeFull,
+    /// The revision has no part, or another number of parts than is stated.
+    PartsDiffer,
+    /// A later day of the registry has a receipt.
+    LaterDayPassed,
 }
 
 /// Why a command failed.

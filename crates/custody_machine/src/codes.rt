@@ -95,6 +95,8 @@ impl Refusal {
             Refusal::TypeDiffers => ("Q9", "type differs", HttpStatus::Conflict),
             Refusal::PartOutOfOrder => ("Q10", "part out of order", HttpStatus::Conflict),
             Refusal::VolumeFull => ("Q11", "volume full", HttpStatus::InsufficientStorage),
+            Refusal::PartsDiffer => ("Q12", "parts differ", HttpStatus::Conflict),
+            Refusal::LaterDayPassed => ("Q13", "later day passed", HttpStatus::Conflict),
         };
         Code {
             number,

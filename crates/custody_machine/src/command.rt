@@ -3,8 +3,24 @@ ghost use Rattle.std.specs.Prelude.{◌≡◌};
 ghost use Rattle.custody_machine.specs.Commands.{command_of};
 ghost use Rattle.custody_machine.specs.Rulings.{bytes_of};
 
-use deposit_name::Tld;
+use deposit_name::{DepositId, Kind, Tld};
+use desk::Revision;
 use schedule::Day;
+
+/// What the operator of a registry states of a deposit: that all its parts are sent (Specification 2,
+/// Part A, section 7).
+#[derive(Clone, Copy, Debug, PartialEq, Eq)]
+pub struct Statement {
+    pub tld: Tld,
+    /// The day of its watermark.
+    pub day: Day,
+    pub kind: Kind,
+    pub rev: Revision,
+    /// How many parts it has.
+    pub parts: u8,
+    /// Its id (the attribute `id` of RFC 8909, section 5.1).
+    pub id: DepositId,
+}
 
 /// What a registry or an operator asks for.
 #[derive(Clone, Copy)]
@@ -13,6 +29,8 @@ pub enum Command<'a> {
     Register(Tld, Day),
     /// The file name of a part, and its bytes.
     Receive(&'a [u8], &'a [u8]),
+    /// A deposit whose parts are all there, to be verified.
+    Statement(Statement),
 }
 
 impl<'a> Command<'a> {
@@ -21,7 +39,7 @@ impl<'a> Command<'a> {
         ensures { result.now ≡ bytes_of (command_of self.now) }
     {
         match self {
-            Command::Register(..) => &[],
+            Command::Register(..) | Command::Statement(_) => &[],
             Command::Receive(_, bytes) => bytes,
         }
     }

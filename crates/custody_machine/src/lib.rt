@@ -10,6 +10,6 @@ mod laws;
 
 pub use answers::{Fault, Refusal};
 pub use codes::{Code, HttpStatus, Status};
-pub use command::Command;
+pub use command::{Command, Statement};
 pub use damage::Damage;
 pub use laws::{law_damage, law_histories, law_read_name, law_refusals, law_retries};

@@ -6,6 +6,7 @@ use Rattle.deposit_name.specs.declared.kinds.Kind.{Kind}
 use Rattle.deposit_name.specs.Identifiers.{is_tld}
 use Rattle.deposit_name.specs.Name.{Name}
 use Rattle.desk.specs.declared.notices.Notice as told
+use Rattle.vault_volume.specs.declared.extent.TheConstants.{FEWEST_BLOCKS, MOST_BLOCKS}
 use Rattle.custody_records.specs.declared.meta.Meta.{Meta}
 use Rattle.custody_records.specs.declared.notices.NoticeColumns.{NoticeColumns}
 use Rattle.custody_records.specs.declared.parts.Part.{Part}
@@ -100,4 +101,4 @@ meta_of row = record { one = row.one; schema_no = row.schema_no; number = (if by
 
 -- the number and the blocks of a row in form
 abbrev pub volume_of : Meta → Option (ℕ × ℕ)
-volume_of m = if is_number 1 m.one && is_within 2 262_144 m.blocks then option_map (λ n. (n, natural m.blocks)) m.number else None
+volume_of m = if is_number 1 m.one && is_within FEWEST_BLOCKS MOST_BLOCKS m.blocks then option_map (λ n. (n, natural m.blocks)) m.number else None

@@ -6,6 +6,7 @@ ghost use Rattle.custody_records.specs.Written.{digits_of};
 ghost use Rattle.custody_records.specs.Typed.{meta_of, volume_of};
 
 use crate::fields::number_within;
+use vault_volume::{FEWEST_BLOCKS, MOST_BLOCKS};
 
 /// The row of the volume as it stands.
 #[derive(Clone, Copy, Debug, PartialEq, Eq)]
@@ -44,7 +45,11 @@ impl Meta {
         if self.one != 1 {
             return None;
         }
-        let blocks = number_within(self.blocks, 2, 262_144)?;
+        let blocks = number_within(
+            self.blocks,
+            u64::from(FEWEST_BLOCKS),
+            u64::from(MOST_BLOCKS),
+        )?;
         let number = self.number?;
         Some((number, blocks as u32))
     }

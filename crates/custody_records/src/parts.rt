@@ -15,7 +15,7 @@ use deposit_name::{DepositName, Kind, Tld};
 use schedule::{Day, Sec, keep_until};
 use std::alloc::Global;
 use std::cmp::Ordering;
-use vault_volume::Extent;
+use vault_volume::{Extent, MAX_PART_LEN};
 
 /// A part of a deposit.
 #[derive(Debug, Drop)]
@@ -54,7 +54,9 @@ impl PartColumns<'_> {
     {
         let name = self.read_name().ok_or(RowError::OutOfForm)?;
         let received = self.read_received().ok_or(RowError::OutOfForm)?;
-        let len = number_within(self.len, 1, 1_048_576).ok_or(RowError::OutOfForm)? as u32;
+        let len = number_within(self.len, 1, MAX_PART_LEN as u64).ok_or(
+            RowError::OutOfForm,
+        )? as u32;
         let digest = digest_of(self.sha).ok_or(RowError::OutOfForm)?;
         let extents = read_extents(alloc, self.extents)?;
         Ok(Part {

@@ -28,13 +28,13 @@ use Rattle.custody_machine.specs.Rulings.{AddsRegistry, AddsPart, Refuses, Repea
 use Rattle.custody_machine.proofs.MapValues.{get-map_values}
 use Rattle.custody_machine.proofs.SameValues.{text_decides, kind_decides}
 use Rattle.custody_machine.proofs.Composed.{register_repeats, register_adds}
-use Rattle.custody_machine.proofs.Keeping.{none_stand, part_refusals, find_none, find_dropped, step_none, step_refuses, step_refuses_text, rules_part, answered, place_is_empty}
+use Rattle.custody_machine.proofs.Accepting.{none_stand, part_refusals, find_none, find_dropped, step_none, step_refuses, step_refuses_text, rules_part, answered, place_is_empty}
 use Rattle.custody_rules.specs.Judged.{if_of_kind, recorded_under, is_of_other_kind, IsRecordedUnder}
 
 -- ---- the records in a state
 
 module _ (records : Records) (image : List ℕ) (name : Name) where
-  part_in_state : (place : ℕ) → part_in (state_in records image) name place ≡ option_map (part_of image) (get records.parts (at_place (key_of name) place))
+  pub part_in_state : (place : ℕ) → part_in (state_in records image) name place ≡ option_map (part_of image) (get records.parts (at_place (key_of name) place))
   part_in_state place = get-map_values part_cmp (part_of image) records.parts (at_place (key_of name) place)
 
   recorded_in_state : recorded (state_in records image) name ≡ option_map (part_of image) (recorded_under records name)
@@ -58,7 +58,7 @@ module _ (records : Records) (image : List ℕ) (name : Name) where
       by None = refl
       by (Some part) = refl
 
-  kinds_in_state : list_any (λ place. has_other_kind name.kind (part_in (state_in records image) name place)) places ≡ list_any (λ place. is_of_other_kind name.kind (get records.parts (at_place (key_of name) place))) places
+  pub kinds_in_state : list_any (λ place. has_other_kind name.kind (part_in (state_in records image) name place)) places ≡ list_any (λ place. is_of_other_kind name.kind (get records.parts (at_place (key_of name) place))) places
   kinds_in_state = λ i. list_any (λ place. other_kind_in_state place i) places
 
   taken_in_state : (place : ℕ) → is_some (part_in (state_in records image) name place) ≡ is_some (get records.parts (at_place (key_of name) place))
@@ -68,7 +68,7 @@ module _ (records : Records) (image : List ℕ) (name : Name) where
       by None = refl
       by (Some part) = refl
 
-  count_in_state : count_by (λ place. is_some (part_in (state_in records image) name place)) places ≡ count_by (λ place. is_some (get records.parts (at_place (key_of name) place))) places
+  pub count_in_state : count_by (λ place. is_some (part_in (state_in records image) name place)) places ≡ count_by (λ place. is_some (get records.parts (at_place (key_of name) place))) places
   count_in_state = λ i. count_by (λ place. taken_in_state place i) places
 
 -- ---- a new name

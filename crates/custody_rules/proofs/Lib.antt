@@ -2,5 +2,10 @@ pub mod Apart
 pub mod Judged
 pub mod LinkLemmas
 pub mod Notices
+pub mod Numbers
+pub mod Passed
+pub mod Statements
 pub mod PartBlocks
+pub mod Rivals
 pub mod Tables
+pub mod Telling

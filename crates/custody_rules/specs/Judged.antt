@@ -1,6 +1,7 @@
 -- What the tests of a part read in the records.
-use Rattle.std.specs.Prelude.{◌≡◌, ℕ, List, Option, Some, None, Bool, true, false, ◌&&◌, ◌==◌, not, is_some, if◌then◌else◌, Ok}
-use Rattle.std.specs.FinMap.{get}
+use Rattle.std.specs.Prelude.{◌≡◌, ℕ, List, Option, Some, None, Bool, true, false, ◌&&◌, ◌||◌, ◌==◌, not, nat_lt, count_by, is_none, is_some, if◌then◌else◌, Ok}
+use Rattle.std.specs.List.{find, list_any}
+use Rattle.std.specs.FinMap.{entries, get}
 use Rattle.std.specs.Option.{option_and_then}
 use Rattle.deposit_name.specs.declared.kinds.Kind.{Kind}
 use Rattle.deposit_name.specs.Name.{Name}
@@ -8,7 +9,11 @@ use Rattle.desk.specs.declared.notices.Notice as told
 use Rattle.desk.specs.declared.notices.NoticeKind.{NoticeKind}
 use Rattle.custody_records.specs.declared.parts.Part as typed
 use Rattle.custody_records.specs.Typed.{part_place, part_value}
-use Rattle.custody_records.specs.Records.{PartRecord, Records, key_of}
+use Rattle.custody_records.specs.Keys.{NoticeKey}
+use Rattle.custody_records.specs.Records.{Notice, PartRecord, Records, key_of}
+use Rattle.custody_machine.specs.declared.command.Statement.{Statement}
+use Rattle.custody_machine.specs.Machine.{first_part, if_of_id, is_receipt, is_verdict_of}
+use Rattle.custody_machine.specs.State.{at_place, is_notice_of, places}
 use Rattle.custody_machine.specs.Names.{is_same_text, read_name}
 use Rattle.custody_machine.specs.SameValues.{is_same_kind}
 use Rattle.custody_machine.specs.Rulings.{Ruling, DecidesPart}
@@ -39,3 +44,27 @@ pub record IsRecordedUnder (records : Records) (text : List ℕ) (name : Name) (
 -- the ruling of any name that the part is recorded under
 abbrev pub RulesRecorded : Ruling → typed.Part → ℕ → Type 0
 RulesRecorded ruling part len = (records : Records) (text : List ℕ) (name : Name) (now : ℕ) → IsRecordedUnder records text name part → DecidesPart ruling records text len now
+
+-- ---- statements
+
+abbrev pub is_without_bytes : Option PartRecord → Bool
+is_without_bytes None = false
+is_without_bytes (Some part) = is_none part.extents
+
+-- the revision has no part, or another number of them than is stated
+abbrev pub differ_in : Records → Statement → Bool
+differ_in records stated =
+    count_by (λ place. is_some (get records.parts (at_place (key_of (first_part stated)) place))) places == 0
+    || not (count_by (λ place. is_some (get records.parts (at_place (key_of (first_part stated)) place))) places == stated.parts)
+
+abbrev pub as_stated_in : Records → Statement → Bool
+as_stated_in records stated =
+    not (list_any (λ place. is_of_other_kind stated.kind (get records.parts (at_place (key_of (first_part stated)) place))) places) && not (differ_in records stated)
+
+-- the verdict that was made on the same statement
+abbrev pub kept_in : Records → Statement → Option (NoticeKey × Notice)
+kept_in records stated =
+    if as_stated_in records stated then option_and_then (if_of_id stated.id) (find (is_notice_of stated.tld stated.day (is_verdict_of stated.rev)) (entries records.notices)) else None
+
+abbrev pub is_later_receipt : Statement → NoticeKey × Notice → Bool
+is_later_receipt stated entry = is_same_text entry.0.tld stated.tld && (nat_lt stated.day entry.1.day && is_receipt entry.1.kind)

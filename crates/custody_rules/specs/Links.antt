@@ -1,16 +1,15 @@
 -- What one record has to find among the others, as tests: records belong together where each record finds it.
-use Rattle.std.specs.Prelude.{ℕ, ◌-◌, List, Option, Some, None, is_some, Bool, true, false, not, ◌&&◌, ◌||◌, ◌==◌, nat_le}
+use Rattle.std.specs.Prelude.{ℕ, ◌-◌, List, Option, Some, None, is_some, Bool, true, ◌&&◌, ◌||◌, ◌==◌, nat_le}
 use Rattle.std.specs.List.{list_all}
 use Rattle.std.specs.FinMap.{FinMap, get, entries}
 use Rattle.std.specs.declared.cmp.Ordering.{Ordering}
 use Rattle.deposit_name.specs.declared.kinds.Kind.{Kind}
-use Rattle.desk.specs.declared.notices.NoticeKind.{NoticeKind}
 use Rattle.custody_records.specs.Keys.{PartKey, NoticeKey}
 use Rattle.custody_records.specs.Records.{PartRecord, Notice, Release, Records}
-use Rattle.custody_machine.specs.Names.{is_same_text, read_name}
-use Rattle.custody_machine.specs.State.{at_place, has_notice}
-use Rattle.custody_machine.specs.Machine.{is_receipt, is_failure_of}
-use Rattle.custody_machine.specs.Stored.{is_part_of, names_part, revision_of, is_absence}
+use Rattle.custody_machine.specs.Names.{read_name}
+use Rattle.custody_machine.specs.State.{at_place}
+use Rattle.custody_machine.specs.Stored.{is_part_of, names_part, revision_of}
+use Rattle.custody_rules.specs.declared.told.FailedRevision.{FailedRevision}
 
 -- each entry of a map passes a test
 abbrev pub each_passes : {K X : Type 0} {R : K → K → Ordering} → (K → X → Bool) → FinMap R X → Bool
@@ -26,12 +25,12 @@ is_known records tld = is_some (get records.registries tld)
 abbrev pub is_in_series : Records → PartKey → Kind → Bool
 is_in_series records key kind = nat_le key.part 1 || is_part_of kind (get records.parts (at_place key (key.part - 1)))
 
--- a revision is the first, or the one before has failed
-abbrev pub is_due : Records → PartKey → Bool
-is_due records key = key.rev == 0 || has_notice records.notices key.tld key.day (is_failure_of (key.rev - 1))
+-- a revision is the first, or the one before is among those that failed
+abbrev pub is_due : (FailedRevision → Bool) → PartKey → Bool
+is_due has_failed key = key.rev == 0 || has_failed (record { tld = key.tld; day = key.day; rev = key.rev - 1 })
 
-abbrev pub is_part_linked : Records → PartKey → PartRecord → Bool
-is_part_linked records key part = is_known records key.tld && (is_in_series records key part.kind && is_due records key)
+abbrev pub is_part_linked : Records → (FailedRevision → Bool) → PartKey → PartRecord → Bool
+is_part_linked records has_failed key part = is_known records key.tld && (is_in_series records key part.kind && is_due has_failed key)
 
 -- ---- notices
 
@@ -44,25 +43,8 @@ abbrev pub has_parts : Records → List ℕ → ℕ → Option ℕ → Bool
 has_parts records tld day None = true
 has_parts records tld day (Some rev) = is_some (get records.parts (record { tld = tld; day = day; rev = rev; part = 1 }))
 
-abbrev pub is_same_revision : Option ℕ → Option ℕ → Bool
-is_same_revision None b = false
-is_same_revision (Some a) None = false
-is_same_revision (Some a) (Some b) = a == b
-
--- a day has one of the two at most: two verdicts of one revision, two receipts, or two absences
-abbrev pub are_exclusive : NoticeKind → NoticeKind → Bool
-are_exclusive a b = is_same_revision (revision_of a) (revision_of b) || ((is_receipt a && is_receipt b) || (is_absence a && is_absence b))
-
--- two notices of one registry and day, of which it has one at most
-abbrev pub are_rivals : NoticeKey → Notice → NoticeKey → Notice → Bool
-are_rivals j m k n = is_same_text j.tld k.tld && (m.day == n.day && (not (j.number == k.number) && are_exclusive m.kind n.kind))
-
--- a notice has no rival
-abbrev pub is_only : Records → NoticeKey → Notice → Bool
-is_only records key notice = each_passes (λ k n. not (are_rivals key notice k n)) records.notices
-
 abbrev pub is_notice_linked : Records → NoticeKey → Notice → Bool
-is_notice_linked records key notice = is_known records key.tld && (is_numbered records key && (has_parts records key.tld notice.day (revision_of notice.kind) && is_only records key notice))
+is_notice_linked records key notice = is_known records key.tld && (is_numbered records key && has_parts records key.tld notice.day (revision_of notice.kind))
 
 -- ---- releases
 

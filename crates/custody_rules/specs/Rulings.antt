@@ -1,6 +1,6 @@
 -- The rulings of the code, as those of the machine.
-use Rattle.custody_records.specs.Typed.{part_value}
-use Rattle.custody_machine.specs.Machine.{Record, OfRegistry}
+use Rattle.custody_records.specs.Typed.{notice_key, notice_value, part_value}
+use Rattle.custody_machine.specs.Machine.{Record, OfRegistry, OfNotice}
 use Rattle.custody_machine.specs.Rulings as machine
 use Rattle.custody_rules.specs.declared.ruling.Change as change
 use Rattle.custody_rules.specs.declared.ruling.Change.TheVariants as makes
@@ -12,9 +12,11 @@ use Rattle.custody_rules.specs.declared.ruling.Ruling.TheVariants.{Refuse, Repea
 abbrev pub change_of : change.Change → machine.Change
 change_of (makes.Registry registry) = machine.AddsRegistry registry.tld registry.first_day
 change_of (makes.Part name) = machine.AddsPart name
+change_of (makes.Verdict statement) = machine.AddsVerdict statement
 
 abbrev pub record_of : kept.Kept → Record
 record_of (answers.Registry registry) = OfRegistry registry.tld registry.first_day
+record_of (answers.Notice notice) = OfNotice (notice_key notice) (notice_value notice)
 
 abbrev pub ruling_of : code.Ruling → machine.Ruling
 ruling_of (Refuse refusal) = machine.Refuses refusal

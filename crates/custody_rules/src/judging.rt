@@ -18,18 +18,17 @@ ghost use Rattle.custody_rules.specs.Rulings.{ruling_of};
 ghost use Rattle.custody_rules.specs.Judged.{tells, recorded_under, is_of_other_kind, RulesRecorded};
 
 use crate::linked::has_failed;
+use crate::stating::judge_statement;
 use crate::{Change, Kept, Ruling};
 use custody_machine::{Command, Refusal};
 use custody_records::{Part, PartKey, Records, Registry};
 use deposit_name::{DepositName, Kind, Tld};
 use desk::{Notice, NoticeKind};
 use schedule::{Day, Sec};
+use vault_volume::MAX_PART_LEN;
 
 /// The places in the series of a revision's parts.
 const PLACES: [u8; 8] = [1, 2, 3, 4, 5, 6, 7, 8];
-
-/// The most bytes of a part.
-const MAX_PART_LEN: usize = 1_048_576;
 
 /// Judges a command by the records: the least refusal that they decide, the record that answers a
 /// repeat, the part whose bytes decide, or the one change that is to be made.
@@ -39,6 +38,7 @@ pub fn judge<'a>(records: &'a Records, command: &Command<'_>, now: Sec) -> Rulin
     match command {
         Command::Register(tld, first_day) => judge_registry(records, *tld, *first_day),
         Command::Receive(name, bytes) => judge_part(records, name, bytes.len(), now),
+        Command::Statement(statement) => judge_statement(records, statement, now),
     }
 }
 
@@ -134,7 +134,7 @@ fn is_outside(name: &DepositName, first_day: Day, now: Sec) -> bool
 fn is_out_of_size(len: usize) -> bool
     ensures { result ≡ (len == 0 || nat_lt max_part_len len) }
 {
-    len == 0 || len > MAX_PART_LEN
+    len == 0 || len > MAX_PART_LEN as usize
 }
 
 // The day has a receipt, or the revision before has no failure.

@@ -1,5 +1,6 @@
-//! Whether the records belong together: each record is held against the others.
-ghost use Rattle.std.specs.Prelude.{◌≡◌, ◌&&◌, ◌==◌, true, false, not, Ok};
+//! Whether the records belong together: each record is looked up among the others.
+ghost use Rattle.std.specs.Prelude.{◌≡◌, ◌&&◌, ◌==◌, true, false, Ok, IfOk};
+ghost use Rattle.std.specs.BTreeSet.{contains};
 ghost use Rattle.std.specs.FinMap.{get};
 ghost use Rattle.std.specs.List.{list_all, list_any};
 ghost use Rattle.custody_machine.specs.Machine.{is_failure_of};
@@ -8,27 +9,38 @@ ghost use Rattle.custody_machine.specs.State.{has_notice};
 ghost use Rattle.custody_machine.specs.Stored.{AreLinked, is_part_of, names_part, revision_of};
 ghost use Rattle.custody_records.specs.Held.{records_of};
 ghost use Rattle.custody_records.specs.Typed.{notice_key, notice_value, part_place, part_value, release_value};
-ghost use Rattle.custody_rules.specs.Links.{are_exclusive, are_rivals, has_parts, is_due, is_in_series, is_known, is_notice_linked, is_numbered, is_part_linked, is_release_linked, is_same_revision};
+ghost use Rattle.custody_rules.specs.Orders.{failed_revision_cmp};
+ghost use Rattle.custody_rules.specs.Links.{has_parts, is_due, is_in_series, is_known, is_notice_linked, is_numbered, is_part_linked, is_release_linked};
 
+use crate::told::{FailedRevision, failed_revisions, revision_of};
 use custody_records::{NoticeKey, Part, PartKey, Records, Release};
 use deposit_name::{DepositName, Kind, Tld};
 use desk::{Notice, NoticeKind};
 use schedule::Day;
+use std::alloc::{AllocError, Global};
+use std::collections::BTreeSet;
 
 /// Whether the records belong together.
-pub(crate) fn are_linked(records: &Records) -> bool
-    ensures linked { result ≡ true → AreLinked (records_of records.now) }
-    ensures broken { result ≡ false → ¬ AreLinked (records_of records.now) }
+pub(crate) fn are_linked(alloc: Global, records: &Records) -> Result<bool, AllocError>
+    ensures linked { IfOk result (λ linked. linked ≡ true → AreLinked (records_of records.now)) }
+    ensures broken { IfOk result (λ linked. linked ≡ false → ¬ AreLinked (records_of records.now)) }
 {
-    parts_are_linked(records, records.parts())
-        && notices_are_linked(records, records.notices())
-        && releases_are_linked(records, records.releases())
+    let Some(failed) = failed_revisions(alloc, records.notices())? else {
+        return Ok(false);
+    };
+    Ok(
+        parts_are_linked(records, &failed, records.parts())
+            && notices_are_linked(records, records.notices())
+            && releases_are_linked(records, records.releases()),
+    )
 }
 
-fn parts_are_linked(records: &Records, parts: &[Part]) -> bool
-    ensures { result ≡ list_all (λ p. is_part_linked (records_of records.now) (part_place p) (part_value p)) parts.now }
+fn parts_are_linked(records: &Records, failed: &BTreeSet<FailedRevision>, parts: &[Part]) -> bool
+    ensures { result ≡ list_all (λ p. is_part_linked (records_of records.now) (contains failed_revision_cmp failed.now) (part_place p) (part_value p)) parts.now }
 {
-    parts.iter().all(|part| part_is_linked(records, part))
+    parts
+        .iter()
+        .all(|part| part_is_linked(records, failed, part))
 }
 
 fn notices_are_linked(records: &Records, notices: &[Notice]) -> bool
@@ -65,13 +77,13 @@ fn has_part_of(records: &Records, place: &PartKey, kind: Kind) -> bool
 }
 
 /// Whether a part has its registry, the part before it, and the failure that its revision follows.
-fn part_is_linked(records: &Records, part: &Part) -> bool
-    ensures { result ≡ is_part_linked (records_of records.now) (part_place part.now) (part_value part.now) }
+fn part_is_linked(records: &Records, failed: &BTreeSet<FailedRevision>, part: &Part) -> bool
+    ensures { result ≡ is_part_linked (records_of records.now) (contains failed_revision_cmp failed.now) (part_place part.now) (part_value part.now) }
 {
     let place = PartKey::of(&part.name);
     is_known(records, &place.tld)
         && is_in_series(records, &place, part.name.kind)
-        && is_due(records, &place)
+        && is_due(failed, &place)
 }
 
 /// Whether the place is the first of its series, or a part of that kind stands before it.
@@ -89,13 +101,18 @@ fn is_in_series(records: &Records, place: &PartKey, kind: Kind) -> bool
 }
 
 /// Whether the revision is the first, or the one before has failed.
-fn is_due(records: &Records, place: &PartKey) -> bool
-    ensures { result ≡ is_due (records_of records.now) place.now }
+fn is_due(failed: &BTreeSet<FailedRevision>, place: &PartKey) -> bool
+    ensures { result ≡ is_due (contains failed_revision_cmp failed.now) place.now }
 {
     if place.rev == 0 {
         return true;
     }
-    has_failed(records, &place.tld, place.day, place.rev - 1)
+    let before = FailedRevision {
+        tld: place.tld,
+        day: place.day,
+        rev: place.rev - 1,
+    };
+    failed.contains(&before)
 }
 
 /// Whether a notice tells that the revision has failed.
@@ -129,14 +146,13 @@ fn is_failure_of(kind: &NoticeKind, rev: u8) -> bool
     }
 }
 
-/// Whether a notice has its registry, the notice before it and the part that it judges, and no rival.
+/// Whether a notice has its registry, the notice before it and the part that it judges.
 fn notice_is_linked(records: &Records, notice: &Notice) -> bool
     ensures { result ≡ is_notice_linked (records_of records.now) (notice_key notice.now) (notice_value notice.now) }
 {
     is_known(records, &notice.tld)
         && is_numbered(records, &notice.tld, notice.number)
         && has_parts(records, notice)
-        && is_only(notice, records.notices_of(&notice.tld))
 }
 
 /// Whether the number is the first of its registry's, or a notice has the number before.
@@ -168,54 +184,6 @@ fn has_parts(records: &Records, notice: &Notice) -> bool
             records.part(&first).is_some()
         }
         None => true,
-    }
-}
-
-/// The revision of a verdict.
-fn revision_of(kind: &NoticeKind) -> Option<u8>
-    ensures { result ≡ revision_of kind.now }
-{
-    match kind {
-        NoticeKind::Receipt { rev, .. } | NoticeKind::Failure { rev, .. } => Some(rev.number()),
-        NoticeKind::Absence => None,
-    }
-}
-
-/// Whether none of the notices is a rival of this one. Each is looked at: that takes no memory, and
-/// for all notices of a registry the square of their number in time.
-fn is_only(notice: &Notice, notices: &[Notice]) -> bool
-    ensures { result ≡ list_all (λ n. not (are_rivals (notice_key notice.now) (notice_value notice.now) (notice_key n) (notice_value n))) notices.now }
-{
-    notices.iter().all(|other| !are_rivals(notice, other))
-}
-
-/// Whether the two are notices of one registry and day, of which it has one at most.
-fn are_rivals(notice: &Notice, other: &Notice) -> bool
-    ensures { result ≡ are_rivals (notice_key notice.now) (notice_value notice.now) (notice_key other.now) (notice_value other.now) }
-{
-    notice.tld.as_bytes() == other.tld.as_bytes()
-        && notice.day == other.day
-        && notice.number != other.number
-        && are_exclusive(&notice.kind, &other.kind)
-}
-
-/// Whether a day has one of the two at most: two verdicts of one revision, two receipts, or two absences.
-fn are_exclusive(kind: &NoticeKind, other: &NoticeKind) -> bool
-    ensures { result ≡ are_exclusive kind.now other.now }
-{
-    match (kind, other) {
-        (NoticeKind::Receipt { .. }, NoticeKind::Receipt { .. }) => true,
-        (NoticeKind::Absence, NoticeKind::Absence) => true,
-        _ => is_same_revision(revision_of(kind), revision_of(other)),
-    }
-}
-
-fn is_same_revision(rev: Option<u8>, other: Option<u8>) -> bool
-    ensures { result ≡ is_same_revision rev other }
-{
-    match (rev, other) {
-        (Some(rev), Some(other)) => rev == other,
-        _ => false,
     }
 }
 

@@ -1,7 +1,8 @@
 //! What records decide of a command.
-use custody_machine::Refusal;
+use custody_machine::{Refusal, Statement};
 use custody_records::{Part, Registry};
 use deposit_name::DepositName;
+use desk::Notice;
 use vault_volume::Extent;
 
 /// What the records decide of a command, whatever the volume holds.
@@ -21,6 +22,7 @@ pub enum Ruling<'a> {
 #[derive(Clone, Copy, Debug, PartialEq)]
 pub enum Kept {
     Registry(Registry),
+    Notice(Notice),
 }
 
 /// The one change of the records that a command makes.
@@ -30,4 +32,6 @@ pub enum Change {
     Registry(Registry),
     /// A part is kept under this name, with the bytes of the command.
     Part(DepositName),
+    /// The deposit that is stated is verified, and a notice of the verdict is kept.
+    Verdict(Statement),
 }

@@ -22,7 +22,7 @@ pub fn damage_in(alloc: Global, records: &Records) -> Result<Option<Damage>, All
     if !are_once(alloc, records)? {
         return Ok(Some(Damage::Overlap));
     }
-    if !are_linked(records) {
+    if !are_linked(alloc, records)? {
         return Ok(Some(Damage::Link));
     }
     Ok(None)

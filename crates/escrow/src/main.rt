@@ -65,6 +65,14 @@ fn work(
     Ok(close(ended))
 }
 
+/// The moment that the words name, or else that of the clock.
+fn moment(rt: &HostRuntime, named: Option<Sec>) -> Result<Sec, Stop> {
+    match named {
+        Some(now) => Ok(now),
+        None => clock::now(rt),
+    }
+}
+
 fn carry_out(rt: &HostRuntime, order: &Order<'_>) -> Result<u8, Stop> {
     match order {
         Order::Init {
@@ -77,12 +85,9 @@ fn carry_out(rt: &HostRuntime, order: &Order<'_>) -> Result<u8, Stop> {
         }
         Order::Put { folder, file, now } => {
             let bytes = read_file(rt, file)?;
-            let now = match now {
-                Some(now) => *now,
-                None => clock::now(rt)?,
-            };
-            work(rt, folder, order, &bytes, now)
+            work(rt, folder, order, &bytes, moment(rt, *now)?)
         }
+        Order::Verify { folder, now, .. } => work(rt, folder, order, &[], moment(rt, *now)?),
     }
 }
 

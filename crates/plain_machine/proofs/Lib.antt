@@ -1,2 +1,3 @@
+pub mod NoticeRows
 pub mod PlainMaps
 pub mod PlainSteps

@@ -1,21 +1,21 @@
 -- What the plain program's loops find is what the maps have.
-use Rattle.std.proofs.Common.{◌≡◌, ℕ, List, [], ◌∷◌, length, Option, Some, None, Bool, true, false, not, ◌&&◌, ◌||◌, ◌==◌, cond, map, refl, sym, ◌∙◌, ap, find, Decides, arith}
-use Rattle.std.specs.List.{list_any}
-use Rattle.desk.specs.declared.notices.NoticeKind.{NoticeKind}
-use Rattle.std.specs.Prelude.{option_map}
+use Rattle.std.proofs.Common.{◌≡◌, ℕ, List, [], ◌∷◌, Option, Some, None, Bool, true, false, ◌&&◌, ◌==◌, cond, map, refl, sym, ◌∙◌, ap, find, Decides}
+use Rattle.std.specs.Prelude.{option_map, count_by, is_some}
 use Rattle.std.specs.Ordering.{eq_by_cmp, is_eq}
 use Rattle.std.specs.Cmp.{IsTotalOrder, tied_itself, Equal-is}
 use Rattle.std.specs.FinMap as fin
 use Rattle.std.specs.FinMap.{IsAntisymmetric, get, from_entries, get-from_entries}
 use Rattle.std.specs.declared.cmp.Ordering.{Ordering}
-use Rattle.std.proofs.Math.Bool.{and-false}
-use Rattle.std.proofs.lemmas.Bool.Decides.{same_from_decides}
-use Rattle.custody_records.specs.Keys.{PartKey, text_cmp, part_cmp, NoticeKey, notice_cmp}
-use Rattle.custody_records.specs.Records.{Notice, key_of}
+use Rattle.std.proofs.lemmas.Bool.{and_parts}
+use Rattle.std.proofs.lemmas.Bool.Decides.{same_from_decides, Decides-eqb}
+use Rattle.deposit_name.specs.Name.{Name}
+use Rattle.custody_records.proofs.FieldLemmas.{find_passes}
+use Rattle.custody_records.specs.Keys.{PartKey, text_cmp, part_cmp}
+use Rattle.custody_records.specs.Records.{key_of}
 use Rattle.plain_machine.specs.declared.plain.PlainRegistry.{PlainRegistry}
 use Rattle.plain_machine.specs.declared.plain.PlainPart.{PlainPart}
-use Rattle.plain_machine.specs.Plain.{registry_entry, part_entry, part_shown, is_of, is_at}
-use Rattle.custody_machine.specs.State.{has_notice}
+use Rattle.plain_machine.specs.Plain.{registry_entry, part_entry, part_shown, is_of, is_at, is_in}
+use Rattle.custody_machine.specs.State.{at_place, places}
 use Rattle.custody_machine.specs.Names.{is_same_text}
 use Rattle.custody_records.specs.Orders.{text_total, part_total, part_exact}
 use Rattle.custody_machine.proofs.SameValues.{text_decides, key_decides}
@@ -49,26 +49,35 @@ pub map_twice : {A B C : Type 0} (f : A → B) (g : B → C) (o : Option A) → 
 map_twice f g None = refl
 map_twice f g (Some x) = refl
 
--- ---- refusals
+-- ---- the parts of a revision
 
-no_entries : {K X : Type 0} (R : K → K → Ordering) → fin.entries (fin.empty {X = X} {R = R}) ≡ []
-no_entries {K} {X} R = none (fin.entries (fin.empty {X = X} {R = R})) (sym (fin.len-entries (fin.empty {X = X} {R = R})) ∙ fin.len-empty R X)
+find_less : {X : Type 0} (p q : X → Bool) → ((x : X) → q x ≡ false → p x ≡ false) → (xs : List X) → find q xs ≡ None → find p xs ≡ None
+find_less p q less [] none = refl
+find_less {X} p q less (x ∷ xs) none = by (q x) (p x) (less x) none (find_less p q less xs)
   where
-    none : (es : List (K × X)) → length es ≡ 0 → es ≡ []
-    none [] e = refl
-    none (x ∷ es) e = absurd (omega (arith, e))
+    by : (a b : Bool) → (a ≡ false → b ≡ false) → cond a (Some x) (find q xs) ≡ None → (find q xs ≡ None → find p xs ≡ None) → cond b (Some x) (find p xs) ≡ None
+    by true b implied found rest = cc
+    by false false implied found rest = rest found
+    by false true implied found rest = let clash : true ≡ false = implied refl in cc
 
--- there are no notices
-pub no_notice : (tld : List ℕ) (day : ℕ) (test : NoticeKind → Bool) → has_notice fin.empty tld day test ≡ false
-no_notice tld day test = ap (list_any (λ (entry : NoticeKey × Notice). is_same_text entry.0.tld tld && (entry.1.day == day && test entry.1.kind))) (no_entries notice_cmp)
+-- a part that is looked for by its revision is of that
+pub is_of_revision : (name : Name) (parts : List PlainPart) (p : PlainPart) → find (is_in name) parts ≡ Some p → (p.name.tld ≡ name.tld) × ((p.name.day ≡ name.day) × (p.name.rev ≡ name.rev))
+is_of_revision name parts p found =
+    let same = and_parts (is_same_text p.name.tld name.tld) _ (find_passes (is_in name) parts p found) in
+    let numbers = and_parts (p.name.day == name.day) _ same.1 in
+    ((text_decides p.name.tld name.tld).0 same.0, ((Decides-eqb p.name.day name.day).0 numbers.0, (Decides-eqb p.name.rev name.rev).0 numbers.1))
 
-pub not_due : (new later : Bool) (tld : List ℕ) (day : ℕ) (receipt failure : NoticeKind → Bool) → (new && later) ≡ (new && (has_notice fin.empty tld day receipt || (later && not (has_notice fin.empty tld day failure))))
-not_due new later tld day receipt failure = sym (ap (λ r. new && (r || (later && not (has_notice fin.empty tld day failure)))) (no_notice tld day receipt) ∙ ap (λ f. new && (later && not f)) (no_notice tld day failure) ∙ last new later)
+none_at : (name : Name) (parts : List PlainPart) → find (is_in name) parts ≡ None → (place : ℕ) → get (from_entries {R = part_cmp} (map part_entry parts)) (at_place (key_of name) place) ≡ None
+none_at name parts none place = part_shows (at_place (key_of name) place) parts
+    ∙ ap (option_map part_shown) (find_less (is_at (at_place (key_of name) place)) (is_in name) (λ p. by (is_same_text p.name.tld name.tld) (p.name.day == name.day) (p.name.rev == name.rev) (p.name.part == place)) parts none)
   where
-    last : (a b : Bool) → (a && (b && true)) ≡ (a && b)
-    last true true = refl
-    last true false = refl
-    last false b = refl
+    by : (a b c d : Bool) → (a && (b && c)) ≡ false → (a && (b && (c && d))) ≡ false
+    by true true true d e = cc
+    by true true false d e = refl
+    by true false c d e = refl
+    by false b c d e = refl
 
-pub not_stated : (new : Bool) (tld : List ℕ) (day : ℕ) (verdict : NoticeKind → Bool) → (new && has_notice fin.empty tld day verdict) ≡ false
-not_stated new tld day verdict = ap (λ v. new && v) (no_notice tld day verdict) ∙ and-false new
+-- where none is found, none is counted
+pub none_counted : (name : Name) (parts : List PlainPart) → find (is_in name) parts ≡ None
+    → count_by (λ place. is_some (get (from_entries {R = part_cmp} (map part_entry parts)) (at_place (key_of name) place))) places ≡ 0
+none_counted name parts none = let at = none_at name parts none in rw (at 1, at 2, at 3, at 4, at 5, at 6, at 7, at 8) refl

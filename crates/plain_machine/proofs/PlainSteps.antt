@@ -1,5 +1,5 @@
 -- The plain program's answers are the machine's outcomes.
-use Rattle.std.proofs.Common.{◌≡◌, ℕ, List, [], ◌∷◌, ◌++◌, length, Option, Some, None, true, false, ◌&&◌, map, refl, sym, ◌∙◌, ap, subst, is_none, Ok}
+use Rattle.std.proofs.Common.{◌≡◌, ◌==◌, ◌||◌, not, ℕ, List, [], ◌∷◌, ◌++◌, length, Option, Some, None, true, false, ◌&&◌, map, refl, sym, ◌∙◌, ap, subst, is_none, Ok}
 use Rattle.std.specs.List.{list_any}
 use Rattle.std.specs.FinMap.{IsAntisymmetric, get, insert, from_entries, get-from_entries, from_entries_push}
 use Rattle.std.specs.Cmp.{IsTotalOrder}
@@ -18,13 +18,20 @@ use Rattle.custody_machine.specs.Names.{read_name}
 use Rattle.plain_machine.specs.Plain.{registry_entry, part_entry, part_shown, IsOutcome}
 use Rattle.custody_machine.specs.Retries.{content_len}
 use Rattle.custody_machine.specs.State.{State, Part, places}
-use Rattle.custody_machine.specs.Machine.{Register, Receive, OfRegistry, OfPart, Outcome, Accept, first_day_of, part_at, part_in, recorded, has_other_kind, holds_other, is_dropped, refusal_of, step, with_registry, with_part, received_part, receive_tests, named_tests, first_standing}
+use Rattle.custody_machine.specs.Machine.{Register, Receive, Statement, OfRegistry, OfPart, OfNotice, statement_tests, kept_verdict, next_key, verdict_notice, verdict_on, with_notice, noticed, count_parts, first_part, Outcome, Accept, first_day_of, part_at, part_in, recorded, has_other_kind, holds_other, is_dropped, refusal_of, step, with_registry, with_part, received_part, receive_tests, named_tests, first_standing}
 use Rattle.custody_records.specs.Orders.{text_total, part_total, part_exact}
 use Rattle.custody_machine.specs.declared.answers.Refusal.{Refusal}
 use Rattle.custody_machine.specs.declared.answers.Refusal.TheVariants.{NameRefused}
 use Rattle.custody_machine.proofs.SameValues.{kind_decides}
-use Rattle.custody_machine.proofs.Keeping.{none_stand, step_none, step_refuses, step_refuses_text, registered, answered, rules_part, held_bytes, recorded_is, place_is_empty}
+use Rattle.custody_machine.proofs.Accepting.{none_stand, step_none, step_refuses, step_refuses_text, registered, answered, rules_part, held_bytes, place_is_empty}
+use Rattle.custody_machine.proofs.Accepting.{recorded_is}
 use Rattle.custody_machine.proofs.Composed.{register_repeats}
+use Rattle.custody_machine.proofs.Stated.{none_stand_of, stated_by}
+use Rattle.custody_machine.specs.declared.command.Statement as told
+use Rattle.custody_records.specs.Keys.{NoticeKey}
+use Rattle.custody_records.specs.Records.{Notice}
+use Rattle.custody_records.specs.Typed.{notice_entry, notice_key, notice_value}
+use Rattle.desk.specs.declared.notices.Notice as desk
 
 -- ---- an entry more
 
@@ -83,3 +90,25 @@ module _ (s : State) (text bytes : List ℕ) (now : ℕ) (name : Name) (named : 
       → IsOutcome (answer.Received name now (length bytes) false) s new (step s (Receive text bytes) now)
   receives_new new none at is =
       (received_part name bytes now, ruled none ∙ ap (answered s name bytes now) at ∙ ap (Accept (record { entry = OfPart (key_of name) (received_part name bytes now); is_repeat = false })) (sym is), refl, refl, refl)
+
+-- ---- statements
+
+module _ (s : State) (st : told.Statement) (now : ℕ) where
+  pub refuses_stated : (q : Refusal) → first_standing (statement_tests s st now) ≡ Some q → IsOutcome (answer.Refused q) s s (step s (Statement st) now)
+  refuses_stated q e = (step_refuses s (Statement st) now q e, refl)
+
+  ruled_stated : (o : Option (NoticeKey × Notice)) → first_standing (statement_tests s st now) ≡ None → kept_verdict s st ≡ o → step s (Statement st) now ≡ stated_by s st now o
+  ruled_stated o none e = step_none s (Statement st) now none ∙ ap (stated_by s st now) e
+
+  pub repeats_stated : (n : desk.Notice) → first_standing (statement_tests s st now) ≡ None → kept_verdict s st ≡ Some (notice_entry n) → IsOutcome (answer.Noticed n true) s s (step s (Statement st) now)
+  repeats_stated n none e = ruled_stated (Some (notice_entry n)) none e
+
+  pub states_new : (n : desk.Notice) (new : State) → first_standing (statement_tests s st now) ≡ None → kept_verdict s st ≡ None → notice_key n ≡ next_key s.notices st.tld → notice_value n ≡ verdict_notice st (verdict_on s st) now
+      → new ≡ with_notice s (notice_key n) (notice_value n) → IsOutcome (answer.Noticed n false) s new (step s (Statement st) now)
+  states_new n new none e key value is =
+      ruled_stated None none e ∙ ap (λ k. noticed s k (verdict_notice st (verdict_on s st) now)) (sym key) ∙ ap (noticed s (notice_key n)) (sym value)
+      ∙ ap (Accept (record { entry = OfNotice (notice_key n) (notice_value n); is_repeat = false })) (sym is)
+
+  -- what is not refused has a part
+  pub has_parts : first_standing (statement_tests s st now) ≡ None → count_parts s (first_part st) ≡ 0 → ⊥
+  has_parts none count = let clash : true ≡ false = sym (ap (λ n. n == 0 || not (n == st.parts)) count) ∙ (none_stand_of s st now none).number in cc

@@ -1,8 +1,13 @@
 -- The state that a plain program shows.
-use Rattle.std.specs.Prelude.{◌≡◌, ℕ, List, map, Bool}
-use Rattle.std.specs.FinMap.{from_entries, empty}
-use Rattle.custody_records.specs.Keys.{PartKey}
-use Rattle.custody_records.specs.Records.{key_of}
+use Rattle.std.specs.Prelude.{◌≡◌, ◌&&◌, ◌==◌, ℕ, List, Option, None, map, option_map, Bool, if◌then◌else◌, nat_lt}
+use Rattle.std.specs.FinMap.{FinMap, from_entries, empty}
+use Rattle.std.specs.List.{filter}
+use Rattle.deposit_name.specs.Name.{Name}
+use Rattle.custody_records.specs.Keys.{PartKey, NoticeKey, notice_cmp}
+use Rattle.custody_records.specs.Records.{Notice, key_of}
+use Rattle.custody_records.specs.Tables.{table_map}
+use Rattle.custody_records.specs.Typed.{notice_key, notice_value}
+use Rattle.plain_machine.specs.declared.notices.PlainNotices.{PlainNotices}
 use Rattle.plain_machine.specs.declared.plain.PlainRegistry.{PlainRegistry}
 use Rattle.plain_machine.specs.declared.plain.PlainContent.{PlainContent}
 use Rattle.plain_machine.specs.declared.plain.PlainContent.TheVariants as plain
@@ -13,7 +18,7 @@ use Rattle.plain_machine.specs.declared.plain.PlainAnswer.TheVariants as answer
 use Rattle.custody_machine.specs.Names.{is_same_text}
 use Rattle.custody_machine.specs.SameValues.{is_same_key}
 use Rattle.custody_machine.specs.State.{State, Part, Content, Held, Dropped}
-use Rattle.custody_machine.specs.Machine.{OfRegistry, OfPart, Outcome, Refuse, Accept}
+use Rattle.custody_machine.specs.Machine.{OfRegistry, OfPart, OfNotice, Outcome, Refuse, Accept, greatest_number, is_receipt, passed_id}
 use Rattle.custody_machine.specs.Retries.{content_len}
 
 abbrev pub registry_entry : PlainRegistry → List ℕ × ℕ
@@ -29,11 +34,14 @@ part_shown p = record { kind = p.name.kind; received = p.received; content = con
 abbrev pub part_entry : PlainPart → PartKey × Part
 part_entry p = (key_of p.name, part_shown p)
 
+abbrev pub notices_shown : PlainNotices → FinMap notice_cmp Notice
+notices_shown notices = table_map notice_cmp notice_key notice_value notices.rows.items
+
 abbrev pub shown : PlainState → State
 shown state = record {
   registries = from_entries (map registry_entry state.registries.items);
   parts = from_entries (map part_entry state.parts.items);
-  notices = empty;
+  notices = notices_shown state.notices;
   releases = empty;
 }
 
@@ -42,6 +50,7 @@ abbrev pub IsOutcome : PlainAnswer → State → State → Outcome → Type 0
 IsOutcome (answer.Registered tld first_day is_repeat) old new outcome = outcome ≡ Accept (record { entry = OfRegistry tld first_day; is_repeat = is_repeat }) new
 IsOutcome (answer.Received name received len is_repeat) old new outcome =
     (part : Part) × (outcome ≡ Accept (record { entry = OfPart (key_of name) part; is_repeat = is_repeat }) new) × (part.kind ≡ name.kind) × (part.received ≡ received) × (content_len part.content ≡ len)
+IsOutcome (answer.Noticed notice is_repeat) old new outcome = outcome ≡ Accept (record { entry = OfNotice (notice_key notice) (notice_value notice); is_repeat = is_repeat }) new
 IsOutcome (answer.Refused refusal) old new outcome = (outcome ≡ Refuse refusal) × (new ≡ old)
 
 -- ---- what the loops look for
@@ -51,3 +60,16 @@ is_of tld r = is_same_text r.tld tld
 
 abbrev pub is_at : PartKey → PlainPart → Bool
 is_at key p = is_same_key (key_of p.name) key
+
+abbrev pub is_later_receipt : List ℕ → ℕ → NoticeKey × Notice → Bool
+is_later_receipt tld day entry = is_same_text entry.0.tld tld && (nat_lt day entry.1.day && is_receipt entry.1.kind)
+
+abbrev pub passed_in : List ℕ → NoticeKey × Notice → Option (ℕ × List ℕ)
+passed_in tld entry = if is_same_text entry.0.tld tld then option_map (λ (id : List ℕ). (entry.1.day, id)) (passed_id entry.1.kind) else None
+
+abbrev pub greatest_of : List ℕ → List (NoticeKey × Notice) → ℕ
+greatest_of tld entries = greatest_number (filter (λ (entry : NoticeKey × Notice). is_same_text entry.0.tld tld) entries)
+
+-- whether a part is one of the revision of a name
+abbrev pub is_in : Name → PlainPart → Bool
+is_in name p = is_same_text p.name.tld name.tld && (p.name.day == name.day && p.name.rev == name.rev)

@@ -1,18 +1,20 @@
 //! The machine over whole byte strings.
-ghost use Rattle.std.specs.Prelude.{◌≡◌, ◌≤◌, ◌||◌, ◌==◌, [], if◌then◌else◌, nat_lt, unwrap_or, ℕ, List, Ok, Some, IfOk, OnErr, find, option_map, length, count_by, is_some, is_none};
-ghost use Rattle.std.specs.FinMap.{get};
+ghost use Rattle.std.specs.Prelude.{◌≡◌, ◌≤◌, ◌-◌, ◌&&◌, ◌||◌, ◌==◌, not, if◌then◌else◌, nat_lt, unwrap_or, ℕ, List, Ok, Some, IfOk, OnErr, find, option_map, length, count_by, is_some, is_none};
 ghost use Rattle.std.specs.List.{list_any};
 ghost use Rattle.custody_records.specs.Records.{key_of};
 ghost use Rattle.plain_machine.specs.Plain.{shown, part_shown, content_shown, IsOutcome, is_of, is_at};
 ghost use Rattle.custody_machine.specs.Commands.{command_of};
 ghost use Rattle.custody_machine.specs.Names.{read_name};
 ghost use Rattle.custody_machine.specs.SameValues.{is_same_kind};
-ghost use Rattle.custody_machine.specs.State.{empty, at_place, places};
+ghost use Rattle.custody_machine.specs.State.{empty, at_place, has_notice, places};
 ghost use Rattle.schedule.specs.Schedule.{day_of};
-ghost use Rattle.custody_machine.specs.Machine.{Register, Receive, step, first_day_of, recorded, part_in, has_other_kind, is_gone, is_held_with_other, holds_other, is_dropped, max_part_len, is_out_of_range, is_not_due, differs_in_kind, is_out_of_order, receive_tests, first_standing};
+ghost use Rattle.custody_machine.specs.Machine.{Register, Receive, step, first_day_of, recorded, part_in, has_other_kind, is_gone, is_held_with_other, holds_other, is_dropped, max_part_len, is_out_of_range, is_receipt, is_failure_of, is_not_due, is_stated, differs_in_kind, is_out_of_order, receive_tests, first_standing};
 
+use crate::notices::PlainNotices;
+use crate::sought::Sought;
 use custody_machine::{Command, Refusal};
 use deposit_name::{DepositName, Kind, Tld};
+use desk::Notice;
 use schedule::{Day, Sec};
 use std::alloc::{AllocError, Global};
 
@@ -40,11 +42,12 @@ pub struct PlainPart {
     pub content: PlainContent,
 }
 
-/// What is kept: of two entries of one key the first counts. There are no notices and no releases yet.
+/// What is kept: of two registries or parts of one key the first counts. There are no releases yet.
 #[derive(Drop)]
 pub struct PlainState {
     pub registries: Vec<PlainRegistry>,
     pub parts: Vec<PlainPart>,
+    pub notices: PlainNotices,
 }
 
 /// The answer to a command, with the record that it made, or found made.
@@ -61,11 +64,15 @@ pub enum PlainAnswer {
         len: usize,
         is_repeat: bool,
     },
+    Noticed {
+        notice: Notice,
+        is_repeat: bool,
+    },
     Refused(Refusal),
 }
 
 impl PlainContent {
-    fn is_dropped(&self) -> bool
+    pub(crate) fn is_dropped(&self) -> bool
         ensures { result ≡ is_gone (content_shown self.now) }
     {
         match self {
@@ -85,7 +92,7 @@ impl PlainContent {
 }
 
 impl PlainPart {
-    fn is_at(&self, name: &DepositName, place: u8) -> bool
+    fn is_at(&self, name: &Sought, place: u8) -> bool
         ensures { result ≡ is_at (at_place (key_of name.now) place) self.now }
     {
         self.name.tld.as_bytes() == name.tld.as_bytes()
@@ -109,6 +116,7 @@ impl PlainState {
         PlainState {
             registries: Vec::new(alloc),
             parts: Vec::new(alloc),
+            notices: PlainNotices::new(alloc),
         }
     }
 
@@ -121,7 +129,7 @@ impl PlainState {
             .map(|r| r.first_day)
     }
 
-    fn find_part(&self, name: &DepositName, place: u8) -> Option<&PlainPart>
+    pub(crate) fn find_part(&self, name: &Sought, place: u8) -> Option<&PlainPart>
         ensures { option_map (λ p. p.now) result ≡ find (is_at (at_place (key_of name.now) place)) self.now.parts.items }
     {
         self.parts.iter().find(|p| p.is_at(name, place))
@@ -133,13 +141,13 @@ impl PlainState {
         self.find_registry(tld)
     }
 
-    fn part_at(&self, name: &DepositName, place: u8) -> Option<&PlainPart>
+    pub(crate) fn part_at(&self, name: &Sought, place: u8) -> Option<&PlainPart>
         ensures { option_map (λ p. part_shown p.now) result ≡ part_in (shown self.now) name.now place }
     {
         self.find_part(name, place)
     }
 
-    fn recorded(&self, name: &DepositName) -> Option<&PlainPart>
+    fn recorded(&self, name: &Sought) -> Option<&PlainPart>
         ensures { option_map (λ p. part_shown p.now) result ≡ recorded (shown self.now) name.now }
     {
         match self.part_at(name, name.part) {
@@ -148,13 +156,13 @@ impl PlainState {
         }
     }
 
-    fn has_part(&self, name: &DepositName, place: u8) -> bool
+    pub(crate) fn has_part(&self, name: &Sought, place: u8) -> bool
         ensures { result ≡ is_some (part_in (shown self.now) name.now place) }
     {
         self.part_at(name, place).is_some()
     }
 
-    fn has_other_kind(&self, name: &DepositName, place: u8) -> bool
+    pub(crate) fn has_other_kind(&self, name: &Sought, place: u8) -> bool
         ensures { result ≡ has_other_kind name.now.kind (part_in (shown self.now) name.now place) }
     {
         match self.part_at(name, place) {
@@ -163,7 +171,7 @@ impl PlainState {
         }
     }
 
-    fn has_any_other_kind(&self, name: &DepositName) -> bool
+    pub(crate) fn has_any_other_kind(&self, name: &Sought) -> bool
         ensures { result ≡ list_any (λ place. has_other_kind name.now.kind (part_in (shown self.now) name.now place)) places }
     {
         self.has_other_kind(name, 1)
@@ -176,14 +184,14 @@ impl PlainState {
             || self.has_other_kind(name, 8)
     }
 
-    fn counted(&self, name: &DepositName, place: u8) -> u8
+    fn counted(&self, name: &Sought, place: u8) -> u8
         ensures value { result ≡ (if is_some (part_in (shown self.now) name.now place) then 1 else 0) }
         ensures small { result ≤ 1 }
     {
         if self.has_part(name, place) { 1 } else { 0 }
     }
 
-    fn count_parts(&self, name: &DepositName) -> u8
+    pub(crate) fn count_parts(&self, name: &Sought) -> u8
         ensures value { result ≡ count_by (λ place. is_some (part_in (shown self.now) name.now place)) places }
         ensures small { result ≤ 8 }
     {
@@ -197,19 +205,19 @@ impl PlainState {
             + self.counted(name, 8)
     }
 
-    fn is_new(&self, name: &DepositName) -> bool
+    fn is_new(&self, name: &Sought) -> bool
         ensures { result ≡ is_none (recorded (shown self.now) name.now) }
     {
         self.recorded(name).is_none()
     }
 
-    fn is_unknown(&self, name: &DepositName) -> bool
+    pub(crate) fn is_unknown(&self, name: &Sought) -> bool
         ensures { result ≡ is_none (first_day_of (shown self.now) name.now.tld) }
     {
         self.first_day(&name.tld).is_none()
     }
 
-    fn holds_other(&self, name: &DepositName, bytes: &[u8]) -> bool
+    fn holds_other(&self, name: &Sought, bytes: &[u8]) -> bool
         ensures { result ≡ holds_other bytes.now (recorded (shown self.now) name.now) }
     {
         match self.recorded(name) {
@@ -218,7 +226,7 @@ impl PlainState {
         }
     }
 
-    fn is_dropped(&self, name: &DepositName) -> bool
+    fn is_dropped(&self, name: &Sought) -> bool
         ensures { result ≡ is_dropped (recorded (shown self.now) name.now) }
     {
         match self.recorded(name) {
@@ -227,7 +235,7 @@ impl PlainState {
         }
     }
 
-    fn is_outside(&self, name: &DepositName, now: Sec) -> bool
+    pub(crate) fn is_outside(&self, name: &Sought, now: Sec) -> bool
         ensures { result ≡ (nat_lt name.now.day (unwrap_or (first_day_of (shown self.now) name.now.tld) 0) || nat_lt (day_of now) name.now.day) }
     {
         let too_early = match self.first_day(&name.tld) {
@@ -237,33 +245,46 @@ impl PlainState {
         too_early || now.day().number() < name.day.number()
     }
 
-    fn is_out_of_range(&self, name: &DepositName, now: Sec) -> bool
+    fn is_out_of_range(&self, name: &Sought, now: Sec) -> bool
         ensures { result ≡ is_out_of_range (shown self.now) name.now now }
     {
         self.is_new(name) && self.is_outside(name, now)
     }
 
-    // There are no notices: no revision above 0 is due.
-    fn is_not_due(&self, name: &DepositName) -> bool
-        ensures { result ≡ is_not_due (shown self.now) name.now }
+    // The day has a receipt, or the revision before has no failure.
+    fn is_early(&self, name: &Sought) -> bool
+        ensures { result ≡ (has_notice (shown self.now).notices name.now.tld name.now.day is_receipt || (nat_lt 0 name.now.rev && not (has_notice (shown self.now).notices name.now.tld name.now.day (is_failure_of (name.now.rev - 1))))) }
     {
-        self.is_new(name) && name.rev > 0
+        self.notices.has_receipt(&name.tld, name.day)
+            || name.rev > 0 && !self.notices.has_failure(&name.tld, name.day, name.rev - 1)
     }
 
-    fn differs_in_type(&self, name: &DepositName) -> bool
+    fn is_not_due(&self, name: &Sought) -> bool
+        ensures { result ≡ is_not_due (shown self.now) name.now }
+    {
+        self.is_new(name) && self.is_early(name)
+    }
+
+    fn is_stated(&self, name: &Sought) -> bool
+        ensures { result ≡ is_stated (shown self.now) name.now }
+    {
+        self.is_new(name) && self.notices.has_verdict(&name.tld, name.day, name.rev)
+    }
+
+    fn differs_in_type(&self, name: &Sought) -> bool
         ensures { result ≡ differs_in_kind (shown self.now) name.now }
     {
         self.is_new(name) && self.has_any_other_kind(name)
     }
 
-    fn is_out_of_order(&self, name: &DepositName) -> bool
+    fn is_out_of_order(&self, name: &Sought) -> bool
         ensures { result ≡ is_out_of_order (shown self.now) name.now }
     {
         self.is_new(name) && self.count_parts(name) + 1 != name.part
     }
 
-    // The refusals of a part under a name, in their order. No revision is stated yet.
-    fn refusal_of(&self, name: &DepositName, bytes: &[u8], now: Sec) -> Option<Refusal>
+    // The refusals of a part under a name, in their order.
+    fn refusal_of(&self, name: &Sought, bytes: &[u8], now: Sec) -> Option<Refusal>
         ensures { result ≡ first_standing (receive_tests (shown self.now) name.now bytes.now now) }
     {
         if self.is_unknown(name) {
@@ -284,6 +305,9 @@ impl PlainState {
         if self.is_not_due(name) {
             return Some(Refusal::RevisionNotDue);
         }
+        if self.is_stated(name) {
+            return Some(Refusal::AlreadyStated);
+        }
         if self.differs_in_type(name) {
             return Some(Refusal::TypeDiffers);
         }
@@ -291,6 +315,18 @@ impl PlainState {
             return Some(Refusal::PartOutOfOrder);
         }
         None
+    }
+
+    fn find_refusal(&self, name: &DepositName, bytes: &[u8], now: Sec) -> Option<Refusal>
+        ensures { result ≡ first_standing (receive_tests (shown self.now) name.now bytes.now now) }
+    {
+        self.refusal_of(&Sought::of(name), bytes, now)
+    }
+
+    fn find_recorded(&self, name: &DepositName) -> Option<&PlainPart>
+        ensures { option_map (λ p. part_shown p.now) result ≡ recorded (shown self.now) name.now }
+    {
+        self.recorded(&Sought::of(name))
     }
 
     fn register(&mut self, tld: Tld, first_day: Day) -> Result<PlainAnswer, AllocError>
@@ -332,9 +368,9 @@ impl PlainState {
         ensures step { (text : List ℕ) → read_name text ≡ Ok name.now → IfOk result (λ answer. IsOutcome answer (shown self.old) (shown self.new) (step (shown self.old) (Receive text bytes.now) now)) }
         ensures err { OnErr result (shown self.new ≡ shown self.old) }
     {
-        match self.refusal_of(name, bytes, now) {
+        match self.find_refusal(name, bytes, now) {
             Some(refusal) => Ok(PlainAnswer::Refused(refusal)),
-            None => match self.recorded(name) {
+            None => match self.find_recorded(name) {
                 Some(part) => Ok(received(name, part.received, bytes.len(), true)),
                 None => {
                     let copy = Vec::from_slice(alloc, bytes)?;
@@ -363,6 +399,7 @@ pub fn step_plain(
     match command {
         Command::Register(tld, first_day) => state.register(*tld, *first_day),
         Command::Receive(name, bytes) => state.receive(alloc, name, bytes, now),
+        Command::Statement(stated) => state.receive_statement(alloc, stated, now),
     }
 }
 

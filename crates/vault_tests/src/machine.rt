@@ -1,6 +1,8 @@
-//! Worked examples of the machine, by its plain program.
-use custody_machine::{Command, Refusal};
-use deposit_name::{DepositName, NameError, Tld};
+//! Worked examples of the machine, by its plain program. A function that keeps a `PlainState` names
+//! `NoticeKind`: the checker has to be told of the type that lies within.
+use custody_machine::{Command, Refusal, Statement};
+use deposit_name::{DepositId, DepositName, Kind, NameError, Tld};
+use desk::{Check, Notice, NoticeKind, Revision};
 use plain_machine::{PlainAnswer, PlainContent, PlainPart, PlainState, step_plain};
 use schedule::{read_day, read_moment};
 use std::alloc::Global;
@@ -94,6 +96,7 @@ fn put(
 
 // The registry `example`, whose deposits begin on 2026-08-02.
 fn registered(alloc: Global) -> Result<PlainState, Fail> {
+    let _kind: Option<NoticeKind> = None;
     let mut state = PlainState::new(alloc);
     let tld = Tld::parse(b"example").ok_or("a domain")?;
     let first_day = read_day(b"2026-08-02").ok_or("a day")?;
@@ -117,6 +120,7 @@ fn received(name: &[u8], moment: &[u8], len: usize, is_repeat: bool) -> Result<P
 
 #[test]
 fn a_part_is_received_once(rt: HostRuntime) -> Result<(), Fail> {
+    let _kind: Option<NoticeKind> = None;
     let mut state = registered(rt.alloc())?;
     let first = put(rt.alloc(), &mut state, NAME, b"hello", AT_TEN)?;
     assert_eq!(rt; first, received(NAME, AT_TEN, 5, false)?);
@@ -131,6 +135,7 @@ fn a_part_is_received_once(rt: HostRuntime) -> Result<(), Fail> {
 
 #[test]
 fn a_registry_keeps_its_first_day(rt: HostRuntime) -> Result<(), Fail> {
+    let _kind: Option<NoticeKind> = None;
     let mut state = registered(rt.alloc())?;
     let tld = Tld::parse(b"example").ok_or("a domain")?;
     let first_day = read_day(b"2026-08-02").ok_or("a day")?;
@@ -152,6 +157,7 @@ fn a_registry_keeps_its_first_day(rt: HostRuntime) -> Result<(), Fail> {
 
 #[test]
 fn a_part_has_1_to_1048576_bytes(rt: HostRuntime) -> Result<(), Fail> {
+    let _kind: Option<NoticeKind> = None;
     let mut state = registered(rt.alloc())?;
     let bytes = vec![in rt.alloc(); b'a'; 1_048_577]?;
     let refused = PlainAnswer::Refused(Refusal::Size);
@@ -167,6 +173,7 @@ fn a_part_has_1_to_1048576_bytes(rt: HostRuntime) -> Result<(), Fail> {
 
 #[test]
 fn refuses_by_the_first_that_stands(rt: HostRuntime) -> Result<(), Fail> {
+    let _kind: Option<NoticeKind> = None;
     let mut state = registered(rt.alloc())?;
     for &(name, refusal) in &REFUSED {
         let answer = put(rt.alloc(), &mut state, name, b"hello", AT_TEN)?;
@@ -178,6 +185,7 @@ fn refuses_by_the_first_that_stands(rt: HostRuntime) -> Result<(), Fail> {
 
 #[test]
 fn the_parts_of_a_revision_are_of_one_type(rt: HostRuntime) -> Result<(), Fail> {
+    let _kind: Option<NoticeKind> = None;
     let mut state = registered(rt.alloc())?;
     put(rt.alloc(), &mut state, NAME, b"hello", AT_TEN)?;
     let differs = PlainAnswer::Refused(Refusal::TypeDiffers);
@@ -199,6 +207,7 @@ fn the_parts_of_a_revision_are_of_one_type(rt: HostRuntime) -> Result<(), Fail> 
 
 #[test]
 fn a_dropped_part_is_not_received_again(rt: HostRuntime) -> Result<(), Fail> {
+    let _kind: Option<NoticeKind> = None;
     let mut state = registered(rt.alloc())?;
     state.parts.push(PlainPart {
         name: DepositName::parse(NAME).ok().ok_or("a name")?,
@@ -207,5 +216,129 @@ fn a_dropped_part_is_not_received_again(rt: HostRuntime) -> Result<(), Fail> {
     })?;
     let again = put(rt.alloc(), &mut state, NAME, b"hello", AT_ELEVEN)?;
     assert_eq!(rt; again, PlainAnswer::Refused(Refusal::DroppedAfterKeeping));
+    Ok(())
+}
+
+// That the parts of a revision of 2026-08-02 are all sent.
+fn stated(tld: &[u8], rev: u8, parts: u8, id: &[u8]) -> Result<Statement, Fail> {
+    Ok(Statement {
+        tld: Tld::parse(tld).ok_or("a domain")?,
+        day: read_day(b"2026-08-02").ok_or("a day")?,
+        kind: Kind::Full,
+        rev: Revision::new(rev).ok_or("a revision")?,
+        parts,
+        id: DepositId::parse(id).ok_or("an id")?,
+    })
+}
+
+fn state(
+    alloc: Global,
+    state: &mut PlainState,
+    statement: Statement,
+    moment: &[u8],
+) -> Result<PlainAnswer, Fail> {
+    ask(alloc, state, &Command::Statement(statement), moment)
+}
+
+// The notice of a statement whose bytes have no frame, made at a moment.
+fn failed(
+    statement: Statement,
+    number: u64,
+    moment: &[u8],
+    is_repeat: bool,
+) -> Result<PlainAnswer, Fail> {
+    let notice = Notice {
+        number,
+        tld: statement.tld,
+        day: statement.day,
+        at: read_moment(moment).ok_or("a moment")?,
+        kind: NoticeKind::Failure {
+            rev: statement.rev,
+            id: statement.id,
+            check: Check::Frame,
+        },
+    };
+    Ok(PlainAnswer::Noticed { notice, is_repeat })
+}
+
+#[test]
+fn a_statement_is_answered_by_one_notice(rt: HostRuntime) -> Result<(), Fail> {
+    let mut kept = registered(rt.alloc())?;
+    put(rt.alloc(), &mut kept, NAME, b"hello", AT_TEN)?;
+    let one = stated(b"example", 0, 1, b"A1")?;
+    let first = state(rt.alloc(), &mut kept, one, AT_TEN)?;
+    assert_eq!(rt; first, failed(one, 1, AT_TEN, false)?);
+    // Again an hour later it is answered by the notice of the first time.
+    let again = state(rt.alloc(), &mut kept, one, AT_ELEVEN)?;
+    assert_eq!(rt; again, failed(one, 1, AT_TEN, true)?);
+    assert_eq!(rt; kept.notices.rows().len(), 1);
+    Ok(())
+}
+
+#[test]
+fn a_revision_has_one_verdict(rt: HostRuntime) -> Result<(), Fail> {
+    let _kind: Option<NoticeKind> = None;
+    let mut kept = registered(rt.alloc())?;
+    put(rt.alloc(), &mut kept, NAME, b"hello", AT_TEN)?;
+    state(
+        rt.alloc(),
+        &mut kept,
+        stated(b"example", 0, 1, b"A1")?,
+        AT_TEN,
+    )?;
+    let taken = PlainAnswer::Refused(Refusal::AlreadyStated);
+    let other = stated(b"example", 0, 1, b"A2")?;
+    assert_eq!(rt; state(rt.alloc(), &mut kept, other, AT_ELEVEN)?, taken);
+    let second = b"example_2026-08-02_full_S2_R0.ryde";
+    assert_eq!(rt;
+        put(rt.alloc(), &mut kept, second, b"hello", AT_ELEVEN)?,
+        taken
+    );
+    // After the failure the next revision is due, and its notice has the next number.
+    let next = b"example_2026-08-02_full_S1_R1.ryde";
+    let sent = put(rt.alloc(), &mut kept, next, b"hello", AT_ELEVEN)?;
+    assert_eq!(rt; sent, received(next, AT_ELEVEN, 5, false)?);
+    let again = stated(b"example", 1, 1, b"A2")?;
+    let told = state(rt.alloc(), &mut kept, again, AT_ELEVEN)?;
+    assert_eq!(rt; told, failed(again, 2, AT_ELEVEN, false)?);
+    Ok(())
+}
+
+#[test]
+fn a_statement_tells_its_parts(rt: HostRuntime) -> Result<(), Fail> {
+    let _kind: Option<NoticeKind> = None;
+    let mut kept = registered(rt.alloc())?;
+    put(rt.alloc(), &mut kept, NAME, b"hello", AT_TEN)?;
+    let differ = PlainAnswer::Refused(Refusal::PartsDiffer);
+    let two = stated(b"example", 0, 2, b"A1")?;
+    assert_eq!(rt; state(rt.alloc(), &mut kept, two, AT_TEN)?, differ);
+    let none = stated(b"example", 1, 0, b"A1")?;
+    assert_eq!(rt; state(rt.alloc(), &mut kept, none, AT_TEN)?, differ);
+    let diff = Statement {
+        kind: Kind::Diff,
+        ..stated(b"example", 0, 1, b"A1")?
+    };
+    assert_eq!(rt;
+        state(rt.alloc(), &mut kept, diff, AT_TEN)?,
+        PlainAnswer::Refused(Refusal::TypeDiffers)
+    );
+    assert_eq!(rt;
+        state(
+            rt.alloc(),
+            &mut kept,
+            stated(b"other", 0, 1, b"A1")?,
+            AT_TEN
+        )?,
+        PlainAnswer::Refused(Refusal::RegistryUnknown)
+    );
+    assert_eq!(rt;
+        state(
+            rt.alloc(),
+            &mut kept,
+            stated(b"example", 0, 1, b"A1")?,
+            b"2026-08-01T10:00:00Z"
+        )?,
+        PlainAnswer::Refused(Refusal::DateOutOfRange)
+    );
     Ok(())
 }

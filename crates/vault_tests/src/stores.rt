@@ -9,7 +9,7 @@ use custody_store::{Store, find_meta};
 use deposit_name::{DepositId, Reference, Tld};
 use desk::{Check, Ground, Notice, NoticeKind, Revision};
 use schedule::{Day, Sec};
-use sqlite::{Alter, Connection};
+use sqlite::{Alter, Connection, File, FileStore};
 use std::alloc::Global;
 use std::fs;
 use std::test::Fail;
@@ -132,12 +132,16 @@ fn are_added(records: &Records) -> Result<bool, Fail> {
     Ok(is_volume & is_part & is_told & is_given)
 }
 
-/// Whether a database holds what was added, by its records and by its rows.
-fn holds_all<S: Alter + Drop>(db: Connection<S>, alloc: Global) -> Result<bool, Fail> {
+/// Whether a database holds what was added, by its records and by its rows; and the database.
+fn holds_all<S: Alter + Drop>(
+    db: Connection<S>,
+    alloc: Global,
+) -> Result<(bool, Connection<S>), Fail> {
     let mut store = Store::over(db);
     let records = store.load(alloc).ok().ok_or("records")?;
     let mut db = store.into_inner();
-    Ok(are_added(&records)? & is_filled(&mut db)?)
+    let holds = are_added(&records)? & is_filled(&mut db)?;
+    Ok((holds, db))
 }
 
 /// Whether nothing more is added to a filled database under the same keys.
@@ -153,7 +157,8 @@ fn in_memory(rt: HostRuntime) -> Result<(), Fail> {
     let alloc = rt.alloc();
     let mut store = filled(Connection::open_in_memory(alloc)?, alloc)?;
     assert!(rt; refuses_all_again(&mut store, alloc)?);
-    assert!(rt; holds_all(store.into_inner(), alloc)?);
+    let (holds, _) = holds_all(store.into_inner(), alloc)?;
+    assert!(rt; holds);
     Ok(())
 }
 
@@ -194,19 +199,49 @@ const FOLDER: &str = "custody_store_test";
 
 const FILE: &str = "custody_store_test/a.db";
 
-/// Fills a database in a file, and closes it.
-fn fill_file(rt: &HostRuntime) -> Result<(), Fail> {
-    let store = filled(Connection::open(rt, FILE)?, rt.alloc())?;
-    store.into_inner().close()?;
-    Ok(())
+type FileDatabase = Connection<FileStore<File>>;
+
+/// What is done with a database.
+#[derive(Clone, Copy)]
+enum Work {
+    Fill,
+    Read,
+}
+
+/// Fills a database, or answers whether it holds what was added.
+fn done<S: Alter + Drop>(
+    db: Connection<S>,
+    alloc: Global,
+    work: Work,
+) -> Result<(bool, Connection<S>), Fail> {
+    match work {
+        Work::Fill => Ok((true, filled(db, alloc)?.into_inner())),
+        Work::Read => holds_all(db, alloc),
+    }
+}
+
+fn open_file(rt: &HostRuntime) -> Result<FileDatabase, Fail> {
+    Ok(Connection::open(rt, FILE)?)
+}
+
+fn close_file(db: FileDatabase) -> Result<(), Fail> {
+    Ok(db.close()?)
+}
+
+/// Does this with the database in the file, and closes it. It is the one function with a generic call
+/// at the store of a file, which is dear to prove.
+fn done_in_file(rt: &HostRuntime, work: Work) -> Result<bool, Fail> {
+    let (is_done, db) = done(open_file(rt)?, rt.alloc(), work)?;
+    close_file(db)?;
+    Ok(is_done)
 }
 
 #[test]
 fn in_a_file(rt: HostRuntime) -> Result<(), Fail> {
     let _ = fs::remove_dir_all(&rt, FOLDER);
     fs::create_dir(&rt, FOLDER)?;
-    fill_file(&rt)?;
-    assert!(rt; holds_all(Connection::open(&rt, FILE)?, rt.alloc())?);
+    assert!(rt; done_in_file(&rt, Work::Fill)?);
+    assert!(rt; done_in_file(&rt, Work::Read)?);
     fs::remove_dir_all(&rt, FOLDER)?;
     Ok(())
 }

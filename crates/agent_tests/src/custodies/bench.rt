@@ -48,6 +48,10 @@ pub fn told(answer: &Result<Reply, Refused>) -> Answer {
             len: *len as usize,
             is_repeat,
         }),
+        Record::Notice(notice) => Ok(PlainAnswer::Noticed {
+            notice: *notice,
+            is_repeat,
+        }),
     }
 }
 

@@ -1,10 +1,9 @@
 //! A stop at each call that a commit makes of the log of a database. What was written to the log and
 //! not synced is lost, kept or torn.
-use super::bench::{
-    AT_TEN, Filling, NAME, Wanted, is_answered, keeps_hello, opened_if_any, restart,
-};
+use super::bench::{AT_TEN, Filling, NAME, Wanted, is_answered, keeps_hello, opened, restart};
 use super::script::{STEPS, goes_on_as, plain_after, send};
 use custody::Custody;
+use desk::NoticeKind;
 use sqlite::{Alter, Connection, FileStore, Files, Options};
 use sqlite_disk::{Crash, Disk, Fuse, Memory};
 use std::alloc::Global;
@@ -14,8 +13,6 @@ use vault_volume::{MemVolume, Volume};
 type File = Fuse<Memory>;
 
 type FileDatabase = Connection<FileStore<File>>;
-
-type FileCustody = Custody<MemVolume, FileStore<File>>;
 
 /// How many calls of the log and of the database file are answered. Each later one fails.
 #[derive(Clone, Copy)]
@@ -122,55 +119,115 @@ fn left_of(
     })
 }
 
+/// Begins a custody and closes it.
+fn begin<S: Alter + Drop>(
+    alloc: Global,
+    volume: MemVolume,
+    db: Connection<S>,
+) -> Result<(MemVolume, Connection<S>), Fail> {
+    if volume.failures() > 9 {
+        return Err(Fail::from("many failures"));
+    }
+    match Custody::init(alloc, volume, db, 1) {
+        Ok(custody) => Ok(custody.close()),
+        Err(_) => Err(Fail::from("not begun")),
+    }
+}
+
 /// A custody that was begun and closed.
 fn begun(alloc: Global) -> Result<Left, Fail> {
     let volume = MemVolume::new(alloc, 8, 64, 16)?;
     let log = file(alloc, &[], MANY)?;
     let db = database(alloc, log, file(alloc, &[], MANY)?)?.ok_or("no database")?;
-    let Ok(custody) = Custody::init(alloc, volume, db, 1) else {
-        return Err(Fail::from("not begun"));
-    };
-    let (volume, db) = custody.close();
+    let (volume, db) = begin(alloc, volume, db)?;
     let Files { log, db } = db.close_files().ok().ok_or("not closed")?;
     left_of(alloc, volume, log, db)
 }
 
-/// The custody that opens over what is left with this log, if one does.
-fn opened_over(
+/// What is done with a custody that is opened.
+#[derive(Clone, Copy)]
+enum Work {
+    Nothing,
+    /// All steps are sent, of which just so many are to be accepted.
+    SendAll(usize),
+    /// It is to keep the first so many steps, each whole, and nothing else, and then to answer each
+    /// part that is sent again or with other bytes as the plain program.
+    GoOn(usize),
+    /// `hello` is sent, and is to be one part, whose answer is a repeat just where it was found.
+    SendHello { was_found: bool },
+}
+
+/// Whether a custody does this as it is to be done.
+fn does<V: Volume, S: Alter>(
+    alloc: Global,
+    custody: &mut Custody<V, S>,
+    work: Work,
+) -> Result<bool, Fail> {
+    let _kind: Option<NoticeKind> = None;
+    match work {
+        Work::Nothing => Ok(true),
+        Work::SendAll(accepted) => Ok(send(alloc, custody, STEPS.len())? == accepted),
+        Work::GoOn(count) => {
+            let mut plain = plain_after(alloc, count)?;
+            goes_on_as(alloc, custody, &mut plain)
+        }
+        Work::SendHello { was_found } => is_one_part(alloc, custody, was_found),
+    }
+}
+
+/// Whether a custody opens and does this, and the volume and the store after that.
+fn opens_and_does<S: Alter + Drop>(
+    alloc: Global,
+    volume: MemVolume,
+    db: Connection<S>,
+    work: Work,
+) -> Result<(bool, MemVolume, S), Fail> {
+    match opened(alloc, volume, db)? {
+        Ok(mut custody) => {
+            let is_done = does(alloc, &mut custody, work)?;
+            let (volume, db) = custody.close();
+            Ok((is_done, volume, db.into_store()))
+        }
+        Err((_, volume, db)) => Ok((false, volume, db.into_store())),
+    }
+}
+
+/// Whether a custody opens over what is left with this log and does this, and what a stop leaves then;
+/// nothing where no database opens.
+fn done_over(
     alloc: Global,
     left: &Left,
     log: &[u8],
     calls: Calls,
-) -> Result<Option<FileCustody>, Fail> {
+    work: Work,
+) -> Result<Option<(bool, Left)>, Fail> {
     let mut volume = MemVolume::new(alloc, 8, 64, 16)?;
     settle(&mut volume, &left.volume)?;
     let log = file(alloc, log, calls.log)?;
-    match database(alloc, log, file(alloc, &left.db, calls.db)?)? {
-        Some(db) => opened_if_any(alloc, volume, db),
-        None => Ok(None),
-    }
+    let Some(db) = database(alloc, log, file(alloc, &left.db, calls.db)?)? else {
+        return Ok(None);
+    };
+    let (is_done, volume, store) = opens_and_does(alloc, volume, db, work)?;
+    let Files { log, db } = store.close();
+    Ok(Some((is_done, left_of(alloc, volume, log, db)?)))
 }
 
-/// Sends all steps, of which just so many are accepted, and closes the custody.
-fn send_all<S: Alter + Drop>(
-    alloc: Global,
-    mut custody: Custody<MemVolume, S>,
-    accepted: usize,
-) -> Result<(MemVolume, Connection<S>), Fail> {
-    if send(alloc, &mut custody, STEPS.len())? != accepted {
-        return Err(Fail::from("other steps were accepted"));
+/// Whether a custody opens after a beginning whose files answer so many calls.
+fn opens_within(alloc: Global, begun: &Left, calls: Calls) -> Result<bool, Fail> {
+    match done_over(alloc, begun, &begun.written, calls, Work::Nothing)? {
+        Some((is_opened, _)) => Ok(is_opened),
+        None => Ok(false),
     }
-    Ok(custody.close())
 }
 
 /// Sends all steps to a custody whose files answer so many calls. What a stop leaves then, where just
 /// so many steps were accepted.
 fn stopped(alloc: Global, begun: &Left, calls: Calls, accepted: usize) -> Result<Left, Fail> {
-    let custody = opened_over(alloc, begun, &begun.written, calls)?;
-    let custody = custody.ok_or("not opened")?;
-    let (volume, db) = send_all(alloc, custody, accepted)?;
-    let Files { log, db } = db.into_store().close();
-    left_of(alloc, volume, log, db)
+    let work = Work::SendAll(accepted);
+    match done_over(alloc, begun, &begun.written, calls, work)? {
+        Some((true, left)) => Ok(left),
+        _ => Err(Fail::from("not opened, or other steps were accepted")),
+    }
 }
 
 /// The bytes of a torn log: of those from the first that was changed on, the first half was written.
@@ -200,19 +257,13 @@ fn log_after(alloc: Global, left: &Left, unsynced: Unsynced) -> Result<Vec<u8>, 
     }
 }
 
-/// The custody that is opened after a stop.
-fn reopened(alloc: Global, left: &Left, unsynced: Unsynced) -> Result<FileCustody, Fail> {
+/// Whether a custody opens after a stop, and does this.
+fn does_after(alloc: Global, left: &Left, unsynced: Unsynced, work: Work) -> Result<bool, Fail> {
     let log = log_after(alloc, left, unsynced)?;
-    let custody = opened_over(alloc, left, &log, ALL)?;
-    Ok(custody.ok_or("not reopened")?)
-}
-
-/// Whether what a stop leaves opens as the first so many steps, each whole, and nothing else, and then
-/// answers each part that is sent again or with other bytes as the plain program.
-fn opens_as(alloc: Global, left: &Left, unsynced: Unsynced, count: usize) -> Result<bool, Fail> {
-    let mut plain = plain_after(alloc, count)?;
-    let mut custody = reopened(alloc, left, unsynced)?;
-    goes_on_as(alloc, &mut custody, &mut plain)
+    match done_over(alloc, left, &log, ALL, work)? {
+        Some((is_done, _)) => Ok(is_done),
+        None => Err(Fail::from("no database")),
+    }
 }
 
 /// Whether a step is found whose commit was stopped after so many calls of the log, and would be done
@@ -234,7 +285,8 @@ fn wrong_stop(
         let left = stopped(alloc, &begun, Calls { log, db: MANY }, accepted)?;
         for unsynced in outcomes(&left) {
             let found = usize::from(is_found(log, end, *unsynced));
-            if !opens_as(alloc, &left, *unsynced, accepted.saturating_add(found))? {
+            let work = Work::GoOn(accepted.saturating_add(found));
+            if !does_after(alloc, &left, *unsynced, work)? {
                 return Ok(Some((log, *unsynced)));
             }
         }
@@ -269,7 +321,7 @@ fn keeps_all_steps_after_their_commits(rt: HostRuntime) -> Result<(), Fail> {
         (OPENING.log.saturating_sub(1), MANY),
         (MANY, OPENING.db.saturating_sub(1)),
     ] {
-        assert!(rt; opened_over(alloc, &begun, &begun.written, Calls { log, db })?.is_none());
+        assert!(rt; !opens_within(alloc, &begun, Calls { log, db })?);
     }
     let calls = Calls {
         log: SECOND,
@@ -277,7 +329,7 @@ fn keeps_all_steps_after_their_commits(rt: HostRuntime) -> Result<(), Fail> {
     };
     let left = stopped(alloc, &begun, calls, 3)?;
     assert!(rt; left.synced == left.written);
-    assert!(rt; opens_as(alloc, &left, Unsynced::Lost, 3)?);
+    assert!(rt; does_after(alloc, &left, Unsynced::Lost, Work::GoOn(3))?);
     Ok(())
 }
 
@@ -306,9 +358,8 @@ fn keeps_one_part_that_is_sent_again_after_a_stop(rt: HostRuntime) -> Result<(),
         let left = stopped(alloc, &begun, Calls { log, db: MANY }, 1)?;
         for unsynced in outcomes(&left) {
             let was_found = is_found(log, FIRST, *unsynced);
-            let mut custody = reopened(alloc, &left, *unsynced)?;
             assert!(rt;
-                is_one_part(alloc, &mut custody, was_found)?,
+                does_after(alloc, &left, *unsynced, Work::SendHello { was_found })?,
                 "{log} calls, {unsynced:?}"
             );
         }

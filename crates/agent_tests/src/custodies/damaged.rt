@@ -1,8 +1,14 @@
-//! A part whose bytes were changed on the volume: it is told where the part is sent again.
+//! A part whose bytes were changed on the volume: it is told where the part is sent again, or
+//! stated.
 use super::TestCustody;
-use super::bench::{AT_ELEVEN, NAME, Wanted, is_answered, keeps_hello, opened_if_any, with_hello};
-use custody::Custody;
-use custody_machine::{Damage, Fault};
+use super::bench::{
+    AT_ELEVEN, NAME, Wanted, ask, is_answered, keeps_hello, opened_if_any, registry, with_hello,
+};
+use custody::{Custody, Refused};
+use custody_machine::{Command, Damage, Fault, Statement};
+use custody_records::Registry;
+use deposit_name::{DepositId, Kind};
+use desk::Revision;
 use sqlite::Alter;
 use std::alloc::Global;
 use std::test::Fail;
@@ -47,6 +53,43 @@ fn tells_a_changed_bit_where_the_part_is_sent_again(rt: HostRuntime) -> Result<(
     for at in 4096..4101u64 {
         let mut custody = spoiled(alloc, at)?;
         assert!(rt; tells_damage(alloc, &mut custody)?);
+    }
+    Ok(())
+}
+
+/// The statement of a deposit of that part.
+fn statement() -> Result<Statement, Fail> {
+    let Registry { tld, first_day } = registry()?;
+    Ok(Statement {
+        tld,
+        day: first_day,
+        kind: Kind::Full,
+        rev: Revision::new(0).ok_or("a revision")?,
+        parts: 1,
+        id: DepositId::parse(b"X").ok_or("an id")?,
+    })
+}
+
+/// Whether the statement is answered by the damage, each time, and has no notice.
+fn states_damage<V: Volume, S: Alter>(
+    alloc: Global,
+    custody: &mut Custody<V, S>,
+) -> Result<bool, Fail> {
+    let command = Command::Statement(statement()?);
+    let first = ask(alloc, custody, &command, AT_ELEVEN)?;
+    let again = ask(alloc, custody, &command, AT_ELEVEN)?;
+    let wanted = Err(Refused::Fault(Fault::Damaged(Damage::Digest)));
+    let is_told = (first == wanted) & (again == wanted);
+    let records = custody.records().ok().ok_or("records")?;
+    Ok(is_told & records.notices().is_empty() & keeps_hello(custody)?)
+}
+
+#[test]
+fn tells_a_changed_bit_where_the_part_is_stated(rt: HostRuntime) -> Result<(), Fail> {
+    let alloc = rt.alloc();
+    for at in 4096..4101u64 {
+        let mut custody = spoiled(alloc, at)?;
+        assert!(rt; states_damage(alloc, &mut custody)?);
     }
     Ok(())
 }

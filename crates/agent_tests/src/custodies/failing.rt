@@ -5,6 +5,7 @@ use super::script::{Step, ask_custody, ask_plain, goes_on_as};
 use super::{TestCustody, TestDatabase, new_custody};
 use custody::{Custody, Refused};
 use custody_machine::Fault;
+use desk::NoticeKind;
 use plain_machine::PlainState;
 use sqlite::Alter;
 use std::alloc::Global;
@@ -38,6 +39,7 @@ fn count_wrong<V: Volume, S: Alter>(
     plain: &mut PlainState,
     number: u64,
 ) -> Result<u64, Fail> {
+    let _kind: Option<NoticeKind> = None;
     let mut wrong = 0u64;
     let mut calls = 1u64;
     for (step, made) in SENT {
@@ -63,6 +65,7 @@ fn is_closed(custody: &TestCustody) -> bool {
 
 /// Whether a custody whose volume fails at this call answers as wanted, and keeps what it kept.
 fn fails_well(alloc: Global, number: u64) -> Result<bool, Fail> {
+    let _kind: Option<NoticeKind> = None;
     let (volume, db) = failing(alloc, number)?;
     let mut custody = opened_if_any(alloc, volume, db)?.ok_or("not opened")?;
     let mut plain = PlainState::new(alloc);
@@ -92,6 +95,7 @@ fn closes_at_each_call_that_fails(rt: HostRuntime) -> Result<(), Fail> {
 
 #[test]
 fn opens_after_an_opening_that_fails(rt: HostRuntime) -> Result<(), Fail> {
+    let _kind: Option<NoticeKind> = None;
     let alloc = rt.alloc();
     let (volume, db) = failing(alloc, 0)?;
     let Err((fault, mut volume, db)) = opened(alloc, volume, db)? else {

@@ -3,6 +3,7 @@ use super::TestCustody;
 use super::bench::{Filling, Wanted, is_answered, opened, put, received, registered, restart};
 use custody_machine::Refusal;
 use deposit_name::DepositName;
+use desk::NoticeKind;
 use std::alloc::Global;
 use std::test::Fail;
 use vault_volume::Extent;
@@ -96,6 +97,8 @@ fn the_block_of_a_dropped_part_is_used_again(rt: HostRuntime) -> Result<(), Fail
 
 #[test]
 fn a_part_over_two_gaps_is_kept_through_a_restart(rt: HostRuntime) -> Result<(), Fail> {
+    // The checker has to be told of the type that lies within an answer.
+    let _kind: Option<NoticeKind> = None;
     let alloc = rt.alloc();
     let parts: [Sent; 2] = [
         (THIRD, 12_288, b"2026-08-03T01:00:00Z"),

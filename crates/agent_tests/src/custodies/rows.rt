@@ -8,6 +8,7 @@ use custody::Custody;
 use custody_machine::{Command, Refusal};
 use custody_records::Registry;
 use deposit_name::NameError;
+use desk::NoticeKind;
 use plain_machine::PlainAnswer;
 use schedule::{read_day, read_moment};
 use sqlite::Alter;
@@ -156,6 +157,7 @@ fn keeps_first_day<V: Volume, S: Alter>(
     alloc: Global,
     custody: &mut Custody<V, S>,
 ) -> Result<bool, Fail> {
+    let _kind: Option<NoticeKind> = None;
     let Registry { tld, first_day } = registry()?;
     let first = register(alloc, custody, AT_TEN)?;
     let later = read_day(b"2026-08-09").ok_or("a day")?;
@@ -201,6 +203,7 @@ fn send_thrice<V: Volume, S: Alter>(
     alloc: Global,
     custody: &mut Custody<V, S>,
 ) -> Result<Vec<Answer>, Fail> {
+    let _kind: Option<NoticeKind> = None;
     let ten = read_moment(AT_TEN).ok_or("a moment")?;
     let eleven = read_moment(AT_ELEVEN).ok_or("a moment")?;
     let commands = [
@@ -219,6 +222,7 @@ fn runs_in_order<V: Volume, S: Alter>(
     alloc: Global,
     custody: &mut Custody<V, S>,
 ) -> Result<bool, Fail> {
+    let _kind: Option<NoticeKind> = None;
     let wanted = [
         received(NAME, AT_TEN, 5, false)?,
         received(NAME, AT_TEN, 5, true)?,

@@ -3,6 +3,7 @@ use super::bench::{AT_ELEVEN, AT_TEN, Answer, NAME, SECOND, put, register, regis
 use custody::{Custody, Refused};
 use custody_machine::Command;
 use custody_records::{PartKey, Records, Registry};
+use desk::NoticeKind;
 use plain_machine::{PlainAnswer, PlainContent, PlainPart, PlainState, step_plain};
 use schedule::read_moment;
 use sha2::{Digest, Sha256};
@@ -72,6 +73,7 @@ pub fn ask_custody<V: Volume, S: Alter>(
 }
 
 pub fn ask_plain(alloc: Global, plain: &mut PlainState, step: Step) -> Result<Answer, Fail> {
+    let _kind: Option<NoticeKind> = None;
     let now = read_moment(moment_of(step)).ok_or("a moment")?;
     let Registry { tld, first_day } = registry()?;
     let answer = match step {
@@ -109,6 +111,7 @@ pub fn send<V: Volume, S: Alter>(
 
 /// What is kept after the first so many steps.
 pub fn plain_after(alloc: Global, count: usize) -> Result<PlainState, Fail> {
+    let _kind: Option<NoticeKind> = None;
     let mut plain = PlainState::new(alloc);
     for step in STEPS.iter().take(count) {
         ask_plain(alloc, &mut plain, *step)?
@@ -135,10 +138,11 @@ pub fn keeps<V: Volume, S: Alter>(
     custody: &Custody<V, S>,
     plain: &PlainState,
 ) -> Result<bool, Fail> {
+    let _kind: Option<NoticeKind> = None;
     let records = custody.records().ok().ok_or("records")?;
     let mut is_same = (records.registries().len() == plain.registries.len())
         & (records.parts().len() == plain.parts.len())
-        & records.notices().is_empty()
+        & (records.notices() == plain.notices.rows())
         & records.releases().is_empty();
     for registry in &plain.registries {
         is_same &= records.first_day(&registry.tld) == Some(registry.first_day);
@@ -156,6 +160,7 @@ pub fn goes_on_as<V: Volume, S: Alter>(
     custody: &mut Custody<V, S>,
     plain: &mut PlainState,
 ) -> Result<bool, Fail> {
+    let _kind: Option<NoticeKind> = None;
     let mut is_same = keeps(custody, plain)?;
     for step in PROBES {
         let answer = ask_custody(alloc, custody, step)?;

@@ -4,6 +4,7 @@ use custody::Refused;
 use custody::composed::{Reopened, begin_run_and_reopen, open_run_and_reopen};
 use custody_machine::{Command, Fault};
 use deposit_name::Tld;
+use desk::NoticeKind;
 use schedule::{Day, Sec, read_day, read_moment};
 use sqlite::{Connection, MemStore};
 use std::alloc::Global;
@@ -33,6 +34,7 @@ fn moment() -> Result<Sec, Fail> {
 
 /// A database in which these commands were done.
 fn done(alloc: Global, commands: &[(Command<'_>, Sec)]) -> Result<TestDatabase, Fail> {
+    let _kind: Option<NoticeKind> = None;
     let mut custody = new_custody(alloc, BLOCKS)?;
     let answers = custody.run(alloc, commands)?;
     for answer in &answers {

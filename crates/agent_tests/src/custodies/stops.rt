@@ -8,6 +8,7 @@ use super::script::{STEPS, goes_on_as, plain_after, send};
 use super::{TestDatabase, new_custody};
 use custody::Custody;
 use custody_machine::{Damage, Fault};
+use desk::NoticeKind;
 use sqlite::{Alter, Connection};
 use std::alloc::Global;
 use std::test::Fail;
@@ -20,6 +21,7 @@ const ACCEPTED: [usize; 6] = [0, 1, 1, 2, 2, 3];
 /// Begins a custody, closes it, opens it over a volume that stops at the call of this number, and sends
 /// all. What the stop leaves, and how many were accepted.
 fn stopped(alloc: Global, number: u64) -> Result<(MemVolume, TestDatabase, usize), Fail> {
+    let _kind: Option<NoticeKind> = None;
     let (mut volume, db) = new_custody(alloc, 8)?.close();
     volume.stop_at((volume.calls() as u64).saturating_add(number));
     match opened(alloc, volume, db)? {
@@ -40,6 +42,7 @@ fn opens_as(
     filling: Filling,
     count: usize,
 ) -> Result<bool, Fail> {
+    let _kind: Option<NoticeKind> = None;
     let mut plain = plain_after(alloc, count)?;
     restart(alloc, &mut volume, filling)?;
     let mut custody = opened_if_any(alloc, volume, db)?.ok_or("not opened")?;

@@ -11,7 +11,8 @@ Commands:
   init      Makes a vault in a folder: its volume vault.vol and its records custody.db
   register  Records a registry; of one that is known the kept first day is printed
   put       Receives one part file of a deposit; the same bytes again are answered as before
-  state     Prints the records: each registry with its parts, then the free blocks
+  verify    Verifies a deposit whose parts are all sent; the same words again are answered as before
+  state     Prints the records: each registry with its parts and notices, then the free blocks
 
 Options:
   -h, --help  Print help
@@ -21,6 +22,7 @@ First steps:
   escrow init vault --blocks 8 --number 0000000000000001
   escrow register vault example --first 2026-08-02
   escrow put vault example_2026-08-02_full_S1_R0.ryde
+  escrow verify vault example --date 2026-08-02 --kind full --revision 0 --parts 1 --id 20260802001
   escrow state vault
 
 Exit status: 0 done, 1 refused, 2 words out of form, 3 failed
@@ -78,8 +80,31 @@ Prints: received NAME LENGTH MOMENT
 Example: escrow put vault example_2026-08-02_full_S1_R0.ryde --now 2026-08-02T10:00:00Z
 ";
 
+const VERIFY: &str = "\
+Verifies a deposit whose parts are all sent; the same words again are answered as before
+
+Usage: escrow verify [OPTIONS] --date <DATE> --kind <KIND> --revision <N> --parts <N> --id <ID> <DIR> <TLD>
+
+Arguments:
+  <DIR>  Folder of the vault, which has to be there
+  <TLD>  Top-level domain of the registry
+
+Options:
+      --date <DATE>   Day of the deposit, as 2026-08-02
+      --kind <KIND>   What the deposit holds: full or diff
+      --revision <N>  Resend number of the deposit, 0 to 99: 0 where its parts end in R0.ryde
+      --parts <N>     How many parts the deposit has, 1 to 8
+      --id <ID>       Id of the deposit, as its envelope has it: 1 to 13 letters and digits
+      --now <MOMENT>  Moment of the notice, as 2026-08-02T10:05:00Z; else the clock is read
+  -h, --help          Print help
+
+Prints the notice: NUMBER RECEIPT DATE RNN ID MOMENT TLD where the deposit passes,
+        else NUMBER FAILURE-NN DATE RNN ID MOMENT TLD, NN the first check that fails
+Example: escrow verify vault example --date 2026-08-02 --kind full --revision 0 --parts 1 --id 20260802001
+";
+
 const STATE: &str = "\
-Prints the records: each registry with its parts, then the free blocks
+Prints the records: each registry with its parts and notices, then the free blocks
 
 Usage: escrow state <DIR>
 
@@ -91,17 +116,19 @@ Options:
 
 Prints: registry TLD DATE
         part NAME LENGTH held MOMENT
+        NUMBER RECEIPT DATE RNN ID MOMENT TLD, as verify prints a notice
         free F of T
 Example: escrow state vault
 ";
 
 /// Words that ask for help, and the text that they get.
-static HELP: [(&[&str], &str); 6] = [
+static HELP: [(&[&str], &str); 7] = [
     (&["--help"], ESCROW),
     (&["-h"], ESCROW),
     (&["init", "--help"], INIT),
     (&["register", "--help"], REGISTER),
     (&["put", "-h"], PUT),
+    (&["verify", "--help"], VERIFY),
     (&["state", "--help"], STATE),
 ];
 

@@ -1,110 +1,14 @@
 //! Orders on an agent over memory: what they print, and their exit statuses.
-use super::words_of;
-use agent_cli::{Order, act, order_of};
-use answer_lines::{Line, VolumeNumber, print_line, tell, tell_init};
+use super::bench::{Case, MemCustody, first_wrong, told, vault_of};
+use agent_cli::{Order, act};
+use answer_lines::{tell, tell_init};
 use custody::{Custody, InitError};
 use custody_machine::{Damage, Fault};
 use schedule::Sec;
-use sqlite::{Connection, MemStore};
 use std::alloc::{AllocError, Global};
 use std::io::{self, Write};
 use std::test::Fail;
-use vault_volume::{MemVolume, Volume};
-
-type MemCustody = Custody<MemVolume, MemStore>;
-
-/// What a call prints to output and to errors, and its status.
-#[derive(Debug, Drop)]
-struct Printed {
-    out: Vec<u8>,
-    err: Vec<u8>,
-    status: u8,
-}
-
-impl Printed {
-    fn is(&self, out: &str, err: &str, status: u8) -> bool {
-        self.out.as_slice() == out.as_bytes()
-            && self.err.as_slice() == err.as_bytes()
-            && self.status == status
-    }
-}
-
-fn new_custody(alloc: Global, blocks: u32, number: VolumeNumber) -> Result<MemCustody, Fail> {
-    let volume = MemVolume::new(alloc, blocks, 400, 12)?;
-    let db = Connection::open_in_memory(alloc)?;
-    match Custody::init(alloc, volume, db, number.get()) {
-        Ok(custody) => Ok(custody),
-        Err(_) => Err("a custody".into()),
-    }
-}
-
-fn vault_of(alloc: Global, blocks: &str) -> Result<(MemCustody, Printed), Fail> {
-    let words = words_of(
-        alloc,
-        &[
-            "init",
-            "d",
-            "--blocks",
-            blocks,
-            "--number",
-            "0000000000000001",
-        ],
-    )?;
-    let order = order_of(alloc, words.as_slice());
-    match &order {
-        Ok(Order::Init { blocks, number, .. }) => made(alloc, *blocks, *number),
-        _ => Err("an init".into()),
-    }
-}
-
-fn made(alloc: Global, blocks: u32, number: VolumeNumber) -> Result<(MemCustody, Printed), Fail> {
-    let custody = new_custody(alloc, blocks, number)?;
-    let mut out = Vec::new(alloc);
-    let status = print_line(&Line::Ready { blocks, number }, &mut out);
-    let err = Vec::new(alloc);
-    Ok((custody, Printed { out, err, status }))
-}
-
-/// Carries the words out, of which those of a `put` name the moment.
-fn told(
-    alloc: Global,
-    custody: &mut MemCustody,
-    texts: &[&str],
-    file: &[u8],
-) -> Result<Printed, Fail> {
-    let words = words_of(alloc, texts)?;
-    let Ok(order) = order_of(alloc, words.as_slice()) else {
-        return Err("an order".into());
-    };
-    let now = match &order {
-        Order::Put { now: Some(now), .. } => *now,
-        _ => Sec::new(0).ok_or("a moment")?,
-    };
-    let (mut out, mut err) = (Vec::new(alloc), Vec::new(alloc));
-    let status = act(alloc, custody, &order, file, now, &mut out, &mut err);
-    Ok(Printed { out, err, status })
-}
-
-/// Words, the bytes of the file that they name, and what they print: output, errors and the status.
-type Case = (
-    &'static [&'static str],
-    &'static [u8],
-    (&'static str, &'static str, u8),
-);
-
-/// The first of the cases that prints something else, where they are told in their order.
-fn first_wrong(
-    alloc: Global,
-    custody: &mut MemCustody,
-    cases: &[Case],
-) -> Result<Option<usize>, Fail> {
-    for (at, (texts, file, (out, err, status))) in cases.iter().enumerate() {
-        if !told(alloc, custody, texts, file)?.is(out, err, *status) {
-            return Ok(Some(at));
-        }
-    }
-    Ok(None)
-}
+use vault_volume::Volume;
 
 /// Whether a part that is sent at ten is refused so.
 fn is_refused(
@@ -193,6 +97,105 @@ fn a_part_is_received_once(rt: HostRuntime) -> Result<(), Fail> {
     let alloc = rt.alloc();
     let mut custody = vault_with_part(alloc)?;
     assert_eq!(rt; first_wrong(alloc, &mut custody, &AFTER_A_PART)?, None);
+    Ok(())
+}
+
+// Statements of the part's revision: with two parts, the first that is taken, the same at another
+// moment, and with another id.
+const OF_TWO_PARTS: &[&str] = &[
+    "verify",
+    "d",
+    "example",
+    "--date",
+    "2026-08-02",
+    "--kind",
+    "full",
+    "--revision",
+    "0",
+    "--parts",
+    "2",
+    "--id",
+    "X",
+    "--now",
+    "2026-08-02T10:05:00Z",
+];
+
+const STATED: &[&str] = &[
+    "verify",
+    "d",
+    "example",
+    "--date",
+    "2026-08-02",
+    "--kind",
+    "full",
+    "--revision",
+    "0",
+    "--parts",
+    "1",
+    "--id",
+    "X",
+    "--now",
+    "2026-08-02T10:05:00Z",
+];
+
+const STATED_AGAIN: &[&str] = &[
+    "verify",
+    "d",
+    "example",
+    "--date",
+    "2026-08-02",
+    "--kind",
+    "full",
+    "--revision",
+    "0",
+    "--parts",
+    "1",
+    "--id",
+    "X",
+    "--now",
+    "2026-08-03T00:00:00Z",
+];
+
+const OF_OTHER_ID: &[&str] = &[
+    "verify",
+    "d",
+    "example",
+    "--date",
+    "2026-08-02",
+    "--kind",
+    "full",
+    "--revision",
+    "0",
+    "--parts",
+    "1",
+    "--id",
+    "Y",
+    "--now",
+    "2026-08-02T10:05:00Z",
+];
+
+const FAILURE: &str =
+    "       1 FAILURE-01 2026-08-02 R00 X             2026-08-02T10:05:00Z example\n";
+
+const WITH_NOTICE: &str = "registry example 2026-08-02\n\
+                           part example_2026-08-02_full_S1_R0.ryde 5 held 2026-08-02T10:00:00Z\n       1 FAILURE-01 2026-08-02 R00 X             2026-08-02T10:05:00Z example\n\
+                           free 6 of 7\n";
+
+/// A deposit that fails, its statement again, and another one.
+static STATEMENTS: [Case; 6] = [
+    (OF_TWO_PARTS, b"", ("", "Q12 parts differ\n", 1)),
+    ONE_PART,
+    (STATED, b"", (FAILURE, "", 0)),
+    (STATED_AGAIN, b"", (FAILURE, "", 0)),
+    (OF_OTHER_ID, b"", ("", "Q8 already stated\n", 1)),
+    (STATE_WORDS, b"", (WITH_NOTICE, "", 0)),
+];
+
+#[test]
+fn a_failed_deposit_has_one_notice(rt: HostRuntime) -> Result<(), Fail> {
+    let alloc = rt.alloc();
+    let mut custody = vault_with_part(alloc)?;
+    assert_eq!(rt; first_wrong(alloc, &mut custody, &STATEMENTS)?, None);
     Ok(())
 }
 

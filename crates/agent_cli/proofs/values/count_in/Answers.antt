@@ -1,17 +1,16 @@
-use Rattle.std.proofs.Common.{◌∙◌, ◌≡◌, ap, refl, unwrap_or, Option, Some, None, List, ℕ}
-use Rattle.std.specs.Option.{option_map_or}
-use Rattle.std.specs.Str.Parse.{ParsesUnsigned, ExplainsUnsignedError, HasUnsignedDigitsIfOk}
-use Rattle.clap.specs.Words.{found_of, one_text}
-use Rattle.clap.proofs.WalkLemmas.{one_text-rows}
-use Rattle.agent_cli.specs.Forms.{count_in_text}
-use Rattle.agent_cli.proofs.Readings.{count_read}
+use Rattle.std.proofs.Common.{◌∙◌, ◌≤◌, ◌<◌, ℕ, arith, subst}
+use Rattle.clap.specs.Words.{found_of, one_of, rows_of}
+use Rattle.agent_cli.proofs.Readings.{count_above, count_got, count_within}
 use Rattle.agent_cli.proofs.values.count_in.Goals as goal
 
-pub returns : goal.returns
-returns c =
-    let go : (o : Option (List ℕ)) → one_text (found_of c.args.matches.now) c.args.id.now ≡ o → unwrap_or c.get_one.result 0 ≡ option_map_or count_in_text o 0 =
-    λ o e. (elim o as (λ v. one_text (found_of c.args.matches.now) c.args.id.now ≡ v → unwrap_or c.get_one.result 0 ≡ option_map_or count_in_text v 0) [
-      | None ↦ λ is. ap (λ r. unwrap_or r 0) (c.get_one.ensures.none is)
-      | Some t ↦ λ is. count_read (λ bs r. ParsesUnsigned 32 10 bs r × ExplainsUnsignedError 10 bs r × HasUnsignedDigitsIfOk bs r) t c.get_one.result (λ u x g. g.0) (c.get_one.ensures.value t is)
-    ]) e in
-    c.unwrap_or.ensures ∙ go _ refl ∙ ap (λ o. option_map_or count_in_text o 0) (one_text-rows (found_of c.args.matches.now) c.args.id.now)
+pub returns-then-count-most-clause-count : goal.returns-then-count-most-clause-count
+returns-then-count-most-clause-count c =
+    let is = c.unwrap_or-count.ensures ∙ count_got (found_of c.args.matches.now) c.args.id.now c.get_one.result c.get_one.ensures.none c.get_one.ensures.value in
+    count_above (one_of c.args.id.now (rows_of (found_of c.args.matches.now))) c.args.most (omega arith)
+    (subst (λ (n : ℕ). c.args.most < n) is c.if-count-most.true)
+
+pub returns-else-count-most-clause-count : goal.returns-else-count-most-clause-count
+returns-else-count-most-clause-count c =
+    let is = c.unwrap_or-count.ensures ∙ count_got (found_of c.args.matches.now) c.args.id.now c.get_one.result c.get_one.ensures.none c.get_one.ensures.value in
+    let small : c.unwrap_or-count.result ≤ c.args.most = omega (arith, c.if-count-most.false) in
+    is ∙ count_within (one_of c.args.id.now (rows_of (found_of c.args.matches.now))) c.args.most (omega arith) (subst (λ (n : ℕ). n ≤ c.args.most) is small)

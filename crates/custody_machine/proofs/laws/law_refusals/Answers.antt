@@ -1,4 +1,4 @@
-use Rattle.custody_machine.proofs.Keeping.{tests_are_in_order}
+use Rattle.custody_machine.proofs.Accepting.{tests_are_in_order}
 use Rattle.custody_machine.proofs.laws.law_refusals.Goals as goal
 
 pub returns : goal.returns

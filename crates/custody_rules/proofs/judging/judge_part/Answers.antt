@@ -1,5 +1,5 @@
 use Rattle.custody_records.specs.Held.{records_of}
-use Rattle.custody_machine.proofs.Keeping.{read_of}
+use Rattle.custody_machine.proofs.Accepting.{read_of}
 use Rattle.custody_rules.proofs.Judged.{refuses_text}
 use Rattle.custody_rules.proofs.judging.judge_part.Goals as goal
 

@@ -1,6 +1,6 @@
 use Rattle.std.proofs.Common.{refl, ◌∙◌, sym}
 use Rattle.custody_records.specs.Held.{records_of}
-use Rattle.custody_machine.proofs.Keeping.{differs_first, order_first, none_first, so}
+use Rattle.custody_machine.proofs.Accepting.{differs_first, order_first, none_first, so}
 use Rattle.custody_rules.proofs.Judged.{first_in_records}
 use Rattle.custody_rules.proofs.judging.refusal_of_new.Goals as goal
 

@@ -1,38 +1,54 @@
-use Rattle.std.proofs.Common.{◌≡◌, ◌∙◌, true, false, sym, ℕ, List}
+use Rattle.std.proofs.Common.{◌≡◌, ◌∙◌, ◌↔◌, Bool, true, false, ◌&&◌, Option, BTreeSet, sym, ap, subst}
+use Rattle.std.specs.Prelude.{IfNone, IfSome}
+use Rattle.std.specs.BTreeSet.{contains}
 use Rattle.custody_records.specs.Held.{records_of}
-use Rattle.custody_rules.specs.Links.{each_passes, is_part_linked, is_notice_linked, is_release_linked}
-use Rattle.custody_rules.proofs.LinkLemmas.{all_linked, parts_broken, notices_broken, releases_broken, parts_pass, notices_pass, releases_pass}
+use Rattle.custody_rules.specs.declared.told.FailedRevision.{FailedRevision}
+use Rattle.custody_rules.specs.Orders.{failed_revision_cmp}
+use Rattle.custody_rules.specs.Told.{HaveNoRivals, IsTold, failed_revision_of}
+use Rattle.custody_rules.proofs.LinkLemmas.{all_linked, some_broken, passes, parts_pass, notices_pass, releases_pass, parts_test, notices_test, releases_test}
+use Rattle.custody_rules.proofs.Rivals.{failures_are, linked_only}
 use Rattle.custody_rules.proofs.linked.are_linked.Goals as goal
-use Rattle.custody_rules.proofs.linked.are_linked.Goals.{then-parts_are_linked, else-parts_are_linked}
+use Rattle.custody_rules.proofs.linked.are_linked.Goals.{then-parts_are_linked, else-parts_are_linked, then-notices_are_linked, else-notices_are_linked}
 
-pub returns-then-notices_are_linked-clause-linked : goal.returns-then-notices_are_linked-clause-linked
-returns-then-notices_are_linked-clause-linked c is_true =
+both : (value result p n r : Bool) → value ≡ (p && n) → result ≡ (value && r) → result ≡ (p && (n && r))
+both value result true n r e f = f ∙ ap (λ b. b && r) e
+both value result false n r e f = f ∙ ap (λ b. b && r) e
+
+-- the answer is that of the tests
+answer_is : (c : goal.After-drop-failed) → c.if-notices_are_linked.result ≡ passes (records_of c.args.records.now)
+answer_is c =
     let all = records_of c.args.records.now in
-    let parts = parts_pass all c.parts.result.now c.parts.ensures.all c.parts.ensures.rising in
-    let releases = releases_pass all c.releases.result.now c.releases.ensures.all c.releases.ensures.rising in
-    elim c.if-parts_are_linked.branch [
+    let told : (t : FailedRevision) → (contains failed_revision_cmp c.in-Some.failed t ≡ true) ↔ IsTold failed_revision_of c.notices.result.now t =
+    subst {A = Option (BTreeSet FailedRevision)} (λ found. IfSome found (λ failed. (t : FailedRevision) → (contains failed_revision_cmp failed t ≡ true) ↔ IsTold failed_revision_of c.notices.result.now t)) c.in-Some.is c.in_ok-failed.ensures.failed in
+    let same = failures_are all c.notices.result.now c.notices.ensures.all c.notices.ensures.rising (contains failed_revision_cmp c.in-Some.failed) told in
+    let parts : c.parts_are_linked.result ≡ parts_test all = c.parts_are_linked.ensures ∙ parts_pass all (contains failed_revision_cmp c.in-Some.failed) same c.parts.result.now c.parts.ensures.all c.parts.ensures.rising in
+    let value : c.if-parts_are_linked.value ≡ (parts_test all && notices_test all) = elim c.if-parts_are_linked.branch [
       | then-parts_are_linked w ↦
-          let notices = notices_pass all w.notices.result.now w.notices.ensures.all w.notices.ensures.rising in
-          let parts_are : each_passes (is_part_linked all) all.parts ≡ true = cc in
-          let notices_are : each_passes (is_notice_linked all) all.notices ≡ true = cc in
-          let releases_are : each_passes (λ (_ : List ℕ). is_release_linked all) all.releases ≡ true = cc in
-          all_linked all parts_are notices_are releases_are
-      | else-parts_are_linked w ↦ cc
-    ]
+          let notices : w.notices_are_linked.result ≡ notices_test all =
+          w.notices_are_linked.ensures ∙ notices_pass all w.notices-then-parts_are_linked.result.now w.notices-then-parts_are_linked.ensures.all w.notices-then-parts_are_linked.ensures.rising in
+          w.value-is ∙ (notices ∙ ap (λ b. b && notices_test all) (sym (sym parts ∙ w.if-parts_are_linked.true)))
+      | else-parts_are_linked w ↦ w.value-is ∙ (w.if-parts_are_linked.false ∙ ap (λ b. b && notices_test all) (sym (sym parts ∙ w.if-parts_are_linked.false)))
+    ] in
+    let result : c.if-notices_are_linked.result ≡ (c.if-parts_are_linked.value && releases_test all) = elim c.if-notices_are_linked.branch [
+      | then-notices_are_linked w ↦
+          let releases : w.releases_are_linked.result ≡ releases_test all =
+          w.releases_are_linked.ensures ∙ releases_pass all w.releases.result.now w.releases.ensures.all w.releases.ensures.rising in
+          w.result-is ∙ (releases ∙ ap (λ b. b && releases_test all) (sym w.if-notices_are_linked.true))
+      | else-notices_are_linked w ↦ w.result-is ∙ (w.if-notices_are_linked.false ∙ ap (λ b. b && releases_test all) (sym w.if-notices_are_linked.false))
+    ] in
+    both c.if-parts_are_linked.value c.if-notices_are_linked.result (parts_test all) (notices_test all) (releases_test all) value result
 
-pub returns-then-notices_are_linked-clause-broken : goal.returns-then-notices_are_linked-clause-broken
-returns-then-notices_are_linked-clause-broken c is_false =
-    let all = records_of c.args.records.now in
-    releases_broken all (sym (releases_pass all c.releases.result.now c.releases.ensures.all c.releases.ensures.rising) ∙ (sym c.releases_are_linked.ensures ∙ is_false))
+pub returns-in_default-clause-broken : goal.returns-in_default-clause-broken
+returns-in_default-clause-broken c = λ _ linked.
+    let rows = c.notices.result.now in
+    let twice : ¬ HaveNoRivals rows = subst {A = Option (BTreeSet FailedRevision)} (λ found. IfNone found (¬ HaveNoRivals rows)) c.in_default.is c.in_ok-failed.ensures.twice in
+    twice (linked_only (records_of c.args.records.now) rows c.notices.ensures.all c.notices.ensures.rising linked)
 
-pub returns-else-notices_are_linked-clause-broken : goal.returns-else-notices_are_linked-clause-broken
-returns-else-notices_are_linked-clause-broken c is_false =
-    let all = records_of c.args.records.now in
-    let parts = parts_pass all c.parts.result.now c.parts.ensures.all c.parts.ensures.rising in
-    elim c.if-parts_are_linked.branch [
-      | then-parts_are_linked w ↦
-          let notices = notices_pass all w.notices.result.now w.notices.ensures.all w.notices.ensures.rising in
-          let broken : each_passes (is_notice_linked all) all.notices ≡ false = cc in
-          notices_broken all broken
-      | else-parts_are_linked w ↦ let broken : each_passes (is_part_linked all) all.parts ≡ false = cc in parts_broken all broken
-    ]
+pub returns-clause-linked : goal.returns-clause-linked
+returns-clause-linked c = λ is_true.
+    let rows = c.notices.result.now in
+    let only : HaveNoRivals rows = subst {A = Option (BTreeSet FailedRevision)} (λ found. IfSome found (λ _. HaveNoRivals rows)) c.in-Some.is c.in_ok-failed.ensures.once in
+    all_linked (records_of c.args.records.now) rows c.notices.ensures.all c.notices.ensures.rising only (sym (answer_is c) ∙ is_true)
+
+pub returns-clause-broken : goal.returns-clause-broken
+returns-clause-broken c = λ is_false. some_broken (records_of c.args.records.now) (sym (answer_is c) ∙ is_false)

@@ -1,7 +1,7 @@
 use Rattle.std.proofs.Common.{refl, sym, ◌∙◌, ap, subst, Ok, inl, inr, false}
 use Rattle.std.specs.FinMap.{get}
 use Rattle.custody_records.specs.Orders.{text_total}
-use Rattle.custody_machine.proofs.Keeping.{insert_here}
+use Rattle.custody_machine.proofs.Accepting.{insert_here}
 use Rattle.custody_records.specs.Records.{with_registry}
 use Rattle.custody_machine.specs.Machine.{Register, OfRegistry}
 use Rattle.custody_machine.proofs.Composed.{register_adds}

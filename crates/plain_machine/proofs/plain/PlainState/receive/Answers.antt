@@ -1,4 +1,4 @@
-use Rattle.custody_machine.proofs.Keeping.{read_of}
+use Rattle.custody_machine.proofs.Accepting.{read_of}
 use Rattle.plain_machine.proofs.PlainSteps.{refuses_text}
 use Rattle.plain_machine.specs.Plain.{shown}
 use Rattle.plain_machine.proofs.plain.PlainState.receive.Goals as goal

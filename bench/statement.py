@@ -1,0 +1,91 @@
+#!/usr/bin/env python3
+"""Times a statement through the program `escrow`: a full deposit of 8 MiB in eight parts is verified and its notice
+recorded, against `sha256sum` of the same files and one committed insert by `sqlite3`.
+
+Run `rt run` in crates/escrow first. It needs sha256sum and sqlite3. Then: python3 bench/statement.py
+"""
+import pathlib
+import shutil
+import subprocess
+import tempfile
+import time
+
+import verify
+
+PROGRAM = verify.PROGRAM.parent.parent.parent / "escrow/out/escrow"
+PART = 1024 * 1024
+PARTS = 8
+RUNS = 15
+NOTICE = "CREATE TABLE notice (tld TEXT NOT NULL, number INTEGER NOT NULL, at INTEGER NOT NULL, PRIMARY KEY (tld, number)) STRICT;"
+
+
+def run(*words):
+    done = subprocess.run(words, capture_output=True)
+    assert done.returncode == 0, (words, done)
+    return done.stdout.decode()
+
+
+def seconds(*words):
+    start = time.perf_counter()
+    printed = run(*words)
+    return time.perf_counter() - start, printed
+
+
+def part_files(folder, deposit):
+    """The deposit cut into eight part files of at most 1 MiB each."""
+    paths = []
+    for i in range(PARTS):
+        path = folder / f"example_2026-08-02_full_S{i + 1}_R0.ryde"
+        path.write_bytes(deposit[i * PART : (i + 1) * PART])
+        paths.append(path)
+    return paths
+
+
+def filled_vault(folder, paths):
+    """A vault that has received the parts."""
+    folder.mkdir()
+    run(PROGRAM, "init", folder, "--blocks", "4096", "--number", "0000000000000001")
+    run(PROGRAM, "register", folder, "example", "--first", "2026-08-02")
+    for path in paths:
+        run(PROGRAM, "put", folder, path, "--now", "2026-08-02T10:00:00Z")
+
+
+def statement(top, vault):
+    """The time of one statement, in a copy of the vault."""
+    copy = top / "copy"
+    shutil.rmtree(copy, ignore_errors=True)
+    shutil.copytree(vault, copy)
+    words = ["--date", "2026-08-02", "--kind", "full", "--revision", "0", "--parts", str(PARTS), "--id", verify.ID]
+    took, printed = seconds(PROGRAM, "verify", copy, "example", *words, "--now", "2026-08-02T10:05:00Z")
+    assert " RECEIPT " in printed, printed
+    return took
+
+
+def by_commands(top, paths, i):
+    """The time of sha256sum of the parts, and of one committed insert."""
+    database = top / "notices.db"
+    if not database.exists():
+        run("sqlite3", database, f"PRAGMA journal_mode = WAL; {NOTICE}")
+    digests, _ = seconds("sha256sum", *paths)
+    insert, _ = seconds("sqlite3", database, f"PRAGMA synchronous = FULL; INSERT INTO notice VALUES ('example', {i}, 0);")
+    return digests, insert
+
+
+def main():
+    deposit = verify.joined(verify.registry(False))
+    assert 7 * PART < len(deposit) <= PARTS * PART, len(deposit)
+    with tempfile.TemporaryDirectory() as folder:
+        top = pathlib.Path(folder)
+        paths = part_files(top, deposit)
+        vault = top / "vault"
+        filled_vault(vault, paths)
+        ours = min(statement(top, vault) for _ in range(RUNS))
+        pairs = [by_commands(top, paths, i) for i in range(RUNS)]
+        digests = min(pair[0] for pair in pairs)
+        insert = min(pair[1] for pair in pairs)
+        theirs = digests + insert
+        print(f"{len(deposit)} bytes: verify {ours * 1000:.0f} ms; sha256sum {digests * 1000:.0f} ms, insert {insert * 1000:.0f} ms; ratio {ours / theirs:.1f}")
+
+
+if __name__ == "__main__":
+    main()

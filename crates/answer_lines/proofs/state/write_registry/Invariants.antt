@@ -1,9 +1,0 @@
-use Rattle.std.proofs.Common.{take}
-use Rattle.std.specs.Io.KnownBytes.{Appends}
-use Rattle.custody_records.specs.Tables.{entries_of}
-use Rattle.custody_records.specs.Typed.{part_place, part_value, registry_entry}
-use Rattle.answer_lines.specs.State.{lines_text, registry_lines}
-use Rattle.answer_lines.proofs.state.write_registry.Given as goal
-
-abbrev pub invariant-loop-part : goal.invariant-loop-part
-invariant-loop-part g l = Appends (g.W.Write.contents l.fn.out) (g.W.Write.contents l.out) (lines_text (registry_lines (registry_entry l.registry) (entries_of part_place part_value (take l.part-index l.parts))))

@@ -1,0 +1,337 @@
+-- A new notice, as one change of the records: what a statement tells that is accepted and no repeat, and that records belong together with its notice.
+use Rattle.std.proofs.Common.{◌≡◌, inl, ℕ, zero, suc, ◌+◌, ◌-◌, ◌<◌, ◌^◌, List, [], ◌∷◌, Option, Some, None, Bool, true, false, not, ◌&&◌, ◌||◌, ◌==◌, refl, sym, ◌∙◌, ap, subst, is_some, is_none, cond, arith, Contains, length}
+use Rattle.std.specs.Prelude.{option_map, slice_index_or}
+use Rattle.std.specs.List.{list_any}
+use Rattle.std.specs.FinMap.{FinMap, entries, get, insert, get-insert}
+use Rattle.std.specs.Ordering.{eq_by_cmp}
+use Rattle.std.specs.Cmp.{Equal-is}
+use Rattle.std.specs.Prelude.{nat_lt}
+use Rattle.std.proofs.lemmas.Bool.Decides.{Decides-eqb, Decides-ltb, nat_tests}
+use Rattle.extent_map.specs.declared.extent.Extent.{Extent}
+use Rattle.deposit_verify.specs.declared.verdict.Verdict.{Verdict}
+use Rattle.deposit_verify.specs.declared.verdict.Verdict.TheVariants.{Pass, Fail}
+use Rattle.desk.specs.declared.notices.NoticeKind.{NoticeKind}
+use Rattle.desk.specs.declared.notices.NoticeKind.TheVariants.{Receipt, Failure, Absence}
+use Rattle.vault_volume.proofs.ImageLemmas.{same_in}
+use Rattle.custody_records.specs.Keys.{PartKey, NoticeKey, notice_cmp}
+use Rattle.custody_records.specs.Records.{PartRecord, Notice, Records, key_of}
+use Rattle.custody_records.specs.Records as recorded_in
+use Rattle.custody_records.specs.Orders.{notice_total, notice_exact}
+use Rattle.custody_machine.specs.declared.command.Statement as told
+use Rattle.custody_machine.specs.State.{places, at_place, is_notice_of, has_notice}
+use Rattle.custody_machine.specs.Machine.{Statement, OfNotice, Reply, Accept, step, reads, is_receipt, is_failure_of, is_verdict_of, has_other_kind, is_dropped, is_gone, part_in, first_part, has_dropped_part, has_verdict, kept_verdict, next_key, notice_kind, verdict_notice, verdict_on, part_keys, with_notice, if_made}
+use Rattle.custody_machine.specs.Stored.{AreLinked, AreWhole, IsGood, AreOfOneDay, part_of, content_of, revision_of, is_absence, state_in}
+use Rattle.custody_machine.specs.Rulings.{AddsVerdict, Makes, Decides}
+use Rattle.custody_machine.specs.Custody.{IsInOrder}
+use Rattle.custody_machine.proofs.SameValues.{text_decides, kind_decides}
+use Rattle.custody_machine.proofs.Accepting.{accept_inj, insert_new, step_accepts}
+use Rattle.custody_machine.proofs.Entries.{any_of_get, any_insert_grows, next_is_new, number_before, found_where_any, passes_found, get_found}
+use Rattle.custody_machine.proofs.Stated.{NoneStandsOf, accepts_statement, stated_by, IsStated}
+use Rattle.custody_machine.proofs.Keeping.{unstated_of}
+use Rattle.custody_machine.proofs.Composed.{IsChange, named_used, head_used, place_is, closed}
+use Rattle.custody_machine.proofs.Series.{first_taken}
+
+and_both : (a b : Bool) → (a && b) ≡ true → (a ≡ true) × (b ≡ true)
+and_both true b h = (refl, h)
+and_both false b h = cc
+
+or_none : (a b : Bool) → (a || b) ≡ false → (a ≡ false) × (b ≡ false)
+or_none true b h = cc
+or_none false b h = (refl, h)
+
+-- ---- notices of a day, in the records
+
+-- a notice of a day that passes a test
+pub record Finds (notices : FinMap notice_cmp Notice) (tld : List ℕ) (day : ℕ) (test : NoticeKind → Bool) : Type 0 where
+  pub key : NoticeKey
+  pub notice : Notice
+  pub there : get notices key ≡ Some notice
+  pub tld_is : key.tld ≡ tld
+  pub day_is : notice.day ≡ day
+  pub passes : test notice.kind ≡ true
+
+pub finds : (notices : FinMap notice_cmp Notice) (tld : List ℕ) (day : ℕ) (test : NoticeKind → Bool) → has_notice notices tld day test ≡ true → Finds notices tld day test
+finds notices tld day test h =
+    let found = found_where_any (is_notice_of tld day test) (entries notices) h in
+    let passes = and_both _ _ (passes_found (is_notice_of tld day test) (entries notices) found.0 found.1) in
+    let rest = and_both _ _ passes.1 in
+    record {
+      key = found.0.0;
+      notice = found.0.1;
+      there = get_found notice_total notices (is_notice_of tld day test) found.0 found.1;
+      tld_is = (text_decides found.0.0.tld tld).0 passes.0;
+      day_is = (Decides-eqb found.0.1.day day).0 rest.0;
+      passes = rest.1;
+    }
+
+failure_is : (rev : ℕ) (kind : NoticeKind) → is_failure_of rev kind ≡ true → (revision_of kind ≡ Some rev) × (is_receipt kind ≡ false) × (is_verdict_of rev kind ≡ true)
+failure_is rev (Receipt r id) h = cc
+failure_is rev (Failure r id check) h = (ap Some ((Decides-eqb r rev).0 h), refl, h)
+failure_is rev Absence h = cc
+
+receipt_is : (kind : NoticeKind) → is_receipt kind ≡ true → (rev : ℕ) × (revision_of kind ≡ Some rev) × (is_verdict_of rev kind ≡ true)
+receipt_is (Receipt r id) h = (r, refl, (Decides-eqb r r).1 refl)
+receipt_is (Failure r id check) h = cc
+receipt_is Absence h = cc
+
+-- ---- a day's revisions, in records that belong together
+
+module _ (records : Records) (linked : AreLinked records) (tld : List ℕ) (day : ℕ) where
+  abbrev first_of : ℕ → PartKey
+  first_of rev = record { tld = tld; day = day; rev = rev; part = 1 }
+
+  -- the revision before one with parts has failed, and has parts
+  failed_before : (rev : ℕ) → is_some (get records.parts (first_of (suc rev))) ≡ true → Finds records.notices tld day (is_failure_of rev)
+  failed_before rev h = by (get records.parts (first_of (suc rev))) refl h
+    where
+      by : (o : Option PartRecord) → get records.parts (first_of (suc rev)) ≡ o → is_some o ≡ true → Finds records.notices tld day (is_failure_of rev)
+      by None at h = cc
+      by (Some part) at h =
+          let same : suc rev - 1 ≡ rev = omega arith in
+          finds records.notices tld day (is_failure_of rev) (ap (λ r. has_notice records.notices tld day (is_failure_of r)) (sym same) ∙ linked.due (first_of (suc rev)) part at (omega arith))
+
+  has_parts : (rev : ℕ) (kind : NoticeKind → Bool) → ((k : NoticeKind) → kind k ≡ true → revision_of k ≡ Some rev) → Finds records.notices tld day kind → is_some (get records.parts (first_of rev)) ≡ true
+  has_parts rev kind tells f = ap (λ (k : PartKey). is_some (get records.parts k)) (λ i. record { tld = sym f.tld_is i; day = sym f.day_is i; rev = rev; part = 1 })
+      ∙ linked.verdict_parts f.key f.notice rev f.there (tells f.notice.kind f.passes)
+
+  -- each revision before one with parts has failed
+  failed_below : (gap rev top : ℕ) → top ≡ suc (gap + rev) → is_some (get records.parts (first_of top)) ≡ true → Finds records.notices tld day (is_failure_of rev)
+  failed_below zero rev top e h =
+      let same : top ≡ suc rev = omega (arith, e) in
+      failed_before rev (ap (λ n. is_some (get records.parts (first_of n))) (sym same) ∙ h)
+  failed_below (suc gap) rev top e h =
+      let same : top ≡ suc (suc (gap + rev)) = omega (arith, e) in
+      let f = failed_before (suc (gap + rev)) (ap (λ n. is_some (get records.parts (first_of n))) (sym same) ∙ h) in
+      failed_below gap rev (suc (gap + rev)) refl (has_parts (suc (gap + rev)) (is_failure_of (suc (gap + rev))) (λ k p. (failure_is (suc (gap + rev)) k p).0) f)
+
+  told_of : (test : NoticeKind → Bool) (f : Finds records.notices tld day test) (other : NoticeKind → Bool) → other f.notice.kind ≡ true → has_notice records.notices tld day other ≡ true
+  told_of test f other p = any_of_get notice_total records.notices notice_exact (is_notice_of tld day other) f.key f.notice f.there
+      (λ i. (text_decides f.key.tld tld).1 f.tld_is i && ((Decides-eqb f.notice.day day).1 f.day_is i && p i))
+
+  -- a day on which a revision has parts and no verdict has no receipt
+  no_receipt : (rev : ℕ) → is_some (get records.parts (first_of rev)) ≡ true → has_notice records.notices tld day (is_verdict_of rev) ≡ false → Finds records.notices tld day is_receipt → ⊥
+  no_receipt rev parts none r = let is = receipt_is r.notice.kind r.passes in by is.0 is.1 is.2 (is.0 == rev) refl (nat_lt is.0 rev) refl
+    where
+      clash : has_notice records.notices tld day (is_verdict_of rev) ≡ true → ⊥
+      clash h = let no : true ≡ false = sym h ∙ none in cc
+
+      gap : (a b : ℕ) → a < b → suc ((b - a - 1) + a) ≡ b
+      gap a b lt = omega (arith, lt)
+
+      parts_of : (other : ℕ) → revision_of r.notice.kind ≡ Some other → is_some (get records.parts (first_of other)) ≡ true
+      parts_of other is = ap (λ (k : PartKey). is_some (get records.parts k)) (λ i. record { tld = sym r.tld_is i; day = sym r.day_is i; rev = other; part = 1 }) ∙ linked.verdict_parts r.key r.notice other r.there is
+
+      by : (other : ℕ) → revision_of r.notice.kind ≡ Some other → is_verdict_of other r.notice.kind ≡ true → (b : Bool) → (other == rev) ≡ b → (c : Bool) → nat_lt other rev ≡ c → ⊥
+      by other is told true same c lt = clash (told_of is_receipt r (is_verdict_of rev) (ap (λ n. is_verdict_of n r.notice.kind) (sym ((Decides-eqb other rev).0 same)) ∙ told))
+      by other is told false same true lt =
+          let less : other < rev = (Decides-ltb other rev).0 lt in
+          let f = failed_below (rev - other - 1) other rev (sym (gap other rev less)) parts in
+          let failure = failure_is other f.notice.kind f.passes in
+          let key : r.key ≡ f.key = linked.one_verdict r.key f.key r.notice f.notice other r.there f.there (r.tld_is ∙ sym f.tld_is, r.day_is ∙ sym f.day_is) is failure.0 in
+          let at : Some r.notice ≡ Some f.notice = sym r.there ∙ ap (get records.notices) key ∙ f.there in
+          let notice : r.notice ≡ f.notice = cc in
+          let no : true ≡ false = sym r.passes ∙ ap (λ (m : Notice). is_receipt m.kind) notice ∙ failure.1 in
+          cc
+      by other is told false same false lt =
+          let less : rev < other = above other rev same lt in
+          let f = failed_below (other - rev - 1) rev other (sym (gap rev other less)) (parts_of other is) in
+          clash (told_of (is_failure_of rev) f (is_verdict_of rev) (failure_is rev f.notice.kind f.passes).2)
+        where
+          above : (a b : ℕ) → (a == b) ≡ false → nat_lt a b ≡ false → b < a
+          above a b e l = grind (arith, nat_tests)
+
+-- ---- what is noticed
+
+any_none : {X : Type 0} (test : X → Bool) (xs : List X) (k : ℕ) (d : X) → k < length xs → list_any test xs ≡ false → test (slice_index_or xs k d) ≡ false
+any_none test [] k d lt h = absurd (omega (arith, lt))
+any_none test (x ∷ xs) zero d lt h = (or_none (test x) _ h).0
+any_none test (x ∷ xs) (suc k) d lt h = any_none test xs k d (omega (arith, lt)) (or_none (test x) _ h).1
+
+none_of : {X : Type 0} (test : X → Bool) (xs : List X) (x : X) → Contains xs x → list_any test xs ≡ false → test x ≡ false
+none_of test xs x c h = ap test (sym c.2) ∙ any_none test xs c.0 x c.1 h
+
+-- the notices after an insertion: the new one, and those before
+inserted_notice : (m : FinMap notice_cmp Notice) (k : NoticeKey) (notice : Notice) (P : NoticeKey → Notice → Type 0) → P k notice → ((q : NoticeKey) (n : Notice) → get m q ≡ Some n → P q n) → (q : NoticeKey) (n : Notice) → get (insert m k notice) q ≡ Some n → P q n
+inserted_notice m k notice P new old q n at = by (eq_by_cmp notice_cmp q k) refl (sym (get-insert notice_total m k notice q) ∙ at)
+  where
+    by : (b : Bool) → eq_by_cmp notice_cmp q k ≡ b → cond b (Some notice) (get m q) ≡ Some n → P q n
+    by true t e = let key : k ≡ q = sym (notice_exact q k ((Equal-is (notice_cmp q k)).0 t)) in
+        let is : notice ≡ n = cc in subst (λ z. P z n) key (subst (P k) is new)
+    by false t e = old q n e
+
+notice_still : (m : FinMap notice_cmp Notice) (k : NoticeKey) (notice : Notice) (q : NoticeKey) → get m k ≡ None → is_some (get m q) ≡ true → is_some (get (insert m k notice) q) ≡ true
+notice_still m k notice q new h = by (get m q) refl h
+  where
+    by : (o : Option Notice) → get m q ≡ o → is_some o ≡ true → is_some (get (insert m k notice) q) ≡ true
+    by None at h = cc
+    by (Some x) at h = ap is_some (insert_new notice_total m k notice q x new at)
+
+module _ (records : Records) (i : List ℕ) (whole : AreWhole records) (st : told.Statement) (now : ℕ) (d : Decides (Makes (AddsVerdict st)) records (Statement st) now) where
+  stated : IsStated (state_in records i) st now (record { entry = OfNotice (next_key records.notices st.tld) (verdict_notice st (verdict_on (state_in records i) st) now); is_repeat = false })
+      (with_notice (state_in records i) (next_key records.notices st.tld) (verdict_notice st (verdict_on (state_in records i) st) now))
+  stated = accepts_statement (state_in records i) st now _ _ (d.1 i)
+
+  pub none_stands : NoneStandsOf (state_in records i) st now
+  none_stands = stated.none
+
+  pub not_kept : kept_verdict (state_in records i) st ≡ None
+  not_kept = by (kept_verdict (state_in records i) st) refl stated.outcome
+    where
+      by : (o : Option (NoticeKey × Notice)) → kept_verdict (state_in records i) st ≡ o
+          → stated_by (state_in records i) st now o ≡ Accept (record { entry = OfNotice (next_key records.notices st.tld) (verdict_notice st (verdict_on (state_in records i) st) now); is_repeat = false })
+          (with_notice (state_in records i) (next_key records.notices st.tld) (verdict_notice st (verdict_on (state_in records i) st) now)) → o ≡ None
+      by None at e = refl
+      by (Some kept) at e = let repeat : true ≡ false = ap (λ (r : Reply). r.is_repeat) (accept_inj _ _ _ _ e).0 in cc
+
+  pub no_verdict : has_verdict (state_in records i) st ≡ false
+  no_verdict = unstated_of (state_in records i) st now none_stands not_kept
+
+  pub registry_known : is_some (get records.registries st.tld) ≡ true
+  registry_known = not_none (get records.registries st.tld) none_stands.registry
+    where
+      not_none : (o : Option ℕ) → is_none o ≡ false → is_some o ≡ true
+      not_none None e = cc
+      not_none (Some d) e = refl
+
+  pub number_is_new : get records.notices (next_key records.notices st.tld) ≡ None
+  number_is_new = next_is_new records.notices st.tld
+
+  pub verdict_accepted : step (state_in records i) (Statement st) now
+      ≡ Accept (record { entry = OfNotice (next_key records.notices st.tld) (verdict_notice st (verdict_on (state_in records i) st) now); is_repeat = false })
+      (state_in (recorded_in.with_notice records (next_key records.notices st.tld) (verdict_notice st (verdict_on (state_in records i) st) now)) i)
+  verdict_accepted = d.1 i
+
+  pub reads_stated : reads (state_in records i) (Statement st) now ≡ part_keys (state_in records i) (first_part st)
+  reads_stated = λ j. if_made ((step_accepts (state_in records i) (Statement st) now _ _ (d.1 i)).0 j) (option_map (λ (e : NoticeKey × Notice). OfNotice e.0 e.1) (not_kept j)) (part_keys (state_in records i) (first_part st))
+
+  -- a part of the revision is of the stated kind, and held
+  pub held_at : (place : ℕ) (part : PartRecord) → Contains places place → get records.parts (at_place (key_of (first_part st)) place) ≡ Some part → (part.kind ≡ st.kind) × ((extents : List Extent) × (part.extents ≡ Some extents))
+  held_at place part within at = (kind, held part.extents (none_of (λ place. is_dropped (part_in (state_in records i) (first_part st) place)) places place within dropped))
+    where
+      is : part_in (state_in records i) (first_part st) place ≡ Some (part_of i part)
+      is = place_is records i whole (first_part st) place ∙ ap (option_map (part_of i)) at
+
+      dropped : has_dropped_part (state_in records i) (first_part st) ≡ false
+      dropped = ap (λ b. not b && has_dropped_part (state_in records i) (first_part st)) (sym no_verdict) ∙ none_stands.dropped
+
+      same : (b : Bool) → not b ≡ false → b ≡ true
+      same true e = refl
+      same false e = cc
+
+      kind : part.kind ≡ st.kind
+      kind = (kind_decides part.kind st.kind).0 (same _ (ap (has_other_kind st.kind) (sym is) ∙ none_of (λ place. has_other_kind st.kind (part_in (state_in records i) (first_part st) place)) places place within none_stands.kind))
+
+      held : (o : Option (List Extent)) → is_dropped (part_in (state_in records i) (first_part st) place) ≡ false → (extents : List Extent) × (part.extents ≡ Some extents)
+      held o not_dropped = by part.extents refl (ap is_dropped (sym is) ∙ not_dropped)
+        where
+          by : (o : Option (List Extent)) → part.extents ≡ o → is_gone (content_of i part.len o) ≡ false → (extents : List Extent) × (part.extents ≡ Some extents)
+          by None e h = cc
+          by (Some extents) e h = (extents, e)
+
+  -- the first part is there
+  pub first_there : is_some (get records.parts (key_of (first_part st))) ≡ true
+  first_there =
+      let counted = (or_none _ _ none_stands.number).0 in
+      let taken = first_taken (λ place. is_some (part_in (state_in records i) (first_part st) place)) (closed records i whole (first_part st)) (positive _ counted) in
+      some_in (get records.parts (key_of (first_part st))) (ap is_some (sym (place_is records i whole (first_part st) 1)) ∙ taken)
+    where
+      positive : (n : ℕ) → (n == 0) ≡ false → 0 < n
+      positive n e = grind (arith, nat_tests)
+
+      some_in : (o : Option PartRecord) → is_some (option_map (part_of i) o) ≡ true → is_some o ≡ true
+      some_in None h = cc
+      some_in (Some p) h = refl
+
+  module _ (v : Verdict) where
+    abbrev key : NoticeKey
+    key = next_key records.notices st.tld
+
+    abbrev notice : Notice
+    notice = verdict_notice st v now
+
+    abbrev noticed : Records
+    noticed = recorded_in.with_notice records key notice
+
+    -- no other notice is a verdict on the revision
+    others : (q : NoticeKey) (n : Notice) → get records.notices q ≡ Some n → q.tld ≡ st.tld → n.day ≡ st.day → revision_of n.kind ≡ Some st.rev → ⊥
+    others q n at tld day is =
+        let told : has_verdict (state_in records i) st ≡ true = any_of_get notice_total records.notices notice_exact (is_notice_of st.tld st.day (is_verdict_of st.rev)) q n at
+        (λ j. (text_decides q.tld st.tld).1 tld j && ((Decides-eqb n.day st.day).1 day j && verdict_is n.kind is j)) in
+        let clash : true ≡ false = sym told ∙ no_verdict in cc
+      where
+        verdict_is : (kind : NoticeKind) → revision_of kind ≡ Some st.rev → is_verdict_of st.rev kind ≡ true
+        verdict_is (Receipt r id) e = let same : r ≡ st.rev = cc in (Decides-eqb r st.rev).1 same
+        verdict_is (Failure r id check) e = let same : r ≡ st.rev = cc in (Decides-eqb r st.rev).1 same
+        verdict_is Absence e = cc
+
+    -- and none is a receipt of its day
+    no_other_receipt : (q : NoticeKey) (n : Notice) → get records.notices q ≡ Some n → q.tld ≡ st.tld → n.day ≡ st.day → is_receipt n.kind ≡ true → ⊥
+    no_other_receipt q n at tld day is = no_receipt records whole.linked st.tld st.day st.rev first_there no_verdict (record { key = q; notice = n; there = at; tld_is = tld; day_is = day; passes = is })
+
+    revision_is : (w : Verdict) → revision_of (notice_kind st w) ≡ Some st.rev
+    revision_is Pass = refl
+    revision_is (Fail check) = refl
+
+    no_absence : (w : Verdict) → is_absence (notice_kind st w) ≡ true → ⊥
+    no_absence Pass h = cc
+    no_absence (Fail check) h = cc
+
+    one_rev : (rev : ℕ) → revision_of notice.kind ≡ Some rev → st.rev ≡ rev
+    one_rev rev e = let both : Some st.rev ≡ Some rev = sym (revision_is v) ∙ e in cc
+
+    pub whole-with_verdict : AreWhole (recorded_in.with_notice records (next_key records.notices st.tld) (verdict_notice st v now))
+    whole-with_verdict = let l = whole.linked in record {
+      extents = whole.extents;
+      once = record { within = whole.once.within; between = whole.once.between };
+      linked = record {
+        part_registry = l.part_registry;
+        notice_registry = inserted_notice records.notices key notice (λ q n. is_some (get records.registries q.tld) ≡ true) registry_known l.notice_registry;
+        release_registry = l.release_registry;
+        released = l.released;
+        series = l.series;
+        numbers = inserted_notice records.notices key notice (λ q n. (m : ℕ) → q.number ≡ suc (suc m) → is_some (get (insert records.notices key notice) (record { tld = q.tld; number = suc m })) ≡ true)
+            (λ m e. notice_still records.notices key notice (record { tld = st.tld; number = suc m }) number_is_new (number_before records.notices st.tld m e))
+            (λ q n at m e. notice_still records.notices key notice (record { tld = q.tld; number = suc m }) number_is_new (l.numbers q n at m e));
+        verdict_parts = λ q n rev at is. inserted_notice records.notices key notice (λ q n. (rev : ℕ) → revision_of n.kind ≡ Some rev → is_some (get records.parts (record { tld = q.tld; day = n.day; rev = rev; part = 1 })) ≡ true)
+            (λ rev is. ap (λ r. is_some (get records.parts (record { tld = st.tld; day = st.day; rev = r; part = 1 }))) (sym (one_rev rev is)) ∙ first_there)
+            (λ q n at rev is. l.verdict_parts q n rev at is) q n at rev is;
+        one_verdict = λ j k m n rev at_j at_k day is_m is_n. inserted_notice records.notices key notice (λ j m. (k : NoticeKey) (n : Notice) → get (insert records.notices key notice) k ≡ Some n → AreOfOneDay j m k n → revision_of m.kind ≡ Some rev → revision_of n.kind ≡ Some rev → j ≡ k)
+            (λ k n at day is_m is_n. inserted_notice records.notices key notice (λ k n. AreOfOneDay key notice k n → revision_of n.kind ≡ Some rev → key ≡ k) (λ _ _. refl)
+            (λ k n at day is_n. absurd (others k n at (sym day.0) (sym day.1) (is_n ∙ ap Some (sym (one_rev rev is_m))))) k n at day is_n)
+            (λ j m at_old k n at day is_m is_n. inserted_notice records.notices key notice (λ k n. AreOfOneDay j m k n → revision_of n.kind ≡ Some rev → j ≡ k)
+            (λ day is_n. absurd (others j m at_old day.0 day.1 (is_m ∙ ap Some (sym (one_rev rev is_n)))))
+            (λ k n at day is_n. l.one_verdict j k m n rev at_old at day is_m is_n) k n at day is_n)
+            j m at_j k n at_k day is_m is_n;
+        due = λ q p at lt. any_insert_grows notice_total records.notices key notice number_is_new (is_notice_of q.tld q.day (is_failure_of (q.rev - 1))) (l.due q p at lt);
+        one_receipt = λ j k m n at_j at_k day is_m is_n. inserted_notice records.notices key notice (λ j m. (k : NoticeKey) (n : Notice) → get (insert records.notices key notice) k ≡ Some n → AreOfOneDay j m k n → is_receipt m.kind ≡ true → is_receipt n.kind ≡ true → j ≡ k)
+            (λ k n at day is_m is_n. inserted_notice records.notices key notice (λ k n. AreOfOneDay key notice k n → is_receipt n.kind ≡ true → key ≡ k) (λ _ _. refl)
+            (λ k n at day is_n. absurd (no_other_receipt k n at (sym day.0) (sym day.1) is_n)) k n at day is_n)
+            (λ j m at_old k n at day is_m is_n. inserted_notice records.notices key notice (λ k n. AreOfOneDay j m k n → is_receipt n.kind ≡ true → j ≡ k)
+            (λ day is_n. absurd (no_other_receipt j m at_old day.0 day.1 is_m))
+            (λ k n at day is_n. l.one_receipt j k m n at_old at day is_m is_n) k n at day is_n)
+            j m at_j k n at_k day is_m is_n;
+        one_absence = λ j k m n at_j at_k day is_m is_n. inserted_notice records.notices key notice (λ j m. (k : NoticeKey) (n : Notice) → get (insert records.notices key notice) k ≡ Some n → AreOfOneDay j m k n → is_absence m.kind ≡ true → is_absence n.kind ≡ true → j ≡ k)
+            (λ k n at day is_m is_n. absurd (no_absence v is_m))
+            (λ j m at_old k n at day is_m is_n. inserted_notice records.notices key notice (λ k n. AreOfOneDay j m k n → is_absence n.kind ≡ true → j ≡ k)
+            (λ day is_n. absurd (no_absence v is_n))
+            (λ k n at day is_n. l.one_absence j k m n at_old at day is_m is_n) k n at day is_n)
+            j m at_j k n at_k day is_m is_n;
+      };
+    }
+
+    pub good-with_verdict : IsGood records i → IsGood (recorded_in.with_notice records (next_key records.notices st.tld) (verdict_notice st v now)) i
+    good-with_verdict g = record { whole = whole-with_verdict; volume = record { head = g.volume.head; size = g.volume.size } }
+
+    module _ (size failures failures_then : ℕ) (free : ℕ → Type 0) (order : IsInOrder records size failures free) where
+      pub verdict_changes : IsGood records i → IsChange records i free (recorded_in.with_notice records (next_key records.notices st.tld) (verdict_notice st v now)) i free
+      verdict_changes good = record {
+        good = good-with_verdict good;
+        keeps = record { kept = λ key part at. (part, at, inl refl); digests = λ key has. has };
+        unnamed = named_used records size failures free order;
+        head = head_used records size failures free order;
+        fewer = λ b f. f;
+        moved = same_in free i;
+      }
+
+      pub verdict_in_order : failures_then < 2 ^ 64 - 1 → IsInOrder (recorded_in.with_notice records (next_key records.notices st.tld) (verdict_notice st v now)) size failures_then free
+      verdict_in_order count = record { whole = whole-with_verdict; blocks = order.blocks; placeable = order.placeable; count = count }

@@ -1,0 +1,206 @@
+-- The latest of the deposits that passed, and what notices of a registry tell of them.
+use Rattle.std.proofs.Common.{get_or, subst, ◌+◌, ◌≡◌, ℕ, ◌<◌, ◌≤◌, List, [], ◌∷◌, ◌++◌, map, take, Option, Some, None, Bool, true, false, ◌&&◌, refl, sym, ◌∙◌, ap, cond, nat_lt, length, arith}
+use Rattle.std.specs.Prelude.{nat_le, option_map}
+use Rattle.std.specs.List.{filter, filter_map, cons_option, find, list_all}
+use Rattle.std.specs.FinMap.{entries}
+use Rattle.std.specs.Ordering.{is_eq}
+use Rattle.std.proofs.lemmas.Bool.Decides.{nat_tests}
+use Rattle.std.proofs.lemmas.List.{take_more, take_all}
+use Rattle.deposit_name.specs.Name.{Name}
+use Rattle.deposit_verify.specs.Known.{Known}
+use Rattle.custody_machine.specs.declared.command.Statement as stated
+use Rattle.std.proofs.lemmas.List.Elements.{filter_map-append}
+use Rattle.std.proofs.lemmas.Map.Text.{is_eq-slice_cmp}
+use Rattle.desk.specs.declared.notices.Notice as told
+use Rattle.custody_records.specs.Keys.{NoticeKey, text_cmp}
+use Rattle.custody_records.specs.Records.{Notice, Records, notices_of}
+use Rattle.custody_records.specs.Tables.{entries_of}
+use Rattle.custody_records.specs.Typed.{notice_key, notice_value}
+use Rattle.custody_machine.specs.Names.{is_same_text}
+use Rattle.custody_machine.specs.Machine.{first_part, known_of, latest_of, passed_id, passed_of}
+use Rattle.custody_rules.specs.Passed.{later_pair, passed_row, passed_rows}
+
+-- ---- the latest
+
+-- no deposit of the list is later
+abbrev is_latest : List (ℕ × List ℕ) → ℕ × List ℕ → Bool
+is_latest all one = list_all (λ (other : ℕ × List ℕ). nat_le other.0 one.0) all
+
+-- those before it are earlier, and those behind it no later
+pub record IsBest (all : List (ℕ × List ℕ)) (best : ℕ × List ℕ) : Type 0 where
+  pub before : List (ℕ × List ℕ)
+  pub behind : List (ℕ × List ℕ)
+  pub split : all ≡ before ++ best ∷ behind
+  pub earlier : list_all (λ (other : ℕ × List ℕ). nat_lt other.0 best.0) before ≡ true
+  pub no_later : list_all (λ (other : ℕ × List ℕ). nat_le other.0 best.0) behind ≡ true
+
+-- what is found so far
+abbrev pub IsLatest : List (ℕ × List ℕ) → Option (ℕ × List ℕ) → Type 0
+IsLatest all None = all ≡ []
+IsLatest all (Some best) = IsBest all best
+
+all_append : {X : Type 0} (test : X → Bool) (xs ys : List X) → list_all test (xs ++ ys) ≡ (list_all test xs && list_all test ys)
+all_append test [] ys = refl
+all_append test (x ∷ xs) ys = by (test x) (all_append test xs ys)
+  where
+    by : (b : Bool) → list_all test (xs ++ ys) ≡ (list_all test xs && list_all test ys) → (b && list_all test (xs ++ ys)) ≡ ((b && list_all test xs) && list_all test ys)
+    by true e = e
+    by false e = refl
+
+all_weaker : {X : Type 0} (p q : X → Bool) → ((x : X) → p x ≡ true → q x ≡ true) → (xs : List X) → list_all p xs ≡ true → list_all q xs ≡ true
+all_weaker p q weaker [] h = refl
+all_weaker p q weaker (x ∷ xs) h = by (p x) refl h (all_weaker p q weaker xs)
+  where
+    by : (b : Bool) → p x ≡ b → (b && list_all p xs) ≡ true → (list_all p xs ≡ true → list_all q xs ≡ true) → (q x && list_all q xs) ≡ true
+    by true t h rest = rw (weaker x t, rest h) refl
+    by false t h rest = cc
+
+lt_le : (a b : ℕ) → nat_lt a b ≡ true → nat_le a b ≡ true
+lt_le a b e = grind (arith, nat_tests)
+
+le_itself : (a : ℕ) → nat_le a a ≡ true
+le_itself a = grind (arith, nat_tests)
+
+lt_not_le : (a b : ℕ) → nat_lt a b ≡ true → nat_le b a ≡ false
+lt_not_le a b e = grind (arith, nat_tests)
+
+not_le_lt : (a b : ℕ) → nat_le a b ≡ false → nat_lt b a ≡ true
+not_le_lt a b e = grind (arith, nat_tests)
+
+le_lt : (a b c : ℕ) → nat_le a b ≡ true → nat_lt b c ≡ true → nat_lt a c ≡ true
+le_lt a b c e h = grind (arith, nat_tests)
+
+-- it is the first that no other is later than
+pub best_found : (all : List (ℕ × List ℕ)) (best : ℕ × List ℕ) → IsBest all best → find (is_latest all) all ≡ Some best
+best_found all best h = ap (find (is_latest all)) h.split ∙ search_in h.before h.earlier
+  where
+    top : is_latest all best ≡ true
+    top = ap (list_all (λ (other : ℕ × List ℕ). nat_le other.0 best.0)) h.split ∙ all_append (λ (other : ℕ × List ℕ). nat_le other.0 best.0) h.before (best ∷ h.behind)
+        ∙ (λ i. all_weaker (λ (other : ℕ × List ℕ). nat_lt other.0 best.0) (λ (other : ℕ × List ℕ). nat_le other.0 best.0) (λ x e. lt_le x.0 best.0 e) h.before h.earlier i && (le_itself best.0 i && h.no_later i))
+
+    off : (x : ℕ × List ℕ) → nat_lt x.0 best.0 ≡ true → is_latest all x ≡ false
+    off x e = ap (list_all (λ (other : ℕ × List ℕ). nat_le other.0 x.0)) h.split ∙ all_append (λ (other : ℕ × List ℕ). nat_le other.0 x.0) h.before (best ∷ h.behind)
+        ∙ ap (λ b. list_all (λ (other : ℕ × List ℕ). nat_le other.0 x.0) h.before && (b && list_all (λ (other : ℕ × List ℕ). nat_le other.0 x.0) h.behind)) (lt_not_le x.0 best.0 e) ∙ and_false (list_all (λ (other : ℕ × List ℕ). nat_le other.0 x.0) h.before)
+      where
+        and_false : (b : Bool) → (b && false) ≡ false
+        and_false true = refl
+        and_false false = refl
+
+    search_in : (xs : List (ℕ × List ℕ)) → list_all (λ (other : ℕ × List ℕ). nat_lt other.0 best.0) xs ≡ true → find (is_latest all) (xs ++ best ∷ h.behind) ≡ Some best
+    search_in [] e = ap (λ b. cond b (Some best) (find (is_latest all) h.behind)) top
+    search_in (x ∷ xs) e = by (nat_lt x.0 best.0) refl e (search_in xs)
+      where
+        by : (b : Bool) → nat_lt x.0 best.0 ≡ b → (b && list_all (λ (other : ℕ × List ℕ). nat_lt other.0 best.0) xs) ≡ true
+            → (list_all (λ (other : ℕ × List ℕ). nat_lt other.0 best.0) xs ≡ true → find (is_latest all) (xs ++ best ∷ h.behind) ≡ Some best)
+            → cond (is_latest all x) (Some x) (find (is_latest all) (xs ++ best ∷ h.behind)) ≡ Some best
+        by true t e rest = ap (λ b. cond b (Some x) (find (is_latest all) (xs ++ best ∷ h.behind))) (off x t) ∙ rest e
+        by false t e rest = cc
+
+pub latest_is : (all : List (ℕ × List ℕ)) (latest : Option (ℕ × List ℕ)) → IsLatest all latest → option_map (λ (one : ℕ × List ℕ). one.1) latest ≡ latest_of all
+latest_is all None h = ap latest_of (sym h)
+latest_is all (Some best) h = ap (option_map (λ (one : ℕ × List ℕ). one.1)) (sym (best_found all best h))
+
+-- one more
+pub later_is : (all : List (ℕ × List ℕ)) (latest : Option (ℕ × List ℕ)) (next : ℕ × List ℕ) → IsLatest all latest → IsLatest (all ++ next ∷ []) (Some (later_pair latest next))
+later_is all None next h = record { before = []; behind = []; split = ap (λ l. l ++ next ∷ []) h; earlier = refl; no_later = refl }
+later_is all (Some best) next h = by (nat_le next.0 best.0) refl
+  where
+    one_longer : (xs ys zs : List (ℕ × List ℕ)) → (xs ++ ys) ++ zs ≡ xs ++ (ys ++ zs)
+    one_longer [] ys zs = refl
+    one_longer (x ∷ xs) ys zs = ap (λ l. x ∷ l) (one_longer xs ys zs)
+
+    by : (b : Bool) → nat_le next.0 best.0 ≡ b → IsBest (all ++ next ∷ []) (cond b best next)
+    by true e = record {
+      before = h.before;
+      behind = h.behind ++ next ∷ [];
+      split = ap (λ l. l ++ next ∷ []) h.split ∙ one_longer h.before (best ∷ h.behind) (next ∷ []);
+      earlier = h.earlier;
+      no_later = all_append (λ (other : ℕ × List ℕ). nat_le other.0 best.0) h.behind (next ∷ []) ∙ (λ i. h.no_later i && (e i && true));
+    }
+    by false e = record {
+      before = all;
+      behind = [];
+      split = refl;
+      earlier =
+          ap (list_all (λ (other : ℕ × List ℕ). nat_lt other.0 next.0)) h.split ∙ all_append (λ (other : ℕ × List ℕ). nat_lt other.0 next.0) h.before (best ∷ h.behind)
+          ∙ (λ i. all_weaker (λ (other : ℕ × List ℕ). nat_lt other.0 best.0) (λ (other : ℕ × List ℕ). nat_lt other.0 next.0) (λ x l. le_lt x.0 best.0 next.0 (lt_le x.0 best.0 l) (not_le_lt next.0 best.0 e)) h.before h.earlier i
+          && (not_le_lt next.0 best.0 e i
+          && all_weaker (λ (other : ℕ × List ℕ). nat_le other.0 best.0) (λ (other : ℕ × List ℕ). nat_lt other.0 next.0) (λ x l. le_lt x.0 best.0 next.0 l (not_le_lt next.0 best.0 e)) h.behind h.no_later i));
+      no_later = refl;
+    }
+
+-- ---- rows
+
+-- one row more
+pub rows_more : (rows : List told.Notice) (n : told.Notice) → passed_rows (rows ++ n ∷ []) ≡ passed_rows rows ++ cons_option (passed_row n) []
+rows_more rows n = filter_map-append passed_row rows (n ∷ [])
+
+-- the rows of a registry's notices tell what its notices do
+pub rows_of_registry : (records : Records) (tld : List ℕ) (rows : List told.Notice) → entries_of notice_key notice_value rows ≡ notices_of records tld → passed_rows rows ≡ passed_of records.notices tld
+rows_of_registry records tld rows is = as_entries rows ∙ ap (filter_map in_entry) is ∙ of_registry (entries records.notices)
+  where
+    in_entry : NoticeKey × Notice → Option (ℕ × List ℕ)
+    in_entry e = option_map (λ (id : List ℕ). (e.1.day, id)) (passed_id e.1.kind)
+
+    as_entries : (rows : List told.Notice) → passed_rows rows ≡ filter_map in_entry (entries_of notice_key notice_value rows)
+    as_entries [] = refl
+    as_entries (n ∷ rows) = ap (cons_option (passed_row n)) (as_entries rows)
+
+    of_registry : (es : List (NoticeKey × Notice)) → filter_map in_entry (filter (λ (e : NoticeKey × Notice). is_eq (text_cmp e.0.tld tld)) es)
+        ≡ filter_map (λ (e : NoticeKey × Notice). cond (is_same_text e.0.tld tld) (in_entry e) None) es
+    of_registry [] = refl
+    of_registry (e ∷ es) = ap (λ b. filter_map in_entry (cond b (e ∷ filter (λ (e : NoticeKey × Notice). is_eq (text_cmp e.0.tld tld)) es) (filter (λ (e : NoticeKey × Notice). is_eq (text_cmp e.0.tld tld)) es))) (is_eq-slice_cmp e.0.tld tld)
+        ∙ by (is_same_text e.0.tld tld) (of_registry es)
+      where
+        by : (b : Bool) → filter_map in_entry (filter (λ (e : NoticeKey × Notice). is_eq (text_cmp e.0.tld tld)) es) ≡ filter_map (λ (e : NoticeKey × Notice). cond (is_same_text e.0.tld tld) (in_entry e) None) es
+            → filter_map in_entry (cond b (e ∷ filter (λ (e : NoticeKey × Notice). is_eq (text_cmp e.0.tld tld)) es) (filter (λ (e : NoticeKey × Notice). is_eq (text_cmp e.0.tld tld)) es))
+            ≡ cons_option (cond b (in_entry e) None) (filter_map (λ (e : NoticeKey × Notice). cond (is_same_text e.0.tld tld) (in_entry e) None) es)
+        by true rest = ap (cons_option (in_entry e)) rest
+        by false rest = rest
+
+-- ---- a loop over the rows
+
+-- the rows up to the next one, and what they tell
+pub rows_up_to : (rows : List told.Notice) (i : ℕ) (n : told.Notice) → i < length rows → get_or rows i n ≡ n → passed_rows (take (i + 1) rows) ≡ passed_rows (take i rows) ++ cons_option (passed_row n) []
+rows_up_to rows i n lt at = ap passed_rows (take_more rows i n lt ∙ ap (λ m. take i rows ++ m ∷ []) at) ∙ rows_more (take i rows) n
+
+pub latest_more : (rows : List told.Notice) (i : ℕ) (n : told.Notice) (latest next : Option (ℕ × List ℕ)) → i < length rows → get_or rows i n ≡ n → IsLatest (passed_rows (take i rows)) latest
+    → ((pair : ℕ × List ℕ) → passed_row n ≡ Some pair → next ≡ Some (later_pair latest pair)) → (passed_row n ≡ None → next ≡ latest) → IsLatest (passed_rows (take (i + 1) rows)) next
+latest_more rows i n latest next lt at so_far told nothing = by (passed_row n) refl (rows_up_to rows i n lt at)
+  where
+    by : (o : Option (ℕ × List ℕ)) → passed_row n ≡ o → passed_rows (take (i + 1) rows) ≡ passed_rows (take i rows) ++ cons_option o [] → IsLatest (passed_rows (take (i + 1) rows)) next
+    by None is rest = subst (λ (z : List (ℕ × List ℕ)). IsLatest z next) (sym (rest ∙ nothing_more (passed_rows (take i rows)))) (subst (IsLatest (passed_rows (take i rows))) (sym (nothing is)) so_far)
+      where
+        nothing_more : (xs : List (ℕ × List ℕ)) → xs ++ [] ≡ xs
+        nothing_more [] = refl
+        nothing_more (x ∷ xs) = ap (λ l. x ∷ l) (nothing_more xs)
+    by (Some pair) is rest = subst (λ (z : List (ℕ × List ℕ)). IsLatest z next) (sym rest) (subst (IsLatest (passed_rows (take i rows) ++ pair ∷ [])) (sym (told pair is)) (later_is (passed_rows (take i rows)) latest pair so_far))
+
+pub ids_more : (rows : List told.Notice) (i : ℕ) (n : told.Notice) (ids next : List (List ℕ)) → i < length rows → get_or rows i n ≡ n → ids ≡ map (λ (one : ℕ × List ℕ). one.1) (passed_rows (take i rows))
+    → ((pair : ℕ × List ℕ) → passed_row n ≡ Some pair → next ≡ ids ++ pair.1 ∷ []) → (passed_row n ≡ None → next ≡ ids) → next ≡ map (λ (one : ℕ × List ℕ). one.1) (passed_rows (take (i + 1) rows))
+ids_more rows i n ids next lt at so_far told nothing = by (passed_row n) refl ∙ ap (map (λ (one : ℕ × List ℕ). one.1)) (sym (rows_up_to rows i n lt at))
+  where
+    map_more : (xs ys : List (ℕ × List ℕ)) → map (λ (one : ℕ × List ℕ). one.1) xs ++ map (λ (one : ℕ × List ℕ). one.1) ys ≡ map (λ (one : ℕ × List ℕ). one.1) (xs ++ ys)
+    map_more [] ys = refl
+    map_more (x ∷ xs) ys = ap (λ l. x.1 ∷ l) (map_more xs ys)
+
+    by : (o : Option (ℕ × List ℕ)) → passed_row n ≡ o → next ≡ map (λ (one : ℕ × List ℕ). one.1) (passed_rows (take i rows) ++ cons_option (passed_row n) [])
+    by None is = nothing is ∙ so_far ∙ none_more (passed_rows (take i rows)) ∙ ap (λ o. map (λ (one : ℕ × List ℕ). one.1) (passed_rows (take i rows) ++ cons_option o [])) (sym is)
+      where
+        none_more : (xs : List (ℕ × List ℕ)) → map (λ (one : ℕ × List ℕ). one.1) xs ≡ map (λ (one : ℕ × List ℕ). one.1) (xs ++ [])
+        none_more [] = refl
+        none_more (x ∷ xs) = ap (λ l. x.1 ∷ l) (none_more xs)
+    by (Some pair) is = told pair is ∙ ap (λ l. l ++ pair.1 ∷ []) so_far ∙ map_more (passed_rows (take i rows)) (pair ∷ []) ∙ ap (λ o. map (λ (one : ℕ × List ℕ). one.1) (passed_rows (take i rows) ++ cons_option o [])) (sym is)
+
+pub latest_at_end : (rows : List told.Notice) (i : ℕ) (latest : Option (ℕ × List ℕ)) → length rows ≤ i → IsLatest (passed_rows (take i rows)) latest → option_map (λ (one : ℕ × List ℕ). one.1) latest ≡ latest_of (passed_rows rows)
+latest_at_end rows i latest end h = latest_is (passed_rows rows) latest (subst (λ l. IsLatest (passed_rows l) latest) (take_all i rows end) h)
+
+-- what is known of a stated deposit, put together
+pub known_is : (st : stated.Statement) (records : Records) (name : Name) (rows : List told.Notice) (latest : Option (List ℕ)) (ids : List (List ℕ)) → name ≡ first_part st → entries_of notice_key notice_value rows ≡ notices_of records st.tld
+    → latest ≡ latest_of (passed_rows rows) → ids ≡ map (λ (one : ℕ × List ℕ). one.1) (passed_rows rows) → ◌≡◌ {A = Known} (record { name = name; id = st.id; latest = latest; passed = ids }) (known_of records.notices st)
+known_is st records name rows latest ids named is late all = λ i. record {
+  name = named i;
+  id = st.id;
+  latest = (late ∙ ap latest_of (rows_of_registry records st.tld rows is)) i;
+  passed = (all ∙ ap (map (λ (one : ℕ × List ℕ). one.1)) (rows_of_registry records st.tld rows is)) i;
+}

@@ -1,0 +1,108 @@
+//! What the records tell of a deposit before it is read, and the next number of a notice.
+ghost use Rattle.std.specs.Prelude.{◌≡◌, ◌≤◌, ◌^◌, List, ℕ, IfNone, IfOk, IfSome, map, option_map};
+ghost use Rattle.custody_machine.specs.Machine.{first_part, known_of, latest_of, next_number};
+ghost use Rattle.custody_records.specs.Held.{records_of};
+ghost use Rattle.deposit_verify.specs.Known.{known};
+ghost use Rattle.custody_rules.specs.Passed.{greatest_of, later_pair, passed_pair, passed_row, passed_rows};
+
+use custody_machine::Statement;
+use custody_records::Records;
+use deposit_name::{DepositId, DepositName, Tld};
+use deposit_verify::About;
+use desk::{Notice, NoticeKind};
+use schedule::Day;
+use std::alloc::{AllocError, Global};
+
+/// What is known of a stated deposit, by the notices of its registry.
+pub fn known_about(
+    alloc: Global,
+    records: &Records,
+    statement: &Statement,
+    name: &DepositName,
+) -> Result<About, AllocError>
+    requires named { name.now ≡ first_part statement.now }
+    ensures { IfOk result (λ about. known about ≡ known_of (records_of records.now).notices statement.now) }
+{
+    let notices = records.notices_of(&statement.tld);
+    Ok(About {
+        name: *name,
+        id: statement.id,
+        latest: latest_passed(notices),
+        passed: passed_ids(alloc, notices)?,
+    })
+}
+
+/// A deposit that passed: its day and its id.
+#[derive(Clone, Copy, Debug, PartialEq)]
+pub(crate) struct Passed {
+    day: Day,
+    id: DepositId,
+}
+
+/// The deposit that a receipt tells.
+fn passed_by(notice: &Notice) -> Option<Passed>
+    ensures { option_map passed_pair result ≡ passed_row notice.now }
+{
+    match notice.kind {
+        NoticeKind::Receipt { id, .. } => Some(Passed {
+            day: notice.day,
+            id,
+        }),
+        NoticeKind::Failure { .. } | NoticeKind::Absence => None,
+    }
+}
+
+/// The latest deposit that passed, of those of one day the first.
+fn latest_passed(notices: &[Notice]) -> Option<DepositId>
+    ensures { result ≡ latest_of (passed_rows notices.now) }
+{
+    let mut latest: Option<Passed> = None;
+    for notice in notices {
+        if let Some(passed) = passed_by(notice) {
+            latest = Some(later_of(latest, passed));
+        }
+    }
+    Some(latest?.id)
+}
+
+/// The later of two deposits, of those of one day the first.
+fn later_of(latest: Option<Passed>, next: Passed) -> Passed
+    ensures { passed_pair result ≡ later_pair (option_map passed_pair latest) (passed_pair next) }
+{
+    match latest {
+        Some(before) => { if next.day <= before.day { before } else { next } }
+        None => next,
+    }
+}
+
+/// The ids of the deposits that passed, in the order of the notices.
+fn passed_ids(alloc: Global, notices: &[Notice]) -> Result<Vec<DepositId>, AllocError>
+    ensures { IfOk result (λ ids. ids.items ≡ map (λ (one : ℕ × List ℕ). one.1) (passed_rows notices.now)) }
+{
+    let mut ids = Vec::new(alloc);
+    for notice in notices {
+        if let Some(passed) = passed_by(notice) {
+            ids.push(passed.id)?;
+        }
+    }
+    Ok(ids)
+}
+
+/// The number of the next notice of a registry, where there is one.
+pub fn next_number(records: &Records, tld: &Tld) -> Option<u64>
+    ensures some { IfSome result (λ n. n ≡ next_number (records_of records.now).notices tld.now) }
+    ensures none { IfNone result (2 ^ 64 ≤ next_number (records_of records.now).notices tld.now) }
+{
+    greatest_number(records.notices_of(tld)).checked_add(1)
+}
+
+/// The greatest number of a notice, or 0.
+fn greatest_number(notices: &[Notice]) -> u64
+    ensures { result ≡ greatest_of notices.now }
+{
+    let mut greatest = 0;
+    for notice in notices {
+        greatest = u64::max(greatest, notice.number);
+    }
+    greatest
+}

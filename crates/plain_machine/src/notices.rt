@@ -1,0 +1,151 @@
+//! Notices in the order of their registries and numbers.
+ghost use Rattle.std.specs.Prelude.{◌≡◌, true, None, length, IfOk, IfSome, OnOk, OnErr, find, option_map};
+ghost use Rattle.std.specs.List.{list_any};
+ghost use Rattle.std.specs.List.Sorted.{IsSearchInRange, IsBinarySearchResult};
+ghost use Rattle.std.specs.FinMap.{empty, entries, get, insert};
+ghost use Rattle.custody_records.specs.Keys.{notice_cmp};
+ghost use Rattle.custody_records.specs.Tables.{is_rising, table_map};
+ghost use Rattle.custody_records.specs.Typed.{notice_entry, notice_key, notice_value};
+
+use crate::telling::{
+    compare, find_latest, greatest_of, ids_of, is_failure_on, is_receipt_after, is_receipt_of,
+    is_verdict_on, key_of, read_all_passed,
+};
+use custody_machine::Statement;
+use custody_records::NoticeKey;
+use deposit_name::{DepositId, DepositName, Tld};
+use deposit_verify::About;
+use desk::{Notice, NoticeKind};
+use schedule::Day;
+use std::alloc::{AllocError, Global};
+
+/// Notices in the order of their registries and numbers, each number of a registry once.
+#[derive(Drop)]
+pub struct PlainNotices {
+    rows: Vec<Notice>,
+    ghost rising: { is_rising notice_cmp notice_key rows.items ≡ true },
+}
+
+impl PlainNotices {
+    ghost use Rattle.custody_machine.specs.State.{has_notice, is_notice_of};
+    ghost use Rattle.custody_machine.specs.Machine.{first_part, is_failure_of, is_receipt, is_verdict_of, known_of, next_number, passed_of};
+    ghost use Rattle.deposit_verify.specs.Known.{known};
+    ghost use Rattle.plain_machine.specs.Plain.{notices_shown, is_later_receipt};
+
+    /// There are none yet.
+    pub(crate) fn new(alloc: Global) -> PlainNotices
+        ensures { notices_shown result ≡ empty }
+    {
+        PlainNotices {
+            rows: Vec::new(alloc),
+        }
+    }
+
+    /// The notices.
+    pub fn rows(&self) -> &[Notice]
+        ensures { notices_shown self.now ≡ table_map notice_cmp notice_key notice_value result.now }
+    {
+        &self.rows
+    }
+
+    // Where the notice of that number is, or where it would go.
+    fn place_of(&self, sought: &NoticeKey) -> Result<usize, usize>
+        ensures range { IsSearchInRange result (length self.now.rows.items) }
+        ensures place { IsBinarySearchResult (λ row. notice_cmp (notice_key row) sought.now) self.now.rows.items result }
+    {
+        self.rows.binary_search_by(|row| compare(row, sought))
+    }
+
+    /// Adds a notice of a new number.
+    pub(crate) fn add(&mut self, notice: &Notice) -> Result<(), AllocError>
+        requires new { get (notices_shown self.old) (notice_key notice.now) ≡ None }
+        ensures added { OnOk result (notices_shown self.new ≡ insert (notices_shown self.old) (notice_key notice.now) (notice_value notice.now)) }
+        ensures same { OnErr result (self.new.rows.items ≡ self.old.rows.items) }
+    {
+        let kind: NoticeKind = notice.kind;
+        match self.place_of(&key_of(notice)) {
+            Err(place) => Ok(self.rows.insert(place, Notice { kind, ..*notice })?),
+            Ok(_) => unreachable!(),
+        }
+    }
+
+    /// Whether the day has a receipt.
+    pub(crate) fn has_receipt(&self, tld: &Tld, day: Day) -> bool
+        ensures { result ≡ has_notice (notices_shown self.now) tld.now day is_receipt }
+    {
+        self.rows.iter().any(|n| is_receipt_of(n, tld, day))
+    }
+
+    /// Whether the revision of the day has a failure.
+    pub(crate) fn has_failure(&self, tld: &Tld, day: Day, rev: u8) -> bool
+        ensures { result ≡ has_notice (notices_shown self.now) tld.now day (is_failure_of rev) }
+    {
+        self.rows.iter().any(|n| is_failure_on(n, tld, day, rev))
+    }
+
+    /// Whether the revision of the day has a verdict.
+    pub(crate) fn has_verdict(&self, tld: &Tld, day: Day, rev: u8) -> bool
+        ensures { result ≡ has_notice (notices_shown self.now) tld.now day (is_verdict_of rev) }
+    {
+        self.rows.iter().any(|n| is_verdict_on(n, tld, day, rev))
+    }
+
+    /// Whether a later day of the registry has a receipt.
+    pub(crate) fn has_later_receipt(&self, tld: &Tld, day: Day) -> bool
+        ensures { result ≡ list_any (is_later_receipt tld.now day) (entries (notices_shown self.now)) }
+    {
+        self.rows.iter().any(|n| is_receipt_after(n, tld, day))
+    }
+
+    fn find_verdict(&self, tld: &Tld, day: Day, rev: u8) -> Option<&Notice>
+        ensures { option_map (λ n. n.now) result ≡ find (λ n. is_notice_of tld.now day (is_verdict_of rev) (notice_entry n)) self.now.rows.items }
+    {
+        self.rows.iter().find(|n| is_verdict_on(n, tld, day, rev))
+    }
+
+    /// The verdict on the revision of the day.
+    pub(crate) fn verdict(&self, tld: &Tld, day: Day, rev: u8) -> Option<Notice>
+        ensures { option_map notice_entry result ≡ find (is_notice_of tld.now day (is_verdict_of rev)) (entries (notices_shown self.now)) }
+    {
+        self.find_verdict(tld, day, rev).copied()
+    }
+
+    // The days and ids of the deposits of a registry that passed.
+    fn passed_of(&self, alloc: Global, tld: &Tld) -> Result<Vec<(Day, DepositId)>, AllocError>
+        ensures { IfOk result (λ passed. passed.items ≡ passed_of (notices_shown self.now) tld.now) }
+    {
+        read_all_passed(alloc, &self.rows, tld)
+    }
+
+    /// What is known of a stated deposit, whose first part has this name.
+    pub(crate) fn known_of(
+        &self,
+        alloc: Global,
+        name: DepositName,
+        stated: &Statement,
+    ) -> Result<About, AllocError>
+        requires named { name ≡ first_part stated.now }
+        ensures { IfOk result (λ about. known about ≡ known_of (notices_shown self.now) stated.now) }
+    {
+        let passed = self.passed_of(alloc, &stated.tld)?;
+        let latest = find_latest(&passed);
+        let ids = ids_of(alloc, &passed)?;
+        Ok(About {
+            name,
+            id: stated.id,
+            latest,
+            passed: ids,
+        })
+    }
+
+    /// The next number of a notice of a registry, if there is one.
+    pub(crate) fn next_number(&self, tld: &Tld) -> Option<u64>
+        ensures { IfSome result (λ n. n ≡ next_number (notices_shown self.now) tld.now) }
+    {
+        let greatest = greatest_of(&self.rows, tld);
+        if greatest == u64::MAX {
+            return None;
+        }
+        Some(greatest + 1)
+    }
+}

@@ -1,0 +1,285 @@
+//! What is done of a statement.
+ghost use Rattle.std.specs.Prelude.{◌≡◌, ◌++◌, ◌&&◌, find, IfOk, IfSome, IfNone, OnOk, OnErr, is_none, not, option_and_then, option_map};
+ghost use Rattle.custody_records.specs.Typed.{notice_entry, notice_key, notice_value};
+ghost use Rattle.custody_machine.specs.Machine.{are_as_stated, bytes_held, bytes_in, count_parts, differ_in_number, first_part, first_standing, has_dropped_part, has_later_receipt, has_verdict, if_of_id, is_dropped, is_outside, joined, kept_verdict, next_key, notice_kind, part_in, statement_tests, step, verdict_notice, verdict_on, verdict_told};
+ghost use Rattle.custody_machine.specs.Machine as machine;
+ghost use Rattle.plain_machine.specs.Plain.{IsOutcome, content_shown, is_in, shown};
+
+use crate::plain::{PlainAnswer, PlainContent, PlainPart, PlainState};
+use crate::sought::Sought;
+use crate::telling::tells_id;
+use custody_machine::{Refusal, Statement};
+use deposit_name::DepositName;
+use deposit_verify::{Verdict, verify};
+use desk::{Notice, NoticeKind};
+use schedule::Sec;
+use std::alloc::{AllocError, Global};
+
+impl PlainState {
+    fn is_dropped_at(&self, name: &Sought, place: u8) -> bool
+        ensures { result ≡ is_dropped (part_in (shown self.now) name.now place) }
+    {
+        match self.part_at(name, place) {
+            Some(part) => part.content.is_dropped(),
+            None => false,
+        }
+    }
+
+    fn has_dropped_part(&self, name: &Sought) -> bool
+        ensures { result ≡ has_dropped_part (shown self.now) name.now }
+    {
+        self.is_dropped_at(name, 1)
+            || self.is_dropped_at(name, 2)
+            || self.is_dropped_at(name, 3)
+            || self.is_dropped_at(name, 4)
+            || self.is_dropped_at(name, 5)
+            || self.is_dropped_at(name, 6)
+            || self.is_dropped_at(name, 7)
+            || self.is_dropped_at(name, 8)
+    }
+
+    fn differ_in_number(&self, stated: &Statement) -> bool
+        ensures { result ≡ differ_in_number (shown self.now) stated.now }
+    {
+        let count = self.count_parts(&Sought::first_of(stated));
+        count == 0 || count != stated.parts
+    }
+
+    fn are_as_stated(&self, stated: &Statement) -> bool
+        ensures { result ≡ are_as_stated (shown self.now) stated.now }
+    {
+        !self.has_any_other_kind(&Sought::first_of(stated)) && !self.differ_in_number(stated)
+    }
+
+    fn verdict_told(&self, stated: &Statement) -> Option<Notice>
+        ensures { option_map notice_entry result ≡ verdict_told (shown self.now) stated.now }
+    {
+        self.notices
+            .verdict(&stated.tld, stated.day, stated.rev.number())
+    }
+
+    fn verdict_of_id(&self, stated: &Statement) -> Option<Notice>
+        ensures { option_map notice_entry result ≡ option_and_then (if_of_id stated.now.id) (verdict_told (shown self.now) stated.now) }
+    {
+        match self.verdict_told(stated) {
+            Some(notice) if tells_id(&notice, &stated.id) => Some(notice),
+            _ => None,
+        }
+    }
+
+    fn kept_verdict(&self, stated: &Statement) -> Option<Notice>
+        ensures { option_map notice_entry result ≡ kept_verdict (shown self.now) stated.now }
+    {
+        if self.are_as_stated(stated) {
+            self.verdict_of_id(stated)
+        } else {
+            None
+        }
+    }
+
+    fn is_untold(&self, stated: &Statement) -> bool
+        ensures { result ≡ is_none (kept_verdict (shown self.now) stated.now) }
+    {
+        self.kept_verdict(stated).is_none()
+    }
+
+    fn has_verdict(&self, stated: &Statement) -> bool
+        ensures { result ≡ has_verdict (shown self.now) stated.now }
+    {
+        self.notices
+            .has_verdict(&stated.tld, stated.day, stated.rev.number())
+    }
+
+    fn is_stated_outside(&self, stated: &Statement, now: Sec) -> bool
+        ensures { result ≡ (is_none (kept_verdict (shown self.now) stated.now) && is_outside (shown self.now) (first_part stated.now) now) }
+    {
+        self.is_untold(stated) && self.is_outside(&Sought::first_of(stated), now)
+    }
+
+    fn lacks_bytes(&self, stated: &Statement) -> bool
+        ensures { result ≡ (not (has_verdict (shown self.now) stated.now) && has_dropped_part (shown self.now) (first_part stated.now)) }
+    {
+        !self.has_verdict(stated) && self.has_dropped_part(&Sought::first_of(stated))
+    }
+
+    fn has_other_verdict(&self, stated: &Statement) -> bool
+        ensures { result ≡ (is_none (kept_verdict (shown self.now) stated.now) && has_verdict (shown self.now) stated.now) }
+    {
+        self.is_untold(stated) && self.has_verdict(stated)
+    }
+
+    fn comes_too_late(&self, stated: &Statement) -> bool
+        ensures { result ≡ (is_none (kept_verdict (shown self.now) stated.now) && has_later_receipt (shown self.now) stated.now) }
+    {
+        self.is_untold(stated) && self.notices.has_later_receipt(&stated.tld, stated.day)
+    }
+
+    // The refusals of a statement, in their order.
+    fn refusal_of_statement(&self, stated: &Statement, now: Sec) -> Option<Refusal>
+        ensures { result ≡ first_standing (statement_tests (shown self.now) stated.now now) }
+    {
+        let first = Sought::first_of(stated);
+        if self.is_unknown(&first) {
+            return Some(Refusal::RegistryUnknown);
+        }
+        if self.is_stated_outside(stated, now) {
+            return Some(Refusal::DateOutOfRange);
+        }
+        if self.lacks_bytes(stated) {
+            return Some(Refusal::DroppedAfterKeeping);
+        }
+        if self.has_other_verdict(stated) {
+            return Some(Refusal::AlreadyStated);
+        }
+        if self.has_any_other_kind(&first) {
+            return Some(Refusal::TypeDiffers);
+        }
+        if self.differ_in_number(stated) {
+            return Some(Refusal::PartsDiffer);
+        }
+        if self.comes_too_late(stated) {
+            return Some(Refusal::LaterDayPassed);
+        }
+        None
+    }
+
+    // Adds the bytes of the part at a place.
+    fn append_part(&self, name: &Sought, place: u8, joined: &mut Vec<u8>) -> Result<(), AllocError>
+        ensures { OnOk result (joined.new.items ≡ joined.old.items ++ bytes_held (part_in (shown self.now) name.now place)) }
+    {
+        match self.part_at(name, place) {
+            Some(part) => part.content.append_to(joined),
+            None => Ok(()),
+        }
+    }
+
+    // The bytes of the revision's parts, in the order of the series.
+    fn join(&self, alloc: Global, name: &Sought) -> Result<Vec<u8>, AllocError>
+        ensures { IfOk result (λ bytes. bytes.items ≡ joined (shown self.now) name.now) }
+    {
+        let mut bytes = Vec::new(alloc);
+        self.append_part(name, 1, &mut bytes)?;
+        self.append_part(name, 2, &mut bytes)?;
+        self.append_part(name, 3, &mut bytes)?;
+        self.append_part(name, 4, &mut bytes)?;
+        self.append_part(name, 5, &mut bytes)?;
+        self.append_part(name, 6, &mut bytes)?;
+        self.append_part(name, 7, &mut bytes)?;
+        self.append_part(name, 8, &mut bytes)?;
+        Ok(bytes)
+    }
+
+    fn find_in(&self, stated: &Statement) -> Option<&PlainPart>
+        ensures { option_map (λ p. p.now) result ≡ find (is_in (first_part stated.now)) self.now.parts.items }
+    {
+        self.parts.iter().find(|p| p.is_in(stated))
+    }
+
+    // The name of the first part of what is stated, where any part of the revision is there.
+    fn first_name(&self, stated: &Statement) -> Option<DepositName>
+        ensures name { IfSome result (λ name. name ≡ first_part stated.now) }
+        ensures none { IfNone result (count_parts (shown self.now) (first_part stated.now) ≡ 0) }
+    {
+        match self.find_in(stated) {
+            Some(part) => Some(DepositName {
+                kind: stated.kind,
+                part: 1,
+                ..part.name
+            }),
+            None => None,
+        }
+    }
+
+    // The notice of the verdict on the deposit whose first part has this name.
+    fn judge(
+        &self,
+        alloc: Global,
+        name: DepositName,
+        stated: &Statement,
+        now: Sec,
+    ) -> Result<Notice, AllocError>
+        requires named { name ≡ first_part stated.now }
+        ensures key { IfOk result (λ n. notice_key n ≡ next_key (shown self.now).notices stated.now.tld) }
+        ensures value { IfOk result (λ n. notice_value n ≡ verdict_notice stated.now (verdict_on (shown self.now) stated.now) now) }
+    {
+        let number = self.notices.next_number(&stated.tld).ok_or(AllocError)?;
+        let bytes = self.join(alloc, &Sought::of(&name))?;
+        let about = self.notices.known_of(alloc, name, stated)?;
+        let Ok(verdict) = verify(alloc, &bytes, &about) else {
+            return Err(AllocError);
+        };
+        Ok(Notice {
+            number,
+            tld: stated.tld,
+            day: stated.day,
+            at: now,
+            kind: kind_of(stated, verdict),
+        })
+    }
+
+    /// Refuses the statement, or answers it by the notice of its verdict.
+    pub(crate) fn receive_statement(
+        &mut self,
+        alloc: Global,
+        stated: &Statement,
+        now: Sec,
+    ) -> Result<PlainAnswer, AllocError>
+        ensures step { IfOk result (λ answer. IsOutcome answer (shown self.old) (shown self.new) (step (shown self.old) (machine.Statement stated.now) now)) }
+        ensures err { OnErr result (shown self.new ≡ shown self.old) }
+    {
+        if let Some(refusal) = self.refusal_of_statement(stated, now) {
+            return Ok(PlainAnswer::Refused(refusal));
+        }
+        if let Some(notice) = self.kept_verdict(stated) {
+            return Ok(noticed(&notice, true));
+        }
+        let Some(name) = self.first_name(stated) else {
+            unreachable!()
+        };
+        let notice = self.judge(alloc, name, stated, now)?;
+        self.notices.add(&notice)?;
+        Ok(noticed(&notice, false))
+    }
+}
+
+impl PlainPart {
+    fn is_in(&self, stated: &Statement) -> bool
+        ensures { result ≡ is_in (first_part stated.now) self.now }
+    {
+        self.name.tld.as_bytes() == stated.tld.as_bytes()
+            && self.name.day == stated.day
+            && self.name.rev == stated.rev.number()
+    }
+}
+
+impl PlainContent {
+    fn append_to(&self, joined: &mut Vec<u8>) -> Result<(), AllocError>
+        ensures { OnOk result (joined.new.items ≡ joined.old.items ++ bytes_in (content_shown self.now)) }
+    {
+        match self {
+            PlainContent::Held(bytes) => joined.extend_from_slice(bytes),
+            PlainContent::Dropped(_) => Ok(()),
+        }
+    }
+}
+
+// What a notice tells of a verdict.
+fn kind_of(stated: &Statement, verdict: Verdict) -> NoticeKind
+    ensures { result ≡ notice_kind stated.now verdict }
+{
+    let rev = stated.rev;
+    let id = stated.id;
+    match verdict {
+        Verdict::Pass => NoticeKind::Receipt { rev, id },
+        Verdict::Fail(check) => NoticeKind::Failure { rev, id, check },
+    }
+}
+
+fn noticed(notice: &Notice, is_repeat: bool) -> PlainAnswer
+    ensures { result ≡ PlainAnswer.Noticed notice.now is_repeat }
+{
+    PlainAnswer::Noticed {
+        notice: *notice,
+        is_repeat,
+    }
+}
