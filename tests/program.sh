@@ -98,6 +98,7 @@ printf world > in/example_2026-08-02_full_S1_R01.ryde
 expect 1 "" "Q10 part out of order" put d in/example_2026-08-02_full_S3_R0.ryde --now $ten
 expect 1 "" "Q3 date out of range" put d in/example_2026-08-01_full_S1_R0.ryde --now $ten
 expect 1 "" "Q2 registry unknown" put d in/other_2026-08-02_full_S1_R0.ryde --now $ten
+expect 0 "" "" report d example
 expect 1 "" "Q1 N6 name refused" put d in/example_2026-08-02_full_S1_R01.ryde --now $ten
 vault big 300
 mkdir sizes
@@ -181,10 +182,24 @@ free 6 of 7" "" state whole
     expect 1 "" "Q12 parts differ" verify whole example --date 2026-08-02 --kind full --revision 1 --parts 1 \
         --id 20260802001 --now $five
     expect 1 "" "Q7 revision not due" put whole in/example_2026-08-02_full_S1_R1.ryde --now $five
+    expect 0 "$receipt" "" report whole example
+    expect 1 "" "Q2 registry unknown" report whole other
     expect 0 "$registry
 part $name0 1422 held $ten
 $receipt
 free 6 of 7" "" state whole
+
+    cp -r whole missed
+    second="       2 ABSENCE    2026-08-03 --- -             2026-08-05T00:00:00Z example"
+    third="       3 ABSENCE    2026-08-04 --- -             2026-08-05T00:00:00Z example"
+    expect 0 "$second
+$third" "" sweep missed --now 2026-08-05T00:00:00Z
+    expect 0 "" "" sweep missed --now 2026-08-05T00:00:00Z
+    expect 0 "registered later 2026-08-06" "" register missed later --first 2026-08-06
+    expect 0 "" "" sweep missed --now 2026-08-05T23:59:59Z
+    expect 0 "$receipt
+$second
+$third" "" report missed example
 
     domains=$'a.example,D1-EX,,R9,2020-01-01T00:00:00Z,2030-01-01T00:00:00Z\n'
     # fails CHECK: the bytes on standard input are a deposit in which this check fails first
@@ -275,18 +290,20 @@ expect 2 "" "bad value for DATE" verify nowhere example --date 2026-02-30 --kind
 expect 2 "" "bad value for KIND" verify nowhere example --date 2026-08-02 --kind f --revision 0 --parts 1 --id a-b --now 0
 expect 2 "" "bad value for ID" verify nowhere example --date 2026-08-02 --kind full --revision 0 --parts 1 --id a-b --now 0
 expect 2 "" "bad value for NOW" verify nowhere example --date 2026-08-02 --kind full --revision 0 --parts 1 --id X --now 0
-expect 3 "" "file failed: nowhere: file missing" \
+expect 3 "" "file failed: nowhere: folder missing" \
     verify nowhere example --date 2026-08-02 --kind full --revision 0 --parts 1 --id X
 expect 3 "" "file failed: nofile: file missing" put nowhere nofile
 expect 3 "" "file failed: in: Is a directory (os error 21)" put nowhere in
-expect 3 "" "file failed: nowhere: file missing" put nowhere in/$name0
-expect 3 "" "file failed: nowhere: file missing" state nowhere
-expect 3 "" "file failed: : file missing" state ""
-expect 3 "" "file failed: : file missing" init "" --blocks 8 --number 0000000000000001
-expect 3 "" "file failed: nowhere: file missing" init nowhere --blocks 8 --number 0000000000000001
+expect 3 "" "file failed: nowhere: folder missing" put nowhere in/$name0
+expect 3 "" "file failed: nowhere: folder missing" state nowhere
+expect 3 "" "file failed: in/$name0: folder missing" state in/$name0
+expect 3 "" "file failed: : folder missing" state ""
+expect 3 "" "file failed: : folder missing" init "" --blocks 8 --number 0000000000000001
+expect 3 "" "file failed: nowhere: folder missing" init nowhere --blocks 8 --number 0000000000000001
 check "an init makes no folder" test ! -e nowhere
 compare 2 "" "error: an argument is no text" "words that are no text" "$program" $'\xff'
 compare 0 "$("$program" --help)" "" "help" "$program" --help
+compare 0 "escrow 0.1.0, proved with rattle-kit-13b" "" "the version" "$program" --version
 compare 2 "" "$("$program" state 2>&1)" "no folder is named" "$program" state
 
 echo "== a folder that was never initialised"
@@ -444,6 +461,33 @@ free 98 of 99" "" state small
 else
     skip "no tmpfs can be mounted"
 fi
+
+echo "== a sweep of many days"
+mkdir swept
+later=2026-08-05T00:00:00Z
+expect 0 "ready 8 0000000000000001" "" init swept --blocks 8 --number 0000000000000001
+expect 0 "registered example 2020-01-01" "" register swept example --first 2020-01-01
+limited 400 "$program" sweep swept --now $later > first.out 2> first.err
+check "a failure ends it" test "$? $(cat first.err)" = "3 C3 store failed"
+lines=$(wc -l < first.out)
+check "it got somewhere" test "$lines" -gt 10
+"$program" report swept example > first.all
+check "what was printed is recorded" cmp -s first.out <(head -n "$lines" first.all)
+check "and at most the check that failed" test $(($(wc -l < first.all) - lines)) -le 1
+if command -v script > /dev/null; then
+    script -qec "'$program' sweep swept --now $later > rest.out" /dev/null < /dev/null > shown.err
+    left=$((2408 - $(wc -l < first.all)))
+    check "a terminal is told how far it is" test "$(tr -d '\r' < shown.err)" = "swept 1000 of $left days
+swept 2000 of $left days"
+else
+    skip "no script, so no terminal"
+    "$program" sweep swept --now $later > rest.out 2> rest.err
+    check "no terminal is told how far it is" test ! -s rest.err
+fi
+"$program" report swept example > all.out
+check "each day has its notice" test "$(wc -l < all.out)" = 2408
+check "the new lines are printed" cmp -s all.out <(cat first.all rest.out)
+expect 0 "" "" sweep swept --now $later
 
 echo "== killed at any moment"
 kills=${KILLS:-120}

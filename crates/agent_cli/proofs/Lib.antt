@@ -1,3 +1,5 @@
+pub mod Examples
+pub mod FoldLemmas
 pub mod FormLemmas
 pub mod OneReading
 pub mod PathLemmas

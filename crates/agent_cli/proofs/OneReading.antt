@@ -1,13 +1,14 @@
 -- Words ask for one thing at most.
-use Rattle.std.proofs.Common.{◌≡◌, List, sym, subst, ◌∙◌, Bool, true, false, Option, Some, None, inl, inr, codes}
+use Rattle.std.proofs.Common.{◌≡◌, List, sym, subst, ◌∙◌, Bool, true, false, Option, Some, None, inl, inr}
 use Rattle.std.specs.Prelude.{MatchBool}
-use Rattle.std.specs.Str.{bytes_eq}
 use Rattle.clap.specs.Words.{Row, Text, fault_of, subcommand_of}
 use Rattle.clap.specs.Walk.{is_empty}
 use Rattle.deposit_name.proofs.NameLemmas.{kind_text-injective}
 use Rattle.agent_cli.specs.Grammar.{escrow_app}
 use Rattle.agent_cli.specs.Forms.{ShowsMoment}
-use Rattle.agent_cli.specs.Order.{Asks, InitReading, IsOneReading, MetReading, NamedReading, PutReading, ReadsValue, Reading, RegisterReading, StateReading, VerifyReading, refused}
+use Rattle.agent_cli.specs.Order.{Asks, InitReading, IsOneReading, MetReading, NamedReading, PutReading, ReadsValue, Reading, RegisterReading, ReportReading, StateReading, SweepReading, VerifyReading, named, refused}
+use Rattle.agent_cli.specs.declared.table.Subcommand.{Subcommand}
+use Rattle.agent_cli.specs.declared.table.Subcommand.TheVariants as subcommand
 use Rattle.agent_cli.specs.declared.order.Argument.{Argument}
 use Rattle.agent_cli.proofs.FormLemmas.{if_given_one}
 use Rattle.answer_lines.proofs.NumberLemmas.{digits_of-injective}
@@ -44,6 +45,13 @@ verify_one rows =
     value_one _ _ _ (λ x y h k. h.0 ∙ sym k.0) (λ id.
     value_one _ _ _ (if_given_one ShowsMoment (λ t x y h k. moment_text-injective x y h.0 k.0 (sym h.1 ∙ k.1)) _) (λ x r s h k. h ∙ sym k)))))
 
+sweep_one : (rows : List Row) → IsOne (SweepReading rows)
+sweep_one rows =
+    value_one _ _ _ (if_given_one ShowsMoment (λ t x y h k. moment_text-injective x y h.0 k.0 (sym h.1 ∙ k.1)) _) (λ x r s h k. h ∙ sym k)
+
+report_one : (rows : List Row) → IsOne (ReportReading rows)
+report_one rows = value_one _ _ _ (λ x y h k. h.0 ∙ sym k.0) (λ tld r s h k. h ∙ sym k)
+
 state_one : (rows : List Row) → IsOne (StateReading rows)
 state_one rows r s h k = h ∙ sym k
 
@@ -54,17 +62,19 @@ either_one false P Q p q = q
 refused_one : IsOne (λ r. r ≡ refused)
 refused_one r s h k = h ∙ sym k
 
-named_one : (name : Text) (rows : List Row) → IsOne (NamedReading name rows)
-named_one name rows =
-    either_one (bytes_eq name (codes "init")) _ _ (init_one rows) (
-    either_one (bytes_eq name (codes "register")) _ _ (register_one rows) (
-    either_one (bytes_eq name (codes "put")) _ _ (put_one rows) (
-    either_one (bytes_eq name (codes "verify")) _ _ (verify_one rows) (
-    either_one (bytes_eq name (codes "state")) _ _ (state_one rows) refused_one))))
+named_one : (subcommand : Option Subcommand) (rows : List Row) → IsOne (NamedReading subcommand rows)
+named_one None rows = refused_one
+named_one (Some subcommand.Init) rows = init_one rows
+named_one (Some subcommand.Register) rows = register_one rows
+named_one (Some subcommand.Put) rows = put_one rows
+named_one (Some subcommand.Verify) rows = verify_one rows
+named_one (Some subcommand.Sweep) rows = sweep_one rows
+named_one (Some subcommand.Report) rows = report_one rows
+named_one (Some subcommand.State) rows = state_one rows
 
 met_one : (met : Option (Text × List Row)) → IsOne (MetReading met)
 met_one None = refused_one
-met_one (Some p) = named_one p.0 p.1
+met_one (Some p) = named_one (named p.0) p.1
 
 pub asks_one : IsOneReading
 unfolding Asks

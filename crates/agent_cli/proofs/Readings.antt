@@ -1,5 +1,5 @@
 -- What the matches of a parse give, and where a parse that passes has met a subcommand.
-use Rattle.std.proofs.Common.{◌∙◌, ◌≡◌, ◌≤◌, ◌<◌, ◌^◌, ◌&&◌, if◌then◌else◌, nat_le, nat_lt, ap, arith, refl, sym, subst, IsErrAnd, inl, inr, List, ℕ, [], ◌∷◌, Bool, true, false, Option, Some, None, Result, Ok, Err, option_map, unwrap_or, IfSome, cond, find, length}
+use Rattle.std.proofs.Common.{◌∙◌, ◌≡◌, ◌≤◌, ◌<◌, ◌^◌, ◌&&◌, if◌then◌else◌, nat_le, nat_lt, ap, arith, refl, sym, subst, IsErrAnd, inl, inr, List, ℕ, [], ◌∷◌, Bool, true, false, Option, Some, None, Result, Ok, Err, option_map, unwrap_or, IfSome, cond, find, is_some, length}
 use Rattle.std.specs.Borrow.{Bor}
 use Rattle.std.specs.List.{list_all}
 use Rattle.std.specs.Option.{option_map_or}
@@ -21,7 +21,7 @@ use Rattle.clap.specs.declared.error.ErrorKind.{ErrorKind}
 use Rattle.clap.proofs.ValueTestLemmas.{accepts-Accepts, Accepts-accepts}
 use Rattle.agent_cli.specs.Grammar.{escrow_app}
 use Rattle.agent_cli.specs.Forms.{count_in_text, count_of}
-use Rattle.agent_cli.specs.Order.{Answers, Asks, IsFaultFrom, NamedReading, Reading, bad, is_subcommand, refused}
+use Rattle.agent_cli.specs.Order.{Answers, Asks, IsFaultFrom, NamedReading, Reading, bad, named, refused}
 use Rattle.agent_cli.specs.declared.order.Argument.{Argument}
 use Rattle.agent_cli.specs.declared.order.Order.{Order}
 use Rattle.agent_cli.specs.declared.order.WordFault.{WordFault}
@@ -116,19 +116,19 @@ found_passes : {X : Type 0} (p q : X → Bool) (xs : List X) → list_all q xs �
 found_passes p q [] h = tt
 found_passes p q (x ∷ xs) h = at_test p q x (find p xs) (p x) (both (q x) (list_all q xs) h).0 (found_passes p q xs (both (q x) (list_all q xs) h).1)
 
-shape_named : (o : Option Shape) (words : List Text) → IfSome o (λ s. is_subcommand s.name ≡ true)
-    → IfSome (option_map (λ s. rows_at s words) o) (λ p. is_subcommand p.0 ≡ true)
+shape_named : (o : Option Shape) (words : List Text) → IfSome o (λ s. is_some (named s.name) ≡ true)
+    → IfSome (option_map (λ s. rows_at s words) o) (λ p. is_some (named p.0) ≡ true)
 shape_named None words h = tt
 shape_named (Some s) words h = h
 
-pub knows_subcommand : (words : List Text) → IfSome (subcommand_of escrow_app words) (λ p. is_subcommand p.0 ≡ true)
+pub knows_subcommand : (words : List Text) → IfSome (subcommand_of escrow_app words) (λ p. is_some (named p.0) ≡ true)
 knows_subcommand words = go (stop_after (built escrow_app).top.rules (names_of (built escrow_app)) (argument_words escrow_app words))
   where
-    go : (stop : Option (Text × List Text)) → IfSome (entered (built escrow_app) stop) (λ p. is_subcommand p.0 ≡ true)
+    go : (stop : Option (Text × List Text)) → IfSome (entered (built escrow_app) stop) (λ p. is_some (named p.0) ≡ true)
     go None = tt
     go (Some p) =
         let test : Shape → Bool = λ s. answers_to p.0 (label_of s) in
-        shape_named (find test (built escrow_app).subs) p.1 (found_passes test (λ s. is_subcommand s.name) (built escrow_app).subs refl)
+        shape_named (find test (built escrow_app).subs) p.1 (found_passes test (λ s. is_some (named s.name)) (built escrow_app).subs refl)
 
 pair_of : {X : Type 0} (h : X → Text × List Row) (s : Option X) (name : Text) (rows : List Row) → Some name ≡ option_map (λ b. (h b).0) s
     → Some rows ≡ option_map {T = Text × List Row} (λ p. p.1) (option_map h s) → option_map h s ≡ Some (name, rows)
@@ -151,6 +151,6 @@ answers_as P Q sub (Err (fault.Words e)) h = sub _ h
 answers_as P Q sub (Err fault.NoMemory) h = tt
 
 pub met_asks : (words : List Text) (name : Text) (rows : List Row) → fault_of escrow_app words ≡ []
-    → subcommand_of escrow_app words ≡ Some (name, rows) → (r : Reading) → NamedReading name rows r → Asks words r
+    → subcommand_of escrow_app words ≡ Some (name, rows) → (r : Reading) → NamedReading (named name) rows r → Asks words r
 unfolding Asks
 met_asks words name rows none met r h = rw (none, met) h

@@ -1,9 +1,14 @@
 -- What an order does to an agent.
-use Rattle.std.specs.Prelude.{◌≡◌, ◌==◌, ◌-◌, ℕ, List, Result, true, false}
+use Rattle.std.specs.Prelude.{◌≡◌, ◌≢◌, ◌⊎◌, ◌==◌, ◌-◌, ℕ, List, [], ◌∷◌, Option, None, Result, is_some, true, false}
+use Rattle.std.specs.FinMap.{get}
+use Rattle.std.specs.Io.KnownBytes.{Appends}
 use Rattle.std.specs.List.{after_last}
 use Rattle.vault_volume.specs.declared.volume.Volume as volume
 use Rattle.sqlite.specs.Store.{Ghosts}
-use Rattle.custody_machine.specs.Machine.{Command, Register, Receive, Statement}
+use Rattle.custody_machine.specs.Machine.{Command, Register, Receive, Statement, Check}
+use Rattle.custody_machine.specs.declared.answers.Refusal.TheVariants.{RegistryUnknown}
+use Rattle.custody_machine.specs.Texts.{refusal_text}
+use Rattle.custody_rules.specs.Due.{due_in}
 use Rattle.custody.specs.Custody.{HasApplied, keeper_of, is_open}
 use Rattle.custody.specs.Keeper.{recorded}
 use Rattle.custody.specs.Opening.{free_blocks}
@@ -13,7 +18,7 @@ use Rattle.custody.specs.declared.answers.InitError.TheVariants.{AlreadyInitiali
 use Rattle.custody.specs.declared.answers.Reply.{Reply}
 use Rattle.custody.specs.declared.answers.Refused.{Refused}
 use Rattle.answer_lines.specs.Printed.{IsTold, IsUnused, Takes, Writer}
-use Rattle.answer_lines.specs.State.{state_text}
+use Rattle.answer_lines.specs.State.{report_text, state_text}
 use Rattle.answer_lines.specs.Statuses.{IsStatus, IsStatusAfter, answer_status}
 use Rattle.agent_cli.specs.declared.order.Order.{Order}
 use Rattle.agent_cli.specs.declared.order.Order.TheVariants as order
@@ -35,6 +40,27 @@ module _ {V S : Type 0} {g : volume.Ghosts V} {database : Ghosts S} where
     pub while_open : is_open custody ≡ true → IsUnused errors
     pub while_closed : is_open custody ≡ false → IsUnused output
 
+  -- an open agent prints the report of a registry that is known, and refuses any other
+  pub record Reports (custody : Custody V S g database) (tld : List ℕ) (status : ℕ) (output errors : Writer) : Type 0 where
+    pub shown : status ≡ 0 → (is_open custody ≡ true) × (is_some (get (recorded (keeper_of custody)).registries tld) ≡ true) × Appends output.before output.after (report_text (recorded (keeper_of custody)) tld)
+    pub known : is_open custody ≡ true → is_some (get (recorded (keeper_of custody)).registries tld) ≡ true → IsStatusAfter 0 status × IsUnused errors
+    pub unknown : is_open custody ≡ true → get (recorded (keeper_of custody)).registries tld ≡ None → IsStatusAfter 1 status × (status ≡ 1 → Takes errors (refusal_text RegistryUnknown)) × IsUnused output
+    pub while_closed : is_open custody ≡ false → (status ≡ 3) × IsUnused output
+
+  -- each of these days is checked in its turn, and the answer is told; the first that is not done ends it
+  abbrev pub IsSwept : List (List ℕ × ℕ) → Custody V S g database → ℕ → Custody V S g database → ℕ → Writer → Writer → Type 0
+  IsSwept [] old now new status output errors = (new ≡ old) × (status ≡ 0) × IsUnused output × IsUnused errors
+  IsSwept (day ∷ days) old now new status output errors =
+      (then : Custody V S g database) × (told : ℕ) × (out err : Option (List ℕ))
+      × Applies old (Check day.0 day.1) now then told (record { before = output.before; after = out }) (record { before = errors.before; after = err })
+      × (told ≡ 0 → IsSwept days then now new status (record { before = out; after = output.after }) (record { before = err; after = errors.after }))
+      × (told ≢ 0 → (new ≡ then) × (status ≡ told) × (output.after ≡ out) × (errors.after ≡ err))
+
+  -- an open agent is swept for the days that are due by its records, or there is no memory for them
+  pub record Sweeps (old : Custody V S g database) (now : ℕ) (new : Custody V S g database) (status : ℕ) (output errors : Writer) : Type 0 where
+    pub swept : is_open old ≡ true → IsSwept (due_in (recorded (keeper_of old)) now) old now new status output errors ⊎ ((new ≡ old) × (status ≡ 3) × IsUnused output)
+    pub while_closed : is_open old ≡ false → (new ≡ old) × (status ≡ 3) × IsUnused output
+
   -- `register`, `put` and `verify` give it their command, and no other order changes it
   abbrev pub Acts : Order → List ℕ → ℕ → Custody V S g database → Custody V S g database → ℕ → Writer → Writer → Type 0
   Acts (order.Init folder blocks number) bytes now old new status output errors =
@@ -42,4 +68,6 @@ module _ {V S : Type 0} {g : volume.Ghosts V} {database : Ghosts S} where
   Acts (order.Register folder tld first) bytes now old new status output errors = Applies old (Register tld first) now new status output errors
   Acts (order.Put folder file at) bytes now old new status output errors = Applies old (Receive (name_in file.now) bytes) now new status output errors
   Acts (order.Verify folder statement at) bytes now old new status output errors = Applies old (Statement statement) now new status output errors
+  Acts (order.Sweep folder at) bytes now old new status output errors = IsStatus status × Sweeps old now new status output errors
+  Acts (order.Report folder tld) bytes now old new status output errors = (new ≡ old) × IsStatus status × Reports old tld status output errors
   Acts (order.State folder) bytes now old new status output errors = (new ≡ old) × IsStatus status × Shows old status output errors

@@ -1,7 +1,8 @@
 -- Faults of words: the names of arguments, the texts, and exit statuses.
-use Rattle.std.specs.Prelude.{◌≡◌, ◌≢◌, ℕ, List, [], ◌∷◌, ◌++◌, Option, None, Some, codes}
+use Rattle.std.specs.Prelude.{◌≡◌, ℕ, Bool, true, false, if◌then◌else◌, List, [], ◌∷◌, ◌++◌, Option, None, Some, codes}
 use Rattle.clap.specs.Words.{kind_of}
-use Rattle.clap.specs.declared.error.ErrorKind.TheVariants.{DisplayHelp}
+use Rattle.clap.specs.declared.error.ErrorKind.{ErrorKind}
+use Rattle.clap.specs.declared.error.ErrorKind.TheVariants.{DisplayHelp, DisplayVersion}
 use Rattle.custody_machine.specs.Texts as machine
 use Rattle.custody_machine.specs.declared.answers.Fault.TheVariants.{NoMemory}
 use Rattle.agent_cli.specs.declared.order.Argument.{Argument}
@@ -26,9 +27,13 @@ fault_text (fault.Words e) = None
 fault_text (fault.Bad a) = Some (codes "bad value for " ++ argument_text a ++ 10 ∷ [])
 fault_text fault.NoMemory = Some (machine.fault_text NoMemory ++ 10 ∷ [])
 
--- help is asked for and no mistake
+-- help or the version is asked for, which is no mistake
+abbrev pub is_question : ErrorKind → Bool
+is_question DisplayHelp = true
+is_question DisplayVersion = true
+is_question _ = false
+
 abbrev pub IsStatusOf : WordFault → ℕ → Type 0
-IsStatusOf (fault.Words e) n =
-    (kind_of e ≡ DisplayHelp → n ≡ 0) × (kind_of e ≢ DisplayHelp → n ≡ 2)
+IsStatusOf (fault.Words e) n = n ≡ (if is_question (kind_of e) then 0 else 2)
 IsStatusOf (fault.Bad a) n = n ≡ 2
 IsStatusOf fault.NoMemory n = n ≡ 3

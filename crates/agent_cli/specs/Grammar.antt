@@ -1,7 +1,13 @@
 -- The command `escrow`, as clap's builders make it. Help and the names of values are no part of it.
-use Rattle.std.specs.Prelude.{ℕ, Bool, true, false, List, [], ◌∷◌, Some, unwrap_or, codes, fold, pos}
+use Rattle.std.specs.Prelude.{ℕ, Bool, true, false, List, [], ◌∷◌, Some, unwrap_or, codes, fold, map, pos}
+use Rattle.std.specs.Str.{bytes_eq}
 use Rattle.clap.specs.Words.{App, Row, Rule, Shape, Text, first_of, new_app, new_rule, with_rule, with_subcommand}
 use Rattle.clap.specs.declared.builder.ValueParser.TheVariants.{Signed}
+use Rattle.agent_cli.specs.declared.table.Form.{Form}
+use Rattle.agent_cli.specs.declared.table.Form.TheVariants.{Place, Option, Count}
+use Rattle.agent_cli.specs.declared.table.Subcommand.{Subcommand}
+use Rattle.agent_cli.specs.declared.table.Subcommand.TheVariants.{Init, Register, Put, Verify, Sweep, Report, State}
+use Rattle.agent_cli.specs.declared.table.Word.{Word}
 use Rattle.vault_volume.specs.declared.extent.TheConstants.{FEWEST_BLOCKS, MOST_BLOCKS}
 
 -- a positional argument, which has to be there
@@ -16,52 +22,66 @@ option_rule id required = record (new_rule id) { long = Some id; value_names = 1
 abbrev pub count_rule : Text → ℕ → ℕ → Rule
 count_rule id least most = record (option_rule id true) { parser = Some (Signed (pos least) (pos most)) }
 
--- a subcommand with these arguments
-abbrev pub subcommand_shape : Text → List Rule → Shape
-subcommand_shape name rules = (fold with_rule (new_app name) rules).top
+-- an argument of the table
+abbrev pub rule_in : Word → Rule
+rule_in word = by word.form
+  where
+    by : Form → Rule
+    by Place = positional_rule word.id.now
+    by (Option value required) = option_rule word.id.now required
+    by (Count least most) = count_rule word.id.now least most
 
 abbrev pub folder_rule : Rule
 folder_rule = positional_rule (codes "DIR")
 
+abbrev pub tld_rule : Rule
+tld_rule = positional_rule (codes "TLD")
+
 abbrev pub now_rule : Rule
 now_rule = option_rule (codes "now") false
 
+-- the name of a subcommand, and its arguments
+abbrev pub words_of : Subcommand → Text × List Rule
 -- `init DIR --blocks N --number HEX16`
-abbrev pub init_shape : Shape
-init_shape = subcommand_shape (codes "init")
-    (folder_rule ∷ count_rule (codes "blocks") FEWEST_BLOCKS MOST_BLOCKS ∷ option_rule (codes "number") true ∷ [])
-
+words_of Init = (codes "init", folder_rule ∷ count_rule (codes "blocks") FEWEST_BLOCKS MOST_BLOCKS ∷ option_rule (codes "number") true ∷ [])
 -- `register DIR TLD --first DATE`
-abbrev pub register_shape : Shape
-register_shape = subcommand_shape (codes "register")
-    (folder_rule ∷ positional_rule (codes "TLD") ∷ option_rule (codes "first") true ∷ [])
-
+words_of Register = (codes "register", folder_rule ∷ tld_rule ∷ option_rule (codes "first") true ∷ [])
 -- `put DIR FILE [--now MOMENT]`
-abbrev pub put_shape : Shape
-put_shape = subcommand_shape (codes "put") (folder_rule ∷ positional_rule (codes "FILE") ∷ now_rule ∷ [])
-
--- a subcommand that speaks of a deposit: `NAME DIR TLD --date DATE --kind KIND --revision N`
-abbrev pub deposit_app : Text → App
-deposit_app name = fold with_rule (new_app name)
-    (folder_rule ∷ positional_rule (codes "TLD") ∷ option_rule (codes "date") true ∷ option_rule (codes "kind") true ∷ count_rule (codes "revision") 0 99 ∷ [])
-
+words_of Put = (codes "put", folder_rule ∷ positional_rule (codes "FILE") ∷ now_rule ∷ [])
 -- `verify DIR TLD --date DATE --kind KIND --revision N --parts N --id ID [--now MOMENT]`
-abbrev pub verify_shape : Shape
-verify_shape = (fold with_rule (deposit_app (codes "verify"))
-    (count_rule (codes "parts") 1 8 ∷ option_rule (codes "id") true ∷ now_rule ∷ [])).top
-
+words_of Verify = (
+  codes "verify",
+  folder_rule ∷ tld_rule ∷ option_rule (codes "date") true ∷ option_rule (codes "kind") true
+      ∷ count_rule (codes "revision") 0 99 ∷ count_rule (codes "parts") 1 8 ∷ option_rule (codes "id") true ∷ now_rule ∷ [],
+)
+-- `sweep DIR [--now MOMENT]`
+words_of Sweep = (codes "sweep", folder_rule ∷ now_rule ∷ [])
+-- `report DIR TLD`
+words_of Report = (codes "report", folder_rule ∷ tld_rule ∷ [])
 -- `state DIR`
-abbrev pub state_shape : Shape
-state_shape = subcommand_shape (codes "state") (folder_rule ∷ [])
+words_of State = (codes "state", folder_rule ∷ [])
 
--- a subcommand has to be named, and `help` is none
+abbrev pub subcommands : List Subcommand
+subcommands = Init ∷ Register ∷ Put ∷ Verify ∷ Sweep ∷ Report ∷ State ∷ []
+
+abbrev pub is_named : Text → Subcommand → Bool
+is_named name subcommand = bytes_eq (words_of subcommand).0 name
+
+-- a subcommand as it is read
+abbrev pub shape_in : Text → List Rule → Shape
+shape_in name rules = (fold with_rule (new_app name) rules).top
+
+abbrev pub shape : Subcommand → Shape
+shape subcommand = shape_in (words_of subcommand).0 (words_of subcommand).1
+
+-- a subcommand has to be named, `help` is none, and `--version` is asked of the command alone
 abbrev pub bare_app : App
 bare_app = record (new_app (codes "escrow")) {
-  top = record (new_app (codes "escrow")).top { subcommand_required = true; disable_help_subcommand = true };
+  top = record (new_app (codes "escrow")).top { subcommand_required = true; disable_help_subcommand = true; has_version = true };
 }
 
 abbrev pub escrow_app : App
-escrow_app = fold with_subcommand bare_app (init_shape ∷ register_shape ∷ put_shape ∷ verify_shape ∷ state_shape ∷ [])
+escrow_app = fold with_subcommand bare_app (map shape subcommands)
 
 -- the first value of an argument, and the empty text where it has none
 abbrev pub text_of : Text → List Row → Text

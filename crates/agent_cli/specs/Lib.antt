@@ -1,4 +1,5 @@
 pub mod Acts
+pub mod Examples
 pub mod Faults
 pub mod Forms
 pub mod Grammar

@@ -1,7 +1,5 @@
 -- What the words of a call ask for: the matches of the command, each value in form.
-use Rattle.std.specs.Prelude.{◌≡◌, ◌≢◌, ◌⊎◌, ℕ, Bool, List, [], ◌∷◌, Option, Some, None, Result, Ok, Err, MatchBool, codes}
-use Rattle.std.specs.List.{list_any}
-use Rattle.std.specs.Str.{bytes_eq}
+use Rattle.std.specs.Prelude.{◌≡◌, ◌≢◌, ◌⊎◌, ℕ, Bool, List, [], ◌∷◌, Option, Some, None, Result, Ok, Err, MatchBool, codes, find}
 use Rattle.clap.specs.Words.{Row, Text, fault_of, first_of, kind_of, subcommand_of}
 use Rattle.clap.specs.Walk.{is_empty}
 use Rattle.clap.specs.declared.error.Error.{Error}
@@ -10,7 +8,9 @@ use Rattle.deposit_name.specs.declared.kinds.Kind.{Kind}
 use Rattle.custody_machine.specs.declared.command.Statement as told
 use Rattle.answer_lines.specs.Number.{ShowsNumber}
 use Rattle.vault_volume.specs.declared.extent.TheConstants.{MOST_BLOCKS}
-use Rattle.agent_cli.specs.Grammar.{escrow_app, text_of}
+use Rattle.agent_cli.specs.Grammar.{escrow_app, is_named, subcommands, text_of}
+use Rattle.agent_cli.specs.declared.table.Subcommand.{Subcommand}
+use Rattle.agent_cli.specs.declared.table.Subcommand.TheVariants as subcommand
 use Rattle.agent_cli.specs.Forms.{ShowsDay, ShowsId, ShowsIfGiven, ShowsKind, ShowsMoment, ShowsTld, count_of}
 use Rattle.agent_cli.specs.declared.order.Argument.{Argument}
 use Rattle.agent_cli.specs.declared.order.Argument.TheVariants as argument
@@ -25,6 +25,8 @@ pub data Wanted : Type 0 where
   register : Text → List ℕ → ℕ → Wanted
   put : Text → Text → Option ℕ → Wanted
   verify : Text → told.Statement → Option ℕ → Wanted
+  sweep : Text → Option ℕ → Wanted
+  report : Text → List ℕ → Wanted
   state : Text → Wanted
 
 -- what words are: an order, words with an argument out of form, or no words of the command
@@ -74,25 +76,37 @@ VerifyReading rows =
     ReadsValue argument.Now (ShowsIfGiven ShowsMoment (first_of (codes "now") rows)) (λ now r.
     r ≡ wanted (verify (text_of (codes "DIR") rows) (stated tld day kind id rows) now))))))
 
+abbrev pub SweepReading : List Row → Reading → Type 0
+SweepReading rows =
+    ReadsValue argument.Now (ShowsIfGiven ShowsMoment (first_of (codes "now") rows)) (λ now r.
+    r ≡ wanted (sweep (text_of (codes "DIR") rows) now))
+
+abbrev pub ReportReading : List Row → Reading → Type 0
+ReportReading rows =
+    ReadsValue argument.Tld (ShowsTld (text_of (codes "TLD") rows)) (λ tld r.
+    r ≡ wanted (report (text_of (codes "DIR") rows) tld))
+
 abbrev pub StateReading : List Row → Reading → Type 0
 StateReading rows r = r ≡ wanted (state (text_of (codes "DIR") rows))
 
--- by the name of the subcommand
-abbrev pub NamedReading : Text → List Row → Reading → Type 0
-NamedReading name rows r =
-    MatchBool (bytes_eq name (codes "init")) (InitReading rows r) (
-    MatchBool (bytes_eq name (codes "register")) (RegisterReading rows r) (
-    MatchBool (bytes_eq name (codes "put")) (PutReading rows r) (
-    MatchBool (bytes_eq name (codes "verify")) (VerifyReading rows r) (
-    MatchBool (bytes_eq name (codes "state")) (StateReading rows r) (r ≡ refused)))))
+-- of a subcommand, where one has the name
+abbrev pub NamedReading : Option Subcommand → List Row → Reading → Type 0
+NamedReading None rows r = r ≡ refused
+NamedReading (Some subcommand.Init) rows r = InitReading rows r
+NamedReading (Some subcommand.Register) rows r = RegisterReading rows r
+NamedReading (Some subcommand.Put) rows r = PutReading rows r
+NamedReading (Some subcommand.Verify) rows r = VerifyReading rows r
+NamedReading (Some subcommand.Sweep) rows r = SweepReading rows r
+NamedReading (Some subcommand.Report) rows r = ReportReading rows r
+NamedReading (Some subcommand.State) rows r = StateReading rows r
 
-abbrev pub is_subcommand : Text → Bool
-is_subcommand name =
-    list_any (bytes_eq name) (codes "init" ∷ codes "register" ∷ codes "put" ∷ codes "verify" ∷ codes "state" ∷ [])
+-- the subcommand of a name
+abbrev pub named : Text → Option Subcommand
+named name = find (is_named name) subcommands
 
 abbrev pub MetReading : Option (Text × List Row) → Reading → Type 0
 MetReading None r = r ≡ refused
-MetReading (Some p) r = NamedReading p.0 p.1 r
+MetReading (Some p) r = NamedReading (named p.0) p.1 r
 
 -- What the words of a call ask for, with the program's name first: clap takes them as the command
 -- `escrow`, and its matches have their values in form.
@@ -110,6 +124,8 @@ meaning (order.Init folder blocks number) = init folder.now blocks number
 meaning (order.Register folder tld first) = register folder.now tld first
 meaning (order.Put folder file now) = put folder.now file.now now
 meaning (order.Verify folder statement now) = verify folder.now statement now
+meaning (order.Sweep folder now) = sweep folder.now now
+meaning (order.Report folder tld) = report folder.now tld
 meaning (order.State folder) = state folder.now
 
 -- the answer is the reading, or memory ran out

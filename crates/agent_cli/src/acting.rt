@@ -1,12 +1,14 @@
 //! What an order does to the agent of a folder.
 ghost use Rattle.std.specs.Prelude.{◌≡◌};
 ghost use Rattle.answer_lines.specs.Statuses.{IsStatus};
-ghost use Rattle.agent_cli.specs.Acts.{Acts, Shows};
+ghost use Rattle.agent_cli.specs.Acts.{Acts, Reports, Shows};
 
-use crate::{Order, last_part};
-use answer_lines::{print_state, tell, tell_answer, tell_init};
+use crate::sweeping::sweep;
+use crate::{Order, Progress, last_part};
+use answer_lines::{print_report, print_state, tell, tell_answer, tell_init, tell_refusal};
 use custody::{Custody, InitError};
-use custody_machine::Command;
+use custody_machine::{Command, Refusal};
+use deposit_name::Tld;
 use schedule::Sec;
 use sqlite::Alter;
 use std::alloc::Global;
@@ -15,7 +17,8 @@ use vault_volume::Volume;
 
 /// Carries out an order, prints its lines and answers the exit status. `file` holds the bytes of the
 /// file that a `put` names, and `now` is its moment. An `init` is refused, since the vault is there.
-pub fn act<V: Volume, S: Alter, W: Write, E: Write>(
+/// A sweep says to `progress` how far it is.
+pub fn act<V: Volume, S: Alter, W: Write, E: Write, P: Progress>(
     alloc: Global,
     custody: &mut Custody<V, S>,
     order: &Order<'_>,
@@ -23,6 +26,7 @@ pub fn act<V: Volume, S: Alter, W: Write, E: Write>(
     now: Sec,
     out: &mut W,
     err: &mut E,
+    progress: &mut P,
 ) -> u8
     ensures acts { Acts order.now file.now now custody.old custody.new result (record { before = W.contents out.old; after = W.contents out.new }) (record { before = E.contents err.old; after = E.contents err.new }) }
     ensures status { IsStatus result }
@@ -41,8 +45,29 @@ pub fn act<V: Volume, S: Alter, W: Write, E: Write>(
             let answer = custody.apply(alloc, &Command::Statement(*statement), now);
             tell_answer(&answer, out, err)
         }
+        Order::Sweep { .. } => sweep(alloc, custody, now, out, err, progress),
+        Order::Report { tld, .. } => show_report(custody, tld, out, err),
         Order::State { .. } => show(custody, out, err),
     }
+}
+
+fn show_report<V: Volume, S: Alter, W: Write, E: Write>(
+    custody: &Custody<V, S>,
+    tld: &Tld,
+    out: &mut W,
+    err: &mut E,
+) -> u8
+    ensures status { IsStatus result }
+    ensures reports { Reports custody.now tld.now result (record { before = W.contents out.old; after = W.contents out.new }) (record { before = E.contents err.old; after = E.contents err.new }) }
+{
+    let records = match custody.records() {
+        Ok(records) => records,
+        Err(fault) => return tell(&fault, err),
+    };
+    if records.first_day(tld).is_none() {
+        return tell_refusal(&Refusal::RegistryUnknown, err);
+    }
+    print_report(records.notices_of(tld), out)
 }
 
 fn show<V: Volume, S: Alter, W: Write, E: Write>(

@@ -6,6 +6,9 @@ mod grammar;
 mod laws;
 mod order;
 mod paths;
+mod progress;
+mod sweeping;
+mod table;
 mod values;
 mod words;
 
@@ -13,4 +16,5 @@ pub use acting::act;
 pub use laws::law_orders;
 pub use order::{Argument, Order, WordFault};
 pub use paths::last_part;
+pub use progress::{Progress, Silent};
 pub use words::order_of;

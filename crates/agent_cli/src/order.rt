@@ -36,6 +36,15 @@ pub enum Order<'a> {
         /// The moment of the call, where the words name it.
         now: Option<Sec>,
     },
+    Sweep {
+        folder: &'a str,
+        /// The moment of the call, where the words name it.
+        now: Option<Sec>,
+    },
+    Report {
+        folder: &'a str,
+        tld: Tld,
+    },
     State {
         folder: &'a str,
     },
@@ -76,7 +85,7 @@ impl fmt::Display for Argument {
 /// Why the words of a call are no order. It is written as it is printed, with its last line feed.
 #[derive(Debug, Drop)]
 pub enum WordFault {
-    /// They are no words of the command, or ask for help.
+    /// They are no words of the command, or ask for help or for the version.
     Words(clap::Error),
     /// The first argument that is out of form.
     Bad(Argument),
@@ -85,13 +94,13 @@ pub enum WordFault {
 }
 
 impl WordFault {
-    /// The exit status: 0 where the words ask for help, 2 for other words, 3 for want of memory.
+    /// The exit status: 0 where the words ask for help or for the version, 2 for other words, 3 for want of memory.
     pub fn status(&self) -> u8
         ensures { IsStatusOf self.now result }
     {
         let status = match self {
             WordFault::Words(error) => match error.kind() {
-                ErrorKind::DisplayHelp => Status::Done,
+                ErrorKind::DisplayHelp | ErrorKind::DisplayVersion => Status::Done,
                 _ => Status::Misused,
             },
             WordFault::Bad(_) => Status::Misused,

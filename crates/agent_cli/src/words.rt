@@ -1,10 +1,11 @@
 //! The words of a call, read by `clap` as a simple command with one level of subcommands.
-ghost use Rattle.std.specs.Prelude.{◌≡◌, map, true};
+ghost use Rattle.std.specs.Prelude.{◌≡◌, Some, map};
 ghost use Rattle.std.specs.String.{string_bytes};
 ghost use Rattle.clap.specs.Words.{found_of, rows_of};
-ghost use Rattle.agent_cli.specs.Order.{Answers, Asks, InitReading, IsFaultFrom, NamedReading, PutReading, RegisterReading, StateReading, VerifyReading, is_subcommand};
+ghost use Rattle.agent_cli.specs.Order.{Answers, Asks, InitReading, IsFaultFrom, NamedReading, PutReading, RegisterReading, ReportReading, StateReading, SweepReading, VerifyReading};
 
 use crate::grammar::escrow_command;
+use crate::table::Subcommand;
 use crate::values::{
     count_in, date_in, first_in, id_in, kind_in, now_in, number_in, parts_in, revision_in, text_in,
     tld_in,
@@ -72,6 +73,26 @@ fn verify_order<'a>(matches: &ArgMatches<'a>) -> Result<Order<'a>, WordFault>
     })
 }
 
+fn sweep_order<'a>(matches: &ArgMatches<'a>) -> Result<Order<'a>, WordFault>
+    ensures { Answers (SweepReading (rows_of (found_of matches.now))) result }
+{
+    let now = now_in(matches)?;
+    Ok(Order::Sweep {
+        folder: text_in(matches, "DIR"),
+        now,
+    })
+}
+
+fn report_order<'a>(matches: &ArgMatches<'a>) -> Result<Order<'a>, WordFault>
+    ensures { Answers (ReportReading (rows_of (found_of matches.now))) result }
+{
+    let tld = tld_in(matches)?;
+    Ok(Order::Report {
+        folder: text_in(matches, "DIR"),
+        tld,
+    })
+}
+
 fn state_order<'a>(matches: &ArgMatches<'a>) -> Result<Order<'a>, WordFault>
     ensures { Answers (StateReading (rows_of (found_of matches.now))) result }
 {
@@ -80,21 +101,18 @@ fn state_order<'a>(matches: &ArgMatches<'a>) -> Result<Order<'a>, WordFault>
     })
 }
 
-/// By the name of the subcommand.
-fn named_order<'a>(name: &str, matches: &ArgMatches<'a>) -> Result<Order<'a>, WordFault>
-    requires { is_subcommand name.now ≡ true }
-    ensures { Answers (NamedReading name.now (rows_of (found_of matches.now))) result }
+/// The order of a subcommand.
+fn order_in<'a>(subcommand: Subcommand, matches: &ArgMatches<'a>) -> Result<Order<'a>, WordFault>
+    ensures { Answers (NamedReading (Some subcommand) (rows_of (found_of matches.now))) result }
 {
-    if name == "init" {
-        init_order(matches)
-    } else if name == "register" {
-        register_order(matches)
-    } else if name == "put" {
-        put_order(matches)
-    } else if name == "verify" {
-        verify_order(matches)
-    } else {
-        state_order(matches)
+    match subcommand {
+        Subcommand::Init => init_order(matches),
+        Subcommand::Register => register_order(matches),
+        Subcommand::Put => put_order(matches),
+        Subcommand::Verify => verify_order(matches),
+        Subcommand::Sweep => sweep_order(matches),
+        Subcommand::Report => report_order(matches),
+        Subcommand::State => state_order(matches),
     }
 }
 
@@ -118,8 +136,11 @@ pub fn order_of<'a>(alloc: Global, words: &'a [String]) -> Result<Order<'a>, Wor
         Ok(matches) => matches,
         Err(error) => return Err(fault_from(error)),
     };
-    match matches.subcommand() {
-        Some((name, inner)) => named_order(name, inner),
+    let Some((name, inner)) = matches.subcommand() else {
+        unreachable!()
+    };
+    match Subcommand::named(name) {
+        Some(subcommand) => order_in(subcommand, inner),
         None => unreachable!(),
     }
 }

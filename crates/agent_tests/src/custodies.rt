@@ -4,6 +4,7 @@ mod commits;
 mod damaged;
 mod failing;
 mod gaps;
+mod missed;
 mod opening;
 mod rows;
 mod script;

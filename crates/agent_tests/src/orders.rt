@@ -48,6 +48,17 @@ fn reads_orders(rt: HostRuntime) -> Result<(), Fail> {
 }
 
 #[test]
+fn reads_a_report(rt: HostRuntime) -> Result<(), Fail> {
+    let words = words_of(rt.alloc(), &["report", "d", "example"])?;
+    let order = order_of(rt.alloc(), words.as_slice());
+    assert!(rt;
+        matches!(&order, Ok(Order::Report { folder, tld })
+            if *folder == "d" && tld.as_bytes() == b"example".as_slice())
+    );
+    Ok(())
+}
+
+#[test]
 fn the_moment_of_a_put_may_be_left_out(rt: HostRuntime) -> Result<(), Fail> {
     let words = words_of(
         rt.alloc(),
@@ -238,7 +249,7 @@ fn tells_arguments_and_want_of_memory(rt: HostRuntime) -> Result<(), Fail> {
 static OTHER_WORDS: [(&[&str], &str); 5] = [
     (
         &[],
-        "error: 'escrow' requires a subcommand but one was not provided\n  [subcommands: init, register, put, verify, state]\n\nUsage: escrow <COMMAND>\n\nFor more information, try '--help'.\n",
+        "error: 'escrow' requires a subcommand but one was not provided\n  [subcommands: init, register, put, verify, sweep, report, state]\n\nUsage: escrow <COMMAND>\n\nFor more information, try '--help'.\n",
     ),
     (
         &["audit", "d"],

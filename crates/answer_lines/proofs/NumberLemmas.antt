@@ -1,11 +1,11 @@
 -- The texts of the numbers of volumes.
-use Rattle.std.proofs.Common.{◌≡◌, ℕ, zero, suc, ◌^◌, ◌<◌, List, refl, sym, ◌∙◌, ap, arith, true, [], ◌∷◌}
+use Rattle.std.proofs.Common.{◌≡◌, codes, ℕ, zero, suc, ◌^◌, ◌<◌, List, refl, sym, ◌∙◌, ap, arith, true, [], ◌∷◌}
 use Rattle.std.specs.Prelude.{nat_lt}
 use Rattle.std.specs.Str.{IsAscii}
 use Rattle.std.specs.List.{list_all}
 use Rattle.std.proofs.lemmas.Bool.{and_parts}
 use Rattle.std.specs.Int.{w64, to_be_bytes}
-use Rattle.hex.specs.Hex.{lower_digits}
+use Rattle.hex.specs.Hex.{encode_with, lower_digits}
 use Rattle.hex.proofs.HexLemmas.{IsAscii-encode_with}
 use Rattle.custody_records.specs.Form.{number_in}
 use Rattle.custody_records.specs.Written.{digits_of}
@@ -24,3 +24,8 @@ IsAscii-bytes (b ∷ bs) h (suc i) = IsAscii-bytes bs (and_parts (nat_lt b 128) 
 
 pub IsAscii-digits_of : (n : ℕ) → IsAscii (digits_of n)
 IsAscii-digits_of n = IsAscii-encode_with lower_digits (to_be_bytes w64 n) (IsAscii-bytes lower_digits refl)
+
+-- the first number, written out
+pub number_one : digits_of 1 ≡ codes "0000000000000001"
+unfolding encode_with
+number_one = refl

@@ -24,6 +24,10 @@ notice_line e = line.Notice (record { number = e.0.number; tld = e.0.tld; day = 
 abbrev pub lines_text : List Line → List ℕ
 lines_text = flat_map (λ l. line_text l ++ 10 ∷ [])
 
+-- the report of a registry: its notices by number (Specification 2, Part B section 7)
+abbrev pub report_text : Records → List ℕ → List ℕ
+report_text records tld = lines_text (map notice_line (notices_of records tld))
+
 -- a registry, its parts by day, revision and place in the series, and its notices by number
 abbrev pub registry_lines : Records → List ℕ × ℕ → List Line
 registry_lines records registry =

@@ -9,4 +9,6 @@ mod telling;
 
 pub use lines::Line;
 pub use number::VolumeNumber;
-pub use telling::{print_line, print_state, tell, tell_answer, tell_init};
+pub use telling::{
+    print_line, print_report, print_state, tell, tell_answer, tell_init, tell_refusal,
+};

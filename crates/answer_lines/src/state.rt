@@ -63,6 +63,14 @@ fn write_notices<W: Write>(notices: &[Notice], out: &mut W) -> io::Result<()>
     Ok(())
 }
 
+/// Writes the line of each notice.
+pub(crate) fn write_report<W: Write>(notices: &[Notice], out: &mut W) -> io::Result<()>
+    ensures { OnOk result (Appends (W.contents out.old) (W.contents out.new) (lines_text (map notice_line (entries_of notice_key notice_value notices.now)))) }
+{
+    write_notices(notices, out)?;
+    out.flush()
+}
+
 fn part_line(part: &Part) -> Line
     ensures { result ≡ part_line (part_entry part.now) }
 {

@@ -15,4 +15,6 @@ pub mod RunMoves
 pub mod SessionLemmas
 pub mod ShownLemmas
 pub mod Unstaged
+pub mod NewNotices
 pub mod Verdicts
+pub mod Absences

@@ -125,8 +125,11 @@ module _ (records : Records) (image : List ℕ) (name : Name) where
         by (inl less) = each k less
         by (inr most) = let at : place ≡ suc k = omega (arith, lt, most) in subst (HasDigestAt image records) (is ∙ ap key_at at) (subst (λ j. HasDigestAt j records key) same last)
 
-    pub broken_at : (¬ HasDigestAt seen records key) → (k : PartKey) × Contains (part_keys (state_in records image) name) k × (¬ HasDigestAt image records k)
-    broken_at broken = (key_at (suc (place - 1)), broken_read (place - 1) (omega (arith, low, high)) not_here, not_here)
+    pub broken_at : (¬ HasDigestAt seen records key) → Contains (part_keys (state_in records image) name) key × (¬ HasDigestAt image records key)
+    broken_at broken = (
+      subst (Contains (part_keys (state_in records image) name)) (sym here) (broken_read (place - 1) (omega (arith, low, high)) not_here),
+      λ has. broken (subst (λ j. HasDigestAt j records key) (sym same) has),
+    )
       where
         not_here : ¬ HasDigestAt image records (key_at (suc (place - 1)))
         not_here has = broken (subst (λ j. HasDigestAt j records key) (sym same) (subst (HasDigestAt image records) (sym here) has))

@@ -1,9 +1,8 @@
 -- A deposit that is verified, over a volume that was read: a new notice as one change of the records, or none.
 use Rattle.std.proofs.Common.{◌≡◌, ℕ, ◌+◌, ◌≤◌, List, [], Option, None, Some, is_some, inl, inr, true, false, refl, sym, ◌∙◌, ap, subst, arith, Ok, Err, Contains}
 use Rattle.std.specs.FinMap.{get}
-use Rattle.schedule.specs.Schedule.{IsDay, IsMoment}
 use Rattle.sqlite.specs.Store.{Ghosts}
-use Rattle.deposit_name.specs.Identifiers.{IsTld, IsDepositId}
+use Rattle.deposit_name.specs.Identifiers.{IsDepositId}
 use Rattle.deposit_verify.specs.declared.verdict.Verdict.{Verdict}
 use Rattle.deposit_verify.specs.declared.verdict.Verdict.TheVariants.{Pass, Fail}
 use Rattle.vault_volume.specs.declared.volume.Volume as volume
@@ -14,21 +13,17 @@ use Rattle.custody_records.specs.declared.records.Records as held
 use Rattle.custody_records.specs.Held.{records_of}
 use Rattle.custody_records.specs.Keys.{PartKey, NoticeKey}
 use Rattle.custody_records.specs.Records.{Notice, PartRecord, Records, key_of, with_notice}
-use Rattle.custody_records.specs.Rows.{Rows, with_notice_row}
-use Rattle.custody_records.specs.Form.{form_of, InForm}
-use Rattle.custody_records.specs.Written.{row_of_notice, IsNoticeKind}
-use Rattle.custody_records.proofs.FormLemmas.{notice_inserted}
-use Rattle.custody_records.proofs.ReadBack.{notice_read_back}
+use Rattle.custody_records.specs.Written.{IsNoticeKind}
 use Rattle.custody_machine.specs.declared.command.Statement as told
 use Rattle.custody_machine.specs.declared.answers.Fault.TheVariants.{NoMemory, VolumeFailed, StoreFailed, Closed, Damaged}
 use Rattle.custody_machine.specs.declared.damage.Damage.TheVariants.{Digest}
-use Rattle.custody_machine.specs.Machine.{Statement, OfNotice, Accept, MayFail, first_part, next_key, next_number, notice_kind, verdict_notice, part_keys, reads, step}
+use Rattle.custody_machine.specs.Machine.{Statement, OfNotice, Accept, MayFail, first_part, next_key, notice_kind, verdict_notice, part_keys, reads, step}
 use Rattle.custody_machine.specs.Rulings.{AddsVerdict, Makes, Decides}
 use Rattle.custody_machine.specs.Stored.{IsVolumeOf, IsGood, HasDigestAt, state_in}
 use Rattle.custody_machine.specs.Custody.{IsInOrder}
 use Rattle.custody_machine.proofs.Compared.{now_of}
 use Rattle.custody_machine.proofs.Composed.{IsChange, nothing_in}
-use Rattle.custody_machine.proofs.Noticed.{verdict_accepted, number_is_new, first_there, held_at, reads_stated, verdict_changes, verdict_in_order}
+use Rattle.custody_machine.proofs.Noticed.{verdict_accepted, first_there, held_at, reads_stated, verdict_belongs, notice_changes, notice_in_order}
 use Rattle.custody.specs.declared.answers.Refused as not_accepted
 use Rattle.custody.specs.declared.answers.Refused.TheVariants as refused
 use Rattle.custody.specs.declared.keeper.Keeper.{Keeper}
@@ -106,17 +101,12 @@ module _ {V S : Type 0} {g : volume.Ghosts V} (database : Ghosts S) (old : Keepe
     abbrev pub records_then : Records
     records_then = with_notice (recorded old) (next_key (recorded old).notices stated.tld) (verdict_notice stated found now)
 
-    -- what the row says
-    pub verdict_means : IsTld stated.tld → IsDay stated.day → stated.rev ≤ 99 → IsDepositId stated.id → IsMoment now → next_number (recorded old).notices stated.tld ≤ 9_223_372_036_854_775_807
-        → (rows : Rows) → form_of rows ≡ InForm (recorded old) → form_of (with_notice_row (row_of_notice key_then notice_then) rows) ≡ InForm records_then
-    verdict_means tld day rev id moment small rows is =
-        notice_inserted rows (recorded old) is (row_of_notice key_then notice_then) key_then notice_then
-        (notice_read_back key_then notice_then (record { tld = tld; number = (omega arith, small); day = day; at = moment; kind = kind found }))
-        (number_is_new (recorded old) [] order.whole stated now d)
+    pub kind_in_form : stated.rev ≤ 99 → IsDepositId stated.id → IsNoticeKind (notice_kind stated found)
+    kind_in_form rev id = by found
       where
-        kind : (v : Verdict) → IsNoticeKind (notice_kind stated v)
-        kind Pass = (rev, id)
-        kind (Fail check) = (rev, id)
+        by : (v : Verdict) → IsNoticeKind (notice_kind stated v)
+        by Pass = (rev, id)
+        by (Fail check) = (rev, id)
 
     module _ (new : Keeper V S g) (read : IsOnlyRead old.vault new.vault) (failures : failures_of new ≡ failures_of old) (verified : g.tells → IsVerified (Ok found) (recorded old) (image_of old) stated) where
       order_then : IsInOrder (recorded old) (g.size (volume_of new.vault)) (failures_of new) (IsFree new.vault)
@@ -128,7 +118,7 @@ module _ {V S : Type 0} {g : volume.Ghosts V} (database : Ghosts S) (old : Keepe
 
       change : g.tells → IsGood (recorded old) (image_of old) → IsChange (recorded old) (image_of old) (IsFree old.vault) records_then (image_of new) (IsFree new.vault)
       change tells good =
-          let c = verdict_changes (recorded old) (image_of old) order.whole stated now d found (g.size (volume_of old.vault)) (failures_of old) 0 (IsFree old.vault) order good in
+          let c = notice_changes (recorded old) order.whole stated.tld notice_then (verdict_belongs (recorded old) (image_of old) order.whole stated now d found) (image_of old) (g.size (volume_of old.vault)) (failures_of old) 0 (IsFree old.vault) order good in
           subst (λ j. IsChange (recorded old) (image_of old) (IsFree old.vault) records_then j (IsFree new.vault)) (sym (read.image tells))
           (record { good = c.good; keeps = c.keeps; unnamed = λ b is f. c.unnamed b is ((read.free b).0 f); head = λ f. c.head ((read.free 0).0 f); fewer = λ b f. (read.free b).0 f; moved = c.moved })
 
@@ -141,7 +131,7 @@ module _ {V S : Type 0} {g : volume.Ghosts V} (database : Ghosts S) (old : Keepe
       verdict_change = record {
         uncalled = λ e. cc;
         failures = failures;
-        in_order = verdict_in_order (recorded old) [] order.whole stated now d found (g.size (volume_of new.vault)) (failures_of new) (failures_of new) (IsFree new.vault) order_then order_then.count;
+        in_order = notice_in_order (recorded old) order.whole stated.tld notice_then (verdict_belongs (recorded old) [] order.whole stated now d found) [] (g.size (volume_of new.vault)) (failures_of new) (failures_of new) (IsFree new.vault) order_then order_then.count;
         first = refl;
         written = λ tells. subst (DiffersOnlyIn (IsFree old.vault) (image_of old)) (sym (read.image tells)) (same_in (IsFree old.vault) (image_of old));
         accepted = λ tells _. accepted tells;

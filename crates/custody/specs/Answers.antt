@@ -8,7 +8,7 @@ use Rattle.vault_volume.specs.declared.errors.ReadError.{ReadError}
 use Rattle.vault_volume.specs.declared.errors.ReadError.TheVariants as read
 use Rattle.custody_machine.specs.State.{Held}
 use Rattle.custody_machine.specs.Machine as machine
-use Rattle.custody_machine.specs.Machine.{Command, Register, Receive, Statement, Answer, Accepted, Refused, Failed, OfRegistry, OfPart, OfNotice}
+use Rattle.custody_machine.specs.Machine.{Command, Register, Receive, Statement, Check, Answer, Accepted, Refused, Failed, OfRegistry, OfPart, OfNotice}
 use Rattle.custody_machine.specs.declared.answers.Refusal.TheVariants.{OtherBytes, VolumeFull}
 use Rattle.custody_machine.specs.declared.answers.Fault.TheVariants.{NoMemory, VolumeFailed, StoreFailed, Closed, Damaged}
 use Rattle.custody_machine.specs.Rulings.{bytes_of}
@@ -95,12 +95,14 @@ abbrev pub uses_volume : Command → Bool
 uses_volume (Register tld first_day) = false
 uses_volume (Receive name bytes) = true
 uses_volume (Statement stated) = true
+uses_volume (Check tld day) = false
 
 -- whether it takes memory after the volume was read
 abbrev pub is_verified : Command → Bool
 is_verified (Register tld first_day) = false
 is_verified (Receive name bytes) = false
 is_verified (Statement stated) = true
+is_verified (Check tld day) = false
 
 -- whether the volume may have been called: a part is kept or compared, a deposit is verified, or volume or database failed
 abbrev pub may_follow_a_call : (verified : Bool) → Result Reply not_accepted.Refused → Bool

@@ -33,7 +33,7 @@ CountsRead (Err VolumeFailed) before now = now ≡ before + 1
 abbrev pub bytes_under : List ℕ → Records → PartKey → List ℕ
 bytes_under image records key = bytes_held (option_map (part_of image) (get records.parts key))
 
--- the bytes of a revision's parts were read, joined, and each has its digest; or one of them has not
+-- the bytes of a revision's parts were read, joined, and each has its digest; or this one of them has not
 abbrev pub IsRead : found.Joined → Records → List ℕ → Name → Type 0
 IsRead (Whole bytes) records image name = (bytes.items ≡ joined (state_in records image) name) × ((key : PartKey) → Contains (part_keys (state_in records image) name) key → HasDigestAt image records key)
-IsRead Broken records image name = (key : PartKey) × Contains (part_keys (state_in records image) name) key × (¬ HasDigestAt image records key)
+IsRead (Broken key) records image name = Contains (part_keys (state_in records image) name) key × (¬ HasDigestAt image records key)

@@ -6,12 +6,12 @@ use Rattle.extent_map.specs.declared.extent.Extent.{Extent}
 use Rattle.custody_records.specs.Records.{PartRecord, Records, key_of, with_registry, with_part, with_notice}
 use Rattle.deposit_verify.specs.declared.verdict.Verdict.{Verdict}
 use Rattle.custody_machine.specs.declared.command.Statement as told
-use Rattle.custody_machine.specs.Machine.{Command, OfNotice, next_key, verdict_notice}
+use Rattle.custody_machine.specs.Machine.{Command, OfNotice, absence_notice, next_key, verdict_notice}
 use Rattle.custody_machine.specs.Machine as machine
 use Rattle.custody_machine.specs.declared.answers.Refusal.TheVariants.{OtherBytes, VolumeFull}
 use Rattle.custody_machine.specs.declared.answers.Fault.TheVariants.{NoMemory, VolumeFailed, StoreFailed, Damaged}
 use Rattle.custody_machine.specs.declared.damage.Damage.TheVariants.{Digest}
-use Rattle.custody_machine.specs.Rulings.{Change, AddsRegistry, AddsPart, AddsVerdict, Ruling, Refuses, Repeats, ByBytes, Makes, Decides, bytes_of}
+use Rattle.custody_machine.specs.Rulings.{Change, AddsRegistry, AddsPart, AddsVerdict, AddsAbsence, Ruling, Refuses, Repeats, ByBytes, Makes, Decides, bytes_of}
 use Rattle.custody.specs.declared.answers.Record.TheVariants as of
 use Rattle.custody.specs.declared.answers.Reply.{Reply}
 use Rattle.custody.specs.declared.answers.Refused.{Refused}
@@ -59,10 +59,19 @@ IsNoticed records stated now (Ok reply) later =
 IsNoticed records stated now (Err (refused.Refusal refusal)) later = ⊥
 IsNoticed records stated now (Err (refused.Fault fault)) later = (fault ≡ NoMemory) ⊎ ((fault ≡ VolumeFailed) ⊎ ((fault ≡ StoreFailed) ⊎ (fault ≡ Damaged Digest)))
 
+-- the absence of a day is recorded under the next number, and answered as it is recorded; or memory or the database fails
+abbrev pub IsMissed : Records → List ℕ → ℕ → ℕ → Result Reply Refused → Records → Type 0
+IsMissed records tld day now (Ok reply) later =
+    (record_shown [] reply.record ≡ OfNotice (next_key records.notices tld) (absence_notice day now)) × (reply.is_repeat ≡ false)
+    × (later ≡ with_notice records (next_key records.notices tld) (absence_notice day now))
+IsMissed records tld day now (Err (refused.Refusal refusal)) later = ⊥
+IsMissed records tld day now (Err (refused.Fault fault)) later = (fault ≡ NoMemory) ⊎ (fault ≡ StoreFailed)
+
 abbrev pub IsMade : Change → Records → List ℕ → ℕ → Result Reply Refused → Records → Type 0
 IsMade (AddsRegistry tld first_day) records bytes now answer later = IsTakenOn records tld first_day answer later
 IsMade (AddsPart name) records bytes now answer later = IsReceived records name now bytes answer later
 IsMade (AddsVerdict stated) records bytes now answer later = IsNoticed records stated now answer later
+IsMade (AddsAbsence tld day) records bytes now answer later = IsMissed records tld day now answer later
 
 -- ---- commands
 

@@ -5,7 +5,8 @@ ghost use Rattle.std.specs.Prelude.{◌≤◌};
 
 use custody_machine::Statement;
 use custody_records::Registry;
-use schedule::Sec;
+use deposit_name::Tld;
+use schedule::{Day, Sec};
 
 /// The fields of a registry are in form.
 pub fn show_form_of_registry(registry: &Registry)
@@ -27,6 +28,15 @@ pub fn show_form_of_statement(statement: &Statement)
     let _day = statement.day.number();
     let _rev = statement.rev.number();
     let _id = statement.id.as_bytes();
+}
+
+/// A registry and a day are in form.
+pub fn show_form_of_day(tld: &Tld, day: Day)
+    ensures tld { IsTld tld.now }
+    ensures day { IsDay day }
+{
+    let _tld = tld.as_bytes();
+    let _day = day.number();
 }
 
 /// A moment is in range.

@@ -1,17 +1,19 @@
 //! What a custody holds, and the commands over it.
 ghost use Rattle.std.specs.Prelude.{◌≡◌, ℕ, List, ◌≤◌, length, None, OnOk, IfOk, IfSome, vec_len, vec_capacity};
 ghost use Rattle.std.specs.FinMap.{get};
-ghost use Rattle.custody_records.specs.Held.{records_of, HasPartRoom};
+ghost use Rattle.custody_records.specs.Held.{records_of, HasNoticeRoom, HasPartRoom};
 ghost use Rattle.custody_records.specs.Typed.{notice_key, notice_value};
 ghost use Rattle.custody_machine.specs.Machine as machine;
 ghost use Rattle.custody_machine.specs.Machine.{next_number, verdict_notice};
 ghost use Rattle.custody_machine.specs.Commands.{command_of};
-ghost use Rattle.custody_machine.specs.Rulings.{AddsPart, AddsVerdict, Makes, Decides};
+ghost use Rattle.custody_machine.specs.Rulings.{AddsAbsence, AddsPart, AddsVerdict, Makes, Decides};
 ghost use Rattle.custody_rules.specs.Rulings.{change_of};
 ghost use Rattle.custody.specs.Keeper.{recorded, KeepsOrder, HasDone};
 
 use crate::compare::{Comparison, compare};
-use crate::forms::{show_form_of_registry, show_form_of_statement, show_range_of_moment};
+use crate::forms::{
+    show_form_of_day, show_form_of_registry, show_form_of_statement, show_range_of_moment,
+};
 use crate::verifying::verify_stated;
 use crate::{Record, Refused, Reply};
 use custody_machine::{Command, Damage, Fault, Refusal, Statement};
@@ -21,7 +23,7 @@ use custody_store::Store;
 use deposit_name::{DepositName, Tld};
 use deposit_verify::Verdict;
 use desk::{Notice, NoticeKind};
-use schedule::Sec;
+use schedule::{Day, Sec};
 use sqlite::Alter;
 use std::alloc::{AllocError, Global};
 use vault_volume::{Extent, Vault, Volume};
@@ -88,6 +90,7 @@ impl<V: Volume, S: Alter> Keeper<V, S> {
             Change::Registry(registry) => self.keep_registry(registry),
             Change::Part(name) => self.keep_part(alloc, &name, command.bytes(), now),
             Change::Verdict(statement) => self.keep_verdict(alloc, &statement, now),
+            Change::Absence(tld, day) => self.keep_absence(tld, day, now),
         }
     }
 
@@ -167,10 +170,7 @@ impl<V: Volume, S: Alter> Keeper<V, S> {
     {
         show_form_of_statement(statement);
         show_range_of_moment(now);
-        if self.records.reserve_notice().is_err() {
-            return Err(Refused::Fault(Fault::NoMemory));
-        }
-        let Some(number) = number_for(&self.records, &statement.tld) else {
+        let Some(number) = reserve_number(&mut self.records, &statement.tld) else {
             return Err(Refused::Fault(Fault::NoMemory));
         };
         let verdict = verify_stated(alloc, &mut self.vault, &self.records, statement)?;
@@ -184,13 +184,45 @@ impl<V: Volume, S: Alter> Keeper<V, S> {
             is_repeat: false,
         })
     }
+
+    /// Records that the deposit of a day was not received.
+    fn keep_absence(&mut self, tld: Tld, day: Day, now: Sec) -> Result<Reply, Refused>
+        requires order { KeepsOrder self.old }
+        requires ruled { Decides (Makes (AddsAbsence tld day)) (recorded self.old) (machine.Check tld day) now }
+        ensures { HasDone S.Store self.old (machine.Check tld day) now result self.new }
+    {
+        show_form_of_day(&tld, day);
+        show_range_of_moment(now);
+        let Some(number) = reserve_number(&mut self.records, &tld) else {
+            return Err(Refused::Fault(Fault::NoMemory));
+        };
+        let notice = Notice {
+            number,
+            tld,
+            day,
+            at: now,
+            kind: NoticeKind::Absence,
+        };
+        if self.store.insert_notice(&notice).is_err() {
+            return Err(Refused::Fault(Fault::StoreFailed));
+        }
+        self.records.add_notice(&notice);
+        Ok(Reply {
+            record: Record::Notice(notice),
+            is_repeat: false,
+        })
+    }
 }
 
-/// The number of a registry's next notice, where a row can hold it.
-fn number_for(records: &Records, tld: &Tld) -> Option<u64>
-    ensures next { IfSome result (λ number. number ≡ next_number (records_of records.now).notices tld.now) }
+/// The number of a registry's next notice, where there is memory for the notice, and a row can hold
+/// its number.
+fn reserve_number(records: &mut Records, tld: &Tld) -> Option<u64>
+    ensures same { records_of records.new ≡ records_of records.old }
+    ensures room { IfSome result (λ _. HasNoticeRoom records.new) }
+    ensures next { IfSome result (λ number. number ≡ next_number (records_of records.old).notices tld.now) }
     ensures small { IfSome result (λ number. number ≤ 9_223_372_036_854_775_807) }
 {
+    records.reserve_notice().ok()?;
     let number = next_number(records, tld)?;
     if number > i64::MAX as u64 {
         return None;

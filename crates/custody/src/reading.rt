@@ -20,8 +20,8 @@ use vault_volume::{Extent, ReadError, Vault, Volume};
 pub(crate) enum Joined {
     /// Their bytes, in the order of the series.
     Whole(Vec<u8>),
-    /// One of them has not its recorded digest.
-    Broken,
+    /// The part at this place has not its recorded digest.
+    Broken(PartKey),
 }
 
 /// Reads the parts of the revision of a name, and joins their bytes. A part whose bytes are dropped
@@ -43,8 +43,9 @@ pub(crate) fn read_revision<V: Volume>(
         return Err(ReadError::NoMemory);
     };
     for place in 1..=8 {
-        if !append_part(alloc, vault, records, &key_at(name, place), &mut joined)? {
-            return Ok(Joined::Broken);
+        let key = key_at(name, place);
+        if !append_part(alloc, vault, records, &key, &mut joined)? {
+            return Ok(Joined::Broken(key));
         }
     }
     Ok(Joined::Whole(joined))

@@ -46,6 +46,14 @@ module _ {K X : Type 0} where
       by true h rest = (e, refl)
       by false h rest = rest h
 
+  pub none_found : (test : K × X → Bool) (es : List (K × X)) → list_any test es ≡ false → list.find test es ≡ None
+  none_found test [] h = refl
+  none_found test (e ∷ es) h = by (test e) h (none_found test es)
+    where
+      by : (b : Bool) → (b || list_any test es) ≡ false → (list_any test es ≡ false → list.find test es ≡ None) → cond b (Some e) (list.find test es) ≡ None
+      by true h rest = cc
+      by false h rest = rest h
+
   -- what is found passes, and with any test that it passes some entry does
   pub passes_found : (test : K × X → Bool) (es : List (K × X)) (e : K × X) → list.find test es ≡ Some e → test e ≡ true
   passes_found test [] e h = cc

@@ -10,6 +10,7 @@ use Rattle.std.specs.Cmp.{Equal-is}
 use Rattle.std.specs.Option.{option_and_then}
 use Rattle.std.proofs.lemmas.Bool.Decides.{Decides-eqb}
 use Rattle.std.proofs.lemmas.Option.{cond_some}
+use Rattle.schedule.specs.Schedule.{day_of}
 use Rattle.deposit_name.specs.declared.kinds.Kind.{Kind}
 use Rattle.deposit_name.specs.Name.{Name}
 use Rattle.deposit_verify.specs.declared.verdict.Verdict.{Verdict}
@@ -22,12 +23,13 @@ use Rattle.custody_machine.specs.declared.command.Statement as told
 use Rattle.custody_machine.specs.Names.{read_name}
 use Rattle.custody_machine.specs.SameValues.{is_same_kind}
 use Rattle.custody_machine.specs.State.{State, Part, Held, places, at_place, is_notice_of, has_notice}
-use Rattle.custody_machine.specs.Machine.{OfNotice, is_outside, has_part_of_other_kind, differ_in_number, has_later_receipt, first_part, part_keys, if_made, if_of_id, has_id, is_verdict_of, verdict_told, has_verdict, has_dropped_part, are_as_stated, kept_verdict, with_notice, next_key, verdict_notice, notice_kind, verdict_on, Command, Register, Receive, Statement, Refusal, DroppedAfterKeeping, Record, OfRegistry, OfPart, Reply, Outcome, Refuse, Accept, first_day_of, part_at, recorded, has_other_kind, is_held_with_other, holds_other, is_dropped, is_gone, part_in, refusal_of, with_registry, with_part, received_part, kept, step, state_of, reads, read_by, HasRecord, is_unregistered, is_out_of_size, receive_tests, named_tests, first_standing}
+use Rattle.custody_machine.specs.Machine.{Check, absence_of, absence_notice, is_absence, is_beyond, is_unknown, is_verdict, OfNotice, is_outside, has_part_of_other_kind, differ_in_number, has_later_receipt, first_part, part_keys, if_made, if_of_id, has_id, is_verdict_of, verdict_told, has_verdict, has_dropped_part, are_as_stated, kept_verdict, with_notice, next_key, verdict_notice, notice_kind, verdict_on, Command, Register, Receive, Statement, Refusal, DroppedAfterKeeping, Record, OfRegistry, OfPart, Reply, Outcome, Refuse, Accept, first_day_of, part_at, recorded, has_other_kind, is_held_with_other, holds_other, is_dropped, is_gone, part_in, refusal_of, with_registry, with_part, received_part, kept, step, state_of, reads, read_by, HasRecord, is_unregistered, is_out_of_size, receive_tests, named_tests, first_standing}
 use Rattle.custody_machine.specs.Retries.{has_same_key, asked, IsDroppedSince, without_bytes, IsKeptAs, StillHas, KeepsRecords, NothingIsRemoved, RepliesAreRecords, IsOfCommand}
 use Rattle.custody_machine.proofs.SameValues.{text_decides, kind_decides}
 use Rattle.custody_records.specs.Orders.{text_total, part_total, part_exact, notice_total}
-use Rattle.custody_machine.proofs.Entries.{passes_found, any_of_found, get_found, find_insert, find_new, next_is_new}
+use Rattle.custody_machine.proofs.Entries.{passes_found, any_of_found, found_where_any, none_found, get_found, find_insert, find_new, next_is_new}
 use Rattle.custody_machine.proofs.Stated.{NoneStandsOf, find_none_of, stated_by, IsStated, accepts_statement}
+use Rattle.custody_machine.proofs.Checked.{NoneStandsOn, find_none_on, missed_by, IsChecked, accepts_check}
 use Rattle.custody_machine.proofs.Accepting.{NoneStands, find_none, find_dropped, step_accepts, step_none, step_refuses, accept_inj, insert_here, insert_new, place_is_empty, held_bytes, answered, rules_part, Receives, receives, registered, recorded_is, recorded_of}
 
 -- ---- nothing is removed
@@ -72,6 +74,11 @@ step_keeps s (Statement stated) now reply new e = let r = accepts_statement s st
     by : (o : Option (NoticeKey × Notice)) → stated_by s stated now o ≡ Accept reply new → KeepsRecords s new
     by (Some kept) e = subst (KeepsRecords s) (accept_inj _ _ _ _ e).1 (keeps_itself s)
     by None e = subst (KeepsRecords s) (accept_inj _ _ _ _ e).1 (keeps_noticing s (next_key s.notices stated.tld) _ (next_is_new s.notices stated.tld))
+step_keeps s (Check tld day) now reply new e = by (absence_of s tld day) (accepts_check s tld day now reply new e).outcome
+  where
+    by : (o : Option (NoticeKey × Notice)) → missed_by s tld day now o ≡ Accept reply new → KeepsRecords s new
+    by (Some kept) e = subst (KeepsRecords s) (accept_inj _ _ _ _ e).1 (keeps_itself s)
+    by None e = subst (KeepsRecords s) (accept_inj _ _ _ _ e).1 (keeps_noticing s (next_key s.notices tld) _ (next_is_new s.notices tld))
 
 pub nothing_is_removed : NothingIsRemoved
 nothing_is_removed old command now = by (step old command now) refl
@@ -127,6 +134,13 @@ pub record KeepsVerdict (s : State) (st : told.Statement) (entry : Record) : Typ
   pub made : entry ≡ OfNotice kept.0 kept.1
   pub registry : is_unregistered s (first_part st) ≡ false
 
+-- what is kept of a check that was accepted
+pub record KeepsAbsence (s : State) (tld : List ℕ) (day : ℕ) (entry : Record) : Type 0 where
+  pub kept : NoticeKey × Notice
+  pub found : absence_of s tld day ≡ Some kept
+  pub made : entry ≡ OfNotice kept.0 kept.1
+  pub registry : is_unknown s tld ≡ false
+
 -- what a verdict that is kept tells: the parts are as stated, it is the one of the revision, and it has the id
 pub kept_tells : (s : State) (st : told.Statement) (kept : NoticeKey × Notice) → kept_verdict s st ≡ Some kept → (are_as_stated s st ≡ true) × (verdict_told s st ≡ Some kept) × (has_id st.id kept.1.kind ≡ true)
 kept_tells s st kept e = by (are_as_stated s st) refl e
@@ -142,11 +156,16 @@ kept_tells s st kept e = by (are_as_stated s st) refl e
 pub kept_of : (s : State) (st : told.Statement) (kept : NoticeKey × Notice) → are_as_stated s st ≡ true → verdict_told s st ≡ Some kept → has_id st.id kept.1.kind ≡ true → kept_verdict s st ≡ Some kept
 kept_of s st kept as_stated told has = ap (λ b. if b then option_and_then (if_of_id st.id) (verdict_told s st) else None) as_stated ∙ ap (option_and_then (if_of_id st.id)) told ∙ ap (λ b. if b then Some kept else None) has
 
-pub told_is_there : (s : State) (st : told.Statement) (kept : NoticeKey × Notice) → verdict_told s st ≡ Some kept → (get s.notices kept.0 ≡ Some kept.1) × (has_verdict s st ≡ true)
-told_is_there s st kept e = (
-  get_found notice_total s.notices (is_notice_of st.tld st.day (is_verdict_of st.rev)) kept e,
-  any_of_found (is_notice_of st.tld st.day (is_verdict_of st.rev)) (is_notice_of st.tld st.day (is_verdict_of st.rev)) (entries s.notices) kept e (passes_found (is_notice_of st.tld st.day (is_verdict_of st.rev)) (entries s.notices) kept e),
+-- the first notice of a day that passes a test is one of the day's
+pub first_is_there : (s : State) (tld : List ℕ) (day : ℕ) (test : NoticeKind → Bool) (found : NoticeKey × Notice) → list.find (is_notice_of tld day test) (entries s.notices) ≡ Some found
+    → (get s.notices found.0 ≡ Some found.1) × (has_notice s.notices tld day test ≡ true)
+first_is_there s tld day test found e = (
+  get_found notice_total s.notices (is_notice_of tld day test) found e,
+  any_of_found (is_notice_of tld day test) (is_notice_of tld day test) (entries s.notices) found e (passes_found (is_notice_of tld day test) (entries s.notices) found e),
 )
+
+pub told_is_there : (s : State) (st : told.Statement) (kept : NoticeKey × Notice) → verdict_told s st ≡ Some kept → (get s.notices kept.0 ≡ Some kept.1) × (has_verdict s st ≡ true)
+told_is_there s st kept e = first_is_there s st.tld st.day (is_verdict_of st.rev) kept e
 
 -- the same parts are as stated alike
 pub as_stated_alike : (s t : State) (st : told.Statement) → ((place : ℕ) → part_in t (first_part st) place ≡ part_in s (first_part st) place) → are_as_stated t st ≡ are_as_stated s st
@@ -171,13 +190,14 @@ verdict_id : (st : told.Statement) (v : Verdict) → has_id st.id (notice_kind s
 verdict_id st Pass = (text_decides st.id st.id).1 refl
 verdict_id st (Fail check) = (text_decides st.id st.id).1 refl
 
--- a state that goes on from another: it has its records, and what was stated is stated still
+-- a state that goes on from another: it has its records, and what was stated is stated still, and what was missed is
 pub record Continues (s new : State) : Type 0 where
   pub records : KeepsRecords s new
   pub verdicts : (st : told.Statement) (kept : NoticeKey × Notice) → kept_verdict s st ≡ Some kept → kept_verdict new st ≡ Some kept
+  pub absences : (tld : List ℕ) (day : ℕ) (kept : NoticeKey × Notice) → absence_of s tld day ≡ Some kept → absence_of new tld day ≡ Some kept
 
 continues_itself : (s : State) → Continues s s
-continues_itself s = record { records = keeps_itself s; verdicts = λ st kept e. e }
+continues_itself s = record { records = keeps_itself s; verdicts = λ st kept e. e; absences = λ tld day kept e. e }
 
 continues_adding : (s : State) (text bytes : List ℕ) (now : ℕ) (name : Name) → NoneStands s name bytes now → recorded s name ≡ None → KeepsRecords s (with_part s (key_of name) (received_part name bytes now)) → Continues s (with_part s (key_of name) (received_part name bytes now))
 continues_adding s text bytes now name none at records = record {
@@ -186,6 +206,7 @@ continues_adding s text bytes now name none at records = record {
       let h = kept_tells s st kept e in
       kept_of (with_part s (key_of name) (received_part name bytes now)) st kept
       (as_stated_alike s (with_part s (key_of name) (received_part name bytes now)) st (part_elsewhere s (key_of name) (received_part name bytes now) st (elsewhere st (told_is_there s st kept h.1).1)) ∙ h.0) h.1 h.2;
+  absences = λ tld day kept e. e;
 }
   where
     unstated : has_notice s.notices name.tld name.day (is_verdict_of name.rev) ≡ false
@@ -195,38 +216,71 @@ continues_adding s text bytes now name none at records = record {
     elsewhere st has a b c = let same : has_notice s.notices name.tld name.day (is_verdict_of name.rev) ≡ has_verdict s st = (λ i. has_notice s.notices (a i) (b i) (is_verdict_of (c i))) in
         let clash : true ≡ false = sym has ∙ sym same ∙ unstated in cc
 
-continues_noticing : (s : State) (st : told.Statement) (now : ℕ) (v : Verdict) → has_verdict s st ≡ false → Continues s (with_notice s (next_key s.notices st.tld) (verdict_notice st v now))
-continues_noticing s st now v unstated = record {
-  records = keeps_noticing s (next_key s.notices st.tld) (verdict_notice st v now) (next_is_new s.notices st.tld);
-  verdicts = λ other kept e.
-      let h = kept_tells s other kept e in
-      kept_of (with_notice s (next_key s.notices st.tld) (verdict_notice st v now)) other kept h.0
-      (find_insert notice_total s.notices (next_key s.notices st.tld) (verdict_notice st v now) (next_is_new s.notices st.tld) (is_notice_of other.tld other.day (is_verdict_of other.rev)) (miss other (told_is_there s other kept h.1).1) ∙ h.1) h.2;
+-- no notice of its day tells the same as a new one
+pub record IsFirst (s : State) (tld : List ℕ) (notice : Notice) : Type 0 where
+  pub verdict : (rev : ℕ) → is_verdict_of rev notice.kind ≡ true → has_notice s.notices tld notice.day (is_verdict_of rev) ≡ false
+  pub absence : is_absence notice.kind ≡ true → has_notice s.notices tld notice.day is_absence ≡ false
+
+-- what was found before is found still, where a new notice is the first that tells the same
+found_still : (s : State) (tld : List ℕ) (notice : Notice) (test : NoticeKind → Bool) → (test notice.kind ≡ true → has_notice s.notices tld notice.day test ≡ false)
+    → (other : List ℕ) (day : ℕ) (found : NoticeKey × Notice) → list.find (is_notice_of other day test) (entries s.notices) ≡ Some found
+    → list.find (is_notice_of other day test) (entries (with_notice s (next_key s.notices tld) notice).notices) ≡ Some found
+found_still s tld notice test first other day found e =
+    find_insert notice_total s.notices (next_key s.notices tld) notice (next_is_new s.notices tld) (is_notice_of other day test) (miss (is_notice_of other day test (next_key s.notices tld, notice)) refl) ∙ e
+  where
+    miss : (b : Bool) → is_notice_of other day test (next_key s.notices tld, notice) ≡ b → is_notice_of other day test (next_key s.notices tld, notice) ≡ false
+    miss false t = t
+    miss true t =
+        let x = and_both _ _ t in let y = and_both _ _ x.1 in
+        let a : tld ≡ other = (text_decides tld other).0 x.0 in
+        let b : notice.day ≡ day = (Decides-eqb notice.day day).0 y.0 in
+        let there : has_notice s.notices tld notice.day test ≡ true = (λ i. has_notice s.notices (a i) (b i) test) ∙ (first_is_there s other day test found e).1 in
+        let clash : true ≡ false = sym there ∙ first y.1 in cc
+
+continues_noticing : (s : State) (tld : List ℕ) (notice : Notice) → IsFirst s tld notice → Continues s (with_notice s (next_key s.notices tld) notice)
+continues_noticing s tld notice first = record {
+  records = keeps_noticing s (next_key s.notices tld) notice (next_is_new s.notices tld);
+  verdicts = λ st kept e.
+      let h = kept_tells s st kept e in
+      kept_of (with_notice s (next_key s.notices tld) notice) st kept h.0 (found_still s tld notice (is_verdict_of st.rev) (first.verdict st.rev) st.tld st.day kept h.1) h.2;
+  absences = λ other day kept e. found_still s tld notice is_absence first.absence other day kept e;
+}
+
+-- a verdict is the first on its revision, where there is none
+verdict_is_first : (s : State) (st : told.Statement) (v : Verdict) (now : ℕ) → has_verdict s st ≡ false → IsFirst s st.tld (verdict_notice st v now)
+verdict_is_first s st v now unstated = record {
+  verdict = λ rev is.
+      let same : st.rev ≡ rev = (Decides-eqb st.rev rev).0 (sym (verdict_rev st v rev) ∙ is) in
+      ap (λ r. has_notice s.notices st.tld st.day (is_verdict_of r)) (sym same) ∙ unstated;
+  absence = λ is. absurd (no_absence v is);
 }
   where
-    miss : (other : told.Statement) → has_verdict s other ≡ true → is_notice_of other.tld other.day (is_verdict_of other.rev) (next_key s.notices st.tld, verdict_notice st v now) ≡ false
-    miss other has = by (is_notice_of other.tld other.day (is_verdict_of other.rev) (next_key s.notices st.tld, verdict_notice st v now)) refl
-      where
-        by : (b : Bool) → is_notice_of other.tld other.day (is_verdict_of other.rev) (next_key s.notices st.tld, verdict_notice st v now) ≡ b → b ≡ false
-        by false t = refl
-        by true t =
-            let x = and_both _ _ t in let y = and_both _ _ x.1 in
-            let a : st.tld ≡ other.tld = (text_decides st.tld other.tld).0 x.0 in
-            let b : st.day ≡ other.day = (Decides-eqb st.day other.day).0 y.0 in
-            let c : st.rev ≡ other.rev = (Decides-eqb st.rev other.rev).0 (sym (verdict_rev st v other.rev) ∙ y.1) in
-            let same : has_verdict s st ≡ has_verdict s other = (λ i. has_notice s.notices (a i) (b i) (is_verdict_of (c i))) in
-            sym has ∙ sym same ∙ unstated
+    no_absence : (v : Verdict) → is_absence (notice_kind st v) ≡ true → ⊥
+    no_absence Pass is = cc
+    no_absence (Fail check) is = cc
+
+-- an absence is the first of its day, where there is none
+absence_is_first : (s : State) (tld : List ℕ) (day now : ℕ) → absence_of s tld day ≡ None → IsFirst s tld (absence_notice day now)
+absence_is_first s tld day now at = record { verdict = λ rev is. cc; absence = λ is. by (has_notice s.notices tld day is_absence) refl }
+  where
+    by : (b : Bool) → has_notice s.notices tld day is_absence ≡ b → b ≡ false
+    by false h = refl
+    by true h = let found = found_where_any (is_notice_of tld day is_absence) (entries s.notices) h in let clash : Some found.0 ≡ None = sym found.1 ∙ at in cc
 
 -- where no verdict is kept and none of the refusals stands, the revision has none
 pub unstated_of : (s : State) (st : told.Statement) (now : ℕ) → NoneStandsOf s st now → kept_verdict s st ≡ None → has_verdict s st ≡ false
 unstated_of s st now none e = ap (λ o. is_none o && has_verdict s st) (sym e) ∙ none.stated
 
 pub step_continues : (s : State) (c : Command) (now : ℕ) (reply : Reply) (new : State) → step s c now ≡ Accept reply new → Continues s new
-step_continues s (Register tld day) now reply new e = record { records = step_keeps s (Register tld day) now reply new e; verdicts = λ st kept h. by st kept h (first_day_of s tld) (step_accepts s (Register tld day) now reply new e).1 }
+step_continues s (Register tld day) now reply new e = record { records = step_keeps s (Register tld day) now reply new e; verdicts = λ st kept h. by st kept h (first_day_of s tld) (step_accepts s (Register tld day) now reply new e).1; absences = λ other at kept h. absent other at kept h (first_day_of s tld) (step_accepts s (Register tld day) now reply new e).1 }
   where
     by : (st : told.Statement) (kept : NoticeKey × Notice) → kept_verdict s st ≡ Some kept → (o : Option ℕ) → registered s tld day now o ≡ Accept reply new → kept_verdict new st ≡ Some kept
     by st kept h (Some first) e = subst (λ t. kept_verdict t st ≡ Some kept) (accept_inj _ _ _ _ e).1 h
     by st kept h None e = subst (λ t. kept_verdict t st ≡ Some kept) (accept_inj _ _ _ _ e).1 h
+
+    absent : (other : List ℕ) (at : ℕ) (kept : NoticeKey × Notice) → absence_of s other at ≡ Some kept → (o : Option ℕ) → registered s tld day now o ≡ Accept reply new → absence_of new other at ≡ Some kept
+    absent other at kept h (Some first) e = subst (λ t. absence_of t other at ≡ Some kept) (accept_inj _ _ _ _ e).1 h
+    absent other at kept h None e = subst (λ t. absence_of t other at ≡ Some kept) (accept_inj _ _ _ _ e).1 h
 step_continues s (Receive text bytes) now reply new e = let r = receives s text bytes now reply new e in by r (recorded s r.name) refl r.outcome
   where
     by : (r : Receives s text bytes now reply new) (o : Option Part) → recorded s r.name ≡ o → answered s r.name bytes now o ≡ Accept reply new → Continues s new
@@ -237,13 +291,19 @@ step_continues s (Statement st) now reply new e = let r = accepts_statement s st
   where
     by : (r : IsStated s st now reply new) (o : Option (NoticeKey × Notice)) → kept_verdict s st ≡ o → stated_by s st now o ≡ Accept reply new → Continues s new
     by r (Some kept) at e = subst (Continues s) (accept_inj _ _ _ _ e).1 (continues_itself s)
-    by r None at e = subst (Continues s) (accept_inj _ _ _ _ e).1 (continues_noticing s st now (verdict_on s st) (unstated_of s st now r.none at))
+    by r None at e = subst (Continues s) (accept_inj _ _ _ _ e).1 (continues_noticing s st.tld (verdict_notice st (verdict_on s st) now) (verdict_is_first s st (verdict_on s st) now (unstated_of s st now r.none at)))
+step_continues s (Check tld day) now reply new e = let r = accepts_check s tld day now reply new e in by (absence_of s tld day) refl r.outcome
+  where
+    by : (o : Option (NoticeKey × Notice)) → absence_of s tld day ≡ o → missed_by s tld day now o ≡ Accept reply new → Continues s new
+    by (Some kept) at e = subst (Continues s) (accept_inj _ _ _ _ e).1 (continues_itself s)
+    by None at e = subst (Continues s) (accept_inj _ _ _ _ e).1 (continues_noticing s tld (absence_notice day now) (absence_is_first s tld day now at))
 
 -- The state keeps what a command made.
 abbrev pub Keeps : State → Command → Record → Type 0
 Keeps s (Register tld day) entry = (kept : ℕ) × (first_day_of s tld ≡ Some kept) × (entry ≡ OfRegistry tld kept)
 Keeps s (Receive text bytes) entry = KeepsPart s text bytes entry
 Keeps s (Statement stated) entry = KeepsVerdict s stated entry
+Keeps s (Check tld day) entry = KeepsAbsence s tld day entry
 
 -- what was kept of a part, and is still
 pub still_kept : (part a b : Part) → IsKeptPart part a → IsKeptPart a b → IsKeptPart part b
@@ -261,6 +321,7 @@ is_known s new tld k e = by (first_day_of s tld) refl e
 
 pub keeps_on : (s new : State) (c : Command) (entry : Record) → Continues s new → Keeps s c entry → Keeps new c entry
 keeps_on s new (Statement st) entry k h = record { kept = h.kept; found = k.verdicts st h.kept h.found; made = h.made; registry = is_known s new st.tld k.records h.registry }
+keeps_on s new (Check tld day) entry k h = record { kept = h.kept; found = k.absences tld day h.kept h.found; made = h.made; registry = is_known s new tld k.records h.registry }
 keeps_on s new (Register tld day) entry k h = (h.0, registry_is_kept s new tld h.0 k.records h.1, h.2)
 keeps_on s new (Receive text bytes) entry k h =
     let on = part_is_kept s new (key_of h.name) h.kept k.records h.at in
@@ -326,14 +387,6 @@ accepted_is_kept s (Statement st) now reply new e = let r = accepts_statement s 
     passes : is_verdict_on st (next_key s.notices st.tld, verdict_notice st (verdict_on s st) now) ≡ true
     passes = λ i. (text_decides st.tld st.tld).1 refl i && ((Decides-eqb st.day st.day).1 refl i && (verdict_rev st (verdict_on s st) st.rev ∙ (Decides-eqb st.rev st.rev).1 refl) i)
 
-    none_found : (es : List (NoticeKey × Notice)) → list_any (is_verdict_on st) es ≡ false → list.find (is_verdict_on st) es ≡ None
-    none_found [] h = refl
-    none_found (x ∷ es) h = by_test (is_verdict_on st x) h (none_found es)
-      where
-        by_test : (b : Bool) → (b || list_any (is_verdict_on st) es) ≡ false → (list_any (is_verdict_on st) es ≡ false → list.find (is_verdict_on st) es ≡ None) → cond b (Some x) (list.find (is_verdict_on st) es) ≡ None
-        by_test true h rest = cc
-        by_test false h rest = rest h
-
     by : (r : IsStated s st now reply new) (o : Option (NoticeKey × Notice)) → kept_verdict s st ≡ o → stated_by s st now o ≡ Accept reply new → KeepsVerdict new st reply.entry
     by r (Some kept) at e = let h = accept_inj _ _ _ _ e in
         subst (λ (n : State). KeepsVerdict n st reply.entry) h.1 (record { kept = kept; found = at; made = ap (λ (q : Reply). q.entry) (sym h.0); registry = r.none.registry })
@@ -341,7 +394,22 @@ accepted_is_kept s (Statement st) now reply new e = let r = accepts_statement s 
         subst (λ (n : State). KeepsVerdict n st reply.entry) h.1 (record {
           kept = (next_key s.notices st.tld, verdict_notice st (verdict_on s st) now);
           found = kept_of (with_notice s (next_key s.notices st.tld) (verdict_notice st (verdict_on s st) now)) st (next_key s.notices st.tld, verdict_notice st (verdict_on s st) now) (λ i. not (r.none.kind i) && not (r.none.number i))
-              (find_new notice_total s.notices (next_key s.notices st.tld) (verdict_notice st (verdict_on s st) now) (next_is_new s.notices st.tld) (is_verdict_on st) passes (none_found (entries s.notices) (unstated_of s st now r.none at))) (verdict_id st (verdict_on s st));
+              (find_new notice_total s.notices (next_key s.notices st.tld) (verdict_notice st (verdict_on s st) now) (next_is_new s.notices st.tld) (is_verdict_on st) passes (none_found (is_verdict_on st) (entries s.notices) (unstated_of s st now r.none at))) (verdict_id st (verdict_on s st));
+          made = ap (λ (q : Reply). q.entry) (sym h.0);
+          registry = r.none.registry;
+        })
+accepted_is_kept s (Check tld day) now reply new e = let r = accepts_check s tld day now reply new e in by r (absence_of s tld day) refl r.outcome
+  where
+    passes : is_notice_of tld day is_absence (next_key s.notices tld, absence_notice day now) ≡ true
+    passes = λ i. (text_decides tld tld).1 refl i && ((Decides-eqb day day).1 refl i && true)
+
+    by : (r : IsChecked s tld day now reply new) (o : Option (NoticeKey × Notice)) → absence_of s tld day ≡ o → missed_by s tld day now o ≡ Accept reply new → KeepsAbsence new tld day reply.entry
+    by r (Some kept) at e = let h = accept_inj _ _ _ _ e in
+        subst (λ (n : State). KeepsAbsence n tld day reply.entry) h.1 (record { kept = kept; found = at; made = ap (λ (q : Reply). q.entry) (sym h.0); registry = r.none.registry })
+    by r None at e = let h = accept_inj _ _ _ _ e in
+        subst (λ (n : State). KeepsAbsence n tld day reply.entry) h.1 (record {
+          kept = (next_key s.notices tld, absence_notice day now);
+          found = find_new notice_total s.notices (next_key s.notices tld) (absence_notice day now) (next_is_new s.notices tld) (is_notice_of tld day is_absence) passes at;
           made = ap (λ (q : Reply). q.entry) (sym h.0);
           registry = r.none.registry;
         })
@@ -365,6 +433,13 @@ replies_are_records old new (Statement st) now reply e = let r = accepts_stateme
         subst (λ (q : Reply). HasRecord new q.entry) h.0 (ap (λ (n : State). get n.notices kept.0) (sym h.1) ∙ (told_is_there old st kept (kept_tells old st kept at).1).0)
     by None at e = let h = accept_inj _ _ _ _ e in
         subst (λ (q : Reply). HasRecord new q.entry) h.0 (ap (λ (n : State). get n.notices (next_key old.notices st.tld)) (sym h.1) ∙ insert_here notice_total old.notices (next_key old.notices st.tld) (verdict_notice st (verdict_on old st) now))
+replies_are_records old new (Check tld day) now reply e = by (absence_of old tld day) refl (accepts_check old tld day now reply new e).outcome
+  where
+    by : (o : Option (NoticeKey × Notice)) → absence_of old tld day ≡ o → missed_by old tld day now o ≡ Accept reply new → HasRecord new reply.entry
+    by (Some kept) at e = let h = accept_inj _ _ _ _ e in
+        subst (λ (q : Reply). HasRecord new q.entry) h.0 (ap (λ (n : State). get n.notices kept.0) (sym h.1) ∙ (first_is_there old tld day is_absence kept at).0)
+    by None at e = let h = accept_inj _ _ _ _ e in
+        subst (λ (q : Reply). HasRecord new q.entry) h.0 (ap (λ (n : State). get n.notices (next_key old.notices tld)) (sym h.1) ∙ insert_here notice_total old.notices (next_key old.notices tld) (absence_notice day now))
 
 -- what is kept is of its command, and is there
 pub kept_is_there : (s : State) (c : Command) (entry : Record) → Keeps s c entry → IsOfCommand c entry × StillHas s entry
@@ -387,6 +462,16 @@ kept_is_there s (Statement st) entry h =
     verdict_in (Receipt rev id) a b = (Pass, λ i. Receipt ((Decides-eqb rev st.rev).0 a i) ((text_decides id st.id).0 b i))
     verdict_in (Failure rev id check) a b = (Fail check, λ i. Failure ((Decides-eqb rev st.rev).0 a i) ((text_decides id st.id).0 b i) check)
     verdict_in Absence a b = cc
+kept_is_there s (Check tld day) entry h =
+    let passes = and_both _ _ (passes_found (is_notice_of tld day is_absence) (entries s.notices) h.kept h.found) in
+    let rest = and_both _ _ passes.1 in
+    subst (λ e. IsOfCommand (Check tld day) e × StillHas s e) (sym h.made)
+    (((text_decides h.kept.0.tld tld).0 passes.0, (Decides-eqb h.kept.1.day day).0 rest.0, absence_in h.kept.1.kind rest.1), still s (OfNotice h.kept.0 h.kept.1) (first_is_there s tld day is_absence h.kept h.found).0)
+  where
+    absence_in : (kind : NoticeKind) → is_absence kind ≡ true → kind ≡ Absence
+    absence_in (Receipt rev id) a = cc
+    absence_in (Failure rev id check) a = cc
+    absence_in Absence a = refl
 
 -- the kind of what is kept
 kept_kind : (part kept : Part) (kind : Kind) → IsKeptPart part kept → is_same_kind part.kind kind ≡ true → is_same_kind kept.kind kind ≡ true
@@ -446,6 +531,14 @@ same_key_is_kept s (Statement st) (Statement other) entry now reply new h same e
     by r told (Some kept) at e = let is = accept_inj _ _ _ _ e in
         (record { kept = h.kept; found = at ∙ ap Some (one kept h.kept (verdict_told s other) (kept_tells s other kept at).1 told); made = h.made; registry = r.none.registry }, sym is.1)
     by r told None at e = let clash : true ≡ false = sym (told_is_there s other h.kept told).1 ∙ unstated_of s other now r.none at in cc
+same_key_is_kept s (Check tld day) (Check other later) entry now reply new h same e =
+    let x = and_both _ _ same in
+    let a : other ≡ tld = (text_decides other tld).0 x.0 in
+    let b : later ≡ day = (Decides-eqb later day).0 x.1 in
+    let found : absence_of s other later ≡ Some h.kept = (λ i. absence_of s (a i) (b i)) ∙ h.found in
+    let r = accepts_check s other later now reply new e in
+    let outcome : missed_by s other later now (Some h.kept) ≡ Accept reply new = ap (missed_by s other later now) (sym found) ∙ r.outcome in
+    (record { kept = h.kept; found = found; made = h.made; registry = r.none.registry }, sym (accept_inj _ _ _ _ outcome).1)
 same_key_is_kept s c d entry now reply new h same e = cc
 
 -- the outcome of a command that asks again
@@ -536,4 +629,17 @@ asked_again s (Statement st) entry now h = (
       kind = false_of (has_part_of_other_kind s (first_part st)) (and_both (not (has_part_of_other_kind s (first_part st))) (not (differ_in_number s st)) tells.0).0;
       number = false_of (differ_in_number s st) (and_both (not (has_part_of_other_kind s (first_part st))) (not (differ_in_number s st)) tells.0).1;
       later = not_new (has_later_receipt s st);
+    })
+asked_again s (Check tld day) entry now h =
+    (inl (step_none s (Check tld day) now none ∙ ap (missed_by s tld day now) h.found ∙ ap (λ e. Accept (record { entry = e; is_repeat = true }) s) (sym h.made)), refl)
+  where
+    not_new : (b : Bool) → (is_none (absence_of s tld day) && b) ≡ false
+    not_new b = ap (λ o. is_none o && b) h.found
+
+    none : refusal_of s (Check tld day) now ≡ None
+    none = find_none_on s tld day now (record {
+      registry = h.registry;
+      date = not_new (is_beyond s tld day now);
+      due = not_new (day == day_of now);
+      verdict = not_new (has_notice s.notices tld day is_verdict);
     })

@@ -5,6 +5,7 @@ pub mod SameValues
 pub mod Entries
 pub mod Accepting
 pub mod Stated
+pub mod Checked
 pub mod Keeping
 pub mod Histories
 pub mod Retries

@@ -19,14 +19,15 @@ use Rattle.custody_records.specs.Records as recorded_in
 use Rattle.custody_records.specs.Orders.{notice_total, notice_exact}
 use Rattle.custody_machine.specs.declared.command.Statement as told
 use Rattle.custody_machine.specs.State.{places, at_place, is_notice_of, has_notice}
-use Rattle.custody_machine.specs.Machine.{Statement, OfNotice, Reply, Accept, step, reads, is_receipt, is_failure_of, is_verdict_of, has_other_kind, is_dropped, is_gone, part_in, first_part, has_dropped_part, has_verdict, kept_verdict, next_key, notice_kind, verdict_notice, verdict_on, part_keys, with_notice, if_made}
-use Rattle.custody_machine.specs.Stored.{AreLinked, AreWhole, IsGood, AreOfOneDay, part_of, content_of, revision_of, is_absence, state_in}
-use Rattle.custody_machine.specs.Rulings.{AddsVerdict, Makes, Decides}
+use Rattle.custody_machine.specs.Machine.{Statement, Check, absence_of, absence_notice, is_absence, OfNotice, Reply, Accept, step, reads, is_receipt, is_failure_of, is_verdict_of, has_other_kind, is_dropped, is_gone, part_in, first_part, has_dropped_part, has_verdict, kept_verdict, next_key, notice_kind, verdict_notice, verdict_on, part_keys, with_notice, if_made}
+use Rattle.custody_machine.specs.Stored.{AreLinked, AreWhole, IsGood, AreOfOneDay, part_of, content_of, revision_of, state_in}
+use Rattle.custody_machine.specs.Rulings.{AddsVerdict, AddsAbsence, Makes, Decides}
 use Rattle.custody_machine.specs.Custody.{IsInOrder}
 use Rattle.custody_machine.proofs.SameValues.{text_decides, kind_decides}
 use Rattle.custody_machine.proofs.Accepting.{accept_inj, insert_new, step_accepts}
 use Rattle.custody_machine.proofs.Entries.{any_of_get, any_insert_grows, next_is_new, number_before, found_where_any, passes_found, get_found}
 use Rattle.custody_machine.proofs.Stated.{NoneStandsOf, accepts_statement, stated_by, IsStated}
+use Rattle.custody_machine.proofs.Checked.{IsChecked, accepts_check, missed_by}
 use Rattle.custody_machine.proofs.Keeping.{unstated_of}
 use Rattle.custody_machine.proofs.Composed.{IsChange, named_used, head_used, place_is, closed}
 use Rattle.custody_machine.proofs.Series.{first_taken}
@@ -166,6 +167,85 @@ notice_still m k notice q new h = by (get m q) refl h
     by None at h = cc
     by (Some x) at h = ap is_some (insert_new notice_total m k notice q x new at)
 
+-- ---- a new notice that belongs to the records
+
+-- no other notice of the day tells the same
+abbrev IsAlone : Records → List ℕ → ℕ → (NoticeKind → Type 0) → Type 0
+IsAlone records tld day Same = (q : NoticeKey) (n : Notice) → get records.notices q ≡ Some n → q.tld ≡ tld → n.day ≡ day → Same n.kind → ⊥
+
+-- its registry is known, the revision that it judges has parts, and it is the one verdict on it, the one receipt or the one absence of its day
+pub record Belongs (records : Records) (tld : List ℕ) (notice : Notice) : Type 0 where
+  pub registry : is_some (get records.registries tld) ≡ true
+  pub parts : (rev : ℕ) → revision_of notice.kind ≡ Some rev → is_some (get records.parts (record { tld = tld; day = notice.day; rev = rev; part = 1 })) ≡ true
+  pub verdict : (rev : ℕ) → revision_of notice.kind ≡ Some rev → IsAlone records tld notice.day (λ kind. revision_of kind ≡ Some rev)
+  pub receipt : is_receipt notice.kind ≡ true → IsAlone records tld notice.day (λ kind. is_receipt kind ≡ true)
+  pub absence : is_absence notice.kind ≡ true → IsAlone records tld notice.day (λ kind. is_absence kind ≡ true)
+
+module _ (records : Records) (whole : AreWhole records) (tld : List ℕ) (notice : Notice) (belongs : Belongs records tld notice) where
+  abbrev key : NoticeKey
+  key = next_key records.notices tld
+
+  abbrev noticed : Records
+  noticed = recorded_in.with_notice records key notice
+
+  number_is_new : get records.notices key ≡ None
+  number_is_new = next_is_new records.notices tld
+
+  -- of two notices of one day that tell the same there is one, where the new one is alone
+  one_of_them : (Same : NoticeKind → Type 0) → (Same notice.kind → IsAlone records tld notice.day Same)
+      → ((j k : NoticeKey) (m n : Notice) → get records.notices j ≡ Some m → get records.notices k ≡ Some n → AreOfOneDay j m k n → Same m.kind → Same n.kind → j ≡ k)
+      → (j k : NoticeKey) (m n : Notice) → get (insert records.notices key notice) j ≡ Some m → get (insert records.notices key notice) k ≡ Some n → AreOfOneDay j m k n → Same m.kind → Same n.kind → j ≡ k
+  one_of_them Same alone one j k m n at_j at_k day is_m is_n =
+      inserted_notice records.notices key notice (λ j m. (k : NoticeKey) (n : Notice) → get (insert records.notices key notice) k ≡ Some n → AreOfOneDay j m k n → Same m.kind → Same n.kind → j ≡ k)
+      (λ k n at day is_m is_n. inserted_notice records.notices key notice (λ k n. AreOfOneDay key notice k n → Same n.kind → key ≡ k) (λ _ _. refl)
+      (λ k n at day is_n. absurd (alone is_m k n at (sym day.0) (sym day.1) is_n)) k n at day is_n)
+      (λ j m at_old k n at day is_m is_n. inserted_notice records.notices key notice (λ k n. AreOfOneDay j m k n → Same n.kind → j ≡ k)
+      (λ day is_n. absurd (alone is_n j m at_old day.0 day.1 is_m))
+      (λ k n at day is_n. one j k m n at_old at day is_m is_n) k n at day is_n)
+      j m at_j k n at_k day is_m is_n
+
+  pub whole-with_notice : AreWhole (recorded_in.with_notice records (next_key records.notices tld) notice)
+  whole-with_notice = let l = whole.linked in record {
+    extents = whole.extents;
+    once = record { within = whole.once.within; between = whole.once.between };
+    linked = record {
+      part_registry = l.part_registry;
+      notice_registry = inserted_notice records.notices key notice (λ q n. is_some (get records.registries q.tld) ≡ true) belongs.registry l.notice_registry;
+      release_registry = l.release_registry;
+      released = l.released;
+      series = l.series;
+      numbers = inserted_notice records.notices key notice (λ q n. (m : ℕ) → q.number ≡ suc (suc m) → is_some (get (insert records.notices key notice) (record { tld = q.tld; number = suc m })) ≡ true)
+          (λ m e. notice_still records.notices key notice (record { tld = tld; number = suc m }) number_is_new (number_before records.notices tld m e))
+          (λ q n at m e. notice_still records.notices key notice (record { tld = q.tld; number = suc m }) number_is_new (l.numbers q n at m e));
+      verdict_parts = λ q n rev at is. inserted_notice records.notices key notice (λ q n. (rev : ℕ) → revision_of n.kind ≡ Some rev → is_some (get records.parts (record { tld = q.tld; day = n.day; rev = rev; part = 1 })) ≡ true)
+          belongs.parts (λ q n at rev is. l.verdict_parts q n rev at is) q n at rev is;
+      one_verdict = λ j k m n rev. one_of_them (λ kind. revision_of kind ≡ Some rev) (belongs.verdict rev) (λ j k m n. l.one_verdict j k m n rev) j k m n;
+      due = λ q p at lt. any_insert_grows notice_total records.notices key notice number_is_new (is_notice_of q.tld q.day (is_failure_of (q.rev - 1))) (l.due q p at lt);
+      one_receipt = one_of_them (λ kind. is_receipt kind ≡ true) belongs.receipt l.one_receipt;
+      one_absence = one_of_them (λ kind. is_absence kind ≡ true) belongs.absence l.one_absence;
+    };
+  }
+
+  module _ (i : List ℕ) where
+    pub good-with_notice : IsGood records i → IsGood (recorded_in.with_notice records (next_key records.notices tld) notice) i
+    good-with_notice g = record { whole = whole-with_notice; volume = record { head = g.volume.head; size = g.volume.size } }
+
+    module _ (size failures failures_then : ℕ) (free : ℕ → Type 0) (order : IsInOrder records size failures free) where
+      pub notice_changes : IsGood records i → IsChange records i free (recorded_in.with_notice records (next_key records.notices tld) notice) i free
+      notice_changes good = record {
+        good = good-with_notice good;
+        keeps = record { kept = λ key part at. (part, at, inl refl); digests = λ key has. has };
+        unnamed = named_used records size failures free order;
+        head = head_used records size failures free order;
+        fewer = λ b f. f;
+        moved = same_in free i;
+      }
+
+      pub notice_in_order : failures_then < 2 ^ 64 - 1 → IsInOrder (recorded_in.with_notice records (next_key records.notices tld) notice) size failures_then free
+      notice_in_order count = record { whole = whole-with_notice; blocks = order.blocks; placeable = order.placeable; count = count }
+
+-- ---- the notice of a verdict
+
 module _ (records : Records) (i : List ℕ) (whole : AreWhole records) (st : told.Statement) (now : ℕ) (d : Decides (Makes (AddsVerdict st)) records (Statement st) now) where
   stated : IsStated (state_in records i) st now (record { entry = OfNotice (next_key records.notices st.tld) (verdict_notice st (verdict_on (state_in records i) st) now); is_repeat = false })
       (with_notice (state_in records i) (next_key records.notices st.tld) (verdict_notice st (verdict_on (state_in records i) st) now))
@@ -192,9 +272,6 @@ module _ (records : Records) (i : List ℕ) (whole : AreWhole records) (st : tol
       not_none : (o : Option ℕ) → is_none o ≡ false → is_some o ≡ true
       not_none None e = cc
       not_none (Some d) e = refl
-
-  pub number_is_new : get records.notices (next_key records.notices st.tld) ≡ None
-  number_is_new = next_is_new records.notices st.tld
 
   pub verdict_accepted : step (state_in records i) (Statement st) now
       ≡ Accept (record { entry = OfNotice (next_key records.notices st.tld) (verdict_notice st (verdict_on (state_in records i) st) now); is_repeat = false })
@@ -242,96 +319,73 @@ module _ (records : Records) (i : List ℕ) (whole : AreWhole records) (st : tol
       some_in None h = cc
       some_in (Some p) h = refl
 
-  module _ (v : Verdict) where
-    abbrev key : NoticeKey
-    key = next_key records.notices st.tld
+  -- its notice belongs to the records, whatever the verdict
+  pub verdict_belongs : (v : Verdict) → Belongs records st.tld (verdict_notice st v now)
+  verdict_belongs v = record {
+    registry = registry_known;
+    parts = λ rev is. ap (λ r. is_some (get records.parts (record { tld = st.tld; day = st.day; rev = r; part = 1 }))) (sym (one_rev v rev is)) ∙ first_there;
+    verdict = λ rev is q n at tld day told. others q n at tld day (told ∙ ap Some (sym (one_rev v rev is)));
+    receipt = λ _ q n at tld day is. no_receipt records whole.linked st.tld st.day st.rev first_there no_verdict (record { key = q; notice = n; there = at; tld_is = tld; day_is = day; passes = is });
+    absence = λ is. absurd (no_absence v is);
+  }
+    where
+      -- no other notice is a verdict on the revision
+      others : (q : NoticeKey) (n : Notice) → get records.notices q ≡ Some n → q.tld ≡ st.tld → n.day ≡ st.day → revision_of n.kind ≡ Some st.rev → ⊥
+      others q n at tld day is =
+          let told : has_verdict (state_in records i) st ≡ true = any_of_get notice_total records.notices notice_exact (is_notice_of st.tld st.day (is_verdict_of st.rev)) q n at
+          (λ j. (text_decides q.tld st.tld).1 tld j && ((Decides-eqb n.day st.day).1 day j && verdict_is n.kind is j)) in
+          let clash : true ≡ false = sym told ∙ no_verdict in cc
+        where
+          verdict_is : (kind : NoticeKind) → revision_of kind ≡ Some st.rev → is_verdict_of st.rev kind ≡ true
+          verdict_is (Receipt r id) e = let same : r ≡ st.rev = cc in (Decides-eqb r st.rev).1 same
+          verdict_is (Failure r id check) e = let same : r ≡ st.rev = cc in (Decides-eqb r st.rev).1 same
+          verdict_is Absence e = cc
 
-    abbrev notice : Notice
-    notice = verdict_notice st v now
+      revision_is : (w : Verdict) → revision_of (notice_kind st w) ≡ Some st.rev
+      revision_is Pass = refl
+      revision_is (Fail check) = refl
 
-    abbrev noticed : Records
-    noticed = recorded_in.with_notice records key notice
+      no_absence : (w : Verdict) → is_absence (notice_kind st w) ≡ true → ⊥
+      no_absence Pass h = cc
+      no_absence (Fail check) h = cc
 
-    -- no other notice is a verdict on the revision
-    others : (q : NoticeKey) (n : Notice) → get records.notices q ≡ Some n → q.tld ≡ st.tld → n.day ≡ st.day → revision_of n.kind ≡ Some st.rev → ⊥
-    others q n at tld day is =
-        let told : has_verdict (state_in records i) st ≡ true = any_of_get notice_total records.notices notice_exact (is_notice_of st.tld st.day (is_verdict_of st.rev)) q n at
-        (λ j. (text_decides q.tld st.tld).1 tld j && ((Decides-eqb n.day st.day).1 day j && verdict_is n.kind is j)) in
-        let clash : true ≡ false = sym told ∙ no_verdict in cc
-      where
-        verdict_is : (kind : NoticeKind) → revision_of kind ≡ Some st.rev → is_verdict_of st.rev kind ≡ true
-        verdict_is (Receipt r id) e = let same : r ≡ st.rev = cc in (Decides-eqb r st.rev).1 same
-        verdict_is (Failure r id check) e = let same : r ≡ st.rev = cc in (Decides-eqb r st.rev).1 same
-        verdict_is Absence e = cc
+      one_rev : (w : Verdict) (rev : ℕ) → revision_of (notice_kind st w) ≡ Some rev → st.rev ≡ rev
+      one_rev w rev e = let both : Some st.rev ≡ Some rev = sym (revision_is w) ∙ e in cc
 
-    -- and none is a receipt of its day
-    no_other_receipt : (q : NoticeKey) (n : Notice) → get records.notices q ≡ Some n → q.tld ≡ st.tld → n.day ≡ st.day → is_receipt n.kind ≡ true → ⊥
-    no_other_receipt q n at tld day is = no_receipt records whole.linked st.tld st.day st.rev first_there no_verdict (record { key = q; notice = n; there = at; tld_is = tld; day_is = day; passes = is })
+-- ---- the notice of an absence
 
-    revision_is : (w : Verdict) → revision_of (notice_kind st w) ≡ Some st.rev
-    revision_is Pass = refl
-    revision_is (Fail check) = refl
+module _ (records : Records) (i : List ℕ) (tld : List ℕ) (day now : ℕ) (d : Decides (Makes (AddsAbsence tld day)) records (Check tld day) now) where
+  checked : IsChecked (state_in records i) tld day now (record { entry = OfNotice (next_key records.notices tld) (absence_notice day now); is_repeat = false })
+      (with_notice (state_in records i) (next_key records.notices tld) (absence_notice day now))
+  checked = accepts_check (state_in records i) tld day now _ _ (d.1 i)
 
-    no_absence : (w : Verdict) → is_absence (notice_kind st w) ≡ true → ⊥
-    no_absence Pass h = cc
-    no_absence (Fail check) h = cc
+  not_missed : absence_of (state_in records i) tld day ≡ None
+  not_missed = by (absence_of (state_in records i) tld day) refl checked.outcome
+    where
+      by : (o : Option (NoticeKey × Notice)) → absence_of (state_in records i) tld day ≡ o
+          → missed_by (state_in records i) tld day now o ≡ Accept (record { entry = OfNotice (next_key records.notices tld) (absence_notice day now); is_repeat = false })
+          (with_notice (state_in records i) (next_key records.notices tld) (absence_notice day now)) → o ≡ None
+      by None at e = refl
+      by (Some kept) at e = let repeat : true ≡ false = ap (λ (r : Reply). r.is_repeat) (accept_inj _ _ _ _ e).0 in cc
 
-    one_rev : (rev : ℕ) → revision_of notice.kind ≡ Some rev → st.rev ≡ rev
-    one_rev rev e = let both : Some st.rev ≡ Some rev = sym (revision_is v) ∙ e in cc
+  pub absence_accepted : step (state_in records i) (Check tld day) now
+      ≡ Accept (record { entry = OfNotice (next_key records.notices tld) (absence_notice day now); is_repeat = false })
+      (state_in (recorded_in.with_notice records (next_key records.notices tld) (absence_notice day now)) i)
+  absence_accepted = d.1 i
 
-    pub whole-with_verdict : AreWhole (recorded_in.with_notice records (next_key records.notices st.tld) (verdict_notice st v now))
-    whole-with_verdict = let l = whole.linked in record {
-      extents = whole.extents;
-      once = record { within = whole.once.within; between = whole.once.between };
-      linked = record {
-        part_registry = l.part_registry;
-        notice_registry = inserted_notice records.notices key notice (λ q n. is_some (get records.registries q.tld) ≡ true) registry_known l.notice_registry;
-        release_registry = l.release_registry;
-        released = l.released;
-        series = l.series;
-        numbers = inserted_notice records.notices key notice (λ q n. (m : ℕ) → q.number ≡ suc (suc m) → is_some (get (insert records.notices key notice) (record { tld = q.tld; number = suc m })) ≡ true)
-            (λ m e. notice_still records.notices key notice (record { tld = st.tld; number = suc m }) number_is_new (number_before records.notices st.tld m e))
-            (λ q n at m e. notice_still records.notices key notice (record { tld = q.tld; number = suc m }) number_is_new (l.numbers q n at m e));
-        verdict_parts = λ q n rev at is. inserted_notice records.notices key notice (λ q n. (rev : ℕ) → revision_of n.kind ≡ Some rev → is_some (get records.parts (record { tld = q.tld; day = n.day; rev = rev; part = 1 })) ≡ true)
-            (λ rev is. ap (λ r. is_some (get records.parts (record { tld = st.tld; day = st.day; rev = r; part = 1 }))) (sym (one_rev rev is)) ∙ first_there)
-            (λ q n at rev is. l.verdict_parts q n rev at is) q n at rev is;
-        one_verdict = λ j k m n rev at_j at_k day is_m is_n. inserted_notice records.notices key notice (λ j m. (k : NoticeKey) (n : Notice) → get (insert records.notices key notice) k ≡ Some n → AreOfOneDay j m k n → revision_of m.kind ≡ Some rev → revision_of n.kind ≡ Some rev → j ≡ k)
-            (λ k n at day is_m is_n. inserted_notice records.notices key notice (λ k n. AreOfOneDay key notice k n → revision_of n.kind ≡ Some rev → key ≡ k) (λ _ _. refl)
-            (λ k n at day is_n. absurd (others k n at (sym day.0) (sym day.1) (is_n ∙ ap Some (sym (one_rev rev is_m))))) k n at day is_n)
-            (λ j m at_old k n at day is_m is_n. inserted_notice records.notices key notice (λ k n. AreOfOneDay j m k n → revision_of n.kind ≡ Some rev → j ≡ k)
-            (λ day is_n. absurd (others j m at_old day.0 day.1 (is_m ∙ ap Some (sym (one_rev rev is_n)))))
-            (λ k n at day is_n. l.one_verdict j k m n rev at_old at day is_m is_n) k n at day is_n)
-            j m at_j k n at_k day is_m is_n;
-        due = λ q p at lt. any_insert_grows notice_total records.notices key notice number_is_new (is_notice_of q.tld q.day (is_failure_of (q.rev - 1))) (l.due q p at lt);
-        one_receipt = λ j k m n at_j at_k day is_m is_n. inserted_notice records.notices key notice (λ j m. (k : NoticeKey) (n : Notice) → get (insert records.notices key notice) k ≡ Some n → AreOfOneDay j m k n → is_receipt m.kind ≡ true → is_receipt n.kind ≡ true → j ≡ k)
-            (λ k n at day is_m is_n. inserted_notice records.notices key notice (λ k n. AreOfOneDay key notice k n → is_receipt n.kind ≡ true → key ≡ k) (λ _ _. refl)
-            (λ k n at day is_n. absurd (no_other_receipt k n at (sym day.0) (sym day.1) is_n)) k n at day is_n)
-            (λ j m at_old k n at day is_m is_n. inserted_notice records.notices key notice (λ k n. AreOfOneDay j m k n → is_receipt n.kind ≡ true → j ≡ k)
-            (λ day is_n. absurd (no_other_receipt j m at_old day.0 day.1 is_m))
-            (λ k n at day is_n. l.one_receipt j k m n at_old at day is_m is_n) k n at day is_n)
-            j m at_j k n at_k day is_m is_n;
-        one_absence = λ j k m n at_j at_k day is_m is_n. inserted_notice records.notices key notice (λ j m. (k : NoticeKey) (n : Notice) → get (insert records.notices key notice) k ≡ Some n → AreOfOneDay j m k n → is_absence m.kind ≡ true → is_absence n.kind ≡ true → j ≡ k)
-            (λ k n at day is_m is_n. absurd (no_absence v is_m))
-            (λ j m at_old k n at day is_m is_n. inserted_notice records.notices key notice (λ k n. AreOfOneDay j m k n → is_absence n.kind ≡ true → j ≡ k)
-            (λ day is_n. absurd (no_absence v is_n))
-            (λ k n at day is_n. l.one_absence j k m n at_old at day is_m is_n) k n at day is_n)
-            j m at_j k n at_k day is_m is_n;
-      };
-    }
-
-    pub good-with_verdict : IsGood records i → IsGood (recorded_in.with_notice records (next_key records.notices st.tld) (verdict_notice st v now)) i
-    good-with_verdict g = record { whole = whole-with_verdict; volume = record { head = g.volume.head; size = g.volume.size } }
-
-    module _ (size failures failures_then : ℕ) (free : ℕ → Type 0) (order : IsInOrder records size failures free) where
-      pub verdict_changes : IsGood records i → IsChange records i free (recorded_in.with_notice records (next_key records.notices st.tld) (verdict_notice st v now)) i free
-      verdict_changes good = record {
-        good = good-with_verdict good;
-        keeps = record { kept = λ key part at. (part, at, inl refl); digests = λ key has. has };
-        unnamed = named_used records size failures free order;
-        head = head_used records size failures free order;
-        fewer = λ b f. f;
-        moved = same_in free i;
-      }
-
-      pub verdict_in_order : failures_then < 2 ^ 64 - 1 → IsInOrder (recorded_in.with_notice records (next_key records.notices st.tld) (verdict_notice st v now)) size failures_then free
-      verdict_in_order count = record { whole = whole-with_verdict; blocks = order.blocks; placeable = order.placeable; count = count }
+  pub absence_belongs : Belongs records tld (absence_notice day now)
+  absence_belongs = record {
+    registry = known (get records.registries tld) checked.none.registry;
+    parts = λ rev is. cc;
+    verdict = λ rev is. cc;
+    receipt = λ is. cc;
+    absence = λ _ q n at tld_is day_is is.
+        let there : has_notice records.notices tld day is_absence ≡ true = any_of_get notice_total records.notices notice_exact (is_notice_of tld day is_absence) q n at
+        (λ j. (text_decides q.tld tld).1 tld_is j && ((Decides-eqb n.day day).1 day_is j && is j)) in
+        let found = found_where_any (is_notice_of tld day is_absence) (entries records.notices) there in
+        let clash : Some found.0 ≡ None = sym found.1 ∙ not_missed in cc;
+  }
+    where
+      known : (o : Option ℕ) → is_none o ≡ false → is_some o ≡ true
+      known None e = cc
+      known (Some first) e = refl

@@ -7,9 +7,10 @@ use Rattle.deposit_name.specs.Name.{Name}
 use Rattle.custody_records.specs.Keys.{PartKey, NoticeKey, part_cmp}
 use Rattle.custody_records.specs.Records.{Notice, key_of}
 use Rattle.custody_machine.proofs.Stated.{accepts_statement, stated_by}
+use Rattle.custody_machine.proofs.Checked.{accepts_check, missed_by}
 use Rattle.custody_machine.specs.Names.{read_name}
 use Rattle.custody_machine.specs.State.{State, Part, Held}
-use Rattle.custody_machine.specs.Machine.{Command, Register, Receive, Statement, kept_verdict, Entry, Outcome, Refuse, Accept, Reply, step, state_of, state_after, recorded, received_part, with_part, first_day_of}
+use Rattle.custody_machine.specs.Machine.{Command, Register, Receive, Statement, Check, kept_verdict, absence_of, Entry, Outcome, Refuse, Accept, Reply, step, state_of, state_after, recorded, received_part, with_part, first_day_of}
 use Rattle.custody_machine.specs.History.{WasReceived, HeldAsReceived}
 use Rattle.custody_records.specs.Orders.{part_total, part_exact}
 use Rattle.custody_machine.proofs.Accepting.{Receives, receives, answered, registered, step_accepts, accept_inj}
@@ -48,6 +49,11 @@ by_step s (Receive text others) now rest key part bytes reply new held is at = l
 by_step s (Statement stated) now rest key part bytes reply new held is at = by (kept_verdict s stated) (accepts_statement s stated now reply new is).outcome
   where
     by : (o : Option (NoticeKey × Notice)) → stated_by s stated now o ≡ Accept reply new → (get s.parts key ≡ Some part) ⊎ WasReceived ((Statement stated, now) ∷ rest) key part bytes
+    by (Some kept) r = inl (ap (λ (t : State). get t.parts key) (accept_inj _ _ _ _ r).1 ∙ at)
+    by None r = inl (ap (λ (t : State). get t.parts key) (accept_inj _ _ _ _ r).1 ∙ at)
+by_step s (Check tld day) now rest key part bytes reply new held is at = by (absence_of s tld day) (accepts_check s tld day now reply new is).outcome
+  where
+    by : (o : Option (NoticeKey × Notice)) → missed_by s tld day now o ≡ Accept reply new → (get s.parts key ≡ Some part) ⊎ WasReceived ((Check tld day, now) ∷ rest) key part bytes
     by (Some kept) r = inl (ap (λ (t : State). get t.parts key) (accept_inj _ _ _ _ r).1 ∙ at)
     by None r = inl (ap (λ (t : State). get t.parts key) (accept_inj _ _ _ _ r).1 ∙ at)
 

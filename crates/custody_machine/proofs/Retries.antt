@@ -6,7 +6,7 @@ use Rattle.custody_machine.specs.State.{State}
 use Rattle.custody_machine.specs.Machine.{Command, Entry, Record, Reply, Outcome, Refuse, Accept, step, state_of, state_after, after, reads, Answer, Accepted, Refused, Failed, NoMemory, VolumeFailed, StoreFailed, Closed, Damaged, Answers, MayRefuse, MayFail}
 use Rattle.custody_machine.specs.SameValues.{is_same_state}
 use Rattle.custody_machine.specs.History.{Pair, Opened, Event, Answered, ShutDown, StoppedAtRest, StoppedWithin, OpenedWith, Condition, Running, Halted, Resting, Happens, Run, Found, leads_to, settled, or_else, found_then, found_after, found, none_found}
-use Rattle.custody_machine.specs.Retries.{Key, OfTld, OfName, OfRevision, key, are_same_keys, has_same_key, KeysAreCompared, once_after, ActsOnce, AsksAgain, record_of, first_record, IsAnsweredAgain, RepeatsAreAnswered, IsOfCommand, StillHas, AcknowledgedIsKept}
+use Rattle.custody_machine.specs.Retries.{Key, OfTld, OfName, OfRevision, OfDay, key, are_same_keys, has_same_key, KeysAreCompared, once_after, ActsOnce, AsksAgain, record_of, first_record, IsAnsweredAgain, RepeatsAreAnswered, IsOfCommand, StillHas, AcknowledgedIsKept}
 use Rattle.custody_machine.proofs.SameValues.{text_decides}
 use Rattle.custody_machine.proofs.Histories.{after-append, Fits, fits_then, fits_after, fits_first, run_split, found_after-append, all_more, openings_are_right}
 use Rattle.custody_machine.proofs.Accepting.{accept_inj}
@@ -153,6 +153,7 @@ own_key : (k : Option Key) → is_some k ≡ true → are_same_keys k k ≡ true
 own_key (Some (OfTld a)) h = (text_decides a a).1 refl
 own_key (Some (OfName a)) h = (text_decides a a).1 refl
 own_key (Some (OfRevision a d r)) h = and_true _ _ ((text_decides a a).1 refl) (and_true _ _ ((Decides-eqb d d).1 refl) ((Decides-eqb r r).1 refl))
+own_key (Some (OfDay a d)) h = and_true _ _ ((text_decides a a).1 refl) ((Decides-eqb d d).1 refl)
 own_key None h = h
 
 one_key : (a b : Option Key) → are_same_keys a b ≡ true → (is_some a ≡ true) × (a ≡ b)
@@ -162,6 +163,9 @@ one_key (Some (OfRevision a d r)) (Some (OfRevision b e s)) is =
     let x = and_split _ _ is in
     let y = and_split _ _ x.1 in
     (refl, λ i. Some (OfRevision ((text_decides a b).0 x.0 i) ((Decides-eqb d e).0 y.0 i) ((Decides-eqb r s).0 y.1 i)))
+one_key (Some (OfDay a d)) (Some (OfDay b e)) is =
+    let x = and_split _ _ is in
+    (refl, λ i. Some (OfDay ((text_decides a b).0 x.0 i) ((Decides-eqb d e).0 x.1 i)))
 one_key a b e = cc
 
 pub keys_are_compared : KeysAreCompared

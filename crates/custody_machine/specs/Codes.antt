@@ -1,7 +1,7 @@
 -- What a refusal or a failure is told as: one row each.
 use Rattle.std.specs.Prelude.{ℕ, List, ◌++◌, Option, Some, codes}
 use Rattle.custody_machine.specs.declared.answers.Refusal.{Refusal}
-use Rattle.custody_machine.specs.declared.answers.Refusal.TheVariants.{NameRefused, RegistryUnknown, DateOutOfRange, Size, OtherBytes, DroppedAfterKeeping, RevisionNotDue, AlreadyStated, TypeDiffers, PartOutOfOrder, VolumeFull, PartsDiffer, LaterDayPassed}
+use Rattle.custody_machine.specs.declared.answers.Refusal.TheVariants.{NameRefused, RegistryUnknown, DateOutOfRange, Size, OtherBytes, DroppedAfterKeeping, RevisionNotDue, AlreadyStated, TypeDiffers, PartOutOfOrder, VolumeFull, PartsDiffer, LaterDayPassed, NotYetDue, DayHasVerdict}
 use Rattle.custody_machine.specs.declared.answers.Fault.{Fault}
 use Rattle.custody_machine.specs.declared.answers.Fault.TheVariants.{NoMemory, VolumeFailed, StoreFailed, Closed, Damaged}
 use Rattle.custody_machine.specs.declared.codes.Code.{Code}
@@ -50,6 +50,8 @@ refusal_row PartOutOfOrder = (codes "Q10", codes "part out of order", Conflict)
 refusal_row VolumeFull = (codes "Q11", codes "volume full", InsufficientStorage)
 refusal_row PartsDiffer = (codes "Q12", codes "parts differ", Conflict)
 refusal_row LaterDayPassed = (codes "Q13", codes "later day passed", Conflict)
+refusal_row NotYetDue = (codes "Q14", codes "not yet due", Conflict)
+refusal_row DayHasVerdict = (codes "Q15", codes "day has a verdict", Conflict)
 
 abbrev pub fault_row : Fault → List ℕ × List ℕ × HttpStatus
 fault_row NoMemory = (codes "C1", codes "no memory", ServiceUnavailable)

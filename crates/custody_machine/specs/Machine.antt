@@ -19,7 +19,7 @@ use Rattle.custody_records.specs.Records.{Notice, Release, key_of}
 use Rattle.custody_records.specs.Tables.{is_rising}
 pub use Rattle.custody_machine.specs.declared.damage.Damage.{Damage}
 pub use Rattle.custody_machine.specs.declared.answers.Refusal.{Refusal}
-pub use Rattle.custody_machine.specs.declared.answers.Refusal.TheVariants.{NameRefused, RegistryUnknown, DateOutOfRange, Size, OtherBytes, DroppedAfterKeeping, RevisionNotDue, AlreadyStated, TypeDiffers, PartOutOfOrder, VolumeFull, PartsDiffer, LaterDayPassed}
+pub use Rattle.custody_machine.specs.declared.answers.Refusal.TheVariants.{NameRefused, RegistryUnknown, DateOutOfRange, Size, OtherBytes, DroppedAfterKeeping, RevisionNotDue, AlreadyStated, TypeDiffers, PartOutOfOrder, VolumeFull, PartsDiffer, LaterDayPassed, NotYetDue, DayHasVerdict}
 pub use Rattle.custody_machine.specs.declared.answers.Fault.{Fault}
 pub use Rattle.custody_machine.specs.declared.answers.Fault.TheVariants.{NoMemory, VolumeFailed, StoreFailed, Closed, Damaged}
 use Rattle.custody_machine.specs.declared.damage.Damage.TheVariants.{Digest}
@@ -38,6 +38,8 @@ pub data Command : Type 0 where
   Receive : (name : List ℕ) → (bytes : List ℕ) → Command
   -- has a deposit verified whose parts are all there, as its operator states (Part A section 7)
   Statement : told.Statement → Command
+  -- has it recorded that a scheduled deposit was not received (Part B section 7)
+  Check : (tld : List ℕ) → (day : ℕ) → Command
 
 -- a record of the state: the one that a command made, or found made
 pub data Record : Type 0 where
@@ -89,6 +91,16 @@ abbrev pub is_verdict_of : ℕ → NoticeKind → Bool
 is_verdict_of rev (Receipt of _) = of == rev
 is_verdict_of rev (Failure of _ _) = of == rev
 is_verdict_of rev Absence = false
+
+abbrev pub is_verdict : NoticeKind → Bool
+is_verdict (Receipt _ _) = true
+is_verdict (Failure _ _ _) = true
+is_verdict Absence = false
+
+abbrev pub is_absence : NoticeKind → Bool
+is_absence (Receipt _ _) = false
+is_absence (Failure _ _ _) = false
+is_absence Absence = true
 
 abbrev pub is_failure_of : ℕ → NoticeKind → Bool
 is_failure_of rev (Receipt _ _) = false
@@ -175,6 +187,12 @@ kept_verdict state stated = if are_as_stated state stated then option_and_then (
 abbrev pub has_later_receipt : State → told.Statement → Bool
 has_later_receipt state stated = list_any (λ (entry : NoticeKey × Notice). is_same_text entry.0.tld stated.tld && (nat_lt stated.day entry.1.day && is_receipt entry.1.kind)) (entries state.notices)
 
+-- ---- what a check speaks of
+
+-- the absence of a day that is recorded, with its number
+abbrev pub absence_of : State → List ℕ → ℕ → Option (NoticeKey × Notice)
+absence_of state tld day = find (is_notice_of tld day is_absence) (entries state.notices)
+
 -- ---- deposits that passed
 
 -- the id of a deposit that passed
@@ -202,7 +220,7 @@ known_of notices stated = record {
 
 -- ---- refusals
 
--- the numbers Q1 to Q13
+-- the numbers Q1 to Q15
 abbrev pub refusal_number : Refusal → ℕ
 refusal_number (NameRefused _) = 1
 refusal_number RegistryUnknown = 2
@@ -217,17 +235,25 @@ refusal_number PartOutOfOrder = 10
 refusal_number VolumeFull = 11
 refusal_number PartsDiffer = 12
 refusal_number LaterDayPassed = 13
+refusal_number NotYetDue = 14
+refusal_number DayHasVerdict = 15
+
+abbrev pub is_unknown : State → List ℕ → Bool
+is_unknown state tld = is_none (first_day_of state tld)
+
+-- the day is before the registry's first, or after today
+abbrev pub is_beyond : State → List ℕ → ℕ → ℕ → Bool
+is_beyond state tld day now = nat_lt day (unwrap_or (first_day_of state tld) 0) || nat_lt (day_of now) day
 
 -- The tests of the part of a name. Those of the day, of notices and of the revision's parts are for a new name.
 abbrev pub is_unregistered : State → Name → Bool
-is_unregistered state name = is_none (first_day_of state name.tld)
+is_unregistered state name = is_unknown state name.tld
 
 abbrev pub is_new : State → Name → Bool
 is_new state name = is_none (recorded state name)
 
--- the day is before the registry's first, or after today
 abbrev pub is_outside : State → Name → ℕ → Bool
-is_outside state name now = nat_lt name.day (unwrap_or (first_day_of state name.tld) 0) || nat_lt (day_of now) name.day
+is_outside state name now = is_beyond state name.tld name.day now
 
 abbrev pub is_out_of_range : State → Name → ℕ → Bool
 is_out_of_range state name now = is_new state name && is_outside state name now
@@ -281,11 +307,21 @@ statement_tests state stated now =
     ∷ (LaterDayPassed, is_none (kept_verdict state stated) && has_later_receipt state stated)
     ∷ []
 
+-- The tests of a check. All but the first are for a day without an absence.
+abbrev pub check_tests : State → List ℕ → ℕ → ℕ → List Test
+check_tests state tld day now =
+    (RegistryUnknown, is_unknown state tld)
+    ∷ (DateOutOfRange, is_none (absence_of state tld day) && is_beyond state tld day now)
+    ∷ (NotYetDue, is_none (absence_of state tld day) && day == day_of now)
+    ∷ (DayHasVerdict, is_none (absence_of state tld day) && has_notice state.notices tld day is_verdict)
+    ∷ []
+
 -- the tests of a command, in the order of their numbers
 abbrev pub tests_of : State → Command → ℕ → List Test
 tests_of state (Register tld first_day) now = []
 tests_of state (Receive text bytes) now = named_tests state (read_name text) bytes now
 tests_of state (Statement stated) now = statement_tests state stated now
+tests_of state (Check tld day) now = check_tests state tld day now
 
 abbrev pub TestsAreInOrder : Type 0
 TestsAreInOrder = (state : State) (command : Command) (now : ℕ) → is_rising nat_cmp (λ (test : Test). refusal_number test.0) (tests_of state command now) ≡ true
@@ -308,11 +344,15 @@ abbrev pub kept_under : State → Result Name NameError → List ℕ → Option 
 kept_under state (Err fault) bytes = None
 kept_under state (Ok name) bytes = option_map (λ (part : Part). OfPart (key_of name) part) (option_and_then (held_with bytes) (recorded state name))
 
--- The record that answers a command which is a repeat. Of a registration the first day is not compared, of a part each byte is, and of a statement all that it says.
+abbrev pub notice_record : NoticeKey × Notice → Record
+notice_record entry = OfNotice entry.0 entry.1
+
+-- The record that answers a command which is a repeat. Of a registration the first day is not compared, of a part each byte is, and of a statement and of a check all that they say.
 abbrev pub kept : State → Command → Option Record
 kept state (Register tld first_day) = option_map (λ (day : ℕ). OfRegistry tld day) (first_day_of state tld)
 kept state (Receive text bytes) = kept_under state (read_name text) bytes
-kept state (Statement stated) = option_map (λ (entry : NoticeKey × Notice). OfNotice entry.0 entry.1) (kept_verdict state stated)
+kept state (Statement stated) = option_map notice_record (kept_verdict state stated)
+kept state (Check tld day) = option_map notice_record (absence_of state tld day)
 
 -- ---- effects
 
@@ -362,11 +402,19 @@ noticed state key notice = Accept (record { entry = OfNotice key notice; is_repe
 abbrev pub stated_as : State → told.Statement → ℕ → Outcome
 stated_as state stated now = noticed state (next_key state.notices stated.tld) (verdict_notice stated (verdict_on state stated) now)
 
+-- the deposit of a day was not received
+abbrev pub absence_notice : ℕ → ℕ → Notice
+absence_notice day now = record { day = day; at = now; kind = Absence }
+
+abbrev pub missed : State → List ℕ → ℕ → ℕ → Outcome
+missed state tld day now = noticed state (next_key state.notices tld) (absence_notice day now)
+
 -- what a command does that is no repeat
 abbrev pub effect : State → Command → ℕ → Outcome
 effect state (Register tld first_day) now = Accept (record { entry = OfRegistry tld first_day; is_repeat = false }) (with_registry state tld first_day)
 effect state (Receive text bytes) now = received state (read_name text) bytes now
 effect state (Statement stated) now = stated_as state stated now
+effect state (Check tld day) now = missed state tld day now
 
 abbrev pub unless_kept : State → Option Record → Outcome → Outcome
 unless_kept state (Some entry) outcome = Accept (record { entry = entry; is_repeat = true }) state
@@ -416,6 +464,7 @@ abbrev pub takes_room : Command → Bool
 takes_room (Register _ _) = false
 takes_room (Receive _ _) = true
 takes_room (Statement _) = false
+takes_room (Check _ _) = false
 
 -- The one free choice: a new part may be refused for want of room.
 abbrev pub MayRefuse : Command → Outcome → Refusal → Type 0
@@ -446,6 +495,7 @@ abbrev pub reads : State → Command → ℕ → List PartKey
 reads state (Register tld first_day) now = []
 reads state (Receive text bytes) now = read_by (refusal_of state (Receive text bytes) now) (read_name text)
 reads state (Statement stated) now = if_made (refusal_of state (Statement stated) now) (kept state (Statement stated)) (part_keys state (first_part stated))
+reads state (Check tld day) now = []
 
 abbrev pub MayFail : Outcome → List PartKey → Fault → Type 0
 MayFail (Refuse least) read NoMemory = is_early least ≡ false

@@ -2,11 +2,12 @@
 use Rattle.std.specs.Prelude.{◌≡◌, ◌↔◌, ◌⊎◌, ℕ, List, [], ◌∷◌, ◌++◌, length, Option, Some, None, is_some, Bool, true, false, ◌&&◌, ◌==◌, if◌then◌else◌, Ok}
 use Rattle.std.specs.List.{list_any}
 use Rattle.deposit_name.specs.Name.{Name}
+use Rattle.desk.specs.declared.notices.NoticeKind.TheVariants.{Absence}
 use Rattle.deposit_verify.specs.declared.verdict.Verdict.{Verdict}
 use Rattle.custody_records.specs.Records.{key_of}
 use Rattle.custody_machine.specs.Names.{is_same_text, read_name}
 use Rattle.custody_machine.specs.State.{State, Part, Content, Held, Dropped}
-use Rattle.custody_machine.specs.Machine.{Command, Register, Receive, Statement, notice_kind, DroppedAfterKeeping, Record, OfRegistry, OfPart, OfNotice, Reply, Outcome, Refuse, Accept, Entry, step, state_after, after, recorded, is_dropped, Answer, Accepted, Refused, Failed, NoMemory, VolumeFailed, StoreFailed, Closed, Damaged, HasRecord}
+use Rattle.custody_machine.specs.Machine.{Command, Register, Receive, Statement, Check, notice_kind, DroppedAfterKeeping, Record, OfRegistry, OfPart, OfNotice, Reply, Outcome, Refuse, Accept, Entry, step, state_after, after, recorded, is_dropped, Answer, Accepted, Refused, Failed, NoMemory, VolumeFailed, StoreFailed, Closed, Damaged, HasRecord}
 use Rattle.custody_machine.specs.History.{Event, Answered, OpenedWith, Pair, Opened, IsHistory, found}
 
 -- ---- keys
@@ -16,18 +17,21 @@ pub data Key : Type 0 where
   OfTld : (tld : List ℕ) → Key
   OfName : (name : List ℕ) → Key
   OfRevision : (tld : List ℕ) → (day : ℕ) → (rev : ℕ) → Key
+  OfDay : (tld : List ℕ) → (day : ℕ) → Key
 
--- The key of a command: of a registration its registry, of a part its name, of a statement its revision. One that makes no record of its own has none.
+-- The key of a command: of a registration its registry, of a part its name, of a statement its revision, of a check its day. One that makes no record of its own has none.
 abbrev pub key : Command → Option Key
 key (Register tld _) = Some (OfTld tld)
 key (Receive name _) = Some (OfName name)
 key (Statement stated) = Some (OfRevision stated.tld stated.day stated.rev)
+key (Check tld day) = Some (OfDay tld day)
 
 -- whether two keys are there, and are the same
 abbrev pub are_same_keys : Option Key → Option Key → Bool
 are_same_keys (Some (OfTld a)) (Some (OfTld b)) = is_same_text a b
 are_same_keys (Some (OfName a)) (Some (OfName b)) = is_same_text a b
 are_same_keys (Some (OfRevision a d r)) (Some (OfRevision b e s)) = is_same_text a b && (d == e && r == s)
+are_same_keys (Some (OfDay a d)) (Some (OfDay b e)) = is_same_text a b && d == e
 are_same_keys _ _ = false
 
 abbrev pub has_same_key : Command → Command → Bool
@@ -82,11 +86,12 @@ NothingIsRemoved = (old : State) (command : Command) (now : ℕ) → KeepsRecord
 abbrev pub RepliesAreRecords : Type 0
 RepliesAreRecords = (old new : State) (command : Command) (now : ℕ) (reply : Reply) → step old command now ≡ Accept reply new → HasRecord new reply.entry
 
--- the record is that of the command: of a registration its registry, of a part its name and its bytes, of a statement its revision and its id
+-- the record is that of the command: of a registration its registry, of a part its name and its bytes, of a statement its revision and its id, of a check its day
 abbrev pub IsOfCommand : Command → Record → Type 0
 IsOfCommand (Register tld first_day) (OfRegistry other day) = other ≡ tld
 IsOfCommand (Receive text bytes) (OfPart key part) = (name : Name) × (read_name text ≡ Ok name) × (key ≡ key_of name) × (part.kind ≡ name.kind) × (part.content ≡ Held bytes)
 IsOfCommand (Statement stated) (OfNotice key notice) = (key.tld ≡ stated.tld) × (notice.day ≡ stated.day) × (verdict : Verdict) × (notice.kind ≡ notice_kind stated verdict)
+IsOfCommand (Check tld day) (OfNotice key notice) = (key.tld ≡ tld) × (notice.day ≡ day) × (notice.kind ≡ Absence)
 IsOfCommand _ _ = ⊥
 
 -- ---- what a command that comes again is answered

@@ -19,7 +19,7 @@ use Rattle.custody_records.specs.Form.{form_of, InForm}
 use Rattle.custody_machine.specs.Names.{is_same_text, read_name}
 use Rattle.custody_machine.specs.SameValues.{is_same_kind}
 use Rattle.custody_machine.specs.State.{State, Part, Content, Held, Dropped, at_place, has_notice}
-use Rattle.custody_machine.specs.Machine.{is_receipt, is_failure_of}
+use Rattle.custody_machine.specs.Machine.{is_absence, is_receipt, is_failure_of}
 use Rattle.custody_machine.specs.MapValues.{map_values}
 
 -- ---- the blocks of parts
@@ -68,11 +68,6 @@ abbrev pub revision_of : NoticeKind → Option ℕ
 revision_of (Receipt rev _) = Some rev
 revision_of (Failure rev _ _) = Some rev
 revision_of Absence = None
-
-abbrev pub is_absence : NoticeKind → Bool
-is_absence (Receipt _ _) = false
-is_absence (Failure _ _ _) = false
-is_absence Absence = true
 
 -- two notices are of one registry and day
 abbrev pub AreOfOneDay : NoticeKey → Notice → NoticeKey → Notice → Type 0

@@ -32,6 +32,10 @@ pub enum Refusal {
     PartsDiffer,
     /// A later day of the registry has a receipt.
     LaterDayPassed,
+    /// The day has not passed.
+    NotYetDue,
+    /// A revision of the day has a receipt or a failure.
+    DayHasVerdict,
 }
 
 /// Why a command failed.

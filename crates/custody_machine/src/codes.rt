@@ -97,6 +97,8 @@ impl Refusal {
             Refusal::VolumeFull => ("Q11", "volume full", HttpStatus::InsufficientStorage),
             Refusal::PartsDiffer => ("Q12", "parts differ", HttpStatus::Conflict),
             Refusal::LaterDayPassed => ("Q13", "later day passed", HttpStatus::Conflict),
+            Refusal::NotYetDue => ("Q14", "not yet due", HttpStatus::Conflict),
+            Refusal::DayHasVerdict => ("Q15", "day has a verdict", HttpStatus::Conflict),
         };
         Code {
             number,

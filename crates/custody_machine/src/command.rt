@@ -31,6 +31,9 @@ pub enum Command<'a> {
     Receive(&'a [u8], &'a [u8]),
     /// A deposit whose parts are all there, to be verified.
     Statement(Statement),
+    /// A registry and a day that has passed: where no deposit of it was verified, its absence is to be
+    /// recorded (Specification 2, Part B, section 7).
+    Check(Tld, Day),
 }
 
 impl<'a> Command<'a> {
@@ -39,7 +42,7 @@ impl<'a> Command<'a> {
         ensures { result.now ≡ bytes_of (command_of self.now) }
     {
         match self {
-            Command::Register(..) | Command::Statement(_) => &[],
+            Command::Register(..) | Command::Statement(_) | Command::Check(..) => &[],
             Command::Receive(_, bytes) => bytes,
         }
     }

@@ -1,4 +1,6 @@
 pub mod Apart
+pub mod Checks
+pub mod DueDays
 pub mod Judged
 pub mod LinkLemmas
 pub mod Notices

@@ -16,8 +16,8 @@ use Rattle.custody_records.specs.Tables.{is_rising, table_map}
 use Rattle.custody_records.specs.Typed.{notice_key, notice_value}
 use Rattle.custody_machine.specs.Names.{is_same_text}
 use Rattle.custody_machine.specs.State.{has_notice}
-use Rattle.custody_machine.specs.Machine.{is_receipt, is_failure_of}
-use Rattle.custody_machine.specs.Stored.{AreLinked, AreOfOneDay, revision_of, is_absence}
+use Rattle.custody_machine.specs.Machine.{is_absence, is_failure_of, is_receipt}
+use Rattle.custody_machine.specs.Stored.{AreLinked, AreOfOneDay, revision_of}
 use Rattle.custody_machine.proofs.SameValues.{text_decides}
 use Rattle.custody_rules.specs.declared.told.Subject.{Subject}
 use Rattle.custody_rules.specs.declared.told.ReceivedDay.{ReceivedDay}

@@ -18,10 +18,6 @@ use Rattle.custody_machine.specs.Names.{is_same_text, read_name}
 use Rattle.custody_machine.specs.SameValues.{is_same_kind}
 use Rattle.custody_machine.specs.Rulings.{Ruling, DecidesPart}
 
--- whether a notice of a name's registry and day passes a test
-abbrev pub tells : Name → (NoticeKind → Bool) → told.Notice → Bool
-tells name test notice = is_same_text notice.tld name.tld && (notice.day == name.day && test notice.kind)
-
 -- a part, where it is of a kind
 abbrev pub if_of_kind : Kind → PartRecord → Option PartRecord
 if_of_kind kind part = if is_same_kind part.kind kind then Some part else None

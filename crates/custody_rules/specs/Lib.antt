@@ -1,5 +1,6 @@
 pub mod Blocks
 pub mod Breaks
+pub mod Due
 pub mod Judged
 pub mod Links
 pub mod Orders

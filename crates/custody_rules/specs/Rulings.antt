@@ -13,6 +13,7 @@ abbrev pub change_of : change.Change → machine.Change
 change_of (makes.Registry registry) = machine.AddsRegistry registry.tld registry.first_day
 change_of (makes.Part name) = machine.AddsPart name
 change_of (makes.Verdict statement) = machine.AddsVerdict statement
+change_of (makes.Absence tld day) = machine.AddsAbsence tld day
 
 abbrev pub record_of : kept.Kept → Record
 record_of (answers.Registry registry) = OfRegistry registry.tld registry.first_day

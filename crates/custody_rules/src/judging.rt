@@ -15,9 +15,11 @@ ghost use Rattle.custody_machine.specs.declared.answers.Refusal.TheVariants.{Oth
 ghost use Rattle.custody_machine.specs.Commands.{command_of};
 ghost use Rattle.custody_machine.specs.Rulings.{Decides, DecidesPart};
 ghost use Rattle.custody_rules.specs.Rulings.{ruling_of};
-ghost use Rattle.custody_rules.specs.Judged.{tells, recorded_under, is_of_other_kind, RulesRecorded};
+ghost use Rattle.custody_rules.specs.Judged.{recorded_under, is_of_other_kind, RulesRecorded};
 
-use crate::linked::has_failed;
+use crate::checking::judge_check;
+use crate::days::{has_failed, has_receipt, has_verdict_on};
+use crate::revision::{count_parts, has_other_kind, is_of_kind, part_in};
 use crate::stating::judge_statement;
 use crate::{Change, Kept, Ruling};
 use custody_machine::{Command, Refusal};
@@ -26,9 +28,6 @@ use deposit_name::{DepositName, Kind, Tld};
 use desk::{Notice, NoticeKind};
 use schedule::{Day, Sec};
 use vault_volume::MAX_PART_LEN;
-
-/// The places in the series of a revision's parts.
-const PLACES: [u8; 8] = [1, 2, 3, 4, 5, 6, 7, 8];
 
 /// Judges a command by the records: the least refusal that they decide, the record that answers a
 /// repeat, the part whose bytes decide, or the one change that is to be made.
@@ -39,6 +38,7 @@ pub fn judge<'a>(records: &'a Records, command: &Command<'_>, now: Sec) -> Rulin
         Command::Register(tld, first_day) => judge_registry(records, *tld, *first_day),
         Command::Receive(name, bytes) => judge_part(records, name, bytes.len(), now),
         Command::Statement(statement) => judge_statement(records, statement, now),
+        Command::Check(tld, day) => judge_check(records, *tld, *day, now),
     }
 }
 
@@ -113,10 +113,10 @@ fn refusal_of_new(
     if is_not_due(records, name) {
         return Some(Refusal::RevisionNotDue);
     }
-    if revision_has_verdict(records, name) {
+    if is_stated(records, name) {
         return Some(Refusal::AlreadyStated);
     }
-    if has_other_kind(records, name) {
+    if differs_in_kind(records, name) {
         return Some(Refusal::TypeDiffers);
     }
     if is_out_of_order(records, name) {
@@ -142,50 +142,14 @@ fn is_not_due(records: &Records, name: &DepositName) -> bool
     ensures { result ≡ (has_notice (records_of records.now).notices name.now.tld name.now.day is_receipt
         || (nat_lt 0 name.now.rev && not (has_notice (records_of records.now).notices name.now.tld name.now.day (is_failure_of (name.now.rev - 1))))) }
 {
-    day_has_receipt(records, name)
+    has_receipt(records, &name.tld, name.day)
         || name.rev > 0 && !has_failed(records, &name.tld, name.day, name.rev - 1)
 }
 
-fn day_has_receipt(records: &Records, name: &DepositName) -> bool
-    ensures { result ≡ has_notice (records_of records.now).notices name.now.tld name.now.day is_receipt }
-{
-    records
-        .notices_of(&name.tld)
-        .iter()
-        .any(|notice| is_receipt_of(notice, name))
-}
-
-fn revision_has_verdict(records: &Records, name: &DepositName) -> bool
+fn is_stated(records: &Records, name: &DepositName) -> bool
     ensures { result ≡ has_notice (records_of records.now).notices name.now.tld name.now.day (is_verdict_of name.now.rev) }
 {
-    records
-        .notices_of(&name.tld)
-        .iter()
-        .any(|notice| is_verdict_of(notice, name))
-}
-
-fn is_receipt_of(notice: &Notice, name: &DepositName) -> bool
-    ensures { result ≡ tells name.now is_receipt notice.now }
-{
-    is_of_day(notice, name) && matches!(notice.kind, NoticeKind::Receipt { .. })
-}
-
-fn is_verdict_of(notice: &Notice, name: &DepositName) -> bool
-    ensures { result ≡ tells name.now (is_verdict_of name.now.rev) notice.now }
-{
-    is_of_day(notice, name)
-        && match notice.kind {
-            NoticeKind::Receipt { rev, .. } | NoticeKind::Failure { rev, .. } => {
-                rev.number() == name.rev
-            }
-            NoticeKind::Absence => false,
-        }
-}
-
-fn is_of_day(notice: &Notice, name: &DepositName) -> bool
-    ensures { result ≡ (is_same_text notice.now.tld name.now.tld && notice.now.day == name.now.day) }
-{
-    notice.tld == name.tld && notice.day == name.day
+    has_verdict_on(records, &name.tld, name.day, name.rev)
 }
 
 // The part that is recorded under a name: one of another kind in its place is not.
@@ -193,63 +157,17 @@ fn recorded<'a>(records: &'a Records, name: &DepositName) -> Option<&'a Part>
     ensures found { option_map part_value (option_copied result) ≡ recorded_under (records_of records.now) name.now }
     ensures key { IfSome result (λ part. part_place part.now ≡ key_of name.now) }
 {
-    part_in(records, name, name.part).filter(|part| is_of_kind(part, name.kind))
+    part_in(records, &PartKey::of(name), name.part).filter(|part| is_of_kind(part, name.kind))
 }
 
-// The part at a place of a name's revision.
-fn part_in<'a>(records: &'a Records, name: &DepositName, place: u8) -> Option<&'a Part>
-    ensures found { option_map part_value (option_copied result) ≡ get (records_of records.now).parts (at_place (key_of name.now) place) }
-    ensures key { IfSome result (λ part. part_place part.now ≡ at_place (key_of name.now) place) }
-{
-    records.part(&PartKey {
-        part: place,
-        ..PartKey::of(name)
-    })
-}
-
-fn is_of_kind(part: &Part, kind: Kind) -> bool
-    ensures { result ≡ is_same_kind part.now.name.kind kind }
-{
-    part.name.kind == kind
-}
-
-fn has_part(records: &Records, name: &DepositName, place: u8) -> bool
-    ensures { result ≡ is_some (get (records_of records.now).parts (at_place (key_of name.now) place)) }
-{
-    part_in(records, name, place).is_some()
-}
-
-fn is_other_kind(records: &Records, name: &DepositName, place: u8) -> bool
-    ensures { result ≡ is_of_other_kind name.now.kind (get (records_of records.now).parts (at_place (key_of name.now) place)) }
-{
-    match part_in(records, name, place) {
-        Some(part) => !is_of_kind(part, name.kind),
-        None => false,
-    }
-}
-
-// Whether a part of the revision is of another kind.
-fn has_other_kind(records: &Records, name: &DepositName) -> bool
+fn differs_in_kind(records: &Records, name: &DepositName) -> bool
     ensures { result ≡ list_any (λ place. is_of_other_kind name.now.kind (get (records_of records.now).parts (at_place (key_of name.now) place))) places }
 {
-    PLACES
-        .iter()
-        .any(|place| is_other_kind(records, name, *place))
+    has_other_kind(records, &PartKey::of(name), name.kind)
 }
 
 fn is_out_of_order(records: &Records, name: &DepositName) -> bool
     ensures { result ≡ not (count_by (λ place. is_some (get (records_of records.now).parts (at_place (key_of name.now) place))) places + 1 == name.now.part) }
 {
-    count_parts(records, name) + 1 != usize::from(name.part)
-}
-
-// How many parts the revision has.
-fn count_parts(records: &Records, name: &DepositName) -> usize
-    ensures number { result ≡ count_by (λ place. is_some (get (records_of records.now).parts (at_place (key_of name.now) place))) places }
-    ensures small { result ≤ 8 }
-{
-    PLACES
-        .iter()
-        .filter(|place| has_part(records, name, **place))
-        .count()
+    count_parts(records, &PartKey::of(name)) + 1 != usize::from(name.part)
 }

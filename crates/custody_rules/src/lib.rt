@@ -2,16 +2,21 @@
 #![tactic(auto)]
 
 mod blocks;
+mod checking;
+mod days;
+mod due;
 mod extents;
 mod judging;
 mod known;
 mod linked;
+mod revision;
 mod ruling;
 mod stating;
 mod told;
 mod whole;
 
 pub use blocks::map_of;
+pub use due::{DueDay, due_days};
 pub use judging::{judge, judge_part};
 pub use known::{known_about, next_number};
 pub use ruling::{Change, Kept, Ruling};

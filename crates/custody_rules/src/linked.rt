@@ -115,37 +115,6 @@ fn is_due(failed: &BTreeSet<FailedRevision>, place: &PartKey) -> bool
     failed.contains(&before)
 }
 
-/// Whether a notice tells that the revision has failed.
-pub(crate) fn has_failed(records: &Records, tld: &Tld, day: Day, rev: u8) -> bool
-    ensures { result ≡ has_notice (records_of records.now).notices tld.now day (is_failure_of rev) }
-{
-    has_failure(records.notices_of(tld), tld, day, rev)
-}
-
-fn has_failure(notices: &[Notice], tld: &Tld, day: Day, rev: u8) -> bool
-    ensures { result ≡ list_any (λ n. is_same_text n.tld tld.now && (n.day == day && is_failure_of rev n.kind)) notices.now }
-{
-    notices
-        .iter()
-        .any(|notice| is_failure(notice, tld, day, rev))
-}
-
-/// Whether the notice tells that the revision has failed.
-fn is_failure(notice: &Notice, tld: &Tld, day: Day, rev: u8) -> bool
-    ensures { result ≡ (is_same_text notice.now.tld tld.now && (notice.now.day == day && is_failure_of rev notice.now.kind)) }
-{
-    notice.tld.as_bytes() == tld.as_bytes() && notice.day == day && is_failure_of(&notice.kind, rev)
-}
-
-fn is_failure_of(kind: &NoticeKind, rev: u8) -> bool
-    ensures { result ≡ is_failure_of rev kind.now }
-{
-    match kind {
-        NoticeKind::Failure { rev: failed, .. } => failed.number() == rev,
-        NoticeKind::Receipt { .. } | NoticeKind::Absence => false,
-    }
-}
-
 /// Whether a notice has its registry, the notice before it and the part that it judges.
 fn notice_is_linked(records: &Records, notice: &Notice) -> bool
     ensures { result ≡ is_notice_linked (records_of records.now) (notice_key notice.now) (notice_value notice.now) }

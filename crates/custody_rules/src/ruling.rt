@@ -1,8 +1,9 @@
 //! What records decide of a command.
 use custody_machine::{Refusal, Statement};
 use custody_records::{Part, Registry};
-use deposit_name::DepositName;
+use deposit_name::{DepositName, Tld};
 use desk::Notice;
+use schedule::Day;
 use vault_volume::Extent;
 
 /// What the records decide of a command, whatever the volume holds.
@@ -34,4 +35,6 @@ pub enum Change {
     Part(DepositName),
     /// The deposit that is stated is verified, and a notice of the verdict is kept.
     Verdict(Statement),
+    /// The notice that the day has passed without a deposit is kept.
+    Absence(Tld, Day),
 }

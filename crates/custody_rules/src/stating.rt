@@ -14,15 +14,14 @@ ghost use Rattle.custody_machine.specs.Rulings.{Decides};
 ghost use Rattle.custody_rules.specs.Rulings.{ruling_of};
 ghost use Rattle.custody_rules.specs.Judged.{as_stated_in, differ_in, is_later_receipt, is_of_other_kind, is_without_bytes, kept_in};
 
+use crate::days::{has_verdict_on, verdict_on};
+use crate::revision::{count_parts, has_dropped_part, has_other_kind};
 use crate::{Change, Kept, Ruling};
 use custody_machine::{Refusal, Statement};
-use custody_records::{Part, PartKey, Records};
+use custody_records::{PartKey, Records};
 use deposit_name::DepositId;
 use desk::{Notice, NoticeKind};
 use schedule::{Day, Sec};
-
-/// The places in the series of a revision's parts.
-const PLACES: [u8; 8] = [1, 2, 3, 4, 5, 6, 7, 8];
 
 /// Judges a statement: it is refused; the verdict that was made on it answers it; or its deposit is to
 /// be verified.
@@ -52,7 +51,12 @@ fn kept_verdict<'a>(records: &'a Records, statement: &Statement) -> Option<&'a N
     if !are_as_stated(records, statement) {
         return None;
     }
-    let verdict = verdict_on(records, statement)?;
+    let verdict = verdict_on(
+        records,
+        &statement.tld,
+        statement.day,
+        statement.rev.number(),
+    )?;
     if has_id(verdict, &statement.id) {
         Some(verdict)
     } else {
@@ -77,10 +81,10 @@ fn refusal_of_statement(
     if has_lost_bytes(records, statement) {
         return Some(Refusal::DroppedAfterKeeping);
     }
-    if has_verdict(records, statement) {
+    if is_stated(records, statement) {
         return Some(Refusal::AlreadyStated);
     }
-    if has_other_kind(records, statement) {
+    if differs_in_kind(records, statement) {
         return Some(Refusal::TypeDiffers);
     }
     if differs_in_number(records, statement) {
@@ -100,36 +104,16 @@ fn is_outside(statement: &Statement, first_day: Day, now: Sec) -> bool
 
 // ---- notices
 
-/// The verdict on the revision.
-fn verdict_on<'a>(records: &'a Records, statement: &Statement) -> Option<&'a Notice>
-    ensures { option_map notice_entry (option_copied result) ≡ find (is_notice_of statement.now.tld statement.now.day (is_verdict_of statement.now.rev)) (entries (records_of records.now).notices) }
-{
-    records
-        .notices_of(&statement.tld)
-        .iter()
-        .find(|notice| is_verdict_on(notice, statement))
-}
-
-fn has_verdict(records: &Records, statement: &Statement) -> bool
+/// Whether the revision has a verdict.
+fn is_stated(records: &Records, statement: &Statement) -> bool
     ensures { result ≡ has_notice (records_of records.now).notices statement.now.tld statement.now.day (is_verdict_of statement.now.rev) }
 {
-    records
-        .notices_of(&statement.tld)
-        .iter()
-        .any(|notice| is_verdict_on(notice, statement))
-}
-
-fn is_verdict_on(notice: &Notice, statement: &Statement) -> bool
-    ensures { result ≡ is_notice_of statement.now.tld statement.now.day (is_verdict_of statement.now.rev) (notice_entry notice.now) }
-{
-    notice.tld == statement.tld
-        && notice.day == statement.day
-        && match notice.kind {
-            NoticeKind::Receipt { rev, .. } | NoticeKind::Failure { rev, .. } => {
-                rev.number() == statement.rev.number()
-            }
-            NoticeKind::Absence => false,
-        }
+    has_verdict_on(
+        records,
+        &statement.tld,
+        statement.day,
+        statement.rev.number(),
+    )
 }
 
 fn has_id(notice: &Notice, id: &DepositId) -> bool
@@ -160,58 +144,16 @@ fn is_later_receipt(notice: &Notice, statement: &Statement) -> bool
 
 // ---- the parts of the revision
 
-/// The part at a place of the revision.
-fn part_at<'a>(records: &'a Records, statement: &Statement, place: u8) -> Option<&'a Part>
-    ensures { option_map part_value (option_copied result) ≡ get (records_of records.now).parts (at_place (key_of (first_part statement.now)) place) }
+/// The place of the first part.
+fn first_place(statement: &Statement) -> PartKey
+    ensures { result ≡ key_of (first_part statement.now) }
 {
-    records.part(&PartKey {
+    PartKey {
         tld: statement.tld,
         day: statement.day,
         rev: statement.rev.number(),
-        part: place,
-    })
-}
-
-fn has_part(records: &Records, statement: &Statement, place: u8) -> bool
-    ensures { result ≡ is_some (get (records_of records.now).parts (at_place (key_of (first_part statement.now)) place)) }
-{
-    part_at(records, statement, place).is_some()
-}
-
-fn is_other_kind(records: &Records, statement: &Statement, place: u8) -> bool
-    ensures { result ≡ is_of_other_kind statement.now.kind (get (records_of records.now).parts (at_place (key_of (first_part statement.now)) place)) }
-{
-    match part_at(records, statement, place) {
-        Some(part) => part.name.kind != statement.kind,
-        None => false,
+        part: 1,
     }
-}
-
-fn is_dropped(records: &Records, statement: &Statement, place: u8) -> bool
-    ensures { result ≡ is_without_bytes (get (records_of records.now).parts (at_place (key_of (first_part statement.now)) place)) }
-{
-    match part_at(records, statement, place) {
-        Some(part) => part.extents.is_none(),
-        None => false,
-    }
-}
-
-/// Whether a part of the revision is of another kind.
-fn has_other_kind(records: &Records, statement: &Statement) -> bool
-    ensures { result ≡ list_any (λ place. is_of_other_kind statement.now.kind (get (records_of records.now).parts (at_place (key_of (first_part statement.now)) place))) places }
-{
-    PLACES
-        .iter()
-        .any(|place| is_other_kind(records, statement, *place))
-}
-
-/// Whether the bytes of a part of the revision are dropped.
-fn has_dropped_part(records: &Records, statement: &Statement) -> bool
-    ensures { result ≡ list_any (λ place. is_without_bytes (get (records_of records.now).parts (at_place (key_of (first_part statement.now)) place))) places }
-{
-    PLACES
-        .iter()
-        .any(|place| is_dropped(records, statement, *place))
 }
 
 /// Whether a revision without a verdict has a part whose bytes are dropped.
@@ -219,30 +161,26 @@ fn has_lost_bytes(records: &Records, statement: &Statement) -> bool
     ensures { result ≡ (not (has_notice (records_of records.now).notices statement.now.tld statement.now.day (is_verdict_of statement.now.rev))
         && list_any (λ place. is_without_bytes (get (records_of records.now).parts (at_place (key_of (first_part statement.now)) place))) places) }
 {
-    !has_verdict(records, statement) && has_dropped_part(records, statement)
+    !is_stated(records, statement) && has_dropped_part(records, &first_place(statement))
+}
+
+/// Whether the revision has a part of another kind.
+fn differs_in_kind(records: &Records, statement: &Statement) -> bool
+    ensures { result ≡ list_any (λ place. is_of_other_kind statement.now.kind (get (records_of records.now).parts (at_place (key_of (first_part statement.now)) place))) places }
+{
+    has_other_kind(records, &first_place(statement), statement.kind)
 }
 
 /// Whether the revision has no part, or another number of parts than is stated.
 fn differs_in_number(records: &Records, statement: &Statement) -> bool
     ensures { result ≡ differ_in (records_of records.now) statement.now }
 {
-    let count = count_parts(records, statement);
+    let count = count_parts(records, &first_place(statement));
     count == 0 || count != usize::from(statement.parts)
-}
-
-/// How many parts the revision has.
-fn count_parts(records: &Records, statement: &Statement) -> usize
-    ensures number { result ≡ count_by (λ place. is_some (get (records_of records.now).parts (at_place (key_of (first_part statement.now)) place))) places }
-    ensures small { result ≤ 8 }
-{
-    PLACES
-        .iter()
-        .filter(|place| has_part(records, statement, **place))
-        .count()
 }
 
 fn are_as_stated(records: &Records, statement: &Statement) -> bool
     ensures { result ≡ as_stated_in (records_of records.now) statement.now }
 {
-    !has_other_kind(records, statement) && !differs_in_number(records, statement)
+    !differs_in_kind(records, statement) && !differs_in_number(records, statement)
 }

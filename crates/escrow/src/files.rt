@@ -9,7 +9,7 @@ use custody_machine::Fault;
 use sqlite::{Alter, Connection, Error, ErrorCode, File, FileStore};
 use std::alloc::{AllocError, Global};
 use std::fs;
-use std::io::Read;
+use std::io::{self, Read};
 use vault_volume::{FileError, FileVolume, Volume};
 
 /// The database in a file.
@@ -36,7 +36,7 @@ pub fn read_file(rt: &HostRuntime, path: &str) -> Result<Vec<u8>, Stop> {
 pub fn find(rt: &HostRuntime, folder: &str) -> Result<(FileVolume, Database), Stop>
     ensures { IfOk result (λ files. ⟦<FileVolume as Volume>⟧.failures files.0 ≡ 0) }
 {
-    there(rt, String::from_str(rt.alloc(), folder)?)?;
+    find_folder(rt, folder)?;
     let volume = open_volume(rt, folder)?;
     with_database(rt, folder, volume)
 }
@@ -45,7 +45,7 @@ pub fn find(rt: &HostRuntime, folder: &str) -> Result<(FileVolume, Database), St
 pub fn make(rt: &HostRuntime, folder: &str, blocks: u32) -> Result<(FileVolume, Database), Stop>
     ensures { IfOk result (λ files. ⟦<FileVolume as Volume>⟧.failures files.0 ≡ 0) }
 {
-    there(rt, String::from_str(rt.alloc(), folder)?)?;
+    find_folder(rt, folder)?;
     let path = database_path(rt.alloc(), folder)?;
     let db = open_database(rt, path)?;
     with_volume(rt, folder, blocks, db)
@@ -90,6 +90,17 @@ pub fn close(ended: Ended<FileVolume, FileStore<File>>) -> u8 {
         drop(volume);
     }
     status
+}
+
+/// Finds the folder of a vault, which has to be there.
+fn find_folder(rt: &HostRuntime, folder: &str) -> Result<(), Stop> {
+    let path = String::from_str(rt.alloc(), folder)?;
+    match fs::metadata(rt, path.as_str()) {
+        Ok(found) if found.is_dir() => Ok(()),
+        Ok(_) => Err(Stop::NoFolder(path)),
+        Err(error) if error.kind() == io::ErrorKind::NotFound => Err(Stop::NoFolder(path)),
+        Err(error) => Err(Stop::by_file(path, error)),
+    }
 }
 
 /// The path, where something is there.

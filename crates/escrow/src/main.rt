@@ -4,6 +4,7 @@
 mod clock;
 mod files;
 mod stop;
+mod terminal;
 mod vault;
 
 use agent_cli::{Order, WordFault, order_of};
@@ -15,6 +16,7 @@ use std::env;
 use std::io::{self, BufWriter};
 use std::process::ExitCode;
 use stop::Stop;
+use terminal::Terminal;
 use vault::{begin, serve};
 
 /// Prints the text of words that are no order, help among them, and answers the status.
@@ -61,7 +63,17 @@ fn work(
     ))?;
     let files = find(rt, folder)?;
     let mut err = rt.stderr();
-    let ended = serve(rt.alloc(), files, order, file, now, &mut out, &mut err);
+    let mut progress = Terminal::of(rt);
+    let ended = serve(
+        rt.alloc(),
+        files,
+        order,
+        file,
+        now,
+        &mut out,
+        &mut err,
+        &mut progress,
+    );
     Ok(close(ended))
 }
 
@@ -80,14 +92,20 @@ fn carry_out(rt: &HostRuntime, order: &Order<'_>) -> Result<u8, Stop> {
             blocks,
             number,
         } => init(rt, folder, *blocks, *number),
-        Order::Register { folder, .. } | Order::State { folder } => {
+        Order::Register { folder, .. } | Order::Report { folder, .. } | Order::State { folder } => {
             work(rt, folder, order, &[], clock::now(rt)?)
         }
         Order::Put { folder, file, now } => {
             let bytes = read_file(rt, file)?;
             work(rt, folder, order, &bytes, moment(rt, *now)?)
         }
-        Order::Verify { folder, now, .. } => work(rt, folder, order, &[], moment(rt, *now)?),
+        Order::Verify { folder, now, .. } | Order::Sweep { folder, now } => work(
+            rt,
+            folder,
+            order,
+            &[],
+            moment(rt, *now)?,
+        ),
     }
 }
 

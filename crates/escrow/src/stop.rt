@@ -12,6 +12,8 @@ pub enum Stop {
     Words,
     /// A file is not there, is in use, or fails.
     File { path: String, cause: FileError },
+    /// A folder is not there.
+    NoFolder(String),
     /// A database is not there to open.
     Database { path: String, cause: Error },
     /// The clock fails, or tells a moment out of range.
@@ -51,6 +53,7 @@ impl fmt::Display for Stop {
         match self {
             Stop::Words => f.write_str("error: an argument is no text"),
             Stop::File { path, cause } => write!(f, "file failed: {path}: {cause}"),
+            Stop::NoFolder(path) => write!(f, "file failed: {path}: folder missing"),
             Stop::Database { path, cause } => write!(f, "file failed: {path}: {cause}"),
             Stop::Clock => f.write_str("clock failed"),
             Stop::Fault(fault) => write!(f, "{fault}"),

@@ -1,7 +1,7 @@
 //! What a call does over a volume and a database, of whatever kinds they are.
 ghost use Rattle.std.specs.Prelude.{◌-◌, ◌^◌, ◌<◌};
 
-use agent_cli::{Order, act};
+use agent_cli::{Order, Progress, act};
 use answer_lines::{Line, VolumeNumber, print_line, tell, tell_init};
 use custody::Custody;
 use schedule::Sec;
@@ -42,7 +42,7 @@ pub fn begin<V: Volume, S: Alter + Drop, W: Write, E: Write>(
 }
 
 /// Opens a vault, and carries out an order on it.
-pub fn serve<V: Volume, S: Alter + Drop, W: Write, E: Write>(
+pub fn serve<V: Volume, S: Alter + Drop, W: Write, E: Write, P: Progress>(
     alloc: Global,
     files: (V, Connection<S>),
     order: &Order<'_>,
@@ -50,6 +50,7 @@ pub fn serve<V: Volume, S: Alter + Drop, W: Write, E: Write>(
     now: Sec,
     out: &mut W,
     err: &mut E,
+    progress: &mut P,
 ) -> Ended<V, S>
     requires { V.failures files.0 < 2 ^ 64 - 1 }
 {
@@ -63,7 +64,7 @@ pub fn serve<V: Volume, S: Alter + Drop, W: Write, E: Write>(
             };
         }
     };
-    let status = act(alloc, &mut custody, order, file, now, out, err);
+    let status = act(alloc, &mut custody, order, file, now, out, err, progress);
     Ended {
         status,
         vault: Some(custody.close()),

@@ -18,7 +18,7 @@ use Rattle.custody_machine.specs.Names.{read_name}
 use Rattle.plain_machine.specs.Plain.{registry_entry, part_entry, part_shown, IsOutcome}
 use Rattle.custody_machine.specs.Retries.{content_len}
 use Rattle.custody_machine.specs.State.{State, Part, places}
-use Rattle.custody_machine.specs.Machine.{Register, Receive, Statement, OfRegistry, OfPart, OfNotice, statement_tests, kept_verdict, next_key, verdict_notice, verdict_on, with_notice, noticed, count_parts, first_part, Outcome, Accept, first_day_of, part_at, part_in, recorded, has_other_kind, holds_other, is_dropped, refusal_of, step, with_registry, with_part, received_part, receive_tests, named_tests, first_standing}
+use Rattle.custody_machine.specs.Machine.{Register, Receive, Statement, Check, absence_notice, absence_of, check_tests, OfRegistry, OfPart, OfNotice, statement_tests, kept_verdict, next_key, verdict_notice, verdict_on, with_notice, noticed, count_parts, first_part, Outcome, Accept, first_day_of, part_at, part_in, recorded, has_other_kind, holds_other, is_dropped, refusal_of, step, with_registry, with_part, received_part, receive_tests, named_tests, first_standing}
 use Rattle.custody_records.specs.Orders.{text_total, part_total, part_exact}
 use Rattle.custody_machine.specs.declared.answers.Refusal.{Refusal}
 use Rattle.custody_machine.specs.declared.answers.Refusal.TheVariants.{NameRefused}
@@ -27,6 +27,7 @@ use Rattle.custody_machine.proofs.Accepting.{none_stand, step_none, step_refuses
 use Rattle.custody_machine.proofs.Accepting.{recorded_is}
 use Rattle.custody_machine.proofs.Composed.{register_repeats}
 use Rattle.custody_machine.proofs.Stated.{none_stand_of, stated_by}
+use Rattle.custody_machine.proofs.Checked.{missed_by}
 use Rattle.custody_machine.specs.declared.command.Statement as told
 use Rattle.custody_records.specs.Keys.{NoticeKey}
 use Rattle.custody_records.specs.Records.{Notice}
@@ -112,3 +113,19 @@ module _ (s : State) (st : told.Statement) (now : ℕ) where
   -- what is not refused has a part
   pub has_parts : first_standing (statement_tests s st now) ≡ None → count_parts s (first_part st) ≡ 0 → ⊥
   has_parts none count = let clash : true ≡ false = sym (ap (λ n. n == 0 || not (n == st.parts)) count) ∙ (none_stand_of s st now none).number in cc
+
+module _ (s : State) (tld : List ℕ) (day now : ℕ) where
+  pub refuses_check : (q : Refusal) → first_standing (check_tests s tld day now) ≡ Some q → IsOutcome (answer.Refused q) s s (step s (Check tld day) now)
+  refuses_check q e = (step_refuses s (Check tld day) now q e, refl)
+
+  ruled_check : (o : Option (NoticeKey × Notice)) → first_standing (check_tests s tld day now) ≡ None → absence_of s tld day ≡ o → step s (Check tld day) now ≡ missed_by s tld day now o
+  ruled_check o none e = step_none s (Check tld day) now none ∙ ap (missed_by s tld day now) e
+
+  pub repeats_check : (n : desk.Notice) → first_standing (check_tests s tld day now) ≡ None → absence_of s tld day ≡ Some (notice_entry n) → IsOutcome (answer.Noticed n true) s s (step s (Check tld day) now)
+  repeats_check n none e = ruled_check (Some (notice_entry n)) none e
+
+  pub misses_new : (n : desk.Notice) (new : State) → first_standing (check_tests s tld day now) ≡ None → absence_of s tld day ≡ None → notice_key n ≡ next_key s.notices tld → notice_value n ≡ absence_notice day now
+      → new ≡ with_notice s (notice_key n) (notice_value n) → IsOutcome (answer.Noticed n false) s new (step s (Check tld day) now)
+  misses_new n new none e key value is =
+      ruled_check None none e ∙ ap (λ k. noticed s k (absence_notice day now)) (sym key) ∙ ap (noticed s (notice_key n)) (sym value)
+      ∙ ap (Accept (record { entry = OfNotice (notice_key n) (notice_value n); is_repeat = false })) (sym is)

@@ -8,8 +8,8 @@ ghost use Rattle.custody_records.specs.Tables.{is_rising, table_map};
 ghost use Rattle.custody_records.specs.Typed.{notice_entry, notice_key, notice_value};
 
 use crate::telling::{
-    compare, find_latest, greatest_of, ids_of, is_failure_on, is_receipt_after, is_receipt_of,
-    is_verdict_on, key_of, read_all_passed,
+    compare, find_latest, greatest_of, ids_of, is_absence_of, is_failure_on, is_receipt_after,
+    is_receipt_of, is_verdict_of, is_verdict_on, key_of, read_all_passed,
 };
 use custody_machine::Statement;
 use custody_records::NoticeKey;
@@ -28,7 +28,7 @@ pub struct PlainNotices {
 
 impl PlainNotices {
     ghost use Rattle.custody_machine.specs.State.{has_notice, is_notice_of};
-    ghost use Rattle.custody_machine.specs.Machine.{first_part, is_failure_of, is_receipt, is_verdict_of, known_of, next_number, passed_of};
+    ghost use Rattle.custody_machine.specs.Machine.{first_part, is_absence, is_failure_of, is_receipt, is_verdict, is_verdict_of, known_of, next_number, passed_of};
     ghost use Rattle.deposit_verify.specs.Known.{known};
     ghost use Rattle.plain_machine.specs.Plain.{notices_shown, is_later_receipt};
 
@@ -90,6 +90,13 @@ impl PlainNotices {
         self.rows.iter().any(|n| is_verdict_on(n, tld, day, rev))
     }
 
+    /// Whether the day has a receipt or a failure.
+    pub(crate) fn has_any_verdict(&self, tld: &Tld, day: Day) -> bool
+        ensures { result ≡ has_notice (notices_shown self.now) tld.now day is_verdict }
+    {
+        self.rows.iter().any(|n| is_verdict_of(n, tld, day))
+    }
+
     /// Whether a later day of the registry has a receipt.
     pub(crate) fn has_later_receipt(&self, tld: &Tld, day: Day) -> bool
         ensures { result ≡ list_any (is_later_receipt tld.now day) (entries (notices_shown self.now)) }
@@ -108,6 +115,19 @@ impl PlainNotices {
         ensures { option_map notice_entry result ≡ find (is_notice_of tld.now day (is_verdict_of rev)) (entries (notices_shown self.now)) }
     {
         self.find_verdict(tld, day, rev).copied()
+    }
+
+    fn find_absence(&self, tld: &Tld, day: Day) -> Option<&Notice>
+        ensures { option_map (λ n. n.now) result ≡ find (λ n. is_notice_of tld.now day is_absence (notice_entry n)) self.now.rows.items }
+    {
+        self.rows.iter().find(|n| is_absence_of(n, tld, day))
+    }
+
+    /// The absence of the day.
+    pub(crate) fn absence(&self, tld: &Tld, day: Day) -> Option<Notice>
+        ensures { option_map notice_entry result ≡ find (is_notice_of tld.now day is_absence) (entries (notices_shown self.now)) }
+    {
+        self.find_absence(tld, day).copied()
     }
 
     // The days and ids of the deposits of a registry that passed.

@@ -1,5 +1,5 @@
 //! The machine over whole byte strings.
-ghost use Rattle.std.specs.Prelude.{◌≡◌, ◌≤◌, ◌-◌, ◌&&◌, ◌||◌, ◌==◌, not, if◌then◌else◌, nat_lt, unwrap_or, ℕ, List, Ok, Some, IfOk, OnErr, find, option_map, length, count_by, is_some, is_none};
+ghost use Rattle.std.specs.Prelude.{◌≡◌, ◌≤◌, ◌-◌, ◌&&◌, ◌||◌, ◌==◌, not, if◌then◌else◌, nat_lt, ℕ, List, Ok, Some, IfOk, OnErr, find, option_map, length, count_by, is_some, is_none};
 ghost use Rattle.std.specs.List.{list_any};
 ghost use Rattle.custody_records.specs.Records.{key_of};
 ghost use Rattle.plain_machine.specs.Plain.{shown, part_shown, content_shown, IsOutcome, is_of, is_at};
@@ -7,8 +7,7 @@ ghost use Rattle.custody_machine.specs.Commands.{command_of};
 ghost use Rattle.custody_machine.specs.Names.{read_name};
 ghost use Rattle.custody_machine.specs.SameValues.{is_same_kind};
 ghost use Rattle.custody_machine.specs.State.{empty, at_place, has_notice, places};
-ghost use Rattle.schedule.specs.Schedule.{day_of};
-ghost use Rattle.custody_machine.specs.Machine.{Register, Receive, step, first_day_of, recorded, part_in, has_other_kind, is_gone, is_held_with_other, holds_other, is_dropped, max_part_len, is_out_of_range, is_receipt, is_failure_of, is_not_due, is_stated, differs_in_kind, is_out_of_order, receive_tests, first_standing};
+ghost use Rattle.custody_machine.specs.Machine.{Register, Receive, step, first_day_of, recorded, part_in, has_other_kind, is_gone, is_held_with_other, holds_other, is_dropped, max_part_len, is_beyond, is_outside, is_unknown, is_unregistered, is_out_of_range, is_receipt, is_failure_of, is_not_due, is_stated, differs_in_kind, is_out_of_order, receive_tests, first_standing};
 
 use crate::notices::PlainNotices;
 use crate::sought::Sought;
@@ -211,10 +210,16 @@ impl PlainState {
         self.recorded(name).is_none()
     }
 
-    pub(crate) fn is_unknown(&self, name: &Sought) -> bool
-        ensures { result ≡ is_none (first_day_of (shown self.now) name.now.tld) }
+    pub(crate) fn is_unknown(&self, tld: &Tld) -> bool
+        ensures { result ≡ is_unknown (shown self.now) tld.now }
     {
-        self.first_day(&name.tld).is_none()
+        self.first_day(tld).is_none()
+    }
+
+    pub(crate) fn is_unregistered(&self, name: &Sought) -> bool
+        ensures { result ≡ is_unregistered (shown self.now) name.now }
+    {
+        self.is_unknown(&name.tld)
     }
 
     fn holds_other(&self, name: &Sought, bytes: &[u8]) -> bool
@@ -235,14 +240,20 @@ impl PlainState {
         }
     }
 
-    pub(crate) fn is_outside(&self, name: &Sought, now: Sec) -> bool
-        ensures { result ≡ (nat_lt name.now.day (unwrap_or (first_day_of (shown self.now) name.now.tld) 0) || nat_lt (day_of now) name.now.day) }
+    pub(crate) fn is_beyond(&self, tld: &Tld, day: Day, now: Sec) -> bool
+        ensures { result ≡ is_beyond (shown self.now) tld.now day now }
     {
-        let too_early = match self.first_day(&name.tld) {
-            Some(first_day) => name.day.number() < first_day.number(),
+        let too_early = match self.first_day(tld) {
+            Some(first_day) => day.number() < first_day.number(),
             None => false,
         };
-        too_early || now.day().number() < name.day.number()
+        too_early || now.day().number() < day.number()
+    }
+
+    pub(crate) fn is_outside(&self, name: &Sought, now: Sec) -> bool
+        ensures { result ≡ is_outside (shown self.now) name.now now }
+    {
+        self.is_beyond(&name.tld, name.day, now)
     }
 
     fn is_out_of_range(&self, name: &Sought, now: Sec) -> bool
@@ -287,7 +298,7 @@ impl PlainState {
     fn refusal_of(&self, name: &Sought, bytes: &[u8], now: Sec) -> Option<Refusal>
         ensures { result ≡ first_standing (receive_tests (shown self.now) name.now bytes.now now) }
     {
-        if self.is_unknown(name) {
+        if self.is_unregistered(name) {
             return Some(Refusal::RegistryUnknown);
         }
         if self.is_out_of_range(name, now) {
@@ -400,6 +411,7 @@ pub fn step_plain(
         Command::Register(tld, first_day) => state.register(*tld, *first_day),
         Command::Receive(name, bytes) => state.receive(alloc, name, bytes, now),
         Command::Statement(stated) => state.receive_statement(alloc, stated, now),
+        Command::Check(tld, day) => state.receive_check(tld, *day, now),
     }
 }
 

@@ -119,7 +119,7 @@ impl PlainState {
         ensures { result ≡ first_standing (statement_tests (shown self.now) stated.now now) }
     {
         let first = Sought::first_of(stated);
-        if self.is_unknown(&first) {
+        if self.is_unregistered(&first) {
             return Some(Refusal::RegistryUnknown);
         }
         if self.is_stated_outside(stated, now) {
@@ -275,7 +275,7 @@ fn kind_of(stated: &Statement, verdict: Verdict) -> NoticeKind
     }
 }
 
-fn noticed(notice: &Notice, is_repeat: bool) -> PlainAnswer
+pub(crate) fn noticed(notice: &Notice, is_repeat: bool) -> PlainAnswer
     ensures { result ≡ PlainAnswer.Noticed notice.now is_repeat }
 {
     PlainAnswer::Noticed {

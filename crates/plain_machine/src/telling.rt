@@ -5,7 +5,7 @@ ghost use Rattle.custody_records.specs.Keys.{notice_cmp};
 ghost use Rattle.custody_records.specs.Typed.{notice_entry, notice_key};
 ghost use Rattle.custody_machine.specs.Names.{is_same_text};
 ghost use Rattle.custody_machine.specs.State.{is_notice_of};
-ghost use Rattle.custody_machine.specs.Machine.{has_id, is_failure_of, is_receipt, is_verdict_of, latest_of};
+ghost use Rattle.custody_machine.specs.Machine.{has_id, is_absence, is_failure_of, is_receipt, is_verdict, is_verdict_of, latest_of};
 ghost use Rattle.plain_machine.specs.Plain.{greatest_of, is_later_receipt, passed_in};
 
 use custody_records::NoticeKey;
@@ -61,6 +61,18 @@ fn tells_verdict(notice: &Notice, of: u8) -> bool
     }
 }
 
+fn tells_any_verdict(notice: &Notice) -> bool
+    ensures { result ≡ is_verdict notice.now.kind }
+{
+    !tells_absence(notice)
+}
+
+fn tells_absence(notice: &Notice) -> bool
+    ensures { result ≡ is_absence notice.now.kind }
+{
+    matches!(notice.kind, NoticeKind::Absence)
+}
+
 pub(crate) fn tells_id(notice: &Notice, of: &DepositId) -> bool
     ensures { result ≡ has_id of.now notice.now.kind }
 {
@@ -88,6 +100,18 @@ pub(crate) fn is_verdict_on(notice: &Notice, tld: &Tld, day: Day, rev: u8) -> bo
     ensures { result ≡ is_notice_of tld.now day (is_verdict_of rev) (notice_entry notice.now) }
 {
     is_of(notice, tld) && notice.day == day && tells_verdict(notice, rev)
+}
+
+pub(crate) fn is_verdict_of(notice: &Notice, tld: &Tld, day: Day) -> bool
+    ensures { result ≡ is_notice_of tld.now day is_verdict (notice_entry notice.now) }
+{
+    is_of(notice, tld) && notice.day == day && tells_any_verdict(notice)
+}
+
+pub(crate) fn is_absence_of(notice: &Notice, tld: &Tld, day: Day) -> bool
+    ensures { result ≡ is_notice_of tld.now day is_absence (notice_entry notice.now) }
+{
+    is_of(notice, tld) && notice.day == day && tells_absence(notice)
 }
 
 pub(crate) fn is_receipt_after(notice: &Notice, tld: &Tld, day: Day) -> bool

@@ -1,4 +1,4 @@
-//! Worked rulings of registrations and parts.
+//! Worked rulings of registrations, parts and checks.
 use custody_machine::{Command, Refusal};
 use custody_records::{Part, Records, Registry};
 use custody_rules::{Change, Kept, Ruling, judge, judge_part};
@@ -264,5 +264,130 @@ fn a_registry_is_taken_on_once(rt: HostRuntime) -> Result<(), Fail> {
     let later = read_day(b"2026-08-09").ok_or("a day")?;
     assert_eq!(rt; taken_on(rt.alloc(), b"example")?, (day()?, true));
     assert_eq!(rt; taken_on(rt.alloc(), b"test")?, (later, false));
+    Ok(())
+}
+
+#[derive(Clone, Copy, PartialEq, Debug)]
+enum Checked {
+    /// The day is to be recorded as missed.
+    Missed,
+    /// The notice that is recorded answers it.
+    Repeated,
+    Refused(Refusal),
+}
+
+// How a check of a day of `tld` is ruled at a moment.
+fn ruled_check(
+    alloc: Global,
+    before: Before,
+    tld: &[u8],
+    of_day: &[u8],
+    moment: &[u8],
+) -> Result<Checked, Fail> {
+    let records = records_of(alloc, before)?;
+    let tld = Tld::parse(tld).ok_or("a registry")?;
+    let of_day = read_day(of_day).ok_or("a day")?;
+    let now = read_moment(moment).ok_or("a moment")?;
+    match judge(&records, &Command::Check(tld, of_day), now) {
+        Ruling::Refuse(refusal) => Ok(Checked::Refused(refusal)),
+        Ruling::Repeat(Kept::Notice(notice)) => repeated(&notice),
+        Ruling::Make(change) => missed(&change, of_day),
+        _ => Err(Fail::from("another ruling")),
+    }
+}
+
+fn repeated(notice: &Notice) -> Result<Checked, Fail> {
+    if notice.number == 1 && notice.kind == NoticeKind::Absence {
+        Ok(Checked::Repeated)
+    } else {
+        Err(Fail::from("another notice"))
+    }
+}
+
+fn missed(change: &Change, of_day: Day) -> Result<Checked, Fail> {
+    match change {
+        Change::Absence(tld, day) if tld.as_bytes() == b"example".as_slice() && *day == of_day => {
+            Ok(Checked::Missed)
+        }
+        _ => Err(Fail::from("another change")),
+    }
+}
+
+const SAME_DAY: &[u8] = b"2026-08-02T23:59:59Z";
+
+const NEXT_DAY: &[u8] = b"2026-08-03T00:00:00Z";
+
+// Checks of 2026-08-02.
+static CHECKS: [(Before, &[u8], Checked); 10] = [
+    (
+        Before::Registry,
+        SAME_DAY,
+        Checked::Refused(Refusal::NotYetDue),
+    ),
+    (Before::Registry, NEXT_DAY, Checked::Missed),
+    (Before::Held, NEXT_DAY, Checked::Missed),
+    (Before::Dropped, NEXT_DAY, Checked::Missed),
+    (
+        Before::Receipt,
+        SAME_DAY,
+        Checked::Refused(Refusal::NotYetDue),
+    ),
+    (
+        Before::Receipt,
+        NEXT_DAY,
+        Checked::Refused(Refusal::DayHasVerdict),
+    ),
+    (
+        Before::Failure,
+        NEXT_DAY,
+        Checked::Refused(Refusal::DayHasVerdict),
+    ),
+    (Before::Absence, NEXT_DAY, Checked::Repeated),
+    // At a moment at which nothing else would be recorded.
+    (Before::Absence, SAME_DAY, Checked::Repeated),
+    (Before::Absence, b"2026-08-01T00:00:00Z", Checked::Repeated),
+];
+
+#[test]
+fn a_day_is_checked_by_its_notices(rt: HostRuntime) -> Result<(), Fail> {
+    for &(before, moment, wanted) in &CHECKS {
+        let ruled = ruled_check(rt.alloc(), before, b"example", b"2026-08-02", moment)?;
+        assert_eq!(rt; ruled, wanted, "{before:?}");
+    }
+    Ok(())
+}
+
+// Checks of other days, and of another registry, at 2026-08-04.
+static CHECKED_ELSEWHERE: [(&[u8], &[u8], Checked); 5] = [
+    (
+        b"examples",
+        b"2026-08-02",
+        Checked::Refused(Refusal::RegistryUnknown),
+    ),
+    (
+        b"example",
+        b"2026-08-01",
+        Checked::Refused(Refusal::DateOutOfRange),
+    ),
+    (
+        b"example",
+        b"2026-08-05",
+        Checked::Refused(Refusal::DateOutOfRange),
+    ),
+    (
+        b"example",
+        b"2026-08-04",
+        Checked::Refused(Refusal::NotYetDue),
+    ),
+    (b"example", b"2026-08-03", Checked::Missed),
+];
+
+#[test]
+fn each_day_is_checked_for_itself(rt: HostRuntime) -> Result<(), Fail> {
+    let moment = b"2026-08-04T10:00:00Z";
+    for &(tld, of_day, wanted) in &CHECKED_ELSEWHERE {
+        let ruled = ruled_check(rt.alloc(), Before::Absence, tld, of_day, moment)?;
+        assert_eq!(rt; ruled, wanted);
+    }
     Ok(())
 }

@@ -2,7 +2,7 @@
 //! `NoticeKind`: the checker has to be told of the type that lies within.
 use custody_machine::{Command, Refusal, Statement};
 use deposit_name::{DepositId, DepositName, Kind, NameError, Tld};
-use desk::{Check, Notice, NoticeKind, Revision};
+use desk::{Check, LINE_MAX, Notice, NoticeKind, Revision, write_line};
 use plain_machine::{PlainAnswer, PlainContent, PlainPart, PlainState, step_plain};
 use schedule::{read_day, read_moment};
 use std::alloc::Global;
@@ -340,5 +340,104 @@ fn a_statement_tells_its_parts(rt: HostRuntime) -> Result<(), Fail> {
         )?,
         PlainAnswer::Refused(Refusal::DateOutOfRange)
     );
+    Ok(())
+}
+
+const AFTER_IT: &[u8] = b"2026-08-05T00:00:00Z";
+
+const A_DAY_LATER: &[u8] = b"2026-08-06T00:00:00Z";
+
+fn check(
+    alloc: Global,
+    state: &mut PlainState,
+    day: &[u8],
+    moment: &[u8],
+) -> Result<PlainAnswer, Fail> {
+    let tld = Tld::parse(b"example").ok_or("a domain")?;
+    let day = read_day(day).ok_or("a day")?;
+    ask(alloc, state, &Command::Check(tld, day), moment)
+}
+
+// The notice that 2026-08-04 was missed.
+fn missed() -> Result<Notice, Fail> {
+    Ok(Notice {
+        number: 1,
+        tld: Tld::parse(b"example").ok_or("a domain")?,
+        day: read_day(b"2026-08-04").ok_or("a day")?,
+        at: read_moment(AFTER_IT).ok_or("a moment")?,
+        kind: NoticeKind::Absence,
+    })
+}
+
+fn told_missed(is_repeat: bool) -> Result<PlainAnswer, Fail> {
+    let notice = missed()?;
+    Ok(PlainAnswer::Noticed { notice, is_repeat })
+}
+
+#[test]
+fn a_missed_day_is_recorded_once(rt: HostRuntime) -> Result<(), Fail> {
+    let _kind: Option<NoticeKind> = None;
+    let mut kept = registered(rt.alloc())?;
+    let day = b"2026-08-04";
+    let early = check(rt.alloc(), &mut kept, day, b"2026-08-04T23:59:59Z")?;
+    assert_eq!(rt; early, PlainAnswer::Refused(Refusal::NotYetDue));
+    let first = check(rt.alloc(), &mut kept, day, AFTER_IT)?;
+    assert_eq!(rt; first, told_missed(false)?);
+    // Again a day later it is answered by the notice of the first time.
+    let again = check(rt.alloc(), &mut kept, day, A_DAY_LATER)?;
+    assert_eq!(rt; again, told_missed(true)?);
+    assert_eq!(rt; kept.notices.rows().len(), 1);
+    Ok(())
+}
+
+#[test]
+fn the_line_of_a_missed_day(rt: HostRuntime) -> Result<(), Fail> {
+    let _kind: Option<NoticeKind> = None;
+    let mut line = [0; LINE_MAX];
+    let len = write_line(&missed()?, &mut line);
+    let wanted = b"       1 ABSENCE    2026-08-04 --- -             2026-08-05T00:00:00Z example\n";
+    assert_eq!(rt; line.get(..len), Some(wanted.as_slice()));
+    Ok(())
+}
+
+// The statement of the one part of a day.
+fn stated_of(name: &[u8]) -> Result<Statement, Fail> {
+    Ok(Statement {
+        day: DepositName::parse(name).ok().ok_or("a name")?.day,
+        ..stated(b"example", 0, 1, b"A1")?
+    })
+}
+
+// Sends a part whose bytes have no frame, and its statement.
+fn fail(alloc: Global, kept: &mut PlainState, name: &[u8]) -> Result<PlainAnswer, Fail> {
+    let _notice: Option<Notice> = None;
+    let _kind: Option<NoticeKind> = None;
+    put(alloc, kept, name, b"hello", AFTER_IT)?;
+    state(alloc, kept, stated_of(name)?, AFTER_IT)
+}
+
+#[test]
+fn a_day_with_a_failure_is_not_missed(rt: HostRuntime) -> Result<(), Fail> {
+    let _kind: Option<NoticeKind> = None;
+    let mut kept = registered(rt.alloc())?;
+    let name = b"example_2026-08-03_full_S1_R0.ryde";
+    let answer = fail(rt.alloc(), &mut kept, name)?;
+    assert_eq!(rt; answer, failed(stated_of(name)?, 1, AFTER_IT, false)?);
+    let judged = check(rt.alloc(), &mut kept, b"2026-08-03", AFTER_IT)?;
+    assert_eq!(rt; judged, PlainAnswer::Refused(Refusal::DayHasVerdict));
+    Ok(())
+}
+
+#[test]
+fn a_missed_day_may_still_be_stated(rt: HostRuntime) -> Result<(), Fail> {
+    let _kind: Option<NoticeKind> = None;
+    let mut kept = registered(rt.alloc())?;
+    check(rt.alloc(), &mut kept, b"2026-08-04", AFTER_IT)?;
+    let name = b"example_2026-08-04_full_S1_R0.ryde";
+    let answer = fail(rt.alloc(), &mut kept, name)?;
+    assert_eq!(rt; answer, failed(stated_of(name)?, 2, AFTER_IT, false)?);
+    // A check of it is still answered by the notice that it was missed.
+    let again = check(rt.alloc(), &mut kept, b"2026-08-04", A_DAY_LATER)?;
+    assert_eq!(rt; again, told_missed(true)?);
     Ok(())
 }

@@ -1,6 +1,6 @@
 //! What the tests share: an agent over memory, words for it, and what they print.
 use super::words_of;
-use agent_cli::{Order, act, order_of};
+use agent_cli::{Order, Silent, act, order_of};
 use answer_lines::{Line, VolumeNumber, print_line};
 use custody::Custody;
 use schedule::Sec;
@@ -79,7 +79,16 @@ pub fn told(
         _ => Sec::new(0).ok_or("a moment")?,
     };
     let (mut out, mut err) = (Vec::new(alloc), Vec::new(alloc));
-    let status = act(alloc, custody, &order, file, now, &mut out, &mut err);
+    let status = act(
+        alloc,
+        custody,
+        &order,
+        file,
+        now,
+        &mut out,
+        &mut err,
+        &mut Silent,
+    );
     Ok(Printed { out, err, status })
 }
 

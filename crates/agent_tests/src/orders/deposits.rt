@@ -133,7 +133,7 @@ const PASSED: Row = (
 );
 
 /// A deposit that passes, what is refused of it before and after, and the state.
-static PASSES: [Row; 9] = [
+static PASSES: [Row; 11] = [
     REGISTERED,
     RECEIVED,
     (
@@ -165,6 +165,12 @@ static PASSES: [Row; 9] = [
         "put d in/example_2026-08-02_full_S1_R1.ryde --now 2026-08-02T11:00:00Z",
         FULL0,
         ("", "Q7 revision not due\n", 1),
+    ),
+    ("report d example", File::None, (RECEIPT, "", 0)),
+    (
+        "report d other",
+        File::None,
+        ("", "Q2 registry unknown\n", 1),
     ),
     (
         "state d",

@@ -12,10 +12,13 @@ Commands:
   register  Records a registry; of one that is known the kept first day is printed
   put       Receives one part file of a deposit; the same bytes again are answered as before
   verify    Verifies a deposit whose parts are all sent; the same words again are answered as before
+  sweep     Records the absence of each day that has passed without a notice, of all registries
+  report    Prints the notices of a registry
   state     Prints the records: each registry with its parts and notices, then the free blocks
 
 Options:
-  -h, --help  Print help
+  -h, --help     Print help
+  -V, --version  Print version
 
 First steps:
   mkdir vault
@@ -103,6 +106,38 @@ Prints the notice: NUMBER RECEIPT DATE RNN ID MOMENT TLD where the deposit passe
 Example: escrow verify vault example --date 2026-08-02 --kind full --revision 0 --parts 1 --id 20260802001
 ";
 
+const SWEEP: &str = "\
+Records the absence of each day that has passed without a notice, of all registries
+
+Usage: escrow sweep [OPTIONS] <DIR>
+
+Arguments:
+  <DIR>  Folder of the vault, which has to be there
+
+Options:
+      --now <MOMENT>  Moment of the notices, as 2026-08-05T00:00:00Z; else the clock is read
+  -h, --help          Print help
+
+Prints each new notice: NUMBER ABSENCE DATE --- - MOMENT TLD
+Example: escrow sweep vault --now 2026-08-05T00:00:00Z
+";
+
+const REPORT: &str = "\
+Prints the notices of a registry
+
+Usage: escrow report <DIR> <TLD>
+
+Arguments:
+  <DIR>  Folder of the vault, which has to be there
+  <TLD>  Top-level domain of the registry
+
+Options:
+  -h, --help  Print help
+
+Prints: NUMBER RECEIPT DATE RNN ID MOMENT TLD, as verify prints a notice
+Example: escrow report vault example
+";
+
 const STATE: &str = "\
 Prints the records: each registry with its parts and notices, then the free blocks
 
@@ -122,13 +157,16 @@ Example: escrow state vault
 ";
 
 /// Words that ask for help, and the text that they get.
-static HELP: [(&[&str], &str); 7] = [
+static HELP: [(&[&str], &str); 10] = [
     (&["--help"], ESCROW),
     (&["-h"], ESCROW),
+    (&["--version"], "escrow 0.1.0, proved with rattle-kit-13b\n"),
     (&["init", "--help"], INIT),
     (&["register", "--help"], REGISTER),
     (&["put", "-h"], PUT),
     (&["verify", "--help"], VERIFY),
+    (&["sweep", "--help"], SWEEP),
+    (&["report", "--help"], REPORT),
     (&["state", "--help"], STATE),
 ];
 

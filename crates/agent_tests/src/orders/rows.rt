@@ -1,6 +1,6 @@
 //! Orders on an agent over memory: what they print, and their exit statuses.
 use super::bench::{Case, MemCustody, first_wrong, told, vault_of};
-use agent_cli::{Order, act};
+use agent_cli::{Order, Silent, act};
 use answer_lines::{tell, tell_init};
 use custody::{Custody, InitError};
 use custody_machine::{Damage, Fault};
@@ -440,10 +440,28 @@ fn fails_without_output(alloc: Global, custody: &mut MemCustody) -> Result<bool,
         now: None,
     };
     let mut err = Vec::new(alloc);
-    let unwritten = act(alloc, custody, &put, b"hello", now, &mut Shut, &mut err);
+    let unwritten = act(
+        alloc,
+        custody,
+        &put,
+        b"hello",
+        now,
+        &mut Shut,
+        &mut err,
+        &mut Silent,
+    );
     let is_kept = first_wrong(alloc, custody, &[ONE_PART])?.is_none();
     let mut out = Vec::new(alloc);
-    let untold = act(alloc, custody, &put, b"hellp", now, &mut out, &mut Shut);
+    let untold = act(
+        alloc,
+        custody,
+        &put,
+        b"hellp",
+        now,
+        &mut out,
+        &mut Shut,
+        &mut Silent,
+    );
     Ok((unwritten, untold) == (3, 3) && err.is_empty() && out.is_empty() && is_kept)
 }
 

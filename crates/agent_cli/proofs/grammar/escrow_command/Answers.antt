@@ -1,12 +1,10 @@
-use Rattle.std.proofs.Common.{◌∙◌, ap₂}
-use Rattle.std.proofs.lemmas.Result.{IfOk-weaker}
+use Rattle.std.proofs.Common.{◌∙◌, ap₂, arith, sym}
 use Rattle.clap.specs.Words.{with_subcommand}
+use Rattle.agent_cli.specs.Grammar.{bare_app, shape, shape_in, subcommands}
+use Rattle.agent_cli.proofs.FoldLemmas.{fold_more}
 use Rattle.agent_cli.proofs.grammar.escrow_command.Goals as goal
 
-pub returns : goal.returns
-returns c =
-    let with_init = c.in_ok-subcommand.ensures.shape c.in_ok-init_command.ensures.1 ∙ ap₂ with_subcommand c.bare_command.ensures.app c.in_ok-init_command.ensures.0 in
-    let with_register = c.in_ok-subcommand-2.ensures.shape c.in_ok-register_command.ensures.1 ∙ ap₂ with_subcommand with_init c.in_ok-register_command.ensures.0 in
-    let with_put = c.in_ok-subcommand-3.ensures.shape c.in_ok-put_command.ensures.1 ∙ ap₂ with_subcommand with_register c.in_ok-put_command.ensures.0 in
-    let with_verify = c.in_ok-subcommand-4.ensures.shape c.in_ok-verify_command.ensures.1 ∙ ap₂ with_subcommand with_put c.in_ok-verify_command.ensures.0 in
-    IfOk-weaker c.subcommand-5.result _ _ (λ r h. h.shape c.in_ok-state_command.ensures.1 ∙ ap₂ with_subcommand with_verify c.in_ok-state_command.ensures.0) c.subcommand-5.ensures
+pub loop-named-preserved : goal.loop-named-preserved
+loop-named-preserved c =
+    c.in_ok-command.ensures.shape c.in_ok-subcommand.ensures.1 ∙ ap₂ with_subcommand c.loop-named.invariant (c.in_ok-subcommand.ensures.0 ∙ ap₂ shape_in c.row.ensures.name c.row.ensures.words)
+    ∙ sym (fold_more with_subcommand shape bare_app subcommands c.loop-named.named-index _ (omega arith))

@@ -1,8 +1,8 @@
-use Rattle.std.proofs.Common.{◌∙◌, ◌≡◌, ap, subst, sym, [], IfSome, List, ℕ, map, true}
+use Rattle.std.proofs.Common.{◌∙◌, ◌≡◌, ap, subst, sym, [], IfSome, List, ℕ, Some, is_some, map, true, false}
 use Rattle.std.specs.String.{string_bytes}
 use Rattle.clap.specs.Words.{App, HasKind, fault_of, found_of, is_simple, rows_of, subcommand_of}
 use Rattle.clap.specs.Faults.{is_simple_and_free}
-use Rattle.agent_cli.specs.Order.{Asks, NamedReading, is_subcommand}
+use Rattle.agent_cli.specs.Order.{Asks, NamedReading, named}
 use Rattle.agent_cli.proofs.Readings.{answers_as, fault_answers, knows_subcommand, met_asks, met_rows}
 use Rattle.agent_cli.proofs.words.order_of.Goals as goal
 
@@ -13,14 +13,6 @@ returns-in-Err c =
     let kinds = subst (λ (a : App). HasKind (fault_of a words) c.in-Err.error) app (c.in-Err.ensures.kinds (ap is_simple_and_free app)) in
     fault_answers words c.in-Err.error c.fault_from.result c.fault_from.ensures kinds
 
-pub named_order-requires : goal.named_order-requires
-named_order-requires c =
-    let words : List (List ℕ) = map string_bytes c.args.words.now in
-    let app = c.in_ok-command.ensures in
-    let met = met_rows c.in-Ok.matches c.in-Some.name.now (rows_of (found_of c.in-Some.inner.now)) c.in-Some.ensures.name c.in-Some.ensures.rows in
-    let sub = (c.in-Ok.ensures.matches (ap is_simple app)).1 ∙ ap (λ (a : App). subcommand_of a words) app in
-    subst (λ o. IfSome o (λ p. is_subcommand p.0 ≡ true)) (sym sub ∙ met) (knows_subcommand words)
-
 pub returns : goal.returns
 returns c =
     let words : List (List ℕ) = map string_bytes c.args.words.now in
@@ -29,4 +21,16 @@ returns c =
     let none = subst (λ (a : App). fault_of a words ≡ []) app (c.in-Ok.ensures.kinds (ap is_simple_and_free app)) in
     let met = met_rows c.in-Ok.matches c.in-Some.name.now rows c.in-Some.ensures.name c.in-Some.ensures.rows in
     let sub = (c.in-Ok.ensures.matches (ap is_simple app)).1 ∙ ap (λ (a : App). subcommand_of a words) app in
-    answers_as (NamedReading c.in-Some.name.now rows) (Asks words) (met_asks words c.in-Some.name.now rows none (sym sub ∙ met)) c.named_order.result c.named_order.ensures
+    let known : Some c.in-Some-named.subcommand ≡ named c.in-Some.name.now = sym c.in-Some-named.is ∙ c.named.ensures in
+    answers_as (NamedReading (Some c.in-Some-named.subcommand) rows) (Asks words)
+    (λ r h. met_asks words c.in-Some.name.now rows none (sym sub ∙ met) r (subst (λ o. NamedReading o rows r) known h)) c.order_in.result c.order_in.ensures
+
+pub unreachable-requires-in-None : goal.unreachable-requires-in-None
+unreachable-requires-in-None c =
+    let words : List (List ℕ) = map string_bytes c.args.words.now in
+    let app = c.in_ok-command.ensures in
+    let met = met_rows c.in-Ok.matches c.in-Some.name.now (rows_of (found_of c.in-Some.inner.now)) c.in-Some.ensures.name c.in-Some.ensures.rows in
+    let sub = (c.in-Ok.ensures.matches (ap is_simple app)).1 ∙ ap (λ (a : App). subcommand_of a words) app in
+    let known : is_some (named c.in-Some.name.now) ≡ true = subst (λ o. IfSome o (λ p. is_some (named p.0) ≡ true)) (sym sub ∙ met) (knows_subcommand words) in
+    let clash : true ≡ false = sym known ∙ ap is_some (sym c.named.ensures ∙ c.in-None.is) in
+    cc

@@ -15,13 +15,13 @@ loop-place-init g c = record {
 pub returns-then-not-branch-clause-joined : goal.returns-then-not-branch-clause-joined
 returns-then-not-branch-clause-joined g c = λ tells.
     broken_at (records_of c.args.records.now) (g.V.Volume.image (volume_of c.args.vault.now)) c.args.name.now c.loop-place.place c.loop-place.auto.place (omega (arith, c.loop-place-test.true)) _ (c.loop-place.invariant.read.image tells)
-    _ c.key_at.ensures (c.in_ok-append_part.ensures.broken tells c.if-not-branch.true)
+    _ c.key_at-key.ensures (c.in_ok-append_part.ensures.broken tells c.if-not-branch.true)
 
 pub loop-place-preserved : goal.loop-place-preserved
 loop-place-preserved g c =
     let records = records_of c.args.records.now in
     let image = g.V.Volume.image (volume_of c.args.vault.now) in
-    let key = c.key_at.ensures in
+    let key = c.key_at-key.ensures in
     let high : c.loop-place.place ≤ 8 = omega (arith, c.loop-place-test.true) in
     let sound = c.if-not-branch.false in
     record {

@@ -14,27 +14,27 @@ returns-then-has_lost_bytes-clause-first c = λ image known new.
     dropped_first _ _ _ _ _ _ (so _ _ _ c.is_outside.ensures c.if-is_outside.false) (so _ _ _ c.has_lost_bytes.ensures c.if-has_lost_bytes.true)
     ∙ sym (first_of_statement (records_of c.args.records.now) c.args.statement.now image c.args.now c.args.first_day known new)
 
-pub returns-then-has_verdict-clause-first : goal.returns-then-has_verdict-clause-first
-returns-then-has_verdict-clause-first c = λ image known new.
-    stated_first _ _ _ _ _ _ (so _ _ _ c.is_outside.ensures c.if-is_outside.false) (so _ _ _ c.has_lost_bytes.ensures c.if-has_lost_bytes.false) (so _ _ _ c.has_verdict.ensures c.if-has_verdict.true)
+pub returns-then-is_stated-clause-first : goal.returns-then-is_stated-clause-first
+returns-then-is_stated-clause-first c = λ image known new.
+    stated_first _ _ _ _ _ _ (so _ _ _ c.is_outside.ensures c.if-is_outside.false) (so _ _ _ c.has_lost_bytes.ensures c.if-has_lost_bytes.false) (so _ _ _ c.is_stated.ensures c.if-is_stated.true)
     ∙ sym (first_of_statement (records_of c.args.records.now) c.args.statement.now image c.args.now c.args.first_day known new)
 
-pub returns-then-has_other_kind-clause-first : goal.returns-then-has_other_kind-clause-first
-returns-then-has_other_kind-clause-first c = λ image known new.
-    kind_first _ _ _ _ _ _ (so _ _ _ c.is_outside.ensures c.if-is_outside.false) (so _ _ _ c.has_lost_bytes.ensures c.if-has_lost_bytes.false) (so _ _ _ c.has_verdict.ensures c.if-has_verdict.false) (so _ _ _ c.has_other_kind.ensures c.if-has_other_kind.true)
+pub returns-then-differs_in_kind-clause-first : goal.returns-then-differs_in_kind-clause-first
+returns-then-differs_in_kind-clause-first c = λ image known new.
+    kind_first _ _ _ _ _ _ (so _ _ _ c.is_outside.ensures c.if-is_outside.false) (so _ _ _ c.has_lost_bytes.ensures c.if-has_lost_bytes.false) (so _ _ _ c.is_stated.ensures c.if-is_stated.false) (so _ _ _ c.differs_in_kind.ensures c.if-differs_in_kind.true)
     ∙ sym (first_of_statement (records_of c.args.records.now) c.args.statement.now image c.args.now c.args.first_day known new)
 
 pub returns-then-differs_in_number-clause-first : goal.returns-then-differs_in_number-clause-first
 returns-then-differs_in_number-clause-first c = λ image known new.
-    number_first _ _ _ _ _ _ (so _ _ _ c.is_outside.ensures c.if-is_outside.false) (so _ _ _ c.has_lost_bytes.ensures c.if-has_lost_bytes.false) (so _ _ _ c.has_verdict.ensures c.if-has_verdict.false) (so _ _ _ c.has_other_kind.ensures c.if-has_other_kind.false) (so _ _ _ c.differs_in_number.ensures c.if-differs_in_number.true)
+    number_first _ _ _ _ _ _ (so _ _ _ c.is_outside.ensures c.if-is_outside.false) (so _ _ _ c.has_lost_bytes.ensures c.if-has_lost_bytes.false) (so _ _ _ c.is_stated.ensures c.if-is_stated.false) (so _ _ _ c.differs_in_kind.ensures c.if-differs_in_kind.false) (so _ _ _ c.differs_in_number.ensures c.if-differs_in_number.true)
     ∙ sym (first_of_statement (records_of c.args.records.now) c.args.statement.now image c.args.now c.args.first_day known new)
 
 pub returns-then-has_later_receipt-clause-first : goal.returns-then-has_later_receipt-clause-first
 returns-then-has_later_receipt-clause-first c = λ image known new.
-    later_first _ _ _ _ _ _ (so _ _ _ c.is_outside.ensures c.if-is_outside.false) (so _ _ _ c.has_lost_bytes.ensures c.if-has_lost_bytes.false) (so _ _ _ c.has_verdict.ensures c.if-has_verdict.false) (so _ _ _ c.has_other_kind.ensures c.if-has_other_kind.false) (so _ _ _ c.differs_in_number.ensures c.if-differs_in_number.false) (so _ _ _ c.has_later_receipt.ensures c.if-has_later_receipt.true)
+    later_first _ _ _ _ _ _ (so _ _ _ c.is_outside.ensures c.if-is_outside.false) (so _ _ _ c.has_lost_bytes.ensures c.if-has_lost_bytes.false) (so _ _ _ c.is_stated.ensures c.if-is_stated.false) (so _ _ _ c.differs_in_kind.ensures c.if-differs_in_kind.false) (so _ _ _ c.differs_in_number.ensures c.if-differs_in_number.false) (so _ _ _ c.has_later_receipt.ensures c.if-has_later_receipt.true)
     ∙ sym (first_of_statement (records_of c.args.records.now) c.args.statement.now image c.args.now c.args.first_day known new)
 
 pub returns-clause-first : goal.returns-clause-first
 returns-clause-first c = λ image known new.
-    none_first _ _ _ _ _ _ (so _ _ _ c.is_outside.ensures c.if-is_outside.false) (so _ _ _ c.has_lost_bytes.ensures c.if-has_lost_bytes.false) (so _ _ _ c.has_verdict.ensures c.if-has_verdict.false) (so _ _ _ c.has_other_kind.ensures c.if-has_other_kind.false) (so _ _ _ c.differs_in_number.ensures c.if-differs_in_number.false) (so _ _ _ c.has_later_receipt.ensures c.if-has_later_receipt.false)
+    none_first _ _ _ _ _ _ (so _ _ _ c.is_outside.ensures c.if-is_outside.false) (so _ _ _ c.has_lost_bytes.ensures c.if-has_lost_bytes.false) (so _ _ _ c.is_stated.ensures c.if-is_stated.false) (so _ _ _ c.differs_in_kind.ensures c.if-differs_in_kind.false) (so _ _ _ c.differs_in_number.ensures c.if-differs_in_number.false) (so _ _ _ c.has_later_receipt.ensures c.if-has_later_receipt.false)
     ∙ sym (first_of_statement (records_of c.args.records.now) c.args.statement.now image c.args.now c.args.first_day known new)
