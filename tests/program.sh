@@ -268,6 +268,90 @@ expect 0 "received example_2026-08-01_full_S1_R0.ryde 5 $five" "" \
 expect 1 "" "Q13 later day passed" \
     verify later example --date 2026-08-01 --kind full --revision 0 --parts 1 --id X --now $five
 
+echo "== bytes are dropped after the year"
+vault year 8
+leap=example_2028-02-29_full_S1_R0.ryde
+noon=2028-02-29T12:00:00Z
+printf hello > in/$leap
+columns() { sqlite3 "$1/custody.db" "SELECT tld, day, rev, part, kind, received, keep_day, len, hex(sha), $2 FROM part"; }
+expect 0 "received $leap 5 $noon" "" put year in/$leap --now $noon
+expect 0 "dropped 0" "" purge year --now 2029-02-28T23:59:59Z
+if command -v sqlite3 > /dev/null; then kept=$(columns year "hex(extents) = '0000000100000001'"); fi
+expect 0 "dropped 1" "" purge year --now 2029-03-01T00:00:00Z
+if command -v sqlite3 > /dev/null; then
+    check "a row has lost its extents, and nothing else" test "$(columns year "extents IS NULL")" = "$kept"
+fi
+expect 1 "" "Q6 dropped after keeping" put year in/$leap --now 2029-03-01T00:00:00Z
+expect 1 "" "Q6 dropped after keeping" verify year example --date 2028-02-29 --kind full --revision 0 --parts 1 --id X \
+    --now 2029-03-01T00:00:00Z
+expect 0 "dropped 0" "" purge year --now 2029-03-01T00:00:00Z
+expect 0 "dropped 0" "" purge year
+expect 0 "$registry
+part $leap 5 dropped $noon
+free 7 of 7" "" state year
+
+# of DAY LENGTH [PLACE]: the file of a part of a deposit of changes, and its name
+of() {
+    name=example_$1_diff_S${3:-1}_R0.ryde
+    head -c "$2" /dev/urandom > "in/$name"
+}
+# at_one DAY LENGTH: puts one at one o'clock
+at_one() {
+    of "$2" "$3"
+    expect 0 "received $name $3 $2T01:00:00Z" "" put "$1" "in/$name" --now "$2T01:00:00Z"
+}
+vault reused 8
+at_one reused 2026-08-03 4096
+at_one reused 2026-08-04 12288
+at_one reused 2026-08-05 12288
+after="part example_2026-08-04_diff_S1_R0.ryde 12288 held 2026-08-04T01:00:00Z
+part example_2026-08-05_diff_S1_R0.ryde 12288 held 2026-08-05T01:00:00Z"
+expect 0 "$registry
+part example_2026-08-03_diff_S1_R0.ryde 4096 held 2026-08-03T01:00:00Z
+$after
+free 0 of 7" "" state reused
+later=2027-08-04T00:00:00Z
+expect 0 "dropped 1" "" purge reused --now $later
+of 2027-08-04 4097
+expect 1 "" "Q11 volume full" put reused "in/$name" --now $later
+cp -r reused torn
+of 2027-08-04 4096
+expect 0 "received $name 4096 $later" "" put reused "in/$name" --now $later
+first="part example_2026-08-03_diff_S1_R0.ryde 4096 dropped 2026-08-03T01:00:00Z"
+expect 0 "$registry
+$first
+$after
+part $name 4096 held $later
+free 0 of 7" "" state reused
+# A stop within that write leaves any bytes in the block that was given back.
+dd if=/dev/urandom of=torn/vault.vol bs=4096 seek=1 count=1 conv=notrunc 2> /dev/null
+expect 0 "$registry
+$first
+$after
+free 1 of 7" "" state torn
+expect 0 "received $name 4096 $later" "" put torn "in/$name" --now $later
+check "the same bytes are kept" cmp -s reused/vault.vol torn/vault.vol
+
+vault parts 8
+at_one parts 2026-08-03 12288
+at_one parts 2026-08-04 8192
+expect 0 "dropped 1" "" purge parts --now $later
+of 2027-08-04 16384
+expect 0 "received $name 16384 $later" "" put parts "in/$name" --now $later
+if command -v sqlite3 > /dev/null; then
+    check "two extents" test "$(sqlite3 parts/custody.db 'SELECT hex(extents) FROM part WHERE len = 16384')" = 00000001000000030000000600000001
+fi
+of 2027-08-04 8192 2
+expect 1 "" "Q11 volume full" put parts "in/$name" --now $later
+of 2027-08-04 4096 2
+expect 0 "received $name 4096 $later" "" put parts "in/$name" --now $later
+expect 0 "$registry
+part example_2026-08-03_diff_S1_R0.ryde 12288 dropped 2026-08-03T01:00:00Z
+part example_2026-08-04_diff_S1_R0.ryde 8192 held 2026-08-04T01:00:00Z
+part example_2027-08-04_diff_S1_R0.ryde 16384 held $later
+part $name 4096 held $later
+free 0 of 7" "" state parts
+
 echo "== the moment of the clock"
 today=$(date -u +%F)
 part=clock_${today}_full_S1_R0.ryde

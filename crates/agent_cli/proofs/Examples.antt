@@ -24,6 +24,7 @@ words_give_orders = record {
   of_put = inl (Some 1_785_664_800, (omega arith, refl), refl);
   of_verify = inl (codes "example", (refl, example_is_tld), inl (20_667, (omega arith, refl), inl (Full, refl, inl (codes "X", (refl, x_is_id), inl (None, refl, refl)))));
   of_sweep = inl (Some 1_785_664_800, (omega arith, refl), refl);
+  of_purge = inl (Some 1_785_664_800, (omega arith, refl), refl);
   of_report = inl (codes "example", (refl, example_is_tld), refl);
   of_state = refl;
 }

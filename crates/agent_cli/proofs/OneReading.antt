@@ -6,7 +6,7 @@ use Rattle.clap.specs.Walk.{is_empty}
 use Rattle.deposit_name.proofs.NameLemmas.{kind_text-injective}
 use Rattle.agent_cli.specs.Grammar.{escrow_app}
 use Rattle.agent_cli.specs.Forms.{ShowsMoment}
-use Rattle.agent_cli.specs.Order.{Asks, InitReading, IsOneReading, MetReading, NamedReading, PutReading, ReadsValue, Reading, RegisterReading, ReportReading, StateReading, SweepReading, VerifyReading, named, refused}
+use Rattle.agent_cli.specs.Order.{Asks, InitReading, IsOneReading, MetReading, NamedReading, PurgeReading, PutReading, ReadsValue, Reading, RegisterReading, ReportReading, StateReading, SweepReading, VerifyReading, named, refused}
 use Rattle.agent_cli.specs.declared.table.Subcommand.{Subcommand}
 use Rattle.agent_cli.specs.declared.table.Subcommand.TheVariants as subcommand
 use Rattle.agent_cli.specs.declared.order.Argument.{Argument}
@@ -49,6 +49,10 @@ sweep_one : (rows : List Row) → IsOne (SweepReading rows)
 sweep_one rows =
     value_one _ _ _ (if_given_one ShowsMoment (λ t x y h k. moment_text-injective x y h.0 k.0 (sym h.1 ∙ k.1)) _) (λ x r s h k. h ∙ sym k)
 
+purge_one : (rows : List Row) → IsOne (PurgeReading rows)
+purge_one rows =
+    value_one _ _ _ (if_given_one ShowsMoment (λ t x y h k. moment_text-injective x y h.0 k.0 (sym h.1 ∙ k.1)) _) (λ x r s h k. h ∙ sym k)
+
 report_one : (rows : List Row) → IsOne (ReportReading rows)
 report_one rows = value_one _ _ _ (λ x y h k. h.0 ∙ sym k.0) (λ tld r s h k. h ∙ sym k)
 
@@ -69,6 +73,7 @@ named_one (Some subcommand.Register) rows = register_one rows
 named_one (Some subcommand.Put) rows = put_one rows
 named_one (Some subcommand.Verify) rows = verify_one rows
 named_one (Some subcommand.Sweep) rows = sweep_one rows
+named_one (Some subcommand.Purge) rows = purge_one rows
 named_one (Some subcommand.Report) rows = report_one rows
 named_one (Some subcommand.State) rows = state_one rows
 

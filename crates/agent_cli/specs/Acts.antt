@@ -5,7 +5,7 @@ use Rattle.std.specs.Io.KnownBytes.{Appends}
 use Rattle.std.specs.List.{after_last}
 use Rattle.vault_volume.specs.declared.volume.Volume as volume
 use Rattle.sqlite.specs.Store.{Ghosts}
-use Rattle.custody_machine.specs.Machine.{Command, Register, Receive, Statement, Check}
+use Rattle.custody_machine.specs.Machine.{Command, Register, Receive, Statement, Check, Purge}
 use Rattle.custody_machine.specs.declared.answers.Refusal.TheVariants.{RegistryUnknown}
 use Rattle.custody_machine.specs.Texts.{refusal_text}
 use Rattle.custody_rules.specs.Due.{due_in}
@@ -61,7 +61,7 @@ module _ {V S : Type 0} {g : volume.Ghosts V} {database : Ghosts S} where
     pub swept : is_open old ≡ true → IsSwept (due_in (recorded (keeper_of old)) now) old now new status output errors ⊎ ((new ≡ old) × (status ≡ 3) × IsUnused output)
     pub while_closed : is_open old ≡ false → (new ≡ old) × (status ≡ 3) × IsUnused output
 
-  -- `register`, `put` and `verify` give it their command, and no other order changes it
+  -- `register`, `put`, `verify` and `purge` give it their command, `sweep` its checks, and no other order changes it
   abbrev pub Acts : Order → List ℕ → ℕ → Custody V S g database → Custody V S g database → ℕ → Writer → Writer → Type 0
   Acts (order.Init folder blocks number) bytes now old new status output errors =
       (new ≡ old) × IsStatusAfter 1 status × (status ≡ 1 → Takes errors (init_error_text AlreadyInitialised)) × IsUnused output
@@ -69,5 +69,6 @@ module _ {V S : Type 0} {g : volume.Ghosts V} {database : Ghosts S} where
   Acts (order.Put folder file at) bytes now old new status output errors = Applies old (Receive (name_in file.now) bytes) now new status output errors
   Acts (order.Verify folder statement at) bytes now old new status output errors = Applies old (Statement statement) now new status output errors
   Acts (order.Sweep folder at) bytes now old new status output errors = IsStatus status × Sweeps old now new status output errors
+  Acts (order.Purge folder at) bytes now old new status output errors = Applies old Purge now new status output errors
   Acts (order.Report folder tld) bytes now old new status output errors = (new ≡ old) × IsStatus status × Reports old tld status output errors
   Acts (order.State folder) bytes now old new status output errors = (new ≡ old) × IsStatus status × Shows old status output errors

@@ -6,7 +6,7 @@ use Rattle.clap.specs.declared.builder.ValueParser.TheVariants.{Signed}
 use Rattle.agent_cli.specs.declared.table.Form.{Form}
 use Rattle.agent_cli.specs.declared.table.Form.TheVariants.{Place, Option, Count}
 use Rattle.agent_cli.specs.declared.table.Subcommand.{Subcommand}
-use Rattle.agent_cli.specs.declared.table.Subcommand.TheVariants.{Init, Register, Put, Verify, Sweep, Report, State}
+use Rattle.agent_cli.specs.declared.table.Subcommand.TheVariants.{Init, Register, Put, Verify, Sweep, Purge, Report, State}
 use Rattle.agent_cli.specs.declared.table.Word.{Word}
 use Rattle.vault_volume.specs.declared.extent.TheConstants.{FEWEST_BLOCKS, MOST_BLOCKS}
 
@@ -56,13 +56,15 @@ words_of Verify = (
 )
 -- `sweep DIR [--now MOMENT]`
 words_of Sweep = (codes "sweep", folder_rule ∷ now_rule ∷ [])
+-- `purge DIR [--now MOMENT]`
+words_of Purge = (codes "purge", folder_rule ∷ now_rule ∷ [])
 -- `report DIR TLD`
 words_of Report = (codes "report", folder_rule ∷ tld_rule ∷ [])
 -- `state DIR`
 words_of State = (codes "state", folder_rule ∷ [])
 
 abbrev pub subcommands : List Subcommand
-subcommands = Init ∷ Register ∷ Put ∷ Verify ∷ Sweep ∷ Report ∷ State ∷ []
+subcommands = Init ∷ Register ∷ Put ∷ Verify ∷ Sweep ∷ Purge ∷ Report ∷ State ∷ []
 
 abbrev pub is_named : Text → Subcommand → Bool
 is_named name subcommand = bytes_eq (words_of subcommand).0 name

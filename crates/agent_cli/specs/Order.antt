@@ -26,6 +26,7 @@ pub data Wanted : Type 0 where
   put : Text → Text → Option ℕ → Wanted
   verify : Text → told.Statement → Option ℕ → Wanted
   sweep : Text → Option ℕ → Wanted
+  purge : Text → Option ℕ → Wanted
   report : Text → List ℕ → Wanted
   state : Text → Wanted
 
@@ -81,6 +82,11 @@ SweepReading rows =
     ReadsValue argument.Now (ShowsIfGiven ShowsMoment (first_of (codes "now") rows)) (λ now r.
     r ≡ wanted (sweep (text_of (codes "DIR") rows) now))
 
+abbrev pub PurgeReading : List Row → Reading → Type 0
+PurgeReading rows =
+    ReadsValue argument.Now (ShowsIfGiven ShowsMoment (first_of (codes "now") rows)) (λ now r.
+    r ≡ wanted (purge (text_of (codes "DIR") rows) now))
+
 abbrev pub ReportReading : List Row → Reading → Type 0
 ReportReading rows =
     ReadsValue argument.Tld (ShowsTld (text_of (codes "TLD") rows)) (λ tld r.
@@ -97,6 +103,7 @@ NamedReading (Some subcommand.Register) rows r = RegisterReading rows r
 NamedReading (Some subcommand.Put) rows r = PutReading rows r
 NamedReading (Some subcommand.Verify) rows r = VerifyReading rows r
 NamedReading (Some subcommand.Sweep) rows r = SweepReading rows r
+NamedReading (Some subcommand.Purge) rows r = PurgeReading rows r
 NamedReading (Some subcommand.Report) rows r = ReportReading rows r
 NamedReading (Some subcommand.State) rows r = StateReading rows r
 
@@ -125,6 +132,7 @@ meaning (order.Register folder tld first) = register folder.now tld first
 meaning (order.Put folder file now) = put folder.now file.now now
 meaning (order.Verify folder statement now) = verify folder.now statement now
 meaning (order.Sweep folder now) = sweep folder.now now
+meaning (order.Purge folder now) = purge folder.now now
 meaning (order.Report folder tld) = report folder.now tld
 meaning (order.State folder) = state folder.now
 

@@ -46,6 +46,10 @@ pub fn act<V: Volume, S: Alter, W: Write, E: Write, P: Progress>(
             tell_answer(&answer, out, err)
         }
         Order::Sweep { .. } => sweep(alloc, custody, now, out, err, progress),
+        Order::Purge { .. } => {
+            let answer = custody.apply(alloc, &Command::Purge, now);
+            tell_answer(&answer, out, err)
+        }
         Order::Report { tld, .. } => show_report(custody, tld, out, err),
         Order::State { .. } => show(custody, out, err),
     }

@@ -41,6 +41,11 @@ pub enum Order<'a> {
         /// The moment of the call, where the words name it.
         now: Option<Sec>,
     },
+    Purge {
+        folder: &'a str,
+        /// The moment of the call, where the words name it.
+        now: Option<Sec>,
+    },
     Report {
         folder: &'a str,
         tld: Tld,

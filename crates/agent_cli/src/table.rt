@@ -13,17 +13,19 @@ pub(crate) enum Subcommand {
     Put,
     Verify,
     Sweep,
+    Purge,
     Report,
     State,
 }
 
 /// All of them, in the order in which help shows them.
-pub(crate) const SUBCOMMANDS: [Subcommand; 7] = [
+pub(crate) const SUBCOMMANDS: [Subcommand; 8] = [
     Subcommand::Init,
     Subcommand::Register,
     Subcommand::Put,
     Subcommand::Verify,
     Subcommand::Sweep,
+    Subcommand::Purge,
     Subcommand::Report,
     Subcommand::State,
 ];
@@ -215,6 +217,24 @@ static SWEEP: Row<'static> = Row {
     ],
 };
 
+static PURGE: Row<'static> = Row {
+    name: "purge",
+    about: "Drops the bytes of each part that was kept for a year; its record stays",
+    after: "Prints: dropped N, the number of these parts\n\
+            Example: escrow purge vault --now 2027-08-04T00:00:00Z",
+    words: &[
+        DIR,
+        Word {
+            id: "now",
+            form: Form::Option {
+                value: "MOMENT",
+                required: false,
+            },
+            help: "Moment of the purge, as 2027-08-04T00:00:00Z; else the clock is read",
+        },
+    ],
+};
+
 static REPORT: Row<'static> = Row {
     name: "report",
     about: "Prints the notices of a registry",
@@ -246,6 +266,7 @@ impl Subcommand {
             Subcommand::Put => &PUT,
             Subcommand::Verify => &VERIFY,
             Subcommand::Sweep => &SWEEP,
+            Subcommand::Purge => &PURGE,
             Subcommand::Report => &REPORT,
             Subcommand::State => &STATE,
         }

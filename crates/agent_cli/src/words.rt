@@ -2,7 +2,7 @@
 ghost use Rattle.std.specs.Prelude.{◌≡◌, Some, map};
 ghost use Rattle.std.specs.String.{string_bytes};
 ghost use Rattle.clap.specs.Words.{found_of, rows_of};
-ghost use Rattle.agent_cli.specs.Order.{Answers, Asks, InitReading, IsFaultFrom, NamedReading, PutReading, RegisterReading, ReportReading, StateReading, SweepReading, VerifyReading};
+ghost use Rattle.agent_cli.specs.Order.{Answers, Asks, InitReading, IsFaultFrom, NamedReading, PurgeReading, PutReading, RegisterReading, ReportReading, StateReading, SweepReading, VerifyReading};
 
 use crate::grammar::escrow_command;
 use crate::table::Subcommand;
@@ -83,6 +83,16 @@ fn sweep_order<'a>(matches: &ArgMatches<'a>) -> Result<Order<'a>, WordFault>
     })
 }
 
+fn purge_order<'a>(matches: &ArgMatches<'a>) -> Result<Order<'a>, WordFault>
+    ensures { Answers (PurgeReading (rows_of (found_of matches.now))) result }
+{
+    let now = now_in(matches)?;
+    Ok(Order::Purge {
+        folder: text_in(matches, "DIR"),
+        now,
+    })
+}
+
 fn report_order<'a>(matches: &ArgMatches<'a>) -> Result<Order<'a>, WordFault>
     ensures { Answers (ReportReading (rows_of (found_of matches.now))) result }
 {
@@ -111,6 +121,7 @@ fn order_in<'a>(subcommand: Subcommand, matches: &ArgMatches<'a>) -> Result<Orde
         Subcommand::Put => put_order(matches),
         Subcommand::Verify => verify_order(matches),
         Subcommand::Sweep => sweep_order(matches),
+        Subcommand::Purge => purge_order(matches),
         Subcommand::Report => report_order(matches),
         Subcommand::State => state_order(matches),
     }

@@ -6,6 +6,7 @@ mod failing;
 mod gaps;
 mod missed;
 mod opening;
+mod purged;
 mod rows;
 mod script;
 mod sessions;

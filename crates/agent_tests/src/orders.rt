@@ -249,7 +249,7 @@ fn tells_arguments_and_want_of_memory(rt: HostRuntime) -> Result<(), Fail> {
 static OTHER_WORDS: [(&[&str], &str); 5] = [
     (
         &[],
-        "error: 'escrow' requires a subcommand but one was not provided\n  [subcommands: init, register, put, verify, sweep, report, state]\n\nUsage: escrow <COMMAND>\n\nFor more information, try '--help'.\n",
+        "error: 'escrow' requires a subcommand but one was not provided\n  [subcommands: init, register, put, verify, sweep, purge, report, state]\n\nUsage: escrow <COMMAND>\n\nFor more information, try '--help'.\n",
     ),
     (
         &["audit", "d"],

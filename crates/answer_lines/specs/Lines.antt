@@ -7,7 +7,7 @@ use Rattle.desk.specs.Lines.{line}
 use Rattle.desk.specs.declared.notices.Notice as told
 use Rattle.custody_records.specs.Written.{digits_of}
 use Rattle.answer_lines.specs.declared.lines.Line.{Line}
-use Rattle.answer_lines.specs.declared.lines.Line.TheVariants.{Ready, Registered, Received, Notice, Registry, Part, Dropped, Room}
+use Rattle.answer_lines.specs.declared.lines.Line.TheVariants.{Ready, Registered, Received, Notice, Purged, Registry, Part, Dropped, Room}
 
 abbrev pub room_text : ℕ → ℕ → List ℕ
 room_text free total = codes "free " ++ decimal free ++ codes " of " ++ decimal total
@@ -22,6 +22,7 @@ line_text (Registered tld first) = codes "registered " ++ tld ++ codes " " ++ da
 line_text (Received name length at) =
     codes "received " ++ name_text name ++ codes " " ++ decimal length ++ codes " " ++ moment_text at
 line_text (Notice notice) = notice_text notice
+line_text (Purged count) = codes "dropped " ++ decimal count
 line_text (Registry tld first) = codes "registry " ++ tld ++ codes " " ++ day_text first
 line_text (Part name length at) =
     codes "part " ++ name_text name ++ codes " " ++ decimal length ++ codes " held " ++ moment_text at

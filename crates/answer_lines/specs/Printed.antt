@@ -19,6 +19,7 @@ abbrev pub line_of : Record → Line
 line_of (record_of.Registry tld first_day) = line.Registered tld first_day
 line_of (record_of.Part name received len digest extents) = line.Received name len received
 line_of (record_of.Notice notice) = line.Notice notice
+line_of (record_of.Purge count) = line.Purged count
 
 -- what a writer held before a call, and what it holds after it
 pub record Writer : Type 0 where

@@ -30,6 +30,10 @@ pub enum Line {
     },
     /// A notice, as the report of its registry has it.
     Notice(Notice),
+    /// Of how many parts a purge dropped the bytes.
+    Purged {
+        count: usize,
+    },
     /// A registry of the records.
     Registry {
         tld: Tld,
@@ -78,6 +82,7 @@ impl Line {
                 at: *received,
             },
             Record::Notice(notice) => Line::Notice(*notice),
+            Record::Purge { count } => Line::Purged { count: *count },
         }
     }
 }
@@ -103,6 +108,7 @@ impl fmt::Display for Line {
                 let mut room = [0; LINE_MAX];
                 f.write_str(notice_text(notice, &mut room)?)
             }
+            Line::Purged { count } => write!(f, "dropped {count}"),
             Line::Registry { tld, first } => write!(f, "registry {tld} {first}"),
             Line::Part { name, length, at } => write!(f, "part {name} {length} held {at}"),
             Line::Dropped { name, length, at } => write!(f, "part {name} {length} dropped {at}"),

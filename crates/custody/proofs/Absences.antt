@@ -14,7 +14,7 @@ use Rattle.custody_machine.proofs.Noticed.{absence_accepted, absence_belongs, no
 use Rattle.custody.specs.declared.answers.Refused.TheVariants as refused
 use Rattle.custody.specs.declared.keeper.Keeper.{Keeper}
 use Rattle.custody.specs.Keeper.{recorded, image_of, failures_of, KeepsOrder, HasDone}
-use Rattle.custody.proofs.Done.{IsOneChange, no_memory_done, volume_stays}
+use Rattle.custody.proofs.Done.{GoesOn, no_memory_done, volume_stays}
 
 module _ {V S : Type 0} {g : volume.Ghosts V} (database : Ghosts S) (old : Keeper V S g) (order : KeepsOrder old) (tld : List ℕ) (day now : ℕ) (d : Decides (Makes (AddsAbsence tld day)) (recorded old) (Check tld day) now) where
   -- there is no memory for one more notice
@@ -22,8 +22,8 @@ module _ {V S : Type 0} {g : volume.Ghosts V} (database : Ghosts S) (old : Keepe
   unreserved_done r same = no_memory_done database old order (Check tld day) now r same _ _ (d.1 (image_of old)) (Makes (AddsAbsence tld day), d, inl refl)
 
   pub absence_change : (store : database_of.Held S) (r : held.Records)
-      → IsOneChange database old order (Check tld day) now (record { vault = old.vault; store = store; records = r }) (with_notice (recorded old) (next_key (recorded old).notices tld) (absence_notice day now))
-      (record { entry = OfNotice (next_key (recorded old).notices tld) (absence_notice day now); is_repeat = false })
+      → GoesOn database old order (Check tld day) now (record { vault = old.vault; store = store; records = r }) (with_notice (recorded old) (next_key (recorded old).notices tld) (absence_notice day now))
+      (record { entry = OfNotice (next_key (recorded old).notices tld) (absence_notice day now); is_repeat = false }) (IsFree old.vault)
   absence_change store r =
       volume_stays database old order (Check tld day) now store r (with_notice (recorded old) (next_key (recorded old).notices tld) (absence_notice day now))
       (record { entry = OfNotice (next_key (recorded old).notices tld) (absence_notice day now); is_repeat = false })

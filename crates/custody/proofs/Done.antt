@@ -8,7 +8,7 @@ use Rattle.vault_volume.specs.Vault.{volume_of, IsFree}
 use Rattle.vault_volume.specs.Disk.{LeavesOnly}
 use Rattle.vault_volume.specs.Extents.{SameFree}
 use Rattle.vault_volume.specs.Image.{DiffersOnlyIn}
-use Rattle.vault_volume.proofs.ImageLemmas.{same_in}
+use Rattle.vault_volume.proofs.ImageLemmas.{same_in, in_more}
 use Rattle.custody_records.specs.declared.records.Records as held
 use Rattle.custody_records.specs.Held.{records_of}
 use Rattle.custody_records.specs.Records.{Records}
@@ -129,70 +129,54 @@ module _ {V S : Type 0} {g : volume.Ghosts V} (database : Ghosts S) (old : Keepe
 
   -- ---- a command that is one commit
 
-  -- Its records and its reply are the machine's. What it wrote before lies in free blocks, and a stop after it leaves all but the blocks that are free then.
-  pub record IsOneChange (new : Keeper V S g) (changed : Records) (reply : machine.Reply) : Type 0 where
+  -- Its records and its reply are the machine's. What it wrote before lies in free blocks, and a stop after it leaves all but some of the blocks that are free then.
+  pub record IsOneChange (new : Keeper V S g) (changed : Records) (reply : machine.Reply) (unsettled : ℕ → Type 0) : Type 0 where
     pub uncalled : uses_volume command ≡ false → volume_of new.vault ≡ volume_of old.vault
     pub failures : failures_of new ≡ failures_of old
-    pub in_order : IsInOrder changed (g.size (volume_of new.vault)) (failures_of new) (IsFree new.vault)
     pub first : reply.is_repeat ≡ false
     pub written : g.tells → DiffersOnlyIn (IsFree old.vault) (image_of old) (image_of new)
     pub accepted : g.tells → KeepsImage old → step (state_in (recorded old) (image_of old)) command now ≡ Accept reply (state_in changed (image_of new))
     pub rests : g.tells → KeepsImage old → RestsOnBytes (recorded old) (image_of old) command now (Accepted reply)
-    pub change : g.tells → KeepsImage old → IsGood (recorded old) (image_of old) → IsChange (recorded old) (image_of old) (IsFree old.vault) changed (image_of new) (IsFree new.vault)
+    pub change : g.tells → KeepsImage old → IsGood (recorded old) (image_of old) → IsChange (recorded old) (image_of old) (IsFree old.vault) changed (image_of new) unsettled
     pub volume : g.tells → KeepsImage old → IsVolumeOf changed (image_of new)
     pub any_moment : g.tells → KeepsImage old → LeavesOnly g.moment g.left_at (volume_of old.vault) (volume_of new.vault) (DiffersOnlyIn (IsFree old.vault) (image_of old))
-    pub after : g.tells → KeepsImage old → (j : List ℕ) → left_by new j → DiffersOnlyIn (IsFree new.vault) (image_of new) j
+    pub after : g.tells → KeepsImage old → (j : List ℕ) → left_by new j → DiffersOnlyIn unsettled (image_of new) j
+
+  -- And what is known in memory goes on after it.
+  pub record GoesOn (new : Keeper V S g) (changed : Records) (reply : machine.Reply) (unsettled : ℕ → Type 0) : Type 0 where
+    pub change : IsOneChange new changed reply unsettled
+    pub in_order : IsInOrder changed (g.size (volume_of new.vault)) (failures_of new) (IsFree new.vault)
+    pub fewer : (b : ℕ) → unsettled b → IsFree new.vault b
 
   -- one that does not call the volume
   pub volume_stays : (store : database_of.Held S) (r : held.Records) (changed : Records) (reply : machine.Reply) → IsInOrder changed (g.size (volume_of old.vault)) (failures_of old) (IsFree old.vault) → reply.is_repeat ≡ false
       → reads (state_in (recorded old) (image_of old)) command now ≡ [] → step (state_in (recorded old) (image_of old)) command now ≡ Accept reply (state_in changed (image_of old))
       → (IsGood (recorded old) (image_of old) → IsChange (recorded old) (image_of old) (IsFree old.vault) changed (image_of old) (IsFree old.vault)) → (IsVolumeOf (recorded old) (image_of old) → IsVolumeOf changed (image_of old))
-      → IsOneChange (record { vault = old.vault; store = store; records = r }) changed reply
+      → GoesOn (record { vault = old.vault; store = store; records = r }) changed reply (IsFree old.vault)
   volume_stays store r changed reply in_order first none accepted change volume = record {
-    uncalled = λ _. refl;
-    failures = refl;
+    change = record {
+      uncalled = λ _. refl;
+      failures = refl;
+      first = first;
+      written = λ _. same_in (IsFree old.vault) (image_of old);
+      accepted = λ _ _. accepted;
+      rests = λ _ _ key within. absurd (nothing_in _ key none within);
+      change = λ _ _. change;
+      volume = λ _ kept. volume kept.volume;
+      any_moment = λ _ kept. leaves_more g.moment g.left_at (volume_of old.vault) (volume_of old.vault) _ _ kept.elsewhere (stays_still g.moment g.left_at (volume_of old.vault));
+      after = λ _ kept. kept.elsewhere;
+    };
     in_order = in_order;
-    first = first;
-    written = λ _. same_in (IsFree old.vault) (image_of old);
-    accepted = λ _ _. accepted;
-    rests = λ _ _ key within. absurd (nothing_in _ key none within);
-    change = λ _ _. change;
-    volume = λ _ kept. volume kept.volume;
-    any_moment = λ _ kept. leaves_more g.moment g.left_at (volume_of old.vault) (volume_of old.vault) _ _ kept.elsewhere (stays_still g.moment g.left_at (volume_of old.vault));
-    after = λ _ kept. kept.elsewhere;
+    fewer = λ b f. f;
   }
 
-  module _ (new : Keeper V S g) (changed : Records) (reply : machine.Reply) (is : IsOneChange new changed reply) {A E : Type 0} (result : Result A E) (after : Rows)
+  module _ (new : Keeper V S g) (changed : Records) (reply : machine.Reply) {unsettled : ℕ → Type 0} (is : IsOneChange new changed reply unsettled) {A E : Type 0} (result : Result A E) (after : Rows)
       (commits : Commits (stored database old) (stored database new) after result) (means : form_of (stored database old).rows ≡ InForm (recorded old) → form_of after ≡ InForm changed) where
     during : g.tells → KeepsImage old → (j : List ℕ) → left_since old new j → DiffersOnlyIn (IsFree old.vault) (image_of old) j
     during tells volume = each_of g.moment g.left_at (volume_of old.vault) (volume_of new.vault) _ (is.any_moment tells volume)
 
     ended : (stored database new).IsHonest → KeepsRows database old → (stored database new).in_transaction ≡ false
     ended honest store = (commits.effect honest store.ready).ended
-
-    -- it is committed, and answered
-    pub commits_done : is_err result ≡ false → recorded new ≡ changed → (answer : Reply) → answer.is_repeat ≡ false → answer_of command (Ok answer) ≡ Accepted reply → IsRuled (recorded old) command now (Ok answer) (recorded new)
-        → IsShown (recorded new) answer.record → (g.tells → HoldsBytes (image_of new) answer.record (bytes_of command)) → HasDone database old command now (Ok answer) new
-    commits_done good same answer first told ruled shown holds = record {
-      safe = safe_done old new command answer first is.uncalled is.failures (subst (λ r. IsInOrder r (g.size (volume_of new.vault)) (failures_of new) (IsFree new.vault)) (sym same) is.in_order);
-      ruled = ruled;
-      shown = shown;
-      holds = holds;
-      written = is.written;
-      unwritten = λ e. repeated answer.is_repeat first e;
-      any_moment = is.any_moment;
-      mode = ended;
-      trust = commits.trust;
-      serves = λ tells honest volume store. let done = on_ok _ result _ refl good (commits.effect honest store.ready).done in
-          does_change database old new order volume store command now changed (is.change tells volume (good_before database old new order volume store command now)) answer reply told (is.accepted tells volume) (is.rests tells volume) same
-          (during tells volume) (form_then _ _ (recorded old) changed _ store (means store.in_form) done.0 done.1) (is.after tells volume);
-      image = λ _ tells volume. record { volume = subst (λ r. IsVolumeOf r (image_of new)) (sym same) (is.volume tells volume); elsewhere = is.after tells volume };
-      rows = λ _ honest store. let done = on_ok _ result _ refl good (commits.effect honest store.ready).done in rows_then _ _ (recorded old) changed _ store (means store.in_form) done.0 done.1 _ same;
-    }
-      where
-        repeated : {P : Type 0} (b : Bool) → b ≡ false → not b ≡ false → P
-        repeated true p q = cc
-        repeated false p q = cc
 
     -- the database failed: it is committed or not
     pub commits_in_doubt : IsRuled (recorded old) command now (Err (refused.Fault StoreFailed)) (recorded new) → HasDone database old command now (Err (refused.Fault StoreFailed)) new
@@ -207,8 +191,37 @@ module _ {V S : Type 0} {g : volume.Ghosts V} (database : Ghosts S) (old : Keepe
       mode = ended;
       trust = commits.trust;
       serves = λ tells honest volume store.
-          is_in_doubt database old new order volume store command now changed (is.change tells volume (good_before database old new order volume store command now)) reply (is.accepted tells volume) is.first
+          is_in_doubt database old new order volume store command now changed unsettled (is.change tells volume (good_before database old new order volume store command now)) reply (is.accepted tells volume) is.first
           (during tells volume) (either_form _ _ (recorded old) changed _ store (means store.in_form) result (commits.effect honest store.ready)) (is.after tells volume);
       image = λ e. cc;
       rows = λ e. cc;
     }
+
+  -- it is committed, and answered
+  module _ (new : Keeper V S g) (changed : Records) (reply : machine.Reply) {unsettled : ℕ → Type 0} (goes : GoesOn new changed reply unsettled) {A E : Type 0} (result : Result A E) (after : Rows)
+      (commits : Commits (stored database old) (stored database new) after result) (means : form_of (stored database old).rows ≡ InForm (recorded old) → form_of after ≡ InForm changed) where
+    abbrev is : IsOneChange new changed reply unsettled
+    is = goes.change
+
+    pub commits_done : is_err result ≡ false → recorded new ≡ changed → (answer : Reply) → answer.is_repeat ≡ false → answer_of command (Ok answer) ≡ Accepted reply → IsRuled (recorded old) command now (Ok answer) (recorded new)
+        → IsShown (recorded new) answer.record → (g.tells → HoldsBytes (image_of new) answer.record (bytes_of command)) → HasDone database old command now (Ok answer) new
+    commits_done good same answer first told ruled shown holds = record {
+      safe = safe_done old new command answer first is.uncalled is.failures (subst (λ r. IsInOrder r (g.size (volume_of new.vault)) (failures_of new) (IsFree new.vault)) (sym same) goes.in_order);
+      ruled = ruled;
+      shown = shown;
+      holds = holds;
+      written = is.written;
+      unwritten = λ e. repeated answer.is_repeat first e;
+      any_moment = is.any_moment;
+      mode = ended new changed reply is result after commits means;
+      trust = commits.trust;
+      serves = λ tells honest volume store. let done = on_ok _ result _ refl good (commits.effect honest store.ready).done in
+          does_change database old new order volume store command now changed unsettled (is.change tells volume (good_before database old new order volume store command now)) answer reply told (is.accepted tells volume) (is.rests tells volume) same
+          (during new changed reply is result after commits means tells volume) (form_then _ _ (recorded old) changed _ store (means store.in_form) done.0 done.1) (is.after tells volume);
+      image = λ _ tells volume. record { volume = subst (λ r. IsVolumeOf r (image_of new)) (sym same) (is.volume tells volume); elsewhere = λ c w. in_more unsettled (IsFree new.vault) (image_of new) c goes.fewer (is.after tells volume c w) };
+      rows = λ _ honest store. let done = on_ok _ result _ refl good (commits.effect honest store.ready).done in rows_then _ _ (recorded old) changed _ store (means store.in_form) done.0 done.1 _ same;
+    }
+      where
+        repeated : {P : Type 0} (b : Bool) → b ≡ false → not b ≡ false → P
+        repeated true p q = cc
+        repeated false p q = cc

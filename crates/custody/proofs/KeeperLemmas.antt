@@ -113,24 +113,24 @@ module _ {V S : Type 0} {g : volume.Ghosts V} (database : Ghosts S) (old new : K
       changes_nothing (recorded old) (stored database old).rows (image_of old) _ _ (IsFree old.vault) (stored database old).IsReady (stored database old).may_leave (left_by old) order volume store
       command now (answer_of command answer) (stays_open answer) (recorded new) (image_of new) (left_since old new) (stored database new).may_leave (left_by new) allowed rests opened (λ stays. (same, image stays)) during rows_same images_same
 
-  module _ (changed : Records) (change : IsChange (recorded old) (image_of old) (IsFree old.vault) changed (image_of new) (IsFree new.vault)) where
+  module _ (changed : Records) (unsettled : ℕ → Type 0) (change : IsChange (recorded old) (image_of old) (IsFree old.vault) changed (image_of new) unsettled) where
     -- it is done, and answered
     pub does_change : (reply : Reply) (shown_reply : machine.Reply) → answer_of command (Ok reply) ≡ Accepted shown_reply → step (state_in (recorded old) (image_of old)) command now ≡ Accept shown_reply (state_in changed (image_of new))
         → RestsOnBytes (recorded old) (image_of old) command now (Accepted shown_reply) → recorded new ≡ changed
-        → ((j : List ℕ) → left_since old new j → DiffersOnlyIn (IsFree old.vault) (image_of old) j) → ((r : Rows) → (stored database new).may_leave r → form_of r ≡ InForm changed) → ((j : List ℕ) → left_by new j → DiffersOnlyIn (IsFree new.vault) (image_of new) j)
+        → ((j : List ℕ) → left_since old new j → DiffersOnlyIn (IsFree old.vault) (image_of old) j) → ((r : Rows) → (stored database new).may_leave r → form_of r ≡ InForm changed) → ((j : List ℕ) → left_by new j → DiffersOnlyIn unsettled (image_of new) j)
         → HasServed database old command now (Ok reply) new
     does_change reply shown_reply is ruled rests same during only images_same =
         subst (λ a. Serves (contents_of old) command now a true (contents_of new) (left_by_call database old new)) (sym is)
         (accepts (recorded old) (stored database old).rows (image_of old) _ _ (IsFree old.vault) (stored database old).IsReady (stored database old).may_leave (left_by old) order volume store
-        changed (image_of new) (IsFree new.vault) change command now shown_reply ruled (recorded new) (image_of new) (left_since old new) (stored database new).may_leave (left_by new) rests (same, refl) during only images_same)
+        changed (image_of new) unsettled change command now shown_reply ruled (recorded new) (image_of new) (left_since old new) (stored database new).may_leave (left_by new) rests (same, refl) during only images_same)
 
     -- the commit failed: it is done or not
     pub is_in_doubt : (shown_reply : machine.Reply) → step (state_in (recorded old) (image_of old)) command now ≡ Accept shown_reply (state_in changed (image_of new)) → shown_reply.is_repeat ≡ false
-        → ((j : List ℕ) → left_since old new j → DiffersOnlyIn (IsFree old.vault) (image_of old) j) → ((r : Rows) → (stored database new).may_leave r → (form_of r ≡ InForm (recorded old)) ⊎ (form_of r ≡ InForm changed)) → ((j : List ℕ) → left_by new j → DiffersOnlyIn (IsFree new.vault) (image_of new) j)
+        → ((j : List ℕ) → left_since old new j → DiffersOnlyIn (IsFree old.vault) (image_of old) j) → ((r : Rows) → (stored database new).may_leave r → (form_of r ≡ InForm (recorded old)) ⊎ (form_of r ≡ InForm changed)) → ((j : List ℕ) → left_by new j → DiffersOnlyIn unsettled (image_of new) j)
         → HasServed database old command now (Err (refused.Fault StoreFailed)) new
     is_in_doubt shown_reply ruled first during either images_same =
         in_doubt (recorded old) (stored database old).rows (image_of old) _ _ (IsFree old.vault) (stored database old).IsReady (stored database old).may_leave (left_by old) order volume store
-        changed (image_of new) (IsFree new.vault) change command now shown_reply ruled (recorded new) (image_of new) (left_since old new) (stored database new).may_leave (left_by new) first during either images_same
+        changed (image_of new) unsettled change command now shown_reply ruled (recorded new) (image_of new) (left_since old new) (stored database new).may_leave (left_by new) first during either images_same
 
 -- ---- keeper whose blocks and records are as they were
 

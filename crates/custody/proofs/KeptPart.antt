@@ -29,7 +29,7 @@ use Rattle.custody.specs.Answers.{answer_of}
 use Rattle.custody.specs.Ruled.{IsRuled, received_record}
 use Rattle.custody.specs.Shown.{ShowsPart, IsShown, HoldsBytes}
 use Rattle.custody.specs.Keeper.{recorded, image_of, failures_of, left_by, KeepsOrder, KeepsImage}
-use Rattle.custody.proofs.Done.{IsOneChange}
+use Rattle.custody.proofs.Done.{GoesOn}
 use Rattle.custody.proofs.PartLemmas.{part_means}
 use Rattle.custody.proofs.ShownLemmas.{shown_of, holds_of, entry_of}
 
@@ -61,20 +61,23 @@ module _ {V S : Type 0} {g : volume.Ghosts V} (old new : Keeper V S g) (text byt
   -- it is one change
   pub kept_change : (database : Ghosts S) → g.size (volume_of new.vault) ≡ g.size (volume_of old.vault) → failures_of new ≡ failures_of old → (g.tells → IsSettled (image_of old) (image_of new) (IsFree old.vault) (left_by new) bytes staged)
       → (g.tells → KeepsImage old → LeavesOnly g.moment g.left_at (volume_of old.vault) (volume_of new.vault) (DiffersOnlyIn (IsFree old.vault) (image_of old)))
-      → IsOneChange database old order (Receive text bytes) now new records_then (record { entry = OfPart (key_of n) (received_part n bytes now); is_repeat = false })
+      → GoesOn database old order (Receive text bytes) now new records_then (record { entry = OfPart (key_of n) (received_part n bytes now); is_repeat = false }) (IsFree new.vault)
   kept_change database size failures settled leaves = record {
-    uncalled = λ e. cc;
-    failures = failures;
+    change = record {
+      uncalled = λ e. cc;
+      failures = failures;
+      first = refl;
+      written = λ tells. (settled tells).elsewhere;
+      accepted = λ tells volume. accepted volume (settled tells);
+      rests = λ _ _ key within. absurd (nothing_in _ key (reads_nothing (recorded old) (image_of old) order.whole text bytes now n ruled.0.0 ruled.0.1 (ruled.1 (image_of old))) within);
+      change = λ tells volume _. change volume (settled tells);
+      volume = λ tells volume. (change volume (settled tells)).good.volume;
+      any_moment = leaves;
+      after = λ tells volume. only volume (settled tells);
+    };
     in_order = subst (λ s. IsInOrder records_then s (failures_of new) (IsFree new.vault)) (sym size)
         (part_in_order (recorded old) [] order.whole text bytes now n ruled.0.0 ruled.0.1 (ruled.1 []) (g.size (volume_of old.vault)) (failures_of old) (IsFree old.vault) order (IsFree new.vault) staged placed (failures_of new) (subst (λ k. k < 2 ^ 64 - 1) (sym failures) order.count));
-    first = refl;
-    written = λ tells. (settled tells).elsewhere;
-    accepted = λ tells volume. accepted volume (settled tells);
-    rests = λ _ _ key within. absurd (nothing_in _ key (reads_nothing (recorded old) (image_of old) order.whole text bytes now n ruled.0.0 ruled.0.1 (ruled.1 (image_of old))) within);
-    change = λ tells volume _. change volume (settled tells);
-    volume = λ tells volume. (change volume (settled tells)).good.volume;
-    any_moment = leaves;
-    after = λ tells volume. only volume (settled tells);
+    fewer = λ b f. f;
   }
 
   -- ---- it is answered as it is recorded

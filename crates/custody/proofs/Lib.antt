@@ -18,3 +18,4 @@ pub mod Unstaged
 pub mod NewNotices
 pub mod Verdicts
 pub mod Absences
+pub mod Purges

@@ -18,6 +18,7 @@ use Rattle.custody_records.specs.Form.{natural, is_number, is_within, is_deposit
 use Rattle.custody_records.proofs.FormLemmas.{in_form_has, in_form_from}
 use Rattle.custody_store.specs.Dropping as row
 use Rattle.custody_machine.specs.MapValues.{map_values}
+use Rattle.custody_records.specs.Purge as part
 use Rattle.custody_machine.specs.Purge as kept
 use Rattle.custody_machine.proofs.MapValues.{get-map_values, map_values-insert}
 
@@ -36,7 +37,7 @@ abbrev stands_for : PartRow → Kind → Option (List Extent) → PartKey × Par
 stands_for r kind extents = (part_key r, record { kind = kind; received = natural r.received; len = natural r.len; digest = r.sha; extents = extents })
 
 abbrev after : ℕ → PartKey × PartRecord → PartKey × PartRecord
-after today entry = (entry.0, kept.dropped_if_due today entry.1)
+after today entry = (entry.0, part.dropped_if_due today entry.1)
 
 -- a row in form, and the record that it stands for
 record IsRead (r : PartRow) (entry : PartKey × PartRecord) : Type 0 where
@@ -80,20 +81,20 @@ day_kept r form =
     (and_parts (is_number (year_after (day_of (natural r.received))) r.keep_day) _ past_moment).0
 
 -- a row is due exactly where its record is
-due_both : (today : ℕ) (r : PartRow) (entry : PartKey × PartRecord) → IsRead r entry → row.is_due today r ≡ kept.is_due today entry.1
+due_both : (today : ℕ) (r : PartRow) (entry : PartKey × PartRecord) → IsRead r entry → row.is_due today r ≡ part.is_due today entry.1
 due_both today r entry h =
     ap (λ b. b && int_lt r.keep_day (pos today)) (sym (held_both r.extents h.extents h.extents_are))
     ∙ ap (λ b. is_some h.extents && b) (kept_to (year_after (day_of (natural r.received))) r.keep_day today (day_kept r h.form))
-    ∙ sym (ap (λ (e : PartKey × PartRecord). kept.is_due today e.1) h.is)
+    ∙ sym (ap (λ (e : PartKey × PartRecord). part.is_due today e.1) h.is)
 
 -- the row without its bytes stands for the record without its extents
 pub row_means : (today : ℕ) (r : PartRow) (entry : PartKey × PartRecord) → part_in r ≡ Some entry → part_in (row.dropped_if_due today r) ≡ Some (after today entry)
-row_means today r entry e = by (kept.is_due today entry.1) refl
+row_means today r entry e = by (part.is_due today entry.1) refl
   where
     h : IsRead r entry
     h = read_is r entry e
 
-    by : (d : Bool) → kept.is_due today entry.1 ≡ d → part_in (row.dropped_if_due today r) ≡ Some (after today entry)
+    by : (d : Bool) → part.is_due today entry.1 ≡ d → part_in (row.dropped_if_due today r) ≡ Some (after today entry)
     by true is =
         let due = due_both today r entry h ∙ is in
         ap (λ d. part_in (cond d (row.dropped_row r) r)) due
@@ -107,43 +108,43 @@ row_means today r entry e = by (kept.is_due today entry.1) refl
 -- ---- all rows
 
 gather_means : (today : ℕ) (rows : List PartRow) (so_far all : FinMap part_cmp PartRecord) → gather part_in so_far rows ≡ Some all
-    → gather part_in (map_values (kept.dropped_if_due today) so_far) (map (row.dropped_if_due today) rows) ≡ Some (map_values (kept.dropped_if_due today) all)
-gather_means today [] so_far all e = ap (λ m. Some (map_values (kept.dropped_if_due today) m)) (some_same so_far all e)
+    → gather part_in (map_values (part.dropped_if_due today) so_far) (map (row.dropped_if_due today) rows) ≡ Some (map_values (part.dropped_if_due today) all)
+gather_means today [] so_far all e = ap (λ m. Some (map_values (part.dropped_if_due today) m)) (some_same so_far all e)
 gather_means today (r ∷ rows) so_far all e = by (part_in r) refl e (λ m h. gather_means today rows m all h)
   where
     by : (o : Option (PartKey × PartRecord)) → part_in r ≡ o → option_and_then (λ (entry : PartKey × PartRecord). cond (is_some (get so_far entry.0)) None (gather part_in (insert so_far entry.0 entry.1) rows)) o ≡ Some all
-        → ((m : FinMap part_cmp PartRecord) → gather part_in m rows ≡ Some all → gather part_in (map_values (kept.dropped_if_due today) m) (map (row.dropped_if_due today) rows) ≡ Some (map_values (kept.dropped_if_due today) all))
-        → gather part_in (map_values (kept.dropped_if_due today) so_far) (map (row.dropped_if_due today) (r ∷ rows)) ≡ Some (map_values (kept.dropped_if_due today) all)
+        → ((m : FinMap part_cmp PartRecord) → gather part_in m rows ≡ Some all → gather part_in (map_values (part.dropped_if_due today) m) (map (row.dropped_if_due today) rows) ≡ Some (map_values (part.dropped_if_due today) all))
+        → gather part_in (map_values (part.dropped_if_due today) so_far) (map (row.dropped_if_due today) (r ∷ rows)) ≡ Some (map_values (part.dropped_if_due today) all)
     by None is e rest = cc
     by (Some entry) is e rest = at (is_some (get so_far entry.0)) refl e rest
       where
-        there : is_some (get (map_values (kept.dropped_if_due today) so_far) entry.0) ≡ is_some (get so_far entry.0)
-        there = ap is_some (get-map_values part_cmp (kept.dropped_if_due today) so_far entry.0) ∙ same (get so_far entry.0)
+        there : is_some (get (map_values (part.dropped_if_due today) so_far) entry.0) ≡ is_some (get so_far entry.0)
+        there = ap is_some (get-map_values part_cmp (part.dropped_if_due today) so_far entry.0) ∙ same (get so_far entry.0)
           where
-            same : (o : Option PartRecord) → is_some (option_map (kept.dropped_if_due today) o) ≡ is_some o
+            same : (o : Option PartRecord) → is_some (option_map (part.dropped_if_due today) o) ≡ is_some o
             same None = refl
             same (Some p) = refl
 
         at : (b : Bool) → is_some (get so_far entry.0) ≡ b → cond b None (gather part_in (insert so_far entry.0 entry.1) rows) ≡ Some all
-            → ((m : FinMap part_cmp PartRecord) → gather part_in m rows ≡ Some all → gather part_in (map_values (kept.dropped_if_due today) m) (map (row.dropped_if_due today) rows) ≡ Some (map_values (kept.dropped_if_due today) all))
-            → gather part_in (map_values (kept.dropped_if_due today) so_far) (map (row.dropped_if_due today) (r ∷ rows)) ≡ Some (map_values (kept.dropped_if_due today) all)
+            → ((m : FinMap part_cmp PartRecord) → gather part_in m rows ≡ Some all → gather part_in (map_values (part.dropped_if_due today) m) (map (row.dropped_if_due today) rows) ≡ Some (map_values (part.dropped_if_due today) all))
+            → gather part_in (map_values (part.dropped_if_due today) so_far) (map (row.dropped_if_due today) (r ∷ rows)) ≡ Some (map_values (part.dropped_if_due today) all)
         at true taken e rest = cc
         at false new e rest =
-            ap (option_and_then (λ (x : PartKey × PartRecord). cond (is_some (get (map_values (kept.dropped_if_due today) so_far) x.0)) None
-            (gather part_in (insert (map_values (kept.dropped_if_due today) so_far) x.0 x.1) (map (row.dropped_if_due today) rows)))) (row_means today r entry is)
-            ∙ ap (λ b. cond b None (gather part_in (insert (map_values (kept.dropped_if_due today) so_far) entry.0 (kept.dropped_if_due today entry.1)) (map (row.dropped_if_due today) rows))) (there ∙ new)
-            ∙ ap (λ m. gather part_in m (map (row.dropped_if_due today) rows)) (sym (map_values-insert part_cmp (kept.dropped_if_due today) part_total part_exact so_far entry.0 entry.1))
+            ap (option_and_then (λ (x : PartKey × PartRecord). cond (is_some (get (map_values (part.dropped_if_due today) so_far) x.0)) None
+            (gather part_in (insert (map_values (part.dropped_if_due today) so_far) x.0 x.1) (map (row.dropped_if_due today) rows)))) (row_means today r entry is)
+            ∙ ap (λ b. cond b None (gather part_in (insert (map_values (part.dropped_if_due today) so_far) entry.0 (part.dropped_if_due today entry.1)) (map (row.dropped_if_due today) rows))) (there ∙ new)
+            ∙ ap (λ m. gather part_in m (map (row.dropped_if_due today) rows)) (sym (map_values-insert part_cmp (part.dropped_if_due today) part_total part_exact so_far entry.0 entry.1))
             ∙ rest (insert so_far entry.0 entry.1) e
 
 abbrev none_yet : FinMap part_cmp PartRecord
 none_yet = empty
 
-nothing_yet : (today : ℕ) → map_values (kept.dropped_if_due today) none_yet ≡ none_yet
+nothing_yet : (today : ℕ) → map_values (part.dropped_if_due today) none_yet ≡ none_yet
 nothing_yet today = same_map part_total part_exact _ _ (λ key.
-    get-map_values part_cmp (kept.dropped_if_due today) none_yet key ∙ ap (option_map (kept.dropped_if_due today)) (get-empty part_cmp key) ∙ sym (get-empty part_cmp key))
+    get-map_values part_cmp (part.dropped_if_due today) none_yet key ∙ ap (option_map (part.dropped_if_due today)) (get-empty part_cmp key) ∙ sym (get-empty part_cmp key))
 
 gathered_means : (today : ℕ) (o : Option (List PartRow)) (all : FinMap part_cmp PartRecord) → gathered part_in o ≡ Some all
-    → gathered part_in (option_map (map (row.dropped_if_due today)) o) ≡ Some (map_values (kept.dropped_if_due today) all)
+    → gathered part_in (option_map (map (row.dropped_if_due today)) o) ≡ Some (map_values (part.dropped_if_due today) all)
 gathered_means today None all e = cc
 gathered_means today (Some rows) all e =
     ap (λ m. gather part_in m (map (row.dropped_if_due today) rows)) (sym (nothing_yet today)) ∙ gather_means today rows none_yet all e

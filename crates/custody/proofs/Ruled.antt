@@ -4,7 +4,7 @@ use Rattle.sqlite.specs.Store.{Ghosts}
 use Rattle.vault_volume.specs.declared.volume.Volume as volume
 use Rattle.deposit_name.specs.Name.{Name}
 use Rattle.custody_records.specs.Records.{Records}
-use Rattle.custody_machine.specs.Machine.{Command, Register, Receive, Statement, Check}
+use Rattle.custody_machine.specs.Machine.{Command, Register, Receive, Statement, Check, Purge}
 use Rattle.custody_machine.specs.declared.answers.Refusal.{Refusal}
 use Rattle.custody_machine.specs.Stored.{state_in}
 use Rattle.custody_machine.specs.Rulings.{AddsPart, Refuses, Repeats, Makes, Decides, bytes_of}
@@ -52,6 +52,7 @@ pub part_is_sent : (records : Records) (command : Command) (name : Name) (bytes 
 part_is_sent records (Register tld first_day) name bytes now brought decides = absurd decides.0.0
 part_is_sent records (Statement stated) name bytes now brought decides = absurd decides.0.0
 part_is_sent records (Check tld day) name bytes now brought decides = absurd decides.0.0
+part_is_sent records Purge name bytes now brought decides = absurd decides.0.0
 part_is_sent records (Receive text sent) name bytes now brought decides = (text, subst (λ b. Decides (Makes (AddsPart name)) records (Receive text b) now) (sym brought) decides)
 
 -- so that it is done where it is kept
@@ -61,5 +62,6 @@ pub part_is_made : {V S : Type 0} {g : volume.Ghosts V} (database : Ghosts S) (o
 part_is_made database old new (Register tld first_day) name bytes now answer brought decides kept = absurd decides.0.0
 part_is_made database old new (Statement stated) name bytes now answer brought decides kept = absurd decides.0.0
 part_is_made database old new (Check tld day) name bytes now answer brought decides kept = absurd decides.0.0
+part_is_made database old new Purge name bytes now answer brought decides kept = absurd decides.0.0
 part_is_made database old new (Receive text sent) name bytes now answer brought decides kept =
     subst (λ b. HasDone database old (Receive text b) now answer new) brought (kept text (subst (λ b. Decides (Makes (AddsPart name)) (recorded old) (Receive text b) now) (sym brought) decides))

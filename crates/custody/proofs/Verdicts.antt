@@ -31,7 +31,7 @@ use Rattle.custody.specs.Keeper.{recorded, image_of, failures_of, left_by, Keeps
 use Rattle.custody.specs.Reading.{IsOnlyRead}
 use Rattle.custody.specs.Verified.{HasFirstPart, IsVerified, CountsVerified}
 use Rattle.custody.proofs.KeeperLemmas.{leaves_more, order_same, safe_undone}
-use Rattle.custody.proofs.Done.{IsOneChange, reads_done, no_memory_done}
+use Rattle.custody.proofs.Done.{GoesOn, reads_done, no_memory_done}
 
 module _ {V S : Type 0} {g : volume.Ghosts V} (database : Ghosts S) (old : Keeper V S g) (order : KeepsOrder old) (stated : told.Statement) (now : ℕ) (d : Decides (Makes (AddsVerdict stated)) (recorded old) (Statement stated) now) where
   abbrev keys : List PartKey
@@ -127,17 +127,20 @@ module _ {V S : Type 0} {g : volume.Ghosts V} (database : Ghosts S) (old : Keepe
           (subst (λ i. DiffersOnlyIn (IsFree old.vault) i j) (sym (read.image tells)) (kept.elsewhere j (now_of g.moment g.left_at (volume_of old.vault) (volume_of new.vault) _ (read.any_moment tells) j w)))
 
       -- it is one change
-      pub verdict_change : IsOneChange database old order (Statement stated) now new records_then (record { entry = OfNotice key_then notice_then; is_repeat = false })
+      pub verdict_change : GoesOn database old order (Statement stated) now new records_then (record { entry = OfNotice key_then notice_then; is_repeat = false }) (IsFree new.vault)
       verdict_change = record {
-        uncalled = λ e. cc;
-        failures = failures;
+        change = record {
+          uncalled = λ e. cc;
+          failures = failures;
+          first = refl;
+          written = λ tells. subst (DiffersOnlyIn (IsFree old.vault) (image_of old)) (sym (read.image tells)) (same_in (IsFree old.vault) (image_of old));
+          accepted = λ tells _. accepted tells;
+          rests = λ tells _ key within. (verified tells).1 key (subst (λ l. Contains l key) reads_keys within);
+          change = λ tells _. change tells;
+          volume = λ tells kept. subst (IsVolumeOf records_then) (sym (read.image tells)) (record { head = kept.volume.head; size = kept.volume.size });
+          any_moment = λ tells kept. leaves_more g.moment g.left_at (volume_of old.vault) (volume_of new.vault) _ _ kept.elsewhere (read.any_moment tells);
+          after = after;
+        };
         in_order = notice_in_order (recorded old) order.whole stated.tld notice_then (verdict_belongs (recorded old) [] order.whole stated now d found) [] (g.size (volume_of new.vault)) (failures_of new) (failures_of new) (IsFree new.vault) order_then order_then.count;
-        first = refl;
-        written = λ tells. subst (DiffersOnlyIn (IsFree old.vault) (image_of old)) (sym (read.image tells)) (same_in (IsFree old.vault) (image_of old));
-        accepted = λ tells _. accepted tells;
-        rests = λ tells _ key within. (verified tells).1 key (subst (λ l. Contains l key) reads_keys within);
-        change = λ tells _. change tells;
-        volume = λ tells kept. subst (IsVolumeOf records_then) (sym (read.image tells)) (record { head = kept.volume.head; size = kept.volume.size });
-        any_moment = λ tells kept. leaves_more g.moment g.left_at (volume_of old.vault) (volume_of new.vault) _ _ kept.elsewhere (read.any_moment tells);
-        after = after;
+        fewer = λ b f. f;
       }

@@ -8,7 +8,7 @@ use Rattle.vault_volume.specs.declared.errors.ReadError.{ReadError}
 use Rattle.vault_volume.specs.declared.errors.ReadError.TheVariants as read
 use Rattle.custody_machine.specs.State.{Held}
 use Rattle.custody_machine.specs.Machine as machine
-use Rattle.custody_machine.specs.Machine.{Command, Register, Receive, Statement, Check, Answer, Accepted, Refused, Failed, OfRegistry, OfPart, OfNotice}
+use Rattle.custody_machine.specs.Machine.{Command, Register, Receive, Statement, Check, Purge, Answer, Accepted, Refused, Failed, OfRegistry, OfPart, OfNotice, OfPurge}
 use Rattle.custody_machine.specs.declared.answers.Refusal.TheVariants.{OtherBytes, VolumeFull}
 use Rattle.custody_machine.specs.declared.answers.Fault.TheVariants.{NoMemory, VolumeFailed, StoreFailed, Closed, Damaged}
 use Rattle.custody_machine.specs.Rulings.{bytes_of}
@@ -47,6 +47,7 @@ abbrev pub record_shown : List ℕ → code.Record → machine.Record
 record_shown bytes (record_of_kind.Registry tld first_day) = OfRegistry tld first_day
 record_shown bytes (record_of_kind.Part name received len digest extents) = OfPart (key_of name) (record { kind = name.kind; received = received; content = Held bytes })
 record_shown bytes (record_of_kind.Notice notice) = OfNotice (notice_key notice) (notice_value notice)
+record_shown bytes (record_of_kind.Purge count) = OfPurge count
 
 -- the record that answers a repeat
 abbrev pub told_by : kept.Kept → code.Record
@@ -96,6 +97,7 @@ uses_volume (Register tld first_day) = false
 uses_volume (Receive name bytes) = true
 uses_volume (Statement stated) = true
 uses_volume (Check tld day) = false
+uses_volume Purge = false
 
 -- whether it takes memory after the volume was read
 abbrev pub is_verified : Command → Bool
@@ -103,6 +105,7 @@ is_verified (Register tld first_day) = false
 is_verified (Receive name bytes) = false
 is_verified (Statement stated) = true
 is_verified (Check tld day) = false
+is_verified Purge = false
 
 -- whether the volume may have been called: a part is kept or compared, a deposit is verified, or volume or database failed
 abbrev pub may_follow_a_call : (verified : Bool) → Result Reply not_accepted.Refused → Bool

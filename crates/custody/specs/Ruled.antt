@@ -3,15 +3,17 @@ use Rattle.std.specs.Prelude.{◌≡◌, ◌⊎◌, ℕ, List, [], length, Some,
 use Rattle.sha2.specs.Sha256.{sha256}
 use Rattle.deposit_name.specs.Name.{Name}
 use Rattle.extent_map.specs.declared.extent.Extent.{Extent}
+use Rattle.schedule.specs.Schedule.{day_of}
 use Rattle.custody_records.specs.Records.{PartRecord, Records, key_of, with_registry, with_part, with_notice}
 use Rattle.deposit_verify.specs.declared.verdict.Verdict.{Verdict}
 use Rattle.custody_machine.specs.declared.command.Statement as told
 use Rattle.custody_machine.specs.Machine.{Command, OfNotice, absence_notice, next_key, verdict_notice}
 use Rattle.custody_machine.specs.Machine as machine
+use Rattle.custody_machine.specs.Purge.{count_due, without_due}
 use Rattle.custody_machine.specs.declared.answers.Refusal.TheVariants.{OtherBytes, VolumeFull}
 use Rattle.custody_machine.specs.declared.answers.Fault.TheVariants.{NoMemory, VolumeFailed, StoreFailed, Damaged}
 use Rattle.custody_machine.specs.declared.damage.Damage.TheVariants.{Digest}
-use Rattle.custody_machine.specs.Rulings.{Change, AddsRegistry, AddsPart, AddsVerdict, AddsAbsence, Ruling, Refuses, Repeats, ByBytes, Makes, Decides, bytes_of}
+use Rattle.custody_machine.specs.Rulings.{Change, AddsRegistry, AddsPart, AddsVerdict, AddsAbsence, DropsBytes, Ruling, Refuses, Repeats, ByBytes, Makes, Decides, bytes_of}
 use Rattle.custody.specs.declared.answers.Record.TheVariants as of
 use Rattle.custody.specs.declared.answers.Reply.{Reply}
 use Rattle.custody.specs.declared.answers.Refused.{Refused}
@@ -67,11 +69,18 @@ IsMissed records tld day now (Ok reply) later =
 IsMissed records tld day now (Err (refused.Refusal refusal)) later = ⊥
 IsMissed records tld day now (Err (refused.Fault fault)) later = (fault ≡ NoMemory) ⊎ (fault ≡ StoreFailed)
 
+-- the bytes that were kept for a year are dropped, and it is answered of how many parts; or memory or the database fails
+abbrev pub IsPurged : Records → ℕ → Result Reply Refused → Records → Type 0
+IsPurged records now (Ok reply) later = (reply ≡ record { «record» = of.Purge (count_due (day_of now) records); is_repeat = false }) × (later ≡ without_due (day_of now) records)
+IsPurged records now (Err (refused.Refusal refusal)) later = ⊥
+IsPurged records now (Err (refused.Fault fault)) later = (fault ≡ NoMemory) ⊎ (fault ≡ StoreFailed)
+
 abbrev pub IsMade : Change → Records → List ℕ → ℕ → Result Reply Refused → Records → Type 0
 IsMade (AddsRegistry tld first_day) records bytes now answer later = IsTakenOn records tld first_day answer later
 IsMade (AddsPart name) records bytes now answer later = IsReceived records name now bytes answer later
 IsMade (AddsVerdict stated) records bytes now answer later = IsNoticed records stated now answer later
 IsMade (AddsAbsence tld day) records bytes now answer later = IsMissed records tld day now answer later
+IsMade DropsBytes records bytes now answer later = IsPurged records now answer later
 
 -- ---- commands
 

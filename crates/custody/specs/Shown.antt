@@ -13,6 +13,7 @@ abbrev pub ShowsPart : Record → Name → PartRecord → Type 0
 ShowsPart (of.Registry tld first_day) name part = ⊥
 ShowsPart (of.Part named received len digest extents) name part = (named ≡ name) × (part ≡ record { kind = name.kind; received = received; len = len; digest = digest; extents = Some extents.items })
 ShowsPart (of.Notice notice) name part = ⊥
+ShowsPart (of.Purge count) name part = ⊥
 
 -- one of these records
 abbrev pub IsShown : Records → Record → Type 0
@@ -20,9 +21,11 @@ IsShown records (of.Registry tld first_day) = get records.registries tld ≡ Som
 IsShown records (of.Part name received len digest extents) =
     get records.parts (key_of name) ≡ Some (record { kind = name.kind; received = received; len = len; digest = digest; extents = Some extents.items })
 IsShown records (of.Notice notice) = get records.notices (notice_key notice) ≡ Some (notice_value notice)
+IsShown records (of.Purge count) = Unit {0}
 
 -- a part whose extents hold these bytes
 abbrev pub HoldsBytes : List ℕ → Record → List ℕ → Type 0
 HoldsBytes image (of.Registry tld first_day) bytes = Unit {0}
 HoldsBytes image (of.Part name received len digest extents) bytes = part_bytes image extents.items len ≡ bytes
 HoldsBytes image (of.Notice notice) bytes = Unit {0}
+HoldsBytes image (of.Purge count) bytes = Unit {0}

@@ -30,6 +30,10 @@ pub enum Record {
         extents: Vec<Extent>,
     },
     Notice(Notice),
+    /// Of how many parts a purge dropped the bytes. It is no record of its own.
+    Purge {
+        count: usize,
+    },
 }
 
 impl Record {

@@ -6,7 +6,7 @@ ghost use Rattle.custody_records.specs.Typed.{notice_key, notice_value};
 ghost use Rattle.custody_machine.specs.Machine as machine;
 ghost use Rattle.custody_machine.specs.Machine.{next_number, verdict_notice};
 ghost use Rattle.custody_machine.specs.Commands.{command_of};
-ghost use Rattle.custody_machine.specs.Rulings.{AddsAbsence, AddsPart, AddsVerdict, Makes, Decides};
+ghost use Rattle.custody_machine.specs.Rulings.{AddsAbsence, AddsPart, AddsVerdict, DropsBytes, Makes, Decides};
 ghost use Rattle.custody_rules.specs.Rulings.{change_of};
 ghost use Rattle.custody.specs.Keeper.{recorded, KeepsOrder, HasDone};
 
@@ -18,7 +18,7 @@ use crate::verifying::verify_stated;
 use crate::{Record, Refused, Reply};
 use custody_machine::{Command, Damage, Fault, Refusal, Statement};
 use custody_records::{Part, Records, Registry};
-use custody_rules::{Change, Ruling, judge, next_number};
+use custody_rules::{Change, Ruling, count_due, due_extents, judge, next_number};
 use custody_store::Store;
 use deposit_name::{DepositName, Tld};
 use deposit_verify::Verdict;
@@ -91,6 +91,7 @@ impl<V: Volume, S: Alter> Keeper<V, S> {
             Change::Part(name) => self.keep_part(alloc, &name, command.bytes(), now),
             Change::Verdict(statement) => self.keep_verdict(alloc, &statement, now),
             Change::Absence(tld, day) => self.keep_absence(tld, day, now),
+            Change::Purge => self.drop_bytes(alloc, now),
         }
     }
 
@@ -209,6 +210,29 @@ impl<V: Volume, S: Alter> Keeper<V, S> {
         self.records.add_notice(&notice);
         Ok(Reply {
             record: Record::Notice(notice),
+            is_repeat: false,
+        })
+    }
+
+    /// Drops the bytes that were kept for a year. Their blocks are given back when that is committed, and
+    /// not before.
+    fn drop_bytes(&mut self, alloc: Global, now: Sec) -> Result<Reply, Refused>
+        requires order { KeepsOrder self.old }
+        requires ruled { Decides (Makes DropsBytes) (recorded self.old) machine.Purge now }
+        ensures { HasDone S.Store self.old machine.Purge now result self.new }
+    {
+        let today = now.day();
+        let count = count_due(&self.records, today);
+        let Ok(due) = due_extents(alloc, &self.records, today) else {
+            return Err(Refused::Fault(Fault::NoMemory));
+        };
+        if self.store.drop_bytes(today).is_err() {
+            return Err(Refused::Fault(Fault::StoreFailed));
+        }
+        self.records.drop_due(today);
+        self.vault.give_back(&due);
+        Ok(Reply {
+            record: Record::Purge { count },
             is_repeat: false,
         })
     }

@@ -23,8 +23,9 @@ use Rattle.custody_machine.specs.declared.command.Statement as told
 use Rattle.custody_machine.specs.Names.{read_name}
 use Rattle.custody_machine.specs.SameValues.{is_same_kind}
 use Rattle.custody_machine.specs.State.{State, Part, Held, places, at_place, is_notice_of, has_notice}
-use Rattle.custody_machine.specs.Machine.{Check, absence_of, absence_notice, is_absence, is_beyond, is_unknown, is_verdict, OfNotice, is_outside, has_part_of_other_kind, differ_in_number, has_later_receipt, first_part, part_keys, if_made, if_of_id, has_id, is_verdict_of, verdict_told, has_verdict, has_dropped_part, are_as_stated, kept_verdict, with_notice, next_key, verdict_notice, notice_kind, verdict_on, Command, Register, Receive, Statement, Refusal, DroppedAfterKeeping, Record, OfRegistry, OfPart, Reply, Outcome, Refuse, Accept, first_day_of, part_at, recorded, has_other_kind, is_held_with_other, holds_other, is_dropped, is_gone, part_in, refusal_of, with_registry, with_part, received_part, kept, step, state_of, reads, read_by, HasRecord, is_unregistered, is_out_of_size, receive_tests, named_tests, first_standing}
-use Rattle.custody_machine.specs.Retries.{has_same_key, asked, IsDroppedSince, without_bytes, IsKeptAs, StillHas, KeepsRecords, NothingIsRemoved, RepliesAreRecords, IsOfCommand}
+use Rattle.custody_machine.specs.Machine.{Check, Purge, OfPurge, without_bytes, is_due, dropped_if_due, count_due, without_due, absence_of, absence_notice, is_absence, is_beyond, is_unknown, is_verdict, OfNotice, is_outside, has_part_of_other_kind, differ_in_number, has_later_receipt, first_part, part_keys, if_made, if_of_id, has_id, is_verdict_of, verdict_told, has_verdict, has_dropped_part, are_as_stated, kept_verdict, with_notice, next_key, verdict_notice, notice_kind, verdict_on, Command, Register, Receive, Statement, Refusal, DroppedAfterKeeping, Record, OfRegistry, OfPart, Reply, Outcome, Refuse, Accept, first_day_of, part_at, recorded, has_other_kind, is_held_with_other, holds_other, is_dropped, is_gone, part_in, refusal_of, with_registry, with_part, received_part, kept, step, state_of, reads, read_by, HasRecord, is_unregistered, is_out_of_size, receive_tests, named_tests, first_standing}
+use Rattle.custody_machine.specs.Retries.{Key, OfTld, OfName, OfRevision, OfDay, key, are_same_keys, has_same_key, asked, IsDroppedSince, IsKeptAs, StillHas, KeepsRecords, NothingIsRemoved, RepliesAreRecords, IsOfCommand}
+use Rattle.custody_machine.proofs.MapValues.{get-map_values}
 use Rattle.custody_machine.proofs.SameValues.{text_decides, kind_decides}
 use Rattle.custody_records.specs.Orders.{text_total, part_total, part_exact, notice_total}
 use Rattle.custody_machine.proofs.Entries.{passes_found, any_of_found, found_where_any, none_found, get_found, find_insert, find_new, next_is_new}
@@ -57,6 +58,19 @@ keeps_noticing : (s : State) (key : NoticeKey) (notice : Notice) → get s.notic
 keeps_noticing s key notice none (OfNotice q x) e = still (with_notice s key notice) (OfNotice q x) (insert_new notice_total s.notices key notice q x none e)
 keeps_noticing s key notice none entry e = still (with_notice s key notice) entry e
 
+-- of each part its bytes may be dropped, and nothing else
+keeps_dropping : (s : State) (today : ℕ) → KeepsRecords s (without_due s today)
+keeps_dropping s today (OfPart key part) e = (OfPart key (dropped_if_due today part), get-map_values part_cmp (dropped_if_due today) s.parts key ∙ ap (option_map (dropped_if_due today)) e, by (is_due today part))
+  where
+    by : (b : Bool) → IsKeptAs (OfPart key part) (OfPart key (cond b (without_bytes part) part))
+    by true = inr refl
+    by false = inl refl
+keeps_dropping s today entry e = still (without_due s today) entry e
+
+-- what a purge does
+purges : (s : State) (now : ℕ) (reply : Reply) (new : State) → step s Purge now ≡ Accept reply new → (record { entry = OfPurge (count_due s (day_of now)); is_repeat = false } ≡ reply) × (without_due s (day_of now) ≡ new)
+purges s now reply new e = accept_inj _ _ _ _ (step_accepts s Purge now reply new e).1
+
 pub step_keeps : (s : State) (c : Command) (now : ℕ) (reply : Reply) (new : State) → step s c now ≡ Accept reply new → KeepsRecords s new
 step_keeps s (Register tld day) now reply new e = by (first_day_of s tld) refl (step_accepts s (Register tld day) now reply new e).1
   where
@@ -79,6 +93,7 @@ step_keeps s (Check tld day) now reply new e = by (absence_of s tld day) (accept
     by : (o : Option (NoticeKey × Notice)) → missed_by s tld day now o ≡ Accept reply new → KeepsRecords s new
     by (Some kept) e = subst (KeepsRecords s) (accept_inj _ _ _ _ e).1 (keeps_itself s)
     by None e = subst (KeepsRecords s) (accept_inj _ _ _ _ e).1 (keeps_noticing s (next_key s.notices tld) _ (next_is_new s.notices tld))
+step_keeps s Purge now reply new e = subst (KeepsRecords s) (purges s now reply new e).1 (keeps_dropping s (day_of now))
 
 pub nothing_is_removed : NothingIsRemoved
 nothing_is_removed old command now = by (step old command now) refl
@@ -167,10 +182,14 @@ first_is_there s tld day test found e = (
 pub told_is_there : (s : State) (st : told.Statement) (kept : NoticeKey × Notice) → verdict_told s st ≡ Some kept → (get s.notices kept.0 ≡ Some kept.1) × (has_verdict s st ≡ true)
 told_is_there s st kept e = first_is_there s st.tld st.day (is_verdict_of st.rev) kept e
 
--- the same parts are as stated alike
-pub as_stated_alike : (s t : State) (st : told.Statement) → ((place : ℕ) → part_in t (first_part st) place ≡ part_in s (first_part st) place) → are_as_stated t st ≡ are_as_stated s st
-as_stated_alike s t st e = λ i. not (list_any (λ place. has_other_kind st.kind (e place i)) places)
-    && not ((count_by (λ place. is_some (e place i)) places == 0) || not (count_by (λ place. is_some (e place i)) places == st.parts))
+-- parts at the same places, of the same kinds, are as stated alike
+pub as_stated_alike : (s t : State) (st : told.Statement) → ((place : ℕ) → is_some (part_in t (first_part st) place) ≡ is_some (part_in s (first_part st) place))
+    → ((place : ℕ) → has_other_kind st.kind (part_in t (first_part st) place) ≡ has_other_kind st.kind (part_in s (first_part st) place)) → are_as_stated t st ≡ are_as_stated s st
+as_stated_alike s t st there kinds = λ i. not (list_any (λ place. kinds place i) places)
+    && not ((count_by (λ place. there place i) places == 0) || not (count_by (λ place. there place i) places == st.parts))
+
+same_as_stated : (s t : State) (st : told.Statement) → ((place : ℕ) → part_in t (first_part st) place ≡ part_in s (first_part st) place) → are_as_stated t st ≡ are_as_stated s st
+same_as_stated s t st e = as_stated_alike s t st (λ place. ap is_some (e place)) (λ place. ap (has_other_kind st.kind) (e place))
 
 -- a part of another revision is no part of this one
 part_elsewhere : (s : State) (key : PartKey) (part : Part) (st : told.Statement) → ((key.tld ≡ st.tld) → (key.day ≡ st.day) → (key.rev ≡ st.rev) → ⊥) → (place : ℕ) → part_in (with_part s key part) (first_part st) place ≡ part_in s (first_part st) place
@@ -205,7 +224,7 @@ continues_adding s text bytes now name none at records = record {
   verdicts = λ st kept e.
       let h = kept_tells s st kept e in
       kept_of (with_part s (key_of name) (received_part name bytes now)) st kept
-      (as_stated_alike s (with_part s (key_of name) (received_part name bytes now)) st (part_elsewhere s (key_of name) (received_part name bytes now) st (elsewhere st (told_is_there s st kept h.1).1)) ∙ h.0) h.1 h.2;
+      (same_as_stated s (with_part s (key_of name) (received_part name bytes now)) st (part_elsewhere s (key_of name) (received_part name bytes now) st (elsewhere st (told_is_there s st kept h.1).1)) ∙ h.0) h.1 h.2;
   absences = λ tld day kept e. e;
 }
   where
@@ -215,6 +234,36 @@ continues_adding s text bytes now name none at records = record {
     elsewhere : (st : told.Statement) → has_verdict s st ≡ true → (name.tld ≡ st.tld) → (name.day ≡ st.day) → (name.rev ≡ st.rev) → ⊥
     elsewhere st has a b c = let same : has_notice s.notices name.tld name.day (is_verdict_of name.rev) ≡ has_verdict s st = (λ i. has_notice s.notices (a i) (b i) (is_verdict_of (c i))) in
         let clash : true ≡ false = sym has ∙ sym same ∙ unstated in cc
+
+-- a part without its bytes is of its kind
+kind_stays : (today : ℕ) (part : Part) → (dropped_if_due today part).kind ≡ part.kind
+kind_stays today part = by (is_due today part)
+  where
+    by : (b : Bool) → (cond b (without_bytes part) part).kind ≡ part.kind
+    by true = refl
+    by false = refl
+
+continues_dropping : (s : State) (today : ℕ) → Continues s (without_due s today)
+continues_dropping s today = record {
+  records = keeps_dropping s today;
+  verdicts = λ st kept e.
+      let h = kept_tells s st kept e in
+      kept_of (without_due s today) st kept (as_stated_alike s (without_due s today) st
+      (λ place. ap is_some (after st place) ∙ there (part_in s (first_part st) place))
+      (λ place. ap (has_other_kind st.kind) (after st place) ∙ of_kind st.kind (part_in s (first_part st) place)) ∙ h.0) h.1 h.2;
+  absences = λ tld day kept e. e;
+}
+  where
+    after : (st : told.Statement) (place : ℕ) → part_in (without_due s today) (first_part st) place ≡ option_map (dropped_if_due today) (part_in s (first_part st) place)
+    after st place = get-map_values part_cmp (dropped_if_due today) s.parts (at_place (key_of (first_part st)) place)
+
+    there : (o : Option Part) → is_some (option_map (dropped_if_due today) o) ≡ is_some o
+    there None = refl
+    there (Some part) = refl
+
+    of_kind : (kind : Kind) (o : Option Part) → has_other_kind kind (option_map (dropped_if_due today) o) ≡ has_other_kind kind o
+    of_kind kind None = refl
+    of_kind kind (Some part) = ap (λ k. not (is_same_kind k kind)) (kind_stays today part)
 
 -- no notice of its day tells the same as a new one
 pub record IsFirst (s : State) (tld : List ℕ) (notice : Notice) : Type 0 where
@@ -297,6 +346,7 @@ step_continues s (Check tld day) now reply new e = let r = accepts_check s tld d
     by : (o : Option (NoticeKey × Notice)) → absence_of s tld day ≡ o → missed_by s tld day now o ≡ Accept reply new → Continues s new
     by (Some kept) at e = subst (Continues s) (accept_inj _ _ _ _ e).1 (continues_itself s)
     by None at e = subst (Continues s) (accept_inj _ _ _ _ e).1 (continues_noticing s tld (absence_notice day now) (absence_is_first s tld day now at))
+step_continues s Purge now reply new e = subst (Continues s) (purges s now reply new e).1 (continues_dropping s (day_of now))
 
 -- The state keeps what a command made.
 abbrev pub Keeps : State → Command → Record → Type 0
@@ -304,6 +354,7 @@ Keeps s (Register tld day) entry = (kept : ℕ) × (first_day_of s tld ≡ Some 
 Keeps s (Receive text bytes) entry = KeepsPart s text bytes entry
 Keeps s (Statement stated) entry = KeepsVerdict s stated entry
 Keeps s (Check tld day) entry = KeepsAbsence s tld day entry
+Keeps s Purge entry = (count : ℕ) × (entry ≡ OfPurge count)
 
 -- what was kept of a part, and is still
 pub still_kept : (part a b : Part) → IsKeptPart part a → IsKeptPart a b → IsKeptPart part b
@@ -322,6 +373,7 @@ is_known s new tld k e = by (first_day_of s tld) refl e
 pub keeps_on : (s new : State) (c : Command) (entry : Record) → Continues s new → Keeps s c entry → Keeps new c entry
 keeps_on s new (Statement st) entry k h = record { kept = h.kept; found = k.verdicts st h.kept h.found; made = h.made; registry = is_known s new st.tld k.records h.registry }
 keeps_on s new (Check tld day) entry k h = record { kept = h.kept; found = k.absences tld day h.kept h.found; made = h.made; registry = is_known s new tld k.records h.registry }
+keeps_on s new Purge entry k h = h
 keeps_on s new (Register tld day) entry k h = (h.0, registry_is_kept s new tld h.0 k.records h.1, h.2)
 keeps_on s new (Receive text bytes) entry k h =
     let on = part_is_kept s new (key_of h.name) h.kept k.records h.at in
@@ -413,6 +465,7 @@ accepted_is_kept s (Check tld day) now reply new e = let r = accepts_check s tld
           made = ap (λ (q : Reply). q.entry) (sym h.0);
           registry = r.none.registry;
         })
+accepted_is_kept s Purge now reply new e = (count_due s (day_of now), ap (λ (q : Reply). q.entry) (sym (purges s now reply new e).0))
 
 -- the record that a reply shows is that of the state
 pub replies_are_records : RepliesAreRecords
@@ -440,6 +493,7 @@ replies_are_records old new (Check tld day) now reply e = by (absence_of old tld
         subst (λ (q : Reply). HasRecord new q.entry) h.0 (ap (λ (n : State). get n.notices kept.0) (sym h.1) ∙ (first_is_there old tld day is_absence kept at).0)
     by None at e = let h = accept_inj _ _ _ _ e in
         subst (λ (q : Reply). HasRecord new q.entry) h.0 (ap (λ (n : State). get n.notices (next_key old.notices tld)) (sym h.1) ∙ insert_here notice_total old.notices (next_key old.notices tld) (absence_notice day now))
+replies_are_records old new Purge now reply e = subst (λ (q : Reply). HasRecord new q.entry) (purges old now reply new e).0 tt
 
 -- what is kept is of its command, and is there
 pub kept_is_there : (s : State) (c : Command) (entry : Record) → Keeps s c entry → IsOfCommand c entry × StillHas s entry
@@ -472,11 +526,20 @@ kept_is_there s (Check tld day) entry h =
     absence_in (Receipt rev id) a = cc
     absence_in (Failure rev id check) a = cc
     absence_in Absence a = refl
+kept_is_there s Purge entry h = subst (λ e. IsOfCommand Purge e × StillHas s e) (sym h.1) (tt, still s (OfPurge h.0) tt)
 
 -- the kind of what is kept
 kept_kind : (part kept : Part) (kind : Kind) → IsKeptPart part kept → is_same_kind part.kind kind ≡ true → is_same_kind kept.kind kind ≡ true
 kept_kind part kept kind (inl p) e = ap (λ (q : Part). is_same_kind q.kind kind) p ∙ e
 kept_kind part kept kind (inr p) e = ap (λ (q : Part). is_same_kind q.kind kind) p ∙ e
+
+-- what has no key has the key of none
+other_than_none : (k : Option Key) → are_same_keys k None ≡ false
+other_than_none None = refl
+other_than_none (Some (OfTld a)) = refl
+other_than_none (Some (OfName a)) = refl
+other_than_none (Some (OfRevision a d r)) = refl
+other_than_none (Some (OfDay a d)) = refl
 
 -- A command with the key of one that was accepted changes nothing, and makes nothing else, where it is accepted.
 pub same_key_is_kept : (s : State) (c d : Command) (entry : Record) (now : ℕ) (reply : Reply) (new : State) → Keeps s c entry → has_same_key d c ≡ true → step s d now ≡ Accept reply new → Keeps s d entry × (new ≡ s)
@@ -539,6 +602,7 @@ same_key_is_kept s (Check tld day) (Check other later) entry now reply new h sam
     let r = accepts_check s other later now reply new e in
     let outcome : missed_by s other later now (Some h.kept) ≡ Accept reply new = ap (missed_by s other later now) (sym found) ∙ r.outcome in
     (record { kept = h.kept; found = found; made = h.made; registry = r.none.registry }, sym (accept_inj _ _ _ _ outcome).1)
+same_key_is_kept s Purge d entry now reply new h same e = let clash : true ≡ false = sym same ∙ other_than_none (key d) in cc
 same_key_is_kept s c d entry now reply new h same e = cc
 
 -- the outcome of a command that asks again
@@ -557,11 +621,17 @@ of_asked s c entry h = h
 pub kept_again : (s : State) (c d : Command) (entry : Record) → Keeps s c entry → asked c ≡ asked d → Keeps s d entry
 kept_again s c d entry h again = of_asked s d entry (subst (λ a. Keeps s a entry) again (as_asked s c entry h))
 
--- A command of which a record is kept is answered by it, or that its bytes are dropped; and no bytes decide it.
-pub asked_again : (s : State) (d : Command) (entry : Record) (now : ℕ) → Keeps s d entry → Again s d entry now × (reads s d now ≡ [])
-asked_again s (Register tld day) entry now h =
+-- What is not compared is no part of a key.
+pub key_of_asked : (c : Command) → key (asked c) ≡ key c
+key_of_asked (Register tld day) = refl
+key_of_asked c = refl
+
+-- A command with a key of which a record is kept is answered by it, or that its bytes are dropped; and no bytes decide it.
+pub asked_again : (s : State) (d : Command) (entry : Record) (now : ℕ) → is_some (key d) ≡ true → Keeps s d entry → Again s d entry now × (reads s d now ≡ [])
+asked_again s Purge entry now keyed h = cc
+asked_again s (Register tld day) entry now keyed h =
     (inl (step_none s (Register tld day) now refl ∙ ap (registered s tld day now) h.1 ∙ ap (λ e. Accept (record { entry = e; is_repeat = true }) s) (sym h.2)), refl)
-asked_again s (Receive text bytes) entry now h = by h.same
+asked_again s (Receive text bytes) entry now keyed h = by h.same
   where
     at : recorded s h.name ≡ Some h.kept
     at = recorded_of s h.name h.kept h.at (kept_kind h.part h.kept h.name.kind h.same h.kind)
@@ -605,7 +675,7 @@ asked_again s (Receive text bytes) entry now h = by h.same
         let dropped : is_dropped (recorded s h.name) ≡ true = ap is_dropped at ∙ content in
         let stands = find_dropped s h.name bytes now h.registry (not_new _) h.size other_bytes dropped in
         (inr (step_refuses s (Receive text bytes) now DroppedAfterKeeping (refusal_by (Some DroppedAfterKeeping) stands), (h.name, h.named, dropped)), reads_by (Some DroppedAfterKeeping) stands refl)
-asked_again s (Statement st) entry now h = (
+asked_again s (Statement st) entry now keyed h = (
   inl (step_none s (Statement st) now none ∙ ap (stated_by s st now) h.found ∙ ap (λ e. Accept (record { entry = e; is_repeat = true }) s) (sym h.made)),
   (λ i. if_made (none i) (option_map (λ (e : NoticeKey × Notice). OfNotice e.0 e.1) (h.found i)) (part_keys s (first_part st))),
 )
@@ -630,7 +700,7 @@ asked_again s (Statement st) entry now h = (
       number = false_of (differ_in_number s st) (and_both (not (has_part_of_other_kind s (first_part st))) (not (differ_in_number s st)) tells.0).1;
       later = not_new (has_later_receipt s st);
     })
-asked_again s (Check tld day) entry now h =
+asked_again s (Check tld day) entry now keyed h =
     (inl (step_none s (Check tld day) now none ∙ ap (missed_by s tld day now) h.found ∙ ap (λ e. Accept (record { entry = e; is_repeat = true }) s) (sym h.made)), refl)
   where
     not_new : (b : Bool) → (is_none (absence_of s tld day) && b) ≡ false

@@ -7,7 +7,7 @@ use Rattle.std.specs.Cmp.{IsTotalOrder}
 use Rattle.std.specs.declared.cmp.Ordering.{Ordering}
 use Rattle.std.specs.Ordering.{is_lt}
 use Rattle.std.specs.FinMap.Entries.{below_all}
-use Rattle.std.specs.FinMap.{FinMap, IsAntisymmetric, entries, entries_sorted, get, insert, find, is_sorted, get-entries, get-from_sorted, get-insert, same_map}
+use Rattle.std.specs.FinMap.{FinMap, IsAntisymmetric, empty, entries, entries_sorted, entries-from_sorted, get, get-empty, insert, find, is_sorted, get-entries, get-from_sorted, get-insert, same_map}
 use Rattle.custody_machine.specs.MapValues.{map_entries, map_values}
 
 module _ {K X Y : Type 0} (R : K → K → Ordering) (f : X → Y) where
@@ -30,6 +30,13 @@ module _ {K X Y : Type 0} (R : K → K → Ordering) (f : X → Y) where
   pub get-map_values : (m : FinMap R X) (q : K) → get (map_values f m) q ≡ option_map f (get m q)
   unfolding map_values
   get-map_values m q = get-from_sorted R (map_entries f (entries m)) q (subst T (sym (sorted-map (entries m))) (entries_sorted m)) ∙ find-map q (entries m) ∙ ap (option_map f) (sym (get-entries m q))
+
+  pub entries-map_values : (m : FinMap R X) → entries (map_values f m) ≡ map_entries f (entries m)
+  unfolding map_values
+  entries-map_values m = entries-from_sorted R (map_entries f (entries m)) (subst T (sym (sorted-map (entries m))) (entries_sorted m))
+
+  pub map_values-empty : IsTotalOrder R → IsAntisymmetric R → map_values f (empty {R = R}) ≡ empty
+  map_values-empty o same = same_map o same _ _ (λ q. get-map_values empty q ∙ ap (option_map f) (get-empty R q) ∙ sym (get-empty R q))
 
   -- to apply it after an insertion is to insert what it gives
   pub map_values-insert : IsTotalOrder R → IsAntisymmetric R → (m : FinMap R X) (k : K) (v : X) → map_values f (insert m k v) ≡ insert (map_values f m) k (f v)

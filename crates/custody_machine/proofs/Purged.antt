@@ -1,7 +1,9 @@
 -- What holds of an open custody after the bytes of parts were dropped and their blocks given back.
 use Rattle.std.proofs.Common.{◌≡◌, ◌⊎◌, inl, inr, ⊎_elim, ℕ, suc, ◌+◌, ◌<◌, ◌≤◌, ◌&&◌, List, [], ◌∷◌, Option, Some, None, is_some, Bool, true, false, cond, Result, Ok, Err, refl, sym, ◌∙◌, ap, subst, arith}
-use Rattle.std.specs.Prelude.{All}
-use Rattle.std.specs.List.{list_all}
+use Rattle.std.specs.Prelude.{All, ◌*◌, length, nat_lt, not, count_by}
+use Rattle.std.specs.FinMap.{entries, same_map}
+use Rattle.std.proofs.lemmas.List.{length-take-le}
+use Rattle.std.specs.List.{fold, list_all}
 use Rattle.std.specs.Option.{option_map}
 use Rattle.std.specs.FinMap.{get}
 use Rattle.std.proofs.lemmas.Bool.{cases_lt}
@@ -10,19 +12,28 @@ use Rattle.deposit_name.specs.declared.faults.NameError.{NameError}
 use Rattle.deposit_name.specs.Name.{Name}
 use Rattle.extent_map.specs.declared.extent.Extent.{Extent}
 use Rattle.sha2.specs.Sha256.{sha256}
+use Rattle.schedule.specs.Schedule.{day_of, year_after}
+use Rattle.vault_volume.proofs.ExtentLemmas.{length-bytes_of}
+use Rattle.custody_records.specs.Orders.{part_total, part_exact}
 use Rattle.vault_volume.specs.Image.{DiffersOnlyIn}
-use Rattle.vault_volume.specs.Extents.{IsExtentOf, IsIn, IsInAny, AreApart, GivesBack, part_bytes}
+use Rattle.vault_volume.specs.Extents.{IsExtentOf, IsIn, IsInAny, AreApart, GivesBack, bytes_of, part_bytes}
 use Rattle.custody_records.specs.Keys.{PartKey, part_cmp}
 use Rattle.custody_records.specs.Records.{PartRecord, Records, key_of}
 use Rattle.custody_records.specs.Rows.{Rows}
 use Rattle.custody_records.specs.Form.{form_of, InForm}
 use Rattle.custody_machine.specs.Names.{is_same_text, read_name}
-use Rattle.custody_machine.specs.State.{State}
-use Rattle.custody_machine.specs.Stored.{ForExtents, AreNaming, IsNamed, AreExtents, AreWhole, is_part_of, names_part, IsGood, IsKeptRecord, KeepsParts, OpensFrom, state_in}
+use Rattle.custody_machine.specs.State.{State, Part, Dropped}
+use Rattle.custody_machine.specs.Stored.{ForExtents, AreNaming, IsNamed, AreExtents, AreWhole, content_of, part_of, is_part_of, names_part, IsGood, IsKeptRecord, KeepsParts, OpensFrom, state_in}
 use Rattle.custody_machine.specs.Custody.{IsPlaceable, IsInOrder, IsOnVolume}
-use Rattle.custody_machine.specs.Purge.{is_due, dropped_if_due, without_due, IsDueBlock}
-use Rattle.custody_machine.proofs.MapValues.{get-map_values}
-use Rattle.custody_machine.proofs.Composed.{opens_later, named_used, head_used}
+use Rattle.custody_records.specs.Purge.{is_due, dropped_if_due}
+use Rattle.custody_machine.specs.Machine as machine
+use Rattle.custody_machine.specs.Machine.{Purge, OfPurge, Accept, step}
+use Rattle.custody_machine.specs.Rulings.{DropsBytes, Makes, Decides}
+use Rattle.custody_machine.specs.Purge.{without_due, count_due, IsDueBlock}
+use Rattle.custody_machine.specs.MapValues.{map_entries, map_values}
+use Rattle.custody_machine.proofs.MapValues.{get-map_values, entries-map_values}
+use Rattle.vault_volume.proofs.ImageLemmas.{same_in}
+use Rattle.custody_machine.proofs.Composed.{IsChange, opens_later, named_used, head_used}
 
 -- ---- blocks in extents, or not
 
@@ -252,4 +263,68 @@ module _ (today : ℕ) (records : Records) (image : List ℕ) (good : IsGood rec
     elsewhere = λ c h.
         let differs = on.elsewhere c h in
         record { same_length = differs.same_length; elsewhere = λ i out. differs.elsewhere i (λ f. out ((gives _).1 (inl f))) };
+  }
+
+-- ---- the state after it
+
+-- as many bytes are at a part's extents as its record says
+length-content : (blocks : ℕ) (i : List ℕ) → length i ≡ 4096 * blocks → (len : ℕ) (o : Option (List Extent)) → ForExtents o (AreExtents blocks len) → machine.content_len (content_of i len o) ≡ len
+length-content blocks i long len None range = refl
+length-content blocks i long len (Some es) range =
+    let whole = length-bytes_of i blocks es long (λ k d lt. (range.each k d lt).2) in
+    let counts = range.counts in
+    length-take-le len (bytes_of i es) (omega (arith, whole, counts))
+
+due_same : (i : List ℕ) (today : ℕ) (part : PartRecord) → machine.is_due today (part_of i part) ≡ is_due today part
+due_same i today part = by part.extents
+  where
+    by : (o : Option (List Extent)) → (not (machine.is_gone (content_of i part.len o)) && nat_lt (year_after (day_of part.received)) today) ≡ (is_some o && nat_lt (year_after (day_of part.received)) today)
+    by None = refl
+    by (Some es) = refl
+
+dropped_same : (i : List ℕ) (today : ℕ) (part : PartRecord) → machine.content_len (content_of i part.len part.extents) ≡ part.len → machine.dropped_if_due today (part_of i part) ≡ part_of i (dropped_if_due today part)
+dropped_same i today part long = ap (λ b. cond b (machine.without_bytes (part_of i part)) (part_of i part)) (due_same i today part) ∙ by (is_due today part)
+  where
+    by : (b : Bool) → cond b (machine.without_bytes (part_of i part)) (part_of i part) ≡ part_of i (cond b (record part { extents = None }) part)
+    by true = ap (λ n. record { kind = part.kind; received = part.received; content = Dropped n }) long
+    by false = refl
+
+module _ (records : Records) (i : List ℕ) (good : IsGood records i) (today : ℕ) where
+  parts_then : map_values (machine.dropped_if_due today) (state_in records i).parts ≡ (state_in (without_due today records) i).parts
+  parts_then = same_map part_total part_exact _ _ (λ key.
+      get-map_values part_cmp (machine.dropped_if_due today) (state_in records i).parts key
+      ∙ ap (option_map (machine.dropped_if_due today)) (get-map_values part_cmp (part_of i) records.parts key)
+      ∙ by key (get records.parts key) refl
+      ∙ sym (get-map_values part_cmp (part_of i) (without_due today records).parts key ∙ ap (option_map (part_of i)) (got today records key)))
+    where
+      by : (key : PartKey) (o : Option PartRecord) → get records.parts key ≡ o → option_map (machine.dropped_if_due today) (option_map (part_of i) o) ≡ option_map (part_of i) (option_map (dropped_if_due today) o)
+      by key None at = refl
+      by key (Some part) at = ap Some (dropped_same i today part (length-content records.blocks i good.volume.size part.len part.extents (good.whole.extents key part at)))
+
+  pub state_then : machine.without_due (state_in records i) today ≡ state_in (without_due today records) i
+  state_then = ap (λ parts. record (state_in records i) { parts = parts }) parts_then
+
+  pub count_then : machine.count_due (state_in records i) today ≡ count_due today records
+  count_then = ap (count_by (λ (e : PartKey × Part). machine.is_due today e.1)) (entries-map_values part_cmp (part_of i) records.parts) ∙ by 0 (entries records.parts)
+    where
+      by : (n : ℕ) (es : List (PartKey × PartRecord)) → fold (λ k (e : PartKey × Part). k + cond (machine.is_due today e.1) 1 0) n (map_entries (part_of i) es) ≡ fold (λ k (e : PartKey × PartRecord). k + cond (is_due today e.1) 1 0) n es
+      by n [] = refl
+      by n (e ∷ es) = ap (λ b. fold (λ k (x : PartKey × Part). k + cond (machine.is_due today x.1) 1 0) (n + cond b 1 0) (map_entries (part_of i) es)) (due_same i today e.1) ∙ by (n + cond (is_due today e.1) 1 0) es
+
+module _ (records : Records) (i : List ℕ) (good : IsGood records i) (now : ℕ) (d : Decides (Makes DropsBytes) records Purge now) where
+  abbrev after : Records
+  after = without_due (day_of now) records
+
+  pub purge_accepted : step (state_in records i) Purge now ≡ Accept (record { entry = OfPurge (count_due (day_of now) records); is_repeat = false }) (state_in after i)
+  purge_accepted = d.1 i ∙ (λ j. Accept (record { entry = OfPurge (count_then records i good (day_of now) j); is_repeat = false }) (state_then records i good (day_of now) j))
+
+  -- Until blocks are given back, those that were free are all that a stop may have changed.
+  pub purge_changes : (size failures : ℕ) (free : ℕ → Type 0) → IsInOrder records size failures free → IsChange records i free after i free
+  purge_changes size failures free order = record {
+    good = record { whole = whole-without_due (day_of now) records order.whole; volume = record { head = good.volume.head; size = good.volume.size } };
+    keeps = keeps-without_due (day_of now) records i;
+    unnamed = λ b named. named_used records size failures free order b (named_before (day_of now) records b named);
+    head = head_used records size failures free order;
+    fewer = λ b f. f;
+    moved = same_in free i;
   }

@@ -1,5 +1,6 @@
 -- What is kept with its bytes was received so.
 use Rattle.std.proofs.Common.{◌≡◌, ℕ, List, [], ◌∷◌, Option, Some, None, Bool, true, false, ◌⊎◌, inl, inr, refl, sym, ◌∙◌, ap, cond, Ok}
+use Rattle.std.specs.Prelude.{option_map}
 use Rattle.std.specs.Ordering.{eq_by_cmp}
 use Rattle.std.specs.Cmp.{Equal-is}
 use Rattle.std.specs.FinMap.{get, get-insert}
@@ -9,10 +10,12 @@ use Rattle.custody_records.specs.Records.{Notice, key_of}
 use Rattle.custody_machine.proofs.Stated.{accepts_statement, stated_by}
 use Rattle.custody_machine.proofs.Checked.{accepts_check, missed_by}
 use Rattle.custody_machine.specs.Names.{read_name}
-use Rattle.custody_machine.specs.State.{State, Part, Held}
-use Rattle.custody_machine.specs.Machine.{Command, Register, Receive, Statement, Check, kept_verdict, absence_of, Entry, Outcome, Refuse, Accept, Reply, step, state_of, state_after, recorded, received_part, with_part, first_day_of}
+use Rattle.schedule.specs.Schedule.{day_of}
+use Rattle.custody_machine.specs.State.{State, Part, Held, Dropped}
+use Rattle.custody_machine.specs.Machine.{Command, Register, Receive, Statement, Check, Purge, content_len, dropped_if_due, is_due, without_bytes, without_due, kept_verdict, absence_of, Entry, Outcome, Refuse, Accept, Reply, step, state_of, state_after, recorded, received_part, with_part, first_day_of}
 use Rattle.custody_machine.specs.History.{WasReceived, HeldAsReceived}
 use Rattle.custody_records.specs.Orders.{part_total, part_exact}
+use Rattle.custody_machine.proofs.MapValues.{get-map_values}
 use Rattle.custody_machine.proofs.Accepting.{Receives, receives, answered, registered, step_accepts, accept_inj}
 
 -- a new part is the one received, or another that was kept
@@ -32,6 +35,20 @@ by_key s entries key part bytes text others name now held named there =
         let entry : ◌≡◌ {A = Entry} (Receive text others, now) (Receive text bytes, part.received) = λ i. (Receive text (all i), moment i) in
         inr ([], entries, text, name, (λ i. entry i ∷ entries), named, sym one, kind)
     by false t m = inl m
+
+-- a part that is held after bytes were dropped was held before
+held_before : (s : State) (today : ℕ) (key : PartKey) (part : Part) (bytes : List ℕ) → part.content ≡ Held bytes → get (without_due s today).parts key ≡ Some part → get s.parts key ≡ Some part
+held_before s today key part bytes held at = by (get s.parts key) refl (sym (get-map_values part_cmp (dropped_if_due today) s.parts key) ∙ at)
+  where
+    by : (o : Option Part) → get s.parts key ≡ o → option_map (dropped_if_due today) o ≡ Some part → get s.parts key ≡ Some part
+    by None is e = cc
+    by (Some old) is e = is ∙ kept (is_due today old) e
+      where
+        kept : (b : Bool) → Some (cond b (without_bytes old) old) ≡ Some part → Some old ≡ Some part
+        kept true e =
+            let same : without_bytes old ≡ part = cc in
+            let clash : Dropped (content_len old.content) ≡ Held bytes = ap (λ (p : Part). p.content) same ∙ held in cc
+        kept false e = e
 
 -- a step keeps the part, or received it
 by_step : (s : State) (command : Command) (now : ℕ) (rest : List Entry) (key : PartKey) (part : Part) (bytes : List ℕ) (reply : Reply) (new : State) → part.content ≡ Held bytes → step s command now ≡ Accept reply new → get new.parts key ≡ Some part
@@ -56,6 +73,7 @@ by_step s (Check tld day) now rest key part bytes reply new held is at = by (abs
     by : (o : Option (NoticeKey × Notice)) → missed_by s tld day now o ≡ Accept reply new → (get s.parts key ≡ Some part) ⊎ WasReceived ((Check tld day, now) ∷ rest) key part bytes
     by (Some kept) r = inl (ap (λ (t : State). get t.parts key) (accept_inj _ _ _ _ r).1 ∙ at)
     by None r = inl (ap (λ (t : State). get t.parts key) (accept_inj _ _ _ _ r).1 ∙ at)
+by_step s Purge now rest key part bytes reply new held is at = inl (held_before s (day_of now) key part bytes held (ap (λ (t : State). get t.parts key) (accept_inj _ _ _ _ (step_accepts s Purge now reply new is).1).1 ∙ at))
 
 by_outcome : (s : State) (entry : Entry) (rest : List Entry) (key : PartKey) (part : Part) (bytes : List ℕ) → part.content ≡ Held bytes → (r : Outcome) → step s entry.0 entry.1 ≡ r → get (state_of s r).parts key ≡ Some part → (get s.parts key ≡ Some part) ⊎ WasReceived (entry ∷ rest) key part bytes
 by_outcome s entry rest key part bytes held (Refuse q) is at = inl at

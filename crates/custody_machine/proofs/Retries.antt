@@ -10,7 +10,7 @@ use Rattle.custody_machine.specs.Retries.{Key, OfTld, OfName, OfRevision, OfDay,
 use Rattle.custody_machine.proofs.SameValues.{text_decides}
 use Rattle.custody_machine.proofs.Histories.{after-append, Fits, fits_then, fits_after, fits_first, run_split, found_after-append, all_more, openings_are_right}
 use Rattle.custody_machine.proofs.Accepting.{accept_inj}
-use Rattle.custody_machine.proofs.Keeping.{kept_itself, Keeps, keeps_on, step_continues, accepted_is_kept, same_key_is_kept, kept_again, asked_again, Again, kept_is_there}
+use Rattle.custody_machine.proofs.Keeping.{kept_itself, Keeps, keeps_on, step_continues, accepted_is_kept, same_key_is_kept, kept_again, key_of_asked, asked_again, Again, kept_is_there}
 
 -- ---- the commands found were accepted, one after the other
 
@@ -203,7 +203,7 @@ repeated : (first : State) (c next : Condition) (f : Found) (entry : Entry) (kep
     IsAnsweredAgain (after first f.commands) command (Some kept) answer × (after first (found_then first f (Answered command now answer)).commands ≡ after first f.commands)
 repeated first (Running old) next f entry kept command now answer fits h keeps again =
     let here = kept_again old entry.0 command kept (subst (λ s. Keeps s entry.0 kept) fits.0 keeps) again.1 in
-    let outcome = asked_again old command kept now here in
+    let outcome = asked_again old command kept now (sym (ap is_some (sym (key_of_asked entry.0) ∙ ap key again.1 ∙ key_of_asked command)) ∙ again.0) here in
     (subst (λ s. IsAnsweredAgain s command (Some kept) answer) (sym fits.0) (answered_by old h.0 command now kept answer (kept_is_there old command kept here).0 outcome.0 outcome.1 h.1), unchanged_by first f old command now kept answer fits.0 outcome.0)
 repeated first (Halted old doubt) next f entry kept command now answer fits h keeps again =
     subst (λ a. IsAnsweredAgain (after first f.commands) command (Some kept) a × (after first (found_then first f (Answered command now a)).commands ≡ after first f.commands)) (sym h.0) (tt, refl)

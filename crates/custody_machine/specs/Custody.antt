@@ -10,7 +10,7 @@ use Rattle.custody_records.specs.Rows.{Rows}
 use Rattle.custody_records.specs.Form.{form_of, InForm}
 use Rattle.custody_machine.specs.declared.damage.Damage.TheVariants.{NoRecord}
 use Rattle.custody_machine.specs.State.{empty}
-use Rattle.custody_machine.specs.Machine.{Command, Register, Receive, Statement, Check, Answer}
+use Rattle.custody_machine.specs.Machine.{Command, Register, Receive, Statement, Check, Purge, Answer}
 use Rattle.custody_machine.specs.History.{Answered}
 use Rattle.custody_machine.specs.Stored.{IsNamed, AreWhole, IsVolumeOf}
 use Rattle.custody_machine.specs.Damage.{IsDamaged}
@@ -32,6 +32,7 @@ HasRoomFor records (Register tld first_day) = Unit {0}
 HasRoomFor records (Receive name bytes) = HasRoom records (length bytes)
 HasRoomFor records (Statement stated) = Unit {0}
 HasRoomFor records (Check tld day) = Unit {0}
+HasRoomFor records Purge = Unit {0}
 
 -- ---- an open custody
 

@@ -4,7 +4,7 @@ use Rattle.std.specs.List.{filter, filter_map, find, flat_map, list_all, list_an
 use Rattle.std.specs.Option.{option_and_then}
 use Rattle.std.specs.FinMap.{FinMap, entries, get, insert}
 use Rattle.std.specs.Ordering.{nat_cmp}
-use Rattle.schedule.specs.Schedule.{day_of}
+use Rattle.schedule.specs.Schedule.{day_of, year_after}
 use Rattle.deposit_name.specs.declared.kinds.Kind.{Kind}
 use Rattle.deposit_name.specs.declared.faults.NameError.{NameError}
 use Rattle.deposit_name.specs.Name.{Name}
@@ -26,6 +26,7 @@ use Rattle.custody_machine.specs.declared.damage.Damage.TheVariants.{Digest}
 use Rattle.vault_volume.specs.declared.extent.TheConstants.{MAX_PART_LEN}
 use Rattle.custody_machine.specs.Names.{is_same_text, read_name}
 use Rattle.custody_machine.specs.SameValues.{is_same_kind}
+use Rattle.custody_machine.specs.MapValues.{map_values}
 use Rattle.custody_machine.specs.declared.command.Statement as told
 use Rattle.custody_machine.specs.State.{State, Part, Content, Held, Dropped, places, at_place, is_notice_of, has_notice}
 
@@ -40,13 +41,17 @@ pub data Command : Type 0 where
   Statement : told.Statement → Command
   -- has it recorded that a scheduled deposit was not received (Part B section 7)
   Check : (tld : List ℕ) → (day : ℕ) → Command
+  -- drops the bytes that were kept for a year (Part B section 4)
+  Purge : Command
 
--- a record of the state: the one that a command made, or found made
+-- a record of the state: the one that a command made, or found made. A purge makes none, and is answered by a count.
 pub data Record : Type 0 where
   OfRegistry : (tld : List ℕ) → (first_day : ℕ) → Record
   OfPart : PartKey → Part → Record
   OfNotice : NoticeKey → Notice → Record
   OfRelease : (reference : List ℕ) → Release → Record
+  -- of how many parts the bytes were dropped
+  OfPurge : (count : ℕ) → Record
 
 pub record Reply : Type 0 where
   pub entry : Record
@@ -193,6 +198,26 @@ has_later_receipt state stated = list_any (λ (entry : NoticeKey × Notice). is_
 abbrev pub absence_of : State → List ℕ → ℕ → Option (NoticeKey × Notice)
 absence_of state tld day = find (is_notice_of tld day is_absence) (entries state.notices)
 
+-- ---- what a purge drops
+
+abbrev pub content_len : Content → ℕ
+content_len (Held bytes) = length bytes
+content_len (Dropped n) = n
+
+-- a part whose bytes are dropped
+abbrev pub without_bytes : Part → Part
+without_bytes part = record { kind = part.kind; received = part.received; content = Dropped (content_len part.content) }
+
+-- its bytes are held, and the last day of their keeping is before this day
+abbrev pub is_due : ℕ → Part → Bool
+is_due today part = not (is_gone part.content) && nat_lt (year_after (day_of part.received)) today
+
+abbrev pub dropped_if_due : ℕ → Part → Part
+dropped_if_due today part = if is_due today part then without_bytes part else part
+
+abbrev pub count_due : State → ℕ → ℕ
+count_due state today = count_by (λ (entry : PartKey × Part). is_due today entry.1) (entries state.parts)
+
 -- ---- deposits that passed
 
 -- the id of a deposit that passed
@@ -322,6 +347,7 @@ tests_of state (Register tld first_day) now = []
 tests_of state (Receive text bytes) now = named_tests state (read_name text) bytes now
 tests_of state (Statement stated) now = statement_tests state stated now
 tests_of state (Check tld day) now = check_tests state tld day now
+tests_of state Purge now = []
 
 abbrev pub TestsAreInOrder : Type 0
 TestsAreInOrder = (state : State) (command : Command) (now : ℕ) → is_rising nat_cmp (λ (test : Test). refusal_number test.0) (tests_of state command now) ≡ true
@@ -353,6 +379,7 @@ kept state (Register tld first_day) = option_map (λ (day : ℕ). OfRegistry tld
 kept state (Receive text bytes) = kept_under state (read_name text) bytes
 kept state (Statement stated) = option_map notice_record (kept_verdict state stated)
 kept state (Check tld day) = option_map notice_record (absence_of state tld day)
+kept state Purge = None
 
 -- ---- effects
 
@@ -409,12 +436,20 @@ absence_notice day now = record { day = day; at = now; kind = Absence }
 abbrev pub missed : State → List ℕ → ℕ → ℕ → Outcome
 missed state tld day now = noticed state (next_key state.notices tld) (absence_notice day now)
 
+-- each part stays, without its bytes where it is due
+abbrev pub without_due : State → ℕ → State
+without_due state today = record state { parts = map_values (dropped_if_due today) state.parts }
+
+abbrev pub purged : State → ℕ → Outcome
+purged state now = Accept (record { entry = OfPurge (count_due state (day_of now)); is_repeat = false }) (without_due state (day_of now))
+
 -- what a command does that is no repeat
 abbrev pub effect : State → Command → ℕ → Outcome
 effect state (Register tld first_day) now = Accept (record { entry = OfRegistry tld first_day; is_repeat = false }) (with_registry state tld first_day)
 effect state (Receive text bytes) now = received state (read_name text) bytes now
 effect state (Statement stated) now = stated_as state stated now
 effect state (Check tld day) now = missed state tld day now
+effect state Purge now = purged state now
 
 abbrev pub unless_kept : State → Option Record → Outcome → Outcome
 unless_kept state (Some entry) outcome = Accept (record { entry = entry; is_repeat = true }) state
@@ -465,6 +500,7 @@ takes_room (Register _ _) = false
 takes_room (Receive _ _) = true
 takes_room (Statement _) = false
 takes_room (Check _ _) = false
+takes_room Purge = false
 
 -- The one free choice: a new part may be refused for want of room.
 abbrev pub MayRefuse : Command → Outcome → Refusal → Type 0
@@ -496,6 +532,7 @@ reads state (Register tld first_day) now = []
 reads state (Receive text bytes) now = read_by (refusal_of state (Receive text bytes) now) (read_name text)
 reads state (Statement stated) now = if_made (refusal_of state (Statement stated) now) (kept state (Statement stated)) (part_keys state (first_part stated))
 reads state (Check tld day) now = []
+reads state Purge now = []
 
 abbrev pub MayFail : Outcome → List PartKey → Fault → Type 0
 MayFail (Refuse least) read NoMemory = is_early least ≡ false
@@ -516,9 +553,10 @@ Answers old command now (Failed fault) new = MayFail (step old command now) (rea
 
 -- ---- records
 
--- the state has this record
+-- the state has this record; a count is of a moment, and not kept
 abbrev pub HasRecord : State → Record → Type 0
 HasRecord state (OfRegistry tld first_day) = get state.registries tld ≡ Some first_day
 HasRecord state (OfPart key part) = get state.parts key ≡ Some part
 HasRecord state (OfNotice key notice) = get state.notices key ≡ Some notice
 HasRecord state (OfRelease reference release) = get state.releases reference ≡ Some release
+HasRecord state (OfPurge count) = Unit {0}

@@ -1,22 +1,18 @@
--- The records after the bytes were dropped whose keeping year is over.
-use Rattle.std.specs.Prelude.{◌≡◌, ℕ, nat_lt, Bool, true, ◌&&◌, if◌then◌else◌, Some, None, is_some}
-use Rattle.std.specs.FinMap.{get}
-use Rattle.schedule.specs.Schedule.{day_of, year_after}
+-- The records after the bytes were dropped that were kept for a year.
+use Rattle.std.specs.Prelude.{◌≡◌, ℕ, Bool, true, Some, count_by}
+use Rattle.std.specs.FinMap.{entries, get}
 use Rattle.custody_records.specs.Keys.{PartKey}
+use Rattle.custody_records.specs.Purge.{is_due, dropped_if_due}
 use Rattle.custody_records.specs.Records.{PartRecord, Records}
 use Rattle.custody_machine.specs.MapValues.{map_values}
 use Rattle.custody_machine.specs.Stored.{AreNaming}
 
--- the bytes are held, and the last day of their keeping is before this day
-abbrev pub is_due : ℕ → PartRecord → Bool
-is_due today part = is_some part.extents && nat_lt (year_after (day_of part.received)) today
-
--- the record stays, without its bytes
-abbrev pub dropped_if_due : ℕ → PartRecord → PartRecord
-dropped_if_due today part = if is_due today part then record part { extents = None } else part
-
 abbrev pub without_due : ℕ → Records → Records
 without_due today records = record records { parts = map_values (dropped_if_due today) records.parts }
+
+-- how many parts are due
+abbrev pub count_due : ℕ → Records → ℕ
+count_due today records = count_by (λ (entry : PartKey × PartRecord). is_due today entry.1) (entries records.parts)
 
 -- a part that is due names the block
 abbrev pub IsDueBlock : ℕ → Records → ℕ → Type 0

@@ -1,13 +1,13 @@
 -- Commands that come again, and what is kept of those that were accepted.
-use Rattle.std.specs.Prelude.{◌≡◌, ◌↔◌, ◌⊎◌, ℕ, List, [], ◌∷◌, ◌++◌, length, Option, Some, None, is_some, Bool, true, false, ◌&&◌, ◌==◌, if◌then◌else◌, Ok}
+use Rattle.std.specs.Prelude.{◌≡◌, ◌↔◌, ◌⊎◌, ℕ, List, [], ◌∷◌, ◌++◌, Option, Some, None, is_some, Bool, true, false, ◌&&◌, ◌==◌, if◌then◌else◌, Ok}
 use Rattle.std.specs.List.{list_any}
 use Rattle.deposit_name.specs.Name.{Name}
 use Rattle.desk.specs.declared.notices.NoticeKind.TheVariants.{Absence}
 use Rattle.deposit_verify.specs.declared.verdict.Verdict.{Verdict}
 use Rattle.custody_records.specs.Records.{key_of}
 use Rattle.custody_machine.specs.Names.{is_same_text, read_name}
-use Rattle.custody_machine.specs.State.{State, Part, Content, Held, Dropped}
-use Rattle.custody_machine.specs.Machine.{Command, Register, Receive, Statement, Check, notice_kind, DroppedAfterKeeping, Record, OfRegistry, OfPart, OfNotice, Reply, Outcome, Refuse, Accept, Entry, step, state_after, after, recorded, is_dropped, Answer, Accepted, Refused, Failed, NoMemory, VolumeFailed, StoreFailed, Closed, Damaged, HasRecord}
+use Rattle.custody_machine.specs.State.{State, Held}
+use Rattle.custody_machine.specs.Machine.{Command, Register, Receive, Statement, Check, Purge, notice_kind, without_bytes, DroppedAfterKeeping, Record, OfRegistry, OfPart, OfNotice, OfPurge, Reply, Outcome, Refuse, Accept, Entry, step, state_after, after, recorded, is_dropped, Answer, Accepted, Refused, Failed, NoMemory, VolumeFailed, StoreFailed, Closed, Damaged, HasRecord}
 use Rattle.custody_machine.specs.History.{Event, Answered, OpenedWith, Pair, Opened, IsHistory, found}
 
 -- ---- keys
@@ -25,6 +25,7 @@ key (Register tld _) = Some (OfTld tld)
 key (Receive name _) = Some (OfName name)
 key (Statement stated) = Some (OfRevision stated.tld stated.day stated.rev)
 key (Check tld day) = Some (OfDay tld day)
+key Purge = None
 
 -- whether two keys are there, and are the same
 abbrev pub are_same_keys : Option Key → Option Key → Bool
@@ -57,14 +58,6 @@ ActsOnce first = (events : List Event) → IsHistory first events → after firs
 
 -- ---- what is kept for good
 
-abbrev pub content_len : Content → ℕ
-content_len (Held bytes) = length bytes
-content_len (Dropped n) = n
-
--- a part whose bytes are dropped
-abbrev pub without_bytes : Part → Part
-without_bytes part = record { kind = part.kind; received = part.received; content = Dropped (content_len part.content) }
-
 -- A record is kept as another one: as it is; or of a part without its bytes.
 abbrev pub IsKeptAs : Record → Record → Type 0
 IsKeptAs (OfPart key part) kept = (kept ≡ OfPart key part) ⊎ (kept ≡ OfPart key (without_bytes part))
@@ -86,12 +79,13 @@ NothingIsRemoved = (old : State) (command : Command) (now : ℕ) → KeepsRecord
 abbrev pub RepliesAreRecords : Type 0
 RepliesAreRecords = (old new : State) (command : Command) (now : ℕ) (reply : Reply) → step old command now ≡ Accept reply new → HasRecord new reply.entry
 
--- the record is that of the command: of a registration its registry, of a part its name and its bytes, of a statement its revision and its id, of a check its day
+-- the record is that of the command: of a registration its registry, of a part its name and its bytes, of a statement its revision and its id, of a check its day, of a purge a count
 abbrev pub IsOfCommand : Command → Record → Type 0
 IsOfCommand (Register tld first_day) (OfRegistry other day) = other ≡ tld
 IsOfCommand (Receive text bytes) (OfPart key part) = (name : Name) × (read_name text ≡ Ok name) × (key ≡ key_of name) × (part.kind ≡ name.kind) × (part.content ≡ Held bytes)
 IsOfCommand (Statement stated) (OfNotice key notice) = (key.tld ≡ stated.tld) × (notice.day ≡ stated.day) × (verdict : Verdict) × (notice.kind ≡ notice_kind stated verdict)
 IsOfCommand (Check tld day) (OfNotice key notice) = (key.tld ≡ tld) × (notice.day ≡ day) × (notice.kind ≡ Absence)
+IsOfCommand Purge (OfPurge count) = Unit {0}
 IsOfCommand _ _ = ⊥
 
 -- ---- what a command that comes again is answered

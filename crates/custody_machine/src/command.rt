@@ -34,6 +34,9 @@ pub enum Command<'a> {
     /// A registry and a day that has passed: where no deposit of it was verified, its absence is to be
     /// recorded (Specification 2, Part B, section 7).
     Check(Tld, Day),
+    /// The bytes of each part that was kept for a year are to be dropped; its record stays
+    /// (Specification 2, Part B, section 4).
+    Purge,
 }
 
 impl<'a> Command<'a> {
@@ -42,8 +45,9 @@ impl<'a> Command<'a> {
         ensures { result.now ≡ bytes_of (command_of self.now) }
     {
         match self {
-            Command::Register(..) | Command::Statement(_) | Command::Check(..) => &[],
             Command::Receive(_, bytes) => bytes,
+            Command::Register(..) | Command::Statement(_) | Command::Check(..) | Command::Purge =>
+                &[],
         }
     }
 }

@@ -25,6 +25,7 @@ pub use meta::{Meta, read_number, write_number};
 pub use names::Names;
 pub use notices::NoticeColumns;
 pub use parts::{Part, PartColumns};
+pub use purge::is_due;
 pub use records::Records;
 pub use registries::{Registry, read_registry};
 pub use releases::{Release, ReleaseColumns};

@@ -8,6 +8,7 @@ pub mod Numbers
 pub mod Passed
 pub mod Statements
 pub mod PartBlocks
+pub mod DueBlocks
 pub mod Rivals
 pub mod Tables
 pub mod Telling

@@ -24,7 +24,7 @@ naming_held : (o : Option (List Extent)) (b : ℕ) → AreNaming o b → IsInAny
 naming_held None b none = none
 naming_held (Some extents) b there = there
 
-held_naming : (o : Option (List Extent)) (b : ℕ) → IsInAny (held o) b → AreNaming o b
+pub held_naming : (o : Option (List Extent)) (b : ℕ) → IsInAny (held o) b → AreNaming o b
 held_naming None b none = none
 held_naming (Some extents) b there = there
 
@@ -36,7 +36,7 @@ held_apart : (o : Option (List Extent)) → AreApart (held o) → ForExtents o A
 held_apart None apart = tt
 held_apart (Some extents) apart = apart
 
-within_held : (blocks len : ℕ) (o : Option (List Extent)) → ForExtents o (AreExtents blocks len) → All (IsExtentOf blocks) (held o)
+pub within_held : (blocks len : ℕ) (o : Option (List Extent)) → ForExtents o (AreExtents blocks len) → All (IsExtentOf blocks) (held o)
 within_held blocks len None within = All-nil (IsExtentOf blocks)
 within_held blocks len (Some extents) within = within.each
 
@@ -83,14 +83,14 @@ each_extent blocks (row ∷ rows) each = All-append (IsExtentOf blocks) (extents
 -- ---- the rows of records
 
 module _ (records : Records) (rows : List Part) (all : records.parts ≡ table_map part_cmp part_place part_value rows) (rising : is_rising part_cmp part_place rows ≡ true) where
-  row_of : (key : PartKey) (part : PartRecord) → get records.parts key ≡ Some part → IsRowOf part_place part_value rows key part
+  pub row_of : (key : PartKey) (part : PartRecord) → get records.parts key ≡ Some part → IsRowOf part_place part_value rows key part
   row_of key part has = table_has_row part_cmp part_place part_value part_exact rows rising key part (ap (λ m. get m key) (sym all) ∙ has)
 
-  has_row : (i : ℕ) (d : Part) → i < length rows → get records.parts (part_place (get_or rows i d)) ≡ Some (part_value (get_or rows i d))
+  pub has_row : (i : ℕ) (d : Part) → i < length rows → get records.parts (part_place (get_or rows i d)) ≡ Some (part_value (get_or rows i d))
   has_row i d within = ap (λ m. get m (part_place (get_or rows i d))) all ∙ row_in_table part_cmp part_place part_value part_total rows rising i d within
 
   -- what the row of a part names
-  row_named : (key : PartKey) (part : PartRecord) (b : ℕ) → (row : IsRowOf part_place part_value rows key part) → AreNaming part.extents b → (d : Part) → IsInAny (extents_of (get_or rows row.place d)) b
+  pub row_named : (key : PartKey) (part : PartRecord) (b : ℕ) → (row : IsRowOf part_place part_value rows key part) → AreNaming part.extents b → (d : Part) → IsInAny (extents_of (get_or rows row.place d)) b
   row_named key part b row naming d = subst (λ p. IsInAny (extents_of p) b) (sym (row.at d)) (subst (λ (p : PartRecord). IsInAny (held p.extents) b) (sym row.value_is) (naming_held part.extents b naming))
 
   pub in_range_rows : AreInRange records → All (IsInRange records.blocks) rows

@@ -14,6 +14,7 @@ change_of (makes.Registry registry) = machine.AddsRegistry registry.tld registry
 change_of (makes.Part name) = machine.AddsPart name
 change_of (makes.Verdict statement) = machine.AddsVerdict statement
 change_of (makes.Absence tld day) = machine.AddsAbsence tld day
+change_of makes.Purge = machine.DropsBytes
 
 abbrev pub record_of : kept.Kept → Record
 record_of (answers.Registry registry) = OfRegistry registry.tld registry.first_day

@@ -39,6 +39,7 @@ pub fn judge<'a>(records: &'a Records, command: &Command<'_>, now: Sec) -> Rulin
         Command::Receive(name, bytes) => judge_part(records, name, bytes.len(), now),
         Command::Statement(statement) => judge_statement(records, statement, now),
         Command::Check(tld, day) => judge_check(records, *tld, *day, now),
+        Command::Purge => Ruling::Make(Change::Purge),
     }
 }
 

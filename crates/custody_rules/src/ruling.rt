@@ -37,4 +37,6 @@ pub enum Change {
     Verdict(Statement),
     /// The notice that the day has passed without a deposit is kept.
     Absence(Tld, Day),
+    /// The bytes that were kept for a year are dropped.
+    Purge,
 }

@@ -99,13 +99,9 @@ fn carry_out(rt: &HostRuntime, order: &Order<'_>) -> Result<u8, Stop> {
             let bytes = read_file(rt, file)?;
             work(rt, folder, order, &bytes, moment(rt, *now)?)
         }
-        Order::Verify { folder, now, .. } | Order::Sweep { folder, now } => work(
-            rt,
-            folder,
-            order,
-            &[],
-            moment(rt, *now)?,
-        ),
+        Order::Verify { folder, now, .. }
+        | Order::Sweep { folder, now }
+        | Order::Purge { folder, now } => work(rt, folder, order, &[], moment(rt, *now)?),
     }
 }
 

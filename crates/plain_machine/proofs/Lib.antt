@@ -1,3 +1,4 @@
 pub mod NoticeRows
 pub mod PlainMaps
 pub mod PlainSteps
+pub mod PlainPurges

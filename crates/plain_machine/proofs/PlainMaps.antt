@@ -12,9 +12,10 @@ use Rattle.deposit_name.specs.Name.{Name}
 use Rattle.custody_records.proofs.FieldLemmas.{find_passes}
 use Rattle.custody_records.specs.Keys.{PartKey, text_cmp, part_cmp}
 use Rattle.custody_records.specs.Records.{key_of}
-use Rattle.plain_machine.specs.declared.plain.PlainRegistry.{PlainRegistry}
-use Rattle.plain_machine.specs.declared.plain.PlainPart.{PlainPart}
-use Rattle.plain_machine.specs.Plain.{registry_entry, part_entry, part_shown, is_of, is_at, is_in}
+use Rattle.plain_machine.specs.declared.kept.PlainRegistry.{PlainRegistry}
+use Rattle.plain_machine.specs.declared.kept.PlainPart.{PlainPart}
+use Rattle.plain_machine.specs.Once.{is_at}
+use Rattle.plain_machine.specs.Plain.{registry_entry, part_entry, part_shown, is_of, is_in}
 use Rattle.custody_machine.specs.State.{at_place, places}
 use Rattle.custody_machine.specs.Names.{is_same_text}
 use Rattle.custody_records.specs.Orders.{text_total, part_total, part_exact}

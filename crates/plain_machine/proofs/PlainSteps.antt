@@ -10,15 +10,14 @@ use Rattle.deposit_name.specs.declared.faults.NameError.{NameError}
 use Rattle.deposit_name.specs.Fault.{IsFault}
 use Rattle.custody_records.specs.Keys.{text_cmp, part_cmp}
 use Rattle.custody_records.specs.Records.{key_of}
-use Rattle.plain_machine.specs.declared.plain.PlainRegistry.{PlainRegistry}
-use Rattle.plain_machine.specs.declared.plain.PlainPart.{PlainPart}
-use Rattle.plain_machine.specs.declared.plain.PlainAnswer.{PlainAnswer}
-use Rattle.plain_machine.specs.declared.plain.PlainAnswer.TheVariants as answer
+use Rattle.plain_machine.specs.declared.kept.PlainRegistry.{PlainRegistry}
+use Rattle.plain_machine.specs.declared.kept.PlainPart.{PlainPart}
+use Rattle.plain_machine.specs.declared.kept.PlainAnswer.{PlainAnswer}
+use Rattle.plain_machine.specs.declared.kept.PlainAnswer.TheVariants as answer
 use Rattle.custody_machine.specs.Names.{read_name}
 use Rattle.plain_machine.specs.Plain.{registry_entry, part_entry, part_shown, IsOutcome}
-use Rattle.custody_machine.specs.Retries.{content_len}
 use Rattle.custody_machine.specs.State.{State, Part, places}
-use Rattle.custody_machine.specs.Machine.{Register, Receive, Statement, Check, absence_notice, absence_of, check_tests, OfRegistry, OfPart, OfNotice, statement_tests, kept_verdict, next_key, verdict_notice, verdict_on, with_notice, noticed, count_parts, first_part, Outcome, Accept, first_day_of, part_at, part_in, recorded, has_other_kind, holds_other, is_dropped, refusal_of, step, with_registry, with_part, received_part, receive_tests, named_tests, first_standing}
+use Rattle.custody_machine.specs.Machine.{Register, Receive, Statement, Check, content_len, absence_notice, absence_of, check_tests, OfRegistry, OfPart, OfNotice, statement_tests, kept_verdict, next_key, verdict_notice, verdict_on, with_notice, noticed, count_parts, first_part, Outcome, Accept, first_day_of, part_at, part_in, recorded, has_other_kind, holds_other, is_dropped, refusal_of, step, with_registry, with_part, received_part, receive_tests, named_tests, first_standing}
 use Rattle.custody_records.specs.Orders.{text_total, part_total, part_exact}
 use Rattle.custody_machine.specs.declared.answers.Refusal.{Refusal}
 use Rattle.custody_machine.specs.declared.answers.Refusal.TheVariants.{NameRefused}

@@ -1,1 +1,2 @@
+pub mod Once
 pub mod Plain

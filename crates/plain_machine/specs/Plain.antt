@@ -1,5 +1,5 @@
 -- The state that a plain program shows.
-use Rattle.std.specs.Prelude.{◌≡◌, ◌&&◌, ◌==◌, ℕ, List, Option, None, map, option_map, Bool, if◌then◌else◌, nat_lt}
+use Rattle.std.specs.Prelude.{◌≡◌, ◌&&◌, ◌==◌, ℕ, List, Option, None, map, option_map, Bool, false, if◌then◌else◌, nat_lt}
 use Rattle.std.specs.FinMap.{FinMap, from_entries, empty}
 use Rattle.std.specs.List.{filter}
 use Rattle.deposit_name.specs.Name.{Name}
@@ -8,18 +8,16 @@ use Rattle.custody_records.specs.Records.{Notice, key_of}
 use Rattle.custody_records.specs.Tables.{table_map}
 use Rattle.custody_records.specs.Typed.{notice_key, notice_value}
 use Rattle.plain_machine.specs.declared.notices.PlainNotices.{PlainNotices}
-use Rattle.plain_machine.specs.declared.plain.PlainRegistry.{PlainRegistry}
-use Rattle.plain_machine.specs.declared.plain.PlainContent.{PlainContent}
-use Rattle.plain_machine.specs.declared.plain.PlainContent.TheVariants as plain
-use Rattle.plain_machine.specs.declared.plain.PlainPart.{PlainPart}
-use Rattle.plain_machine.specs.declared.plain.PlainState.{PlainState}
-use Rattle.plain_machine.specs.declared.plain.PlainAnswer.{PlainAnswer}
-use Rattle.plain_machine.specs.declared.plain.PlainAnswer.TheVariants as answer
+use Rattle.plain_machine.specs.declared.kept.PlainRegistry.{PlainRegistry}
+use Rattle.plain_machine.specs.declared.kept.PlainContent.{PlainContent}
+use Rattle.plain_machine.specs.declared.kept.PlainContent.TheVariants as plain
+use Rattle.plain_machine.specs.declared.kept.PlainPart.{PlainPart}
+use Rattle.plain_machine.specs.declared.kept.PlainState.{PlainState}
+use Rattle.plain_machine.specs.declared.kept.PlainAnswer.{PlainAnswer}
+use Rattle.plain_machine.specs.declared.kept.PlainAnswer.TheVariants as answer
 use Rattle.custody_machine.specs.Names.{is_same_text}
-use Rattle.custody_machine.specs.SameValues.{is_same_key}
 use Rattle.custody_machine.specs.State.{State, Part, Content, Held, Dropped}
-use Rattle.custody_machine.specs.Machine.{OfRegistry, OfPart, OfNotice, Outcome, Refuse, Accept, greatest_number, is_receipt, passed_id}
-use Rattle.custody_machine.specs.Retries.{content_len}
+use Rattle.custody_machine.specs.Machine.{OfRegistry, OfPart, OfNotice, OfPurge, Outcome, Refuse, Accept, content_len, dropped_if_due, greatest_number, is_receipt, passed_id}
 
 abbrev pub registry_entry : PlainRegistry → List ℕ × ℕ
 registry_entry r = (r.tld, r.first_day)
@@ -51,15 +49,17 @@ IsOutcome (answer.Registered tld first_day is_repeat) old new outcome = outcome 
 IsOutcome (answer.Received name received len is_repeat) old new outcome =
     (part : Part) × (outcome ≡ Accept (record { entry = OfPart (key_of name) part; is_repeat = is_repeat }) new) × (part.kind ≡ name.kind) × (part.received ≡ received) × (content_len part.content ≡ len)
 IsOutcome (answer.Noticed notice is_repeat) old new outcome = outcome ≡ Accept (record { entry = OfNotice (notice_key notice) (notice_value notice); is_repeat = is_repeat }) new
+IsOutcome (answer.Purged count) old new outcome = outcome ≡ Accept (record { entry = OfPurge count; is_repeat = false }) new
 IsOutcome (answer.Refused refusal) old new outcome = (outcome ≡ Refuse refusal) × (new ≡ old)
+
+-- a part after a purge
+abbrev pub dropped_entry : ℕ → PartKey × Part → PartKey × Part
+dropped_entry today entry = (entry.0, dropped_if_due today entry.1)
 
 -- ---- what the loops look for
 
 abbrev pub is_of : List ℕ → PlainRegistry → Bool
 is_of tld r = is_same_text r.tld tld
-
-abbrev pub is_at : PartKey → PlainPart → Bool
-is_at key p = is_same_key (key_of p.name) key
 
 abbrev pub is_later_receipt : List ℕ → ℕ → NoticeKey × Notice → Bool
 is_later_receipt tld day entry = is_same_text entry.0.tld tld && (nat_lt day entry.1.day && is_receipt entry.1.kind)

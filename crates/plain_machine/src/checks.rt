@@ -7,7 +7,7 @@ ghost use Rattle.custody_machine.specs.Machine as machine;
 ghost use Rattle.custody_machine.specs.State.{has_notice};
 ghost use Rattle.plain_machine.specs.Plain.{IsOutcome, shown};
 
-use crate::plain::{PlainAnswer, PlainState};
+use crate::kept::{PlainAnswer, PlainState};
 use crate::statements::noticed;
 use custody_machine::Refusal;
 use deposit_name::Tld;

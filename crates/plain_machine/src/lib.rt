@@ -2,11 +2,14 @@
 #![tactic(auto)]
 
 mod checks;
+mod kept;
 mod notices;
 mod plain;
+mod purges;
 mod sought;
 mod statements;
 mod telling;
 
+pub use kept::{PlainAnswer, PlainContent, PlainPart, PlainRegistry, PlainState};
 pub use notices::PlainNotices;
-pub use plain::{PlainAnswer, PlainContent, PlainPart, PlainRegistry, PlainState, step_plain};
+pub use plain::step_plain;

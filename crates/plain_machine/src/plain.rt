@@ -2,73 +2,21 @@
 ghost use Rattle.std.specs.Prelude.{◌≡◌, ◌≤◌, ◌-◌, ◌&&◌, ◌||◌, ◌==◌, not, if◌then◌else◌, nat_lt, ℕ, List, Ok, Some, IfOk, OnErr, find, option_map, length, count_by, is_some, is_none};
 ghost use Rattle.std.specs.List.{list_any};
 ghost use Rattle.custody_records.specs.Records.{key_of};
-ghost use Rattle.plain_machine.specs.Plain.{shown, part_shown, content_shown, IsOutcome, is_of, is_at};
+ghost use Rattle.plain_machine.specs.Once.{is_at};
+ghost use Rattle.plain_machine.specs.Plain.{shown, part_shown, content_shown, IsOutcome, is_of};
 ghost use Rattle.custody_machine.specs.Commands.{command_of};
 ghost use Rattle.custody_machine.specs.Names.{read_name};
 ghost use Rattle.custody_machine.specs.SameValues.{is_same_kind};
 ghost use Rattle.custody_machine.specs.State.{empty, at_place, has_notice, places};
 ghost use Rattle.custody_machine.specs.Machine.{Register, Receive, step, first_day_of, recorded, part_in, has_other_kind, is_gone, is_held_with_other, holds_other, is_dropped, max_part_len, is_beyond, is_outside, is_unknown, is_unregistered, is_out_of_range, is_receipt, is_failure_of, is_not_due, is_stated, differs_in_kind, is_out_of_order, receive_tests, first_standing};
 
+use crate::kept::{PlainAnswer, PlainContent, PlainPart, PlainRegistry, PlainState};
 use crate::notices::PlainNotices;
 use crate::sought::Sought;
 use custody_machine::{Command, Refusal};
 use deposit_name::{DepositName, Kind, Tld};
-use desk::Notice;
 use schedule::{Day, Sec};
 use std::alloc::{AllocError, Global};
-
-/// A registry with its first day.
-#[derive(Clone, Copy)]
-pub struct PlainRegistry {
-    pub tld: Tld,
-    pub first_day: Day,
-}
-
-/// What is kept of a part.
-#[derive(Drop)]
-pub enum PlainContent {
-    /// Its bytes.
-    Held(Vec<u8>),
-    /// Their number, after the keeping year.
-    Dropped(u32),
-}
-
-/// A part as it was received.
-#[derive(Drop)]
-pub struct PlainPart {
-    pub name: DepositName,
-    pub received: Sec,
-    pub content: PlainContent,
-}
-
-/// What is kept: of two registries or parts of one key the first counts. There are no releases yet.
-#[derive(Drop)]
-pub struct PlainState {
-    pub registries: Vec<PlainRegistry>,
-    pub parts: Vec<PlainPart>,
-    pub notices: PlainNotices,
-}
-
-/// The answer to a command, with the record that it made, or found made.
-#[derive(Clone, Copy, Debug, PartialEq, Eq)]
-pub enum PlainAnswer {
-    Registered {
-        tld: Tld,
-        first_day: Day,
-        is_repeat: bool,
-    },
-    Received {
-        name: DepositName,
-        received: Sec,
-        len: usize,
-        is_repeat: bool,
-    },
-    Noticed {
-        notice: Notice,
-        is_repeat: bool,
-    },
-    Refused(Refusal),
-}
 
 impl PlainContent {
     pub(crate) fn is_dropped(&self) -> bool
@@ -376,6 +324,7 @@ impl PlainState {
         bytes: &[u8],
         now: Sec,
     ) -> Result<PlainAnswer, AllocError>
+        requires { (text : List ℕ) × (read_name text ≡ Ok name.now) }
         ensures step { (text : List ℕ) → read_name text ≡ Ok name.now → IfOk result (λ answer. IsOutcome answer (shown self.old) (shown self.new) (step (shown self.old) (Receive text bytes.now) now)) }
         ensures err { OnErr result (shown self.new ≡ shown self.old) }
     {
@@ -412,6 +361,7 @@ pub fn step_plain(
         Command::Receive(name, bytes) => state.receive(alloc, name, bytes, now),
         Command::Statement(stated) => state.receive_statement(alloc, stated, now),
         Command::Check(tld, day) => state.receive_check(tld, *day, now),
+        Command::Purge => Ok(state.purge(now)),
     }
 }
 

@@ -5,7 +5,7 @@ ghost use Rattle.custody_machine.specs.Machine.{are_as_stated, bytes_held, bytes
 ghost use Rattle.custody_machine.specs.Machine as machine;
 ghost use Rattle.plain_machine.specs.Plain.{IsOutcome, content_shown, is_in, shown};
 
-use crate::plain::{PlainAnswer, PlainContent, PlainPart, PlainState};
+use crate::kept::{PlainAnswer, PlainContent, PlainPart, PlainState};
 use crate::sought::Sought;
 use crate::telling::tells_id;
 use custody_machine::{Refusal, Statement};

@@ -3,7 +3,7 @@
 use custody_machine::{Command, Refusal, Statement};
 use deposit_name::{DepositId, DepositName, Kind, NameError, Tld};
 use desk::{Check, LINE_MAX, Notice, NoticeKind, Revision, write_line};
-use plain_machine::{PlainAnswer, PlainContent, PlainPart, PlainState, step_plain};
+use plain_machine::{PlainAnswer, PlainState, step_plain};
 use schedule::{read_day, read_moment};
 use std::alloc::Global;
 use std::test::Fail;
@@ -209,11 +209,21 @@ fn the_parts_of_a_revision_are_of_one_type(rt: HostRuntime) -> Result<(), Fail> 
 fn a_dropped_part_is_not_received_again(rt: HostRuntime) -> Result<(), Fail> {
     let _kind: Option<NoticeKind> = None;
     let mut state = registered(rt.alloc())?;
-    state.parts.push(PlainPart {
-        name: DepositName::parse(NAME).ok().ok_or("a name")?,
-        received: read_moment(AT_TEN).ok_or("a moment")?,
-        content: PlainContent::Dropped(5),
-    })?;
+    put(rt.alloc(), &mut state, NAME, b"hello", AT_TEN)?;
+    let kept = ask(
+        rt.alloc(),
+        &mut state,
+        &Command::Purge,
+        b"2027-08-02T23:59:59Z",
+    )?;
+    assert_eq!(rt; kept, PlainAnswer::Purged { count: 0 });
+    let dropped = ask(
+        rt.alloc(),
+        &mut state,
+        &Command::Purge,
+        b"2027-08-03T00:00:00Z",
+    )?;
+    assert_eq!(rt; dropped, PlainAnswer::Purged { count: 1 });
     let again = put(rt.alloc(), &mut state, NAME, b"hello", AT_ELEVEN)?;
     assert_eq!(rt; again, PlainAnswer::Refused(Refusal::DroppedAfterKeeping));
     Ok(())

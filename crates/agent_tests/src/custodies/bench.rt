@@ -52,6 +52,7 @@ pub fn told(answer: &Result<Reply, Refused>) -> Answer {
             notice: *notice,
             is_repeat,
         }),
+        Record::Purge { count } => Ok(PlainAnswer::Purged { count: *count }),
     }
 }
 

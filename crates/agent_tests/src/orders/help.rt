@@ -13,6 +13,7 @@ Commands:
   put       Receives one part file of a deposit; the same bytes again are answered as before
   verify    Verifies a deposit whose parts are all sent; the same words again are answered as before
   sweep     Records the absence of each day that has passed without a notice, of all registries
+  purge     Drops the bytes of each part that was kept for a year; its record stays
   report    Prints the notices of a registry
   state     Prints the records: each registry with its parts and notices, then the free blocks
 
@@ -122,6 +123,22 @@ Prints each new notice: NUMBER ABSENCE DATE --- - MOMENT TLD
 Example: escrow sweep vault --now 2026-08-05T00:00:00Z
 ";
 
+const PURGE: &str = "\
+Drops the bytes of each part that was kept for a year; its record stays
+
+Usage: escrow purge [OPTIONS] <DIR>
+
+Arguments:
+  <DIR>  Folder of the vault, which has to be there
+
+Options:
+      --now <MOMENT>  Moment of the purge, as 2027-08-04T00:00:00Z; else the clock is read
+  -h, --help          Print help
+
+Prints: dropped N, the number of these parts
+Example: escrow purge vault --now 2027-08-04T00:00:00Z
+";
+
 const REPORT: &str = "\
 Prints the notices of a registry
 
@@ -157,7 +174,7 @@ Example: escrow state vault
 ";
 
 /// Words that ask for help, and the text that they get.
-static HELP: [(&[&str], &str); 10] = [
+static HELP: [(&[&str], &str); 11] = [
     (&["--help"], ESCROW),
     (&["-h"], ESCROW),
     (&["--version"], "escrow 0.1.0, proved with rattle-kit-13b\n"),
@@ -166,6 +183,7 @@ static HELP: [(&[&str], &str); 10] = [
     (&["put", "-h"], PUT),
     (&["verify", "--help"], VERIFY),
     (&["sweep", "--help"], SWEEP),
+    (&["purge", "--help"], PURGE),
     (&["report", "--help"], REPORT),
     (&["state", "--help"], STATE),
 ];

@@ -1,7 +1,10 @@
 use Rattle.std.proofs.Common.{refl, sym, subst}
 use Rattle.custody_records.specs.Held.{records_of}
 use Rattle.custody_machine.specs.Commands.{command_of}
-use Rattle.custody_machine.specs.Rulings.{Decides}
+use Rattle.custody_machine.specs.Machine.{Purge}
+use Rattle.custody_machine.specs.Rulings.{DropsBytes, Makes, Decides}
+use Rattle.custody_machine.specs.Stored.{state_in}
+use Rattle.custody_machine.proofs.Accepting.{step_none}
 use Rattle.custody_rules.specs.Rulings.{ruling_of}
 use Rattle.custody_rules.proofs.judging.judge.Goals as goal
 
@@ -9,6 +12,11 @@ pub returns-in-Register : goal.returns-in-Register
 returns-in-Register c =
     subst (λ command. Decides (ruling_of c.judge_registry.result) (records_of c.args.records.now) (command_of command) c.args.now) (sym c.in-Register.is)
     (c.judge_registry.ensures c.args.now)
+
+pub returns-in-Purge : goal.returns-in-Purge
+returns-in-Purge c =
+    subst (λ command. Decides (Makes DropsBytes) (records_of c.args.records.now) (command_of command) c.args.now) (sym c.in-Purge.is)
+    (refl, λ image. step_none (state_in (records_of c.args.records.now) image) Purge c.args.now refl)
 
 pub returns-in-Receive : goal.returns-in-Receive
 returns-in-Receive c =

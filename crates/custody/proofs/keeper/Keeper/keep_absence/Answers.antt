@@ -30,7 +30,7 @@ returns-then-is_err g c =
     let number = c.in-Some.ensures.next in
     commits_in_doubt g.S.Store old c.requires.order (Check tld c.args.day) c.args.now (record { vault = old.vault; store = c.insert_notice.new.self; records = c.reserve_number.new.records })
     (with_notice (recorded old) (next_key (recorded old).notices tld) (absence_notice c.args.day c.args.now)) (record { entry = OfNotice (next_key (recorded old).notices tld) (absence_notice c.args.day c.args.now); is_repeat = false })
-    (absence_change g.S.Store old c.requires.order tld c.args.day c.args.now c.requires.ruled c.insert_notice.new.self c.reserve_number.new.records)
+    (absence_change g.S.Store old c.requires.order tld c.args.day c.args.now c.requires.ruled c.insert_notice.new.self c.reserve_number.new.records).change
     c.insert_notice.result _ c.insert_notice.ensures.commits
     (λ is. ap (λ n. form_of (with_notice_row (row_of_notice (record { tld = tld; number = n }) (absence_notice c.args.day c.args.now)) (stored g.S.Store old).rows)) number
     ∙ notice_means (recorded old) tld (absence_notice c.args.day c.args.now) c.show_form_of_day.ensures.tld c.show_form_of_day.ensures.day c.show_range_of_moment.ensures tt

@@ -48,7 +48,7 @@ returns-in_default-insert_part g c = λ text ruled.
     commits_in_doubt g.S.Store old c.requires.order command c.args.now new (with_part (recorded old) (key_of c.args.name.now) (staged_record c.args.name.now c.args.now staged))
     (record { entry = OfPart (key_of c.args.name.now) (received_part c.args.name.now c.args.bytes.now c.args.now); is_repeat = false })
     (kept_change old new text c.args.bytes.now c.args.now c.args.name.now c.requires.order ruled staged placed g.S.Store h.size h.no_failure
-    (λ tells. record { holds = h.bytes tells; elsewhere = h.image tells; settled = λ j w. (h.settled tells j).0 w }) (λ tells volume. h.any_moment tells volume.elsewhere))
+    (λ tells. record { holds = h.bytes tells; elsewhere = h.image tells; settled = λ j w. (h.settled tells j).0 w }) (λ tells volume. h.any_moment tells volume.elsewhere)).change
     c.insert_part.result _ c.insert_part.ensures.commits
     (kept_means old new text c.args.bytes.now c.args.now c.args.name.now c.requires.order ruled staged placed c.show_range_of_moment.ensures (stored g.S.Store old).rows)
     (Makes (AddsPart c.args.name.now), ruled, inr (inr refl))

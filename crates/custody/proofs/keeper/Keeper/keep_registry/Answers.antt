@@ -27,7 +27,7 @@ returns-then-is_err-2 g c = λ now.
     let old = c.args.self.now in
     commits_in_doubt g.S.Store old c.requires.order (Register c.args.registry.tld c.args.registry.first_day) now (record { vault = old.vault; store = c.insert_registry.new.self; records = c.reserve_registry.new.self })
     (with_registry (recorded old) c.args.registry.tld c.args.registry.first_day) (record { entry = OfRegistry c.args.registry.tld c.args.registry.first_day; is_repeat = false })
-    (registry_change g.S.Store old c.requires.order c.args.registry.tld c.args.registry.first_day now c.requires.new c.insert_registry.new.self c.reserve_registry.new.self)
+    (registry_change g.S.Store old c.requires.order c.args.registry.tld c.args.registry.first_day now c.requires.new c.insert_registry.new.self c.reserve_registry.new.self).change
     c.insert_registry.result _ c.insert_registry.ensures.commits
     (λ is. registry_means (stored g.S.Store old).rows (recorded old) c.args.registry.tld c.args.registry.first_day is c.show_form_of_registry.ensures.tld c.show_form_of_registry.ensures.first_day c.requires.new)
     (Makes (AddsRegistry c.args.registry.tld c.args.registry.first_day), registry_is_new (recorded old) c.args.registry.tld c.args.registry.first_day now c.requires.new, inr refl)

@@ -48,7 +48,7 @@ returns-then-is_err g c =
     let new : Keeper g.row.V.Denot g.row.S.Denot g.V.Volume = record { vault = c.verify_stated.new.vault; store = c.insert_notice.new.self; records = c.reserve_number.new.records } in
     commits_in_doubt g.S.Store old c.requires.order (Statement stated) c.args.now new
     (with_notice (recorded old) (next_key (recorded old).notices stated.tld) (verdict_notice stated found c.args.now)) (record { entry = OfNotice (next_key (recorded old).notices stated.tld) (verdict_notice stated found c.args.now); is_repeat = false })
-    (verdict_change g.S.Store old c.requires.order stated c.args.now c.requires.ruled found new h.read h.failures (λ tells. subst (λ r. IsVerified (Ok found) r (image_of old) stated) c.reserve_number.ensures.same (h.verified tells)))
+    (verdict_change g.S.Store old c.requires.order stated c.args.now c.requires.ruled found new h.read h.failures (λ tells. subst (λ r. IsVerified (Ok found) r (image_of old) stated) c.reserve_number.ensures.same (h.verified tells))).change
     c.insert_notice.result _ c.insert_notice.ensures.commits
     (λ is. ap (λ row. form_of (with_notice_row row (stored g.S.Store old).rows)) (λ i. row_of_notice (key i) (c.notice_of-notice.ensures.value i))
     ∙ notice_means (recorded old) stated.tld (verdict_notice stated found c.args.now) c.show_form_of_statement.ensures.tld c.show_form_of_statement.ensures.day c.show_range_of_moment.ensures

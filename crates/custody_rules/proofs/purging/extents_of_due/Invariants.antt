@@ -1,0 +1,6 @@
+use Rattle.std.proofs.Common.{◌≡◌, take}
+use Rattle.custody_rules.specs.Blocks.{all_due}
+use Rattle.custody_rules.proofs.purging.extents_of_due.Given as goal
+
+abbrev pub invariant-loop-part : goal.invariant-loop-part
+invariant-loop-part l = l.due.items ≡ all_due l.today (take l.part-index l.parts)

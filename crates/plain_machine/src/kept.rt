@@ -1,0 +1,68 @@
+//! What a plain program keeps, and what it answers.
+ghost use Rattle.std.specs.Prelude.{◌≡◌, true};
+ghost use Rattle.plain_machine.specs.Once.{are_once};
+
+use crate::notices::PlainNotices;
+use custody_machine::Refusal;
+use deposit_name::{DepositName, Tld};
+use desk::Notice;
+use schedule::{Day, Sec};
+
+/// A registry with its first day.
+#[derive(Clone, Copy)]
+pub struct PlainRegistry {
+    pub tld: Tld,
+    pub first_day: Day,
+}
+
+/// What is kept of a part.
+#[derive(Drop)]
+pub enum PlainContent {
+    /// Its bytes.
+    Held(Vec<u8>),
+    /// Their number, after the keeping year.
+    Dropped(usize),
+}
+
+/// A part as it was received.
+#[derive(Drop)]
+pub struct PlainPart {
+    pub name: DepositName,
+    pub received: Sec,
+    pub content: PlainContent,
+}
+
+/// What is kept: of two registries of one name the first counts. There are no releases yet.
+#[derive(Drop)]
+pub struct PlainState {
+    pub registries: Vec<PlainRegistry>,
+    /// Each place of a revision once.
+    pub parts: Vec<PlainPart>,
+    pub notices: PlainNotices,
+    ghost once: { are_once parts.items ≡ true },
+}
+
+/// The answer to a command, with the record that it made, or found made.
+#[derive(Clone, Copy, Debug, PartialEq, Eq)]
+pub enum PlainAnswer {
+    Registered {
+        tld: Tld,
+        first_day: Day,
+        is_repeat: bool,
+    },
+    Received {
+        name: DepositName,
+        received: Sec,
+        len: usize,
+        is_repeat: bool,
+    },
+    Noticed {
+        notice: Notice,
+        is_repeat: bool,
+    },
+    /// Of how many parts the bytes were dropped.
+    Purged {
+        count: usize,
+    },
+    Refused(Refusal),
+}
