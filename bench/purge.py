@@ -1,37 +1,24 @@
 #!/usr/bin/env python3
-"""Times the purge of `escrow`: of half the parts of a vault, with the opening of the same vault beside it.
+"""Times the purge of `escrow`, of half the parts of a vault, and counts its instructions, with those of opening the same vault beside it.
 
-Run `rt run` in crates/escrow first. Then: python3 bench/purge.py [PROGRAM]
+It needs valgrind. Run `rt run` in crates/escrow first. Then: python3 bench/purge.py [PROGRAM]
 """
 import datetime
 import hashlib
 import pathlib
+import shutil
 import sqlite3
-import subprocess
-import sys
 import tempfile
-import time
 
-PROGRAM = pathlib.Path(__file__).resolve().parent.parent / "crates/escrow/out/escrow"
-EPOCH = datetime.date(1970, 1, 1)
+from vaults import instructions, number, program, seconds
+
 FIRST_DAY = datetime.date(2000, 1, 1)
 EARLY = datetime.date(2100, 1, 1)
 LATE = datetime.date(2400, 1, 1)
 NOW = datetime.date(2300, 1, 1)
 SIZES = (50_000, 100_000, 200_000)
+RUNS = 5
 SHA = hashlib.sha256(bytes(5)).digest()
-
-
-def number(day):
-    return (day - EPOCH).days
-
-
-def seconds(*words):
-    start = time.perf_counter()
-    done = subprocess.run(words, stdout=subprocess.PIPE, stderr=subprocess.PIPE)
-    taken = time.perf_counter() - start
-    assert done.returncode == 0, (words, done.stderr)
-    return taken, done.stdout
 
 
 def row(i):
@@ -42,33 +29,42 @@ def row(i):
     return "example", number(FIRST_DAY) + i // 8, 0, 1 + i % 8, "full", number(received) * 86400, keep_day, 5, SHA, extent
 
 
-def new_vault(folder, count):
+def new_vault(escrow, folder, count):
     folder.mkdir()
-    seconds(PROGRAM, "init", folder, "--blocks", "262144", "--number", "0000000000000001")
-    seconds(PROGRAM, "register", folder, "example", "--first", FIRST_DAY.isoformat())
+    seconds(escrow, "init", folder, "--blocks", "262144", "--number", "0000000000000001")
+    seconds(escrow, "register", folder, "example", "--first", FIRST_DAY.isoformat())
     db = sqlite3.connect(folder / "custody.db")
     db.executemany(f"INSERT INTO part VALUES ({','.join('?' * 10)})", (row(i) for i in range(count)))
     db.commit()
     db.close()
 
 
+def purged(measure, escrow, folder, count):
+    """What a purge of a copy of the vault takes."""
+    copy = folder.with_name("copy")
+    shutil.copytree(folder, copy)
+    taken, out = measure(escrow, "purge", copy, "--now", f"{NOW.isoformat()}T00:00:00Z")
+    shutil.rmtree(copy)
+    assert out == b"dropped %d\n" % (count // 2), out
+    return taken
+
+
 def main():
-    print("| parts, of which half are dropped | `purge`, as a multiple of that of the first row | of it opening the vault |")
-    print("|---|---|---|")
-    least = None
+    escrow = program()
+    print("| parts, of which half are dropped | time, as a multiple of that of the first row | instructions, so | opening, of them | without the opening, so |")
+    print("|---|---|---|---|---|")
+    first = None
     with tempfile.TemporaryDirectory(dir=".") as name:
-        top = pathlib.Path(name).resolve()
         for count in SIZES:
-            folder = top / f"v{count}"
-            new_vault(folder, count)
-            opened, _ = seconds(PROGRAM, "report", folder, "example")
-            taken, out = seconds(PROGRAM, "purge", folder, "--now", f"{NOW.isoformat()}T00:00:00Z")
-            assert out == b"dropped %d\n" % (count // 2), out
-            least = least or taken
-            print(f"| {count:,} | {taken / least:.1f} | {opened / taken:.0%} |", flush=True)
+            folder = pathlib.Path(name).resolve() / f"v{count}"
+            new_vault(escrow, folder, count)
+            time = min(purged(seconds, escrow, folder, count) for _ in range(RUNS))
+            opening, _ = instructions(escrow, "report", folder, "example")
+            whole = purged(instructions, escrow, folder, count)
+            first = first or (time, whole, whole - opening)
+            multiples = [now / then for now, then in zip((time, whole, whole - opening), first)]
+            print(f"| {count:,} | {multiples[0]:.1f} | {multiples[1]:.2f} | {opening / whole:.0%} | {multiples[2]:.2f} |", flush=True)
 
 
 if __name__ == "__main__":
-    if len(sys.argv) > 1:
-        PROGRAM = pathlib.Path(sys.argv[1]).resolve()
     main()
