@@ -1,86 +1,79 @@
-use Rattle.std.proofs.Common.{◌≡◌, ℕ, ◌*◌, ◌+◌, ◌-◌, ◌≤◌, min, length, take, drop, get_or, sym, ◌∙◌, ap, subst, arith, length-take, length-drop}
-use Rattle.vault_volume.specs.Disk.{ChangedIn}
-use Rattle.vault_volume.specs.Extents.{IsIn, IsInAny}
-use Rattle.vault_volume.specs.Image.{DiffersOnlyIn}
+use Rattle.std.proofs.Common.{◌≡◌, ℕ, ◌*◌, ◌+◌, ◌-◌, ◌≤◌, min, length, take, drop, get_or, ◌∙◌, ap, arith, length-take, length-drop}
+use Rattle.vault_volume.specs.Extents.{IsIn, IsInAny, bytes_of}
 use Rattle.extent_map.specs.declared.extent.Extent.{Extent}
 use Rattle.extent_map.proofs.SetLemmas.{in_at}
-use Rattle.vault_volume.proofs.ExtentLemmas.{blocks_of_more, write_more}
+use Rattle.vault_volume.proofs.ExtentLemmas.{blocks_of_more, fill_more}
 use Rattle.vault_volume.proofs.ImageLemmas.{in_both, in_extent, in_more}
-use Rattle.vault_volume.proofs.Moments.{goes_on}
-use Rattle.vault_volume.proofs.Writes.{opened, written_in}
+use Rattle.vault_volume.proofs.Writes.{written_more}
 use Rattle.vault_volume.proofs.vault.fill_extents.Goals as goal
 
-pub returns-in_err-write_at-clause-image : goal.returns-in_err-write_at-clause-image
-returns-in_err-write_at-clause-image g c = λ tells.
+pub returns-in_err-write_some-clause-image : goal.returns-in_err-write_some-clause-image
+returns-in_err-write_some-clause-image g c = λ tells.
     let d : Extent = record { start = 0; count = 0 } in
     let es = c.args.extents.now in
     let i = c.loop-extent.extent-index in
     let e = get_or es i d in
-    let k = c.loop-extent.done in
+    let k = c.loop-extent.written in
     let n = c.min-count.result in
     let bytes = c.args.bytes.now in
     let part = take (k + n - k) (drop k bytes) in
-    let fits : length part ≤ 4096 * e.count = omega (arith, length-take (k + n - k) (drop k bytes), length-drop k bytes, c.min-count.ensures) in
-    in_both (IsInAny es) (g.V.Volume.image c.args.volume.now) (g.V.Volume.image c.loop-extent.volume) (g.V.Volume.image c.write_at.new.self) (c.loop-extent.invariant.image tells)
-    (in_more (IsIn e) (IsInAny es) (g.V.Volume.image c.loop-extent.volume) (g.V.Volume.image c.write_at.new.self) (λ b here. in_at es i d b c.loop-extent-test.true here)
-    (in_extent e (length part) (g.V.Volume.image c.loop-extent.volume) (g.V.Volume.image c.write_at.new.self) fits (c.in_err-write_at.ensures.torn tells)))
+    let at = 4096 * e.start + c.min-passed.result in
+    let fits : at + length part ≤ 4096 * (e.start + e.count) = omega (arith, length-take (k + n - k) (drop k bytes), length-drop k bytes, c.min-count.ensures, c.min-passed.ensures) in
+    in_both (IsInAny es) (g.V.Volume.image c.args.volume.now) (g.V.Volume.image c.loop-extent.volume) (g.V.Volume.image c.write_some.new.volume) (c.loop-extent.invariant.image tells)
+    (in_more (IsIn e) (IsInAny es) (g.V.Volume.image c.loop-extent.volume) (g.V.Volume.image c.write_some.new.volume) (λ b here. in_at es i d b c.loop-extent-test.true here)
+    (in_extent e at (length part) (g.V.Volume.image c.loop-extent.volume) (g.V.Volume.image c.write_some.new.volume) (omega arith) fits (c.write_some.ensures.torn tells)))
 
-pub returns-in_err-write_at-clause-any_moment : goal.returns-in_err-write_at-clause-any_moment
-returns-in_err-write_at-clause-any_moment g c = λ tells.
+pub returns-in_err-write_some-clause-any_moment : goal.returns-in_err-write_some-clause-any_moment
+returns-in_err-write_some-clause-any_moment g c = λ tells.
     let d : Extent = record { start = 0; count = 0 } in
     let es = c.args.extents.now in
     let i = c.loop-extent.extent-index in
     let e = get_or es i d in
-    let k = c.loop-extent.done in
+    let k = c.loop-extent.written in
     let n = c.min-count.result in
     let bytes = c.args.bytes.now in
     let part = take (k + n - k) (drop k bytes) in
-    let fits : length part ≤ 4096 * e.count = omega (arith, length-take (k + n - k) (drop k bytes), length-drop k bytes, c.min-count.ensures) in
-    let so_far = c.loop-extent.invariant.left tells in
-    goes_on g.V.Volume.moment g.V.Volume.left_at _ _ _ _ so_far (c.write_at.ensures.clock tells)
-    (opened (IsInAny es) (g.V.Volume.image c.args.volume.now) (g.V.Volume.left_at c.args.volume.now (g.V.Volume.moment c.args.volume.now)) e (length part) _ _ (λ b here. in_at es i d b c.loop-extent-test.true here) fits
-    (λ image h. so_far.since (g.V.Volume.moment c.loop-extent.volume) image so_far.later (omega arith) h) (c.write_at.ensures.stop tells))
+    let at = 4096 * e.start + c.min-passed.result in
+    let fits : at + length part ≤ 4096 * (e.start + e.count) = omega (arith, length-take (k + n - k) (drop k bytes), length-drop k bytes, c.min-count.ensures, c.min-passed.ensures) in
+    written_more g.V.Volume.moment g.V.Volume.left_at c.args.volume.now c.loop-extent.volume c.write_some.new.volume (IsInAny es) (g.V.Volume.image c.args.volume.now) e at (length part) (λ b here. in_at es i d b c.loop-extent-test.true here) (omega arith) fits
+    (c.loop-extent.invariant.left tells) (c.write_some.ensures.any_moment tells)
 
 pub loop-extent-preserved : goal.loop-extent-preserved
 loop-extent-preserved g c =
     let inv = c.loop-extent.invariant in
-    let done = inv.done in
     let d : Extent = record { start = 0; count = 0 } in
     let es = c.args.extents.now in
     let i = c.loop-extent.extent-index in
     let e = get_or es i d in
-    let k = c.loop-extent.done in
+    let k = c.loop-extent.written in
     let n = c.min-count.result in
     let bytes = c.args.bytes.now in
     let part = take (k + n - k) (drop k bytes) in
-    let least : n ≡ min (length bytes - k) (4096 * e.count) = omega arith in
+    let at = 4096 * e.start + c.min-passed.result in
+    let skips = inv.skip in
+    let writes = inv.written in
+    let passes : c.min-passed.result ≡ min c.loop-extent.skip (4096 * e.count) = omega (arith, c.min-passed.ensures) in
+    let counts : n ≡ min (length bytes - k) (4096 * e.count - c.min-passed.result) = omega (arith, c.min-count.ensures) in
     let more = blocks_of_more es i d c.loop-extent-test.true in
-    let length_is : length part ≡ n = omega (arith, length-take (k + n - k) (drop k bytes), length-drop k bytes) in
-    let fits : length part ≤ 4096 * e.count = omega arith in
-    let same_size = c.in_ok-write_at.ensures.size ∙ inv.size in
+    let fits : at + length part ≤ 4096 * (e.start + e.count) = omega (arith, length-take (k + n - k) (drop k bytes), length-drop k bytes, counts, passes) in
+    let same_size = c.in_ok-write_some.ensures.size ∙ inv.size in
+    let changed = λ (tells : g.V.Volume.tells). in_extent e at (length part) (g.V.Volume.image c.loop-extent.volume) (g.V.Volume.image c.write_some.new.volume) (omega arith) fits (c.write_some.ensures.torn tells) in
     record {
-      done = omega arith;
+      skip = omega (arith, skips, passes, more);
+      written = omega (arith, skips, writes, passes, counts, more);
       size = same_size;
-      failures = c.in_ok-write_at.ensures.failures ∙ inv.failures;
+      failures = c.in_ok-write_some.ensures.failures ∙ inv.failures;
       image = λ tells.
-          let long = g.met.V.Volume.image_length c.loop-extent.volume tells in
-          let range : e.start + e.count ≤ g.V.Volume.size c.args.volume.now = c.requires.range i d c.loop-extent-test.true in
-          in_both (IsInAny es) (g.V.Volume.image c.args.volume.now) (g.V.Volume.image c.loop-extent.volume) (g.V.Volume.image c.write_at.new.self) (inv.image tells)
-          (in_more (IsIn e) (IsInAny es) (g.V.Volume.image c.loop-extent.volume) (g.V.Volume.image c.write_at.new.self) (λ b here. in_at es i d b c.loop-extent-test.true here)
-          (written_in e (g.V.Volume.image c.loop-extent.volume) (g.V.Volume.image c.write_at.new.self) part (omega (arith, long, range, fits, inv.size)) fits (c.in_ok-write_at.ensures.written tells)));
+          in_both (IsInAny es) (g.V.Volume.image c.args.volume.now) (g.V.Volume.image c.loop-extent.volume) (g.V.Volume.image c.write_some.new.volume) (inv.image tells)
+          (in_more (IsIn e) (IsInAny es) (g.V.Volume.image c.loop-extent.volume) (g.V.Volume.image c.write_some.new.volume) (λ b here. in_at es i d b c.loop-extent-test.true here) (changed tells));
       bytes = λ tells.
           let long = g.met.V.Volume.image_length c.loop-extent.volume tells in
-          let new_long = g.met.V.Volume.image_length c.write_at.new.self tells in
-          let size = g.V.Volume.size c.args.volume.now in
-          let range : e.start + e.count ≤ size = c.requires.range i d c.loop-extent-test.true in
-          let written = c.in_ok-write_at.ensures.written tells in
+          let new_long = g.met.V.Volume.image_length c.write_some.new.volume tells in
           let count : k + n - k ≡ n = omega arith in
-          write_more (g.V.Volume.image c.loop-extent.volume) (g.V.Volume.image c.write_at.new.self) bytes part size es i d k n c.loop-extent-test.true c.requires.apart
-          (long ∙ ap (λ (s : ℕ). 4096 * s) inv.size) (new_long ∙ ap (λ (s : ℕ). 4096 * s) same_size) c.requires.range done least (ap (λ (m : ℕ). take m (drop k bytes)) count) written
-          (written_in e (g.V.Volume.image c.loop-extent.volume) (g.V.Volume.image c.write_at.new.self) part (omega (arith, long, range, fits, inv.size)) fits written) (inv.bytes tells);
+          fill_more (g.V.Volume.image c.loop-extent.volume) (g.V.Volume.image c.write_some.new.volume) bytes (take c.args.done (bytes_of (g.V.Volume.image c.args.volume.now) es)) part (g.V.Volume.size c.args.volume.now) es i d c.args.done k c.loop-extent.skip c.min-passed.result n
+          c.loop-extent-test.true c.requires.apart (long ∙ ap (λ (s : ℕ). 4096 * s) inv.size) (new_long ∙ ap (λ (s : ℕ). 4096 * s) same_size) c.requires.range skips writes passes counts
+          (ap (λ (m : ℕ). take m (drop k bytes)) count) (c.in_ok-write_some.ensures.written tells) (changed tells) (inv.bytes tells);
       left = λ tells.
-          let so_far = inv.left tells in
-          goes_on g.V.Volume.moment g.V.Volume.left_at _ _ _ _ so_far (c.write_at.ensures.clock tells)
-          (opened (IsInAny es) (g.V.Volume.image c.args.volume.now) (g.V.Volume.left_at c.args.volume.now (g.V.Volume.moment c.args.volume.now)) e (length part) _ _ (λ b here. in_at es i d b c.loop-extent-test.true here) fits
-          (λ image h. so_far.since (g.V.Volume.moment c.loop-extent.volume) image so_far.later (omega arith) h) (c.write_at.ensures.stop tells));
+          written_more g.V.Volume.moment g.V.Volume.left_at c.args.volume.now c.loop-extent.volume c.write_some.new.volume (IsInAny es) (g.V.Volume.image c.args.volume.now) e at (length part) (λ b here. in_at es i d b c.loop-extent-test.true here) (omega arith) fits
+          (inv.left tells) (c.write_some.ensures.any_moment tells);
     }

@@ -1,5 +1,4 @@
-use Rattle.std.proofs.Common.{ℕ, List, length, ◌∙◌, ap, arith, subst, sym}
-use Rattle.vault_volume.specs.Disk.{ChangedIn}
+use Rattle.std.proofs.Common.{arith}
 use Rattle.vault_volume.specs.Extents.{IsInAny}
 use Rattle.vault_volume.proofs.Moments.{goes_on}
 use Rattle.vault_volume.proofs.Writes.{synced}
