@@ -6,3 +6,4 @@ pub mod ReadBack
 pub mod ReadLemmas
 pub mod MetaLemmas
 pub mod GroupLemmas
+pub mod LineLemmas

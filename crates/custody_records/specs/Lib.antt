@@ -1,4 +1,6 @@
 pub mod Keys
+pub mod Lines
+pub mod Names
 pub mod Orders
 pub mod Records
 pub mod Rows

@@ -52,6 +52,10 @@ new_records number blocks = record { number = number; blocks = blocks; registrie
 abbrev pub key_of : Name → PartKey
 key_of name = record { tld = name.tld; day = name.day; rev = name.rev; part = name.part }
 
+-- the name of the part of a key and a kind
+abbrev pub name_of : PartKey → Kind → Name
+name_of key kind = record { tld = key.tld; day = key.day; kind = kind; part = key.part; rev = key.rev }
+
 -- the parts of a registry with their places, by day, revision and place in the series
 abbrev pub parts_of : Records → List ℕ → List (PartKey × PartRecord)
 parts_of records tld = filter (λ (e : PartKey × PartRecord). is_eq (text_cmp e.0.tld tld)) (map.entries records.parts)

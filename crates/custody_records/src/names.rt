@@ -1,33 +1,51 @@
 //! The names of a release as lines of text.
-ghost use Rattle.std.specs.Prelude.{◌≡◌, false, true, map, IfOk, MatchResult, OnOk, OnErr, IsErrOf, IsTrue, [], ◌∷◌, ◌++◌};
+ghost use Rattle.std.specs.Prelude.{◌≡◌, ◌≤◌, ◌==◌, count_by, length, take, IfOk, MatchResult, OnOk, OnErr, IsTrue, [], ◌∷◌, ◌++◌};
 ghost use Rattle.std.specs.List.{list_all};
+ghost use Rattle.deposit_name.specs.Name.{IsName, name_text};
 ghost use Rattle.custody_records.specs.Form.{lines_in};
+ghost use Rattle.custody_records.specs.Lines.{lines_left};
 ghost use Rattle.custody_records.specs.Written.{is_line, text_of};
-ghost use Rattle.custody_records.specs.declared.errors.RowError.TheVariants.{OutOfForm, NoMemory};
+ghost use Rattle.custody_records.specs.declared.errors.RowError.TheVariants.{OutOfForm};
 
 use crate::RowError;
+use crate::lines::Lines;
+use deposit_name::{DepositName, write_name};
 use std::alloc::{AllocError, Global};
 use std::marker::Model;
-use std::mem;
 
-/// The names of the parts of a release, in which there is no line feed.
+/// The names of the parts of a release, kept as the text that a row has of them, so that a row is written without taking
+/// memory: each name is followed by a line feed, and there is none within it.
 #[derive(Debug, Drop)]
 pub struct Names {
-    lines: Vec<Vec<u8>>,
-    /// Their text, as a row has it, so that a row is written without taking memory.
     text: Vec<u8>,
 }
 
 impl Model for Names {
-    ghost use Rattle.std.specs.Prelude.{◌≡◌, ℕ, List, map, IsTrue};
-    ghost use Rattle.std.specs.List.{list_all};
-    ghost use Rattle.custody_records.specs.Written.{is_line, text_of};
+    ghost use Rattle.std.specs.Prelude.{◌≡◌, ℕ, List};
+    ghost use Rattle.custody_records.specs.Names.{lines_of};
+    ghost use Rattle.custody_records.specs.Written.{text_of};
 
     ghost Value = { List (List ℕ) };
 
-    ghost view = { λ n. map (λ line. line.items) n.lines.items };
+    ghost view = { λ n. lines_of n.text.items };
 
-    ghost invariant = { λ n. IsTrue (list_all is_line (map (λ line. line.items) n.lines.items)) × (n.text.items ≡ text_of (map (λ line. line.items) n.lines.items)) };
+    ghost invariant = { λ n. n.text.items ≡ text_of (lines_of n.text.items) };
+}
+
+impl PartialEq for Names {
+    ghost use Rattle.std.proofs.Common.{rules};
+    ghost use Rattle.std.specs.Cmp.Rules.{comparing};
+    ghost use Rattle.std.specs.Ordering.{on};
+    ghost use Rattle.std.specs.Str.{bytes_eq};
+    ghost use Rattle.custody_records.specs.Written.{text_of};
+
+    ghost eq = { on text_of bytes_eq };
+
+    ghost laws = { Prim.search (comparing, rules) };
+
+    fn eq(&self, other: &Names) -> bool {
+        self.text == other.text
+    }
 }
 
 impl Names {
@@ -36,7 +54,6 @@ impl Names {
         ensures { result ≡ [] }
     {
         Names {
-            lines: Vec::new(alloc),
             text: Vec::new(alloc),
         }
     }
@@ -45,79 +62,74 @@ impl Names {
     pub fn parse(alloc: Global, text: &[u8]) -> Result<Names, RowError>
         ensures { MatchResult result (λ names. lines_in text.now ≡ Some names) (λ e. e ≡ OutOfForm → lines_in text.now ≡ None) }
     {
-        let mut names = Names::new(alloc);
-        let mut line = Vec::new(alloc);
-        for byte in text {
-            if *byte == b'\n' {
-                names.push_line(mem::replace(&mut line, Vec::new(alloc)))?;
-            } else {
-                line.push(*byte)?;
-            }
-        }
-        if line.is_empty() {
-            Ok(names)
-        } else {
-            Err(RowError::OutOfForm)
-        }
-    }
-
-    /// Adds a name, in which there may be no line feed.
-    pub fn push(&mut self, alloc: Global, name: &[u8]) -> Result<(), RowError>
-        ensures added { OnOk result (self.new ≡ self.old ++ name.now ∷ []) }
-        ensures line { IsErrOf result OutOfForm → is_line name.now ≡ false }
-        ensures no_memory { IsErrOf result NoMemory → is_line name.now ≡ true }
-        ensures same { OnErr result (self.new ≡ self.old) }
-    {
-        if !is_a_line(name) {
+        let Some((last, _)) = text.split_last() else {
+            return Ok(Names::new(alloc));
+        };
+        if *last != b'\n' {
             return Err(RowError::OutOfForm);
         }
-        let line = Vec::from_slice(alloc, name)?;
-        Ok(self.push_line(line)?)
+        Ok(Names {
+            text: Vec::from_slice(alloc, text)?,
+        })
     }
 
-    fn push_line(&mut self, line: Vec<u8>) -> Result<(), AllocError>
-        requires { is_line line.items ≡ true }
-        ensures added { OnOk result (self.new ≡ self.old ++ line.items ∷ []) }
+    /// Adds a name.
+    pub fn push(&mut self, name: &DepositName) -> Result<(), AllocError>
+        ensures added { OnOk result (self.new ≡ self.old ++ name_text name.now ∷ []) }
         ensures same { OnErr result (self.new ≡ self.old) }
+        ensures in_form { IsName name.now }
     {
-        self.lines.try_reserve(1)?;
-        append_line(&mut self.text, &line)?;
-        self.lines.push_reserved(line);
+        let mut room = [0; 96];
+        let length = write_line(name, &mut room);
+        self.text.extend_from_slice(&room[..length])?;
         Ok(())
     }
 
-    /// The names in their order.
-    pub fn as_slice(&self) -> &[Vec<u8>]
-        ensures names { map (λ line. line.items) result.now ≡ self.now }
-        ensures lines { IsTrue (list_all is_line self.now) }
+    /// The same names again.
+    pub fn try_clone(&self, alloc: Global) -> Result<Names, AllocError>
+        ensures { IfOk result (λ names. names ≡ self.now) }
     {
-        &self.lines
+        Ok(Names {
+            text: Vec::from_slice(alloc, &self.text)?,
+        })
+    }
+
+    /// How many they are.
+    pub fn count(&self) -> usize
+        ensures { result ≡ length self.now }
+    {
+        count_feeds(&self.text)
+    }
+
+    /// The names in their order.
+    pub fn lines(&self) -> Lines<'_>
+        ensures { lines_left result ≡ self.now }
+    {
+        Lines::of(&self.text)
     }
 
     /// The text of the names, in which each is followed by a line feed.
     pub fn as_text(&self) -> &[u8]
-        ensures { result.now ≡ text_of self.now }
+        ensures text { result.now ≡ text_of self.now }
+        ensures lines { IsTrue (list_all is_line self.now) }
     {
         &self.text
     }
 }
 
-/// Appends the line and a line feed.
-fn append_line(text: &mut Vec<u8>, line: &[u8]) -> Result<(), AllocError>
-    ensures appended { OnOk result (text.new.items ≡ (text.old.items ++ line.now) ++ 10 ∷ []) }
-    ensures same { OnErr result (text.new.items ≡ text.old.items) }
+/// Writes the text of the name and a line feed to the front of `out`, and answers their length.
+fn write_line(name: &DepositName, out: &mut [u8; 96]) -> usize
+    ensures most { result ≤ 96 }
+    ensures text { take result out.new ≡ name_text name.now ++ 10 ∷ [] }
+    ensures in_form { IsName name.now }
 {
-    let before = text.len();
-    text.extend_from_slice(line)?;
-    if let Err(full) = text.push(b'\n') {
-        text.truncate(before);
-        return Err(full.into());
-    }
-    Ok(())
+    let end = write_name(name, out);
+    out[end] = b'\n';
+    end + 1
 }
 
-fn is_a_line(text: &[u8]) -> bool
-    ensures { result ≡ is_line text.now }
+fn count_feeds(text: &[u8]) -> usize
+    ensures { result ≡ count_by (λ byte. byte == 10) text.now }
 {
-    text.iter().all(|byte| *byte != b'\n')
+    text.iter().filter(|byte| **byte == b'\n').count()
 }

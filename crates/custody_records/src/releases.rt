@@ -1,5 +1,5 @@
 //! Releases of deposits.
-ghost use Rattle.std.specs.Prelude.{◌≡◌, MatchResult};
+ghost use Rattle.std.specs.Prelude.{◌≡◌, IfOk, MatchResult};
 ghost use Rattle.custody_records.specs.Form.{ground_in, release_in};
 ghost use Rattle.custody_records.specs.Keys.{text_cmp};
 ghost use Rattle.custody_records.specs.Orders.{text_exact, text_total};
@@ -12,12 +12,12 @@ use crate::{Names, RowError};
 use deposit_name::{Reference, Tld};
 use desk::Ground;
 use schedule::Sec;
-use std::alloc::Global;
+use std::alloc::{AllocError, Global};
 use std::cmp::Ordering;
 use std::str;
 
 /// Deposits of a registry handed over on a ground (Specification 2, Part B section 6).
-#[derive(Debug, Drop)]
+#[derive(Debug, PartialEq, Drop)]
 pub struct Release {
     pub reference: Reference,
     pub tld: Tld,
@@ -25,6 +25,18 @@ pub struct Release {
     pub at: Sec,
     /// The names of the parts.
     pub names: Names,
+}
+
+impl Release {
+    /// The same release again.
+    pub fn try_clone(&self, alloc: Global) -> Result<Release, AllocError>
+        ensures { IfOk result (λ release. release ≡ self.now) }
+    {
+        Ok(Release {
+            names: self.names.try_clone(alloc)?,
+            ..*self
+        })
+    }
 }
 
 /// The columns of a row of the table of releases.

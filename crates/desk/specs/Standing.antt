@@ -1,6 +1,6 @@
 -- When a ground of a release stands (Specification 2, Part B section 6), by the notices of a registry.
-use Rattle.std.specs.Prelude.{◌≡◌, ◌<◌, ◌≤◌, ◌+◌, ◌%◌, ◌==◌, ◌&&◌, ⊤, ℕ, Any, Bool, true, false, IsTrue, List, count_by, nat_le, not}
-use Rattle.schedule.specs.Schedule.{IsSunday}
+use Rattle.std.specs.Prelude.{◌+◌, ◌%◌, ◌==◌, ◌&&◌, ℕ, Bool, true, false, List, count_by, nat_le, nat_lt, not}
+use Rattle.std.specs.List.{list_any}
 use Rattle.desk.specs.declared.grounds.Ground.{Ground}
 use Rattle.desk.specs.declared.grounds.Ground.TheVariants as reason
 use Rattle.desk.specs.declared.notices.Notice.{Notice}
@@ -13,13 +13,21 @@ is_receipt (Receipt rev id) = true
 is_receipt (Failure rev id check) = false
 is_receipt Absence = false
 
+-- day 0, 1970-01-01, is a Thursday
+abbrev pub is_sunday : ℕ → Bool
+is_sunday day = day % 7 == 3
+
+-- the deposit of a day failed or is absent
+abbrev pub is_loss : Notice → Bool
+is_loss n = not (is_receipt n.kind)
+
 -- a later notice tells that a deposit of the same day was received and verified
-abbrev pub IsMadeGoodBy : Notice → Notice → Type 0
-IsMadeGoodBy n later = IsTrue (is_receipt later.kind) × (later.day ≡ n.day) × (n.number < later.number)
+abbrev pub is_made_good_by : Notice → Notice → Bool
+is_made_good_by n later = is_receipt later.kind && (later.day == n.day && nat_lt n.number later.number)
 
 -- a notice tells that the deposit of a Sunday failed or is absent, and no later receipt of the day made it good
-abbrev pub IsSundayLost : List Notice → Notice → Type 0
-IsSundayLost notices n = (is_receipt n.kind ≡ false) × IsSunday n.day × (¬ Any (IsMadeGoodBy n) notices)
+abbrev pub is_sunday_lost : List Notice → Notice → Bool
+is_sunday_lost notices n = is_loss n && (is_sunday n.day && not (list_any (is_made_good_by n) notices))
 
 -- thirty days, in seconds
 abbrev pub month : ℕ
@@ -27,15 +35,15 @@ month = 2_592_000
 
 -- a notice of the thirty days up to now tells that a deposit of another day failed or is absent
 abbrev pub is_recent_loss : ℕ → Notice → Bool
-is_recent_loss now n = not (is_receipt n.kind) && not (n.day % 7 == 3) && nat_le n.at now && nat_le now (n.at + month)
+is_recent_loss now n = is_loss n && (not (is_sunday n.day) && (nat_le n.at now && nat_le now (n.at + month)))
 
-abbrev pub GroundStands : Ground → List Notice → ℕ → Type 0
-GroundStands reason.SundayFailed notices now = Any (IsSundayLost notices) notices
-GroundStands reason.FiveFailed notices now = 5 ≤ count_by (is_recent_loss now) notices
-GroundStands reason.Operator notices now = ⊤
-GroundStands reason.Termination notices now = ⊤
-GroundStands reason.NoNotices notices now = ⊤
-GroundStands reason.Insolvency notices now = ⊤
-GroundStands reason.Critical notices now = ⊤
-GroundStands reason.Order notices now = ⊤
-GroundStands reason.Audit notices now = ⊤
+abbrev pub ground_stands : Ground → List Notice → ℕ → Bool
+ground_stands reason.SundayFailed notices now = list_any (is_sunday_lost notices) notices
+ground_stands reason.FiveFailed notices now = nat_le 5 (count_by (is_recent_loss now) notices)
+ground_stands reason.Operator notices now = true
+ground_stands reason.Termination notices now = true
+ground_stands reason.NoNotices notices now = true
+ground_stands reason.Insolvency notices now = true
+ground_stands reason.Critical notices now = true
+ground_stands reason.Order notices now = true
+ground_stands reason.Audit notices now = true
