@@ -8,6 +8,7 @@ pub mod CommitLemmas
 pub mod RowLemmas
 pub mod DropLemmas
 pub mod BareLemmas
+pub mod QueryLemmas
 pub mod SelectLemmas
 pub mod FindLemmas
 pub mod ReadLemmas

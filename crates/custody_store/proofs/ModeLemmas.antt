@@ -51,19 +51,19 @@ keeps_mode (InsertOr at how from clauses) = true
 keeps_mode (Update at q) = true
 keeps_mode _ = false
 
-abbrev OnChecked : {A : Type 0} → (A → Bool) → Checked A → Type 0
+abbrev pub OnChecked : {A : Type 0} → (A → Bool) → Checked A → Type 0
 OnChecked test (Ok a) = test a ≡ true
 OnChecked test (Err e) = Unit {0}
 
-any_then : {A B : Type 0} (test : B → Bool) (r : Checked A) (f : A → Checked B) → ((a : A) → OnChecked test (f a)) → OnChecked test (and_then r f)
+pub any_then : {A B : Type 0} (test : B → Bool) (r : Checked A) (f : A → Checked B) → ((a : A) → OnChecked test (f a)) → OnChecked test (and_then r f)
 any_then test (Ok a) f h = h a
 any_then test (Err e) f h = tt
 
-such_then : {A B : Type 0} (from : A → Bool) (test : B → Bool) (r : Checked A) (f : A → Checked B) → OnChecked from r → ((a : A) → from a ≡ true → OnChecked test (f a)) → OnChecked test (and_then r f)
+pub such_then : {A B : Type 0} (from : A → Bool) (test : B → Bool) (r : Checked A) (f : A → Checked B) → OnChecked from r → ((a : A) → from a ≡ true → OnChecked test (f a)) → OnChecked test (and_then r f)
 such_then from test (Ok a) f is h = h a is
 such_then from test (Err e) f is h = tt
 
-either : {A : Type 0} (test : A → Bool) (b : Bool) (x y : Checked A) → OnChecked test x → OnChecked test y → OnChecked test (cond b x y)
+pub either : {A : Type 0} (test : A → Bool) (b : Bool) (x y : Checked A) → OnChecked test x → OnChecked test y → OnChecked test (cond b x y)
 either test true x y hx hy = hx
 either test false x y hx hy = hy
 

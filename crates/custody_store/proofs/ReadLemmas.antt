@@ -19,6 +19,7 @@ pub reads_none : {A E : Type 0} (s : State) (r : Result A E) → Reads (shown s)
 reads_none s r = record {
   trust = λ honest. honest;
   mode = λ autocommit. autocommit;
+  commits_nothing = λ _ rows h. h;
   same = λ _ ready. record { kept = λ _. (ready, refl); left = λ rows h. h };
   bare = λ _ bare. record { kept = λ _. (bare, refl); left = λ rows h. h };
   still_open = λ _ either. on_ok r (open_at s either);
@@ -29,6 +30,7 @@ pub selects_then : {A B E F : Type 0} (a b c : Standing) (x : A) (r : Result B F
 selects_then a b c x r p q = record {
   trust = λ honest. p.trust (q.trust honest);
   mode = λ autocommit. q.mode (p.mode autocommit);
+  commits_nothing = λ honest rows h. p.commits_nothing (q.trust honest) rows (q.commits_nothing honest rows h);
   same = λ honest ready.
       let first = p.same (q.trust honest) ready in
       let at = first.kept (p.still_open (q.trust honest) ready) in
@@ -42,6 +44,7 @@ pub reads_then : {A B E F : Type 0} (a b c : Standing) (x : A) (r : Result B F) 
 reads_then a b c x r p q = record {
   trust = λ honest. p.trust (q.trust honest);
   mode = λ autocommit. q.mode (p.mode autocommit);
+  commits_nothing = λ honest rows h. p.commits_nothing (q.trust honest) rows (q.commits_nothing honest rows h);
   same = λ honest ready.
       let first = p.same (q.trust honest) ready in
       let at = first.kept (p.still_open (q.trust honest) (inl ready)) in
@@ -63,6 +66,7 @@ pub reads_there : {A B E F : Type 0} (old new : State) (r : Result A E) (q : Res
 reads_there old new r q there still p = record {
   trust = p.trust;
   mode = p.mode;
+  commits_nothing = p.commits_nothing;
   same = p.same;
   bare = λ _ bare. absurd (there bare);
   still_open = λ honest either. elim either [ inl ready ↦ still (p.still_open honest ready) | inr bare ↦ absurd (there bare) ];

@@ -17,11 +17,13 @@ use Rattle.sqlite.proofs.Callers.{IsPlain, reads_as, never_commits}
 use Rattle.sqlite_sql.proofs.QueryLemmas.{output_cmp_total}
 use Rattle.sqlite_keyed.proofs.SortLemmas.{sorted_unique}
 use Rattle.sqlite_keyed.proofs.ListLemmas.{ascending-map, ascending_weaker}
+use Rattle.custody_records.specs.Rows.{Rows}
 use Rattle.custody_store.specs.Schema.{record_schema}
 use Rattle.custody_store.specs.Standing.{IsReady, shown, Keeps, Selects}
 use Rattle.custody_store.specs.Calls.{IsSettled, Asks}
 use Rattle.custody_store.proofs.StatementLemmas.{in_order, IsSelection}
 use Rattle.custody_store.proofs.CommitLemmas.{kept, trusts}
+use Rattle.custody_store.proofs.QueryLemmas.{query_commits_nothing}
 
 abbrev pub projected : List Term → Row → Row
 projected project row = eval_all project ([] ∷ row ∷ [])
@@ -68,6 +70,12 @@ module _ (sql : List ℕ) (tree : ℕ) (project : List Term) (names : List (List
       let bare = subst IsPlain h.1.is (plain_at ready) in
       (rw bare.0 at h.2).3
 
+  pub left_as_before : HasCleanDisk new → Survives old new (CommitsShowing sql [] old) → (rows : Rows) → (shown new).may_leave rows → (shown old).may_leave rows
+  left_as_before clean survives rows h = elim (survives.crash clean h.0 h.1) [
+    | inl before ↦ (h.0, before, h.2)
+    | inr made ↦ absurd (query_commits_nothing sql [] old h.0 means.query made)
+  ]
+
   keeps : IsReady old → IsSettled new → HasCleanDisk new → IsUnchanged old new ⊎ IsRolledBack old new → Survives old new (CommitsShowing sql [] old) → Keeps (shown old) (shown new) (IsReady new)
   keeps ready settled clean either survives = record {
     kept = kept old new ready settled either;
@@ -82,12 +90,14 @@ module _ {A E : Type 0} (sql : List ℕ) (tree : ℕ) (project : List Term) (nam
   selects (Ok a) asks = record {
     trust = trusts old new _ asks.survives;
     mode = asks.mode;
+    commits_nothing = λ clean. left_as_before sql tree project names means old new clean asks.survives;
     same = λ clean ready. keeps sql tree project names means old new ready asks.settled clean (inl (unchanged sql tree project names means old new ready (rows_of a) (asks.asked clean))) asks.survives;
     still_open = λ clean ready. (unchanged sql tree project names means old new ready (rows_of a) (asks.asked clean)).0.is_open;
   }
   selects (Err x) asks = record {
     trust = trusts old new _ asks.survives;
     mode = asks.mode;
+    commits_nothing = λ clean. left_as_before sql tree project names means old new clean asks.survives;
     same = λ clean ready. let e = asks.asked clean in keeps sql tree project names means old new ready asks.settled clean (fails sql tree project names means old new ready e.0 e.1) asks.survives;
     still_open = λ clean ready. tt;
   }

@@ -18,6 +18,7 @@ use Rattle.sqlite_tied.specs.Compute.{everything}
 use Rattle.sqlite.proofs.Callers.{IsPlain, command_of}
 use Rattle.custody_store.specs.Schema.{record_schema}
 use Rattle.custody_store.proofs.ModeLemmas.{is_change_text}
+use Rattle.custody_store.proofs.QueryLemmas.{is_query_text}
 
 -- a statement that is this command
 pub record IsMeaning (sql : List ℕ) (command : Command) : Type 0 where
@@ -48,6 +49,7 @@ pub record IsSelection (sql : List ℕ) (tree : ℕ) (project : List Term) (name
   pub is : command_of (understood record_schema sql) ≡ Select (record { lets = []; body = in_order tree project }) names
   pub plain : IsPlain (understood record_schema sql)
   pub unlisted : reads_listing record_schema sql ≡ false
+  pub query : is_query_text sql ≡ true
 
 -- ---- the statements
 
@@ -112,7 +114,7 @@ meta_names = codes "one" ∷ codes "schema_no" ∷ codes "number" ∷ codes "blo
 
 pub select_meta_is : IsSelection select_meta_text 0 meta_places meta_names
 unfolding understood everything
-select_meta_is = record { is = refl; plain = (refl, refl); unlisted = refl }
+select_meta_is = record { is = refl; plain = (refl, refl); unlisted = refl; query = refl }
 
 abbrev pub select_registry_text : List ℕ
 select_registry_text = codes "SELECT tld, first_day FROM registry ORDER BY rowid"
@@ -125,7 +127,7 @@ registry_names = codes "tld" ∷ codes "first_day" ∷ []
 
 pub select_registry_is : IsSelection select_registry_text 1 registry_places registry_names
 unfolding understood everything
-select_registry_is = record { is = refl; plain = (refl, refl); unlisted = refl }
+select_registry_is = record { is = refl; plain = (refl, refl); unlisted = refl; query = refl }
 
 abbrev pub select_part_text : List ℕ
 select_part_text = codes "SELECT tld, day, rev, part, kind, received, keep_day, len, sha, extents FROM part ORDER BY rowid"
@@ -138,7 +140,7 @@ part_names = codes "tld" ∷ codes "day" ∷ codes "rev" ∷ codes "part" ∷ co
 
 pub select_part_is : IsSelection select_part_text 3 part_places part_names
 unfolding understood everything
-select_part_is = record { is = refl; plain = (refl, refl); unlisted = refl }
+select_part_is = record { is = refl; plain = (refl, refl); unlisted = refl; query = refl }
 
 abbrev pub select_notice_text : List ℕ
 select_notice_text = codes "SELECT tld, number, kind, day, rev, id, at FROM notice ORDER BY rowid"
@@ -151,7 +153,7 @@ notice_names = codes "tld" ∷ codes "number" ∷ codes "kind" ∷ codes "day" �
 
 pub select_notice_is : IsSelection select_notice_text 5 notice_places notice_names
 unfolding understood everything
-select_notice_is = record { is = refl; plain = (refl, refl); unlisted = refl }
+select_notice_is = record { is = refl; plain = (refl, refl); unlisted = refl; query = refl }
 
 abbrev pub select_handover_text : List ℕ
 select_handover_text = codes "SELECT reference, tld, ground, at, names FROM handover ORDER BY rowid"
@@ -164,7 +166,7 @@ handover_names = codes "reference" ∷ codes "tld" ∷ codes "ground" ∷ codes 
 
 pub select_handover_is : IsSelection select_handover_text 7 handover_places handover_names
 unfolding understood everything
-select_handover_is = record { is = refl; plain = (refl, refl); unlisted = refl }
+select_handover_is = record { is = refl; plain = (refl, refl); unlisted = refl; query = refl }
 
 abbrev pub drop_due_text : List ℕ
 drop_due_text = codes "UPDATE part SET extents = NULL WHERE extents IS NOT NULL AND keep_day < ?1"

@@ -114,6 +114,8 @@ pub record Keeps (old new : Standing) (IsSame : Type 0) : Type 0 where
 pub record Selects {A E : Type 0} (old new : Standing) (result : Result A E) : Type 0 where
   pub trust : new.IsHonest → old.IsHonest
   pub mode : old.in_transaction ≡ false → new.in_transaction ≡ false
+  -- a stop leaves nothing new, whatever the tables are
+  pub commits_nothing : new.IsHonest → (rows : Rows) → new.may_leave rows → old.may_leave rows
   pub same : new.IsHonest → old.IsReady → Keeps old new new.IsReady
   pub still_open : new.IsHonest → old.IsReady → OnOk result (IsTrue new.is_open)
 
@@ -121,6 +123,8 @@ pub record Selects {A E : Type 0} (old new : Standing) (result : Result A E) : T
 pub record Reads {A E : Type 0} (old new : Standing) (result : Result A E) : Type 0 where
   pub trust : new.IsHonest → old.IsHonest
   pub mode : old.in_transaction ≡ false → new.in_transaction ≡ false
+  -- a stop leaves nothing new, whatever the tables are
+  pub commits_nothing : new.IsHonest → (rows : Rows) → new.may_leave rows → old.may_leave rows
   pub same : new.IsHonest → old.IsReady → Keeps old new new.IsReady
   pub bare : new.IsHonest → old.IsBare → Keeps old new new.IsBare
   pub still_open : new.IsHonest → old.IsReady ⊎ old.IsBare → OnOk result (IsTrue new.is_open)
