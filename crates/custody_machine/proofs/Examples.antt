@@ -46,6 +46,7 @@ module _ (first new : State) (command : Command) (now : ℕ) (reply : Reply) (is
     volume_failed = ((Running first, Running first, refl, (Halted first None, (first, (volume_failed, refl), refl), (Halted first None, (refl, refl), (Resting (pair_of first), ((first, refl, refl, refl), refl), (Running first, (refl, refl, refl), refl))))), refl);
     repeated = λ later again e. ((Running first, Running new, refl, (Running new, (new, is, refl), (Running new, (new, e, refl), (Resting (pair_of new), ((new, refl, refl, refl), refl), (Running new, (refl, refl, refl), refl))))), refl);
     opened_again = ((Running first, Running first, refl, (Resting (pair_of first), ((first, refl, refl, refl), refl), (Resting (pair_of first), (refl, tt, refl), (Resting (pair_of first), (refl, refl), (Running first, (refl, refl, refl), refl))))), refl);
+    rested = ((Running first, Running new, refl, (Running first, refl, (Running new, (new, is, refl), (Resting (pair_of new), ((new, refl, refl, refl), refl), (Running new, (refl, refl, refl), refl))))), refl);
     shut_down = ((Running first, Running first, refl, (Halted first None, refl, (Resting (pair_of first), ((first, refl, refl, refl), refl), (Running first, (refl, refl, refl), refl)))), refl);
   }
 

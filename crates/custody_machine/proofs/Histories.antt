@@ -3,7 +3,7 @@ use Rattle.std.proofs.Common.{◌≡◌, ℕ, List, [], ◌∷◌, ◌++◌, Opt
 use Rattle.custody_machine.specs.State.{State}
 use Rattle.custody_machine.specs.Machine.{Command, Entry, Outcome, Refuse, Accept, step, state_of, state_after, after, Answer, Accepted, Refused, Failed, NoMemory, VolumeFailed, StoreFailed, Closed, Damaged}
 use Rattle.custody_machine.specs.SameValues.{is_same_state}
-use Rattle.custody_machine.specs.History.{IsFoundWithin, MayFind, Pair, OpenAnswer, Opened, NotOpened, MayOpen, Event, Answered, ShutDown, StoppedAtRest, StoppedWithin, OpenedWith, Condition, Running, Halted, Resting, OpensSoundly, Happens, Run, Begins, Found, leads_to, settled, or_else, found_then, found_after, none_found, OpeningsAreRight, NothingIsTakenBack, AcceptedIsFound}
+use Rattle.custody_machine.specs.History.{IsFoundWithin, MayFind, Pair, OpenAnswer, Opened, NotOpened, MayOpen, Event, Answered, Rested, ShutDown, StoppedAtRest, StoppedWithin, OpenedWith, Condition, Running, Halted, Resting, OpensSoundly, Happens, Run, Begins, Found, leads_to, settled, or_else, found_then, found_after, none_found, OpeningsAreRight, NothingIsTakenBack, AcceptedIsFound}
 use Rattle.custody_machine.proofs.SameValues.{state_decides}
 
 pub after-append : (state : State) (xs ys : List Entry) → after state (xs ++ ys) ≡ after (after state xs) ys
@@ -87,6 +87,7 @@ module _ (first : State) where
   -- each event keeps the account right
   pub fits_then : (c : Condition) (event : Event) (next : Condition) (f : Found) → Fits c f → Happens c event next → Fits next (found_then first f event)
   fits_then (Running old) (Answered command now answer) next f fits h = answered_fits old old command now answer next f fits h
+  fits_then (Running old) Rested next f fits h = subst (λ c. Fits c f) (sym h) fits
   fits_then (Running old) ShutDown next f fits h = subst (λ c. Fits c f) (sym h) fits
   fits_then (Running old) (StoppedAtRest pair) next f fits h = subst (λ c. Fits c (settled first f.commands f.in_doubt pair)) (sym h.1) (settles_as f old None pair fits.0 fits.1 h.0)
   fits_then (Running old) (StoppedWithin command now pair) next f fits h =
@@ -94,6 +95,7 @@ module _ (first : State) where
   fits_then (Running old) (OpenedWith pair answer) next f fits h = absurd h
   fits_then (Halted old doubt) (Answered command now answer) next f fits h =
       subst (λ c. Fits c (found_then first f (Answered command now answer))) (sym h.1) (subst (λ a. Fits (Halted old doubt) (found_then first f (Answered command now a))) (sym h.0) (fits.0, or_none f.in_doubt ∙ fits.1))
+  fits_then (Halted old doubt) Rested next f fits h = subst (λ c. Fits c f) (sym h) fits
   fits_then (Halted old doubt) ShutDown next f fits h = subst (λ c. Fits c f) (sym h) fits
   fits_then (Halted old doubt) (StoppedAtRest pair) next f fits h = subst (λ c. Fits c (settled first f.commands f.in_doubt pair)) (sym h.1) (settles_as f old doubt pair fits.0 fits.1 h.0)
   fits_then (Halted old doubt) (StoppedWithin command now pair) next f fits h =
@@ -101,6 +103,7 @@ module _ (first : State) where
       (settles_within f old doubt command now pair fits.0 fits.1 (weaker pair (or_within old doubt command now) h.0))
   fits_then (Halted old doubt) (OpenedWith pair answer) next f fits h = absurd h
   fits_then (Resting left) (Answered command now answer) next f fits h = absurd h
+  fits_then (Resting left) Rested next f fits h = absurd h
   fits_then (Resting left) ShutDown next f fits h = absurd h
   fits_then (Resting left) (StoppedAtRest pair) next f fits h =
       subst (λ c. Fits c (settled first f.commands f.in_doubt pair)) (sym h.1) (subst (λ d. Fits (Resting left) (settled first f.commands d pair)) (sym fits.1) (fits.0, refl))
@@ -148,6 +151,7 @@ module _ (first : State) where
   found_more f (Answered command now (Accepted reply)) = ((command, now) ∷ [], refl)
   found_more f (Answered command now (Refused q)) = ([], sym (append-nil f.commands))
   found_more f (Answered command now (Failed fault)) = ([], sym (append-nil f.commands))
+  found_more f Rested = ([], sym (append-nil f.commands))
   found_more f ShutDown = ([], sym (append-nil f.commands))
   found_more f (StoppedAtRest pair) = settled_more f.commands f.in_doubt pair
   found_more f (StoppedWithin command now pair) = settled_more f.commands (or_else f.in_doubt (Some (command, now))) pair

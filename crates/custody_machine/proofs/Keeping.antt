@@ -14,23 +14,26 @@ use Rattle.schedule.specs.Schedule.{day_of}
 use Rattle.deposit_name.specs.declared.kinds.Kind.{Kind}
 use Rattle.deposit_name.specs.Name.{Name}
 use Rattle.deposit_verify.specs.declared.verdict.Verdict.{Verdict}
+use Rattle.desk.specs.declared.grounds.Ground.{Ground}
 use Rattle.deposit_verify.specs.declared.verdict.Verdict.TheVariants.{Pass, Fail}
 use Rattle.desk.specs.declared.notices.NoticeKind.{NoticeKind}
 use Rattle.desk.specs.declared.notices.NoticeKind.TheVariants.{Receipt, Failure, Absence}
 use Rattle.custody_records.specs.Keys.{PartKey, part_cmp, NoticeKey}
+use Rattle.custody_records.specs.Records as kept_in
 use Rattle.custody_records.specs.Records.{Notice, key_of}
 use Rattle.custody_machine.specs.declared.command.Statement as told
 use Rattle.custody_machine.specs.Names.{read_name}
 use Rattle.custody_machine.specs.SameValues.{is_same_kind}
 use Rattle.custody_machine.specs.State.{State, Part, Held, places, at_place, is_notice_of, has_notice}
-use Rattle.custody_machine.specs.Machine.{Check, Purge, OfPurge, without_bytes, is_due, dropped_if_due, count_due, without_due, absence_of, absence_notice, is_absence, is_beyond, is_unknown, is_verdict, OfNotice, is_outside, has_part_of_other_kind, differ_in_number, has_later_receipt, first_part, part_keys, if_made, if_of_id, has_id, is_verdict_of, verdict_told, has_verdict, has_dropped_part, are_as_stated, kept_verdict, with_notice, next_key, verdict_notice, notice_kind, verdict_on, Command, Register, Receive, Statement, Refusal, DroppedAfterKeeping, Record, OfRegistry, OfPart, Reply, Outcome, Refuse, Accept, first_day_of, part_at, recorded, has_other_kind, is_held_with_other, holds_other, is_dropped, is_gone, part_in, refusal_of, with_registry, with_part, received_part, kept, step, state_of, reads, read_by, HasRecord, is_unregistered, is_out_of_size, receive_tests, named_tests, first_standing}
-use Rattle.custody_machine.specs.Retries.{Key, OfTld, OfName, OfRevision, OfDay, key, are_same_keys, has_same_key, asked, IsDroppedSince, IsKeptAs, StillHas, KeepsRecords, NothingIsRemoved, RepliesAreRecords, IsOfCommand}
+use Rattle.custody_machine.specs.Machine.{Check, Release, Purge, OfRelease, OfPurge, is_on, kept_release, new_release, release_of, has_ground, without_bytes, is_due, dropped_if_due, count_due, without_due, absence_of, absence_notice, is_absence, is_beyond, is_unknown, is_verdict, OfNotice, is_outside, has_part_of_other_kind, differ_in_number, has_later_receipt, first_part, part_keys, if_made, if_of_id, has_id, is_verdict_of, verdict_told, has_verdict, has_dropped_part, are_as_stated, kept_verdict, with_notice, next_key, verdict_notice, notice_kind, verdict_on, Command, Register, Receive, Statement, Refusal, DroppedAfterKeeping, Record, OfRegistry, OfPart, Reply, Outcome, Refuse, Accept, first_day_of, part_at, recorded, has_other_kind, is_held_with_other, holds_other, is_dropped, is_gone, part_in, refusal_of, with_registry, with_part, with_release, received_part, kept, step, state_of, reads, read_by, HasRecord, is_unregistered, is_out_of_size, receive_tests, named_tests, first_standing}
+use Rattle.custody_machine.specs.Retries.{Key, OfTld, OfName, OfRevision, OfDay, OfReference, key, are_same_keys, has_same_key, asked, IsDroppedSince, IsKeptAs, StillHas, KeepsRecords, NothingIsRemoved, RepliesAreRecords, IsOfCommand}
 use Rattle.custody_machine.proofs.MapValues.{get-map_values}
-use Rattle.custody_machine.proofs.SameValues.{text_decides, kind_decides}
+use Rattle.custody_machine.proofs.SameValues.{text_decides, kind_decides, ground_decides}
 use Rattle.custody_records.specs.Orders.{text_total, part_total, part_exact, notice_total}
 use Rattle.custody_machine.proofs.Entries.{passes_found, any_of_found, found_where_any, none_found, get_found, find_insert, find_new, next_is_new}
 use Rattle.custody_machine.proofs.Stated.{NoneStandsOf, find_none_of, stated_by, IsStated, accepts_statement}
 use Rattle.custody_machine.proofs.Checked.{NoneStandsOn, find_none_on, missed_by, IsChecked, accepts_check}
+use Rattle.custody_machine.proofs.Released.{find_none_for, released_by, IsReleased, accepts_release, kept_release_is, kept_release_of, unused_of}
 use Rattle.custody_machine.proofs.Accepting.{NoneStands, find_none, find_dropped, step_accepts, step_none, step_refuses, accept_inj, insert_here, insert_new, place_is_empty, held_bytes, answered, rules_part, Receives, receives, registered, recorded_is, recorded_of}
 
 -- ---- nothing is removed
@@ -57,6 +60,10 @@ keeps_adding s key part none entry e = still (with_part s key part) entry e
 keeps_noticing : (s : State) (key : NoticeKey) (notice : Notice) → get s.notices key ≡ None → KeepsRecords s (with_notice s key notice)
 keeps_noticing s key notice none (OfNotice q x) e = still (with_notice s key notice) (OfNotice q x) (insert_new notice_total s.notices key notice q x none e)
 keeps_noticing s key notice none entry e = still (with_notice s key notice) entry e
+
+keeps_releasing : (s : State) (reference : List ℕ) (release : kept_in.Release) → get s.releases reference ≡ None → KeepsRecords s (with_release s reference release)
+keeps_releasing s reference release none (OfRelease q x) e = still (with_release s reference release) (OfRelease q x) (insert_new text_total s.releases reference release q x none e)
+keeps_releasing s reference release none entry e = still (with_release s reference release) entry e
 
 -- of each part its bytes may be dropped, and nothing else
 keeps_dropping : (s : State) (today : ℕ) → KeepsRecords s (without_due s today)
@@ -93,6 +100,11 @@ step_keeps s (Check tld day) now reply new e = by (absence_of s tld day) (accept
     by : (o : Option (NoticeKey × Notice)) → missed_by s tld day now o ≡ Accept reply new → KeepsRecords s new
     by (Some kept) e = subst (KeepsRecords s) (accept_inj _ _ _ _ e).1 (keeps_itself s)
     by None e = subst (KeepsRecords s) (accept_inj _ _ _ _ e).1 (keeps_noticing s (next_key s.notices tld) _ (next_is_new s.notices tld))
+step_keeps s (Release reference tld reason) now reply new e = let r = accepts_release s reference tld reason now reply new e in by r (kept_release s reference tld reason) refl r.outcome
+  where
+    by : (r : IsReleased s reference tld reason now reply new) (o : Option kept_in.Release) → kept_release s reference tld reason ≡ o → released_by s reference tld reason now o ≡ Accept reply new → KeepsRecords s new
+    by r (Some kept) at e = subst (KeepsRecords s) (accept_inj _ _ _ _ e).1 (keeps_itself s)
+    by r None at e = subst (KeepsRecords s) (accept_inj _ _ _ _ e).1 (keeps_releasing s reference _ (unused_of s reference tld reason now r.none at))
 step_keeps s Purge now reply new e = subst (KeepsRecords s) (purges s now reply new e).1 (keeps_dropping s (day_of now))
 
 pub nothing_is_removed : NothingIsRemoved
@@ -117,6 +129,9 @@ part_is_kept s new key part k at = let h = k (OfPart key part) at in by h.0 h.1 
     by : (kept : Record) → HasRecord new kept → IsKeptAs (OfPart key part) kept → (kept : Part) × (part_at new key ≡ Some kept) × IsKeptPart part kept
     by kept has (inl p) = (part, subst (HasRecord new) p has, inl refl)
     by kept has (inr p) = (without_bytes part, subst (HasRecord new) p has, inr refl)
+
+release_is_kept : (s new : State) (reference : List ℕ) (release : kept_in.Release) → KeepsRecords s new → get s.releases reference ≡ Some release → get new.releases reference ≡ Some release
+release_is_kept s new reference release k at = let h = k (OfRelease reference release) at in subst (HasRecord new) h.2 h.1
 
 -- what is kept of an accepted part
 pub record KeepsPart (s : State) (text bytes : List ℕ) (entry : Record) : Type 0 where
@@ -154,6 +169,13 @@ pub record KeepsAbsence (s : State) (tld : List ℕ) (day : ℕ) (entry : Record
   pub kept : NoticeKey × Notice
   pub found : absence_of s tld day ≡ Some kept
   pub made : entry ≡ OfNotice kept.0 kept.1
+  pub registry : is_unknown s tld ≡ false
+
+-- what is kept of a release that was accepted
+pub record KeepsRelease (s : State) (reference tld : List ℕ) (reason : Ground) (entry : Record) : Type 0 where
+  pub kept : kept_in.Release
+  pub found : kept_release s reference tld reason ≡ Some kept
+  pub made : entry ≡ OfRelease reference kept
   pub registry : is_unknown s tld ≡ false
 
 -- what a verdict that is kept tells: the parts are as stated, it is the one of the revision, and it has the id
@@ -234,6 +256,9 @@ continues_adding s text bytes now name none at records = record {
     elsewhere : (st : told.Statement) → has_verdict s st ≡ true → (name.tld ≡ st.tld) → (name.day ≡ st.day) → (name.rev ≡ st.rev) → ⊥
     elsewhere st has a b c = let same : has_notice s.notices name.tld name.day (is_verdict_of name.rev) ≡ has_verdict s st = (λ i. has_notice s.notices (a i) (b i) (is_verdict_of (c i))) in
         let clash : true ≡ false = sym has ∙ sym same ∙ unstated in cc
+
+continues_releasing : (s : State) (reference : List ℕ) (release : kept_in.Release) → get s.releases reference ≡ None → Continues s (with_release s reference release)
+continues_releasing s reference release none = record { records = keeps_releasing s reference release none; verdicts = λ st kept e. e; absences = λ tld day kept e. e }
 
 -- a part without its bytes is of its kind
 kind_stays : (today : ℕ) (part : Part) → (dropped_if_due today part).kind ≡ part.kind
@@ -346,6 +371,11 @@ step_continues s (Check tld day) now reply new e = let r = accepts_check s tld d
     by : (o : Option (NoticeKey × Notice)) → absence_of s tld day ≡ o → missed_by s tld day now o ≡ Accept reply new → Continues s new
     by (Some kept) at e = subst (Continues s) (accept_inj _ _ _ _ e).1 (continues_itself s)
     by None at e = subst (Continues s) (accept_inj _ _ _ _ e).1 (continues_noticing s tld (absence_notice day now) (absence_is_first s tld day now at))
+step_continues s (Release reference tld reason) now reply new e = let r = accepts_release s reference tld reason now reply new e in by r (kept_release s reference tld reason) refl r.outcome
+  where
+    by : (r : IsReleased s reference tld reason now reply new) (o : Option kept_in.Release) → kept_release s reference tld reason ≡ o → released_by s reference tld reason now o ≡ Accept reply new → Continues s new
+    by r (Some kept) at e = subst (Continues s) (accept_inj _ _ _ _ e).1 (continues_itself s)
+    by r None at e = subst (Continues s) (accept_inj _ _ _ _ e).1 (continues_releasing s reference _ (unused_of s reference tld reason now r.none at))
 step_continues s Purge now reply new e = subst (Continues s) (purges s now reply new e).1 (continues_dropping s (day_of now))
 
 -- The state keeps what a command made.
@@ -354,6 +384,7 @@ Keeps s (Register tld day) entry = (kept : ℕ) × (first_day_of s tld ≡ Some 
 Keeps s (Receive text bytes) entry = KeepsPart s text bytes entry
 Keeps s (Statement stated) entry = KeepsVerdict s stated entry
 Keeps s (Check tld day) entry = KeepsAbsence s tld day entry
+Keeps s (Release reference tld reason) entry = KeepsRelease s reference tld reason entry
 Keeps s Purge entry = (count : ℕ) × (entry ≡ OfPurge count)
 
 -- what was kept of a part, and is still
@@ -373,6 +404,9 @@ is_known s new tld k e = by (first_day_of s tld) refl e
 pub keeps_on : (s new : State) (c : Command) (entry : Record) → Continues s new → Keeps s c entry → Keeps new c entry
 keeps_on s new (Statement st) entry k h = record { kept = h.kept; found = k.verdicts st h.kept h.found; made = h.made; registry = is_known s new st.tld k.records h.registry }
 keeps_on s new (Check tld day) entry k h = record { kept = h.kept; found = k.absences tld day h.kept h.found; made = h.made; registry = is_known s new tld k.records h.registry }
+keeps_on s new (Release reference tld reason) entry k h =
+    let is = kept_release_is s reference tld reason h.kept h.found in
+    record { kept = h.kept; found = kept_release_of new reference tld reason h.kept (release_is_kept s new reference h.kept k.records is.0) is.1; made = h.made; registry = is_known s new tld k.records h.registry }
 keeps_on s new Purge entry k h = h
 keeps_on s new (Register tld day) entry k h = (h.0, registry_is_kept s new tld h.0 k.records h.1, h.2)
 keeps_on s new (Receive text bytes) entry k h =
@@ -465,6 +499,21 @@ accepted_is_kept s (Check tld day) now reply new e = let r = accepts_check s tld
           made = ap (λ (q : Reply). q.entry) (sym h.0);
           registry = r.none.registry;
         })
+accepted_is_kept s (Release reference tld reason) now reply new e = let r = accepts_release s reference tld reason now reply new e in by r (kept_release s reference tld reason) refl r.outcome
+  where
+    on : is_on tld reason (new_release s tld reason now) ≡ true
+    on = λ i. (text_decides tld tld).1 refl i && (ground_decides reason reason).1 refl i
+
+    by : (r : IsReleased s reference tld reason now reply new) (o : Option kept_in.Release) → kept_release s reference tld reason ≡ o → released_by s reference tld reason now o ≡ Accept reply new → KeepsRelease new reference tld reason reply.entry
+    by r (Some kept) at e = let h = accept_inj _ _ _ _ e in
+        subst (λ (n : State). KeepsRelease n reference tld reason reply.entry) h.1 (record { kept = kept; found = at; made = ap (λ (q : Reply). q.entry) (sym h.0); registry = r.none.registry })
+    by r None at e = let h = accept_inj _ _ _ _ e in
+        subst (λ (n : State). KeepsRelease n reference tld reason reply.entry) h.1 (record {
+          kept = new_release s tld reason now;
+          found = kept_release_of (with_release s reference (new_release s tld reason now)) reference tld reason (new_release s tld reason now) (insert_here text_total s.releases reference (new_release s tld reason now)) on;
+          made = ap (λ (q : Reply). q.entry) (sym h.0);
+          registry = r.none.registry;
+        })
 accepted_is_kept s Purge now reply new e = (count_due s (day_of now), ap (λ (q : Reply). q.entry) (sym (purges s now reply new e).0))
 
 -- the record that a reply shows is that of the state
@@ -493,6 +542,13 @@ replies_are_records old new (Check tld day) now reply e = by (absence_of old tld
         subst (λ (q : Reply). HasRecord new q.entry) h.0 (ap (λ (n : State). get n.notices kept.0) (sym h.1) ∙ (first_is_there old tld day is_absence kept at).0)
     by None at e = let h = accept_inj _ _ _ _ e in
         subst (λ (q : Reply). HasRecord new q.entry) h.0 (ap (λ (n : State). get n.notices (next_key old.notices tld)) (sym h.1) ∙ insert_here notice_total old.notices (next_key old.notices tld) (absence_notice day now))
+replies_are_records old new (Release reference tld reason) now reply e = by (kept_release old reference tld reason) refl (accepts_release old reference tld reason now reply new e).outcome
+  where
+    by : (o : Option kept_in.Release) → kept_release old reference tld reason ≡ o → released_by old reference tld reason now o ≡ Accept reply new → HasRecord new reply.entry
+    by (Some kept) at e = let h = accept_inj _ _ _ _ e in
+        subst (λ (q : Reply). HasRecord new q.entry) h.0 (ap (λ (n : State). get n.releases reference) (sym h.1) ∙ (kept_release_is old reference tld reason kept at).0)
+    by None at e = let h = accept_inj _ _ _ _ e in
+        subst (λ (q : Reply). HasRecord new q.entry) h.0 (ap (λ (n : State). get n.releases reference) (sym h.1) ∙ insert_here text_total old.releases reference (new_release old tld reason now))
 replies_are_records old new Purge now reply e = subst (λ (q : Reply). HasRecord new q.entry) (purges old now reply new e).0 tt
 
 -- what is kept is of its command, and is there
@@ -526,6 +582,11 @@ kept_is_there s (Check tld day) entry h =
     absence_in (Receipt rev id) a = cc
     absence_in (Failure rev id check) a = cc
     absence_in Absence a = refl
+kept_is_there s (Release reference tld reason) entry h =
+    let is = kept_release_is s reference tld reason h.kept h.found in
+    let on = and_both _ _ is.1 in
+    subst (λ e. IsOfCommand (Release reference tld reason) e × StillHas s e) (sym h.made)
+    ((refl, (text_decides h.kept.tld tld).0 on.0, (ground_decides h.kept.reason reason).0 on.1), still s (OfRelease reference h.kept) is.0)
 kept_is_there s Purge entry h = subst (λ e. IsOfCommand Purge e × StillHas s e) (sym h.1) (tt, still s (OfPurge h.0) tt)
 
 -- the kind of what is kept
@@ -540,6 +601,7 @@ other_than_none (Some (OfTld a)) = refl
 other_than_none (Some (OfName a)) = refl
 other_than_none (Some (OfRevision a d r)) = refl
 other_than_none (Some (OfDay a d)) = refl
+other_than_none (Some (OfReference a)) = refl
 
 -- A command with the key of one that was accepted changes nothing, and makes nothing else, where it is accepted.
 pub same_key_is_kept : (s : State) (c d : Command) (entry : Record) (now : ℕ) (reply : Reply) (new : State) → Keeps s c entry → has_same_key d c ≡ true → step s d now ≡ Accept reply new → Keeps s d entry × (new ≡ s)
@@ -602,6 +664,19 @@ same_key_is_kept s (Check tld day) (Check other later) entry now reply new h sam
     let r = accepts_check s other later now reply new e in
     let outcome : missed_by s other later now (Some h.kept) ≡ Accept reply new = ap (missed_by s other later now) (sym found) ∙ r.outcome in
     (record { kept = h.kept; found = found; made = h.made; registry = r.none.registry }, sym (accept_inj _ _ _ _ outcome).1)
+same_key_is_kept s (Release reference tld reason) (Release other of on) entry now reply new h same e =
+    let is : other ≡ reference = (text_decides other reference).0 same in
+    let there : get s.releases other ≡ Some h.kept = ap (get s.releases) is ∙ (kept_release_is s reference tld reason h.kept h.found).0 in
+    let r = accepts_release s other of on now reply new e in by is there r (kept_release s other of on) refl r.outcome
+  where
+    one : (p q : kept_in.Release) (o : Option kept_in.Release) → o ≡ Some p → o ≡ Some q → p ≡ q
+    one p q o x y = cc
+
+    by : other ≡ reference → get s.releases other ≡ Some h.kept → (r : IsReleased s other of on now reply new) (o : Option kept_in.Release) → kept_release s other of on ≡ o → released_by s other of on now o ≡ Accept reply new → KeepsRelease s other of on entry × (new ≡ s)
+    by is there r (Some kept) at e =
+        let same : kept ≡ h.kept = one kept h.kept (get s.releases other) (kept_release_is s other of on kept at).0 there in
+        (record { kept = h.kept; found = at ∙ ap Some same; made = h.made ∙ ap (λ t. OfRelease t h.kept) (sym is); registry = r.none.registry }, sym (accept_inj _ _ _ _ e).1)
+    by is there r None at e = let clash : Some h.kept ≡ None = sym there ∙ unused_of s other of on now r.none at in cc
 same_key_is_kept s Purge d entry now reply new h same e = let clash : true ≡ false = sym same ∙ other_than_none (key d) in cc
 same_key_is_kept s c d entry now reply new h same e = cc
 
@@ -712,4 +787,13 @@ asked_again s (Check tld day) entry now keyed h =
       date = not_new (is_beyond s tld day now);
       due = not_new (day == day_of now);
       verdict = not_new (has_notice s.notices tld day is_verdict);
+    })
+asked_again s (Release reference tld reason) entry now keyed h =
+    (inl (step_none s (Release reference tld reason) now none ∙ ap (released_by s reference tld reason now) h.found ∙ ap (λ e. Accept (record { entry = e; is_repeat = true }) s) (sym h.made)), refl)
+  where
+    none : refusal_of s (Release reference tld reason) now ≡ None
+    none = find_none_for s reference tld reason now (record {
+      registry = h.registry;
+      stands = ap (λ o. is_none o && not (has_ground s tld reason now)) (kept_release_is s reference tld reason h.kept h.found).0;
+      used = (λ i. is_some ((kept_release_is s reference tld reason h.kept h.found).0 i) && is_none (h.found i));
     })

@@ -6,6 +6,7 @@ pub mod Entries
 pub mod Accepting
 pub mod Stated
 pub mod Checked
+pub mod Released
 pub mod Keeping
 pub mod Histories
 pub mod Retries
@@ -14,9 +15,12 @@ pub mod Heads
 pub mod Forms
 pub mod Stored
 pub mod Damages
+pub mod Fetching
 pub mod Moves
 pub mod Composed
+pub mod Rested
 pub mod Noticed
+pub mod HandedOver
 pub mod Purged
 pub mod Compared
 pub mod Room

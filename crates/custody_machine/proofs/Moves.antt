@@ -8,7 +8,7 @@ use Rattle.custody_records.specs.Records.{Records}
 use Rattle.custody_records.specs.Rows.{Rows}
 use Rattle.custody_machine.specs.State.{State}
 use Rattle.custody_machine.specs.Machine.{Command, after, Answer, Failed, Fault, NoMemory, VolumeFailed, StoreFailed, Closed, Damage, Damaged, Answers}
-use Rattle.custody_machine.specs.History.{IsFoundWithin, MayFind, doubt_of, is_open_after, Pair, Opened, NotOpened, MayOpen, Event, Answered, ShutDown, StoppedAtRest, StoppedWithin, OpenedWith, Condition, Running, Halted, Resting, OpensSoundly, Happens, Run, Begins, Found, found, found_after, none_found}
+use Rattle.custody_machine.specs.History.{IsFoundWithin, MayFind, doubt_of, is_open_after, Pair, Opened, NotOpened, MayOpen, Event, Answered, Rested, ShutDown, StoppedAtRest, StoppedWithin, OpenedWith, Condition, Running, Halted, Resting, OpensSoundly, Happens, Run, Begins, Found, found, found_after, none_found}
 use Rattle.custody_machine.specs.Stored.{part_of, content_of, state_in, Stands, HasDigests, IsSound, OpensFrom}
 use Rattle.custody_machine.specs.Moves.{Place, Serving, Shut, Left, MayLeave, Finds, MayNotOpen, Moves, MovesAlong, IsBegun, MovesAreHistories, IsIn, PlacesAreRight, fault_told, NoDamageIsTold, ReadsBackAsReceived, FindsOne, ChainsMove}
 use Rattle.custody_machine.proofs.MapValues.{get-map_values}
@@ -101,6 +101,8 @@ answered_follows records image state command now answer next follows m = by (is_
 -- each move is an event of the history
 pub move_happens : (place : Place) (condition : Condition) (event : Event) (next : Place) → Follows place condition → Moves place event next → Goes condition event next
 move_happens (Serving records image) (Running state) (Answered command now answer) next follows m = answered_follows records image state command now answer next follows m
+move_happens (Serving records image) (Running state) Rested next follows m =
+    (Running state, refl, subst (λ p. Follows p (Running state)) (sym m.3) (follows.0 ∙ sym m.1, sound_from records records image m.0 m.2 follows.1))
 move_happens (Serving records image) (Running state) ShutDown next follows m = (Halted state None, refl, subst (λ p. Follows p (Halted state None)) (sym m) (follows.0, refl, follows.1))
 move_happens (Serving records image) (Running state) (StoppedAtRest pair) next follows m =
     let P : State → Type 0 = λ found. found ≡ state_in records image in
@@ -110,6 +112,7 @@ move_happens (Serving records image) (Running state) (StoppedWithin command now 
     (Resting pair, (subst (λ s. OpensSoundly (IsFoundWithin s command now) pair) (sym follows.0) (opens_soundly records image follows.1 P m.0 m.1 pair m.2 m.3), refl), subst (λ p. Follows p (Resting pair)) (sym m.4) (follows_left records image follows.1 P m.0 m.1 pair m.2 m.3))
 move_happens (Serving records image) (Running state) (OpenedWith pair answer) next follows m = absurd m
 move_happens (Shut records image doubt) (Halted old entry) (Answered command now answer) next follows m = (Halted old entry, (m.0, refl), subst (λ p. Follows p (Halted old entry)) (sym m.1) follows)
+move_happens (Shut records image doubt) (Halted old entry) Rested next follows m = (Halted old entry, refl, subst (λ p. Follows p (Halted old entry)) (sym m) follows)
 move_happens (Shut records image doubt) (Halted old entry) ShutDown next follows m = (Halted old entry, refl, subst (λ p. Follows p (Halted old entry)) (sym m) follows)
 move_happens (Shut records image doubt) (Halted old entry) (StoppedAtRest pair) next follows m =
     let P : State → Type 0 = MayFind (state_in records image) doubt in (
@@ -125,6 +128,7 @@ move_happens (Shut records image doubt) (Halted old entry) (StoppedWithin comman
     )
 move_happens (Shut records image doubt) (Halted old entry) (OpenedWith pair answer) next follows m = absurd m
 move_happens (Left rows image) (Resting left) (Answered command now answer) next follows m = absurd m
+move_happens (Left rows image) (Resting left) Rested next follows m = absurd m
 move_happens (Left rows image) (Resting left) ShutDown next follows m = absurd m
 move_happens (Left rows image) (Resting left) (StoppedAtRest pair) next follows m = stopped rows image left pair m.0 m.1 next follows m.2 m.3 m.4
   where

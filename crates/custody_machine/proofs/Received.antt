@@ -9,10 +9,12 @@ use Rattle.custody_records.specs.Keys.{PartKey, NoticeKey, part_cmp}
 use Rattle.custody_records.specs.Records.{Notice, key_of}
 use Rattle.custody_machine.proofs.Stated.{accepts_statement, stated_by}
 use Rattle.custody_machine.proofs.Checked.{accepts_check, missed_by}
+use Rattle.custody_machine.proofs.Released.{accepts_release, released_by}
+use Rattle.custody_records.specs.Records as kept_in
 use Rattle.custody_machine.specs.Names.{read_name}
 use Rattle.schedule.specs.Schedule.{day_of}
 use Rattle.custody_machine.specs.State.{State, Part, Held, Dropped}
-use Rattle.custody_machine.specs.Machine.{Command, Register, Receive, Statement, Check, Purge, content_len, dropped_if_due, is_due, without_bytes, without_due, kept_verdict, absence_of, Entry, Outcome, Refuse, Accept, Reply, step, state_of, state_after, recorded, received_part, with_part, first_day_of}
+use Rattle.custody_machine.specs.Machine.{Command, Register, Receive, Statement, Check, Release, Purge, content_len, dropped_if_due, is_due, without_bytes, without_due, kept_verdict, absence_of, kept_release, Entry, Outcome, Refuse, Accept, Reply, step, state_of, state_after, recorded, received_part, with_part, first_day_of}
 use Rattle.custody_machine.specs.History.{WasReceived, HeldAsReceived}
 use Rattle.custody_records.specs.Orders.{part_total, part_exact}
 use Rattle.custody_machine.proofs.MapValues.{get-map_values}
@@ -71,6 +73,11 @@ by_step s (Statement stated) now rest key part bytes reply new held is at = by (
 by_step s (Check tld day) now rest key part bytes reply new held is at = by (absence_of s tld day) (accepts_check s tld day now reply new is).outcome
   where
     by : (o : Option (NoticeKey × Notice)) → missed_by s tld day now o ≡ Accept reply new → (get s.parts key ≡ Some part) ⊎ WasReceived ((Check tld day, now) ∷ rest) key part bytes
+    by (Some kept) r = inl (ap (λ (t : State). get t.parts key) (accept_inj _ _ _ _ r).1 ∙ at)
+    by None r = inl (ap (λ (t : State). get t.parts key) (accept_inj _ _ _ _ r).1 ∙ at)
+by_step s (Release reference tld reason) now rest key part bytes reply new held is at = by (kept_release s reference tld reason) (accepts_release s reference tld reason now reply new is).outcome
+  where
+    by : (o : Option kept_in.Release) → released_by s reference tld reason now o ≡ Accept reply new → (get s.parts key ≡ Some part) ⊎ WasReceived ((Release reference tld reason, now) ∷ rest) key part bytes
     by (Some kept) r = inl (ap (λ (t : State). get t.parts key) (accept_inj _ _ _ _ r).1 ∙ at)
     by None r = inl (ap (λ (t : State). get t.parts key) (accept_inj _ _ _ _ r).1 ∙ at)
 by_step s Purge now rest key part bytes reply new held is at = inl (held_before s (day_of now) key part bytes held (ap (λ (t : State). get t.parts key) (accept_inj _ _ _ _ (step_accepts s Purge now reply new is).1).1 ∙ at))

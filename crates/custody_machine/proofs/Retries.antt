@@ -5,8 +5,8 @@ use Rattle.std.proofs.lemmas.Bool.Decides.{Decides-eqb}
 use Rattle.custody_machine.specs.State.{State}
 use Rattle.custody_machine.specs.Machine.{Command, Entry, Record, Reply, Outcome, Refuse, Accept, step, state_of, state_after, after, reads, Answer, Accepted, Refused, Failed, NoMemory, VolumeFailed, StoreFailed, Closed, Damaged, Answers, MayRefuse, MayFail}
 use Rattle.custody_machine.specs.SameValues.{is_same_state}
-use Rattle.custody_machine.specs.History.{Pair, Opened, Event, Answered, ShutDown, StoppedAtRest, StoppedWithin, OpenedWith, Condition, Running, Halted, Resting, Happens, Run, Found, leads_to, settled, or_else, found_then, found_after, found, none_found}
-use Rattle.custody_machine.specs.Retries.{Key, OfTld, OfName, OfRevision, OfDay, key, are_same_keys, has_same_key, KeysAreCompared, once_after, ActsOnce, AsksAgain, record_of, first_record, IsAnsweredAgain, RepeatsAreAnswered, IsOfCommand, StillHas, AcknowledgedIsKept}
+use Rattle.custody_machine.specs.History.{Pair, Opened, Event, Answered, Rested, ShutDown, StoppedAtRest, StoppedWithin, OpenedWith, Condition, Running, Halted, Resting, Happens, Run, Found, leads_to, settled, or_else, found_then, found_after, found, none_found}
+use Rattle.custody_machine.specs.Retries.{Key, OfTld, OfName, OfRevision, OfDay, OfReference, key, are_same_keys, has_same_key, KeysAreCompared, once_after, ActsOnce, AsksAgain, record_of, first_record, IsAnsweredAgain, RepeatsAreAnswered, IsOfCommand, StillHas, AcknowledgedIsKept}
 use Rattle.custody_machine.proofs.SameValues.{text_decides}
 use Rattle.custody_machine.proofs.Histories.{after-append, Fits, fits_then, fits_after, fits_first, run_split, found_after-append, all_more, openings_are_right}
 use Rattle.custody_machine.proofs.Accepting.{accept_inj}
@@ -48,6 +48,7 @@ module _ (first : State) where
   accepted_then (Resting pair) (Answered command now (Accepted reply)) next f fits h all = absurd h
   accepted_then c (Answered command now (Refused q)) next f fits h all = all
   accepted_then c (Answered command now (Failed fault)) next f fits h all = all
+  accepted_then c Rested next f fits h all = all
   accepted_then c ShutDown next f fits h all = all
   accepted_then c (StoppedAtRest pair) next f fits h all = settled_accepted f.commands f.in_doubt pair all
   accepted_then c (StoppedWithin command now pair) next f fits h all = settled_accepted f.commands (or_else f.in_doubt (Some (command, now))) pair all
@@ -154,6 +155,7 @@ own_key (Some (OfTld a)) h = (text_decides a a).1 refl
 own_key (Some (OfName a)) h = (text_decides a a).1 refl
 own_key (Some (OfRevision a d r)) h = and_true _ _ ((text_decides a a).1 refl) (and_true _ _ ((Decides-eqb d d).1 refl) ((Decides-eqb r r).1 refl))
 own_key (Some (OfDay a d)) h = and_true _ _ ((text_decides a a).1 refl) ((Decides-eqb d d).1 refl)
+own_key (Some (OfReference a)) h = (text_decides a a).1 refl
 own_key None h = h
 
 one_key : (a b : Option Key) → are_same_keys a b ≡ true → (is_some a ≡ true) × (a ≡ b)
@@ -166,6 +168,7 @@ one_key (Some (OfRevision a d r)) (Some (OfRevision b e s)) is =
 one_key (Some (OfDay a d)) (Some (OfDay b e)) is =
     let x = and_split _ _ is in
     (refl, λ i. Some (OfDay ((text_decides a b).0 x.0 i) ((Decides-eqb d e).0 x.1 i)))
+one_key (Some (OfReference a)) (Some (OfReference b)) e = (refl, ap (λ t. Some (OfReference t)) ((text_decides a b).0 e))
 one_key a b e = cc
 
 pub keys_are_compared : KeysAreCompared

@@ -18,7 +18,7 @@ use Rattle.custody_records.specs.Records.{Notice, Release}
 use Rattle.custody_records.specs.Form.{kind_in, check_in, ground_in}
 use Rattle.custody_machine.specs.Names.{is_same_text}
 use Rattle.custody_machine.specs.State.{State, Part, Content, Held, Dropped}
-use Rattle.custody_machine.specs.SameValues.{is_same_kind, is_same_key, is_same_notice_key, is_same_content, is_same_part, is_same_notice_kind, is_same_notice, is_same_release, is_same_map, is_same_state}
+use Rattle.custody_machine.specs.SameValues.{is_same_ground, is_same_kind, is_same_key, is_same_notice_key, is_same_content, is_same_part, is_same_notice_kind, is_same_notice, is_same_release, is_same_map, is_same_state}
 use Rattle.custody_records.proofs.FieldLemmas.{kind_in-kind_text, ground_in-ground_text, check_in-check_number}
 
 pub text_decides : (a b : List ℕ) → Decides (is_same_text a b) (a ≡ b)
@@ -34,7 +34,7 @@ kind_decides a b = Decides-like _ (by_text kind_text kind_in kind_in-kind_text a
 check_decides : (a b : Check) → Decides (check_number a == check_number b) (a ≡ b)
 check_decides a b = Decides-like _ (by_text check_number check_in check_in-check_number a b) (ap check_number) (Decides-eqb (check_number a) (check_number b))
 
-ground_decides : (a b : Ground) → Decides (is_same_text (ground_text a) (ground_text b)) (a ≡ b)
+pub ground_decides : (a b : Ground) → Decides (is_same_ground a b) (a ≡ b)
 ground_decides a b = Decides-like _ (by_text ground_text ground_in ground_in-ground_text a b) (ap ground_text) (text_decides (ground_text a) (ground_text b))
 
 pub key_decides : (a b : PartKey) → Decides (is_same_key a b) (a ≡ b)

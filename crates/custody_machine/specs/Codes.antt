@@ -1,7 +1,7 @@
 -- What a refusal or a failure is told as: one row each.
 use Rattle.std.specs.Prelude.{ℕ, List, ◌++◌, Option, Some, codes}
 use Rattle.custody_machine.specs.declared.answers.Refusal.{Refusal}
-use Rattle.custody_machine.specs.declared.answers.Refusal.TheVariants.{NameRefused, RegistryUnknown, DateOutOfRange, Size, OtherBytes, DroppedAfterKeeping, RevisionNotDue, AlreadyStated, TypeDiffers, PartOutOfOrder, VolumeFull, PartsDiffer, LaterDayPassed, NotYetDue, DayHasVerdict}
+use Rattle.custody_machine.specs.declared.answers.Refusal.TheVariants.{NameRefused, RegistryUnknown, DateOutOfRange, Size, OtherBytes, DroppedAfterKeeping, RevisionNotDue, AlreadyStated, TypeDiffers, PartOutOfOrder, VolumeFull, PartsDiffer, LaterDayPassed, NotYetDue, DayHasVerdict, GroundDoesNotStand, ReferenceUsed, NotInRelease, ReleaseUnknown}
 use Rattle.custody_machine.specs.declared.answers.Fault.{Fault}
 use Rattle.custody_machine.specs.declared.answers.Fault.TheVariants.{NoMemory, VolumeFailed, StoreFailed, Closed, Damaged}
 use Rattle.custody_machine.specs.declared.codes.Code.{Code}
@@ -52,6 +52,10 @@ refusal_row PartsDiffer = (codes "Q12", codes "parts differ", Conflict)
 refusal_row LaterDayPassed = (codes "Q13", codes "later day passed", Conflict)
 refusal_row NotYetDue = (codes "Q14", codes "not yet due", Conflict)
 refusal_row DayHasVerdict = (codes "Q15", codes "day has a verdict", Conflict)
+refusal_row GroundDoesNotStand = (codes "Q16", codes "ground does not stand", Conflict)
+refusal_row ReferenceUsed = (codes "Q17", codes "reference used", Conflict)
+refusal_row NotInRelease = (codes "Q18", codes "not in release", NotFound)
+refusal_row ReleaseUnknown = (codes "Q19", codes "release unknown", NotFound)
 
 abbrev pub fault_row : Fault → List ℕ × List ℕ × HttpStatus
 fault_row NoMemory = (codes "C1", codes "no memory", ServiceUnavailable)

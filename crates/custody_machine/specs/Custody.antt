@@ -10,8 +10,8 @@ use Rattle.custody_records.specs.Rows.{Rows}
 use Rattle.custody_records.specs.Form.{form_of, InForm}
 use Rattle.custody_machine.specs.declared.damage.Damage.TheVariants.{NoRecord}
 use Rattle.custody_machine.specs.State.{empty}
-use Rattle.custody_machine.specs.Machine.{Command, Register, Receive, Statement, Check, Purge, Answer}
-use Rattle.custody_machine.specs.History.{Answered}
+use Rattle.custody_machine.specs.Machine.{Command, Register, Receive, Statement, Check, Release, Purge, Answer}
+use Rattle.custody_machine.specs.History.{Event, Answered, Rested, ShutDown}
 use Rattle.custody_machine.specs.Stored.{IsNamed, AreWhole, IsVolumeOf}
 use Rattle.custody_machine.specs.Damage.{IsDamaged}
 use Rattle.custody_machine.specs.Moves.{Place, Serving, Shut, Left, MayLeave, MayLeaveWithin, Moves, IsBegun}
@@ -32,6 +32,7 @@ HasRoomFor records (Register tld first_day) = Unit {0}
 HasRoomFor records (Receive name bytes) = HasRoom records (length bytes)
 HasRoomFor records (Statement stated) = Unit {0}
 HasRoomFor records (Check tld day) = Unit {0}
+HasRoomFor records (Release reference tld reason) = Unit {0}
 HasRoomFor records Purge = Unit {0}
 
 -- ---- an open custody
@@ -128,6 +129,18 @@ pub record Serves (old : Contents) (command : Command) (now : ℕ) (answer : Ans
   pub moves : Moves (Serving old.records old.image) (Answered command now answer) next
   pub is_at : IsAt is_open new.records new.image next
   pub leaves : Leaves left (MayLeaveWithin (Serving old.records old.image) command now) (MayLeave next)
+
+-- a call that is no command, by whether the custody is open after it
+abbrev pub rest_event : Bool → Event
+rest_event true = Rested
+rest_event false = ShutDown
+
+-- A call that is no command, in an open custody: it stays as it was or is closed, and leaves at each moment what its place may.
+pub record Rests (old : Contents) (is_open : Bool) (new : Contents) (left : LeftByCall) : Type 0 where
+  pub next : Place
+  pub moves : Moves (Serving old.records old.image) (rest_event is_open) next
+  pub is_at : IsAt is_open new.records new.image next
+  pub leaves : Leaves left (MayLeave (Serving old.records old.image)) (MayLeave next)
 
 -- what an initialisation over no record may leave: no record still, or what stands for the empty state
 abbrev pub MayInitialise : Rows → List ℕ → Type 0

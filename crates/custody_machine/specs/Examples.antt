@@ -1,8 +1,8 @@
--- Histories of each kind, so that the laws speak of something: for each command that is accepted, a stop within it and a failed commit, found and not found; a failed opening between two stops; a failed volume; a repeat; and a call that closes the custody.
+-- Histories of each kind, so that the laws speak of something: for each command that is accepted, a stop within it and a failed commit, found and not found; a failed opening between two stops; a failed volume; a repeat; and calls that are none, after which the custody is open or closed.
 use Rattle.std.specs.Prelude.{◌≡◌, ◌≢◌, ℕ, List, [], ◌∷◌, Some, true, false}
 use Rattle.custody_machine.specs.State.{State}
 use Rattle.custody_machine.specs.Machine.{Command, Entry, Reply, Accept, step, Accepted, Failed, VolumeFailed, StoreFailed, Closed}
-use Rattle.custody_machine.specs.History.{Pair, Opened, NotOpened, Event, Answered, ShutDown, StoppedAtRest, StoppedWithin, OpenedWith, IsHistory, found}
+use Rattle.custody_machine.specs.History.{Pair, Opened, NotOpened, Event, Answered, Rested, ShutDown, StoppedAtRest, StoppedWithin, OpenedWith, IsHistory, found}
 
 -- what is found of an intact custody in a state
 abbrev pub pair_of : State → Pair
@@ -25,6 +25,7 @@ pub record HasExamples (first new : State) (command : Command) (now : ℕ) (repl
   pub volume_failed : Finds first (Answered command now (Failed VolumeFailed) ∷ Answered command now (Failed Closed) ∷ StoppedAtRest (pair_of first) ∷ opened_as first) []
   pub repeated : (later : ℕ) (again : Reply) → step new command later ≡ Accept again new → Finds first (Answered command now (Accepted reply) ∷ Answered command later (Accepted again) ∷ StoppedAtRest (pair_of new) ∷ opened_as new) ((command, now) ∷ (command, later) ∷ [])
   pub opened_again : Finds first (StoppedAtRest (pair_of first) ∷ OpenedWith (pair_of first) (NotOpened StoreFailed) ∷ StoppedAtRest (pair_of first) ∷ opened_as first) []
+  pub rested : Finds first (Rested ∷ Answered command now (Accepted reply) ∷ StoppedAtRest (pair_of new) ∷ opened_as new) ((command, now) ∷ [])
   pub shut_down : Finds first (ShutDown ∷ StoppedAtRest (pair_of first) ∷ opened_as first) []
 
 abbrev pub HistoriesHappen : Type 0

@@ -60,6 +60,8 @@ MayOpen opens (NotOpened (Damaged damage)) = opens ≡ None
 pub data Event : Type 0 where
   -- a command was answered
   Answered : Command → (now : ℕ) → Answer → Event
+  -- a call that is no command was answered, and the custody is as it was: a reading call, or an upload that ends early
+  Rested : Event
   -- a call that is no command has closed the custody: a reading call or an upload at which the volume failed, or its closing
   ShutDown : Event
   -- a stop between two commands, with what was found
@@ -93,18 +95,21 @@ condition_opened pair (NotOpened fault) = Resting pair
 -- an event may take one condition to the next
 abbrev pub Happens : Condition → Event → Condition → Type 0
 Happens (Running old) (Answered command now answer) next = (new : State) × Answers old command now answer new × (next ≡ condition_after old command now answer new)
+Happens (Running old) Rested next = next ≡ Running old
 Happens (Running old) ShutDown next = next ≡ Halted old None
 Happens (Running old) (StoppedAtRest pair) next = OpensSoundly (λ found. found ≡ old) pair × (next ≡ Resting pair)
 Happens (Running old) (StoppedWithin command now pair) next = OpensSoundly (IsFoundWithin old command now) pair × (next ≡ Resting pair)
 Happens (Running old) (OpenedWith pair answer) next = ⊥
 -- A closed custody answers that it is closed, and changes nothing of what a stop may leave.
 Happens (Halted old doubt) (Answered command now answer) next = (answer ≡ Failed Closed) × (next ≡ Halted old doubt)
+Happens (Halted old doubt) Rested next = next ≡ Halted old doubt
 Happens (Halted old doubt) ShutDown next = next ≡ Halted old doubt
 Happens (Halted old doubt) (StoppedAtRest pair) next = OpensSoundly (MayFind old doubt) pair × (next ≡ Resting pair)
 Happens (Halted old doubt) (StoppedWithin command now pair) next = OpensSoundly (MayFind old doubt) pair × (next ≡ Resting pair)
 Happens (Halted old doubt) (OpenedWith pair answer) next = ⊥
 -- Opening changes nothing, and neither does a stop within it.
 Happens (Resting left) (Answered command now answer) next = ⊥
+Happens (Resting left) Rested next = ⊥
 Happens (Resting left) ShutDown next = ⊥
 Happens (Resting left) (StoppedAtRest pair) next = (pair ≡ left) × (next ≡ Resting left)
 Happens (Resting left) (StoppedWithin command now pair) next = ⊥
@@ -154,6 +159,7 @@ abbrev pub found_then : State → Found → Event → Found
 found_then first f (Answered command now (Accepted reply)) = record { commands = f.commands ++ (command, now) ∷ []; in_doubt = f.in_doubt }
 found_then first f (Answered command now (Refused refusal)) = f
 found_then first f (Answered command now (Failed fault)) = record { commands = f.commands; in_doubt = or_else f.in_doubt (doubt_of command now (Failed fault)) }
+found_then first f Rested = f
 found_then first f ShutDown = f
 found_then first f (StoppedAtRest pair) = settled first f.commands f.in_doubt pair
 -- the command that was answered that the store failed, or else the one within which the session ended

@@ -10,7 +10,9 @@ pub mod MapValues
 pub mod Stored
 pub mod Purge
 pub mod Damage
+pub mod Fetched
 pub mod Moves
+pub mod Releases
 pub mod Rulings
 pub mod Custody
 pub mod Commands

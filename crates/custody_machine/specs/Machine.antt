@@ -7,7 +7,10 @@ use Rattle.std.specs.Ordering.{nat_cmp}
 use Rattle.schedule.specs.Schedule.{day_of, year_after}
 use Rattle.deposit_name.specs.declared.kinds.Kind.{Kind}
 use Rattle.deposit_name.specs.declared.faults.NameError.{NameError}
-use Rattle.deposit_name.specs.Name.{Name}
+use Rattle.deposit_name.specs.Name.{Name, name_text}
+use Rattle.desk.specs.Standing.{ground_stands}
+use Rattle.desk.specs.declared.grounds.Ground.{Ground}
+use Rattle.desk.specs.declared.notices.Notice as desk
 use Rattle.desk.specs.declared.notices.NoticeKind.{NoticeKind}
 use Rattle.desk.specs.declared.notices.NoticeKind.TheVariants.{Receipt, Failure, Absence}
 use Rattle.deposit_verify.specs.declared.verdict.Verdict.{Verdict}
@@ -15,17 +18,18 @@ use Rattle.deposit_verify.specs.declared.verdict.Verdict.TheVariants.{Pass, Fail
 use Rattle.deposit_verify.specs.Known.{Known}
 use Rattle.deposit_verify.specs.Verdict.{verdict}
 use Rattle.custody_records.specs.Keys.{PartKey, NoticeKey, notice_cmp}
-use Rattle.custody_records.specs.Records.{Notice, Release, key_of}
+use Rattle.custody_records.specs.Records as records
+use Rattle.custody_records.specs.Records.{Notice, key_of, name_of}
 use Rattle.custody_records.specs.Tables.{is_rising}
 pub use Rattle.custody_machine.specs.declared.damage.Damage.{Damage}
 pub use Rattle.custody_machine.specs.declared.answers.Refusal.{Refusal}
-pub use Rattle.custody_machine.specs.declared.answers.Refusal.TheVariants.{NameRefused, RegistryUnknown, DateOutOfRange, Size, OtherBytes, DroppedAfterKeeping, RevisionNotDue, AlreadyStated, TypeDiffers, PartOutOfOrder, VolumeFull, PartsDiffer, LaterDayPassed, NotYetDue, DayHasVerdict}
+pub use Rattle.custody_machine.specs.declared.answers.Refusal.TheVariants.{NameRefused, RegistryUnknown, DateOutOfRange, Size, OtherBytes, DroppedAfterKeeping, RevisionNotDue, AlreadyStated, TypeDiffers, PartOutOfOrder, VolumeFull, PartsDiffer, LaterDayPassed, NotYetDue, DayHasVerdict, GroundDoesNotStand, ReferenceUsed, NotInRelease, ReleaseUnknown}
 pub use Rattle.custody_machine.specs.declared.answers.Fault.{Fault}
 pub use Rattle.custody_machine.specs.declared.answers.Fault.TheVariants.{NoMemory, VolumeFailed, StoreFailed, Closed, Damaged}
 use Rattle.custody_machine.specs.declared.damage.Damage.TheVariants.{Digest}
 use Rattle.vault_volume.specs.declared.extent.TheConstants.{MAX_PART_LEN}
 use Rattle.custody_machine.specs.Names.{is_same_text, read_name}
-use Rattle.custody_machine.specs.SameValues.{is_same_kind}
+use Rattle.custody_machine.specs.SameValues.{is_same_ground, is_same_kind}
 use Rattle.custody_machine.specs.MapValues.{map_values}
 use Rattle.custody_machine.specs.declared.command.Statement as told
 use Rattle.custody_machine.specs.State.{State, Part, Content, Held, Dropped, places, at_place, is_notice_of, has_notice}
@@ -41,6 +45,8 @@ pub data Command : Type 0 where
   Statement : told.Statement → Command
   -- has it recorded that a scheduled deposit was not received (Part B section 7)
   Check : (tld : List ℕ) → (day : ℕ) → Command
+  -- hands the deposits of a registry over on a ground (Part B section 6)
+  Release : (reference : List ℕ) → (tld : List ℕ) → (reason : Ground) → Command
   -- drops the bytes that were kept for a year (Part B section 4)
   Purge : Command
 
@@ -49,7 +55,7 @@ pub data Record : Type 0 where
   OfRegistry : (tld : List ℕ) → (first_day : ℕ) → Record
   OfPart : PartKey → Part → Record
   OfNotice : NoticeKey → Notice → Record
-  OfRelease : (reference : List ℕ) → Release → Record
+  OfRelease : (reference : List ℕ) → records.Release → Record
   -- of how many parts the bytes were dropped
   OfPurge : (count : ℕ) → Record
 
@@ -198,6 +204,42 @@ has_later_receipt state stated = list_any (λ (entry : NoticeKey × Notice). is_
 abbrev pub absence_of : State → List ℕ → ℕ → Option (NoticeKey × Notice)
 absence_of state tld day = find (is_notice_of tld day is_absence) (entries state.notices)
 
+-- ---- what a release speaks of
+
+abbrev pub release_of : State → List ℕ → Option records.Release
+release_of state reference = get state.releases reference
+
+-- a release is of this registry, on this ground
+abbrev pub is_on : List ℕ → Ground → records.Release → Bool
+is_on tld reason release = is_same_text release.tld tld && is_same_ground release.reason reason
+
+abbrev pub if_on : List ℕ → Ground → records.Release → Option records.Release
+if_on tld reason release = if is_on tld reason release then Some release else None
+
+-- the release that was made on the same request
+abbrev pub kept_release : State → List ℕ → List ℕ → Ground → Option records.Release
+kept_release state reference tld reason = option_and_then (if_on tld reason) (release_of state reference)
+
+-- a notice as it was told
+abbrev pub told_notice : NoticeKey × Notice → desk.Notice
+told_notice entry = record { number = entry.0.number; tld = entry.0.tld; day = entry.1.day; at = entry.1.at; kind = entry.1.kind }
+
+-- the notices of a registry, by number
+abbrev pub told_to : FinMap notice_cmp Notice → List ℕ → List desk.Notice
+told_to notices tld = map told_notice (filter (λ (entry : NoticeKey × Notice). is_same_text entry.0.tld tld) (entries notices))
+
+-- the ground stands by the notices of the registry
+abbrev pub has_ground : State → List ℕ → Ground → ℕ → Bool
+has_ground state tld reason now = ground_stands reason (told_to state.notices tld) now
+
+-- the name of a part of the registry whose bytes are held
+abbrev pub held_name : List ℕ → PartKey × Part → Option (List ℕ)
+held_name tld entry = if is_same_text entry.0.tld tld && not (is_gone entry.1.content) then Some (name_text (name_of entry.0 entry.1.kind)) else None
+
+-- the names of all of them, by day, revision and place in the series
+abbrev pub held_names : State → List ℕ → List (List ℕ)
+held_names state tld = filter_map (held_name tld) (entries state.parts)
+
 -- ---- what a purge drops
 
 abbrev pub content_len : Content → ℕ
@@ -245,7 +287,7 @@ known_of notices stated = record {
 
 -- ---- refusals
 
--- the numbers Q1 to Q15
+-- the numbers Q1 to Q17, and of a fetch Q18 and Q19
 abbrev pub refusal_number : Refusal → ℕ
 refusal_number (NameRefused _) = 1
 refusal_number RegistryUnknown = 2
@@ -262,6 +304,10 @@ refusal_number PartsDiffer = 12
 refusal_number LaterDayPassed = 13
 refusal_number NotYetDue = 14
 refusal_number DayHasVerdict = 15
+refusal_number GroundDoesNotStand = 16
+refusal_number ReferenceUsed = 17
+refusal_number NotInRelease = 18
+refusal_number ReleaseUnknown = 19
 
 abbrev pub is_unknown : State → List ℕ → Bool
 is_unknown state tld = is_none (first_day_of state tld)
@@ -341,12 +387,21 @@ check_tests state tld day now =
     ∷ (DayHasVerdict, is_none (absence_of state tld day) && has_notice state.notices tld day is_verdict)
     ∷ []
 
+-- The tests of a release. That of the ground is for a new reference.
+abbrev pub release_tests : State → List ℕ → List ℕ → Ground → ℕ → List Test
+release_tests state reference tld reason now =
+    (RegistryUnknown, is_unknown state tld)
+    ∷ (GroundDoesNotStand, is_none (release_of state reference) && not (has_ground state tld reason now))
+    ∷ (ReferenceUsed, is_some (release_of state reference) && is_none (kept_release state reference tld reason))
+    ∷ []
+
 -- the tests of a command, in the order of their numbers
 abbrev pub tests_of : State → Command → ℕ → List Test
 tests_of state (Register tld first_day) now = []
 tests_of state (Receive text bytes) now = named_tests state (read_name text) bytes now
 tests_of state (Statement stated) now = statement_tests state stated now
 tests_of state (Check tld day) now = check_tests state tld day now
+tests_of state (Release reference tld reason) now = release_tests state reference tld reason now
 tests_of state Purge now = []
 
 abbrev pub TestsAreInOrder : Type 0
@@ -373,12 +428,13 @@ kept_under state (Ok name) bytes = option_map (λ (part : Part). OfPart (key_of 
 abbrev pub notice_record : NoticeKey × Notice → Record
 notice_record entry = OfNotice entry.0 entry.1
 
--- The record that answers a command which is a repeat. Of a registration the first day is not compared, of a part each byte is, and of a statement and of a check all that they say.
+-- The record that answers a command which is a repeat. Of a registration the first day is not compared, of a part each byte is, and of a statement, of a check and of a release all that they say.
 abbrev pub kept : State → Command → Option Record
 kept state (Register tld first_day) = option_map (λ (day : ℕ). OfRegistry tld day) (first_day_of state tld)
 kept state (Receive text bytes) = kept_under state (read_name text) bytes
 kept state (Statement stated) = option_map notice_record (kept_verdict state stated)
 kept state (Check tld day) = option_map notice_record (absence_of state tld day)
+kept state (Release reference tld reason) = option_map (OfRelease reference) (kept_release state reference tld reason)
 kept state Purge = None
 
 -- ---- effects
@@ -436,6 +492,16 @@ absence_notice day now = record { day = day; at = now; kind = Absence }
 abbrev pub missed : State → List ℕ → ℕ → ℕ → Outcome
 missed state tld day now = noticed state (next_key state.notices tld) (absence_notice day now)
 
+abbrev pub with_release : State → List ℕ → records.Release → State
+with_release state reference release = record state { releases = insert state.releases reference release }
+
+-- it lists the parts of the registry that are held
+abbrev pub new_release : State → List ℕ → Ground → ℕ → records.Release
+new_release state tld reason now = record { tld = tld; reason = reason; at = now; names = held_names state tld }
+
+abbrev pub released : State → List ℕ → records.Release → Outcome
+released state reference release = Accept (record { entry = OfRelease reference release; is_repeat = false }) (with_release state reference release)
+
 -- each part stays, without its bytes where it is due
 abbrev pub without_due : State → ℕ → State
 without_due state today = record state { parts = map_values (dropped_if_due today) state.parts }
@@ -449,6 +515,7 @@ effect state (Register tld first_day) now = Accept (record { entry = OfRegistry 
 effect state (Receive text bytes) now = received state (read_name text) bytes now
 effect state (Statement stated) now = stated_as state stated now
 effect state (Check tld day) now = missed state tld day now
+effect state (Release reference tld reason) now = released state reference (new_release state tld reason now)
 effect state Purge now = purged state now
 
 abbrev pub unless_kept : State → Option Record → Outcome → Outcome
@@ -500,6 +567,7 @@ takes_room (Register _ _) = false
 takes_room (Receive _ _) = true
 takes_room (Statement _) = false
 takes_room (Check _ _) = false
+takes_room (Release _ _ _) = false
 takes_room Purge = false
 
 -- The one free choice: a new part may be refused for want of room.
@@ -532,6 +600,7 @@ reads state (Register tld first_day) now = []
 reads state (Receive text bytes) now = read_by (refusal_of state (Receive text bytes) now) (read_name text)
 reads state (Statement stated) now = if_made (refusal_of state (Statement stated) now) (kept state (Statement stated)) (part_keys state (first_part stated))
 reads state (Check tld day) now = []
+reads state (Release reference tld reason) now = []
 reads state Purge now = []
 
 abbrev pub MayFail : Outcome → List PartKey → Fault → Type 0

@@ -9,7 +9,7 @@ use Rattle.custody_records.specs.Rows.{Rows}
 use Rattle.custody_records.specs.Form.{form_of, InForm}
 use Rattle.custody_machine.specs.State.{State}
 use Rattle.custody_machine.specs.Machine.{Command, Entry, after, reads, Answer, Accepted, Refused, Failed, Fault, NoMemory, VolumeFailed, StoreFailed, Closed, Damage, Damaged, Answers}
-use Rattle.custody_machine.specs.History.{IsFoundWithin, MayFind, doubt_of, is_open_after, Pair, Opened, NotOpened, Event, Answered, ShutDown, StoppedAtRest, StoppedWithin, OpenedWith, IsHistory, found, WasReceived}
+use Rattle.custody_machine.specs.History.{IsFoundWithin, MayFind, doubt_of, is_open_after, Pair, Opened, NotOpened, Event, Answered, Rested, ShutDown, StoppedAtRest, StoppedWithin, OpenedWith, IsHistory, found, WasReceived}
 use Rattle.custody_machine.specs.Stored.{IsGood, part_of, state_in, Stands, HasDigestAt, HasDigests, IsSound, KeepsParts, OpensFrom}
 use Rattle.custody_machine.specs.Damage.{IsFirstDamage}
 
@@ -75,16 +75,19 @@ Stops may_leave pair next = (rows : Rows) × (left : List ℕ) × may_leave rows
 abbrev pub Moves : Place → Event → Place → Type 0
 Moves (Serving records image) (Answered command now answer) next = (new : Records) × (later : List ℕ) × Answers (state_in records image) command now answer (state_in new later) × RestsOnBytes records image command now answer
     × KeepsParts records image new later × (next ≡ place_after records image command now answer new later)
+Moves (Serving records image) Rested next = (later : List ℕ) × (state_in records later ≡ state_in records image) × KeepsParts records image records later × (next ≡ Serving records later)
 Moves (Serving records image) ShutDown next = next ≡ Shut records image None
 Moves (Serving records image) (StoppedAtRest pair) next = Stops (MayLeave (Serving records image)) pair next
 Moves (Serving records image) (StoppedWithin command now pair) next = Stops (MayLeaveWithin (Serving records image) command now) pair next
 Moves (Serving records image) (OpenedWith pair answer) next = ⊥
 Moves (Shut records image doubt) (Answered command now answer) next = (answer ≡ Failed Closed) × (next ≡ Shut records image doubt)
+Moves (Shut records image doubt) Rested next = next ≡ Shut records image doubt
 Moves (Shut records image doubt) ShutDown next = next ≡ Shut records image doubt
 Moves (Shut records image doubt) (StoppedAtRest pair) next = Stops (MayLeave (Shut records image doubt)) pair next
 Moves (Shut records image doubt) (StoppedWithin command now pair) next = Stops (MayLeaveWithin (Shut records image doubt) command now) pair next
 Moves (Shut records image doubt) (OpenedWith pair answer) next = ⊥
 Moves (Left rows image) (Answered command now answer) next = ⊥
+Moves (Left rows image) Rested next = ⊥
 Moves (Left rows image) ShutDown next = ⊥
 -- a stop within an opening
 Moves (Left rows image) (StoppedAtRest pair) next = Stops (MayLeave (Left rows image)) pair next

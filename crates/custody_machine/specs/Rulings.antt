@@ -2,13 +2,14 @@
 use Rattle.std.specs.Prelude.{◌≡◌, ◌≢◌, ℕ, List, [], length, None, Some, true, false, Ok}
 use Rattle.std.specs.FinMap.{get}
 use Rattle.deposit_name.specs.Name.{Name}
+use Rattle.desk.specs.declared.grounds.Ground.{Ground}
 use Rattle.extent_map.specs.declared.extent.Extent.{Extent}
 use Rattle.vault_volume.specs.Extents.{part_bytes}
 use Rattle.custody_records.specs.Records.{PartRecord, Records, key_of}
 use Rattle.custody_machine.specs.declared.command.Statement as told
 use Rattle.custody_machine.specs.Names.{read_name}
 use Rattle.custody_machine.specs.State.{State}
-use Rattle.custody_machine.specs.Machine.{Command, Register, Receive, Statement, Check, Purge, Record, OfRegistry, OfPart, Outcome, Refuse, Accept, Refusal, OtherBytes, VolumeFull, step, received_part, with_registry, with_part, stated_as, missed, purged}
+use Rattle.custody_machine.specs.Machine.{Command, Register, Receive, Statement, Check, Release, Purge, Record, OfRegistry, OfPart, Outcome, Refuse, Accept, Refusal, OtherBytes, VolumeFull, step, received_part, with_registry, with_part, stated_as, missed, new_release, purged, released}
 use Rattle.custody_machine.specs.Stored.{part_of, state_in}
 
 -- ---- what may be decided
@@ -23,6 +24,8 @@ pub data Change : Type 0 where
   AddsVerdict : told.Statement → Change
   -- the notice that a day has passed without a deposit is kept
   AddsAbsence : (tld : List ℕ) → (day : ℕ) → Change
+  -- the deposits of a registry are handed over: a release of its parts that are held is kept
+  AddsRelease : (reference : List ℕ) → (tld : List ℕ) → (reason : Ground) → Change
   -- the bytes that were kept for a year are dropped
   DropsBytes : Change
 
@@ -43,6 +46,7 @@ bytes_of (Register tld first_day) = []
 bytes_of (Receive name bytes) = bytes
 bytes_of (Statement stated) = []
 bytes_of (Check tld day) = []
+bytes_of (Release reference tld reason) = []
 bytes_of Purge = []
 
 -- the machine has this outcome for the command in the state of the records, whatever the volume holds
@@ -55,6 +59,7 @@ IsUnder (Register tld first_day) name = ⊥
 IsUnder (Receive text bytes) name = read_name text ≡ Ok name
 IsUnder (Statement stated) name = ⊥
 IsUnder (Check tld day) name = ⊥
+IsUnder (Release reference tld reason) name = ⊥
 IsUnder Purge name = ⊥
 
 -- the part of the command's name is recorded, and held at these extents
@@ -76,6 +81,7 @@ IsNew (AddsRegistry tld first_day) records command = (command ≡ Register tld f
 IsNew (AddsPart name) records command = IsUnder command name × (get records.parts (key_of name) ≡ None)
 IsNew (AddsVerdict stated) records command = command ≡ Statement stated
 IsNew (AddsAbsence tld day) records command = command ≡ Check tld day
+IsNew (AddsRelease reference tld reason) records command = (command ≡ Release reference tld reason) × (get records.releases reference ≡ None)
 IsNew DropsBytes records command = command ≡ Purge
 
 -- a change is accepted with these bytes at a moment, and made
@@ -84,6 +90,7 @@ made (AddsRegistry tld first_day) bytes now state = Accept (record { entry = OfR
 made (AddsPart name) bytes now state = Accept (record { entry = OfPart (key_of name) (received_part name bytes now); is_repeat = false }) (with_part state (key_of name) (received_part name bytes now))
 made (AddsVerdict stated) bytes now state = stated_as state stated now
 made (AddsAbsence tld day) bytes now state = missed state tld day now
+made (AddsRelease reference tld reason) bytes now state = released state reference (new_release state tld reason now)
 made DropsBytes bytes now state = purged state now
 
 -- The ruling of a command. (That the bytes differ is for the volume to say, and that there is no room for its map.)

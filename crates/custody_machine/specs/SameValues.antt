@@ -7,6 +7,7 @@ use Rattle.deposit_name.specs.declared.kinds.Kind.{Kind}
 use Rattle.deposit_name.specs.Name.{kind_text}
 use Rattle.desk.specs.Checks.{check_number}
 use Rattle.desk.specs.Grounds.{ground_text}
+use Rattle.desk.specs.declared.grounds.Ground.{Ground}
 use Rattle.desk.specs.declared.notices.NoticeKind.{NoticeKind}
 use Rattle.desk.specs.declared.notices.NoticeKind.TheVariants.{Receipt, Failure, Absence}
 use Rattle.custody_records.specs.Keys.{PartKey, NoticeKey}
@@ -16,6 +17,9 @@ use Rattle.custody_machine.specs.State.{State, Part, Content, Held, Dropped}
 
 abbrev pub is_same_kind : Kind → Kind → Bool
 is_same_kind a b = is_same_text (kind_text a) (kind_text b)
+
+abbrev pub is_same_ground : Ground → Ground → Bool
+is_same_ground a b = is_same_text (ground_text a) (ground_text b)
 
 abbrev pub is_same_key : PartKey → PartKey → Bool
 is_same_key a b = is_same_text a.tld b.tld && (a.day == b.day && (a.rev == b.rev && a.part == b.part))
@@ -47,7 +51,7 @@ abbrev pub is_same_notice : Notice → Notice → Bool
 is_same_notice a b = a.day == b.day && (a.at == b.at && is_same_notice_kind a.kind b.kind)
 
 abbrev pub is_same_release : Release → Release → Bool
-is_same_release a b = is_same_text a.tld b.tld && (is_same_text (ground_text a.reason) (ground_text b.reason) && (a.at == b.at && pointwise is_same_text a.names b.names))
+is_same_release a b = is_same_text a.tld b.tld && (is_same_ground a.reason b.reason && (a.at == b.at && pointwise is_same_text a.names b.names))
 
 abbrev pub is_same_map : {K X : Type 0} {R : K → K → Ordering} → (K → K → Bool) → (X → X → Bool) → FinMap R X → FinMap R X → Bool
 is_same_map {K} {X} {R} key value m n = pointwise (λ (p q : K × X). key p.0 q.0 && value p.1 q.1) (entries m) (entries n)

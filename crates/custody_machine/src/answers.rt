@@ -36,6 +36,14 @@ pub enum Refusal {
     NotYetDue,
     /// A revision of the day has a receipt or a failure.
     DayHasVerdict,
+    /// The ground of the release does not stand.
+    GroundDoesNotStand,
+    /// The reference is that of a release of another registry, or on another ground.
+    ReferenceUsed,
+    /// The release has no part of this name.
+    NotInRelease,
+    /// No release has this reference.
+    ReleaseUnknown,
 }
 
 /// Why a command failed.

@@ -99,6 +99,10 @@ impl Refusal {
             Refusal::LaterDayPassed => ("Q13", "later day passed", HttpStatus::Conflict),
             Refusal::NotYetDue => ("Q14", "not yet due", HttpStatus::Conflict),
             Refusal::DayHasVerdict => ("Q15", "day has a verdict", HttpStatus::Conflict),
+            Refusal::GroundDoesNotStand => ("Q16", "ground does not stand", HttpStatus::Conflict),
+            Refusal::ReferenceUsed => ("Q17", "reference used", HttpStatus::Conflict),
+            Refusal::NotInRelease => ("Q18", "not in release", HttpStatus::NotFound),
+            Refusal::ReleaseUnknown => ("Q19", "release unknown", HttpStatus::NotFound),
         };
         Code {
             number,

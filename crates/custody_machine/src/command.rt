@@ -3,8 +3,8 @@ ghost use Rattle.std.specs.Prelude.{◌≡◌};
 ghost use Rattle.custody_machine.specs.Commands.{command_of};
 ghost use Rattle.custody_machine.specs.Rulings.{bytes_of};
 
-use deposit_name::{DepositId, Kind, Tld};
-use desk::Revision;
+use deposit_name::{DepositId, Kind, Reference, Tld};
+use desk::{Ground, Revision};
 use schedule::Day;
 
 /// What the operator of a registry states of a deposit: that all its parts are sent (Specification 2,
@@ -34,6 +34,9 @@ pub enum Command<'a> {
     /// A registry and a day that has passed: where no deposit of it was verified, its absence is to be
     /// recorded (Specification 2, Part B, section 7).
     Check(Tld, Day),
+    /// Under a reference the deposits of a registry are handed over on a ground: the parts that are held
+    /// are listed (Specification 2, Part B, section 6).
+    Release(Reference, Tld, Ground),
     /// The bytes of each part that was kept for a year are to be dropped; its record stays
     /// (Specification 2, Part B, section 4).
     Purge,
@@ -46,8 +49,11 @@ impl<'a> Command<'a> {
     {
         match self {
             Command::Receive(_, bytes) => bytes,
-            Command::Register(..) | Command::Statement(_) | Command::Check(..) | Command::Purge =>
-                &[],
+            Command::Register(..)
+            | Command::Statement(_)
+            | Command::Check(..)
+            | Command::Release(..)
+            | Command::Purge => &[],
         }
     }
 }

@@ -3,6 +3,7 @@
 ghost use Rattle.custody_machine.specs.Names.{IsReading};
 ghost use Rattle.custody_machine.specs.Damage.{IsRefinement};
 ghost use Rattle.custody_machine.specs.State.{State};
+ghost use Rattle.custody_machine.specs.Fetched.{FetchesOne, FetchesHeld};
 ghost use Rattle.custody_machine.specs.Machine.{TestsAreInOrder};
 ghost use Rattle.custody_machine.specs.History.{OpeningsAreRight, NothingIsTakenBack, AcceptedIsFound, HeldAsReceived};
 ghost use Rattle.custody_machine.specs.Examples.{HistoriesHappen};
@@ -19,6 +20,13 @@ pub fn law_read_name()
 /// decides, are in the order of their numbers.
 pub fn law_refusals()
     ensures { TestsAreInOrder }
+{}
+
+/// A fetch of a release is answered that the release is unknown, that it has not the name, that the
+/// bytes are dropped, or with the bytes that are held; and two of these are never so at once.
+pub fn law_fetched()
+    ensures one { FetchesOne }
+    ensures held { FetchesHeld }
 {}
 
 /// A database and a volume that are damaged stand for no state, and any others for exactly one. No two

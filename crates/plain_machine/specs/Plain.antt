@@ -1,12 +1,14 @@
 -- The state that a plain program shows.
-use Rattle.std.specs.Prelude.{◌≡◌, ◌&&◌, ◌==◌, ℕ, List, Option, None, map, option_map, Bool, false, if◌then◌else◌, nat_lt}
-use Rattle.std.specs.FinMap.{FinMap, from_entries, empty}
+use Rattle.std.specs.Prelude.{◌≡◌, ◌&&◌, ◌==◌, ℕ, List, Option, None, length, map, option_map, Bool, false, if◌then◌else◌, nat_lt}
+use Rattle.std.specs.FinMap.{FinMap, from_entries}
 use Rattle.std.specs.List.{filter}
 use Rattle.deposit_name.specs.Name.{Name}
 use Rattle.custody_records.specs.Keys.{PartKey, NoticeKey, notice_cmp}
 use Rattle.custody_records.specs.Records.{Notice, key_of}
+use Rattle.custody_records.specs.declared.releases.Release.{Release}
+use Rattle.desk.specs.declared.notices.Notice as desk
 use Rattle.custody_records.specs.Tables.{table_map}
-use Rattle.custody_records.specs.Typed.{notice_key, notice_value}
+use Rattle.custody_records.specs.Typed.{notice_key, notice_value, release_entry}
 use Rattle.plain_machine.specs.declared.notices.PlainNotices.{PlainNotices}
 use Rattle.plain_machine.specs.declared.kept.PlainRegistry.{PlainRegistry}
 use Rattle.plain_machine.specs.declared.kept.PlainContent.{PlainContent}
@@ -17,7 +19,7 @@ use Rattle.plain_machine.specs.declared.kept.PlainAnswer.{PlainAnswer}
 use Rattle.plain_machine.specs.declared.kept.PlainAnswer.TheVariants as answer
 use Rattle.custody_machine.specs.Names.{is_same_text}
 use Rattle.custody_machine.specs.State.{State, Part, Content, Held, Dropped}
-use Rattle.custody_machine.specs.Machine.{OfRegistry, OfPart, OfNotice, OfPurge, Outcome, Refuse, Accept, content_len, dropped_if_due, greatest_number, is_receipt, passed_id}
+use Rattle.custody_machine.specs.Machine.{OfRegistry, OfPart, OfNotice, OfRelease, OfPurge, Outcome, Refuse, Accept, content_len, dropped_if_due, greatest_number, is_receipt, passed_id}
 
 abbrev pub registry_entry : PlainRegistry → List ℕ × ℕ
 registry_entry r = (r.tld, r.first_day)
@@ -40,15 +42,17 @@ shown state = record {
   registries = from_entries (map registry_entry state.registries.items);
   parts = from_entries (map part_entry state.parts.items);
   notices = notices_shown state.notices;
-  releases = empty;
+  releases = from_entries (map release_entry state.releases.items);
 }
 
--- The answer and the new state are those of a outcome in the old state. A part is shown without its bytes.
+-- The answer and the new state are those of a outcome in the old state. A part is shown without its bytes, and a release without its names.
 abbrev pub IsOutcome : PlainAnswer → State → State → Outcome → Type 0
 IsOutcome (answer.Registered tld first_day is_repeat) old new outcome = outcome ≡ Accept (record { entry = OfRegistry tld first_day; is_repeat = is_repeat }) new
 IsOutcome (answer.Received name received len is_repeat) old new outcome =
     (part : Part) × (outcome ≡ Accept (record { entry = OfPart (key_of name) part; is_repeat = is_repeat }) new) × (part.kind ≡ name.kind) × (part.received ≡ received) × (content_len part.content ≡ len)
 IsOutcome (answer.Noticed notice is_repeat) old new outcome = outcome ≡ Accept (record { entry = OfNotice (notice_key notice) (notice_value notice); is_repeat = is_repeat }) new
+IsOutcome (answer.Released reference tld reason at count is_repeat) old new outcome =
+    (names : List (List ℕ)) × (outcome ≡ Accept (record { entry = OfRelease reference (record { tld = tld; reason = reason; at = at; names = names }); is_repeat = is_repeat }) new) × (length names ≡ count)
 IsOutcome (answer.Purged count) old new outcome = outcome ≡ Accept (record { entry = OfPurge count; is_repeat = false }) new
 IsOutcome (answer.Refused refusal) old new outcome = (outcome ≡ Refuse refusal) × (new ≡ old)
 
@@ -60,6 +64,12 @@ dropped_entry today entry = (entry.0, dropped_if_due today entry.1)
 
 abbrev pub is_of : List ℕ → PlainRegistry → Bool
 is_of tld r = is_same_text r.tld tld
+
+abbrev pub is_under : List ℕ → Release → Bool
+is_under reference release = is_same_text release.reference reference
+
+abbrev pub is_to : List ℕ → desk.Notice → Bool
+is_to tld notice = is_same_text notice.tld tld
 
 abbrev pub is_later_receipt : List ℕ → ℕ → NoticeKey × Notice → Bool
 is_later_receipt tld day entry = is_same_text entry.0.tld tld && (nat_lt day entry.1.day && is_receipt entry.1.kind)

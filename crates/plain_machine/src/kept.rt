@@ -4,8 +4,9 @@ ghost use Rattle.plain_machine.specs.Once.{are_once};
 
 use crate::notices::PlainNotices;
 use custody_machine::Refusal;
-use deposit_name::{DepositName, Tld};
-use desk::Notice;
+use custody_records::Release;
+use deposit_name::{DepositName, Reference, Tld};
+use desk::{Ground, Notice};
 use schedule::{Day, Sec};
 
 /// A registry with its first day.
@@ -32,13 +33,14 @@ pub struct PlainPart {
     pub content: PlainContent,
 }
 
-/// What is kept: of two registries of one name the first counts. There are no releases yet.
+/// What is kept: of two registries of one name the first counts, and of two releases of one reference.
 #[derive(Drop)]
 pub struct PlainState {
     pub registries: Vec<PlainRegistry>,
     /// Each place of a revision once.
     pub parts: Vec<PlainPart>,
     pub notices: PlainNotices,
+    pub releases: Vec<Release>,
     ghost once: { are_once parts.items ≡ true },
 }
 
@@ -58,6 +60,15 @@ pub enum PlainAnswer {
     },
     Noticed {
         notice: Notice,
+        is_repeat: bool,
+    },
+    /// A release of so many names.
+    Released {
+        reference: Reference,
+        tld: Tld,
+        reason: Ground,
+        at: Sec,
+        count: usize,
         is_repeat: bool,
     },
     /// Of how many parts the bytes were dropped.

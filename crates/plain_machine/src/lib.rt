@@ -3,9 +3,11 @@
 
 mod checks;
 mod kept;
+mod listing;
 mod notices;
 mod plain;
 mod purges;
+mod releases;
 mod sought;
 mod statements;
 mod telling;

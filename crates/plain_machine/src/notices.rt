@@ -1,6 +1,6 @@
 //! Notices in the order of their registries and numbers.
 ghost use Rattle.std.specs.Prelude.{◌≡◌, true, None, length, IfOk, IfSome, OnOk, OnErr, find, option_map};
-ghost use Rattle.std.specs.List.{list_any};
+ghost use Rattle.std.specs.List.{filter, list_any};
 ghost use Rattle.std.specs.List.Sorted.{IsSearchInRange, IsBinarySearchResult};
 ghost use Rattle.std.specs.FinMap.{empty, entries, get, insert};
 ghost use Rattle.custody_records.specs.Keys.{notice_cmp};
@@ -9,7 +9,7 @@ ghost use Rattle.custody_records.specs.Typed.{notice_entry, notice_key, notice_v
 
 use crate::telling::{
     compare, find_latest, greatest_of, ids_of, is_absence_of, is_failure_on, is_receipt_after,
-    is_receipt_of, is_verdict_of, is_verdict_on, key_of, read_all_passed,
+    is_receipt_of, is_to, is_verdict_of, is_verdict_on, key_of, read_all_passed,
 };
 use custody_machine::Statement;
 use custody_records::NoticeKey;
@@ -30,7 +30,7 @@ impl PlainNotices {
     ghost use Rattle.custody_machine.specs.State.{has_notice, is_notice_of};
     ghost use Rattle.custody_machine.specs.Machine.{first_part, is_absence, is_failure_of, is_receipt, is_verdict, is_verdict_of, known_of, next_number, passed_of};
     ghost use Rattle.deposit_verify.specs.Known.{known};
-    ghost use Rattle.plain_machine.specs.Plain.{notices_shown, is_later_receipt};
+    ghost use Rattle.plain_machine.specs.Plain.{notices_shown, is_later_receipt, is_to};
 
     /// There are none yet.
     pub(crate) fn new(alloc: Global) -> PlainNotices
@@ -67,6 +67,17 @@ impl PlainNotices {
             Err(place) => Ok(self.rows.insert(place, Notice { kind, ..*notice })?),
             Ok(_) => unreachable!(),
         }
+    }
+
+    /// Those of a registry.
+    pub(crate) fn of(&self, alloc: Global, tld: &Tld) -> Result<Vec<Notice>, AllocError>
+        ensures { IfOk result (λ notices. notices.items ≡ filter (is_to tld.now) self.now.rows.items) }
+    {
+        self.rows
+            .iter()
+            .filter(|n| is_to(n, tld))
+            .copied()
+            .collect(alloc)
     }
 
     /// Whether the day has a receipt.

@@ -64,6 +64,7 @@ impl PlainState {
             registries: Vec::new(alloc),
             parts: Vec::new(alloc),
             notices: PlainNotices::new(alloc),
+            releases: Vec::new(alloc),
         }
     }
 
@@ -361,6 +362,9 @@ pub fn step_plain(
         Command::Receive(name, bytes) => state.receive(alloc, name, bytes, now),
         Command::Statement(stated) => state.receive_statement(alloc, stated, now),
         Command::Check(tld, day) => state.receive_check(tld, *day, now),
+        Command::Release(reference, tld, reason) => {
+            state.release(alloc, *reference, *tld, *reason, now)
+        }
         Command::Purge => Ok(state.purge(now)),
     }
 }

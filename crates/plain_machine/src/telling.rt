@@ -6,7 +6,7 @@ ghost use Rattle.custody_records.specs.Typed.{notice_entry, notice_key};
 ghost use Rattle.custody_machine.specs.Names.{is_same_text};
 ghost use Rattle.custody_machine.specs.State.{is_notice_of};
 ghost use Rattle.custody_machine.specs.Machine.{has_id, is_absence, is_failure_of, is_receipt, is_verdict, is_verdict_of, latest_of};
-ghost use Rattle.plain_machine.specs.Plain.{greatest_of, is_later_receipt, passed_in};
+ghost use Rattle.plain_machine.specs.Plain.{greatest_of, is_later_receipt, is_to, passed_in};
 
 use custody_records::NoticeKey;
 use deposit_name::{DepositId, Tld};
@@ -207,4 +207,11 @@ pub(crate) fn ids_of(
         ids.push(one.1)?;
     }
     Ok(ids)
+}
+
+/// Whether a registry was told it.
+pub(crate) fn is_to(notice: &Notice, tld: &Tld) -> bool
+    ensures { result ≡ is_to tld.now notice.now }
+{
+    notice.tld.as_bytes() == tld.as_bytes()
 }

@@ -1,0 +1,34 @@
+-- The parts in the order of their places, each with whether its bytes are held.
+use Rattle.std.specs.Prelude.{ℕ, List, Option, None, Some, Bool, not, ◌&&◌, if◌then◌else◌}
+use Rattle.std.specs.FinMap.{FinMap}
+use Rattle.deposit_name.specs.declared.kinds.Kind.{Kind}
+use Rattle.deposit_name.specs.Name.{name_text}
+use Rattle.custody_records.specs.Keys.{PartKey, part_cmp}
+use Rattle.custody_records.specs.Records.{key_of}
+use Rattle.custody_records.specs.Tables.{table_map}
+use Rattle.custody_machine.specs.Machine.{is_gone}
+use Rattle.custody_machine.specs.Names.{is_same_text}
+use Rattle.custody_machine.specs.State.{Part}
+use Rattle.plain_machine.specs.declared.kept.PlainPart.{PlainPart}
+use Rattle.plain_machine.specs.declared.listing.Listed.{Listed}
+use Rattle.plain_machine.specs.Plain.{part_shown}
+
+abbrev pub listed_key : Listed → PartKey
+listed_key l = key_of l.name
+
+abbrev pub listed_value : Listed → Kind × Bool
+listed_value l = (l.name.kind, l.is_held)
+
+abbrev pub rows_shown : List Listed → FinMap part_cmp (Kind × Bool)
+rows_shown = table_map part_cmp listed_key listed_value
+
+-- what is listed of a part
+abbrev pub value_of : Part → Kind × Bool
+value_of part = (part.kind, not (is_gone part.content))
+
+abbrev pub listed_entry : PlainPart → PartKey × (Kind × Bool)
+listed_entry p = (key_of p.name, value_of (part_shown p))
+
+-- the name of a part of the registry whose bytes are held
+abbrev pub listed_name : List ℕ → Listed → Option (List ℕ)
+listed_name tld l = if is_same_text l.name.tld tld && l.is_held then Some (name_text l.name) else None
