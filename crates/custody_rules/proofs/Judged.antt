@@ -37,7 +37,7 @@ module _ (records : Records) (image : List ℕ) (name : Name) where
   pub part_in_state : (place : ℕ) → part_in (state_in records image) name place ≡ option_map (part_of image) (get records.parts (at_place (key_of name) place))
   part_in_state place = get-map_values part_cmp (part_of image) records.parts (at_place (key_of name) place)
 
-  recorded_in_state : recorded (state_in records image) name ≡ option_map (part_of image) (recorded_under records name)
+  pub recorded_in_state : recorded (state_in records image) name ≡ option_map (part_of image) (recorded_under records name)
   recorded_in_state = ap (option_and_then (of_kind name.kind)) (get-map_values part_cmp (part_of image) records.parts (key_of name)) ∙ by (get records.parts (key_of name))
     where
       if_same : (b : Bool) (part : PartRecord) → cond b (Some (part_of image part)) None ≡ option_map (part_of image) (cond b (Some part) None)

@@ -1,6 +1,7 @@
 pub mod Apart
 pub mod Checks
 pub mod DueDays
+pub mod Fetched
 pub mod Judged
 pub mod LinkLemmas
 pub mod Notices
@@ -11,4 +12,5 @@ pub mod PartBlocks
 pub mod DueBlocks
 pub mod Rivals
 pub mod Tables
+pub mod Releases
 pub mod Telling

@@ -1,9 +1,11 @@
 pub mod Blocks
 pub mod Breaks
 pub mod Due
+pub mod Fetching
 pub mod Judged
 pub mod Links
 pub mod Orders
 pub mod Passed
+pub mod Releases
 pub mod Rulings
 pub mod Told

@@ -19,6 +19,7 @@ ghost use Rattle.custody_rules.specs.Judged.{recorded_under, is_of_other_kind, R
 
 use crate::checking::judge_check;
 use crate::days::{has_failed, has_receipt, has_verdict_on};
+use crate::releasing::judge_release;
 use crate::revision::{count_parts, has_other_kind, is_of_kind, part_in};
 use crate::stating::judge_statement;
 use crate::{Change, Kept, Ruling};
@@ -39,6 +40,9 @@ pub fn judge<'a>(records: &'a Records, command: &Command<'_>, now: Sec) -> Rulin
         Command::Receive(name, bytes) => judge_part(records, name, bytes.len(), now),
         Command::Statement(statement) => judge_statement(records, statement, now),
         Command::Check(tld, day) => judge_check(records, *tld, *day, now),
+        Command::Release(reference, tld, reason) => {
+            judge_release(records, *reference, *tld, *reason, now)
+        }
         Command::Purge => Ruling::Make(Change::Purge),
     }
 }
@@ -154,7 +158,7 @@ fn is_stated(records: &Records, name: &DepositName) -> bool
 }
 
 // The part that is recorded under a name: one of another kind in its place is not.
-fn recorded<'a>(records: &'a Records, name: &DepositName) -> Option<&'a Part>
+pub(crate) fn recorded<'a>(records: &'a Records, name: &DepositName) -> Option<&'a Part>
     ensures found { option_map part_value (option_copied result) ≡ recorded_under (records_of records.now) name.now }
     ensures key { IfSome result (λ part. part_place part.now ≡ key_of name.now) }
 {

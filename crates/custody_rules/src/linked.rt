@@ -13,7 +13,7 @@ ghost use Rattle.custody_rules.specs.Orders.{failed_revision_cmp};
 ghost use Rattle.custody_rules.specs.Links.{has_parts, is_due, is_in_series, is_known, is_notice_linked, is_numbered, is_part_linked, is_release_linked};
 
 use crate::told::{FailedRevision, failed_revisions, revision_of};
-use custody_records::{NoticeKey, Part, PartKey, Records, Release};
+use custody_records::{Names, NoticeKey, Part, PartKey, Records, Release};
 use deposit_name::{DepositName, Kind, Tld};
 use desk::{Notice, NoticeKind};
 use schedule::Day;
@@ -160,15 +160,14 @@ fn has_parts(records: &Records, notice: &Notice) -> bool
 fn release_is_linked(records: &Records, release: &Release) -> bool
     ensures { result ≡ is_release_linked (records_of records.now) (release_value release.now) }
 {
-    is_known(records, &release.tld)
-        && names_are_recorded(records, &release.tld, release.names.as_slice())
+    is_known(records, &release.tld) && names_are_recorded(records, &release.tld, &release.names)
 }
 
-fn names_are_recorded(records: &Records, tld: &Tld, names: &[Vec<u8>]) -> bool
-    ensures { result ≡ list_all (λ n. names_part (records_of records.now) tld.now (read_name n.items)) names.now }
+fn names_are_recorded(records: &Records, tld: &Tld, names: &Names) -> bool
+    ensures { result ≡ list_all (λ text. names_part (records_of records.now) tld.now (read_name text)) names.now }
 {
     names
-        .iter()
+        .lines()
         .all(|name| is_name_recorded(records, tld, name))
 }
 

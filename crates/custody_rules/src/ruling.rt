@@ -1,8 +1,8 @@
 //! What records decide of a command.
 use custody_machine::{Refusal, Statement};
-use custody_records::{Part, Registry};
-use deposit_name::{DepositName, Tld};
-use desk::Notice;
+use custody_records::{Part, Registry, Release};
+use deposit_name::{DepositName, Reference, Tld};
+use desk::{Ground, Notice};
 use schedule::Day;
 use vault_volume::Extent;
 
@@ -12,7 +12,7 @@ pub enum Ruling<'a> {
     /// It is refused.
     Refuse(Refusal),
     /// It is a repeat, and answered by this record.
-    Repeat(Kept),
+    Repeat(Kept<'a>),
     /// A part is held under its name, at these extents: the bytes there decide.
     Compare(&'a Part, &'a [Extent]),
     /// It makes this change, and nothing but room can refuse it.
@@ -21,9 +21,10 @@ pub enum Ruling<'a> {
 
 /// A record that answers a repeat.
 #[derive(Clone, Copy, Debug, PartialEq)]
-pub enum Kept {
+pub enum Kept<'a> {
     Registry(Registry),
     Notice(Notice),
+    Release(&'a Release),
 }
 
 /// The one change of the records that a command makes.
@@ -37,6 +38,8 @@ pub enum Change {
     Verdict(Statement),
     /// The notice that the day has passed without a deposit is kept.
     Absence(Tld, Day),
+    /// The deposits of a registry are handed over: a release of its parts that are held is kept.
+    Release(Reference, Tld, Ground),
     /// The bytes that were kept for a year are dropped.
     Purge,
 }

@@ -1,0 +1,59 @@
+-- What is fetched of records, whatever the volume holds.
+use Rattle.std.proofs.Common.{◌≡◌, ℕ, List, [], ◌∷◌, map, Some, None, Bool, true, false, ◌||◌, if◌then◌else◌, refl, sym, ◌∙◌, ap, Ok, Err, Vec, Global}
+use Rattle.std.specs.FinMap.{get}
+use Rattle.std.specs.List.{list_any}
+use Rattle.std.specs.Option.{option_and_then}
+use Rattle.std.specs.Prelude.{option_map}
+use Rattle.std.specs.Str.{bytes_eq}
+use Rattle.extent_map.specs.declared.extent.Extent.{Extent}
+use Rattle.deposit_verify.specs.Verdict.{contains_text}
+use Rattle.deposit_verify.proofs.HeaderDecided.{contains_decides}
+use Rattle.vault_volume.specs.Extents.{part_bytes}
+use Rattle.custody_records.specs.Records.{PartRecord, Release, Records}
+use Rattle.custody_machine.specs.declared.answers.Refusal.TheVariants.{DroppedAfterKeeping, NotInRelease, ReleaseUnknown}
+use Rattle.custody_machine.specs.Names.{read_name}
+use Rattle.custody_machine.specs.Machine.{is_gone, bytes_in}
+use Rattle.custody_machine.specs.Stored.{AreLinked, content_of, part_of, state_in}
+use Rattle.custody_machine.specs.Fetched.{part_named, unless_dropped, handed_over, fetched}
+use Rattle.custody_machine.proofs.Fetching.{released_part}
+use Rattle.custody_rules.specs.Judged.{if_of_kind}
+use Rattle.custody_rules.specs.Fetching.{IsRecordedAs, HandsOver}
+use Rattle.custody_rules.proofs.Judged.{recorded_in_state}
+
+-- the names of a release are looked through
+pub has_name_is : (names : List (List ℕ)) (text : List ℕ) (found : Bool) → found ≡ list_any (λ line. bytes_eq line text) names → contains_text names text ≡ found
+has_name_is names text found is = sym is
+
+-- a name of a release is that of a recorded part, where the records belong together
+pub released_as : (records : Records) (reference text : List ℕ) (release : Release) → AreLinked records → get records.releases reference ≡ Some release → contains_text release.names text ≡ true → (part : PartRecord) × IsRecordedAs records text part
+released_as records reference text release linked at has =
+    let found = released_part records reference text release linked at ((contains_decides release.names text).0 has) in
+    (found.1, record { name = found.0; named = found.2; recorded = ap (option_and_then (if_of_kind found.0.kind)) found.3 ∙ ap (λ b. if b then Some found.1 else None) found.4 })
+
+module _ (records : Records) (reference text image : List ℕ) where
+  pub unknown : get records.releases reference ≡ None → fetched (state_in records image) reference text ≡ Err ReleaseUnknown
+  unknown none = ap (λ o. handed_over (state_in records image) o text) none
+
+  module _ (release : Release) (at : get records.releases reference ≡ Some release) where
+    by_name : fetched (state_in records image) reference text ≡ (if contains_text release.names text then unless_dropped (part_named (state_in records image) (read_name text)) else Err NotInRelease)
+    by_name = ap (λ o. handed_over (state_in records image) o text) at
+
+    pub lacking : contains_text release.names text ≡ false → fetched (state_in records image) reference text ≡ Err NotInRelease
+    lacking none = by_name ∙ ap (λ b. if b then unless_dropped (part_named (state_in records image) (read_name text)) else Err NotInRelease) none
+
+    module _ (has : contains_text release.names text ≡ true) (part : PartRecord) (named : IsRecordedAs records text part) where
+      by_part : fetched (state_in records image) reference text ≡ unless_dropped (Some (part_of image part))
+      by_part = by_name ∙ ap (λ b. if b then unless_dropped (part_named (state_in records image) (read_name text)) else Err NotInRelease) has
+          ∙ ap (λ r. unless_dropped (part_named (state_in records image) r)) named.named
+          ∙ ap unless_dropped (recorded_in_state records image named.name ∙ ap (option_map (part_of image)) named.recorded)
+
+      pub held : (extents : List Extent) → part.extents ≡ Some extents → fetched (state_in records image) reference text ≡ Ok (part_bytes image extents part.len)
+      held extents is = by_part ∙ ap (λ o. if is_gone (content_of image part.len o) then Err DroppedAfterKeeping else Ok (bytes_in (content_of image part.len o))) is
+
+      pub dropped : part.extents ≡ None → fetched (state_in records image) reference text ≡ Err DroppedAfterKeeping
+      dropped is = by_part ∙ ap (λ o. if is_gone (content_of image part.len o) then Err DroppedAfterKeeping else Ok (bytes_in (content_of image part.len o))) is
+
+-- the part is handed over
+pub hands_over : (records : Records) (reference text : List ℕ) (release : Release) (part : PartRecord) (extents : List Extent) → get records.releases reference ≡ Some release → contains_text release.names text ≡ true → IsRecordedAs records text part → part.extents ≡ Some extents
+    → HandsOver records reference text part extents
+hands_over records reference text release part extents at has named is = record { recorded = named; held = is; bytes = λ image. held records reference text image release at has part named extents is }
