@@ -33,7 +33,7 @@ use Rattle.custody.specs.declared.answers.Reply.{Reply}
 use Rattle.custody.specs.declared.answers.Refused as not_accepted
 use Rattle.custody.specs.declared.answers.Refused.TheVariants as refused
 use Rattle.custody.specs.declared.keeper.Keeper.{Keeper}
-use Rattle.custody.specs.Answers.{answer_of, stays_open, uses_volume}
+use Rattle.custody.specs.Answers.{answer_of, stays_open, uses_volume, writes_volume}
 use Rattle.custody.specs.Ruled.{IsRuled}
 use Rattle.custody.specs.Shown.{IsShown, HoldsBytes}
 use Rattle.custody.specs.Keeper.{recorded, stored, image_of, failures_of, left_by, left_since, KeepsOrder, KeepsImage, KeepsRows, IsSafe, IsUnwritten, HasDone}
@@ -74,6 +74,7 @@ module _ {V S : Type 0} {g : volume.Ghosts V} (database : Ghosts S) (old : Keepe
       holds = holds;
       written = λ tells. subst (DiffersOnlyIn (IsFree old.vault) (image_of old)) (sym (unwritten tells).0) (same_in (IsFree old.vault) (image_of old));
       unwritten = λ _ _. unwritten;
+      reads_only = λ _. unwritten;
       any_moment = λ tells volume. leaves_more g.moment g.left_at (volume_of old.vault) (volume_of new.vault) _ _ volume.elsewhere (unwritten tells).1;
       mode = λ _ store. subst (λ s. (standing database s).in_transaction ≡ false) (sym store_same) store.ready.autocommit;
       trust = subst (λ s. (standing database s).IsHonest) store_same;
@@ -132,6 +133,7 @@ module _ {V S : Type 0} {g : volume.Ghosts V} (database : Ghosts S) (old : Keepe
   -- Its records and its reply are the machine's. What it wrote before lies in free blocks, and a stop after it leaves all but some of the blocks that are free then.
   pub record IsOneChange (new : Keeper V S g) (changed : Records) (reply : machine.Reply) (unsettled : ℕ → Type 0) : Type 0 where
     pub uncalled : uses_volume command ≡ false → volume_of new.vault ≡ volume_of old.vault
+    pub reads_only : writes_volume command ≡ false → g.tells → IsUnwritten old new
     pub failures : failures_of new ≡ failures_of old
     pub first : reply.is_repeat ≡ false
     pub written : g.tells → DiffersOnlyIn (IsFree old.vault) (image_of old) (image_of new)
@@ -156,6 +158,7 @@ module _ {V S : Type 0} {g : volume.Ghosts V} (database : Ghosts S) (old : Keepe
   volume_stays store r changed reply in_order first none accepted change volume = record {
     change = record {
       uncalled = λ _. refl;
+      reads_only = λ _ _. (refl, stays_still g.moment g.left_at (volume_of old.vault));
       failures = refl;
       first = first;
       written = λ _. same_in (IsFree old.vault) (image_of old);
@@ -187,6 +190,7 @@ module _ {V S : Type 0} {g : volume.Ghosts V} (database : Ghosts S) (old : Keepe
       holds = λ _. tt;
       written = is.written;
       unwritten = λ e. cc;
+      reads_only = is.reads_only;
       any_moment = is.any_moment;
       mode = ended;
       trust = commits.trust;
@@ -212,6 +216,7 @@ module _ {V S : Type 0} {g : volume.Ghosts V} (database : Ghosts S) (old : Keepe
       holds = holds;
       written = is.written;
       unwritten = λ e. repeated answer.is_repeat first e;
+      reads_only = is.reads_only;
       any_moment = is.any_moment;
       mode = ended new changed reply is result after commits means;
       trust = commits.trust;

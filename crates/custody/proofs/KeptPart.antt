@@ -65,6 +65,7 @@ module _ {V S : Type 0} {g : volume.Ghosts V} (old new : Keeper V S g) (text byt
   kept_change database size failures settled leaves = record {
     change = record {
       uncalled = λ e. cc;
+      reads_only = λ e. cc;
       failures = failures;
       first = refl;
       written = λ tells. (settled tells).elsewhere;

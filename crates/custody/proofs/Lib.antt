@@ -1,12 +1,20 @@
+pub mod AuditLemmas
+pub mod Audits
+pub mod Coming
 pub mod Done
+pub mod Ended
+pub mod FetchLemmas
 pub mod FirstDamage
+pub mod Intakes
 pub mod KeeperLemmas
 pub mod KeptPart
 pub mod Opened
 pub mod PartLemmas
 pub mod PurgeLemmas
+pub mod Received
 pub mod Registered
 pub mod Repeats
+pub mod Rested
 pub mod RevisionLemmas
 pub mod Room
 pub mod Ruled
@@ -18,4 +26,5 @@ pub mod Unstaged
 pub mod NewNotices
 pub mod Verdicts
 pub mod Absences
+pub mod Releases
 pub mod Purges

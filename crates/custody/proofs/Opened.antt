@@ -219,11 +219,11 @@ module _ {A E : Type 0} (old mid new : Standing) (x : A) (reads : Reads {E = E} 
 
 -- the same call, where another error is told
 pub reads_fails : {A B E F : Type 0} (old new : Standing) (r : Result A E) (f : F) → Reads old new r → Reads {A = B} old new (Err f)
-reads_fails old new r f p = record { trust = p.trust; mode = p.mode; same = p.same; bare = p.bare; still_open = λ _ _. tt }
+reads_fails old new r f p = record { trust = p.trust; mode = p.mode; commits_nothing = p.commits_nothing; same = p.same; bare = p.bare; still_open = λ _ _. tt }
 
 -- or another value answered
 pub reads_answers : {A B E F : Type 0} (old new : Standing) (x : A) (y : B) → Reads {E = E} old new (Ok x) → Reads {E = F} old new (Ok y)
-reads_answers old new x y p = record { trust = p.trust; mode = p.mode; same = p.same; bare = p.bare; still_open = p.still_open }
+reads_answers old new x y p = record { trust = p.trust; mode = p.mode; commits_nothing = p.commits_nothing; same = p.same; bare = p.bare; still_open = p.still_open }
 
 -- ---- what an opening leaves
 
@@ -276,8 +276,8 @@ pub none_made : {A E V S : Type 0} (device : volume.Ghosts V) (database : Ghosts
 none_made device database volume db number error later then r reads honest taken not_taken = record {
   taken = taken;
   not_taken = not_taken;
-  untouched = λ ready rows left. reads_left (standing database db) (standing database then) r reads honest (inl ready) rows left;
-  unwritten = λ either _ rows left. reads_left (standing database db) (standing database then) r reads honest either rows left;
+  untouched = λ _ rows left. reads.commits_nothing honest rows left;
+  unwritten = λ _ rows left. reads.commits_nothing honest rows left;
   rows = λ either none rows left. inl (none_then either none rows left);
   fails = λ tells either none rows image left _. inl (none_then either none rows left);
 }

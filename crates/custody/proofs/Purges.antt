@@ -15,7 +15,6 @@ use Rattle.vault_volume.specs.Extents.{AreUsed, GivesBack, IsExtentOf, IsInAny, 
 use Rattle.vault_volume.specs.Image.{DiffersOnlyIn}
 use Rattle.vault_volume.proofs.ImageLemmas.{same_in}
 use Rattle.custody_records.specs.declared.records.Records as held
-use Rattle.custody_records.specs.Held.{records_of}
 use Rattle.custody_records.specs.Keys.{part_cmp}
 use Rattle.custody_records.specs.Purge.{dropped_if_due, entries_without_due}
 use Rattle.custody_records.specs.Records.{Records}
@@ -32,7 +31,7 @@ use Rattle.custody_machine.proofs.Composed.{IsChange, nothing_in}
 use Rattle.custody_machine.proofs.Purged.{due_used, purged_in_order, purge_accepted, purge_changes}
 use Rattle.custody.specs.declared.answers.Refused.TheVariants as refused
 use Rattle.custody.specs.declared.keeper.Keeper.{Keeper}
-use Rattle.custody.specs.Keeper.{recorded, image_of, failures_of, KeepsImage, KeepsOrder, HasDone}
+use Rattle.custody.specs.Keeper.{recorded, image_of, failures_of, left_by, KeepsImage, KeepsOrder, HasDone}
 use Rattle.custody.proofs.KeeperLemmas.{leaves_more, stays_still}
 use Rattle.custody.proofs.Done.{IsOneChange, GoesOn, no_memory_done}
 
@@ -60,6 +59,7 @@ module _ {V S : Type 0} {g : volume.Ghosts V} (database : Ghosts S) (old : Keepe
       → IsOneChange database old order Purge now (record { vault = vault; store = store; records = r }) records_then reply_then (IsFree old.vault)
   purge_change vault same store r = record {
     uncalled = λ _. same;
+    reads_only = λ _ _. subst (λ v. (g.image v ≡ image_of old) × LeavesOnly g.moment g.left_at (volume_of old.vault) v (left_by old)) (sym same) (refl, stays_still g.moment g.left_at (volume_of old.vault));
     failures = ap g.failures same;
     first = refl;
     written = λ _. subst (λ v. DiffersOnlyIn (IsFree old.vault) (image_of old) (g.image v)) (sym same) (same_in (IsFree old.vault) (image_of old));

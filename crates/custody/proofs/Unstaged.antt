@@ -34,10 +34,10 @@ use Rattle.custody.proofs.KeeperLemmas.{stays_still, order_same, image_same, saf
 module _ {V S : Type 0} {g : volume.Ghosts V} (old new : Keeper V S g) (same : recorded new ≡ recorded old) (store_same : new.store ≡ old.store) (text bytes : List ℕ) (now : ℕ) (n : Name) (order : KeepsOrder old) (ruled : Decides (Makes (AddsPart n)) (recorded old) (Receive text bytes) now)
     (e : StageError) (free : SameFree (IsFree old.vault) (IsFree new.vault)) (full_same : e ≡ Full → volume_of new.vault ≡ volume_of old.vault) (memory_same : e ≡ NoMemory → volume_of new.vault ≡ volume_of old.vault) where
   -- while it stays open, the volume was not called
-  volume_same : stays_open (Err (unstaged e)) ≡ true → volume_of new.vault ≡ volume_of old.vault
+  volume_same : stays_open {T = Reply} (Err (unstaged e)) ≡ true → volume_of new.vault ≡ volume_of old.vault
   volume_same stays = by e refl stays
     where
-      by : (d : StageError) → e ≡ d → stays_open (Err (unstaged d)) ≡ true → volume_of new.vault ≡ volume_of old.vault
+      by : (d : StageError) → e ≡ d → stays_open {T = Reply} (Err (unstaged d)) ≡ true → volume_of new.vault ≡ volume_of old.vault
       by Full is stays = full_same is
       by NoMemory is stays = memory_same is
       by VolumeFailed is stays = cc
@@ -58,7 +58,7 @@ module _ {V S : Type 0} {g : volume.Ghosts V} (old new : Keeper V S g) (same : r
       uncalled NoMemory is none = memory_same is
       uncalled VolumeFailed is none = cc
 
-      still_open : (d : StageError) → ◌≢◌ {A = Result Reply not_accepted.Refused} (Err (unstaged d)) (Err (refused.Fault fault.VolumeFailed)) → stays_open (Err (unstaged d)) ≡ true
+      still_open : (d : StageError) → ◌≢◌ {A = Result Reply not_accepted.Refused} (Err (unstaged d)) (Err (refused.Fault fault.VolumeFailed)) → stays_open {T = Reply} (Err (unstaged d)) ≡ true
       still_open Full other = refl
       still_open NoMemory other = refl
       still_open VolumeFailed other = absurd (other refl)
@@ -92,7 +92,7 @@ module _ {V S : Type 0} {g : volume.Ghosts V} (old new : Keeper V S g) (same : r
         rests NoMemory = tt
         rests VolumeFailed = tt
 
-        opened : (d : StageError) → stays_open (Err (unstaged d)) ≡ is_open_after (answer_of (Receive text bytes) (Err (unstaged d)))
+        opened : (d : StageError) → stays_open {T = Reply} (Err (unstaged d)) ≡ is_open_after (answer_of (Receive text bytes) (Err (unstaged d)))
         opened Full = refl
         opened NoMemory = refl
         opened VolumeFailed = refl
@@ -111,6 +111,7 @@ module _ {V S : Type 0} {g : volume.Ghosts V} (old new : Keeper V S g) (same : r
     holds = λ _. tt;
     written = written;
     unwritten = λ _ stays tells. subst (λ v. (g.image v ≡ image_of old) × LeavesOnly g.moment g.left_at (volume_of old.vault) v (left_by old)) (sym (volume_same stays)) (refl, stays_still g.moment g.left_at (volume_of old.vault));
+    reads_only = λ e. cc;
     any_moment = leaves;
     mode = λ _ store. subst (λ s. (standing database s).in_transaction ≡ false) (sym store_same) store.ready.autocommit;
     trust = subst (λ s. (standing database s).IsHonest) store_same;

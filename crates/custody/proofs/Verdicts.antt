@@ -131,6 +131,7 @@ module _ {V S : Type 0} {g : volume.Ghosts V} (database : Ghosts S) (old : Keepe
       verdict_change = record {
         change = record {
           uncalled = λ e. cc;
+          reads_only = λ _ tells. (read.image tells, read.any_moment tells);
           failures = failures;
           first = refl;
           written = λ tells. subst (DiffersOnlyIn (IsFree old.vault) (image_of old)) (sym (read.image tells)) (same_in (IsFree old.vault) (image_of old));

@@ -91,10 +91,10 @@ module _ {V S : Type 0} (g : volume.Ghosts V) (database : Ghosts S) (volume : V)
     pub taken : HasAllOrNone (standing database db) → error ≡ init_error.AlreadyInitialised → ¬ HasNoRecord (standing database db).rows
     -- and a size only where it has none
     pub not_taken : HasAllOrNone (standing database db) → error ≡ init_error.Size → HasNoRecord (standing database db).rows
-    -- no row changes where all five tables are there
-    pub untouched : (standing database db).IsReady → (rows : Rows) → (standing database then).may_leave rows → (standing database db).may_leave rows
+    -- no row changes where one of the five tables is there, whatever tables there are
+    pub untouched : has_any (standing database db) ≡ true → (rows : Rows) → (standing database then).may_leave rows → (standing database db).may_leave rows
     -- and after a refusal and a want of memory
-    pub unwritten : HasAllOrNone (standing database db) → WritesNothing error → (rows : Rows) → (standing database then).may_leave rows → (standing database db).may_leave rows
+    pub unwritten : WritesNothing error → (rows : Rows) → (standing database then).may_leave rows → (standing database db).may_leave rows
     -- where there was no record, a stop leaves none, or the rows of a new custody, whatever the volume is
     pub rows : HasAllOrNone (standing database db) → HasNoRecord (standing database db).rows
         → (rows : Rows) → (standing database then).may_leave rows → HasNoRecord rows ⊎ (rows ≡ fresh (digits_of number) (pos (g.size volume)))

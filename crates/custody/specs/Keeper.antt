@@ -17,7 +17,7 @@ use Rattle.custody.specs.declared.answers.Reply.{Reply}
 use Rattle.custody.specs.declared.answers.Refused.{Refused}
 use Rattle.custody.specs.declared.answers.Refused.TheVariants as refused
 use Rattle.custody.specs.declared.keeper.Keeper.{Keeper}
-use Rattle.custody.specs.Answers.{answer_of, stays_open, may_change, may_call}
+use Rattle.custody.specs.Answers.{answer_of, stays_open, may_change, may_call, writes_volume}
 use Rattle.custody.specs.Order.{IsInOrder-prop}
 use Rattle.custody.specs.Ruled.{IsRuled}
 use Rattle.custody.specs.Shown.{IsShown, HoldsBytes}
@@ -122,6 +122,8 @@ module _ {V S : Type 0} {g : volume.Ghosts V} where
     pub written : g.tells → DiffersOnlyIn (IsFree old.vault) (image_of old) (image_of new)
     -- and none at all where nothing is recorded and it stays open
     pub unwritten : may_change answer ≡ false → stays_open answer ≡ true → g.tells → IsUnwritten old new
+    -- nor, whatever is answered, by a command that receives no part
+    pub reads_only : writes_volume command ≡ false → g.tells → IsUnwritten old new
     -- the clock does not go back, the past stays, and a stop leaves at each moment since all but the free blocks as they were
     pub any_moment : g.tells → KeepsImage old → LeavesOnly g.moment g.left_at (volume_of old.vault) (volume_of new.vault) (DiffersOnlyIn (IsFree old.vault) (image_of old))
     -- no transaction is open, whatever is answered

@@ -1,11 +1,17 @@
 pub mod Answers
+pub mod Audited
 pub mod Calls
 pub mod Compared
 pub mod Custody
+pub mod Fetched
+pub mod Intake
 pub mod Keeper
 pub mod Opening
 pub mod Order
 pub mod Reading
+pub mod Receiving
+pub mod Rested
+pub mod Resting
 pub mod Ruled
 pub mod Sessions
 pub mod Shown

@@ -2,31 +2,34 @@
 use Rattle.std.specs.Prelude.{◌≡◌, ◌⊎◌, ℕ, List, [], length, Some, true, false, Result, Ok, Err}
 use Rattle.sha2.specs.Sha256.{sha256}
 use Rattle.deposit_name.specs.Name.{Name}
+use Rattle.desk.specs.declared.grounds.Ground.{Ground}
 use Rattle.extent_map.specs.declared.extent.Extent.{Extent}
 use Rattle.schedule.specs.Schedule.{day_of}
-use Rattle.custody_records.specs.Records.{PartRecord, Records, key_of, with_registry, with_part, with_notice}
+use Rattle.custody_records.specs.Records.{PartRecord, Records, key_of, with_registry, with_part, with_notice, with_release}
 use Rattle.deposit_verify.specs.declared.verdict.Verdict.{Verdict}
 use Rattle.custody_machine.specs.declared.command.Statement as told
-use Rattle.custody_machine.specs.Machine.{Command, OfNotice, absence_notice, next_key, verdict_notice}
+use Rattle.custody_machine.specs.Machine.{Command, OfNotice, OfRelease, absence_notice, next_key, verdict_notice}
 use Rattle.custody_machine.specs.Machine as machine
 use Rattle.custody_machine.specs.Purge.{count_due, without_due}
+use Rattle.custody_machine.specs.Releases.{new_release}
 use Rattle.custody_machine.specs.declared.answers.Refusal.TheVariants.{OtherBytes, VolumeFull}
 use Rattle.custody_machine.specs.declared.answers.Fault.TheVariants.{NoMemory, VolumeFailed, StoreFailed, Damaged}
 use Rattle.custody_machine.specs.declared.damage.Damage.TheVariants.{Digest}
-use Rattle.custody_machine.specs.Rulings.{Change, AddsRegistry, AddsPart, AddsVerdict, AddsAbsence, DropsBytes, Ruling, Refuses, Repeats, ByBytes, Makes, Decides, bytes_of}
+use Rattle.custody_machine.specs.Rulings.{Change, AddsRegistry, AddsPart, AddsVerdict, AddsAbsence, AddsRelease, DropsBytes, Ruling, Refuses, Repeats, ByBytes, Makes, Decides, bytes_of}
 use Rattle.custody.specs.declared.answers.Record.TheVariants as of
 use Rattle.custody.specs.declared.answers.Reply.{Reply}
 use Rattle.custody.specs.declared.answers.Refused.{Refused}
 use Rattle.custody.specs.declared.answers.Refused.TheVariants as refused
-use Rattle.custody.specs.Answers.{record_shown}
+use Rattle.custody.specs.Answers.{lists_names, record_shown}
 use Rattle.custody.specs.Shown.{ShowsPart}
 
 -- ---- repeats
 
--- a repeat is answered by the record that is kept
+-- a repeat is answered by the record that is kept, or there is no memory for the names that it lists
 abbrev pub IsRepeated : machine.Record → Result Reply Refused → Type 0
 IsRepeated entry (Ok reply) = (record_shown [] reply.record ≡ entry) × (reply.is_repeat ≡ true)
-IsRepeated entry (Err e) = ⊥
+IsRepeated entry (Err (refused.Refusal refusal)) = ⊥
+IsRepeated entry (Err (refused.Fault fault)) = (fault ≡ NoMemory) × (lists_names entry ≡ true)
 
 -- a part that is held is answered as it is recorded; or other bytes or damage are told, or memory or the volume fails
 abbrev pub IsCompared : Name → PartRecord → Result Reply Refused → Type 0
@@ -69,6 +72,13 @@ IsMissed records tld day now (Ok reply) later =
 IsMissed records tld day now (Err (refused.Refusal refusal)) later = ⊥
 IsMissed records tld day now (Err (refused.Fault fault)) later = (fault ≡ NoMemory) ⊎ (fault ≡ StoreFailed)
 
+-- a release of what is held of the registry is recorded, and answered as it is recorded; or memory or the database fails
+abbrev pub IsHandedOver : Records → List ℕ → List ℕ → Ground → ℕ → Result Reply Refused → Records → Type 0
+IsHandedOver records reference tld reason now (Ok reply) later =
+    (record_shown [] reply.record ≡ OfRelease reference (new_release records tld reason now)) × (reply.is_repeat ≡ false) × (later ≡ with_release records reference (new_release records tld reason now))
+IsHandedOver records reference tld reason now (Err (refused.Refusal refusal)) later = ⊥
+IsHandedOver records reference tld reason now (Err (refused.Fault fault)) later = (fault ≡ NoMemory) ⊎ (fault ≡ StoreFailed)
+
 -- the bytes that were kept for a year are dropped, and it is answered of how many parts; or memory or the database fails
 abbrev pub IsPurged : Records → ℕ → Result Reply Refused → Records → Type 0
 IsPurged records now (Ok reply) later = (reply ≡ record { «record» = of.Purge (count_due (day_of now) records); is_repeat = false }) × (later ≡ without_due (day_of now) records)
@@ -80,6 +90,7 @@ IsMade (AddsRegistry tld first_day) records bytes now answer later = IsTakenOn r
 IsMade (AddsPart name) records bytes now answer later = IsReceived records name now bytes answer later
 IsMade (AddsVerdict stated) records bytes now answer later = IsNoticed records stated now answer later
 IsMade (AddsAbsence tld day) records bytes now answer later = IsMissed records tld day now answer later
+IsMade (AddsRelease reference tld reason) records bytes now answer later = IsHandedOver records reference tld reason now answer later
 IsMade DropsBytes records bytes now answer later = IsPurged records now answer later
 
 -- ---- commands

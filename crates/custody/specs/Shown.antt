@@ -4,7 +4,7 @@ use Rattle.std.specs.FinMap.{get}
 use Rattle.deposit_name.specs.Name.{Name}
 use Rattle.vault_volume.specs.Extents.{part_bytes}
 use Rattle.custody_records.specs.Records.{PartRecord, Records, key_of}
-use Rattle.custody_records.specs.Typed.{notice_key, notice_value}
+use Rattle.custody_records.specs.Typed.{notice_key, notice_value, release_key, release_value}
 use Rattle.custody.specs.declared.answers.Record.{Record}
 use Rattle.custody.specs.declared.answers.Record.TheVariants as of
 
@@ -13,6 +13,7 @@ abbrev pub ShowsPart : Record → Name → PartRecord → Type 0
 ShowsPart (of.Registry tld first_day) name part = ⊥
 ShowsPart (of.Part named received len digest extents) name part = (named ≡ name) × (part ≡ record { kind = name.kind; received = received; len = len; digest = digest; extents = Some extents.items })
 ShowsPart (of.Notice notice) name part = ⊥
+ShowsPart (of.Release release) name part = ⊥
 ShowsPart (of.Purge count) name part = ⊥
 
 -- one of these records
@@ -21,6 +22,7 @@ IsShown records (of.Registry tld first_day) = get records.registries tld ≡ Som
 IsShown records (of.Part name received len digest extents) =
     get records.parts (key_of name) ≡ Some (record { kind = name.kind; received = received; len = len; digest = digest; extents = Some extents.items })
 IsShown records (of.Notice notice) = get records.notices (notice_key notice) ≡ Some (notice_value notice)
+IsShown records (of.Release release) = get records.releases (release_key release) ≡ Some (release_value release)
 IsShown records (of.Purge count) = Unit {0}
 
 -- a part whose extents hold these bytes
@@ -28,4 +30,5 @@ abbrev pub HoldsBytes : List ℕ → Record → List ℕ → Type 0
 HoldsBytes image (of.Registry tld first_day) bytes = Unit {0}
 HoldsBytes image (of.Part name received len digest extents) bytes = part_bytes image extents.items len ≡ bytes
 HoldsBytes image (of.Notice notice) bytes = Unit {0}
+HoldsBytes image (of.Release release) bytes = Unit {0}
 HoldsBytes image (of.Purge count) bytes = Unit {0}

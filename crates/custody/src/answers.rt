@@ -1,10 +1,12 @@
 //! What a custody answers.
-ghost use Rattle.std.specs.Prelude.{◌≡◌, IfOk, Some};
+ghost use Rattle.std.specs.Prelude.{◌≡◌, IfOk, OnErr, Some, true};
 ghost use Rattle.custody_records.specs.Typed.{part_value};
+ghost use Rattle.custody_rules.specs.Rulings.{record_of};
+ghost use Rattle.custody.specs.Answers.{lists_names, told_by};
 ghost use Rattle.custody.specs.Shown.{ShowsPart};
 
 use custody_machine::{Code, Fault, Refusal, Status};
-use custody_records::{Part, Registry};
+use custody_records::{Part, Registry, Release};
 use custody_rules::Kept;
 use deposit_name::{DepositName, Tld};
 use desk::Notice;
@@ -30,6 +32,7 @@ pub enum Record {
         extents: Vec<Extent>,
     },
     Notice(Notice),
+    Release(Release),
     /// Of how many parts a purge dropped the bytes. It is no record of its own.
     Purge {
         count: usize,
@@ -53,6 +56,18 @@ impl Record {
             extents: Vec::from_slice(alloc, extents)?,
         })
     }
+
+    /// The record that answers a repeat. Only a release takes memory, for its names.
+    pub(crate) fn of_kept(alloc: Global, kept: &Kept<'_>) -> Result<Record, AllocError>
+        ensures told { IfOk result (λ told. told ≡ told_by kept.now) }
+        ensures release { OnErr result (lists_names (record_of kept.now) ≡ true) }
+    {
+        match kept {
+            Kept::Registry(registry) => Ok(Record::from(*registry)),
+            Kept::Notice(notice) => Ok(Record::Notice(*notice)),
+            Kept::Release(release) => Ok(Record::Release(release.try_clone(alloc)?)),
+        }
+    }
 }
 
 impl From<Registry> for Record {
@@ -65,20 +80,6 @@ impl From<Registry> for Record {
         Record::Registry {
             tld: registry.tld,
             first_day: registry.first_day,
-        }
-    }
-}
-
-impl From<Kept> for Record {
-    ghost use Rattle.std.specs.Prelude.{◌≡◌};
-    ghost use Rattle.custody.specs.Answers.{told_by};
-
-    ghost from_gives = { λ kept r. r ≡ told_by kept };
-
-    fn from(kept: Kept) -> Record {
-        match kept {
-            Kept::Registry(registry) => Record::from(registry),
-            Kept::Notice(notice) => Record::Notice(notice),
         }
     }
 }

@@ -1,5 +1,5 @@
 //! The custody.
-ghost use Rattle.std.specs.Prelude.{◌≡◌, ℕ, List, ◌-◌, ◌<◌, ◌^◌, true, false, IfOk, IfErr, OnErr, MatchResult};
+ghost use Rattle.std.specs.Prelude.{◌≡◌, ℕ, List, [], ◌-◌, ◌<◌, ◌≤◌, ◌^◌, length, true, false, IfOk, IfErr, OnErr, MatchResult};
 ghost use Rattle.std.specs.Coded.{Π_prop};
 ghost use Rattle.vault_volume.specs.Vault.{volume_of};
 ghost use Rattle.custody_records.specs.Held.{records_of};
@@ -12,17 +12,22 @@ ghost use Rattle.custody.specs.Answers.{stays_open};
 ghost use Rattle.custody.specs.Keeper.{recorded, stored, KeepsOrder, KeepsOrder-prop};
 ghost use Rattle.custody.specs.Opening.{HasAllOrNone, HasNoRecord, TellsDamage, OnlyReads, free_blocks};
 
+use crate::auditing::audit_parts;
+use crate::fetching::fetch_part;
 use crate::keeper::Keeper;
 use crate::opening::{identify, keeper_over, load_whole, make_records, may_begin};
-use crate::{InitError, Refused, Reply};
+use crate::receiving::drop_body;
+use crate::{InitError, ReceiveError, Refused, Reply};
 use custody_machine::{Command, Damage, Fault};
 use custody_records::Records;
 use custody_rules::map_of;
 use custody_store::{Store, has_all, has_any};
+use deposit_name::{DepositName, Reference};
 use schedule::Sec;
 use sqlite::{Alter, Connection};
 use std::alloc::{AllocError, Global};
-use vault_volume::Volume;
+use std::io::Read;
+use vault_volume::{ReadError, Volume};
 
 /// What is kept for registries: a vault with the bytes of parts, a store with their records, and the
 /// records in memory. It is closed after a failure of the volume or the database.
@@ -35,6 +40,9 @@ pub struct Custody<V: Volume, S: Alter> {
 
 impl<V: Volume, S: Alter> Custody<V, S> {
     ghost use Rattle.custody.specs.Custody.{HasApplied, HasRun, keeper_of, is_open, entries_of};
+    ghost use Rattle.custody.specs.Receiving.{HasReceived};
+    ghost use Rattle.custody.specs.Fetched.{HasFetched, told_with};
+    ghost use Rattle.custody.specs.Audited.{HasAudited, told_names};
     ghost use Rattle.custody.specs.Calls.{HasBegun, IsKept, IsNotBegun, LeavesNone, IsOpened, IsLoaded, IsNotOpenedFor};
 
     /// Begins a custody over a volume of 2 to 262,144 blocks and a database with no record of one:
@@ -148,6 +156,36 @@ impl<V: Volume, S: Alter> Custody<V, S> {
         answer
     }
 
+    /// Receives a part of so many bytes while they are read: those that were read already, followed by
+    /// what the reader gives. Where they do not all come, nothing is recorded.
+    pub fn receive_from<R: Read>(
+        &mut self,
+        alloc: Global,
+        name: &[u8],
+        len: u32,
+        first: &[u8],
+        reader: &mut R,
+        now: Sec,
+    ) -> Result<Reply, ReceiveError>
+        requires { length first.now ≤ len }
+        ensures { HasReceived (R.remaining reader.old) self.old name.now len first.now now result self.new }
+    {
+        let mut body = first.chain(reader);
+        if !self.is_open {
+            drop_body(len, &mut body)?;
+            return Err(ReceiveError::Refused(Refused::Fault(Fault::Closed)));
+        }
+        let intake = self.keeper.open_intake(alloc, name, len, now);
+        let (intake, came) = self.keeper.take_body(intake, len, &mut body);
+        if let Err(ended) = came {
+            self.is_open = self.keeper.give_up(intake);
+            return Err(ReceiveError::from(ended));
+        }
+        let answer = self.keeper.settle(intake, now);
+        self.is_open = stays_open(&answer);
+        Ok(answer?)
+    }
+
     /// Does commands in order, each at its moment. Where there is no memory for the answers, it does none.
     pub fn run(
         &mut self,
@@ -163,6 +201,48 @@ impl<V: Volume, S: Alter> Custody<V, S> {
             answers.push_reserved(answer);
         }
         Ok(answers)
+    }
+
+    /// Reads the part that a release hands over under a name into `out`, in place of what is there.
+    /// Where it is refused or fails, `out` is empty.
+    pub fn fetch(
+        &mut self,
+        alloc: Global,
+        reference: &Reference,
+        name: &[u8],
+        out: &mut Vec<u8>,
+    ) -> Result<(), Refused>
+        ensures fetched { HasFetched self.old reference.now name.now (told_with result out.new.items) self.new }
+        ensures empty { OnErr result (out.new.items ≡ []) }
+    {
+        out.clear();
+        if !self.is_open {
+            return Err(Refused::Fault(Fault::Closed));
+        }
+        let Keeper { vault, records, .. } = &mut self.keeper;
+        let answer = fetch_part(alloc, vault, records, reference, name);
+        self.is_open = stays_open(&answer);
+        *out = answer?;
+        Ok(())
+    }
+
+    /// Reads each part that is held against its recorded digest, and names those that have it not, in the
+    /// order of the records. It writes nothing.
+    pub fn audit(&mut self, alloc: Global) -> Result<Vec<DepositName>, Fault>
+        ensures { HasAudited self.old (told_names result) self.new }
+    {
+        if !self.is_open {
+            return Err(Fault::Closed);
+        }
+        let Keeper { vault, records, .. } = &mut self.keeper;
+        match audit_parts(alloc, vault, records) {
+            Ok(damaged) => Ok(damaged),
+            Err(ReadError::NoMemory) => Err(Fault::NoMemory),
+            Err(ReadError::VolumeFailed) => {
+                self.is_open = false;
+                Err(Fault::VolumeFailed)
+            }
+        }
     }
 
     /// The records.
@@ -193,7 +273,7 @@ impl<V: Volume, S: Alter> Custody<V, S> {
 }
 
 /// Whether a custody is open after an answer: it is closed where the volume or the database failed.
-fn stays_open(answer: &Result<Reply, Refused>) -> bool
+pub(crate) fn stays_open<T>(answer: &Result<T, Refused>) -> bool
     ensures { result ≡ stays_open answer.now }
 {
     !matches!(

@@ -1,10 +1,12 @@
 //! What the types of fields promise, for proofs: each of these does nothing.
 ghost use Rattle.schedule.specs.Schedule.{IsDay, IsMoment};
 ghost use Rattle.deposit_name.specs.Identifiers.{IsTld, IsDepositId};
+ghost use Rattle.custody_records.specs.Typed.{release_key, release_value};
+ghost use Rattle.custody_records.specs.Written.{IsRelease};
 ghost use Rattle.std.specs.Prelude.{◌≤◌};
 
 use custody_machine::Statement;
-use custody_records::Registry;
+use custody_records::{Registry, Release};
 use deposit_name::Tld;
 use schedule::{Day, Sec};
 
@@ -37,6 +39,16 @@ pub fn show_form_of_day(tld: &Tld, day: Day)
 {
     let _tld = tld.as_bytes();
     let _day = day.number();
+}
+
+/// The fields of a release are in form.
+pub fn show_form_of_release(release: &Release)
+    ensures { IsRelease (release_key release.now) (release_value release.now) }
+{
+    let _reference = release.reference.as_bytes();
+    let _tld = release.tld.as_bytes();
+    let _at = release.at.seconds();
+    let _names = release.names.as_text();
 }
 
 /// A moment is in range.

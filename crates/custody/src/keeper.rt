@@ -1,32 +1,36 @@
 //! What a custody holds, and the commands over it.
 ghost use Rattle.std.specs.Prelude.{◌≡◌, ℕ, List, ◌≤◌, length, None, OnOk, IfOk, IfSome, vec_len, vec_capacity};
 ghost use Rattle.std.specs.FinMap.{get};
-ghost use Rattle.custody_records.specs.Held.{records_of, HasNoticeRoom, HasPartRoom};
-ghost use Rattle.custody_records.specs.Typed.{notice_key, notice_value};
+ghost use Rattle.custody_records.specs.Held.{records_of, HasNoticeRoom, HasPartRoom, HasReleaseRoom};
+ghost use Rattle.custody_records.specs.Records.{key_of};
+ghost use Rattle.custody_records.specs.Typed.{notice_key, notice_value, release_key, release_value};
 ghost use Rattle.custody_machine.specs.Machine as machine;
 ghost use Rattle.custody_machine.specs.Machine.{next_number, verdict_notice};
 ghost use Rattle.custody_machine.specs.Commands.{command_of};
-ghost use Rattle.custody_machine.specs.Rulings.{AddsAbsence, AddsPart, AddsVerdict, DropsBytes, Makes, Decides};
+ghost use Rattle.custody_machine.specs.Releases.{AreRecorded, new_release};
+ghost use Rattle.custody_machine.specs.Rulings.{AddsAbsence, AddsPart, AddsRelease, AddsVerdict, DropsBytes, Makes, Decides};
 ghost use Rattle.custody_rules.specs.Rulings.{change_of};
+ghost use Rattle.custody.specs.Intake.{KeepsStaged};
 ghost use Rattle.custody.specs.Keeper.{recorded, KeepsOrder, HasDone};
 
 use crate::compare::{Comparison, compare};
 use crate::forms::{
-    show_form_of_day, show_form_of_registry, show_form_of_statement, show_range_of_moment,
+    show_form_of_day, show_form_of_registry, show_form_of_release, show_form_of_statement,
+    show_range_of_moment,
 };
 use crate::verifying::verify_stated;
 use crate::{Record, Refused, Reply};
 use custody_machine::{Command, Damage, Fault, Refusal, Statement};
-use custody_records::{Part, Records, Registry};
-use custody_rules::{Change, Ruling, count_due, due_extents, judge, next_number};
+use custody_records::{Part, Records, Registry, Release};
+use custody_rules::{Change, Ruling, count_due, due_extents, held_names, judge, next_number};
 use custody_store::Store;
-use deposit_name::{DepositName, Tld};
+use deposit_name::{DepositName, Reference, Tld};
 use deposit_verify::Verdict;
-use desk::{Notice, NoticeKind};
+use desk::{Ground, Notice, NoticeKind};
 use schedule::{Day, Sec};
 use sqlite::Alter;
 use std::alloc::{AllocError, Global};
-use vault_volume::{Extent, Vault, Volume};
+use vault_volume::{Extent, Staged, Vault, Volume};
 
 /// The most extents of a part: a block each of 1 MiB.
 const MAX_EXTENTS: usize = 256;
@@ -53,10 +57,13 @@ impl<V: Volume, S: Alter> Keeper<V, S> {
     {
         match judge(&self.records, command, now) {
             Ruling::Refuse(refusal) => Err(Refused::Refusal(refusal)),
-            Ruling::Repeat(kept) => Ok(Reply {
-                record: Record::from(kept),
-                is_repeat: true,
-            }),
+            Ruling::Repeat(kept) => match Record::of_kept(alloc, &kept) {
+                Ok(record) => Ok(Reply {
+                    record,
+                    is_repeat: true,
+                }),
+                Err(_) => Err(Refused::Fault(Fault::NoMemory)),
+            },
             Ruling::Compare(part, extents) => {
                 let Ok(record) = Record::of_part(alloc, part, extents) else {
                     return Err(Refused::Fault(Fault::NoMemory));
@@ -91,6 +98,9 @@ impl<V: Volume, S: Alter> Keeper<V, S> {
             Change::Part(name) => self.keep_part(alloc, &name, command.bytes(), now),
             Change::Verdict(statement) => self.keep_verdict(alloc, &statement, now),
             Change::Absence(tld, day) => self.keep_absence(tld, day, now),
+            Change::Release(reference, tld, reason) => {
+                self.keep_release(alloc, reference, tld, reason, now)
+            }
             Change::Purge => self.drop_bytes(alloc, now),
         }
     }
@@ -128,11 +138,29 @@ impl<V: Volume, S: Alter> Keeper<V, S> {
         ensures { (text : List ℕ) → Decides (Makes (AddsPart name.now)) (recorded self.old) (machine.Receive text bytes.now) now
             → HasDone S.Store self.old (machine.Receive text bytes.now) now result self.new }
     {
-        show_range_of_moment(now);
         let Ok(room) = make_room(alloc, &mut self.records) else {
             return Err(Refused::Fault(Fault::NoMemory));
         };
         let staged = self.vault.stage(alloc, bytes)?;
+        self.keep_staged(name, staged, room, now)
+    }
+
+    /// Records a part whose bytes are settled, with room for its extents in the reply.
+    pub(crate) fn keep_staged(
+        &mut self,
+        name: &DepositName,
+        staged: Staged,
+        room: Vec<Extent>,
+        now: Sec,
+    ) -> Result<Reply, Refused>
+        requires few { length staged.extents ≤ 256 }
+        requires part { HasPartRoom self.old.records }
+        requires new { get (recorded self.old).parts (key_of name.now) ≡ None }
+        requires empty { vec_len room ≡ 0 }
+        requires extents { vec_capacity room ≡ 256 }
+        ensures { KeepsStaged S.Store self.old self.new name.now now staged result }
+    {
+        show_range_of_moment(now);
         let Ok(kept) = self.store.insert_part(name, now, staged) else {
             return Err(Refused::Fault(Fault::StoreFailed));
         };
@@ -214,6 +242,35 @@ impl<V: Volume, S: Alter> Keeper<V, S> {
         })
     }
 
+    /// Records that the deposits of a registry are handed over. The names are listed, and copied for the
+    /// reply, before anything is written.
+    fn keep_release(
+        &mut self,
+        alloc: Global,
+        reference: Reference,
+        tld: Tld,
+        reason: Ground,
+        now: Sec,
+    ) -> Result<Reply, Refused>
+        requires order { KeepsOrder self.old }
+        requires ruled { Decides (Makes (AddsRelease reference tld reason)) (recorded self.old) (machine.Release reference tld reason) now }
+        ensures { HasDone S.Store self.old (machine.Release reference tld reason) now result self.new }
+    {
+        let listed = list_release(alloc, &mut self.records, reference, tld, reason, now);
+        let Ok((release, told)) = listed else {
+            return Err(Refused::Fault(Fault::NoMemory));
+        };
+        show_form_of_release(&release);
+        if self.store.insert_release(&release).is_err() {
+            return Err(Refused::Fault(Fault::StoreFailed));
+        }
+        self.records.add_release(release);
+        Ok(Reply {
+            record: Record::Release(told),
+            is_repeat: false,
+        })
+    }
+
     /// Drops the bytes that were kept for a year. Their blocks are given back when that is committed, and
     /// not before.
     fn drop_bytes(&mut self, alloc: Global, now: Sec) -> Result<Reply, Refused>
@@ -273,8 +330,37 @@ fn notice_of(statement: &Statement, verdict: Verdict, number: u64, now: Sec) -> 
     }
 }
 
+/// The release of what is held of a registry, with memory for it among the records, and a copy of it for
+/// a reply.
+fn list_release(
+    alloc: Global,
+    records: &mut Records,
+    reference: Reference,
+    tld: Tld,
+    reason: Ground,
+    now: Sec,
+) -> Result<(Release, Release), AllocError>
+    ensures same { records_of records.new ≡ records_of records.old }
+    ensures room { OnOk result (HasReleaseRoom records.new) }
+    ensures key { IfOk result (λ listed. release_key listed.0 ≡ reference) }
+    ensures value { IfOk result (λ listed. release_value listed.0 ≡ new_release (records_of records.old) tld reason now) }
+    ensures recorded { IfOk result (λ listed. AreRecorded (records_of records.old) tld listed.0.names) }
+    ensures copy { IfOk result (λ listed. listed.1 ≡ listed.0) }
+{
+    records.reserve_release()?;
+    let release = Release {
+        reference,
+        tld,
+        reason,
+        at: now,
+        names: held_names(alloc, records, &tld)?,
+    };
+    let told = release.try_clone(alloc)?;
+    Ok((release, told))
+}
+
 /// Takes the memory for one more part, and for its extents in a reply.
-fn make_room(alloc: Global, records: &mut Records) -> Result<Vec<Extent>, AllocError>
+pub(crate) fn make_room(alloc: Global, records: &mut Records) -> Result<Vec<Extent>, AllocError>
     ensures same { records_of records.new ≡ records_of records.old }
     ensures part { OnOk result (HasPartRoom records.new) }
     ensures empty { IfOk result (λ room. vec_len room ≡ 0) }

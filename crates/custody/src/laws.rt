@@ -3,6 +3,7 @@ ghost use Rattle.custody_store.specs.Standing.{standing};
 ghost use Rattle.custody_machine.specs.Stored.{Stands};
 ghost use Rattle.custody_machine.specs.Moves.{MayLeave};
 ghost use Rattle.custody.specs.Sessions.{IsServing, place_of, state_of, Leaves, SparesFree, RunsMove, StopsMove, RestsMayStop, SessionsGoOn, OpeningsMayFail};
+ghost use Rattle.custody.specs.Resting.{RestsMove, RestsStop};
 
 use crate::Custody;
 use sqlite::{Alter, Connection};
@@ -25,6 +26,13 @@ pub fn law_run<V: Volume, S: Alter>(old: &Custody<V, S>, new: &Custody<V, S>)
 /// A stop at any moment within a command, after others, is a move too.
 pub fn law_stop<V: Volume, S: Alter>(old: &Custody<V, S>, mid: &Custody<V, S>, new: &Custody<V, S>)
     ensures { V.tells → StopsMove S.Store old.now mid.now new.now }
+{}
+
+/// A call that is no command is a move too, after which the custody serves on or is closed; and a stop
+/// at any moment within it is a stop at rest.
+pub fn law_rest<V: Volume, S: Alter>(old: &Custody<V, S>, new: &Custody<V, S>)
+    ensures moves { V.tells → RestsMove S.Store old.now new.now }
+    ensures stops { V.tells → RestsStop S.Store old.now new.now }
 {}
 
 /// A whole life is moves, whatever was before: a stop at rest leaves what may be left there; a session

@@ -5,16 +5,21 @@
 #![tactic(auto)]
 
 mod answers;
+mod auditing;
 mod compare;
 pub mod composed;
 mod custody;
+mod fetching;
 mod forms;
+mod intake;
 mod keeper;
 pub mod laws;
 mod opening;
 mod reading;
+mod receiving;
 mod verifying;
 
 pub use answers::{InitError, Record, Refused, Reply};
 pub use custody::Custody;
 pub use opening::has_record;
+pub use receiving::ReceiveError;

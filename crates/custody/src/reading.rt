@@ -133,6 +133,8 @@ pub(crate) fn read_sound<V: Volume>(
     ensures bytes { V.tells → IfOk result (λ found. IfSome found (λ stored. stored.items ≡ part_bytes (V.image (volume_of vault.old)) extents.now part.now.len)) }
     ensures sound { V.tells → IfOk result (λ found. IfSome found (λ stored. sha256 (part_bytes (V.image (volume_of vault.old)) extents.now part.now.len) ≡ part.now.digest)) }
     ensures broken { V.tells → IfOk result (λ found. IfNone found (¬ (sha256 (part_bytes (V.image (volume_of vault.old)) extents.now part.now.len) ≡ part.now.digest))) }
+    // Whatever the volume is, bytes are answered with the digest alone.
+    ensures digest { IfOk result (λ found. IfSome found (λ stored. sha256 stored.items ≡ part.now.digest)) }
     ensures read { IsOnlyRead vault.old vault.new }
     ensures failures { CountsRead result (V.failures (volume_of vault.old)) (V.failures (volume_of vault.new)) }
 {

@@ -119,8 +119,8 @@ returns-in-Err-make_records-clause-leaves g c honest =
     record {
       taken = λ _ same none. cc;
       not_taken = λ _ same. cc;
-      untouched = λ ready. absurd (none_ready (state g.S.Store c.args.db) c.if-has_tables.ensures ready);
-      unwritten = λ _ un. absurd (is_written _ made.kind un);
+      untouched = λ some. let clash : false ≡ true = c.if-has_tables.ensures ∙ some in cc;
+      unwritten = λ un. absurd (is_written _ made.kind un);
       rows = λ either none rows left.
           let bare = bare_where_none (state g.S.Store c.args.db) c.if-has_tables.ensures either in
           let bare_then = bare_still (standing g.S.Store c.args.db) (standing g.S.Store c.may_begin.new.db) (standing g.S.Store c.over-store.result) _ c.in_default.ensures.reads (ap (standing g.S.Store) c.over-store.ensures) (made.founds.trust clean) bare in

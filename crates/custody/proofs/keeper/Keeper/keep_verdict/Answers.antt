@@ -1,4 +1,4 @@
-use Rattle.std.proofs.Common.{◌≡◌, ◌≤◌, [], false, refl, sym, ◌∙◌, ap, subst, Ok, Err, inl, inr}
+use Rattle.std.proofs.Common.{◌≡◌, ◌≤◌, false, refl, sym, ◌∙◌, ap, subst, Ok, Err, inl, inr}
 use Rattle.std.specs.FinMap.{get}
 use Rattle.custody_records.specs.Held.{records_of}
 use Rattle.custody_records.specs.Orders.{notice_total}
@@ -7,7 +7,7 @@ use Rattle.custody_records.specs.Rows.{with_notice_row}
 use Rattle.custody_records.specs.Form.{form_of}
 use Rattle.custody_records.specs.Typed.{notice_key, notice_value}
 use Rattle.custody_records.specs.Written.{row_of_notice}
-use Rattle.custody_machine.specs.Machine.{Statement, OfNotice, Accepted, next_key, next_number, verdict_notice}
+use Rattle.custody_machine.specs.Machine.{Statement, OfNotice, Accepted, next_key, verdict_notice}
 use Rattle.custody_machine.specs.Rulings.{AddsVerdict, Makes}
 use Rattle.custody_machine.proofs.Accepting.{insert_here}
 use Rattle.custody_machine.proofs.Entries.{next_is_new}

@@ -5,7 +5,7 @@ use Rattle.custody_machine.specs.Custody.{Compares, Same, Other, Broken}
 use Rattle.custody.specs.Compared.{comparison_of}
 use Rattle.custody.specs.Keeper.{image_of}
 use Rattle.custody.proofs.KeeperLemmas.{err_is}
-use Rattle.custody.proofs.Ruled.{refused_done, repeated_done}
+use Rattle.custody.proofs.Ruled.{refused_done, repeated_done, unlisted_done}
 use Rattle.custody.proofs.Repeats.{held_in_range, repeat_done, other_done, broken_done, unread_done, unshown_done}
 use Rattle.custody.proofs.keeper.Keeper.serve.Goals as goal
 
@@ -25,16 +25,19 @@ returns-in_default g c = unshown_done c.args.self.now c.requires.order (command_
 pub returns-in-Refuse : goal.returns-in-Refuse
 returns-in-Refuse g c = refused_done g.S.Store c.args.self.now c.requires.order (command_of c.args.command.now) c.args.now c.in-Refuse.refusal c.in-Refuse.ensures
 
-pub returns-in-Repeat : goal.returns-in-Repeat
-returns-in-Repeat g c = repeated_done g.S.Store c.args.self.now c.requires.order (command_of c.args.command.now) c.args.now c.in-Repeat.kept c.in-Repeat.ensures c.from.result c.from.ensures
+pub returns-in-Ok : goal.returns-in-Ok
+returns-in-Ok g c = repeated_done g.S.Store c.args.self.now c.requires.order (command_of c.args.command.now) c.args.now c.in-Repeat.kept c.in-Repeat.ensures c.in-Ok.record c.in-Ok.ensures.told
+
+pub returns-in-Err : goal.returns-in-Err
+returns-in-Err g c = unlisted_done g.S.Store c.args.self.now c.requires.order (command_of c.args.command.now) c.args.now c.in-Repeat.kept c.in-Repeat.ensures c.in-Err.ensures.release
 
 pub returns-in-Same : goal.returns-in-Same
 returns-in-Same g c =
     let old = c.args.self.now in
     let h = c.in_ok-compare-in-Compare.ensures in
-    let shows = c.in-Ok.ensures c.in-Compare.ensures.0.held in
+    let shows = c.in-Ok-of_part.ensures c.in-Compare.ensures.0.held in
     repeat_done old c.requires.order (command_of c.args.command.now) c.args.now c.in-Compare.part.now c.in-Compare.extents.now c.in-Compare.ensures (record { vault = c.compare.new.vault; store = old.store; records = old.records })
-    refl refl h.free h.size (λ tells. (h.image tells, h.any_moment tells)) g.S.Store c.in-Ok.record shows h.no_failure
+    refl refl h.free h.size (λ tells. (h.image tells, h.any_moment tells)) g.S.Store c.in-Ok-of_part.record shows h.no_failure
     (λ tells. subst (λ b. Compares Same (part_bytes (image_of old) c.in-Compare.extents.now c.in-Compare.part.now.len) b c.in-Compare.part.now.digest) c.bytes.ensures
     (subst (λ k. Compares (comparison_of k) (part_bytes (image_of old) c.in-Compare.extents.now c.in-Compare.part.now.len) c.bytes.result.now c.in-Compare.part.now.digest) c.in-Same.is (h.compared tells)))
 

@@ -1,0 +1,60 @@
+//! The parts that are held, read and compared with their digests.
+ghost use Rattle.std.specs.Prelude.{◌≡◌, ◌-◌, ◌<◌, ◌^◌, false, IfOk, IsSome};
+ghost use Rattle.vault_volume.specs.Disk.{CountsFailure};
+ghost use Rattle.vault_volume.specs.Vault.{volume_of};
+ghost use Rattle.custody_records.specs.Held.{records_of};
+ghost use Rattle.custody_records.specs.Typed.{part_value};
+ghost use Rattle.custody_machine.specs.Stored.{AreInRange};
+ghost use Rattle.custody_rules.specs.Blocks.{IsInRange};
+ghost use Rattle.custody.specs.Audited.{AreDamaged, AreHeld, has_digest};
+ghost use Rattle.custody.specs.Reading.{CountsRead, IsOnlyRead};
+
+use crate::intake::digest_part;
+use custody_records::{Part, Records};
+use deposit_name::DepositName;
+use std::alloc::Global;
+use vault_volume::{Failed, ReadError, Vault, Volume};
+
+/// The names of the parts that have not their recorded digests, in the order of the records. Each is
+/// read in pieces; memory is taken for the names alone.
+pub(crate) fn audit_parts<V: Volume>(
+    alloc: Global,
+    vault: &mut Vault<V>,
+    records: &Records,
+) -> Result<Vec<DepositName>, ReadError>
+    requires range { AreInRange (records_of records.now) }
+    requires blocks { V.size (volume_of vault.old) ≡ (records_of records.now).blocks }
+    requires count { V.failures (volume_of vault.old) < 2 ^ 64 - 1 }
+    ensures held { IfOk result (λ names. AreHeld (records_of records.now) names.items) }
+    ensures damaged { V.tells → IfOk result (λ names. AreDamaged (records_of records.now) (V.image (volume_of vault.old)) names.items) }
+    ensures read { IsOnlyRead vault.old vault.new }
+    ensures failures { CountsRead result (V.failures (volume_of vault.old)) (V.failures (volume_of vault.new)) }
+{
+    let mut damaged = Vec::new(alloc);
+    for part in records.parts() {
+        let Ok(intact) = has_digest(vault, part) else {
+            return Err(ReadError::VolumeFailed);
+        };
+        if !intact {
+            let Ok(()) = damaged.push(part.name) else {
+                return Err(ReadError::NoMemory);
+            };
+        }
+    }
+    Ok(damaged)
+}
+
+/// Whether a part has its recorded digest. One whose bytes are dropped is not read.
+fn has_digest<V: Volume>(vault: &mut Vault<V>, part: &Part) -> Result<bool, Failed>
+    requires held { IsInRange (V.size (volume_of vault.old)) part.now }
+    requires count { V.failures (volume_of vault.old) < 2 ^ 64 - 1 }
+    ensures dropped { IfOk result (λ intact. intact ≡ false → IsSome (part_value part.now).extents) }
+    ensures digest { V.tells → IfOk result (λ intact. intact ≡ has_digest (V.image (volume_of vault.old)) part.now) }
+    ensures read { IsOnlyRead vault.old vault.new }
+    ensures failures { CountsFailure result (V.failures (volume_of vault.old)) (V.failures (volume_of vault.new)) }
+{
+    match &part.extents {
+        Some(extents) => Ok(digest_part(vault, extents, part.len)? == part.digest),
+        None => Ok(true),
+    }
+}

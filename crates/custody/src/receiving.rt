@@ -1,0 +1,113 @@
+//! A part that is received while its bytes are read.
+ghost use Rattle.std.specs.Prelude.{◌≡◌, ◌≤◌, ◌<◌, length};
+ghost use Rattle.std.specs.Io.KnownBytes.{IsAtEnd};
+ghost use Rattle.custody.specs.Receiving.{GivesPiece, HasCome, MayTakeAll, TakesBody};
+
+use crate::Refused;
+use crate::intake::{Intake, PIECE_LEN, new_buffer};
+use crate::keeper::Keeper;
+use sqlite::Alter;
+use std::io::Read;
+use vault_volume::Volume;
+
+/// Why no part was received.
+#[derive(Clone, Copy, Debug, PartialEq, Eq)]
+pub enum ReceiveError {
+    /// The reader ended before all the bytes had come.
+    Short,
+    /// The reader failed before all the bytes had come.
+    ReadFailed,
+    /// The bytes came, and the part was refused or the custody failed.
+    Refused(Refused),
+}
+
+impl From<Refused> for ReceiveError {
+    ghost use Rattle.std.specs.Prelude.{◌≡◌};
+    ghost use Rattle.custody.specs.declared.receiving.ReceiveError.TheVariants as error;
+
+    ghost from_gives = { λ refused e. e ≡ error.Refused refused };
+
+    fn from(refused: Refused) -> ReceiveError {
+        ReceiveError::Refused(refused)
+    }
+}
+
+/// Why not all the bytes came.
+#[derive(Clone, Copy, Debug, PartialEq, Eq)]
+pub enum Ended {
+    Short,
+    ReadFailed,
+}
+
+impl From<Ended> for ReceiveError {
+    ghost use Rattle.std.specs.Prelude.{◌≡◌};
+    ghost use Rattle.custody.specs.Receiving.{error_of};
+
+    ghost from_gives = { λ ended e. e ≡ error_of ended };
+
+    fn from(ended: Ended) -> ReceiveError {
+        match ended {
+            Ended::Short => ReceiveError::Short,
+            Ended::ReadFailed => ReceiveError::ReadFailed,
+        }
+    }
+}
+
+impl<V: Volume, S: Alter> Keeper<V, S> {
+    /// Takes the bytes of a part until all have come, or the reader ends or fails.
+    pub(crate) fn take_body<R: Read>(
+        &mut self,
+        intake: Intake,
+        len: u32,
+        reader: &mut R,
+    ) -> (Intake, Result<(), Ended>)
+        requires { MayTakeAll S.Store self.old intake len }
+        ensures { TakesBody S.Store (R.remaining reader.old) self.old self.new intake len result.0 result.1 }
+    {
+        let mut buffer = new_buffer();
+        let mut intake = intake;
+        let mut left = len as usize;
+        while left > 0 {
+            match next_piece(reader, &mut buffer, left) {
+                Ok(piece) => {
+                    left -= piece.len();
+                    intake = self.take(intake, piece);
+                }
+                Err(ended) => return (intake, Err(ended)),
+            }
+        }
+        (intake, Ok(()))
+    }
+}
+
+/// Reads the bytes of a part, and drops them.
+pub(crate) fn drop_body<R: Read>(len: u32, reader: &mut R) -> Result<(), Ended>
+    ensures { HasCome (R.remaining reader.old) len result }
+{
+    let mut buffer = new_buffer();
+    let mut left = len as usize;
+    while left > 0 {
+        match next_piece(reader, &mut buffer, left) {
+            Ok(piece) => left -= piece.len(),
+            Err(ended) => return Err(ended),
+        }
+    }
+    Ok(())
+}
+
+/// The next bytes: at least one, and no more than are left.
+fn next_piece<'b, R: Read>(
+    reader: &mut R,
+    buffer: &'b mut [u8; 32_768],
+    left: usize,
+) -> Result<&'b [u8], Ended>
+    requires { 1 ≤ left }
+    ensures { GivesPiece (R.remaining reader.old) (R.remaining reader.new) left result }
+{
+    let room = left.min(PIECE_LEN);
+    match reader.read(&mut buffer[..room]) {
+        Ok(0) => Err(Ended::Short),
+        Ok(count) => Ok(&buffer[..count]),
+        Err(_) => Err(Ended::ReadFailed),
+    }
+}
