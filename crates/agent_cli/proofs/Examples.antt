@@ -3,9 +3,10 @@ use Rattle.std.proofs.Common.{None, Some, codes, refl, sym, inl, arith}
 use Rattle.clap.specs.Faults.{flags_fault, walk_fault, defaults_fault}
 use Rattle.clap.specs.Walk.{bundle_met, walked}
 use Rattle.schedule.specs.Calendar.{date_of}
-use Rattle.deposit_name.specs.Identifiers.{IsDepositId, IsTld}
+use Rattle.deposit_name.specs.Identifiers.{IsDepositId, IsReference, IsTld}
 use Rattle.deposit_name.specs.declared.kinds.Kind.TheVariants.{Full}
-use Rattle.deposit_name.proofs.IdentifierLemmas.{is_tld-IsTld, is_deposit_id-IsDepositId}
+use Rattle.deposit_name.proofs.IdentifierLemmas.{is_tld-IsTld, is_deposit_id-IsDepositId, is_reference-IsReference}
+use Rattle.desk.specs.declared.grounds.Ground.TheVariants.{Operator}
 use Rattle.answer_lines.proofs.NumberLemmas.{number_one}
 use Rattle.agent_cli.specs.Order.{Asks}
 use Rattle.agent_cli.specs.Examples.{WordsGiveOrders}
@@ -16,15 +17,27 @@ example_is_tld = (is_tld-IsTld (codes "example")).0 refl
 x_is_id : IsDepositId (codes "X")
 x_is_id = (is_deposit_id-IsDepositId (codes "X")).0 refl
 
+r_1_is_reference : IsReference (codes "R-1")
+r_1_is_reference = (is_reference-IsReference (codes "R-1")).0 refl
+
 pub words_give_orders : WordsGiveOrders
 unfolding Asks date_of flags_fault walk_fault defaults_fault bundle_met walked
 words_give_orders = record {
   of_init = inl (1, (omega arith, sym number_one), refl);
   of_register = inl (codes "example", (refl, example_is_tld), inl (20_667, (omega arith, refl), refl));
   of_put = inl (Some 1_785_664_800, (omega arith, refl), refl);
-  of_verify = inl (codes "example", (refl, example_is_tld), inl (20_667, (omega arith, refl), inl (Full, refl, inl (codes "X", (refl, x_is_id), inl (None, refl, refl)))));
+  of_put_now = inl (None, refl, refl);
+  of_verify = inl (codes "example", (refl, example_is_tld), inl (20_667, (omega arith, refl), inl (Full, refl, inl (codes "X", (refl, x_is_id), inl (Some 1_785_664_800, (omega arith, refl), refl)))));
+  of_verify_now = inl (codes "example", (refl, example_is_tld), inl (20_667, (omega arith, refl), inl (Full, refl, inl (codes "X", (refl, x_is_id), inl (None, refl, refl)))));
   of_sweep = inl (Some 1_785_664_800, (omega arith, refl), refl);
+  of_sweep_now = inl (None, refl, refl);
   of_purge = inl (Some 1_785_664_800, (omega arith, refl), refl);
+  of_purge_now = inl (None, refl, refl);
+  of_release = inl (codes "example", (refl, example_is_tld), inl (codes "R-1", (refl, r_1_is_reference), inl (Operator, refl, inl (Some 1_785_664_800, (omega arith, refl), refl))));
+  of_release_now = inl (codes "example", (refl, example_is_tld), inl (codes "R-1", (refl, r_1_is_reference), inl (Operator, refl, inl (None, refl, refl))));
+  of_fetch = inl (codes "R-1", (refl, r_1_is_reference), refl);
   of_report = inl (codes "example", (refl, example_is_tld), refl);
   of_state = refl;
+  of_serve = inl (Some 1_785_664_800, (omega arith, refl), refl);
+  of_serve_now = inl (None, refl, refl);
 }

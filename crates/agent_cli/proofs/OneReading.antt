@@ -1,12 +1,16 @@
 -- Words ask for one thing at most.
-use Rattle.std.proofs.Common.{◌≡◌, List, sym, subst, ◌∙◌, Bool, true, false, Option, Some, None, inl, inr}
+use Rattle.std.proofs.Common.{◌≡◌, List, ap, sym, subst, ◌∙◌, Bool, true, false, Option, Some, None, inl, inr}
 use Rattle.std.specs.Prelude.{MatchBool}
+use Rattle.desk.specs.Grounds.{ground_text}
+use Rattle.desk.specs.declared.grounds.Ground.{Ground}
+use Rattle.custody_records.specs.Form.{ground_in}
+use Rattle.custody_records.proofs.FieldLemmas.{ground_in-ground_text}
 use Rattle.clap.specs.Words.{Row, Text, fault_of, subcommand_of}
 use Rattle.clap.specs.Walk.{is_empty}
 use Rattle.deposit_name.proofs.NameLemmas.{kind_text-injective}
 use Rattle.agent_cli.specs.Grammar.{escrow_app}
 use Rattle.agent_cli.specs.Forms.{ShowsMoment}
-use Rattle.agent_cli.specs.Order.{Asks, InitReading, IsOneReading, MetReading, NamedReading, PurgeReading, PutReading, ReadsValue, Reading, RegisterReading, ReportReading, StateReading, SweepReading, VerifyReading, named, refused}
+use Rattle.agent_cli.specs.Order.{Asks, FetchReading, InitReading, IsOneReading, MetReading, NamedReading, PurgeReading, PutReading, ReadsValue, Reading, RegisterReading, ReleaseReading, ReportReading, ServeReading, StateReading, SweepReading, VerifyReading, named, refused}
 use Rattle.agent_cli.specs.declared.table.Subcommand.{Subcommand}
 use Rattle.agent_cli.specs.declared.table.Subcommand.TheVariants as subcommand
 use Rattle.agent_cli.specs.declared.order.Argument.{Argument}
@@ -53,11 +57,28 @@ purge_one : (rows : List Row) → IsOne (PurgeReading rows)
 purge_one rows =
     value_one _ _ _ (if_given_one ShowsMoment (λ t x y h k. moment_text-injective x y h.0 k.0 (sym h.1 ∙ k.1)) _) (λ x r s h k. h ∙ sym k)
 
+ground_text-injective : (a b : Ground) → ground_text a ≡ ground_text b → a ≡ b
+ground_text-injective a b e = let both : Some a ≡ Some b = sym (ground_in-ground_text a) ∙ ap ground_in e ∙ ground_in-ground_text b in cc
+
+release_one : (rows : List Row) → IsOne (ReleaseReading rows)
+release_one rows =
+    value_one _ _ _ (λ x y h k. h.0 ∙ sym k.0) (λ tld.
+    value_one _ _ _ (λ x y h k. h.0 ∙ sym k.0) (λ reference.
+    value_one _ _ _ (λ x y h k. ground_text-injective x y (sym h ∙ k)) (λ reason.
+    value_one _ _ _ (if_given_one ShowsMoment (λ t x y h k. moment_text-injective x y h.0 k.0 (sym h.1 ∙ k.1)) _) (λ x r s h k. h ∙ sym k))))
+
+fetch_one : (rows : List Row) → IsOne (FetchReading rows)
+fetch_one rows = value_one _ _ _ (λ x y h k. h.0 ∙ sym k.0) (λ reference r s h k. h ∙ sym k)
+
 report_one : (rows : List Row) → IsOne (ReportReading rows)
 report_one rows = value_one _ _ _ (λ x y h k. h.0 ∙ sym k.0) (λ tld r s h k. h ∙ sym k)
 
 state_one : (rows : List Row) → IsOne (StateReading rows)
 state_one rows r s h k = h ∙ sym k
+
+serve_one : (rows : List Row) → IsOne (ServeReading rows)
+serve_one rows =
+    value_one _ _ _ (if_given_one ShowsMoment (λ t x y h k. moment_text-injective x y h.0 k.0 (sym h.1 ∙ k.1)) _) (λ x r s h k. h ∙ sym k)
 
 either_one : (b : Bool) (P Q : Reading → Type 0) → IsOne P → IsOne Q → IsOne (λ r. MatchBool b (P r) (Q r))
 either_one true P Q p q = p
@@ -74,8 +95,11 @@ named_one (Some subcommand.Put) rows = put_one rows
 named_one (Some subcommand.Verify) rows = verify_one rows
 named_one (Some subcommand.Sweep) rows = sweep_one rows
 named_one (Some subcommand.Purge) rows = purge_one rows
+named_one (Some subcommand.Release) rows = release_one rows
+named_one (Some subcommand.Fetch) rows = fetch_one rows
 named_one (Some subcommand.Report) rows = report_one rows
 named_one (Some subcommand.State) rows = state_one rows
+named_one (Some subcommand.Serve) rows = serve_one rows
 
 met_one : (met : Option (Text × List Row)) → IsOne (MetReading met)
 met_one None = refused_one

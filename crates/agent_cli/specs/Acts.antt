@@ -1,15 +1,16 @@
 -- What an order does to an agent.
-use Rattle.std.specs.Prelude.{◌≡◌, ◌≢◌, ◌⊎◌, ◌==◌, ◌-◌, ℕ, List, [], ◌∷◌, Option, None, Result, is_some, true, false}
+use Rattle.std.specs.Prelude.{◌≡◌, ◌≢◌, ◌⊎◌, ◌==◌, ◌-◌, ℕ, List, [], ◌∷◌, Option, None, Result, Ok, Err, is_some, true, false}
 use Rattle.std.specs.FinMap.{get}
 use Rattle.std.specs.Io.KnownBytes.{Appends}
 use Rattle.std.specs.List.{after_last}
 use Rattle.vault_volume.specs.declared.volume.Volume as volume
 use Rattle.sqlite.specs.Store.{Ghosts}
-use Rattle.custody_machine.specs.Machine.{Command, Register, Receive, Statement, Check, Purge}
+use Rattle.custody_machine.specs.Machine.{Command, Register, Receive, Statement, Check, Release, Purge}
 use Rattle.custody_machine.specs.declared.answers.Refusal.TheVariants.{RegistryUnknown}
-use Rattle.custody_machine.specs.Texts.{refusal_text}
+use Rattle.custody_machine.specs.Texts.{fault_text, refusal_text}
 use Rattle.custody_rules.specs.Due.{due_in}
 use Rattle.custody.specs.Custody.{HasApplied, keeper_of, is_open}
+use Rattle.custody.specs.Fetched.{HasFetched}
 use Rattle.custody.specs.Keeper.{recorded}
 use Rattle.custody.specs.Opening.{free_blocks}
 use Rattle.custody.specs.declared.custody.Custody.{Custody}
@@ -17,7 +18,8 @@ use Rattle.custody.specs.Answers.{init_error_text}
 use Rattle.custody.specs.declared.answers.InitError.TheVariants.{AlreadyInitialised}
 use Rattle.custody.specs.declared.answers.Reply.{Reply}
 use Rattle.custody.specs.declared.answers.Refused.{Refused}
-use Rattle.answer_lines.specs.Printed.{IsTold, IsUnused, Takes, Writer}
+use Rattle.custody.specs.declared.answers.Refused.TheVariants as refused
+use Rattle.answer_lines.specs.Printed.{Begins, IsTold, IsUnused, Takes, Writer, as_line}
 use Rattle.answer_lines.specs.State.{report_text, state_text}
 use Rattle.answer_lines.specs.Statuses.{IsStatus, IsStatusAfter, answer_status}
 use Rattle.agent_cli.specs.declared.order.Order.{Order}
@@ -27,24 +29,42 @@ use Rattle.agent_cli.specs.declared.order.Order.TheVariants as order
 abbrev pub name_in : List ℕ → List ℕ
 name_in path = after_last (λ b. b == 47) path
 
+-- Bytes go to the output as they are, and the line of a refusal or of a failure to the errors: with status 0 the first stand there whole, with status 1 the second, and whatever the status a beginning of them.
+abbrev pub IsGiven : Result (List ℕ) Refused → ℕ → Writer → Writer → Type 0
+IsGiven (Ok bytes) status output errors = Takes output bytes 0 status × IsUnused errors
+IsGiven (Err (refused.Refusal why)) status output errors = Takes errors (as_line (refusal_text why)) 1 status × IsUnused output
+IsGiven (Err (refused.Fault why)) status output errors = Begins errors (as_line (fault_text why)) × IsUnused output
+
 module _ {V S : Type 0} {g : volume.Ghosts V} {database : Ghosts S} where
   -- the agent is given one command, whose answer is told
   abbrev pub Applies : Custody V S g database → Command → ℕ → Custody V S g database → ℕ → Writer → Writer → Type 0
   Applies old command now new status output errors =
       (answer : Result Reply Refused) × HasApplied old command now answer new × IsStatusAfter (answer_status answer) status × IsTold answer status output errors
 
+  -- a part is fetched, and its bytes are all that the output is given
+  abbrev pub Fetches : Custody V S g database → (reference name : List ℕ) → Custody V S g database → ℕ → Writer → Writer → Type 0
+  Fetches old reference name new status output errors =
+      (answer : Result (List ℕ) Refused) × HasFetched old reference name answer new × IsStatusAfter (answer_status answer) status × IsGiven answer status output errors
+
+  -- what is printed of the records and the free blocks
+  abbrev pub state_of : Custody V S g database → List ℕ
+  state_of custody = as_line (state_text (recorded (keeper_of custody)) (free_blocks (recorded (keeper_of custody))) ((recorded (keeper_of custody)).blocks - 1))
+
   -- an open agent prints its records and its free blocks, and one that is closed nothing of them
   pub record Shows (custody : Custody V S g database) (status : ℕ) (output errors : Writer) : Type 0 where
-    pub shown : status ≡ 0 → (is_open custody ≡ true)
-        × Takes output (state_text (recorded (keeper_of custody)) (free_blocks (recorded (keeper_of custody))) ((recorded (keeper_of custody)).blocks - 1))
-    pub while_open : is_open custody ≡ true → IsUnused errors
-    pub while_closed : is_open custody ≡ false → IsUnused output
+    pub shown : status ≡ 0 → (is_open custody ≡ true) × Appends output.before output.after (state_of custody)
+    -- whatever the status, what is printed is a beginning of it
+    pub begun : is_open custody ≡ true → Begins output (state_of custody)
+    pub while_open : is_open custody ≡ true → IsStatusAfter 0 status × IsUnused errors
+    pub while_closed : is_open custody ≡ false → (status ≡ 3) × IsUnused output
 
   -- an open agent prints the report of a registry that is known, and refuses any other
   pub record Reports (custody : Custody V S g database) (tld : List ℕ) (status : ℕ) (output errors : Writer) : Type 0 where
     pub shown : status ≡ 0 → (is_open custody ≡ true) × (is_some (get (recorded (keeper_of custody)).registries tld) ≡ true) × Appends output.before output.after (report_text (recorded (keeper_of custody)) tld)
+    -- whatever the status, what is printed of a registry that is known is a beginning of its report
+    pub begun : is_open custody ≡ true → is_some (get (recorded (keeper_of custody)).registries tld) ≡ true → Begins output (report_text (recorded (keeper_of custody)) tld)
     pub known : is_open custody ≡ true → is_some (get (recorded (keeper_of custody)).registries tld) ≡ true → IsStatusAfter 0 status × IsUnused errors
-    pub unknown : is_open custody ≡ true → get (recorded (keeper_of custody)).registries tld ≡ None → IsStatusAfter 1 status × (status ≡ 1 → Takes errors (refusal_text RegistryUnknown)) × IsUnused output
+    pub unknown : is_open custody ≡ true → get (recorded (keeper_of custody)).registries tld ≡ None → IsStatusAfter 1 status × Takes errors (as_line (refusal_text RegistryUnknown)) 1 status × IsUnused output
     pub while_closed : is_open custody ≡ false → (status ≡ 3) × IsUnused output
 
   -- each of these days is checked in its turn, and the answer is told; the first that is not done ends it
@@ -61,14 +81,17 @@ module _ {V S : Type 0} {g : volume.Ghosts V} {database : Ghosts S} where
     pub swept : is_open old ≡ true → IsSwept (due_in (recorded (keeper_of old)) now) old now new status output errors ⊎ ((new ≡ old) × (status ≡ 3) × IsUnused output)
     pub while_closed : is_open old ≡ false → (new ≡ old) × (status ≡ 3) × IsUnused output
 
-  -- `register`, `put`, `verify` and `purge` give it their command, `sweep` its checks, and no other order changes it
+  -- `register`, `put`, `verify`, `purge` and `release` give it their command, `sweep` its checks, `fetch` reads, and no other order changes it
   abbrev pub Acts : Order → List ℕ → ℕ → Custody V S g database → Custody V S g database → ℕ → Writer → Writer → Type 0
   Acts (order.Init folder blocks number) bytes now old new status output errors =
-      (new ≡ old) × IsStatusAfter 1 status × (status ≡ 1 → Takes errors (init_error_text AlreadyInitialised)) × IsUnused output
+      (new ≡ old) × IsStatusAfter 1 status × Takes errors (as_line (init_error_text AlreadyInitialised)) 1 status × IsUnused output
   Acts (order.Register folder tld first) bytes now old new status output errors = Applies old (Register tld first) now new status output errors
   Acts (order.Put folder file at) bytes now old new status output errors = Applies old (Receive (name_in file.now) bytes) now new status output errors
   Acts (order.Verify folder statement at) bytes now old new status output errors = Applies old (Statement statement) now new status output errors
   Acts (order.Sweep folder at) bytes now old new status output errors = IsStatus status × Sweeps old now new status output errors
   Acts (order.Purge folder at) bytes now old new status output errors = Applies old Purge now new status output errors
+  Acts (order.Release folder reference tld reason at) bytes now old new status output errors = Applies old (Release reference tld reason) now new status output errors
+  Acts (order.Fetch folder reference name) bytes now old new status output errors = IsStatus status × Fetches old reference name.now new status output errors
   Acts (order.Report folder tld) bytes now old new status output errors = (new ≡ old) × IsStatus status × Reports old tld status output errors
   Acts (order.State folder) bytes now old new status output errors = (new ≡ old) × IsStatus status × Shows old status output errors
+  Acts (order.Serve folder port requests at) bytes now old new status output errors = (new ≡ old) × (status ≡ 0) × IsUnused output × IsUnused errors

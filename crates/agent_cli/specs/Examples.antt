@@ -1,8 +1,9 @@
--- Words of each subcommand, and the order that they give: one line a subcommand, in the words of its help.
+-- Words of each subcommand, and the order that they give: with all of its options, and without the one that may be left out.
 use Rattle.std.specs.Prelude.{List, [], ◌∷◌, None, Some, codes}
 use Rattle.clap.specs.Words.{Text}
 use Rattle.deposit_name.specs.declared.kinds.Kind.TheVariants.{Full}
-use Rattle.agent_cli.specs.Order.{Asks, Wanted, init, register, put, verify, sweep, purge, report, state, wanted}
+use Rattle.desk.specs.declared.grounds.Ground.TheVariants.{Operator}
+use Rattle.agent_cli.specs.Order.{Asks, Wanted, init, register, put, verify, sweep, purge, release, fetch, report, state, serve, wanted}
 
 -- these words, behind the name of the program, give this order
 abbrev pub Gives : List Text → Wanted → Type 0
@@ -13,9 +14,19 @@ pub record WordsGiveOrders : Type 0 where
   pub of_init : Gives (codes "init" ∷ codes "vault" ∷ codes "--blocks" ∷ codes "8" ∷ codes "--number" ∷ codes "0000000000000001" ∷ []) (init (codes "vault") 8 1)
   pub of_register : Gives (codes "register" ∷ codes "vault" ∷ codes "example" ∷ codes "--first" ∷ codes "2026-08-02" ∷ []) (register (codes "vault") (codes "example") 20_667)
   pub of_put : Gives (codes "put" ∷ codes "vault" ∷ codes "part.ryde" ∷ codes "--now" ∷ codes "2026-08-02T10:00:00Z" ∷ []) (put (codes "vault") (codes "part.ryde") (Some 1_785_664_800))
-  pub of_verify : Gives (codes "verify" ∷ codes "vault" ∷ codes "example" ∷ codes "--date" ∷ codes "2026-08-02" ∷ codes "--kind" ∷ codes "full" ∷ codes "--revision" ∷ codes "3" ∷ codes "--parts" ∷ codes "2" ∷ codes "--id" ∷ codes "X" ∷ [])
+  pub of_put_now : Gives (codes "put" ∷ codes "vault" ∷ codes "part.ryde" ∷ []) (put (codes "vault") (codes "part.ryde") None)
+  pub of_verify : Gives (codes "verify" ∷ codes "vault" ∷ codes "example" ∷ codes "--date" ∷ codes "2026-08-02" ∷ codes "--kind" ∷ codes "full" ∷ codes "--revision" ∷ codes "3" ∷ codes "--parts" ∷ codes "2" ∷ codes "--id" ∷ codes "X" ∷ codes "--now" ∷ codes "2026-08-02T10:00:00Z" ∷ [])
+      (verify (codes "vault") (record { tld = codes "example"; day = 20_667; kind = Full; rev = 3; parts = 2; id = codes "X" }) (Some 1_785_664_800))
+  pub of_verify_now : Gives (codes "verify" ∷ codes "vault" ∷ codes "example" ∷ codes "--date" ∷ codes "2026-08-02" ∷ codes "--kind" ∷ codes "full" ∷ codes "--revision" ∷ codes "3" ∷ codes "--parts" ∷ codes "2" ∷ codes "--id" ∷ codes "X" ∷ [])
       (verify (codes "vault") (record { tld = codes "example"; day = 20_667; kind = Full; rev = 3; parts = 2; id = codes "X" }) None)
   pub of_sweep : Gives (codes "sweep" ∷ codes "vault" ∷ codes "--now" ∷ codes "2026-08-02T10:00:00Z" ∷ []) (sweep (codes "vault") (Some 1_785_664_800))
+  pub of_sweep_now : Gives (codes "sweep" ∷ codes "vault" ∷ []) (sweep (codes "vault") None)
   pub of_purge : Gives (codes "purge" ∷ codes "vault" ∷ codes "--now" ∷ codes "2026-08-02T10:00:00Z" ∷ []) (purge (codes "vault") (Some 1_785_664_800))
+  pub of_purge_now : Gives (codes "purge" ∷ codes "vault" ∷ []) (purge (codes "vault") None)
+  pub of_release : Gives (codes "release" ∷ codes "vault" ∷ codes "R-1" ∷ codes "example" ∷ codes "operator" ∷ codes "--now" ∷ codes "2026-08-02T10:00:00Z" ∷ []) (release (codes "vault") (codes "R-1") (codes "example") Operator (Some 1_785_664_800))
+  pub of_release_now : Gives (codes "release" ∷ codes "vault" ∷ codes "R-1" ∷ codes "example" ∷ codes "operator" ∷ []) (release (codes "vault") (codes "R-1") (codes "example") Operator None)
+  pub of_fetch : Gives (codes "fetch" ∷ codes "vault" ∷ codes "R-1" ∷ codes "part.ryde" ∷ []) (fetch (codes "vault") (codes "R-1") (codes "part.ryde"))
   pub of_report : Gives (codes "report" ∷ codes "vault" ∷ codes "example" ∷ []) (report (codes "vault") (codes "example"))
   pub of_state : Gives (codes "state" ∷ codes "vault" ∷ []) (state (codes "vault"))
+  pub of_serve : Gives (codes "serve" ∷ codes "vault" ∷ codes "--port" ∷ codes "8080" ∷ codes "--requests" ∷ codes "2" ∷ codes "--now" ∷ codes "2026-08-02T10:00:00Z" ∷ []) (serve (codes "vault") 8080 2 (Some 1_785_664_800))
+  pub of_serve_now : Gives (codes "serve" ∷ codes "vault" ∷ codes "--port" ∷ codes "8080" ∷ codes "--requests" ∷ codes "2" ∷ []) (serve (codes "vault") 8080 2 None)

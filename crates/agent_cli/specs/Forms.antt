@@ -7,8 +7,10 @@ use Rattle.clap.specs.ValueTests.{is_unsigned_in}
 use Rattle.schedule.specs.Schedule.{IsDay, IsMoment}
 use Rattle.schedule.specs.Text.{day_text, moment_text}
 use Rattle.deposit_name.specs.declared.kinds.Kind.{Kind}
-use Rattle.deposit_name.specs.Identifiers.{IsDepositId, IsTld}
+use Rattle.deposit_name.specs.Identifiers.{IsDepositId, IsReference, IsTld}
 use Rattle.deposit_name.specs.Name.{kind_text}
+use Rattle.desk.specs.Grounds.{ground_text}
+use Rattle.desk.specs.declared.grounds.Ground.{Ground}
 
 abbrev pub ShowsTld : Text → List ℕ → Type 0
 ShowsTld text tld = (tld ≡ text) × IsTld tld
@@ -27,6 +29,13 @@ ShowsKind text kind = text ≡ kind_text kind
 
 abbrev pub ShowsId : Text → List ℕ → Type 0
 ShowsId text id = (id ≡ text) × IsDepositId id
+
+abbrev pub ShowsReference : Text → List ℕ → Type 0
+ShowsReference text reference = (reference ≡ text) × IsReference reference
+
+-- such as `operator`
+abbrev pub ShowsGround : Text → Ground → Type 0
+ShowsGround text reason = text ≡ ground_text reason
 
 -- the value of a text that may be left out
 abbrev pub ShowsIfGiven : {X : Type 0} → (Text → X → Type 0) → Option Text → Option X → Type 0

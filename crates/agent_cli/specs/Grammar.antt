@@ -6,7 +6,7 @@ use Rattle.clap.specs.declared.builder.ValueParser.TheVariants.{Signed}
 use Rattle.agent_cli.specs.declared.table.Form.{Form}
 use Rattle.agent_cli.specs.declared.table.Form.TheVariants.{Place, Option, Count}
 use Rattle.agent_cli.specs.declared.table.Subcommand.{Subcommand}
-use Rattle.agent_cli.specs.declared.table.Subcommand.TheVariants.{Init, Register, Put, Verify, Sweep, Purge, Report, State}
+use Rattle.agent_cli.specs.declared.table.Subcommand.TheVariants.{Init, Register, Put, Verify, Sweep, Purge, Release, Fetch, Report, State, Serve}
 use Rattle.agent_cli.specs.declared.table.Word.{Word}
 use Rattle.vault_volume.specs.declared.extent.TheConstants.{FEWEST_BLOCKS, MOST_BLOCKS}
 
@@ -58,13 +58,19 @@ words_of Verify = (
 words_of Sweep = (codes "sweep", folder_rule ∷ now_rule ∷ [])
 -- `purge DIR [--now MOMENT]`
 words_of Purge = (codes "purge", folder_rule ∷ now_rule ∷ [])
+-- `release DIR REF TLD GROUND [--now MOMENT]`
+words_of Release = (codes "release", folder_rule ∷ positional_rule (codes "REF") ∷ tld_rule ∷ positional_rule (codes "GROUND") ∷ now_rule ∷ [])
+-- `fetch DIR REF NAME`
+words_of Fetch = (codes "fetch", folder_rule ∷ positional_rule (codes "REF") ∷ positional_rule (codes "NAME") ∷ [])
 -- `report DIR TLD`
 words_of Report = (codes "report", folder_rule ∷ tld_rule ∷ [])
 -- `state DIR`
 words_of State = (codes "state", folder_rule ∷ [])
+-- `serve DIR --port P --requests N [--now MOMENT]`
+words_of Serve = (codes "serve", folder_rule ∷ count_rule (codes "port") 1 65_535 ∷ count_rule (codes "requests") 1 1_000_000 ∷ now_rule ∷ [])
 
 abbrev pub subcommands : List Subcommand
-subcommands = Init ∷ Register ∷ Put ∷ Verify ∷ Sweep ∷ Purge ∷ Report ∷ State ∷ []
+subcommands = Init ∷ Register ∷ Put ∷ Verify ∷ Sweep ∷ Purge ∷ Release ∷ Fetch ∷ Report ∷ State ∷ Serve ∷ []
 
 abbrev pub is_named : Text → Subcommand → Bool
 is_named name subcommand = bytes_eq (words_of subcommand).0 name

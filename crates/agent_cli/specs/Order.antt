@@ -5,13 +5,14 @@ use Rattle.clap.specs.Walk.{is_empty}
 use Rattle.clap.specs.declared.error.Error.{Error}
 use Rattle.clap.specs.declared.error.ErrorKind.TheVariants.{OutOfMemory}
 use Rattle.deposit_name.specs.declared.kinds.Kind.{Kind}
+use Rattle.desk.specs.declared.grounds.Ground.{Ground}
 use Rattle.custody_machine.specs.declared.command.Statement as told
 use Rattle.answer_lines.specs.Number.{ShowsNumber}
 use Rattle.vault_volume.specs.declared.extent.TheConstants.{MOST_BLOCKS}
 use Rattle.agent_cli.specs.Grammar.{escrow_app, is_named, subcommands, text_of}
 use Rattle.agent_cli.specs.declared.table.Subcommand.{Subcommand}
 use Rattle.agent_cli.specs.declared.table.Subcommand.TheVariants as subcommand
-use Rattle.agent_cli.specs.Forms.{ShowsDay, ShowsId, ShowsIfGiven, ShowsKind, ShowsMoment, ShowsTld, count_of}
+use Rattle.agent_cli.specs.Forms.{ShowsDay, ShowsGround, ShowsId, ShowsIfGiven, ShowsKind, ShowsMoment, ShowsReference, ShowsTld, count_of}
 use Rattle.agent_cli.specs.declared.order.Argument.{Argument}
 use Rattle.agent_cli.specs.declared.order.Argument.TheVariants as argument
 use Rattle.agent_cli.specs.declared.order.Order.{Order}
@@ -27,8 +28,11 @@ pub data Wanted : Type 0 where
   verify : Text → told.Statement → Option ℕ → Wanted
   sweep : Text → Option ℕ → Wanted
   purge : Text → Option ℕ → Wanted
+  release : Text → (reference : List ℕ) → (tld : List ℕ) → Ground → Option ℕ → Wanted
+  fetch : Text → List ℕ → Text → Wanted
   report : Text → List ℕ → Wanted
   state : Text → Wanted
+  serve : Text → ℕ → ℕ → Option ℕ → Wanted
 
 -- what words are: an order, words with an argument out of form, or no words of the command
 pub data Reading : Type 0 where
@@ -87,6 +91,19 @@ PurgeReading rows =
     ReadsValue argument.Now (ShowsIfGiven ShowsMoment (first_of (codes "now") rows)) (λ now r.
     r ≡ wanted (purge (text_of (codes "DIR") rows) now))
 
+abbrev pub ReleaseReading : List Row → Reading → Type 0
+ReleaseReading rows =
+    ReadsValue argument.Tld (ShowsTld (text_of (codes "TLD") rows)) (λ tld.
+    ReadsValue argument.Reference (ShowsReference (text_of (codes "REF") rows)) (λ reference.
+    ReadsValue argument.Ground (ShowsGround (text_of (codes "GROUND") rows)) (λ reason.
+    ReadsValue argument.Now (ShowsIfGiven ShowsMoment (first_of (codes "now") rows)) (λ now r.
+    r ≡ wanted (release (text_of (codes "DIR") rows) reference tld reason now)))))
+
+abbrev pub FetchReading : List Row → Reading → Type 0
+FetchReading rows =
+    ReadsValue argument.Reference (ShowsReference (text_of (codes "REF") rows)) (λ reference r.
+    r ≡ wanted (fetch (text_of (codes "DIR") rows) reference (text_of (codes "NAME") rows)))
+
 abbrev pub ReportReading : List Row → Reading → Type 0
 ReportReading rows =
     ReadsValue argument.Tld (ShowsTld (text_of (codes "TLD") rows)) (λ tld r.
@@ -94,6 +111,11 @@ ReportReading rows =
 
 abbrev pub StateReading : List Row → Reading → Type 0
 StateReading rows r = r ≡ wanted (state (text_of (codes "DIR") rows))
+
+abbrev pub ServeReading : List Row → Reading → Type 0
+ServeReading rows =
+    ReadsValue argument.Now (ShowsIfGiven ShowsMoment (first_of (codes "now") rows)) (λ now r.
+    r ≡ wanted (serve (text_of (codes "DIR") rows) (count_of (codes "port") 65_535 rows) (count_of (codes "requests") 1_000_000 rows) now))
 
 -- of a subcommand, where one has the name
 abbrev pub NamedReading : Option Subcommand → List Row → Reading → Type 0
@@ -104,8 +126,11 @@ NamedReading (Some subcommand.Put) rows r = PutReading rows r
 NamedReading (Some subcommand.Verify) rows r = VerifyReading rows r
 NamedReading (Some subcommand.Sweep) rows r = SweepReading rows r
 NamedReading (Some subcommand.Purge) rows r = PurgeReading rows r
+NamedReading (Some subcommand.Release) rows r = ReleaseReading rows r
+NamedReading (Some subcommand.Fetch) rows r = FetchReading rows r
 NamedReading (Some subcommand.Report) rows r = ReportReading rows r
 NamedReading (Some subcommand.State) rows r = StateReading rows r
+NamedReading (Some subcommand.Serve) rows r = ServeReading rows r
 
 -- the subcommand of a name
 abbrev pub named : Text → Option Subcommand
@@ -133,8 +158,11 @@ meaning (order.Put folder file now) = put folder.now file.now now
 meaning (order.Verify folder statement now) = verify folder.now statement now
 meaning (order.Sweep folder now) = sweep folder.now now
 meaning (order.Purge folder now) = purge folder.now now
+meaning (order.Release folder reference tld reason now) = release folder.now reference tld reason now
+meaning (order.Fetch folder reference name) = fetch folder.now reference name.now
 meaning (order.Report folder tld) = report folder.now tld
 meaning (order.State folder) = state folder.now
+meaning (order.Serve folder port requests now) = serve folder.now port requests now
 
 -- the answer is the reading, or memory ran out
 abbrev pub Answers : (Reading → Type 0) → Result Order WordFault → Type 0

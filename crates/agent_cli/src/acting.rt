@@ -1,14 +1,16 @@
 //! What an order does to the agent of a folder.
 ghost use Rattle.std.specs.Prelude.{◌≡◌};
 ghost use Rattle.answer_lines.specs.Statuses.{IsStatus};
-ghost use Rattle.agent_cli.specs.Acts.{Acts, Reports, Shows};
+ghost use Rattle.agent_cli.specs.Acts.{Acts, Fetches, Reports, Shows};
 
 use crate::sweeping::sweep;
 use crate::{Order, Progress, last_part};
-use answer_lines::{print_report, print_state, tell, tell_answer, tell_init, tell_refusal};
-use custody::{Custody, InitError};
-use custody_machine::{Command, Refusal};
-use deposit_name::Tld;
+use answer_lines::{
+    print_bytes, print_report, print_state, tell, tell_answer, tell_init, tell_refusal,
+};
+use custody::{Custody, InitError, Refused};
+use custody_machine::{Command, Refusal, Status};
+use deposit_name::{Reference, Tld};
 use schedule::Sec;
 use sqlite::Alter;
 use std::alloc::Global;
@@ -16,7 +18,8 @@ use std::io::Write;
 use vault_volume::Volume;
 
 /// Carries out an order, prints its lines and answers the exit status. `file` holds the bytes of the
-/// file that a `put` names, and `now` is its moment. An `init` is refused, since the vault is there.
+/// file that a `put` names, and `now` is its moment. An `init` is refused, since the vault is there, and
+/// a `serve` does nothing here, where no socket is.
 /// A sweep says to `progress` how far it is.
 pub fn act<V: Volume, S: Alter, W: Write, E: Write, P: Progress>(
     alloc: Global,
@@ -50,8 +53,42 @@ pub fn act<V: Volume, S: Alter, W: Write, E: Write, P: Progress>(
             let answer = custody.apply(alloc, &Command::Purge, now);
             tell_answer(&answer, out, err)
         }
+        Order::Release {
+            reference,
+            tld,
+            reason,
+            ..
+        } => {
+            let answer = custody.apply(alloc, &Command::Release(*reference, *tld, *reason), now);
+            tell_answer(&answer, out, err)
+        }
+        Order::Fetch {
+            reference,
+            name,
+            ..
+        } => fetch(alloc, custody, reference, name, out, err),
         Order::Report { tld, .. } => show_report(custody, tld, out, err),
         Order::State { .. } => show(custody, out, err),
+        Order::Serve { .. } => Status::Done.number(),
+    }
+}
+
+fn fetch<V: Volume, S: Alter, W: Write, E: Write>(
+    alloc: Global,
+    custody: &mut Custody<V, S>,
+    reference: &Reference,
+    name: &str,
+    out: &mut W,
+    err: &mut E,
+) -> u8
+    ensures status { IsStatus result }
+    ensures fetches { Fetches custody.old reference.now name.now custody.new result (record { before = W.contents out.old; after = W.contents out.new }) (record { before = E.contents err.old; after = E.contents err.new }) }
+{
+    let mut bytes = Vec::new(alloc);
+    match custody.fetch(alloc, reference, name.as_bytes(), &mut bytes) {
+        Ok(()) => print_bytes(&bytes, out),
+        Err(Refused::Refusal(refusal)) => tell_refusal(&refusal, err),
+        Err(Refused::Fault(fault)) => tell(&fault, err),
     }
 }
 

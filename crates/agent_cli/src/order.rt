@@ -6,7 +6,8 @@ ghost use Rattle.agent_cli.specs.declared.order.WordFault.TheVariants.{NoMemory}
 use answer_lines::VolumeNumber;
 use clap::error::ErrorKind;
 use custody_machine::{Fault, Statement, Status};
-use deposit_name::Tld;
+use deposit_name::{Reference, Tld};
+use desk::Ground;
 use schedule::{Day, Sec};
 use std::alloc::AllocError;
 use std::fmt;
@@ -46,12 +47,34 @@ pub enum Order<'a> {
         /// The moment of the call, where the words name it.
         now: Option<Sec>,
     },
+    Release {
+        folder: &'a str,
+        reference: Reference,
+        tld: Tld,
+        reason: Ground,
+        /// The moment of the call, where the words name it.
+        now: Option<Sec>,
+    },
+    Fetch {
+        folder: &'a str,
+        reference: Reference,
+        /// The name of a part, in whatever form.
+        name: &'a str,
+    },
     Report {
         folder: &'a str,
         tld: Tld,
     },
     State {
         folder: &'a str,
+    },
+    Serve {
+        folder: &'a str,
+        port: u16,
+        /// How many connections are served.
+        requests: u32,
+        /// The moment of each request, where the words name it.
+        now: Option<Sec>,
     },
 }
 

@@ -14,20 +14,26 @@ pub(crate) enum Subcommand {
     Verify,
     Sweep,
     Purge,
+    Release,
+    Fetch,
     Report,
     State,
+    Serve,
 }
 
 /// All of them, in the order in which help shows them.
-pub(crate) const SUBCOMMANDS: [Subcommand; 8] = [
+pub(crate) const SUBCOMMANDS: [Subcommand; 11] = [
     Subcommand::Init,
     Subcommand::Register,
     Subcommand::Put,
     Subcommand::Verify,
     Subcommand::Sweep,
     Subcommand::Purge,
+    Subcommand::Release,
+    Subcommand::Fetch,
     Subcommand::Report,
     Subcommand::State,
+    Subcommand::Serve,
 ];
 
 /// How an argument is given.
@@ -235,6 +241,57 @@ static PURGE: Row<'static> = Row {
     ],
 };
 
+static RELEASE: Row<'static> = Row {
+    name: "release",
+    about: "Hands the deposits of a registry over, and lists the parts that are held",
+    after: "Ground: operator, termination, no_notices, sunday_failed, five_failed, insolvency, critical,\n        \
+            order or audit\n\
+            Prints: released REF TLD GROUND MOMENT N, then the N names, one a line\n\
+            Example: escrow release vault R-1 example operator --now 2026-08-03T12:00:00Z",
+    words: &[
+        DIR,
+        Word {
+            id: "REF",
+            form: Form::Place,
+            help: "Reference of the release: 1 to 32 of A-Z a-z 0-9 -",
+        },
+        TLD,
+        Word {
+            id: "GROUND",
+            form: Form::Place,
+            help: "Ground of the release",
+        },
+        Word {
+            id: "now",
+            form: Form::Option {
+                value: "MOMENT",
+                required: false,
+            },
+            help: "Moment of the release, as 2026-08-03T12:00:00Z; else the clock is read",
+        },
+    ],
+};
+
+static FETCH: Row<'static> = Row {
+    name: "fetch",
+    about: "Writes the bytes of a part of a release to standard output",
+    after: "Writes the part as it was received, and nothing else\n\
+            Example: escrow fetch vault R-1 example_2026-08-02_full_S1_R0.ryde > part.ryde",
+    words: &[
+        DIR,
+        Word {
+            id: "REF",
+            form: Form::Place,
+            help: "Reference of the release: 1 to 32 letters, digits and hyphens",
+        },
+        Word {
+            id: "NAME",
+            form: Form::Place,
+            help: "Name of one of its parts",
+        },
+    ],
+};
+
 static REPORT: Row<'static> = Row {
     name: "report",
     about: "Prints the notices of a registry",
@@ -245,13 +302,48 @@ static REPORT: Row<'static> = Row {
 
 static STATE: Row<'static> = Row {
     name: "state",
-    about: "Prints the records: each registry with its parts and notices, then the free blocks",
+    about: "Prints the records: each registry with its parts and notices, releases, free blocks",
     after: "Prints: registry TLD DATE\n        \
             part NAME LENGTH held MOMENT\n        \
             NUMBER RECEIPT DATE RNN ID MOMENT TLD, as verify prints a notice\n        \
+            release REF TLD GROUND MOMENT N\n        \
             free F of T\n\
             Example: escrow state vault",
     words: &[DIR],
+};
+
+static SERVE: Row<'static> = Row {
+    name: "serve",
+    about: "Answers requests over HTTP on 127.0.0.1, one connection after the other",
+    after: "Prints: listening 127.0.0.1:P\n\
+            Example: escrow serve vault --port 8080 --requests 1000",
+    words: &[
+        DIR,
+        Word {
+            id: "port",
+            form: Form::Count {
+                least: 1,
+                most: 65_535,
+            },
+            help: "Port of 127.0.0.1 to listen on, 1 to 65535",
+        },
+        Word {
+            id: "requests",
+            form: Form::Count {
+                least: 1,
+                most: 1_000_000,
+            },
+            help: "How many connections are served before it ends, 1 to 1000000",
+        },
+        Word {
+            id: "now",
+            form: Form::Option {
+                value: "MOMENT",
+                required: false,
+            },
+            help: "Moment of each request, as 2026-08-02T10:00:00Z; else the clock is read for each",
+        },
+    ],
 };
 
 impl Subcommand {
@@ -267,8 +359,11 @@ impl Subcommand {
             Subcommand::Verify => &VERIFY,
             Subcommand::Sweep => &SWEEP,
             Subcommand::Purge => &PURGE,
+            Subcommand::Release => &RELEASE,
+            Subcommand::Fetch => &FETCH,
             Subcommand::Report => &REPORT,
             Subcommand::State => &STATE,
+            Subcommand::Serve => &SERVE,
         }
     }
 

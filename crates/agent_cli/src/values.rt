@@ -3,14 +3,14 @@ ghost use Rattle.std.specs.Prelude.{◌≡◌, ◌≤◌, codes};
 ghost use Rattle.clap.specs.Words.{first_of, found_of, rows_of};
 ghost use Rattle.answer_lines.specs.Number.{ShowsNumber};
 ghost use Rattle.agent_cli.specs.Grammar.{text_of};
-ghost use Rattle.agent_cli.specs.Forms.{ShowsDay, ShowsId, ShowsIfGiven, ShowsKind, ShowsMoment, ShowsTld, count_of};
+ghost use Rattle.agent_cli.specs.Forms.{ShowsDay, ShowsGround, ShowsId, ShowsIfGiven, ShowsKind, ShowsMoment, ShowsReference, ShowsTld, count_of};
 ghost use Rattle.agent_cli.specs.Order.{AnswersValue};
 
 use crate::{Argument, WordFault};
 use answer_lines::VolumeNumber;
 use clap::ArgMatches;
-use deposit_name::{DepositId, Kind, Tld};
-use desk::Revision;
+use deposit_name::{DepositId, Kind, Reference, Tld};
+use desk::{Ground, Revision};
 use schedule::{Day, Sec, read_day, read_moment};
 
 /// The value of an argument that is required.
@@ -41,6 +41,12 @@ pub(crate) fn parts_in(matches: &ArgMatches<'_>) -> u8
     count_in(matches, "parts", 8) as u8
 }
 
+pub(crate) fn port_in(matches: &ArgMatches<'_>) -> u16
+    ensures { result ≡ count_of (codes "port") 65_535 (rows_of (found_of matches.now)) }
+{
+    count_in(matches, "port", 65_535) as u16
+}
+
 pub(crate) fn tld_in(matches: &ArgMatches<'_>) -> Result<Tld, WordFault>
     ensures { AnswersValue Argument.Tld (ShowsTld (text_of (codes "TLD") (rows_of (found_of matches.now)))) result }
 {
@@ -69,6 +75,18 @@ pub(crate) fn id_in(matches: &ArgMatches<'_>) -> Result<DepositId, WordFault>
     ensures { AnswersValue Argument.Id (ShowsId (text_of (codes "id") (rows_of (found_of matches.now)))) result }
 {
     DepositId::parse(text_in(matches, "id").as_bytes()).ok_or(WordFault::Bad(Argument::Id))
+}
+
+pub(crate) fn reference_in(matches: &ArgMatches<'_>) -> Result<Reference, WordFault>
+    ensures { AnswersValue Argument.Reference (ShowsReference (text_of (codes "REF") (rows_of (found_of matches.now)))) result }
+{
+    Reference::parse(text_in(matches, "REF").as_bytes()).ok_or(WordFault::Bad(Argument::Reference))
+}
+
+pub(crate) fn ground_in(matches: &ArgMatches<'_>) -> Result<Ground, WordFault>
+    ensures { AnswersValue Argument.Ground (ShowsGround (text_of (codes "GROUND") (rows_of (found_of matches.now)))) result }
+{
+    Ground::parse(text_in(matches, "GROUND")).ok_or(WordFault::Bad(Argument::Ground))
 }
 
 pub(crate) fn number_in(matches: &ArgMatches<'_>) -> Result<VolumeNumber, WordFault>

@@ -2,13 +2,13 @@
 ghost use Rattle.std.specs.Prelude.{◌≡◌, Some, map};
 ghost use Rattle.std.specs.String.{string_bytes};
 ghost use Rattle.clap.specs.Words.{found_of, rows_of};
-ghost use Rattle.agent_cli.specs.Order.{Answers, Asks, InitReading, IsFaultFrom, NamedReading, PurgeReading, PutReading, RegisterReading, ReportReading, StateReading, SweepReading, VerifyReading};
+ghost use Rattle.agent_cli.specs.Order.{Answers, Asks, FetchReading, InitReading, IsFaultFrom, NamedReading, PurgeReading, PutReading, RegisterReading, ReleaseReading, ReportReading, ServeReading, StateReading, SweepReading, VerifyReading};
 
 use crate::grammar::escrow_command;
 use crate::table::Subcommand;
 use crate::values::{
-    count_in, date_in, first_in, id_in, kind_in, now_in, number_in, parts_in, revision_in, text_in,
-    tld_in,
+    count_in, date_in, first_in, ground_in, id_in, kind_in, now_in, number_in, parts_in, port_in,
+    reference_in, revision_in, text_in, tld_in,
 };
 use crate::{Order, WordFault};
 use clap::ArgMatches;
@@ -93,6 +93,33 @@ fn purge_order<'a>(matches: &ArgMatches<'a>) -> Result<Order<'a>, WordFault>
     })
 }
 
+fn release_order<'a>(matches: &ArgMatches<'a>) -> Result<Order<'a>, WordFault>
+    ensures { Answers (ReleaseReading (rows_of (found_of matches.now))) result }
+{
+    let tld = tld_in(matches)?;
+    let reference = reference_in(matches)?;
+    let reason = ground_in(matches)?;
+    let now = now_in(matches)?;
+    Ok(Order::Release {
+        folder: text_in(matches, "DIR"),
+        reference,
+        tld,
+        reason,
+        now,
+    })
+}
+
+fn fetch_order<'a>(matches: &ArgMatches<'a>) -> Result<Order<'a>, WordFault>
+    ensures { Answers (FetchReading (rows_of (found_of matches.now))) result }
+{
+    let reference = reference_in(matches)?;
+    Ok(Order::Fetch {
+        folder: text_in(matches, "DIR"),
+        reference,
+        name: text_in(matches, "NAME"),
+    })
+}
+
 fn report_order<'a>(matches: &ArgMatches<'a>) -> Result<Order<'a>, WordFault>
     ensures { Answers (ReportReading (rows_of (found_of matches.now))) result }
 {
@@ -111,6 +138,18 @@ fn state_order<'a>(matches: &ArgMatches<'a>) -> Result<Order<'a>, WordFault>
     })
 }
 
+fn serve_order<'a>(matches: &ArgMatches<'a>) -> Result<Order<'a>, WordFault>
+    ensures { Answers (ServeReading (rows_of (found_of matches.now))) result }
+{
+    let now = now_in(matches)?;
+    Ok(Order::Serve {
+        folder: text_in(matches, "DIR"),
+        port: port_in(matches),
+        requests: count_in(matches, "requests", 1_000_000),
+        now,
+    })
+}
+
 /// The order of a subcommand.
 fn order_in<'a>(subcommand: Subcommand, matches: &ArgMatches<'a>) -> Result<Order<'a>, WordFault>
     ensures { Answers (NamedReading (Some subcommand) (rows_of (found_of matches.now))) result }
@@ -122,8 +161,11 @@ fn order_in<'a>(subcommand: Subcommand, matches: &ArgMatches<'a>) -> Result<Orde
         Subcommand::Verify => verify_order(matches),
         Subcommand::Sweep => sweep_order(matches),
         Subcommand::Purge => purge_order(matches),
+        Subcommand::Release => release_order(matches),
+        Subcommand::Fetch => fetch_order(matches),
         Subcommand::Report => report_order(matches),
         Subcommand::State => state_order(matches),
+        Subcommand::Serve => serve_order(matches),
     }
 }
 

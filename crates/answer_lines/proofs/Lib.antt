@@ -1,2 +1,4 @@
+pub mod Beginnings
 pub mod NumberLemmas
 mod PrintLemmas
+mod StateLemmas

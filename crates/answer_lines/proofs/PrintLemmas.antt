@@ -1,49 +1,73 @@
--- What a writer holds after the lines of registries, parts and notices.
-use Rattle.std.proofs.Common.{◌≡◌, ◌∙◌, ℕ, ◌+◌, ◌<◌, List, [], ◌∷◌, ◌++◌, refl, length, map, take, get_or, sym, ap, append-nil, append_assoc}
-use Rattle.std.proofs.lemmas.List.{take_more}
+-- What a writer holds after the texts of rows.
+use Rattle.std.proofs.Common.{◌≡◌, ◌∙◌, ℕ, ◌+◌, ◌<◌, ◌≤◌, List, [], ◌∷◌, ◌++◌, Option, refl, length, map, take, drop, get_or, sym, ap, subst, append-nil, append_assoc}
+use Rattle.std.proofs.KnownBytes.{Appends-trans}
+use Rattle.std.proofs.lemmas.List.{take-append-drop, take_all, take_more}
 use Rattle.std.specs.Prelude.{Result, Ok, Err, OnOk}
+use Rattle.std.specs.Io.KnownBytes.{Appends}
 use Rattle.std.specs.List.{flat_map}
+use Rattle.desk.specs.Lines.{AppendsBeginning}
 use Rattle.custody_records.specs.Tables.{entries_of}
 use Rattle.answer_lines.specs.Lines.{line_text}
 use Rattle.answer_lines.specs.declared.lines.Line.{Line}
+use Rattle.answer_lines.specs.Printed.{as_line}
 use Rattle.answer_lines.specs.State.{lines_text}
+use Rattle.answer_lines.proofs.Beginnings.{begins_first, begins_second}
 
--- one row more in a text of rows
-rows_push : {Row K X : Type 0} (key : Row → K) (value : Row → X) (text : K × X → List ℕ) (rows : List Row) (row : Row)
-    → flat_map text (entries_of key value (rows ++ row ∷ [])) ≡ flat_map text (entries_of key value rows) ++ text (key row, value row)
-rows_push key value text [] row = append-nil (text (key row, value row))
-rows_push key value text (r ∷ rows) row =
-    ap (λ (l : List ℕ). text (key r, value r) ++ l) (rows_push key value text rows row)
-    ∙ sym (append_assoc (text (key r, value r)) (flat_map text (entries_of key value rows)) (text (key row, value row)))
+-- the text of rows is that of each, one after the other
+pub record IsTextOf {Row : Type 0} (text : List Row → List ℕ) (row_text : Row → List ℕ) : Type 0 where
+  pub none : text [] ≡ []
+  pub more : (row : Row) (rows : List Row) → text (row ∷ rows) ≡ row_text row ++ text rows
 
--- one row more in the lines of rows
-lines_push : {Row K X : Type 0} (key : Row → K) (value : Row → X) (line_at : K × X → Line) (rows : List Row) (row : Row)
-    → lines_text (map line_at (entries_of key value (rows ++ row ∷ []))) ≡ lines_text (map line_at (entries_of key value rows)) ++ (line_text (line_at (key row, value row)) ++ 10 ∷ [])
-lines_push key value line_at [] row = append-nil (line_text (line_at (key row, value row)) ++ 10 ∷ [])
-lines_push key value line_at (r ∷ rows) row =
-    let first = line_text (line_at (key r, value r)) ++ 10 ∷ [] in
-    ap (λ (l : List ℕ). first ++ l) (lines_push key value line_at rows row)
-    ∙ sym (append_assoc first (lines_text (map line_at (entries_of key value rows))) (line_text (line_at (key row, value row)) ++ 10 ∷ []))
+-- each row as a line
+pub are_lines : {Row K X : Type 0} (key : Row → K) (value : Row → X) (line_at : K × X → Line)
+    → IsTextOf (λ (rows : List Row). lines_text (map line_at (entries_of key value rows))) (λ row. as_line (line_text (line_at (key row, value row))))
+are_lines key value line_at = record { none = refl; more = λ row rows. refl }
 
-pub lines_step : {Row K X : Type 0} (key : Row → K) (value : Row → X) (line_at : K × X → Line) (rows : List Row) (i : ℕ) (row : Row) → i < length rows → row ≡ get_or rows i row
-    → lines_text (map line_at (entries_of key value (take (i + 1) rows))) ≡ lines_text (map line_at (entries_of key value (take i rows))) ++ (line_text (line_at (key row, value row)) ++ 10 ∷ [])
-lines_step {Row} key value line_at rows i row lt is =
-    ap (λ (l : List Row). lines_text (map line_at (entries_of key value l))) (take_more rows i row lt ∙ ap (λ (r : Row). take i rows ++ r ∷ []) (sym is))
-    ∙ lines_push key value line_at (take i rows) row
+-- each row as a text
+pub are_texts : {Row K X : Type 0} (key : Row → K) (value : Row → X) (text : K × X → List ℕ) → IsTextOf (λ (rows : List Row). flat_map text (entries_of key value rows)) (λ row. text (key row, value row))
+are_texts key value text = record { none = refl; more = λ row rows. refl }
+
+text_join : {Row : Type 0} (text : List Row → List ℕ) (row_text : Row → List ℕ) → IsTextOf text row_text → (a b : List Row) → text (a ++ b) ≡ text a ++ text b
+text_join text row_text is [] b = ap (λ (t : List ℕ). t ++ text b) (sym is.none)
+text_join text row_text is (row ∷ a) b =
+    is.more row (a ++ b) ∙ ap (λ (t : List ℕ). row_text row ++ t) (text_join text row_text is a b) ∙ sym (append_assoc (row_text row) (text a) (text b))
+    ∙ ap (λ (t : List ℕ). t ++ text b) (sym (is.more row a))
+
+-- one row more
+text_step : {Row : Type 0} (text : List Row → List ℕ) (row_text : Row → List ℕ) → IsTextOf text row_text → (rows : List Row) (i : ℕ) (row : Row) → i < length rows → row ≡ get_or rows i row
+    → text (take i rows) ++ row_text row ≡ text (take (i + 1) rows)
+text_step {Row} text row_text is rows i row lt at =
+    let one : text (row ∷ []) ≡ row_text row = is.more row [] ∙ ap (λ (t : List ℕ). row_text row ++ t) is.none ∙ append-nil (row_text row) in
+    let more : take i rows ++ row ∷ [] ≡ take (i + 1) rows = ap (λ (r : Row). take i rows ++ r ∷ []) at ∙ sym (take_more rows i row lt) in
+    ap (λ (t : List ℕ). text (take i rows) ++ t) (sym one) ∙ sym (text_join text row_text is (take i rows) (row ∷ [])) ∙ ap text more
+
+-- the rows before one were taken, and it is
+pub rows_more : {Row : Type 0} (text : List Row → List ℕ) (row_text : Row → List ℕ) → IsTextOf text row_text → (old mid new : Option (List ℕ)) (rows : List Row) (i : ℕ) (row : Row) → i < length rows → row ≡ get_or rows i row
+    → Appends old mid (text (take i rows)) → Appends mid new (row_text row) → Appends old new (text (take (i + 1) rows))
+rows_more text row_text is old mid new rows i row lt at before here =
+    subst (λ (t : List ℕ). Appends old new t) (text_step text row_text is rows i row lt at) (Appends-trans old mid new (text (take i rows)) (row_text row) before here)
+
+-- or a beginning of it is
+pub rows_begin : {Row : Type 0} (text : List Row → List ℕ) (row_text : Row → List ℕ) → IsTextOf text row_text → (old mid new : Option (List ℕ)) (rows : List Row) (i : ℕ) (row : Row) → i < length rows → row ≡ get_or rows i row
+    → Appends old mid (text (take i rows)) → AppendsBeginning mid new (row_text row) → AppendsBeginning old new (text rows)
+rows_begin text row_text is old mid new rows i row lt at before here =
+    let begun : AppendsBeginning old new (text (take (i + 1) rows)) =
+    subst (λ (t : List ℕ). AppendsBeginning old new t) (text_step text row_text is rows i row lt at) (begins_second old mid new (text (take i rows)) (row_text row) before here) in
+    let all : text (take (i + 1) rows) ++ text (drop (i + 1) rows) ≡ text rows = sym (text_join text row_text is (take (i + 1) rows) (drop (i + 1) rows)) ∙ ap text (take-append-drop (i + 1) rows) in
+    subst (λ (t : List ℕ). AppendsBeginning old new t) all (begins_first old new (text (take (i + 1) rows)) (text (drop (i + 1) rows)) begun)
+
+-- all rows were taken
+pub rows_all : {Row : Type 0} (text : List Row → List ℕ) (row_text : Row → List ℕ) → IsTextOf text row_text → (old new : Option (List ℕ)) (rows : List Row) (i : ℕ) → length rows ≤ i → Appends old new (text (take i rows)) → Appends old new (text rows)
+rows_all {Row} text row_text is old new rows i past taken = subst (λ (rs : List Row). Appends old new (text rs)) (take_all i rows past) taken
 
 -- the lines of a list and of another that stands behind it
 pub lines_text-append : (a b : List Line) → lines_text (a ++ b) ≡ lines_text a ++ lines_text b
-lines_text-append [] b = refl
-lines_text-append (l ∷ a) b =
-    ap (λ (t : List ℕ). (line_text l ++ 10 ∷ []) ++ t) (lines_text-append a b)
-    ∙ sym (append_assoc (line_text l ++ 10 ∷ []) (lines_text a) (lines_text b))
-
--- one row more in a text of rows
-pub rows_step : {Row K X : Type 0} (key : Row → K) (value : Row → X) (text : K × X → List ℕ) (rows : List Row) (i : ℕ) (row : Row) → i < length rows → row ≡ get_or rows i row
-    → flat_map text (entries_of key value (take (i + 1) rows)) ≡ flat_map text (entries_of key value (take i rows)) ++ text (key row, value row)
-rows_step {Row} key value text rows i row lt is =
-    ap (λ (l : List Row). flat_map text (entries_of key value l)) (take_more rows i row lt ∙ ap (λ (r : Row). take i rows ++ r ∷ []) (sym is)) ∙ rows_push key value text (take i rows) row
+lines_text-append = text_join lines_text (λ line. as_line (line_text line)) (record { none = refl; more = λ line lines. refl })
 
 pub on_ok : {T E : Type 0} (P : Type 0) (r : Result T E) → P → OnOk r P
 on_ok P (Ok x) h = h
 on_ok P (Err e) h = tt
+
+pub ok_then : {T E : Type 0} {P Q : Type 0} (r : Result T E) → (P → Q) → OnOk r P → OnOk r Q
+ok_then (Ok x) then h = then h
+ok_then (Err e) then h = tt

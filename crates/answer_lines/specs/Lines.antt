@@ -3,11 +3,13 @@ use Rattle.std.specs.Prelude.{◌-◌, ℕ, List, ◌++◌, codes, length, take}
 use Rattle.std.specs.Fmt.{decimal}
 use Rattle.schedule.specs.Text.{day_text, moment_text}
 use Rattle.deposit_name.specs.Name.{name_text}
+use Rattle.desk.specs.Grounds.{ground_text}
 use Rattle.desk.specs.Lines.{line}
+use Rattle.desk.specs.declared.grounds.Ground.{Ground}
 use Rattle.desk.specs.declared.notices.Notice as told
 use Rattle.custody_records.specs.Written.{digits_of}
 use Rattle.answer_lines.specs.declared.lines.Line.{Line}
-use Rattle.answer_lines.specs.declared.lines.Line.TheVariants.{Ready, Registered, Received, Notice, Purged, Registry, Part, Dropped, Room}
+use Rattle.answer_lines.specs.declared.lines.Line.TheVariants.{Ready, Registered, Received, Notice, Released, Purged, Registry, Part, Dropped, Release, Room, Listening}
 
 abbrev pub room_text : ℕ → ℕ → List ℕ
 room_text free total = codes "free " ++ decimal free ++ codes " of " ++ decimal total
@@ -16,16 +18,24 @@ room_text free total = codes "free " ++ decimal free ++ codes " of " ++ decimal 
 abbrev pub notice_text : told.Notice → List ℕ
 notice_text notice = take (length (line notice) - 1) (line notice)
 
+-- a release of so many names
+abbrev pub release_text : List ℕ → List ℕ → Ground → ℕ → ℕ → List ℕ
+release_text reference tld reason at count =
+    reference ++ codes " " ++ tld ++ codes " " ++ ground_text reason ++ codes " " ++ moment_text at ++ codes " " ++ decimal count
+
 abbrev pub line_text : Line → List ℕ
 line_text (Ready blocks number) = codes "ready " ++ decimal blocks ++ codes " " ++ digits_of number
 line_text (Registered tld first) = codes "registered " ++ tld ++ codes " " ++ day_text first
 line_text (Received name length at) =
     codes "received " ++ name_text name ++ codes " " ++ decimal length ++ codes " " ++ moment_text at
 line_text (Notice notice) = notice_text notice
+line_text (Released reference tld reason at count) = codes "released " ++ release_text reference tld reason at count
 line_text (Purged count) = codes "dropped " ++ decimal count
 line_text (Registry tld first) = codes "registry " ++ tld ++ codes " " ++ day_text first
 line_text (Part name length at) =
     codes "part " ++ name_text name ++ codes " " ++ decimal length ++ codes " held " ++ moment_text at
 line_text (Dropped name length at) =
     codes "part " ++ name_text name ++ codes " " ++ decimal length ++ codes " dropped " ++ moment_text at
+line_text (Release reference tld reason at count) = codes "release " ++ release_text reference tld reason at count
 line_text (Room free total) = room_text free total
+line_text (Listening port) = codes "listening 127.0.0.1:" ++ decimal port

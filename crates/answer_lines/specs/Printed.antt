@@ -1,7 +1,9 @@
 -- What is printed of an answer.
-use Rattle.std.specs.Prelude.{◌≡◌, ℕ, List, [], ◌∷◌, ◌++◌, Option, Result, Ok, Err}
+use Rattle.std.specs.Prelude.{◌≡◌, ℕ, List, [], ◌∷◌, ◌++◌, Option, length, Result, Ok, Err}
 use Rattle.std.specs.Io.KnownBytes.{Appends}
-use Rattle.custody_machine.specs.Texts.{refusal_text}
+use Rattle.desk.specs.Lines.{AppendsBeginning}
+use Rattle.custody_machine.specs.Texts.{fault_text, refusal_text}
+use Rattle.custody_records.specs.Written.{text_of}
 use Rattle.custody.specs.declared.answers.Record.{Record}
 use Rattle.custody.specs.declared.answers.Record.TheVariants as record_of
 use Rattle.custody.specs.declared.answers.Refused.{Refused}
@@ -11,31 +13,49 @@ use Rattle.answer_lines.specs.Lines.{line_text}
 use Rattle.answer_lines.specs.declared.lines.Line.{Line}
 use Rattle.answer_lines.specs.declared.lines.Line.TheVariants as line
 
+-- a text and its line feed
+abbrev pub as_line : List ℕ → List ℕ
+as_line text = text ++ 10 ∷ []
+
 -- what a writer holds grows by the text as a line
 abbrev pub Prints : Option (List ℕ) → Option (List ℕ) → List ℕ → Type 0
-Prints before after text = Appends before after (text ++ 10 ∷ [])
+Prints before after text = Appends before after (as_line text)
 
 abbrev pub line_of : Record → Line
 line_of (record_of.Registry tld first_day) = line.Registered tld first_day
 line_of (record_of.Part name received len digest extents) = line.Received name len received
 line_of (record_of.Notice notice) = line.Notice notice
+line_of (record_of.Release release) = line.Released release.reference release.tld release.reason release.at (length release.names)
 line_of (record_of.Purge count) = line.Purged count
+
+-- the names that a record lists, one a line
+abbrev pub names_behind : Record → List ℕ
+names_behind (record_of.Release release) = text_of release.names
+names_behind told = []
+
+-- all that is printed of a record: its line, and the names that it lists
+abbrev pub reply_text : Record → List ℕ
+reply_text told = as_line (line_text (line_of told)) ++ names_behind told
 
 -- what a writer held before a call, and what it holds after it
 pub record Writer : Type 0 where
   pub before : Option (List ℕ)
   pub after : Option (List ℕ)
 
--- the text as a line is all that it was given
-abbrev pub Takes : Writer → List ℕ → Type 0
-Takes w text = Prints w.before w.after text
+-- it was given a beginning of the text
+abbrev pub Begins : Writer → List ℕ → Type 0
+Begins w text = AppendsBeginning w.before w.after text
+
+-- it was given a beginning of the text, and with this status all of it
+abbrev pub Takes : Writer → List ℕ → (done status : ℕ) → Type 0
+Takes w text done status = (status ≡ done → Appends w.before w.after text) × Begins w text
 
 -- it was given nothing
 abbrev pub IsUnused : Writer → Type 0
 IsUnused w = w.after ≡ w.before
 
--- The line of a reply goes to the output alone, and that of a refusal or of a failure to the errors alone: with status 0 the first stands there, with status 1 the second.
+-- What is printed of a reply goes to the output alone, and that of a refusal or of a failure to the errors alone: with status 0 the first stands there whole, with status 1 the second, and whatever the status a beginning of it.
 abbrev pub IsTold : Result Reply Refused → ℕ → Writer → Writer → Type 0
-IsTold (Ok reply) status output errors = (status ≡ 0 → Takes output (line_text (line_of reply.record))) × IsUnused errors
-IsTold (Err (refused.Refusal why)) status output errors = (status ≡ 1 → Takes errors (refusal_text why)) × IsUnused output
-IsTold (Err (refused.Fault why)) status output errors = IsUnused output
+IsTold (Ok reply) status output errors = Takes output (reply_text reply.record) 0 status × IsUnused errors
+IsTold (Err (refused.Refusal why)) status output errors = Takes errors (as_line (refusal_text why)) 1 status × IsUnused output
+IsTold (Err (refused.Fault why)) status output errors = Begins errors (as_line (fault_text why)) × IsUnused output

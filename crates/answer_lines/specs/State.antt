@@ -1,17 +1,12 @@
--- The lines of `state`: each registry with its parts and its notices, and last the free blocks.
-use Rattle.std.specs.Prelude.{ℕ, List, [], ◌∷◌, ◌++◌, map, is_some, if◌then◌else◌}
+-- The lines of `state`: each registry with its parts and its notices, the releases, and last the free blocks.
+use Rattle.std.specs.Prelude.{ℕ, List, [], ◌∷◌, ◌++◌, length, map, is_some, if◌then◌else◌}
 use Rattle.std.specs.FinMap.{entries}
 use Rattle.std.specs.List.{flat_map}
-use Rattle.deposit_name.specs.declared.kinds.Kind.{Kind}
-use Rattle.deposit_name.specs.Name.{Name}
 use Rattle.custody_records.specs.Keys.{NoticeKey, PartKey}
-use Rattle.custody_records.specs.Records.{Notice, PartRecord, Records, notices_of, parts_of}
+use Rattle.custody_records.specs.Records.{Notice, PartRecord, Records, Release, name_of, notices_of, parts_of}
 use Rattle.answer_lines.specs.Lines.{line_text, room_text}
 use Rattle.answer_lines.specs.declared.lines.Line.{Line}
 use Rattle.answer_lines.specs.declared.lines.Line.TheVariants as line
-
-abbrev pub name_of : PartKey → Kind → Name
-name_of key kind = record { tld = key.tld; day = key.day; kind = kind; part = key.part; rev = key.rev }
 
 -- a part, held or dropped
 abbrev pub part_line : PartKey × PartRecord → Line
@@ -19,6 +14,10 @@ part_line e = if is_some e.1.extents then line.Part (name_of e.0 e.1.kind) e.1.l
 
 abbrev pub notice_line : NoticeKey × Notice → Line
 notice_line e = line.Notice (record { number = e.0.number; tld = e.0.tld; day = e.1.day; at = e.1.at; kind = e.1.kind })
+
+-- a release, by its reference
+abbrev pub release_line : List ℕ × Release → Line
+release_line e = line.Release e.0 e.1.tld e.1.reason e.1.at (length e.1.names)
 
 -- lines, each followed by a line feed
 abbrev pub lines_text : List Line → List ℕ
@@ -36,4 +35,5 @@ registry_lines records registry =
 -- all but the line feed of the last line: so many blocks are free, of so many
 abbrev pub state_text : Records → ℕ → ℕ → List ℕ
 state_text records free total =
-    flat_map (λ (registry : List ℕ × ℕ). lines_text (registry_lines records registry)) (entries records.registries) ++ room_text free total
+    flat_map (λ (registry : List ℕ × ℕ). lines_text (registry_lines records registry)) (entries records.registries)
+    ++ lines_text (map release_line (entries records.releases)) ++ room_text free total

@@ -6,7 +6,6 @@ use Rattle.custody.specs.Answers.{init_error_code}
 use Rattle.custody.specs.declared.answers.InitError.{InitError}
 use Rattle.custody.specs.declared.answers.Refused.{Refused}
 use Rattle.custody.specs.declared.answers.Refused.TheVariants as refused
-use Rattle.custody.specs.declared.answers.Reply.{Reply}
 
 abbrev pub IsStatus : ℕ → Type 0
 IsStatus n = (n ≡ 0) ⊎ ((n ≡ 1) ⊎ (n ≡ 3))
@@ -15,8 +14,8 @@ IsStatus n = (n ≡ 0) ⊎ ((n ≡ 1) ⊎ (n ≡ 3))
 abbrev pub IsStatusAfter : ℕ → ℕ → Type 0
 IsStatusAfter status n = (n ≡ status) ⊎ (n ≡ 3)
 
-abbrev pub answer_status : Result Reply Refused → ℕ
-answer_status (Ok reply) = status_number Done
+abbrev pub answer_status : {T : Type 0} → Result T Refused → ℕ
+answer_status (Ok found) = status_number Done
 answer_status (Err (refused.Refusal why)) = status_number (refusal_code why).status
 answer_status (Err (refused.Fault why)) = status_number (fault_code why).status
 

@@ -1,11 +1,13 @@
 //! The lines of replies.
 ghost use Rattle.std.specs.Prelude.{◌≡◌, IfOk, Some};
 ghost use Rattle.answer_lines.specs.Lines.{line_text, notice_text};
+ghost use Rattle.answer_lines.specs.Printed.{names_behind};
 
 use crate::VolumeNumber;
 use custody::Record;
-use deposit_name::{DepositName, Tld};
-use desk::{LINE_MAX, Notice, write_line};
+use custody_records::Release;
+use deposit_name::{DepositName, Reference, Tld};
+use desk::{Ground, LINE_MAX, Notice, write_line};
 use schedule::{Day, Sec};
 use std::{fmt, str};
 
@@ -30,6 +32,14 @@ pub enum Line {
     },
     /// A notice, as the report of its registry has it.
     Notice(Notice),
+    /// Deposits are handed over: so many names are listed.
+    Released {
+        reference: Reference,
+        tld: Tld,
+        reason: Ground,
+        at: Sec,
+        count: usize,
+    },
     /// Of how many parts a purge dropped the bytes.
     Purged {
         count: usize,
@@ -51,10 +61,22 @@ pub enum Line {
         length: u32,
         at: Sec,
     },
+    /// A release of the records, with the number of its names.
+    Release {
+        reference: Reference,
+        tld: Tld,
+        reason: Ground,
+        at: Sec,
+        count: usize,
+    },
     /// The free blocks, of all but the head's.
     Room {
         free: u32,
         total: u32,
+    },
+    /// Requests are taken at this port of the host itself.
+    Listening {
+        port: u16,
     },
 }
 
@@ -82,8 +104,26 @@ impl Line {
                 at: *received,
             },
             Record::Notice(notice) => Line::Notice(*notice),
+            Record::Release(release) => Line::Released {
+                reference: release.reference,
+                tld: release.tld,
+                reason: release.reason,
+                at: release.at,
+                count: release.names.count(),
+            },
             Record::Purge { count } => Line::Purged { count: *count },
         }
+    }
+}
+
+/// The names that a record lists, as the lines behind its own.
+pub fn names_behind(told: &Record) -> &[u8]
+    ensures { result.now ≡ names_behind told.now }
+{
+    match told {
+        Record::Release(release) => release.names.as_text(),
+        Record::Registry { .. } | Record::Part { .. } | Record::Notice(_) | Record::Purge { .. } =>
+            &[],
     }
 }
 
@@ -108,11 +148,26 @@ impl fmt::Display for Line {
                 let mut room = [0; LINE_MAX];
                 f.write_str(notice_text(notice, &mut room)?)
             }
+            Line::Released {
+                reference,
+                tld,
+                reason,
+                at,
+                count,
+            } => write!(f, "released {reference} {tld} {reason} {at} {count}"),
             Line::Purged { count } => write!(f, "dropped {count}"),
             Line::Registry { tld, first } => write!(f, "registry {tld} {first}"),
             Line::Part { name, length, at } => write!(f, "part {name} {length} held {at}"),
             Line::Dropped { name, length, at } => write!(f, "part {name} {length} dropped {at}"),
+            Line::Release {
+                reference,
+                tld,
+                reason,
+                at,
+                count,
+            } => write!(f, "release {reference} {tld} {reason} {at} {count}"),
             Line::Room { free, total } => write!(f, "free {free} of {total}"),
+            Line::Listening { port } => write!(f, "listening 127.0.0.1:{port}"),
         }
     }
 }

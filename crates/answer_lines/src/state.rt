@@ -1,74 +1,93 @@
-//! The records, as they are printed.
+//! The records, as they are printed. What a writer took before it failed is a beginning of the lines.
 ghost use Rattle.std.specs.Prelude.{◌≡◌, OnOk, map};
 ghost use Rattle.std.specs.Io.KnownBytes.{Appends};
+ghost use Rattle.desk.specs.Lines.{AppendsBeginning};
 ghost use Rattle.custody_records.specs.Held.{records_of};
 ghost use Rattle.custody_records.specs.Tables.{entries_of};
-ghost use Rattle.custody_records.specs.Typed.{notice_key, notice_value, part_entry, part_place, part_value};
-ghost use Rattle.answer_lines.specs.Lines.{line_text};
-ghost use Rattle.answer_lines.specs.Printed.{Prints};
-ghost use Rattle.answer_lines.specs.State.{lines_text, notice_line, part_line, state_text};
-ghost use Rattle.answer_lines.specs.declared.lines.Line.TheVariants as told;
+ghost use Rattle.custody_records.specs.Typed.{notice_key, notice_value, part_entry, part_place, part_value, registry_key, registry_value, release_entry, release_key, release_value};
+ghost use Rattle.answer_lines.specs.Printed.{Prints, as_line};
+ghost use Rattle.answer_lines.specs.State.{lines_text, notice_line, part_line, registry_lines, release_line, state_text};
 
-use crate::Line;
-use custody_records::{Part, Records, Registry};
+use crate::writing::{flush, write_line};
+use crate::{Line, WriteFailed};
+use custody_records::{Part, Records, Registry, Release};
 use desk::Notice;
-use std::io::{self, Write};
+use std::io::Write;
 
-/// Writes each registry with its parts and its notices, and the free blocks.
+/// Writes each registry with its parts and its notices, the releases, and the free blocks.
 pub(crate) fn write_state<W: Write>(
     records: &Records,
     free: u32,
     total: u32,
     out: &mut W,
-) -> io::Result<()>
-    ensures { OnOk result (Prints (W.contents out.old) (W.contents out.new) (state_text (records_of records.now) free total)) }
+) -> Result<(), WriteFailed>
+    ensures whole { OnOk result (Prints (W.contents out.old) (W.contents out.new) (state_text (records_of records.now) free total)) }
+    ensures begun { AppendsBeginning (W.contents out.old) (W.contents out.new) (as_line (state_text (records_of records.now) free total)) }
 {
     for registry in records.registries() {
-        write_registry(registry, out)?;
-        write_parts(records.parts_of(&registry.tld), out)?;
-        write_notices(records.notices_of(&registry.tld), out)?;
+        write_registry(registry, records, out)?;
     }
-    let line = Line::Room { free, total };
-    writeln!(out, "{line}")?;
-    out.flush()
+    write_releases(records.releases(), out)?;
+    write_line(&Line::Room { free, total }, out)?;
+    flush(out)
 }
 
-fn write_registry<W: Write>(registry: &Registry, out: &mut W) -> io::Result<()>
-    ensures { OnOk result (Prints (W.contents out.old) (W.contents out.new) (line_text (told.Registry registry.now.tld registry.now.first_day))) }
+/// Writes a registry with its parts and its notices.
+fn write_registry<W: Write>(
+    registry: &Registry,
+    records: &Records,
+    out: &mut W,
+) -> Result<(), WriteFailed>
+    ensures whole { OnOk result (Appends (W.contents out.old) (W.contents out.new) (lines_text (registry_lines (records_of records.now) (registry_key registry.now, registry_value registry.now)))) }
+    ensures begun { AppendsBeginning (W.contents out.old) (W.contents out.new) (lines_text (registry_lines (records_of records.now) (registry_key registry.now, registry_value registry.now))) }
 {
     let line = Line::Registry {
         tld: registry.tld,
         first: registry.first_day,
     };
-    writeln!(out, "{line}")
+    write_line(&line, out)?;
+    write_parts(records.parts_of(&registry.tld), out)?;
+    write_notices(records.notices_of(&registry.tld), out)
 }
 
-fn write_parts<W: Write>(parts: &[Part], out: &mut W) -> io::Result<()>
-    ensures { OnOk result (Appends (W.contents out.old) (W.contents out.new) (lines_text (map part_line (entries_of part_place part_value parts.now)))) }
+fn write_parts<W: Write>(parts: &[Part], out: &mut W) -> Result<(), WriteFailed>
+    ensures whole { OnOk result (Appends (W.contents out.old) (W.contents out.new) (lines_text (map part_line (entries_of part_place part_value parts.now)))) }
+    ensures begun { AppendsBeginning (W.contents out.old) (W.contents out.new) (lines_text (map part_line (entries_of part_place part_value parts.now))) }
 {
     for part in parts {
-        let line = part_line(part);
-        writeln!(out, "{line}")?;
+        write_line(&part_line(part), out)?;
     }
     Ok(())
 }
 
-fn write_notices<W: Write>(notices: &[Notice], out: &mut W) -> io::Result<()>
-    ensures { OnOk result (Appends (W.contents out.old) (W.contents out.new) (lines_text (map notice_line (entries_of notice_key notice_value notices.now)))) }
+fn write_notices<W: Write>(notices: &[Notice], out: &mut W) -> Result<(), WriteFailed>
+    ensures whole { OnOk result (Appends (W.contents out.old) (W.contents out.new) (lines_text (map notice_line (entries_of notice_key notice_value notices.now)))) }
+    ensures begun { AppendsBeginning (W.contents out.old) (W.contents out.new) (lines_text (map notice_line (entries_of notice_key notice_value notices.now))) }
 {
     for notice in notices {
         let line = Line::Notice(*notice);
-        writeln!(out, "{line}")?;
+        write_line(&line, out)?;
+    }
+    Ok(())
+}
+
+fn write_releases<W: Write>(releases: &[Release], out: &mut W) -> Result<(), WriteFailed>
+    ensures whole { OnOk result (Appends (W.contents out.old) (W.contents out.new) (lines_text (map release_line (entries_of release_key release_value releases.now)))) }
+    ensures begun { AppendsBeginning (W.contents out.old) (W.contents out.new) (lines_text (map release_line (entries_of release_key release_value releases.now))) }
+{
+    for release in releases {
+        write_line(&release_line(release), out)?;
     }
     Ok(())
 }
 
 /// Writes the line of each notice.
-pub(crate) fn write_report<W: Write>(notices: &[Notice], out: &mut W) -> io::Result<()>
-    ensures { OnOk result (Appends (W.contents out.old) (W.contents out.new) (lines_text (map notice_line (entries_of notice_key notice_value notices.now)))) }
+pub(crate) fn write_report<W: Write>(notices: &[Notice], out: &mut W) -> Result<(), WriteFailed>
+    ensures whole { OnOk result (Appends (W.contents out.old) (W.contents out.new) (lines_text (map notice_line (entries_of notice_key notice_value notices.now)))) }
+    ensures begun { AppendsBeginning (W.contents out.old) (W.contents out.new) (lines_text (map notice_line (entries_of notice_key notice_value notices.now))) }
 {
     write_notices(notices, out)?;
-    out.flush()
+    flush(out)
 }
 
 fn part_line(part: &Part) -> Line
@@ -79,5 +98,17 @@ fn part_line(part: &Part) -> Line
         Line::Part { name, length, at }
     } else {
         Line::Dropped { name, length, at }
+    }
+}
+
+fn release_line(release: &Release) -> Line
+    ensures { result ≡ release_line (release_entry release.now) }
+{
+    Line::Release {
+        reference: release.reference,
+        tld: release.tld,
+        reason: release.reason,
+        at: release.at,
+        count: release.names.count(),
     }
 }

@@ -1,12 +1,14 @@
-use Rattle.std.proofs.Common.{[], take, ◌≡◌, ◌∷◌, ◌++◌, List, ℕ, map, sym, ap, ◌∙◌, subst, arith}
-use Rattle.std.proofs.KnownBytes.{Appends-nil, Appends-trans}
-use Rattle.std.proofs.lemmas.List.{take_all}
+use Rattle.std.proofs.Common.{arith, subst}
+use Rattle.std.proofs.KnownBytes.{Appends-nil}
 use Rattle.std.specs.Io.KnownBytes.{Appends}
-use Rattle.custody_records.specs.Tables.{entries_of}
+use Rattle.desk.specs.Lines.{AppendsBeginning}
 use Rattle.custody_records.specs.Typed.{part_place, part_value}
 use Rattle.answer_lines.specs.Lines.{line_text}
-use Rattle.answer_lines.specs.State.{lines_text, part_line}
-use Rattle.answer_lines.proofs.PrintLemmas.{lines_step}
+use Rattle.answer_lines.specs.Printed.{as_line}
+use Rattle.answer_lines.specs.declared.lines.Line.{Line}
+use Rattle.answer_lines.specs.State.{part_line}
+use Rattle.answer_lines.proofs.Beginnings.{whole_begins}
+use Rattle.answer_lines.proofs.PrintLemmas.{are_lines, rows_all, rows_begin, rows_more}
 use Rattle.answer_lines.proofs.state.write_parts.Goals as goal
 
 pub loop-part-init : goal.loop-part-init
@@ -14,11 +16,17 @@ loop-part-init g c = Appends-nil (g.W.Write.contents c.args.out.now)
 
 pub loop-part-preserved : goal.loop-part-preserved
 loop-part-preserved g c =
-    let next = lines_step part_place part_value part_line c.args.parts.now c.loop-part.part-index c.part-item.result (omega arith) c.part-item.is in
-    subst (λ (l : List ℕ). Appends (g.W.Write.contents c.args.out.now) (g.W.Write.contents c.writeln.new.self) l) (ap (λ l. lines_text (map part_line (entries_of part_place part_value (take c.loop-part.part-index c.args.parts.now))) ++ (line_text l ++ 10 ∷ [])) c.part_line-line.ensures ∙ sym next)
-    (Appends-trans _ _ _ _ _ c.loop-part.invariant c.in_ok-writeln.ensures.bytes)
+    rows_more _ _ (are_lines part_place part_value part_line) (g.W.Write.contents c.args.out.now) (g.W.Write.contents c.loop-part.out) (g.W.Write.contents c.write_line.new.out) c.args.parts.now c.loop-part.part-index c.part-item.result (omega arith) c.part-item.is
+    c.loop-part.invariant (subst (λ (l : Line). Appends (g.W.Write.contents c.loop-part.out) (g.W.Write.contents c.write_line.new.out) (as_line (line_text l))) c.part_line.ensures c.in_ok-write_line.ensures.whole)
 
-pub returns : goal.returns
-returns g c =
-    let all : take c.loop-part.part-index c.args.parts.now ≡ c.args.parts.now = take_all _ c.args.parts.now (omega arith) in
-    subst (λ rows. Appends (g.W.Write.contents c.args.out.now) (g.W.Write.contents c.loop-part.out) (lines_text (map part_line (entries_of part_place part_value rows)))) all c.loop-part.invariant
+pub returns-in_err-write_line-clause-begun : goal.returns-in_err-write_line-clause-begun
+returns-in_err-write_line-clause-begun g c =
+    rows_begin _ _ (are_lines part_place part_value part_line) (g.W.Write.contents c.args.out.now) (g.W.Write.contents c.loop-part.out) (g.W.Write.contents c.write_line.new.out) c.args.parts.now c.loop-part.part-index c.part-item.result (omega arith) c.part-item.is
+    c.loop-part.invariant (subst (λ (l : Line). AppendsBeginning (g.W.Write.contents c.loop-part.out) (g.W.Write.contents c.write_line.new.out) (as_line (line_text l))) c.part_line.ensures c.write_line.ensures.begun)
+
+pub returns-clause-whole : goal.returns-clause-whole
+returns-clause-whole g c = rows_all _ _ (are_lines part_place part_value part_line) (g.W.Write.contents c.args.out.now) (g.W.Write.contents c.loop-part.out) c.args.parts.now c.loop-part.part-index (omega arith) c.loop-part.invariant
+
+pub returns-clause-begun : goal.returns-clause-begun
+returns-clause-begun g c =
+    whole_begins _ _ _ (rows_all _ _ (are_lines part_place part_value part_line) (g.W.Write.contents c.args.out.now) (g.W.Write.contents c.loop-part.out) c.args.parts.now c.loop-part.part-index (omega arith) c.loop-part.invariant)

@@ -26,3 +26,11 @@ returns-in-Part-clause-writes g c = λ plain ok.
 pub returns-in-Dropped-clause-writes : goal.returns-in-Dropped-clause-writes
 returns-in-Dropped-clause-writes g c = λ plain ok.
     has_written_of_eq _ _ _ _ _ (ap line_text (sym c.in-Dropped.is)) (has_written_of_eq _ _ _ _ _ (simp append_assoc) (c.write-in-Dropped.ensures.writes plain ok))
+
+pub returns-in-Released-clause-writes : goal.returns-in-Released-clause-writes
+returns-in-Released-clause-writes g c = λ plain ok.
+    has_written_of_eq _ _ _ _ _ (ap line_text (sym c.in-Released.is)) (has_written_of_eq _ _ _ _ _ (simp append_assoc) (c.write-in-Released.ensures.writes plain ok))
+
+pub returns-in-Release-clause-writes : goal.returns-in-Release-clause-writes
+returns-in-Release-clause-writes g c = λ plain ok.
+    has_written_of_eq _ _ _ _ _ (ap line_text (sym c.in-Release.is)) (has_written_of_eq _ _ _ _ _ (simp append_assoc) (c.write-in-Release.ensures.writes plain ok))

@@ -1,0 +1,62 @@
+-- What a writer holds that took the lines of `state`, or a beginning of them.
+use Rattle.std.proofs.Common.{◌≡◌, ◌∙◌, ℕ, true, List, [], ◌∷◌, ◌++◌, Option, append_assoc, ap, subst, sym}
+use Rattle.std.proofs.KnownBytes.{Appends-trans}
+use Rattle.std.specs.FinMap.{FinMap, entries}
+use Rattle.std.specs.Io.KnownBytes.{Appends}
+use Rattle.custody_records.specs.Keys.{text_cmp}
+use Rattle.custody_records.specs.Tables.{entries_of, is_rising, table_map}
+use Rattle.custody_records.proofs.TableLemmas.{entries-table_map}
+use Rattle.desk.specs.Lines.{AppendsBeginning}
+use Rattle.answer_lines.specs.Printed.{as_line}
+use Rattle.answer_lines.specs.State.{lines_text}
+use Rattle.answer_lines.specs.declared.lines.Line.{Line}
+use Rattle.answer_lines.proofs.Beginnings.{begins_first, begins_second}
+use Rattle.answer_lines.proofs.PrintLemmas.{lines_text-append}
+
+-- the rows of a table are the entries of its map
+pub rows_are : {Row X : Type 0} (key : Row → List ℕ) (value : Row → X) (kept : FinMap text_cmp X) (rows : List Row) → kept ≡ table_map text_cmp key value rows → is_rising text_cmp key rows ≡ true
+    → entries_of key value rows ≡ entries kept
+rows_are key value kept rows all rising = sym (ap entries all ∙ entries-table_map text_cmp key value rows rising)
+
+-- ---- the lines of a registry: its own, those of its parts and those of its notices
+
+pub parts_begin : (old mid new : Option (List ℕ)) (head : List ℕ) (parts notices : List Line) → Appends old mid head → AppendsBeginning mid new (lines_text parts)
+    → AppendsBeginning old new (head ++ lines_text (parts ++ notices))
+parts_begin old mid new head parts notices first begun =
+    subst (λ (t : List ℕ). AppendsBeginning old new (head ++ t)) (sym (lines_text-append parts notices))
+    (begins_second old mid new head (lines_text parts ++ lines_text notices) first (begins_first mid new (lines_text parts) (lines_text notices) begun))
+
+pub notices_begin : (old mid then new : Option (List ℕ)) (head : List ℕ) (parts notices : List Line) → Appends old mid head → Appends mid then (lines_text parts) → AppendsBeginning then new (lines_text notices)
+    → AppendsBeginning old new (head ++ lines_text (parts ++ notices))
+notices_begin old mid then new head parts notices first second begun =
+    subst (λ (t : List ℕ). AppendsBeginning old new (head ++ t)) (sym (lines_text-append parts notices))
+    (begins_second old mid new head (lines_text parts ++ lines_text notices) first (begins_second mid then new (lines_text parts) (lines_text notices) second begun))
+
+pub registry_is_whole : (old mid then new : Option (List ℕ)) (head : List ℕ) (parts notices : List Line) → Appends old mid head → Appends mid then (lines_text parts) → Appends then new (lines_text notices)
+    → Appends old new (head ++ lines_text (parts ++ notices))
+registry_is_whole old mid then new head parts notices first second third =
+    subst (λ (t : List ℕ). Appends old new (head ++ t)) (sym (lines_text-append parts notices))
+    (Appends-trans old mid new head (lines_text parts ++ lines_text notices) first (Appends-trans mid then new (lines_text parts) (lines_text notices) second third))
+
+-- ---- the registries, the releases, and the line of the free blocks
+
+pub registries_begin : (old new : Option (List ℕ)) (registries releases room : List ℕ) → AppendsBeginning old new registries → AppendsBeginning old new (as_line (registries ++ releases ++ room))
+registries_begin old new registries releases room begun =
+    begins_first old new (registries ++ releases ++ room) (10 ∷ []) (begins_first old new (registries ++ releases) room (begins_first old new registries releases begun))
+
+pub releases_begin : (old mid new : Option (List ℕ)) (registries releases room : List ℕ) → Appends old mid registries → AppendsBeginning mid new releases
+    → AppendsBeginning old new (as_line (registries ++ releases ++ room))
+releases_begin old mid new registries releases room first begun =
+    begins_first old new (registries ++ releases ++ room) (10 ∷ []) (begins_first old new (registries ++ releases) room (begins_second old mid new registries releases first begun))
+
+pub room_begins : (old mid then new : Option (List ℕ)) (registries releases room : List ℕ) → Appends old mid registries → Appends mid then releases → AppendsBeginning then new (as_line room)
+    → AppendsBeginning old new (as_line (registries ++ releases ++ room))
+room_begins old mid then new registries releases room first second begun =
+    subst (λ (t : List ℕ). AppendsBeginning old new t) (sym (append_assoc (registries ++ releases) room (10 ∷ [])))
+    (begins_second old then new (registries ++ releases) (as_line room) (Appends-trans old mid then registries releases first second) begun)
+
+pub state_is_whole : (old mid then new : Option (List ℕ)) (registries releases room : List ℕ) → Appends old mid registries → Appends mid then releases → Appends then new (as_line room)
+    → Appends old new (as_line (registries ++ releases ++ room))
+state_is_whole old mid then new registries releases room first second third =
+    subst (λ (t : List ℕ). Appends old new t) (sym (append_assoc (registries ++ releases) room (10 ∷ [])))
+    (Appends-trans old then new (registries ++ releases) (as_line room) (Appends-trans old mid then registries releases first second) third)

@@ -1,0 +1,297 @@
+//! The bytes of lines, in room of their own: no memory is taken for them.
+ghost use Rattle.std.specs.Prelude.{◌≡◌, ◌+◌, ◌≤◌, ◌^◌, ◌<◌, ◌++◌, [], ◌∷◌, length, codes, decimal};
+ghost use Rattle.arrayvec.specs.ArrayVec.{array_vec_len};
+ghost use Rattle.schedule.specs.Text.{day_text, moment_text};
+ghost use Rattle.deposit_name.specs.FaultText as names;
+ghost use Rattle.deposit_name.specs.Name.{name_text};
+ghost use Rattle.desk.specs.Lines.{line};
+ghost use Rattle.custody_records.specs.Written.{digits_of};
+ghost use Rattle.custody.specs.Answers.{init_error_text};
+ghost use Rattle.custody_machine.specs.Codes.{row_of, row_text};
+ghost use Rattle.custody_machine.specs.Texts.{damage_text, fault_text, refusal_text};
+ghost use Rattle.answer_lines.specs.Lines.{line_text, release_text};
+
+use crate::{Line, VolumeNumber};
+use arrayvec::ArrayVec;
+use custody::InitError;
+use custody_machine::{Code, Damage, Fault, Refusal};
+use custody_records::write_number;
+use deposit_name::{DepositName, NameError, Reference, Tld, write_name};
+use desk::{Ground, LINE_MAX, Notice, write_line};
+use itoa::Buffer;
+use schedule::{Day, Sec, write_day, write_moment};
+
+/// At most 256 bytes: a line with its line feed, or a few of such length.
+pub type LineBytes = ArrayVec<u8, 256>;
+
+/// Adds bytes, for which there is room.
+pub fn append(line: &mut LineBytes, bytes: &[u8])
+    requires { array_vec_len line.old + length bytes.now ≤ 256 }
+    ensures text { line.new.items ≡ line.old.items ++ bytes.now }
+    ensures len { array_vec_len line.new ≡ array_vec_len line.old + length bytes.now }
+{
+    let Ok(()) = line.try_extend_from_slice(bytes) else {
+        unreachable!()
+    };
+}
+
+/// Adds a number in decimal digits.
+pub fn append_number(line: &mut LineBytes, number: u64)
+    requires { array_vec_len line.old + 20 ≤ 256 }
+    ensures text { line.new.items ≡ line.old.items ++ decimal number }
+    ensures len { array_vec_len line.new ≤ array_vec_len line.old + 20 }
+{
+    let mut buffer = Buffer::new();
+    append(line, buffer.format(number).as_bytes());
+}
+
+fn append_name(line: &mut LineBytes, name: &DepositName)
+    requires { array_vec_len line.old + 91 ≤ 256 }
+    ensures text { line.new.items ≡ line.old.items ++ name_text name.now }
+    ensures len { array_vec_len line.new ≤ array_vec_len line.old + 91 }
+{
+    let mut room = [0; 96];
+    let length = write_name(name, &mut room);
+    append(line, &room[..length]);
+}
+
+/// A word with its space, a top-level domain and a day.
+fn registry_line(word: &[u8], tld: &Tld, first: Day) -> LineBytes
+    requires { length word.now ≤ 20 }
+    ensures { result.items ≡ (word.now ++ tld.now ++ codes " " ++ day_text first) ++ 10 ∷ [] }
+{
+    let mut line = LineBytes::new();
+    append(&mut line, word);
+    append(&mut line, tld.as_bytes());
+    append(&mut line, b" ");
+    append(&mut line, &write_day(first));
+    append(&mut line, b"\n");
+    line
+}
+
+/// A word with its space, and a part: its name and length, a word between spaces, a moment.
+fn part_line(word: &[u8], name: &DepositName, len: u32, state: &[u8], at: Sec) -> LineBytes
+    requires { (length word.now ≤ 20) × (length state.now ≤ 20) }
+    ensures { result.items ≡ (word.now ++ name_text name.now ++ codes " " ++ decimal len ++ state.now ++ moment_text at) ++ 10 ∷ [] }
+{
+    let mut line = LineBytes::new();
+    append(&mut line, word);
+    append_name(&mut line, name);
+    append(&mut line, b" ");
+    append_number(&mut line, u64::from(len));
+    append(&mut line, state);
+    append(&mut line, &write_moment(at));
+    append(&mut line, b"\n");
+    line
+}
+
+/// A word with its space, and a number.
+fn count_line(word: &[u8], count: u64) -> LineBytes
+    requires { length word.now ≤ 20 }
+    ensures { result.items ≡ (word.now ++ decimal count) ++ 10 ∷ [] }
+{
+    let mut line = LineBytes::new();
+    append(&mut line, word);
+    append_number(&mut line, count);
+    append(&mut line, b"\n");
+    line
+}
+
+fn ready_line(blocks: u32, number: VolumeNumber) -> LineBytes
+    ensures { result.items ≡ (codes "ready " ++ decimal blocks ++ codes " " ++ digits_of number) ++ 10 ∷ [] }
+{
+    let mut line = LineBytes::new();
+    append(&mut line, b"ready ");
+    append_number(&mut line, u64::from(blocks));
+    append(&mut line, b" ");
+    append(&mut line, &write_number(number.get()));
+    append(&mut line, b"\n");
+    line
+}
+
+fn room_line(free: u32, total: u32) -> LineBytes
+    ensures { result.items ≡ (codes "free " ++ decimal free ++ codes " of " ++ decimal total) ++ 10 ∷ [] }
+{
+    let mut line = LineBytes::new();
+    append(&mut line, b"free ");
+    append_number(&mut line, u64::from(free));
+    append(&mut line, b" of ");
+    append_number(&mut line, u64::from(total));
+    append(&mut line, b"\n");
+    line
+}
+
+/// A release of so many names.
+fn release_words(reference: &Reference, tld: &Tld, reason: Ground, at: Sec, count: u64) -> LineBytes
+    ensures text { result.items ≡ release_text reference.now tld.now reason at count }
+    ensures most { array_vec_len result ≤ 200 }
+{
+    let mut line = LineBytes::new();
+    append(&mut line, reference.as_bytes());
+    append(&mut line, b" ");
+    append(&mut line, tld.as_bytes());
+    append(&mut line, b" ");
+    append(&mut line, reason.as_str().as_bytes());
+    append(&mut line, b" ");
+    append(&mut line, &write_moment(at));
+    append(&mut line, b" ");
+    append_number(&mut line, count);
+    line
+}
+
+/// A word with its space, and a release.
+fn release_line(word: &[u8], release: &LineBytes) -> LineBytes
+    requires { (length word.now ≤ 20) × (array_vec_len release.now ≤ 200) }
+    ensures { result.items ≡ (word.now ++ release.now.items) ++ 10 ∷ [] }
+{
+    let mut line = LineBytes::new();
+    append(&mut line, word);
+    append(&mut line, release);
+    append(&mut line, b"\n");
+    line
+}
+
+/// The line of a notice in a report.
+fn notice_line(notice: &Notice) -> LineBytes
+    ensures { result.items ≡ line notice.now }
+{
+    let mut room = [0; LINE_MAX];
+    let length = write_line(notice, &mut room);
+    let mut line = LineBytes::new();
+    append(&mut line, &room[..length]);
+    line
+}
+
+impl Line {
+    ghost use Rattle.std.specs.Prelude.{◌≡◌, ◌++◌, [], ◌∷◌};
+    ghost use Rattle.answer_lines.specs.Lines.{line_text};
+
+    /// Its bytes, with the line feed.
+    pub fn bytes(&self) -> LineBytes
+        ensures { result.items ≡ line_text self.now ++ 10 ∷ [] }
+    {
+        match self {
+            Line::Ready { blocks, number } => ready_line(*blocks, *number),
+            Line::Registered { tld, first } => registry_line(b"registered ", tld, *first),
+            Line::Received { name, length, at } => {
+                part_line(b"received ", name, *length, b" ", *at)
+            }
+            Line::Notice(notice) => notice_line(notice),
+            Line::Released {
+                reference,
+                tld,
+                reason,
+                at,
+                count,
+            } => {
+                let release = release_words(reference, tld, *reason, *at, *count as u64);
+                release_line(b"released ", &release)
+            }
+            Line::Purged { count } => count_line(b"dropped ", *count as u64),
+            Line::Registry { tld, first } => registry_line(b"registry ", tld, *first),
+            Line::Part { name, length, at } => part_line(b"part ", name, *length, b" held ", *at),
+            Line::Dropped { name, length, at } => {
+                part_line(b"part ", name, *length, b" dropped ", *at)
+            }
+            Line::Release {
+                reference,
+                tld,
+                reason,
+                at,
+                count,
+            } => {
+                let release = release_words(reference, tld, *reason, *at, *count as u64);
+                release_line(b"release ", &release)
+            }
+            Line::Room { free, total } => room_line(*free, *total),
+            Line::Listening { port } => count_line(b"listening 127.0.0.1:", u64::from(*port)),
+        }
+    }
+}
+
+fn name_fault(fault: NameError) -> &'static str
+    ensures { result.now ≡ names.fault_text fault }
+{
+    match fault {
+        NameError::Suffix => "N1",
+        NameError::Tld => "N2",
+        NameError::Date => "N3",
+        NameError::Kind => "N4",
+        NameError::Part => "N5",
+        NameError::Revision => "N6",
+        NameError::Pieces => "N7",
+    }
+}
+
+fn damage_number(damage: Damage) -> &'static str
+    ensures { result.now ≡ damage_text damage }
+{
+    match damage {
+        Damage::NoRecord => "H0",
+        Damage::Head => "H1",
+        Damage::Volume => "H2",
+        Damage::Schema => "H3",
+        Damage::Form => "H4",
+        Damage::Extent => "H5",
+        Damage::Overlap => "H6",
+        Damage::Link => "H7",
+        Damage::Digest => "H8",
+    }
+}
+
+/// The bytes of the line of a refusal, with its line feed.
+pub fn refusal_bytes(refusal: &Refusal) -> LineBytes
+    ensures { result.items ≡ refusal_text refusal.now ++ 10 ∷ [] }
+{
+    let code = refusal.code();
+    let mut line = LineBytes::new();
+    append(&mut line, code.number.as_bytes());
+    append(&mut line, b" ");
+    if let Refusal::NameRefused(fault) = refusal {
+        append(&mut line, name_fault(*fault).as_bytes());
+        append(&mut line, b" ");
+    }
+    append(&mut line, code.text.as_bytes());
+    append(&mut line, b"\n");
+    line
+}
+
+/// The bytes of the line of a failure, with its line feed.
+pub fn fault_bytes(fault: &Fault) -> LineBytes
+    ensures { result.items ≡ fault_text fault.now ++ 10 ∷ [] }
+{
+    let code = fault.code();
+    let mut line = LineBytes::new();
+    append(&mut line, code.number.as_bytes());
+    append(&mut line, b" ");
+    append(&mut line, code.text.as_bytes());
+    if let Fault::Damaged(damage) = fault {
+        append(&mut line, b" ");
+        append(&mut line, damage_number(*damage).as_bytes());
+    }
+    append(&mut line, b"\n");
+    line
+}
+
+/// A number and its text.
+fn code_line(code: &Code) -> LineBytes
+    requires { length code.now.number.now + length code.now.text.now ≤ 200 }
+    ensures { result.items ≡ row_text (row_of code.now) ++ 10 ∷ [] }
+{
+    let mut line = LineBytes::new();
+    append(&mut line, code.number.as_bytes());
+    append(&mut line, b" ");
+    append(&mut line, code.text.as_bytes());
+    append(&mut line, b"\n");
+    line
+}
+
+/// The bytes of the line that says why there is no new vault, with its line feed.
+pub fn init_error_bytes(error: &InitError) -> LineBytes
+    ensures { result.items ≡ init_error_text error.now ++ 10 ∷ [] }
+{
+    match error {
+        InitError::Fault(fault) => fault_bytes(fault),
+        InitError::AlreadyInitialised | InitError::Size => code_line(&error.code()),
+    }
+}
