@@ -1,0 +1,4 @@
+mod ReportLemmas
+mod WriteLemmas
+mod HeadLemmas
+mod PartLemmas

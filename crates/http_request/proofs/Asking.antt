@@ -1,0 +1,127 @@
+-- What an input asks, by what was read of it.
+use Rattle.std.proofs.Common.{◌≡◌, ◌≤◌, ◌∙◌, ◌++◌, ap, arith, List, ℕ, Option, Some, None, IfSome, append_assoc, inr, refl, subst, true}
+use Rattle.std.specs.List.{list_all}
+use Rattle.std.specs.Io.KnownBytes.{Consumes}
+use Rattle.std.proofs.lemmas.Bool.{true_from_ne_false}
+use Rattle.httparse.specs.Grammar.{RequestHead, ReadsRequest}
+use Rattle.http_request.specs.declared.head.Head.{Head}
+use Rattle.http_request.specs.declared.plan.Plan.{Plan}
+use Rattle.http_request.specs.declared.stop.Stop.{Stop}
+use Rattle.http_request.specs.declared.stop.Stop.TheVariants as stop
+use Rattle.http_request.specs.Head.{IsAt, IsHeadOf, rest_of}
+use Rattle.http_request.specs.Paths.{Target, Deposit, is_target_byte}
+use Rattle.http_request.specs.Asked.{RequestFault, Stands, NoneBelow, fault_number, Asks, bad, asks_for, lengths, limit_of}
+use Rattle.http_request.specs.declared.faults.RequestFault.TheVariants as fault
+use Rattle.http_request.specs.Body.{IsToldBody}
+use Rattle.http_request.specs.Plans.{IsPlanned, FitsLength}
+use Rattle.http_request.specs.Stops.{StopsBefore, StopsWithin, IsBodyShort}
+use Rattle.http_request.specs.Targets.{seen}
+use Rattle.http_request.specs.Wanted.{Wanted, Means}
+use Rattle.http_request.proofs.PlanLemmas.{short_asked, form_asked, wanted_asked}
+
+reads_on : (input after : List ℕ) (head : Head) (h : RequestHead) → input ≡ head.bytes.items ++ after → IsAt head h → ReadsRequest input h (rest_of head ++ after)
+reads_on input after head h e at = (at.reads.0, e ∙ ap (λ l. l ++ after) at.reads.1 ∙ append_assoc _ (rest_of head) after)
+
+abbrev pub PlanFails : Head → RequestFault → Type 0
+PlanFails head found = (h : RequestHead) → IsAt head h → (rest : List ℕ) → Stands h rest found × NoneBelow (fault_number found) h rest
+
+abbrev pub Plans : Head → Plan → Type 0
+Plans head plan = (h : RequestHead) → IsAt head h → IsPlanned h plan
+
+module _ (head : Head) where
+  pub plan_stops : (a b : Option (List ℕ)) → Consumes a b head.bytes.items → IsHeadOf head → (found : RequestFault) → PlanFails head found → IfSome a (λ input. StopsBefore input (stop.Fault found))
+  plan_stops None b taken is found fails = tt
+  plan_stops (Some input) None taken is found fails = absurd taken
+  plan_stops (Some input) (Some after) taken is found fails =
+      let h = is.1.0 in
+      let at = is.1.1 in
+      let rest = rest_of head ++ after in
+      inr (h, rest, reads_on input after head h taken at, is.1.2, fails h at rest)
+
+  module _ (plan : Plan) where
+    -- how long a part is that is sent: it is told, and within the limit
+    pub part_told : IsHeadOf head → Plans head plan → (name : List ℕ) → seen plan.target ≡ Deposit name → (n : ℕ) × (plan.length ≡ Some n) × (n ≤ 1_048_576)
+    part_told is plans name e =
+        let h = is.1.0 in
+        by plan.length (subst (λ (t : Target). FitsLength (limit_of t) (lengths h) plan.length) e (plans h is.1.1).1)
+      where
+        by : (told : Option ℕ) → FitsLength (Some 1_048_576) (lengths is.1.0) told → (n : ℕ) × (told ≡ Some n) × (n ≤ 1_048_576)
+        by None fits = absurd fits
+        by (Some n) fits = (n, refl, fits.1)
+
+    bytes_pass : (h : RequestHead) (rest : List ℕ) → NoneBelow 9 h rest → list_all is_target_byte h.target ≡ true
+    bytes_pass h rest below = true_from_ne_false (list_all is_target_byte h.target) (below fault.Target (omega arith))
+
+    pub body_stops : (a b : Option (List ℕ)) → Consumes a b head.bytes.items → IsHeadOf head → Plans head plan → (s : Stop)
+        → IfSome b (λ rest. StopsWithin (rest_of head ++ rest) plan.length s) → IfSome a (λ input. StopsBefore input s)
+    body_stops None b taken is plans s within = tt
+    body_stops (Some input) None taken is plans s within = absurd taken
+    body_stops (Some input) (Some after) taken is plans stop.Unread within = tt
+    body_stops (Some input) (Some after) taken is plans stop.NoMemory within = tt
+    body_stops (Some input) (Some after) taken is plans (stop.Fault found) within = by found within
+      where
+        by : (found : RequestFault) → IsBodyShort (rest_of head ++ after) plan.length found → Asks input (bad found)
+        by fault.BodyShort short =
+            let h = is.1.0 in
+            let at = is.1.1 in
+            let rest = rest_of head ++ after in
+            let planned = plans h at in
+            let below = planned.2 rest in
+            inr (
+              h,
+              rest,
+              reads_on input after head h taken at,
+              is.1.2,
+              short_asked h (seen plan.target) (bytes_pass h rest below) planned.0 rest plan.length short.0 short.1 below planned.1 short.2,
+            )
+        by fault.Head l = absurd l
+        by fault.Target l = absurd l
+        by fault.NoRoute l = absurd l
+        by (fault.Method m) l = absurd l
+        by fault.TransferCoding l = absurd l
+        by fault.NoLength l = absurd l
+        by fault.Length l = absurd l
+        by fault.TooLong l = absurd l
+        by fault.Form l = absurd l
+
+    pub form_stops : (a b : Option (List ℕ)) → Consumes a b head.bytes.items → IsHeadOf head → Plans head plan → (body : List ℕ)
+        → IfSome b (λ rest. IsToldBody (rest_of head ++ rest) plan.length body) → ((wanted : Wanted) → ¬ Means (seen plan.target) body wanted)
+        → IfSome a (λ input. StopsBefore input (stop.Fault fault.Form))
+    form_stops None b taken is plans body has none = tt
+    form_stops (Some input) None taken is plans body has none = absurd taken
+    form_stops (Some input) (Some after) taken is plans body has none =
+        let h = is.1.0 in
+        let at = is.1.1 in
+        let rest = rest_of head ++ after in
+        let planned = plans h at in
+        let below = planned.2 rest in
+        inr (
+          h,
+          rest,
+          reads_on input after head h taken at,
+          is.1.2,
+          form_asked h (seen plan.target) (bytes_pass h rest below) planned.0 rest plan.length body below planned.1 has none,
+        )
+
+    pub asks_wanted : (a b : Option (List ℕ)) → Consumes a b head.bytes.items → IsHeadOf head → Plans head plan → (body : List ℕ)
+        → IfSome b (λ rest. IsToldBody (rest_of head ++ rest) plan.length body) → (wanted : Wanted) → Means (seen plan.target) body wanted
+        → IfSome a (λ input. Asks input (asks_for wanted))
+    asks_wanted None b taken is plans body has wanted means = tt
+    asks_wanted (Some input) None taken is plans body has wanted means = absurd taken
+    asks_wanted (Some input) (Some after) taken is plans body has wanted means =
+        let h = is.1.0 in
+        let at = is.1.1 in
+        let rest = rest_of head ++ after in
+        let planned = plans h at in
+        let below = planned.2 rest in
+        inr (
+          h,
+          rest,
+          reads_on input after head h taken at,
+          is.1.2,
+          wanted_asked h (seen plan.target) (bytes_pass h rest below) planned.0 rest plan.length body wanted below planned.1 has means,
+        )
+
+pub some_weaker : {X : Type 0} (a : Option X) (P Q : X → Type 0) → ((x : X) → P x → Q x) → IfSome a P → IfSome a Q
+some_weaker None P Q f p = tt
+some_weaker (Some x) P Q f p = f x p

@@ -1,0 +1,11 @@
+pub mod Seeking
+pub mod Descending
+pub mod Targets
+pub mod Walks
+pub mod Finding
+pub mod BodyLemmas
+pub mod PlanLemmas
+pub mod Heads
+pub mod ReadSoFar
+pub mod Asking
+pub mod OneAsked

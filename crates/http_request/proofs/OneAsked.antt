@@ -1,0 +1,188 @@
+-- An input asks one thing at most.
+use Rattle.std.proofs.Common.{◌≡◌, ◌<◌, ◌≤◌, ◌⊎◌, ◌∙◌, ◌==◌, if◌then◌else◌, inl, inr, ℕ, List, Option, Some, None, ap, ap₂, arith, refl, sym, subst, take, true}
+use Rattle.std.specs.List.{list_all}
+use Rattle.std.proofs.lemmas.Bool.{cases_lt, true_from_ne_false}
+use Rattle.schedule.specs.Text.{day_text}
+use Rattle.schedule.proofs.TextLemmas.{day_text-injective}
+use Rattle.deposit_name.specs.declared.kinds.Kind.{Kind}
+use Rattle.deposit_name.proofs.NameLemmas.{kind_text-injective}
+use Rattle.desk.specs.declared.grounds.Ground.{Ground}
+use Rattle.desk.specs.Grounds.{ground_text}
+use Rattle.custody_records.specs.Form.{ground_in}
+use Rattle.custody_records.proofs.FieldLemmas.{ground_in-ground_text}
+use Rattle.custody_machine.specs.declared.command.Statement as told
+use Rattle.custody_machine.specs.Machine.{Register, Statement, Check, Release}
+use Rattle.httparse.specs.Grammar.{RequestHead}
+use Rattle.httparse.proofs.GrammarLemmas.{request_unique}
+use Rattle.serde_json.specs.Data.{Data}
+use Rattle.http_request.specs.Asked.{Asked, IsAskedBy, IsBody, IsOneAsked, NoneBelow, Method, RequestFault, Stands, asks_for, bad, fault_number, limit_of, method_of}
+use Rattle.http_request.specs.declared.faults.RequestFault.TheVariants as fault
+use Rattle.http_request.specs.Bodies.{IsJsonOf, StatementTexts, ReleaseTexts, registration_json, statement_json, release_json}
+use Rattle.http_request.specs.BodyReading.{registration_at, statement_at, release_at}
+use Rattle.http_request.specs.Paths.{Target, Registry, Deposit, Statements, ReleasedPart, Notices, Purges, Names, is_target_byte}
+use Rattle.http_request.specs.Paths as paths
+use Rattle.http_request.specs.Wanted.{Wanted, Do, IsStatement, Means, texts_of, handover_texts}
+use Rattle.http_request.proofs.BodyLemmas.{registration_back, statement_back, release_back}
+use Rattle.http_request.proofs.Finding.{one_named}
+use Rattle.http_request.proofs.PlanLemmas.{one_length}
+
+-- ---- a target and a body mean one thing
+
+some_same : {A : Type 0} (a b : A) → Some a ≡ Some b → a ≡ b
+some_same a b e = cc
+
+one_value : (body : List ℕ) (d e : Data) → IsJsonOf body d → IsJsonOf body e → d ≡ e
+one_value body d e h k = some_same d e (sym h.1 ∙ k.1)
+
+one_registration : (a b : List ℕ) → registration_json a ≡ registration_json b → a ≡ b
+one_registration a b e = some_same a b (sym (registration_back a) ∙ ap registration_at e ∙ registration_back b)
+
+one_texts : (a b : StatementTexts) → statement_json a ≡ statement_json b → a ≡ b
+one_texts a b e = some_same a b (sym (statement_back a) ∙ ap statement_at e ∙ statement_back b)
+
+one_handover : (a b : ReleaseTexts) → release_json a ≡ release_json b → a ≡ b
+one_handover a b e = some_same a b (sym (release_back a) ∙ ap release_at e ∙ release_back b)
+
+ground_text-injective : (a b : Ground) → ground_text a ≡ ground_text b → a ≡ b
+ground_text-injective a b e = some_same a b (sym (ground_in-ground_text a) ∙ ap ground_in e ∙ ground_in-ground_text b)
+
+made : List ℕ → ℕ → Kind → ℕ → ℕ → List ℕ → told.Statement
+made tld day kind rev parts id = record { tld = tld; day = day; kind = kind; rev = rev; parts = parts; id = id }
+
+made_same : (tld tld2 : List ℕ) (day day2 : ℕ) (kind kind2 : Kind) (rev rev2 parts parts2 : ℕ) (id id2 : List ℕ)
+    → tld ≡ tld2 → day ≡ day2 → kind ≡ kind2 → rev ≡ rev2 → parts ≡ parts2 → id ≡ id2 → made tld day kind rev parts id ≡ made tld2 day2 kind2 rev2 parts2 id2
+made_same tld tld2 day day2 kind kind2 rev rev2 parts parts2 id id2 a b c d e f = cc
+
+one_statement : (s t : told.Statement) → IsStatement s → IsStatement t → texts_of s ≡ texts_of t → s ≡ t
+unfolding made
+one_statement s t h k e =
+    let day = day_text-injective s.day t.day h.day k.day (ap (λ (x : StatementTexts). x.date) e) in
+    let kind = kind_text-injective s.kind t.kind (ap (λ (x : StatementTexts). x.kind) e) in
+    let tld : s.tld ≡ t.tld = ap (λ (x : StatementTexts). x.tld) e in
+    let rev : s.rev ≡ t.rev = ap (λ (x : StatementTexts). x.revision) e in
+    let parts : s.parts ≡ t.parts = ap (λ (x : StatementTexts). x.parts) e in
+    let id : s.id ≡ t.id = ap (λ (x : StatementTexts). x.id) e in
+    made_same s.tld t.tld s.day t.day s.kind t.kind s.rev t.rev s.parts t.parts s.id t.id tld day kind rev parts id
+
+one_meaning : (target : Target) (body : List ℕ) (v w : Wanted) → Means target body v → Means target body w → v ≡ w
+one_meaning (Registry tld) body v w (in_form, (d, day, json, is)) (in_form2, (e, day2, json2, is2)) =
+    let texts = one_registration (day_text d) (day_text e) (one_value body _ _ json json2) in
+    is ∙ ap (λ (n : ℕ). Do (Register tld n)) (day_text-injective d e day day2 texts) ∙ sym is2
+one_meaning (Deposit name) body v w h k = h ∙ sym k
+one_meaning Statements body v w (s, form, json, is) (t, form2, json2, is2) =
+    let same = one_statement s t form form2 (one_texts (texts_of s) (texts_of t) (one_value body _ _ json json2)) in
+    is ∙ ap (λ (x : told.Statement). Do (Statement x)) same ∙ sym is2
+one_meaning (paths.Check tld date) body v w (in_form, (d, day, text, is)) (in_form2, (e, day2, text2, is2)) =
+    is ∙ ap (λ (n : ℕ). Do (Check tld n)) (day_text-injective d e day day2 (sym text ∙ text2)) ∙ sym is2
+one_meaning (paths.Release reference) body v w (in_form, (tld, reason, known, json, is)) (in_form2, (tld2, reason2, known2, json2, is2)) =
+    let texts = one_handover (handover_texts tld reason) (handover_texts tld2 reason2) (one_value body _ _ json json2) in
+    let same_tld : tld ≡ tld2 = ap (λ (x : ReleaseTexts). x.tld) texts in
+    let same_ground = ground_text-injective reason reason2 (ap (λ (x : ReleaseTexts). x.reason) texts) in
+    is ∙ ap₂ (λ (t : List ℕ) (r : Ground). Do (Release reference t r)) same_tld same_ground ∙ sym is2
+one_meaning (ReleasedPart reference name) body v w h k = h.1 ∙ sym k.1
+one_meaning (Notices tld) body v w h k = h.1 ∙ sym k.1
+one_meaning Purges body v w h k = h ∙ sym k
+
+-- ---- a fault is told by its number, and by the method of a 405
+
+fault_at : ℕ → RequestFault
+fault_at n =
+    if n == 1 then fault.Head else
+    (if n == 2 then fault.Target else
+    (if n == 3 then fault.NoRoute else
+    (if n == 5 then fault.TransferCoding else
+    (if n == 6 then fault.NoLength else
+    (if n == 7 then fault.Length else
+    (if n == 8 then fault.TooLong else
+    (if n == 9 then fault.BodyShort else fault.Form)))))))
+
+fault_back : (f : RequestFault) → (fault_number f ≡ 4) ⊎ (fault_at (fault_number f) ≡ f)
+unfolding fault_at
+fault_back fault.Head = inr refl
+fault_back fault.Target = inr refl
+fault_back fault.NoRoute = inr refl
+fault_back (fault.Method m) = inl refl
+fault_back fault.TransferCoding = inr refl
+fault_back fault.NoLength = inr refl
+fault_back fault.Length = inr refl
+fault_back fault.TooLong = inr refl
+fault_back fault.BodyShort = inr refl
+fault_back fault.Form = inr refl
+
+method_from : (f : RequestFault) → fault_number f ≡ 4 → (m : Method) × (f ≡ fault.Method m)
+method_from (fault.Method m) e = (m, refl)
+method_from fault.Head e = cc
+method_from fault.Target e = cc
+method_from fault.NoRoute e = cc
+method_from fault.TransferCoding e = cc
+method_from fault.NoLength e = cc
+method_from fault.Length e = cc
+method_from fault.TooLong e = cc
+method_from fault.BodyShort e = cc
+method_from fault.Form e = cc
+
+-- ---- a head with the bytes behind it asks one thing
+
+module _ (h : RequestHead) (rest : List ℕ) where
+  bytes_pass : (n : ℕ) → 2 < n → NoneBelow n h rest → list_all is_target_byte h.target ≡ true
+  bytes_pass n above below = true_from_ne_false (list_all is_target_byte h.target) (below fault.Target (omega (arith, above)))
+
+  one_body : (limit : Option ℕ) (a b : List ℕ) → IsBody limit h rest a → IsBody limit h rest b → a ≡ b
+  one_body None a b x y = x ∙ sym y
+  one_body (Some limit) a b x y = x.3 ∙ ap (λ n. take n rest) (one_length _ x.0 y.0 x.1 y.1) ∙ sym y.3
+
+  one_wanted : (v w : Wanted) → IsAskedBy h rest (asks_for v) → IsAskedBy h rest (asks_for w) → v ≡ w
+  one_wanted v w ((t, body, names, is, means), below) ((u, body2, names2, is2, means2), below2) =
+      let same = one_named h.target (bytes_pass 11 (omega arith) below) u t names2 names in
+      let is3 = subst (λ (x : Target). IsBody (limit_of x) h rest body2) same is2 in
+      let means3 = subst (λ (x : Target). Means x body2 w) same means2 in
+      let bodies = one_body (limit_of t) body2 body is3 is in
+      one_meaning t body v w means (subst (λ (b : List ℕ). Means t b w) bodies means3)
+
+  one_method : (f g : RequestFault) → Stands h rest f → Stands h rest g → NoneBelow (fault_number f) h rest → fault_number f ≡ 4 → fault_number g ≡ 4 → f ≡ g
+  one_method f g s t below p q =
+      let m = method_from f p in
+      let k = method_from g q in
+      let a = subst (Stands h rest) m.1 s in
+      let b = subst (Stands h rest) k.1 t in
+      let same = one_named h.target (bytes_pass (fault_number f) (omega (arith, p)) below) b.0 a.0 b.1 a.1 in
+      m.1 ∙ ap fault.Method (a.2 ∙ ap method_of (sym same) ∙ sym b.2) ∙ sym k.1
+
+  one_fault : (f g : RequestFault) → Stands h rest f → Stands h rest g → NoneBelow (fault_number f) h rest → fault_number f ≡ fault_number g → f ≡ g
+  one_fault f g s t below e = by (fault_back f) (fault_back g)
+    where
+      by : (fault_number f ≡ 4) ⊎ (fault_at (fault_number f) ≡ f) → (fault_number g ≡ 4) ⊎ (fault_at (fault_number g) ≡ g) → f ≡ g
+      by (inl p) r = one_method f g s t below p (sym e ∙ p)
+      by (inr p) (inl q) = one_method f g s t below (e ∙ q) q
+      by (inr p) (inr q) = sym p ∙ ap fault_at e ∙ q
+
+  number_small : (f : RequestFault) → fault_number f < 11
+  number_small fault.Head = omega arith
+  number_small fault.Target = omega arith
+  number_small fault.NoRoute = omega arith
+  number_small (fault.Method m) = omega arith
+  number_small fault.TransferCoding = omega arith
+  number_small fault.NoLength = omega arith
+  number_small fault.Length = omega arith
+  number_small fault.TooLong = omega arith
+  number_small fault.BodyShort = omega arith
+  number_small fault.Form = omega arith
+
+  one_asked_by : (a b : Asked) → IsAskedBy h rest a → IsAskedBy h rest b → a ≡ b
+  one_asked_by (bad f) (bad g) (s, below) (t, below2) = by (cases_lt (fault_number f) (fault_number g)) (cases_lt (fault_number g) (fault_number f))
+    where
+      by : (fault_number f < fault_number g) ⊎ (fault_number g ≤ fault_number f) → (fault_number g < fault_number f) ⊎ (fault_number f ≤ fault_number g) → bad f ≡ bad g
+      by (inl less) r = absurd (below2 f less s)
+      by (inr more) (inl less) = absurd (below g less t)
+      by (inr more) (inr more2) = ap bad (one_fault f g s t below (omega (arith, more, more2)))
+  one_asked_by (bad f) (asks_for w) (s, below) (asked, below2) = absurd (below2 f (number_small f) s)
+  one_asked_by (asks_for v) (bad g) (asked, below) (t, below2) = absurd (below g (number_small g) t)
+  one_asked_by (asks_for v) (asks_for w) x y = ap asks_for (one_wanted v w x y)
+
+pub one_asked : IsOneAsked
+one_asked input a b (inl x) (inl y) = x.1 ∙ sym y.1
+one_asked input a b (inl x) (inr (k, rest, reads, short, asked)) = absurd (x.0 k rest reads short)
+one_asked input a b (inr (h, rest, reads, short, asked)) (inl y) = absurd (y.0 h rest reads short)
+one_asked input a b (inr (h, rest, reads, short, asked)) (inr (k, rest2, reads2, short2, asked2)) =
+    let same = request_unique input k h rest2 rest reads2 reads in
+    one_asked_by h rest a b asked (subst (λ (r : List ℕ). IsAskedBy h r b) same.1 (subst (λ (x : RequestHead). IsAskedBy x rest2 b) same.0 asked2))

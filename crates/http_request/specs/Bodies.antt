@@ -1,0 +1,36 @@
+-- The JSON bodies of requests, as the values that a JSON text stands for (RFC 8259).
+use Rattle.std.specs.Prelude.{◌≡◌, ℕ, List, codes, Some, IsUtf8}
+use Rattle.serde_json.specs.Data.{Data, number, unsigned, string, object, no_members, member}
+use Rattle.serde_json.specs.Read.{read}
+
+-- the bytes are a JSON text of this value
+abbrev pub IsJsonOf : List ℕ → Data → Type 0
+IsJsonOf bytes d = IsUtf8 bytes × (read bytes ≡ Some d)
+
+-- the texts and numbers of a statement
+pub record StatementTexts : Type 0 where
+  pub date : List ℕ
+  pub id : List ℕ
+  pub kind : List ℕ
+  pub parts : ℕ
+  pub revision : ℕ
+  pub tld : List ℕ
+
+-- the texts of a release
+pub record ReleaseTexts : Type 0 where
+  pub reason : List ℕ
+  pub tld : List ℕ
+
+-- `{"first":..}`
+abbrev pub registration_json : List ℕ → Data
+registration_json first = object (member (codes "first") (string first) no_members)
+
+-- `{"date":..,"id":..,"kind":..,"parts":..,"revision":..,"tld":..}`
+abbrev pub statement_json : StatementTexts → Data
+statement_json s =
+    object (member (codes "date") (string s.date) (member (codes "id") (string s.id) (member (codes "kind") (string s.kind)
+    (member (codes "parts") (number (unsigned s.parts)) (member (codes "revision") (number (unsigned s.revision)) (member (codes "tld") (string s.tld) no_members))))))
+
+-- `{"ground":..,"tld":..}`
+abbrev pub release_json : ReleaseTexts → Data
+release_json r = object (member (codes "ground") (string r.reason) (member (codes "tld") (string r.tld) no_members))

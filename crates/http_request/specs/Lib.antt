@@ -1,0 +1,14 @@
+pub mod Asked
+pub mod Bodies
+pub mod Body
+pub mod BodyReading
+pub mod BodyTexts
+pub mod Fields
+pub mod Head
+pub mod Paths
+pub mod Plans
+pub mod Stops
+pub mod Table
+pub mod Targets
+pub mod Wanted
+pub mod WantedSeen

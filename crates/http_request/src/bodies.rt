@@ -1,0 +1,110 @@
+//! What the JSON body of a request stands for.
+ghost use Rattle.std.specs.Prelude.{◌≡◌, ◌≤◌, ℕ, Some, IfSome, option_map, string_bytes};
+ghost use Rattle.serde_json.specs.Data.{Data};
+ghost use Rattle.serde_json.specs.View as json;
+ghost use Rattle.serde_json.specs.View.{members_view};
+ghost use Rattle.http_request.specs.BodyReading.{member_at, end_of, text_at, number_at, registration_at, statement_at, release_at};
+ghost use Rattle.http_request.specs.BodyTexts.{statement_texts, release_texts};
+
+use serde_json::Value;
+use std::collections::btree_map::Iter;
+
+/// The texts and numbers of a statement.
+#[derive(Clone, Copy, Debug)]
+pub(crate) struct StatementFields<'v> {
+    pub(crate) date: &'v str,
+    pub(crate) id: &'v str,
+    pub(crate) kind: &'v str,
+    pub(crate) parts: u64,
+    pub(crate) revision: u64,
+    pub(crate) tld: &'v str,
+}
+
+/// The texts of a release.
+#[derive(Clone, Copy, Debug)]
+pub(crate) struct ReleaseFields<'v> {
+    pub(crate) reason: &'v str,
+    pub(crate) tld: &'v str,
+}
+
+/// The value of the next member, where it has that name.
+fn next_member<'v>(members: &mut Iter<'v, String, Value>, name: &str) -> Option<&'v Value>
+    ensures { option_map (λ v. (json.view v.now, members_view members.new)) result ≡ member_at name.now (members_view members.old) }
+{
+    let (key, value) = members.next()?;
+    if key.as_str() == name {
+        Some(value)
+    } else {
+        None
+    }
+}
+
+/// That there is no further member.
+fn end(members: &mut Iter<'_, String, Value>) -> Option<()>
+    ensures { result ≡ end_of (members_view members.old) }
+{
+    match members.next() {
+        Some(_) => None,
+        None => Some(()),
+    }
+}
+
+/// The string of the next member, where it has that name.
+fn next_text<'v>(members: &mut Iter<'v, String, Value>, name: &str) -> Option<&'v str>
+    ensures { option_map (λ t. (t.now, members_view members.new)) result ≡ text_at name.now (members_view members.old) }
+{
+    next_member(members, name)?.as_str()
+}
+
+/// The whole number of the next member, where it has that name.
+fn next_number(members: &mut Iter<'_, String, Value>, name: &str) -> Option<u64>
+    ensures { option_map (λ n. (n, members_view members.new)) result ≡ number_at name.now (members_view members.old) }
+{
+    next_member(members, name)?.as_u64()
+}
+
+/// The first day of a registration.
+#[tactic(auto, unfolding(crate::specs::BodyReading::registration_at))]
+pub(crate) fn registration_text(value: &Value) -> Option<&str>
+    ensures { option_map (λ t. t.now) result ≡ registration_at (json.view value.now) }
+{
+    let mut members = value.as_object()?.iter();
+    let first = next_text(&mut members, "first")?;
+    end(&mut members)?;
+    Some(first)
+}
+
+/// The texts and numbers of a statement.
+#[tactic(auto, unfolding(crate::specs::BodyReading::statement_at))]
+pub(crate) fn statement_fields(value: &Value) -> Option<StatementFields<'_>>
+    ensures { option_map statement_texts result ≡ statement_at (json.view value.now) }
+{
+    let mut members = value.as_object()?.iter();
+    let date = next_text(&mut members, "date")?;
+    let id = next_text(&mut members, "id")?;
+    let kind = next_text(&mut members, "kind")?;
+    let parts = next_number(&mut members, "parts")?;
+    let revision = next_number(&mut members, "revision")?;
+    let tld = next_text(&mut members, "tld")?;
+    end(&mut members)?;
+    Some(StatementFields {
+        date,
+        id,
+        kind,
+        parts,
+        revision,
+        tld,
+    })
+}
+
+/// The texts of a release.
+#[tactic(auto, unfolding(crate::specs::BodyReading::release_at))]
+pub(crate) fn release_fields(value: &Value) -> Option<ReleaseFields<'_>>
+    ensures { option_map release_texts result ≡ release_at (json.view value.now) }
+{
+    let mut members = value.as_object()?.iter();
+    let reason = next_text(&mut members, "ground")?;
+    let tld = next_text(&mut members, "tld")?;
+    end(&mut members)?;
+    Some(ReleaseFields { reason, tld })
+}

@@ -1,0 +1,51 @@
+//! The fields of a head.
+ghost use Rattle.std.specs.Prelude.{◌≡◌, ◌≤◌, ◌^◌, ◌<◌, ℕ, length, map, All, IfSome, IfNone, Some};
+ghost use Rattle.httparse.specs.Spans.{IsHeaderWithin, header_bytes};
+ghost use Rattle.http_request.specs.Asked.{values_named};
+ghost use Rattle.http_request.specs.Fields.{AreNamed, IsNumeral};
+
+use httparse::spans::HeaderSpan;
+
+/// The values of the fields of one name.
+#[derive(Clone, Copy, Debug, PartialEq, Eq)]
+pub(crate) enum Named<'b> {
+    None,
+    One(&'b [u8]),
+    Several,
+}
+
+/// The values of the fields of a name.
+pub(crate) fn values_of<'b>(bytes: &'b [u8], headers: &[HeaderSpan], name: &[u8]) -> Named<'b>
+    requires { All (IsHeaderWithin (length bytes.now)) headers.now }
+    ensures { AreNamed (values_named name.now (map (header_bytes bytes.now) headers.now)) result }
+{
+    let Some((header, rest)) = headers.split_first() else {
+        return Named::None;
+    };
+    let more = values_of(bytes, rest, name);
+    if !header.name.of(bytes).eq_ignore_ascii_case(name) {
+        return more;
+    }
+    match more {
+        Named::None => Named::One(header.value.of(bytes)),
+        Named::One(_) | Named::Several => Named::Several,
+    }
+}
+
+/// The number that 1 to 10 digits write.
+pub(crate) fn number_of(digits: &[u8]) -> Option<u64>
+    ensures found { IfSome result (IsNumeral digits.now) }
+    ensures none { IfNone result ((n : ℕ) → ¬ IsNumeral digits.now n) }
+{
+    if digits.is_empty() || digits.len() > 10 {
+        return None;
+    }
+    let mut number: u64 = 0;
+    for b in digits {
+        if !b.is_ascii_digit() {
+            return None;
+        }
+        number = number * 10 + u64::from(*b - b'0');
+    }
+    Some(number)
+}

@@ -1,0 +1,7 @@
+//! Laws of requests.
+ghost use Rattle.http_request.specs.Asked.{IsOneAsked};
+
+/// An input asks one thing at most: no two commands, nor a command where it has a fault.
+pub fn law_asked()
+    ensures { IsOneAsked }
+{}

@@ -1,0 +1,186 @@
+//! What a target and a body stand for.
+ghost use Rattle.std.specs.Prelude.{◌≡◌, ◌≤◌, ℕ, List, Err, Some, IfOk, IfSome};
+ghost use Rattle.schedule.specs.Schedule.{IsDay};
+ghost use Rattle.schedule.specs.Text.{day_text};
+ghost use Rattle.deposit_name.specs.Identifiers.{IsTld};
+ghost use Rattle.custody_machine.specs.declared.command.Statement as told;
+ghost use Rattle.serde_json.specs.Data.{Data};
+ghost use Rattle.serde_json.specs.View as json;
+ghost use Rattle.http_request.specs.Bodies.{IsJsonOf, registration_json, statement_json, release_json};
+ghost use Rattle.http_request.specs.BodyTexts.{statement_texts, release_texts};
+ghost use Rattle.http_request.specs.Wanted.{Means, IsStatement, texts_of, handover_texts};
+ghost use Rattle.http_request.specs.Wanted as asked;
+ghost use Rattle.http_request.specs.WantedSeen.{wanted_of};
+ghost use Rattle.http_request.specs.Targets.{seen};
+
+use crate::bodies::{
+    ReleaseFields, StatementFields, registration_text, release_fields, statement_fields,
+};
+use crate::{Target, Wanted};
+use custody_machine::{Command, Statement};
+use deposit_name::{DepositId, Kind, Reference, Tld};
+use desk::{Ground, Revision};
+use schedule::{Day, read_day};
+use serde_json::{Category, Value};
+use std::alloc::Global;
+
+/// Why a target and a body stand for nothing.
+#[derive(Clone, Copy, Debug, PartialEq, Eq)]
+pub enum BodyFault {
+    /// A parameter or the body is out of form.
+    Form,
+    /// Memory was refused.
+    NoMemory,
+}
+
+/// The JSON value of a body.
+fn value_of(alloc: Global, body: &[u8]) -> Result<Value, BodyFault>
+    ensures found { IfOk result (λ v. IsJsonOf body.now (json.view v)) }
+    ensures form { result ≡ Err BodyFault.Form → (d : Data) → ¬ IsJsonOf body.now d }
+{
+    match Value::from_slice(alloc, body) {
+        Ok(value) => Ok(value),
+        Err(error) if error.classify() == Category::Memory => Err(BodyFault::NoMemory),
+        Err(_) => Err(BodyFault::Form),
+    }
+}
+
+/// The first day that a registration tells.
+#[tactic(auto, using(crate::proofs::BodyLemmas::registration_is, crate::proofs::BodyLemmas::registration_back))]
+fn first_day_in(value: &Value) -> Option<Day>
+    ensures found { IfSome result (λ day. IsDay day × (json.view value.now ≡ registration_json (day_text day))) }
+    ensures only { (day : ℕ) → IsDay day → json.view value.now ≡ registration_json (day_text day) → result ≡ Some day }
+{
+    let text = registration_text(value)?;
+    read_day(text.as_bytes())
+}
+
+fn first_day_of(alloc: Global, body: &[u8]) -> Result<Day, BodyFault>
+    ensures found { IfOk result (λ day. IsDay day × IsJsonOf body.now (registration_json (day_text day))) }
+    ensures form { result ≡ Err BodyFault.Form → (day : ℕ) → IsDay day → ¬ IsJsonOf body.now (registration_json (day_text day)) }
+{
+    let value = value_of(alloc, body)?;
+    first_day_in(&value).ok_or(BodyFault::Form)
+}
+
+/// A number of at most so much, in a byte.
+fn at_most(number: u64, limit: u8) -> Option<u8>
+    ensures found { IfSome result (λ n. (n ≡ number) × (number ≤ limit)) }
+    ensures only { number ≤ limit → result ≡ Some number }
+{
+    if number <= u64::from(limit) {
+        Some(number as u8)
+    } else {
+        None
+    }
+}
+
+/// The statement of which these are the texts.
+fn statement_in(fields: &StatementFields<'_>) -> Option<Statement>
+    ensures found { IfSome result (λ s. IsStatement s × (statement_texts fields.now ≡ texts_of s)) }
+    ensures only { (s : told.Statement) → IsStatement s → statement_texts fields.now ≡ texts_of s → result ≡ Some s }
+{
+    let day = read_day(fields.date.as_bytes())?;
+    let id = DepositId::parse(fields.id.as_bytes())?;
+    let kind = Kind::parse(fields.kind.as_bytes())?;
+    let parts = at_most(fields.parts, 8)?;
+    let rev = Revision::new(at_most(fields.revision, 99)?)?;
+    let tld = Tld::parse(fields.tld.as_bytes())?;
+    if parts == 0 {
+        return None;
+    }
+    Some(Statement {
+        tld,
+        day,
+        kind,
+        rev,
+        parts,
+        id,
+    })
+}
+
+/// What an operator states.
+#[tactic(auto, using(crate::proofs::BodyLemmas::statement_is, crate::proofs::BodyLemmas::statement_back))]
+fn statement_at(value: &Value) -> Option<Statement>
+    ensures found { IfSome result (λ s. IsStatement s × (json.view value.now ≡ statement_json (texts_of s))) }
+    ensures only { (s : told.Statement) → IsStatement s → json.view value.now ≡ statement_json (texts_of s) → result ≡ Some s }
+{
+    statement_in(&statement_fields(value)?)
+}
+
+fn statement_of(alloc: Global, body: &[u8]) -> Result<Statement, BodyFault>
+    ensures found { IfOk result (λ s. IsStatement s × IsJsonOf body.now (statement_json (texts_of s))) }
+    ensures form { result ≡ Err BodyFault.Form → (s : told.Statement) → IsStatement s → ¬ IsJsonOf body.now (statement_json (texts_of s)) }
+{
+    let value = value_of(alloc, body)?;
+    statement_at(&value).ok_or(BodyFault::Form)
+}
+
+/// The registry of a release, and its ground, of which these are the texts.
+fn handover_in(fields: &ReleaseFields<'_>) -> Option<(Tld, Ground)>
+    ensures found { IfSome result (λ h. IsTld h.0 × (release_texts fields.now ≡ handover_texts h.0 h.1)) }
+    ensures only { (tld : List ℕ) (reason : Ground) → IsTld tld
+        → release_texts fields.now ≡ handover_texts tld reason → result ≡ Some (tld, reason) }
+{
+    let reason = Ground::parse(fields.reason)?;
+    let tld = Tld::parse(fields.tld.as_bytes())?;
+    Some((tld, reason))
+}
+
+/// Which registry's deposits are to be handed over, and on which ground.
+#[tactic(auto, using(crate::proofs::BodyLemmas::release_is))]
+fn handover_at(value: &Value) -> Option<(Tld, Ground)>
+    ensures found { IfSome result (λ h.
+        IsTld h.0 × (json.view value.now ≡ release_json (handover_texts h.0 h.1))) }
+    ensures only { (tld : List ℕ) (reason : Ground) → IsTld tld
+        → json.view value.now ≡ release_json (handover_texts tld reason) → result ≡ Some (tld, reason) }
+{
+    handover_in(&release_fields(value)?)
+}
+
+fn handover_of(alloc: Global, body: &[u8]) -> Result<(Tld, Ground), BodyFault>
+    ensures found { IfOk result (λ h. IsTld h.0 × IsJsonOf body.now (release_json (handover_texts h.0 h.1))) }
+    ensures form { result ≡ Err BodyFault.Form → (tld : List ℕ) (reason : Ground) → IsTld tld
+        → ¬ IsJsonOf body.now (release_json (handover_texts tld reason)) }
+{
+    let value = value_of(alloc, body)?;
+    handover_at(&value).ok_or(BodyFault::Form)
+}
+
+/// What a target and a body stand for.
+pub fn meaning_of<'a>(
+    alloc: Global,
+    target: Target<'a>,
+    body: &'a [u8],
+) -> Result<Wanted<'a>, BodyFault>
+    ensures found { IfOk result (λ w. Means (seen target.entry) body.entry.now (wanted_of w)) }
+    ensures form { result ≡ Err BodyFault.Form → (w : asked.Wanted) → ¬ Means (seen target.entry) body.entry.now w }
+{
+    match target {
+        Target::Registry(text) => {
+            let tld = Tld::parse(text).ok_or(BodyFault::Form)?;
+            Ok(Wanted::Do(Command::Register(tld, first_day_of(alloc, body)?)))
+        }
+        Target::Deposit(name) => Ok(Wanted::Do(Command::Receive(name, body))),
+        Target::Statements => Ok(Wanted::Do(Command::Statement(statement_of(alloc, body)?))),
+        Target::Check(text, date) => {
+            let tld = Tld::parse(text).ok_or(BodyFault::Form)?;
+            let day = read_day(date).ok_or(BodyFault::Form)?;
+            Ok(Wanted::Do(Command::Check(tld, day)))
+        }
+        Target::Release(text) => {
+            let reference = Reference::parse(text).ok_or(BodyFault::Form)?;
+            let (tld, reason) = handover_of(alloc, body)?;
+            Ok(Wanted::Do(Command::Release(reference, tld, reason)))
+        }
+        Target::ReleasedPart(text, name) => {
+            let reference = Reference::parse(text).ok_or(BodyFault::Form)?;
+            Ok(Wanted::Fetch(reference, name))
+        }
+        Target::Notices(text) => {
+            let tld = Tld::parse(text).ok_or(BodyFault::Form)?;
+            Ok(Wanted::Report(tld))
+        }
+        Target::Purges => Ok(Wanted::Do(Command::Purge)),
+    }
+}

@@ -1,0 +1,113 @@
+//! What a head asks for, and how long the body is that comes with it.
+ghost use Rattle.std.specs.Prelude.{◌≡◌, ◌≤◌, ℕ, List, [], length, drop, take, map, true, false, Some, IfOk, IfErr, IfSome, IfNone, IsTrue, All};
+ghost use Rattle.std.specs.List.{list_all};
+ghost use Rattle.httparse.specs.Grammar.{RequestHead};
+ghost use Rattle.httparse.specs.Spans.{name_and_value};
+ghost use Rattle.http_request.specs.Asked.{values_named, Stands, NoneBelow, fault_number};
+ghost use Rattle.http_request.specs.Fields.{AreNamed};
+ghost use Rattle.http_request.specs.Head.{IsAt, IsHeadOf};
+ghost use Rattle.http_request.specs.Paths.{is_target_byte};
+ghost use Rattle.http_request.specs.Plans.{IsLengthFault, FitsLength, IsPlanned, IsReached};
+ghost use Rattle.http_request.specs.Targets.{seen};
+
+use crate::fields::{Named, number_of, values_of};
+use crate::{Head, RequestFault, Routes, Target};
+use std::str;
+
+/// What a head asks for: its target, and the length of the body where the route takes one.
+#[derive(Clone, Copy, Debug)]
+pub struct Plan<'h> {
+    pub target: Target<'h>,
+    pub length: Option<u64>,
+}
+
+fn is_target_byte(b: u8) -> bool
+    ensures { result ≡ is_target_byte b }
+{
+    b.is_ascii_alphanumeric() || b == b'/' || b == b'-' || b == b'_' || b == b'.'
+}
+
+fn has_target_bytes(bytes: &[u8]) -> bool
+    ensures { result ≡ list_all is_target_byte bytes.now }
+{
+    bytes.iter().all(|b| is_target_byte(*b))
+}
+
+/// The target as a text, where each byte may stand in one.
+#[tactic(auto, using(crate::proofs::Finding::target_text_utf8))]
+fn target_text(bytes: &[u8]) -> Option<&str>
+    ensures found { IfSome result (λ text. (text.now ≡ bytes.now) × IsTrue (list_all is_target_byte bytes.now)) }
+    ensures none { IfNone result (list_all is_target_byte bytes.now ≡ false) }
+{
+    if has_target_bytes(bytes) {
+        str::from_utf8(bytes).ok()
+    } else {
+        None
+    }
+}
+
+/// The length that the fields tell, where the route takes a body.
+fn length_of(told: Named<'_>, limit: Option<u64>) -> Result<Option<u64>, RequestFault>
+    ensures ok { IfOk result (λ n. (values : List (List ℕ)) → AreNamed values told.entry → FitsLength limit values n) }
+    ensures err { IfErr result (λ fault. (values : List (List ℕ)) → AreNamed values told.entry → IsLengthFault limit values fault) }
+{
+    let Some(limit) = limit else {
+        return Ok(None);
+    };
+    match told {
+        Named::None => Err(RequestFault::NoLength),
+        Named::Several => Err(RequestFault::Length),
+        Named::One(value) => match number_of(value) {
+            None => Err(RequestFault::Length),
+            Some(n) if n > limit => Err(RequestFault::TooLong),
+            Some(n) => Ok(Some(n)),
+        },
+    }
+}
+
+/// The target of a head with its route's method, or the least fault that stands of these.
+fn read_target<'h>(routes: &Routes, head: &'h Head) -> Result<Target<'h>, RequestFault>
+    requires { IsHeadOf head.now }
+    ensures ok { IfOk result (λ target. (h : RequestHead) → IsAt head.now h → IsReached h (seen target)) }
+    ensures err { IfErr result (λ fault. (h : RequestHead) → IsAt head.now h
+        → (rest : List ℕ) → Stands h rest fault × NoneBelow (fault_number fault) h rest) }
+{
+    let bytes = head.bytes.as_slice();
+    let path = target_text(head.spans.path.of(bytes)).ok_or(RequestFault::Target)?;
+    let target = routes.find(path).ok_or(RequestFault::NoRoute)?;
+    let method = target.method();
+    if head.spans.method.of(bytes) != method.as_str().as_bytes() {
+        return Err(RequestFault::Method(method));
+    }
+    Ok(target)
+}
+
+/// The values of the fields of a name.
+fn told<'h>(head: &'h Head, name: &[u8]) -> Named<'h>
+    requires { IsHeadOf head.now }
+    ensures { (h : RequestHead) → IsAt head.now h → AreNamed (values_named name.now (map name_and_value h.fields)) result }
+{
+    values_of(
+        head.bytes.as_slice(),
+        &head.headers[..head.spans.headers],
+        name,
+    )
+}
+
+/// What a head asks for, or the least fault that stands of the head alone.
+pub fn read_plan<'h>(routes: &Routes, head: &'h Head) -> Result<Plan<'h>, RequestFault>
+    requires { IsHeadOf head.now }
+    ensures ok { IfOk result (λ p. (h : RequestHead) → IsAt head.now h → IsPlanned h p) }
+    ensures err { IfErr result (λ fault. (h : RequestHead) → IsAt head.now h
+        → (rest : List ℕ) → Stands h rest fault × NoneBelow (fault_number fault) h rest) }
+{
+    let target = read_target(routes, head)?;
+    let Named::None = told(head, b"transfer-encoding") else {
+        return Err(RequestFault::TransferCoding);
+    };
+    let values = told(head, b"content-length");
+    match length_of(values, target.limit()) {
+        Ok(length) => Ok(Plan { target, length }),
+        Err(fault) => Err(fault),
+    }
+}

@@ -1,0 +1,91 @@
+//! Connections, one after the other.
+use crate::client::{REQUEST_SECONDS, RESPONSE_SECONDS, Timed, end_connection};
+use crate::clock::moment_of;
+use custody::Custody;
+use http_api::{Api, ServeError};
+use schedule::Sec;
+use sqlite::Alter;
+use std::alloc::Global;
+use std::fmt;
+use std::io::{self, Write};
+use std::net::{TcpListener, TcpStream};
+use std::time::Clock;
+use vault_volume::Volume;
+
+/// Why no further connection is served. It prints as its text.
+#[derive(Clone, Copy, Debug, PartialEq, Eq)]
+pub enum ServeFault {
+    /// The listening socket fails.
+    Socket,
+    /// The clock fails, or tells a moment out of range.
+    Clock,
+}
+
+impl fmt::Display for ServeFault {
+    fn fmt<W: fmt::Write>(&self, f: &mut fmt::Formatter<W>) -> fmt::Result {
+        f.write_str(match self {
+            ServeFault::Socket => "socket failed",
+            ServeFault::Clock => "clock failed",
+        })
+    }
+}
+
+/// The next connection, if one is there. One that was given up before it is accepted is none.
+fn next_client(listener: &TcpListener) -> Result<Option<TcpStream>, ServeFault> {
+    match listener.accept() {
+        Ok((stream, _)) => Ok(Some(stream)),
+        Err(error) => match error.kind() {
+            io::ErrorKind::ConnectionAborted | io::ErrorKind::Interrupted => Ok(None),
+            _ => Err(ServeFault::Socket),
+        },
+    }
+}
+
+/// Serves one connection: one request, one response.
+fn serve_client<C: Clock, V: Volume, S: Alter>(
+    alloc: Global,
+    clock: &C,
+    api: &Api,
+    stream: &TcpStream,
+    custody: &mut Custody<V, S>,
+    now: Sec,
+) -> Result<(), ServeError> {
+    let Ok(mut reader) = Timed::new(stream, clock, REQUEST_SECONDS) else {
+        return Err(ServeError::Read);
+    };
+    let Ok(mut writer) = Timed::new(stream, clock, RESPONSE_SECONDS) else {
+        return Err(ServeError::Read);
+    };
+    api.serve_one(alloc, &mut reader, &mut writer, custody, now)?;
+    end_connection(stream, clock);
+    Ok(())
+}
+
+/// Serves so many connections, each at its moment: the one that is given, or that of the clock. One that
+/// fails is a line among the errors, and counts.
+pub fn serve_connections<C: Clock, V: Volume, S: Alter, E: Write>(
+    alloc: Global,
+    clock: &C,
+    api: &Api,
+    listener: &TcpListener,
+    count: u32,
+    custody: &mut Custody<V, S>,
+    now: Option<Sec>,
+    err: &mut E,
+) -> Result<(), ServeFault> {
+    for _ in 0..count {
+        let client = next_client(listener)?;
+        let now = match now {
+            Some(now) => now,
+            None => moment_of(clock).ok_or(ServeFault::Clock)?,
+        };
+        let served = match &client {
+            Some(stream) => serve_client(alloc, clock, api, stream, custody, now),
+            None => Err(ServeError::Read),
+        };
+        if let Err(error) = served {
+            let _ = writeln!(err, "{error}");
+        }
+    }
+    Ok(())
+}

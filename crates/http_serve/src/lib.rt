@@ -1,0 +1,9 @@
+//! Connections to a custody, one after the other: each has one request and its response.
+#![tactic(auto)]
+
+mod client;
+mod clock;
+mod connections;
+
+pub use clock::moment_of;
+pub use connections::{ServeFault, serve_connections};
