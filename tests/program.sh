@@ -352,6 +352,77 @@ part example_2027-08-04_diff_S1_R0.ryde 16384 held $later
 part $name 4096 held $later
 free 0 of 7" "" state parts
 
+echo "== a release is recorded once, and lists what is held"
+handed="released R-1 example operator $later 3
+example_2026-08-04_diff_S1_R0.ryde
+example_2027-08-04_diff_S1_R0.ryde
+$name"
+expect 2 "" "bad value for REF" release parts R_1 example operator
+expect 2 "" "bad value for GROUND" release parts R-1 example because
+expect 1 "" "Q2 registry unknown" release parts R-1 other five_failed --now $later
+expect 1 "" "Q16 ground does not stand" release parts R-1 example five_failed --now $later
+expect 1 "" "Q16 ground does not stand" release parts R-1 example sunday_failed --now $later
+expect 0 "$handed" "" release parts R-1 example operator --now $later
+expect 1 "" "Q17 reference used" release parts R-1 example order --now $later
+expect 0 "dropped 3" "" purge parts --now 2029-01-01T00:00:00Z
+expect 0 "$handed" "" release parts R-1 example operator --now 2029-01-01T00:00:00Z
+expect 0 "released R-2 example audit 2029-01-01T00:00:00Z 0" "" release parts R-2 example audit --now 2029-01-01T00:00:00Z
+expect 0 "$registry
+part example_2026-08-03_diff_S1_R0.ryde 12288 dropped 2026-08-03T01:00:00Z
+part example_2026-08-04_diff_S1_R0.ryde 8192 dropped 2026-08-04T01:00:00Z
+part example_2027-08-04_diff_S1_R0.ryde 16384 dropped $later
+part $name 4096 dropped $later
+release R-1 example operator $later 3
+release R-2 example audit 2029-01-01T00:00:00Z 0
+free 7 of 7" "" state parts
+if command -v sqlite3 > /dev/null; then
+    cp -r parts handed
+    sqlite3 handed/custody.db "UPDATE handover SET names = 'example_2026-08-05_diff_S1_R0.ryde' || char(10) WHERE reference = 'R-1'"
+    expect 3 "" "C5 damaged H7" state handed
+    sqlite3 handed/custody.db "UPDATE handover SET names = 'example_2026-08-04_diff_S1_R0.ryde' WHERE reference = 'R-1'"
+    expect 3 "" "C5 damaged H4" state handed
+fi
+
+echo "== a part of a release is fetched"
+vault given 8
+diff0=example_2026-08-03_diff_S1_R0.ryde
+diff_deposit 2026-08-03 20260802001 > in/$diff0
+expect 0 "received $name0 1422 $ten" "" put given deposit/$name0 --now $ten
+expect 0 "received $diff0 583 2026-08-03T10:00:00Z" "" put given in/$diff0 --now 2026-08-03T10:00:00Z
+expect 0 "released R-1 example operator 2026-08-03T12:00:00Z 2
+$name0
+$diff0" "" release given R-1 example operator --now 2026-08-03T12:00:00Z
+# fetched NAME FILE: the part is fetched, and is the file, with nothing else
+fetched() {
+    "$program" fetch given R-1 "$1" > part 2> part.err
+    check "$1 is fetched" test $? = 0 -a ! -s part.err
+    check "and it is as it was sent" cmp -s part "$2"
+}
+fetched $name0 deposit/$name0
+fetched $diff0 in/$diff0
+expect 1 "" "Q18 not in release" fetch given R-1 x
+expect 1 "" "Q18 not in release" fetch given R-1 ""
+expect 1 "" "Q19 release unknown" fetch given R-9 $name0
+expect 2 "" "bad value for REF" fetch given R_1 $name0
+expect 3 "" "file failed: nowhere: folder missing" fetch nowhere R-1 $name0
+compare 3 "" "" "a full device" sh -c "'$program' fetch given R-1 $name0 > /dev/full"
+# The reader has gone when the part is written.
+(trap '' PIPE; sleep 1; "$program" fetch given R-1 $name0 2> pipe.err; echo $? > pipe.status) | true
+check "a closed pipe is told" test "$(cat pipe.status)" = 3 -a ! -s pipe.err
+(sleep 1; "$program" fetch given R-1 $name0 2> pipe.err; echo $? > pipe.status) | true
+check "a closed pipe is told" test "$(cat pipe.status)" = 3 -a ! -s pipe.err
+cp -r given spoiled
+printf x | dd of=spoiled/vault.vol bs=1 seek=4096 conv=notrunc 2> /dev/null
+expect 3 "" "C5 damaged H8" fetch spoiled R-1 $name0
+cp -r given older
+expect 0 "dropped 2" "" purge older --now 2027-08-04T00:00:00Z
+expect 1 "" "Q6 dropped after keeping" fetch older R-1 $name0
+expect 1 "" "Q18 not in release" fetch older R-1 x
+if command -v sqlite3 > /dev/null; then
+    sqlite3 given/custody.db "UPDATE handover SET names = '$name0' || char(10) || 'x' || char(10)"
+    expect 3 "" "C5 damaged H7" fetch given R-1 x
+fi
+
 echo "== the moment of the clock"
 today=$(date -u +%F)
 part=clock_${today}_full_S1_R0.ryde

@@ -1,6 +1,8 @@
 //! The files: the two of a vault's folder, and the file that is put.
-ghost use Rattle.std.specs.Prelude.{◌≡◌, IfOk};
+ghost use Rattle.std.specs.Prelude.{◌≡◌, true, false, IfOk};
 ghost use Rattle.vault_volume.specs.declared.file.FileVolume.{FileVolume};
+ghost use Rattle.custody_store.specs.Standing.{standing};
+ghost use Rattle.custody.specs.Opening.{HasAllOrNone, HasNoRecord};
 
 use crate::stop::Stop;
 use crate::vault::Ended;
@@ -11,6 +13,13 @@ use std::alloc::{AllocError, Global};
 use std::fs;
 use std::io::{self, Read};
 use vault_volume::{FileError, FileVolume, Volume};
+
+/// The volume of a folder, and whether it was made anew.
+#[derive(Drop)]
+pub struct Found {
+    pub volume: FileVolume,
+    pub is_new: bool,
+}
 
 /// The database in a file.
 pub type Database = Connection<FileStore<File>>;
@@ -33,8 +42,10 @@ pub fn read_file(rt: &HostRuntime, path: &str) -> Result<Vec<u8>, Stop> {
 }
 
 /// Opens the two files of a folder, which have to be there.
-pub fn find(rt: &HostRuntime, folder: &str) -> Result<(FileVolume, Database), Stop>
-    ensures { IfOk result (λ files. ⟦<FileVolume as Volume>⟧.failures files.0 ≡ 0) }
+pub fn find(rt: &HostRuntime, folder: &str) -> Result<(Found, Database), Stop>
+    ensures failures { IfOk result (λ files. ⟦<FileVolume as Volume>⟧.failures files.0.volume ≡ 0) }
+    // It makes no volume.
+    ensures found { IfOk result (λ files. files.0.is_new ≡ false) }
 {
     find_folder(rt, folder)?;
     let volume = open_volume(rt, folder)?;
@@ -42,8 +53,8 @@ pub fn find(rt: &HostRuntime, folder: &str) -> Result<(FileVolume, Database), St
 }
 
 /// Makes the two files of a folder. A volume of which the database has a record is left as it is.
-pub fn make(rt: &HostRuntime, folder: &str, blocks: u32) -> Result<(FileVolume, Database), Stop>
-    ensures { IfOk result (λ files. ⟦<FileVolume as Volume>⟧.failures files.0 ≡ 0) }
+pub fn make(rt: &HostRuntime, folder: &str, blocks: u32) -> Result<(Found, Database), Stop>
+    ensures { IfOk result (λ files. ⟦<FileVolume as Volume>⟧.failures files.0.volume ≡ 0) }
 {
     find_folder(rt, folder)?;
     let path = database_path(rt.alloc(), folder)?;
@@ -52,11 +63,7 @@ pub fn make(rt: &HostRuntime, folder: &str, blocks: u32) -> Result<(FileVolume, 
 }
 
 /// The volume of a folder with its database, which has to be there.
-fn with_database<V: Volume>(
-    rt: &HostRuntime,
-    folder: &str,
-    volume: V,
-) -> Result<(V, Database), Stop>
+fn with_database<V: Drop>(rt: &HostRuntime, folder: &str, volume: V) -> Result<(V, Database), Stop>
     ensures { IfOk result (λ files. files.0 ≡ volume) }
 {
     let path = there(rt, database_path(rt.alloc(), folder)?)?;
@@ -69,10 +76,14 @@ fn with_volume<S: Alter + Drop>(
     rt: &HostRuntime,
     folder: &str,
     blocks: u32,
-    mut db: Connection<S>,
-) -> Result<(FileVolume, Connection<S>), Stop>
-    ensures { IfOk result (λ files. ⟦<FileVolume as Volume>⟧.failures files.0 ≡ 0) }
+    db: Connection<S>,
+) -> Result<(Found, Connection<S>), Stop>
+    ensures failures { IfOk result (λ files. ⟦<FileVolume as Volume>⟧.failures files.0.volume ≡ 0) }
+    // A volume is made anew only where the database has no record of one.
+    ensures made { HasAllOrNone (standing S.Store db) → IfOk result (λ files. (standing S.Store files.1).IsHonest
+        → files.0.is_new ≡ true → HasNoRecord (standing S.Store db).rows) }
 {
+    let mut db = db;
     let volume = match has_record(&mut db) {
         Ok(true) => open_volume(rt, folder)?,
         Ok(false) => create_volume(rt, folder, blocks)?,
@@ -132,24 +143,32 @@ fn volume_path(alloc: Global, folder: &str) -> Result<String, AllocError> {
     format!(in alloc; "{folder}/vault.vol")
 }
 
-fn open_volume(rt: &HostRuntime, folder: &str) -> Result<FileVolume, Stop>
-    ensures { IfOk result (λ v. ⟦<FileVolume as Volume>⟧.failures v ≡ 0) }
+fn open_volume(rt: &HostRuntime, folder: &str) -> Result<Found, Stop>
+    ensures failures { IfOk result (λ found. ⟦<FileVolume as Volume>⟧.failures found.volume ≡ 0) }
+    ensures found { IfOk result (λ found. found.is_new ≡ false) }
 {
     let path = volume_path(rt.alloc(), folder)?;
     match FileVolume::open(rt, path.as_str()) {
-        Ok(volume) => Ok(volume),
+        Ok(volume) => Ok(Found {
+            volume,
+            is_new: false,
+        }),
         Err(cause) => Err(Stop::File { path, cause }),
     }
 }
 
-fn create_volume(rt: &HostRuntime, folder: &str, blocks: u32) -> Result<FileVolume, Stop>
-    ensures { IfOk result (λ v. ⟦<FileVolume as Volume>⟧.failures v ≡ 0) }
+fn create_volume(rt: &HostRuntime, folder: &str, blocks: u32) -> Result<Found, Stop>
+    ensures failures { IfOk result (λ found. ⟦<FileVolume as Volume>⟧.failures found.volume ≡ 0) }
+    ensures made { IfOk result (λ found. found.is_new ≡ true) }
 {
     let path = volume_path(rt.alloc(), folder)?;
     match FileVolume::create(rt, path.as_str(), blocks) {
         Ok(volume) => {
             sync_folder(rt, folder)?;
-            Ok(volume)
+            Ok(Found {
+                volume,
+                is_new: true,
+            })
         }
         Err(cause) => Err(Stop::File { path, cause }),
     }

@@ -17,7 +17,7 @@ use std::io::{self, BufWriter};
 use std::process::ExitCode;
 use stop::Stop;
 use terminal::Terminal;
-use vault::{begin, serve};
+use vault::{begin, listen, serve};
 
 /// Prints the text of words that are no order, help among them, and answers the status.
 fn tell_words(rt: &HostRuntime, fault: &WordFault) -> u8 {
@@ -44,7 +44,8 @@ fn init(rt: &HostRuntime, folder: &str, blocks: u32, number: VolumeNumber) -> Re
     let mut out = BufWriter::new(rt.alloc(), io::writer(rt)).map_err(|_| Stop::Fault(
         Fault::NoMemory,
     ))?;
-    let files = make(rt, folder, blocks)?;
+    let (found, db) = make(rt, folder, blocks)?;
+    let files = (found.volume, db);
     let mut err = rt.stderr();
     let ended = begin(rt.alloc(), files, blocks, number, &mut out, &mut err);
     Ok(close(ended))
@@ -61,7 +62,8 @@ fn work(
     let mut out = BufWriter::new(rt.alloc(), io::writer(rt)).map_err(|_| Stop::Fault(
         Fault::NoMemory,
     ))?;
-    let files = find(rt, folder)?;
+    let (found, db) = find(rt, folder)?;
+    let files = (found.volume, db);
     let mut err = rt.stderr();
     let mut progress = Terminal::of(rt);
     let ended = serve(
@@ -74,6 +76,24 @@ fn work(
         &mut err,
         &mut progress,
     );
+    Ok(close(ended))
+}
+
+/// Answers requests on the vault of a folder.
+fn listen_on(
+    rt: &HostRuntime,
+    folder: &str,
+    port: u16,
+    requests: u32,
+    now: Option<Sec>,
+) -> Result<u8, Stop> {
+    let mut out = BufWriter::new(rt.alloc(), io::writer(rt)).map_err(|_| Stop::Fault(
+        Fault::NoMemory,
+    ))?;
+    let (found, db) = find(rt, folder)?;
+    let files = (found.volume, db);
+    let mut err = rt.stderr();
+    let ended = listen(rt, files, port, requests, now, &mut out, &mut err);
     Ok(close(ended))
 }
 
@@ -92,16 +112,24 @@ fn carry_out(rt: &HostRuntime, order: &Order<'_>) -> Result<u8, Stop> {
             blocks,
             number,
         } => init(rt, folder, *blocks, *number),
-        Order::Register { folder, .. } | Order::Report { folder, .. } | Order::State { folder } => {
-            work(rt, folder, order, &[], clock::now(rt)?)
-        }
+        Order::Register { folder, .. }
+        | Order::Fetch { folder, .. }
+        | Order::Report { folder, .. }
+        | Order::State { folder } => { work(rt, folder, order, &[], clock::now(rt)?) }
         Order::Put { folder, file, now } => {
             let bytes = read_file(rt, file)?;
             work(rt, folder, order, &bytes, moment(rt, *now)?)
         }
         Order::Verify { folder, now, .. }
         | Order::Sweep { folder, now }
-        | Order::Purge { folder, now } => work(rt, folder, order, &[], moment(rt, *now)?),
+        | Order::Purge { folder, now }
+        | Order::Release { folder, now, .. } => work(rt, folder, order, &[], moment(rt, *now)?),
+        Order::Serve {
+            folder,
+            port,
+            requests,
+            now,
+        } => listen_on(rt, folder, *port, *requests, *now),
     }
 }
 

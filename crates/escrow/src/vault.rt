@@ -4,10 +4,14 @@ ghost use Rattle.std.specs.Prelude.{◌-◌, ◌^◌, ◌<◌};
 use agent_cli::{Order, Progress, act};
 use answer_lines::{Line, VolumeNumber, print_line, tell, tell_init};
 use custody::Custody;
+use custody_machine::{Fault, Status};
+use http_api::Api;
+use http_serve::{ServeFault, serve_connections};
 use schedule::Sec;
 use sqlite::{Alter, Connection};
 use std::alloc::Global;
 use std::io::Write;
+use std::net::{Ipv4Addr, TcpListener};
 use vault_volume::Volume;
 
 /// How a call ended: the exit status, and what is to be closed where there is a vault.
@@ -69,4 +73,66 @@ pub fn serve<V: Volume, S: Alter + Drop, W: Write, E: Write, P: Progress>(
         status,
         vault: Some(custody.close()),
     }
+}
+
+/// Opens a vault, and answers so many connections at a port of the host itself.
+pub fn listen<V: Volume, S: Alter + Drop, W: Write, E: Write>(
+    rt: &HostRuntime,
+    files: (V, Connection<S>),
+    port: u16,
+    requests: u32,
+    now: Option<Sec>,
+    out: &mut W,
+    err: &mut E,
+) -> Ended<V, S>
+    requires { V.failures files.0 < 2 ^ 64 - 1 }
+{
+    let (volume, db) = files;
+    let mut custody = match Custody::open(rt.alloc(), volume, db) {
+        Ok(custody) => custody,
+        Err((fault, _, _)) => {
+            return Ended {
+                status: tell(&fault, err),
+                vault: None,
+            };
+        }
+    };
+    let status = answer(rt, &mut custody, port, requests, now, out, err);
+    Ended {
+        status,
+        vault: Some(custody.close()),
+    }
+}
+
+/// Answers so many connections at a port, prints where it listens, and answers the status.
+fn answer<V: Volume, S: Alter, W: Write, E: Write>(
+    rt: &HostRuntime,
+    custody: &mut Custody<V, S>,
+    port: u16,
+    requests: u32,
+    now: Option<Sec>,
+    out: &mut W,
+    err: &mut E,
+) -> u8 {
+    let alloc = rt.alloc();
+    let Ok(api) = Api::new(alloc) else {
+        return tell(&Fault::NoMemory, err);
+    };
+    let Ok(listener) = TcpListener::bind(rt, (Ipv4Addr::LOCALHOST, port)) else {
+        return tell_end(ServeFault::Socket, err);
+    };
+    let status = print_line(&Line::Listening { port }, out);
+    if status != Status::Done.number() {
+        return status;
+    }
+    match serve_connections(alloc, rt, &api, &listener, requests, custody, now, err) {
+        Ok(()) => Status::Done.number(),
+        Err(fault) => tell_end(fault, err),
+    }
+}
+
+/// Prints why no more connections are answered, and answers the status.
+fn tell_end<E: Write>(fault: ServeFault, err: &mut E) -> u8 {
+    let _ = writeln!(err, "{fault}");
+    Status::Failed.number()
 }

@@ -1,0 +1,224 @@
+#!/bin/bash
+# Runs the built program as a server, and compares what it answers to curl and to raw sockets.
+#
+#   tests/http.sh [PROGRAM]
+#
+# PROGRAM is crates/escrow/out/escrow where it is not named. It wants curl and python3, and takes about a minute,
+# since the time limit of a slow client is waited for.
+set -u
+top=$(cd "$(dirname "$0")/.." && pwd)
+program=$(realpath "${1:-$top/crates/escrow/out/escrow}")
+[ -x "$program" ] || { echo "no program at $program: run ./demo"; exit 2; }
+for tool in curl python3; do
+    command -v $tool > /dev/null || { echo "no $tool"; exit 2; }
+done
+work=$(mktemp -d)
+server=
+trap '[ -n "$server" ] && kill "$server" 2> /dev/null; rm -rf "$work"' EXIT
+cd "$work" || exit 2
+port=$((20000 + RANDOM % 20000))
+passed=0
+failed=0
+
+ok() { passed=$((passed + 1)); }
+
+no() {
+    failed=$((failed + 1))
+    printf 'FAILED: %s\n' "$1"
+    shift
+    printf '    %s\n' "$@"
+}
+
+# compare TITLE WANTED GOT
+compare() { if [ "$2" = "$3" ]; then ok; else no "$1" "wanted: $2" "got: $3"; fi; }
+
+# The client of raw sockets: sends standard input, cut into pieces, and prints what comes back.
+cat > raw.py <<'PYTHON'
+import socket, struct, sys, time
+
+# raw.py PORT SIZE DELAY END: pieces of SIZE bytes with DELAY seconds between, then END: half (no more is sent),
+# open (nothing more is done), close, or reset
+port, size, delay, end = int(sys.argv[1]), int(sys.argv[2]), float(sys.argv[3]), sys.argv[4]
+request = sys.stdin.buffer.read()
+client = socket.create_connection(("127.0.0.1", port), timeout=60)
+try:
+    for at in range(0, len(request), size):
+        client.sendall(request[at:at + size])
+        time.sleep(delay)
+    if end == "half":
+        client.shutdown(socket.SHUT_WR)
+    if end == "reset":
+        client.setsockopt(socket.SOL_SOCKET, socket.SO_LINGER, struct.pack("ii", 1, 0))
+    if end in ("half", "open"):
+        while piece := client.recv(65536):
+            sys.stdout.buffer.write(piece)
+except OSError:
+    pass
+client.close()
+PYTHON
+
+# start REQUESTS WORDS..: a server for so many connections
+start() {
+    local requests=$1
+    shift
+    port=$((port + 1))
+    rm -f out err
+    "$program" serve vault --port $port --requests "$requests" "$@" > out 2> err &
+    server=$!
+    for _ in $(seq 100); do
+        [ -s out ] && break
+        sleep 0.05
+    done
+    compare "it listens" "listening 127.0.0.1:$port" "$(cat out)"
+}
+
+# ended STATUS ERR: the server ends by itself, with this status and these errors
+ended() {
+    local status
+    wait "$server"
+    status=$?
+    server=
+    compare "its status" "$1" "$status"
+    compare "its errors" "$2" "$(cat err)"
+}
+
+# raw SIZE DELAY END: sends standard input, and prints what is answered, without carriage returns
+raw() { timeout 100 python3 raw.py $port "$1" "$2" "$3" | tr -d '\r'; }
+
+# told STATUS BODY [FIELD]: the response with a body of one line
+told() {
+    printf 'HTTP/1.1 %s\nContent-Type: text/plain\nContent-Length: %s\nConnection: close\n%s\n%s\n' \
+        "$1" $((${#2} + 1)) "${3:+$3
+}" "$2"
+}
+
+# asks TITLE STATUS BODY CURL-WORDS..: what curl shows, headers too
+asks() {
+    local title=$1 wanted got
+    wanted=$(told "$2" "$3")
+    shift 3
+    got=$(curl -s -i -m 20 "$@" | tr -d '\r')
+    compare "$title" "$wanted" "$got"
+}
+
+part=example_2026-08-02_full_S1_R0.ryde
+at=2026-08-02T10:00:00Z
+received="received $part 5 $at"
+mkdir vault
+compare "init" "ready 300 0000000000000001" "$("$program" init vault --blocks 300 --number 0000000000000001)"
+
+# ---- by curl
+
+start 15 --now $at
+url=http://127.0.0.1:$port
+asks "a registry" "201 Created" "registered example 2026-08-02" -X PUT -d '{"first":"2026-08-02"}' $url/registries/example
+asks "again" "200 OK" "registered example 2026-08-02" -X PUT -d '{ "first" : "2026-08-03" }' $url/registries/example
+asks "a part" "201 Created" "$received" -X PUT -d hello $url/deposits/$part
+asks "again" "200 OK" "$received" -X PUT -d hello $url/deposits/$part
+asks "other bytes" "409 Conflict" "Q5 other bytes under this name" -X PUT -d hellp $url/deposits/$part
+notice="       1 FAILURE-01 2026-08-02 R00 X             2026-08-02T10:00:00Z example"
+statement='{"date":"2026-08-02","id":"X","kind":"full","parts":1,"revision":0,"tld":"example"}'
+asks "a statement" "201 Created" "$notice" -d "$statement" $url/statements
+asks "its report" "200 OK" "$notice" $url/notices/example
+asks "another report" "404 Not Found" "Q2 registry unknown" $url/notices/other
+head -c 1048576 /dev/zero | tr '\0' a > big
+second=example_2026-08-02_full_S1_R1.ryde
+asks "a large part" "201 Created" "received $second 1048576 $at" -T big $url/deposits/$second
+names="$part
+$second"
+ground='{"ground":"operator","tld":"example"}'
+asks "a release" "201 Created" "released R-1 example operator $at 2
+$names" -X PUT -d "$ground" $url/releases/R-1
+asks "again" "200 OK" "released R-1 example operator $at 2
+$names" -X PUT -d "$ground" $url/releases/R-1
+compare "a part of it" "$(printf 'HTTP/1.1 200 OK\nContent-Type: application/octet-stream\nContent-Length: 5\nConnection: close\n\nhello')" \
+    "$(curl -s -i -m 20 $url/releases/R-1/$part | tr -d '\r')"
+curl -s -m 20 -o got $url/releases/R-1/$second
+compare "the large part" "" "$(cmp got big 2>&1)"
+asks "another name" "404 Not Found" "Q18 not in release" $url/releases/R-1/x
+echo >> big
+asks "a larger one" "413 Content Too Large" "A8 too long" -T big $url/deposits/$second
+ended 0 ""
+compare "what is kept" "registry example 2026-08-02
+part $part 5 held $at
+part $second 1048576 held $at
+$notice
+release R-1 example operator $at 2
+free 42 of 299" "$("$program" state vault)"
+"$program" state vault > before
+
+# ---- by raw sockets
+
+start 11 --now $at
+request="GET /notices/other HTTP/1.1\r\n\r\n"
+unknown=$(told "404 Not Found" "Q2 registry unknown")
+compare "a byte at a time" "$unknown" "$(printf "$request" | raw 1 0.005 half)"
+compare "a client that does not end" "$unknown" "$(printf "$request" | raw 9999 0 open)"
+compare "two requests" "$unknown" "$(printf "$request$request" | raw 9999 0 half)"
+compare "no byte" "$(told "400 Bad Request" "A1 head")" "$(printf '' | raw 1 0 half)"
+short="PUT /deposits/example_2026-08-03_full_S1_R0.ryde HTTP/1.1\r\nContent-Length: 5\r\n\r\nhel"
+compare "a short body" "$(told "400 Bad Request" "A9 body short")" "$(printf "$short" | raw 9999 0 half)"
+cut_part() { printf "${short%% HTTP*} HTTP/1.1\r\nContent-Length: 100000\r\n\r\n"; head -c 70000 /dev/zero | tr '\0' a; }
+compare "a part that is cut" "$(told "400 Bad Request" "A9 body short")" "$(cut_part | raw 9999 0 half)"
+compare "another method" "$(told "405 Method Not Allowed" "A4 method" "Allow: POST")" \
+    "$(printf 'DELETE /purges HTTP/1.1\r\n\r\n' | raw 9999 0 half)"
+# The head has 29 + 7 + 4 bytes beside the value of its field.
+long() { printf 'GET /notices/other HTTP/1.1\r\nX-Pad: '; head -c "$1" /dev/zero | tr '\0' a; printf '\r\n\r\n'; }
+compare "so long a head" 8192 "$(long 8152 | wc -c)"
+compare "a head of 8,192 bytes" "$unknown" "$(long 8152 | raw 9999 0 half)"
+compare "a head of 8,193 bytes" "$(told "400 Bad Request" "A1 head")" "$(long 8153 | raw 9999 0 half)"
+fields() { printf 'GET /notices/other HTTP/1.1\r\n'; seq -f 'X-%g: a' "$1" | sed 's/$/\r/'; printf '\r\n'; }
+compare "32 fields" "$unknown" "$(fields 32 | raw 9999 0 half)"
+compare "33 fields" "$(told "400 Bad Request" "A1 head")" "$(fields 33 | raw 9999 0 half)"
+ended 0 ""
+compare "nothing more is kept" "$(cat before)" "$("$program" state vault)"
+
+# ---- clients that go away
+
+start 4 --now $at
+printf 'GET /notices/other HTTP/1.1\r\n' | raw 9999 0 reset
+printf "$short" | raw 9999 0 reset
+printf "$request" | raw 9999 0 close
+compare "the next client" "$unknown" "$(printf "$request" | raw 9999 0 half)"
+wait "$server"
+compare "its status" 0 $?
+server=
+compare "a line for each that is broken off" "read failed
+read failed" "$(head -n 2 err)"
+
+# ---- a client that sends a byte now and then
+
+start 2 --now $at
+began=$SECONDS
+printf "$request" | raw 1 4 open > /dev/null &
+sleep 0.5
+compare "the client behind them" "$unknown" "$(printf "$request" | raw 9999 0 half)"
+took=$((SECONDS - began))
+if [ $took -ge 25 ] && [ $took -le 45 ]; then ok; else no "the time limit of a request" "$took seconds"; fi
+ended 0 "read failed"
+wait
+
+# ---- only here, one at a time, and killed
+
+start 9
+address=$(hostname -I 2> /dev/null | cut -d ' ' -f 1)
+if [ -n "$address" ]; then
+    curl -s -m 5 "http://$address:$port/notices/other" > /dev/null
+    compare "it listens on 127.0.0.1 alone" 7 $?
+fi
+cp -a vault copy
+compare "the port is taken" "socket failed
+3" "$("$program" serve copy --port $port --requests 1 2>&1; echo $?)"
+compare "the vault is in use" "file failed: vault/vault.vol: file in use
+3" "$("$program" state vault 2>&1; echo $?)"
+third=example_2026-08-02_full_S2_R1.ryde
+curl -s -m 20 -X PUT -d hello http://127.0.0.1:$port/deposits/$third > /dev/null
+kill -9 "$server"
+wait "$server" 2> /dev/null
+server=
+"$program" state vault > state
+compare "it opens after a kill" 0 $?
+compare "a moment by the clock" 0 "$(grep -c "received.*2026-08-02T10:00:00Z" state)"
+
+echo "$passed passed, $failed failed"
+[ "$failed" = 0 ]
