@@ -1,14 +1,10 @@
-//! Tests of what a vault stands on: maps, volumes, records, stores, the machine and its rules. They
-//! stand apart from the crates that they are of, since a crate that has tests is proved a second time
-//! with them.
+//! Tests of what a vault stands on: maps, volumes, records and stores. They stand apart from the
+//! crates that they are of, since a crate that has tests is proved a second time with them. The machine
+//! and its rules are tested by the script of `agent_script`.
 #![tactic(auto)]
 
 #[cfg(test)]
-mod judged;
-#[cfg(test)]
 mod linked;
-#[cfg(test)]
-mod machine;
 #[cfg(test)]
 mod maps;
 #[cfg(test)]
@@ -17,5 +13,3 @@ mod records;
 mod stores;
 #[cfg(test)]
 mod volumes;
-#[cfg(test)]
-mod whole;

@@ -1,8 +1,9 @@
-//! The records and their rows at work: hostile rows, a key twice, and memory that runs out.
+//! Rows in form, rows of releases out of it, and records that are added in the room made.
 use custody_records::{
-    Names, NoticeColumns, NoticeKey, Part, PartColumns, PartKey, Records, ReleaseColumns, RowError,
-    read_registry, write_blob,
+    Names, NoticeColumns, NoticeKey, PartColumns, Records, ReleaseColumns, RowError, read_registry,
+    write_blob,
 };
+use deposit_name::DepositName;
 use desk::{Check, NoticeKind};
 use std::alloc::Global;
 use std::test::Fail;
@@ -80,91 +81,8 @@ fn reads_rows_in_form(rt: HostRuntime) -> Result<(), Fail> {
         )
     );
     let release = release_columns().read(rt.alloc())?;
-    assert_eq!(rt; release.names.as_slice().len(), 2);
+    assert_eq!(rt; release.names.count(), 2);
     Ok(())
-}
-
-/// Whether none of the rows is read, each being out of form.
-fn are_no_parts(alloc: Global, rows: &[PartColumns<'_>]) -> bool {
-    for columns in rows {
-        if columns.read(alloc).err() != Some(RowError::OutOfForm) {
-            return false;
-        }
-    }
-    true
-}
-
-#[test]
-fn refuses_each_field_of_a_part_name_out_of_form(rt: HostRuntime) {
-    let good = part_columns();
-    let bad = [
-        PartColumns {
-            tld: b"-example",
-            ..good
-        },
-        PartColumns { day: 10956, ..good },
-        PartColumns { rev: 100, ..good },
-        PartColumns { part: 9, ..good },
-        PartColumns {
-            kind: b"incr",
-            ..good
-        },
-    ];
-    assert!(rt; are_no_parts(rt.alloc(), &bad));
-}
-
-#[test]
-fn refuses_each_other_field_of_a_part_out_of_form(rt: HostRuntime) {
-    let good = part_columns();
-    let bad = [
-        PartColumns {
-            received: -1,
-            ..good
-        },
-        PartColumns {
-            keep_day: 21031,
-            ..good
-        },
-        PartColumns { len: 0, ..good },
-        PartColumns {
-            len: 1_048_577,
-            ..good
-        },
-        PartColumns {
-            sha: &[7; 31],
-            ..good
-        },
-        PartColumns {
-            extents: Some(&[]),
-            ..good
-        },
-        PartColumns {
-            extents: Some(&[0; 9]),
-            ..good
-        },
-    ];
-    assert!(rt; are_no_parts(rt.alloc(), &bad));
-}
-
-#[test]
-fn refuses_each_field_of_a_notice_out_of_form(rt: HostRuntime) {
-    let good = notice_columns();
-    let bad = [
-        NoticeColumns { tld: b"", ..good },
-        NoticeColumns { number: 0, ..good },
-        NoticeColumns { kind: 14, ..good },
-        NoticeColumns { kind: 20, ..good },
-        NoticeColumns {
-            day: 2_932_532,
-            ..good
-        },
-        NoticeColumns { rev: -1, ..good },
-        NoticeColumns { id: b"", ..good },
-        NoticeColumns { at: -1, ..good },
-    ];
-    for columns in &bad {
-        assert_eq!(rt; columns.read(), None);
-    }
 }
 
 /// Whether none of the rows is read, each being out of form.
@@ -208,68 +126,18 @@ fn refuses_each_field_of_a_release_out_of_form(rt: HostRuntime) {
 }
 
 #[test]
-fn finds_what_was_added(rt: HostRuntime) -> Result<(), Fail> {
-    let mut records = Records::new(rt.alloc(), 7, 1000);
-    for columns in [
-        PartColumns {
-            part: 2,
-            ..part_columns()
-        },
-        part_columns(),
-        PartColumns {
-            rev: 1,
-            ..part_columns()
-        },
-        PartColumns {
-            tld: b"a",
-            ..part_columns()
-        },
-    ] {
-        records.try_add_part(columns.read(rt.alloc())?)?;
-    }
-    assert_eq!(rt; records.parts().len(), 4);
-    let again = records.try_add_part(part_columns().read(rt.alloc())?);
-    assert_eq!(rt; again.err(), Some(RowError::OutOfForm));
-    let sought = part_columns().read(rt.alloc())?;
-    let place = PartKey::of(&sought.name);
-    let found: Option<&Part> = records.part(&place);
-    assert!(rt; found.is_some());
-    let registry = read_registry(b"example", 20667).ok_or("no registry")?;
-    records.try_add_registry(registry)?;
-    assert_eq!(rt; records.first_day(&registry.tld), Some(registry.first_day));
-    Ok(())
-}
-
-#[test]
 fn names_are_lines(rt: HostRuntime) -> Result<(), Fail> {
-    let mut names = Names::new(rt.alloc());
-    names.push(rt.alloc(), b"one")?;
-    names.push(rt.alloc(), b"two")?;
-    assert_eq!(rt;
-        names.push(rt.alloc(), b"th\nree").err(),
-        Some(RowError::OutOfForm)
-    );
-    assert_eq!(rt; names.as_text(), b"one\ntwo\n".as_slice());
-    Ok(())
-}
-
-#[test]
-fn adds_a_registry_and_a_part_in_the_room_made(rt: HostRuntime) -> Result<(), Fail> {
-    let mut records = Records::new(rt.alloc(), 7, 1000);
-    let registry = read_registry(b"example", 20667).ok_or("no registry")?;
-    records.reserve_registry()?;
-    if records.first_day(&registry.tld).is_none() {
-        records.add_registry(registry);
-    }
-    assert_eq!(rt; records.registries(), [registry].as_slice());
-    let part = part_columns().read(rt.alloc())?;
-    let place = PartKey::of(&part.name);
-    records.reserve_part()?;
-    if records.part(&place).is_none() {
-        records.add_part(part);
-    }
-    assert!(rt; records.part(&place).is_some());
-    assert_eq!(rt; records.parts().len(), 1);
+    let mut names = Names::parse(rt.alloc(), b"one\ntwo\n")?;
+    let name = DepositName::parse(b"example_2026-08-02_full_S1_R0.ryde");
+    names.push(&name.ok().ok_or("a name")?)?;
+    let text = b"one\ntwo\nexample_2026-08-02_full_S1_R0.ryde\n";
+    assert_eq!(rt; names.as_text(), text.as_slice());
+    assert_eq!(rt; names.count(), 3);
+    assert_eq!(rt; names.lines().next(), Some(b"one".as_slice()));
+    let copy = names.try_clone(rt.alloc())?;
+    assert_eq!(rt; copy, names);
+    let cut = Names::parse(rt.alloc(), b"one\ntwo").err();
+    assert_eq!(rt; cut, Some(RowError::OutOfForm));
     Ok(())
 }
 

@@ -1,12 +1,10 @@
-//! Records that are added are read back, from memory and from a file, and rows out of form are damage.
-mod dropping;
-mod hostile;
+//! Records that are added are read back, from memory and from a file.
 mod staged;
 
 use self::staged::{SHORT, insert, is_recorded, new_vault};
 use custody_records::{Meta, Names, NoticeKey, Records, Registry, Release};
 use custody_store::{Store, find_meta};
-use deposit_name::{DepositId, Reference, Tld};
+use deposit_name::{DepositId, DepositName, Reference, Tld};
 use desk::{Check, Ground, Notice, NoticeKind, Revision};
 use schedule::{Day, Sec};
 use sqlite::{Alter, Connection, File, FileStore};
@@ -44,7 +42,7 @@ fn notice(number: u64, kind: NoticeKind) -> Result<Notice, Fail> {
 
 fn release(alloc: Global) -> Result<Release, Fail> {
     let mut names = Names::new(alloc);
-    names.push(alloc, NAME)?;
+    names.push(&DepositName::parse(NAME).ok().ok_or("a name")?)?;
     Ok(Release {
         reference: Reference::parse(b"REF-1").ok_or("a reference")?,
         tld: Tld::parse(b"example").ok_or("a tld")?,
@@ -128,7 +126,7 @@ fn are_added(records: &Records) -> Result<bool, Fail> {
     let is_volume = (records.number() == 0xab) & (records.blocks() == 8);
     let is_part = is_recorded(records, &SHORT)? & (records.parts().len() == 1);
     let is_told = told.is_some_and(|told| matches!(told.kind, NoticeKind::Failure { .. }));
-    let is_given = (release.reason == Ground::Order) & (release.names.as_slice().len() == 1);
+    let is_given = (release.reason == Ground::Order) & (release.names.count() == 1);
     Ok(is_volume & is_part & is_told & is_given)
 }
 

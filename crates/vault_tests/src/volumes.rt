@@ -277,6 +277,95 @@ fn a_part_lies_in_several_runs(rt: HostRuntime) -> Result<(), Fail> {
     Ok(())
 }
 
+// Stages the bytes in two pieces, and tells whether that was done.
+fn upload<V: Volume>(
+    alloc: Global,
+    vault: &mut Vault<V>,
+    first: &[u8],
+    rest: &[u8],
+) -> Option<Staged> {
+    let len = first.len().saturating_add(rest.len());
+    if len == 0 || len > 1048576 || vault.volume().failures() > 9 {
+        return None;
+    }
+    let Ok(mut opened) = vault.begin(alloc, len as u32) else {
+        return None;
+    };
+    if vault.push(&mut opened, first).is_err() {
+        vault.abandon(opened);
+        return None;
+    }
+    if vault.push(&mut opened, rest).is_err() {
+        vault.abandon(opened);
+        return None;
+    }
+    vault.finish(opened).ok()
+}
+
+// What is staged on eight blocks with gaps, as a whole or in two pieces, and the volume then.
+fn staged_with_gaps(
+    alloc: Global,
+    bytes: &[u8],
+    cut: usize,
+) -> Result<(Vec<Extent>, [u8; 32], MemVolume), Fail> {
+    let volume = MemVolume::new(alloc, 8, 12, 6)?;
+    let map = map_with_gaps(alloc).ok_or("a map")?;
+    let mut vault = Vault::over(volume, map);
+    let (first, rest) = bytes.split_at(cut.min(bytes.len()));
+    let staged = upload(alloc, &mut vault, first, rest).ok_or("not staged")?;
+    let (extents, _, digest) = staged.spend();
+    Ok((extents, digest, vault.into_inner()))
+}
+
+#[test]
+fn pieces_cut_blocks_and_runs(rt: HostRuntime) -> Result<(), Fail> {
+    let mut bytes = vec![in rt.alloc(); b'a'; 4000]?;
+    bytes.resize(6000, b'b')?;
+    bytes.resize(9000, b'c')?;
+    let (extents, digest, whole) = staged_with_gaps(rt.alloc(), &bytes, 0)?;
+    assert_eq!(rt; (extents.len(), whole.calls()), (2, 3));
+    for cut in [1usize, 4096, 5000] {
+        let (pieces, pieced, volume) = staged_with_gaps(rt.alloc(), &bytes, cut)?;
+        assert!(rt; pieces == extents && pieced == digest, "cut at {cut}");
+        assert!(rt; volume.bytes() == whole.bytes(), "cut at {cut}");
+    }
+    Ok(())
+}
+
+// Whether an upload that is stopped between its pieces leaves what is held, and its blocks free.
+fn is_given_up(alloc: Global) -> Result<bool, Fail> {
+    let mut volume = prepared(alloc)?;
+    let old = copy_of(alloc, volume.bytes())?;
+    let fill = fill_of(alloc, Pattern::Ones, &old)?;
+    volume.stop_at((volume.calls() as u64).saturating_add(1));
+    let map = map_from(alloc, volume.size(), 2).ok_or("a map")?;
+    if map.size() != volume.size() {
+        return Err(Fail::from("another size"));
+    }
+    let mut vault = Vault::over(volume, map);
+    let (first, rest) = NEW.split_at(3000);
+    let staged = upload(alloc, &mut vault, first, rest);
+    let free = vault.free_blocks();
+    let mut volume = vault.into_inner();
+    restart(&mut volume, &fill);
+    let is_spared = is_wanted(volume.bytes(), &old, &fill, false);
+    let (volume, kept) = keep_from(alloc, volume, 2, &NEW);
+    let (_, held) = held(alloc, volume);
+    match staged {
+        Some(staged) => {
+            let _ = staged.spend();
+            Ok(false)
+        }
+        None => Ok(free == 2 && is_spared && kept && held.as_slice() == HELD.as_slice()),
+    }
+}
+
+#[test]
+fn an_upload_stopped_between_its_pieces_leaves_nothing(rt: HostRuntime) -> Result<(), Fail> {
+    assert!(rt; is_given_up(rt.alloc())?);
+    Ok(())
+}
+
 #[test]
 fn block_0_has_the_number_in_lower_case(rt: HostRuntime) -> Result<(), Fail> {
     let mut volume = MemVolume::new(rt.alloc(), 1, 8, 4)?;

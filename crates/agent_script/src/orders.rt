@@ -1,0 +1,208 @@
+//! Calls of `escrow`, as the program answers them.
+use crate::beside::{Plain, command_of};
+use crate::fault::ScriptFault;
+use crate::files::Files;
+use crate::printed::Printed;
+use crate::vault::Vault;
+use agent_cli::{Order, Silent, act, order_of};
+use answer_lines::{tell, tell_answer};
+use custody::Custody;
+use custody_machine::Command;
+use deposit_name::Tld;
+use schedule::{Day, Sec, read_day, read_moment};
+use sqlite::Alter;
+use std::alloc::{AllocError, Global};
+use std::io::Write;
+use vault_volume::Volume;
+
+/// How an order is done.
+#[derive(Clone, Copy)]
+pub enum Way {
+    /// As the program does it.
+    Program,
+    /// By the one command that it asks for, of whose answer it is told whether it is a repeat.
+    Command,
+}
+
+/// Carries out a call, and prints what it prints. After `<` stands the name of the file that is put.
+pub fn order<S: Alter + Drop, W: Write>(
+    alloc: Global,
+    way: Way,
+    words: &str,
+    files: &Files,
+    vault: Vault<S>,
+    plain: &mut Plain,
+    out: &mut W,
+) -> Result<Vault<S>, ScriptFault> {
+    let (words, file) = words.split_once(" < ").unwrap_or((words, ""));
+    let bytes = if file.is_empty() {
+        &[]
+    } else {
+        files.find(file)?
+    };
+    let words = words_in(alloc, words)?;
+    let mut printed = Printed::new(alloc);
+    let vault = match order_of(alloc, words.as_slice()) {
+        Ok(order) => carry_out(alloc, way, &order, bytes, vault, plain, &mut printed)?,
+        Err(fault) => {
+            write!(printed.err, "{fault}")?;
+            printed.status = fault.status();
+            vault
+        }
+    };
+    printed.show(out)?;
+    Ok(vault)
+}
+
+/// The words of a call. `''` is the word of no letters.
+fn words_in(alloc: Global, text: &str) -> Result<Vec<String>, AllocError> {
+    let mut words = Vec::new(alloc);
+    for word in text.split_whitespace() {
+        let word = if word == "''" { "" } else { word };
+        words.push(String::from_str(alloc, word)?)?;
+    }
+    Ok(words)
+}
+
+/// The moment that the words name, if they name one, and else the first of all.
+fn moment_of(order: &Order<'_>) -> Option<Sec> {
+    match order {
+        Order::Put { now, .. }
+        | Order::Verify { now, .. }
+        | Order::Sweep { now, .. }
+        | Order::Purge { now, .. }
+        | Order::Release { now, .. } => now.or(Sec::new(0)),
+        _ => Sec::new(0),
+    }
+}
+
+fn carry_out<'a, S: Alter + Drop>(
+    alloc: Global,
+    way: Way,
+    order: &Order<'a>,
+    file: &'a [u8],
+    vault: Vault<S>,
+    plain: &mut Plain,
+    printed: &mut Printed,
+) -> Result<Vault<S>, ScriptFault> {
+    if let (Order::Init { number, .. }, false) = (order, vault.is_open()) {
+        let (vault, status) = vault.begin(alloc, *number, &mut printed.out, &mut printed.err)?;
+        printed.status = status;
+        return Ok(vault);
+    }
+    let now = moment_of(order).ok_or(ScriptFault::Line)?;
+    match vault.open(alloc)? {
+        Ok(mut custody) => {
+            match way {
+                Way::Program => serve(alloc, order, file, now, &mut custody, plain, printed)?,
+                Way::Command => ask_order(alloc, order, file, now, &mut custody, plain, printed)?,
+            }
+            Ok(Vault::Open(custody))
+        }
+        Err((fault, volume, db)) => {
+            printed.status = tell(&fault, &mut printed.err);
+            Ok(Vault::Closed(volume, db))
+        }
+    }
+}
+
+/// Carries out an order on the custody, and beside it on the plain program.
+fn serve<'a, V: Volume, S: Alter>(
+    alloc: Global,
+    order: &Order<'a>,
+    file: &'a [u8],
+    now: Sec,
+    custody: &mut Custody<V, S>,
+    plain: &mut Plain,
+    printed: &mut Printed,
+) -> Result<(), ScriptFault> {
+    let (out, err) = (&mut printed.out, &mut printed.err);
+    printed.status = act(alloc, custody, order, file, now, out, err, &mut Silent);
+    if let Order::Sweep { .. } = order {
+        plain.sweep(alloc, now, printed)?;
+    } else if let Some(command) = command_of(order, file) {
+        plain.follow(alloc, &command, now, printed)?;
+    }
+    compare(custody, plain, printed)
+}
+
+/// Does the one command that an order asks for.
+fn ask_order<'a, V: Volume, S: Alter>(
+    alloc: Global,
+    order: &Order<'a>,
+    file: &'a [u8],
+    now: Sec,
+    custody: &mut Custody<V, S>,
+    plain: &mut Plain,
+    printed: &mut Printed,
+) -> Result<(), ScriptFault> {
+    match command_of(order, file) {
+        Some(command) => ask(alloc, &command, now, custody, plain, printed),
+        None => Err(ScriptFault::Line),
+    }
+}
+
+/// Does a command on the custody, and beside it on the plain program.
+fn ask<V: Volume, S: Alter>(
+    alloc: Global,
+    command: &Command<'_>,
+    now: Sec,
+    custody: &mut Custody<V, S>,
+    plain: &mut Plain,
+    printed: &mut Printed,
+) -> Result<(), ScriptFault> {
+    let answer = custody.apply(alloc, command, now);
+    printed.status = tell_answer(&answer, &mut printed.out, &mut printed.err);
+    plain.follow(alloc, command, now, printed)?;
+    if answer.is_ok_and(|reply| reply.is_repeat) {
+        writeln!(printed.out, "again")?;
+    }
+    compare(custody, plain, printed)
+}
+
+/// Adds a line where the plain program keeps something else.
+fn compare<V: Volume, S: Alter>(
+    custody: &Custody<V, S>,
+    plain: &Plain,
+    printed: &mut Printed,
+) -> Result<(), ScriptFault> {
+    let keeps_same = match custody.records() {
+        Ok(records) => plain.keeps(records),
+        Err(_) => true,
+    };
+    if !keeps_same {
+        writeln!(printed.err, "the plain program keeps other records")?;
+    }
+    Ok(())
+}
+
+/// Checks a day: the words are its registry, the day and the moment.
+pub fn check<S: Alter + Drop, W: Write>(
+    alloc: Global,
+    words: &str,
+    vault: Vault<S>,
+    plain: &mut Plain,
+    out: &mut W,
+) -> Result<Vault<S>, ScriptFault> {
+    let (tld, day, now) = check_in(words).ok_or(ScriptFault::Line)?;
+    let mut printed = Printed::new(alloc);
+    let vault = match vault.open(alloc)? {
+        Ok(mut custody) => {
+            let command = Command::Check(tld, day);
+            ask(alloc, &command, now, &mut custody, plain, &mut printed)?;
+            Vault::Open(custody)
+        }
+        Err((_, volume, db)) => Vault::Closed(volume, db),
+    };
+    printed.show(out)?;
+    Ok(vault)
+}
+
+fn check_in(words: &str) -> Option<(Tld, Day, Sec)> {
+    let (tld, rest) = words.split_once(' ')?;
+    let (day, moment) = rest.split_once(' ')?;
+    let tld = Tld::parse(tld.as_bytes())?;
+    let day = read_day(day.as_bytes())?;
+    let now = read_moment(moment.as_bytes())?;
+    Some((tld, day, now))
+}

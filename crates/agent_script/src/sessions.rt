@@ -1,0 +1,109 @@
+//! Sessions, and openings over what a stop has left of them: the calls that the headline is about.
+use crate::fault::ScriptFault;
+use custody::composed::{begin_run_and_reopen, open_run_and_reopen};
+use custody::{Custody, Refused, Reply};
+use custody_machine::Command;
+use deposit_name::Tld;
+use desk::NoticeKind;
+use schedule::{Day, Sec, read_day, read_moment};
+use sqlite::{Connection, MemStore};
+use std::alloc::Global;
+use std::io::{self, Write};
+use vault_volume::{MemVolume, Volume};
+
+const BLOCKS: u32 = 8;
+
+const NAME: &[u8] = b"example_2026-08-02_full_S1_R0.ryde";
+
+/// A registry with its first day, and a moment.
+fn registry() -> Option<(Tld, Day, Sec)> {
+    let tld = Tld::parse(b"example")?;
+    let first_day = read_day(b"2026-08-01")?;
+    let now = read_moment(b"2026-08-02T10:00:00Z")?;
+    Some((tld, first_day, now))
+}
+
+/// A vault that was begun, so many of whose commands were done.
+fn after(
+    alloc: Global,
+    commands: &[(Command<'_>, Sec)],
+) -> Result<(MemVolume, Connection<MemStore>), ScriptFault> {
+    let volume = MemVolume::new(alloc, BLOCKS, 64, 16)?;
+    match Custody::init(alloc, volume, Connection::open_in_memory(alloc)?, 1) {
+        Ok(mut custody) => {
+            let _answers = custody.run(alloc, commands)?;
+            Ok(custody.close())
+        }
+        Err(_) => Err(ScriptFault::Line),
+    }
+}
+
+fn show<W: Write>(
+    answers: &[Result<Reply, Refused>],
+    free: Option<u32>,
+    out: &mut W,
+) -> io::Result<()> {
+    let _kind: Option<NoticeKind> = None;
+    for answer in answers {
+        match answer {
+            Ok(_) => write!(out, " done;")?,
+            Err(refused) => write!(out, " {refused};")?,
+        }
+    }
+    match free {
+        Some(free) => writeln!(out, " open again, {free} free"),
+        None => writeln!(out, " closed"),
+    }
+}
+
+/// A session through a stop at a call of the volume, where the stop leaves a database in which so many
+/// of the commands were done.
+fn show_stop<W: Write>(
+    alloc: Global,
+    stop: u64,
+    found: usize,
+    out: &mut W,
+) -> Result<(), ScriptFault> {
+    let (tld, first_day, now) = registry().ok_or(ScriptFault::Line)?;
+    let commands = [
+        (Command::Register(tld, first_day), now),
+        (Command::Receive(NAME, b"hello"), now),
+    ];
+    let (mut volume, db) = after(alloc, &[])?;
+    let (_, left) = after(alloc, commands.get(..found).unwrap_or(&[]))?;
+    volume.stop_at(stop);
+    if volume.failures() > 9 {
+        return Err(ScriptFault::Line);
+    }
+    let fill = vec![in alloc; 255u8; 4096 * BLOCKS as usize]?;
+    write!(out, "stop at call {stop}:")?;
+    match open_run_and_reopen(alloc, volume, db, &commands, &fill, left) {
+        Ok(it) => show(&it.answers, it.custody.room().ok().map(|room| room.0), out)?,
+        Err(fault) => writeln!(out, " {fault}")?,
+    }
+    Ok(())
+}
+
+/// A session from the beginning of a vault on.
+fn show_whole<W: Write>(alloc: Global, out: &mut W) -> Result<(), ScriptFault> {
+    let (tld, first_day, now) = registry().ok_or(ScriptFault::Line)?;
+    let commands = [
+        (Command::Register(tld, first_day), now),
+        (Command::Receive(NAME, b"hello"), now),
+    ];
+    let volume = MemVolume::new(alloc, BLOCKS, 64, 16)?;
+    let fill = vec![in alloc; 255u8; 4096 * BLOCKS as usize]?;
+    write!(out, "from the beginning:")?;
+    match begin_run_and_reopen(alloc, volume, 1, &commands, &fill) {
+        Ok(it) => show(&it.answers, it.custody.room().ok().map(|room| room.0), out)?,
+        Err(error) => writeln!(out, " {error}")?,
+    }
+    Ok(())
+}
+
+/// Prints the sessions. A beginning makes two calls, an opening one and a part two.
+pub fn show_sessions<W: Write>(alloc: Global, out: &mut W) -> Result<(), ScriptFault> {
+    show_stop(alloc, 3, 1, out)?;
+    show_stop(alloc, 60, 2, out)?;
+    show_whole(alloc, out)
+}
