@@ -1,3 +1,4 @@
+mod AuditLemmas
 pub mod Beginnings
 pub mod NumberLemmas
 mod PrintLemmas

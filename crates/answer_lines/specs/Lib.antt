@@ -1,3 +1,4 @@
+pub mod Audited
 pub mod Lines
 pub mod Number
 pub mod Printed

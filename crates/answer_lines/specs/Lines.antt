@@ -9,7 +9,7 @@ use Rattle.desk.specs.declared.grounds.Ground.{Ground}
 use Rattle.desk.specs.declared.notices.Notice as told
 use Rattle.custody_records.specs.Written.{digits_of}
 use Rattle.answer_lines.specs.declared.lines.Line.{Line}
-use Rattle.answer_lines.specs.declared.lines.Line.TheVariants.{Ready, Registered, Received, Notice, Released, Purged, Registry, Part, Dropped, Release, Room, Listening}
+use Rattle.answer_lines.specs.declared.lines.Line.TheVariants.{Ready, Registered, Received, Notice, Released, Purged, Registry, Part, Dropped, Release, Damaged, Sound, Room, Listening}
 
 abbrev pub room_text : ℕ → ℕ → List ℕ
 room_text free total = codes "free " ++ decimal free ++ codes " of " ++ decimal total
@@ -37,5 +37,7 @@ line_text (Part name length at) =
 line_text (Dropped name length at) =
     codes "part " ++ name_text name ++ codes " " ++ decimal length ++ codes " dropped " ++ moment_text at
 line_text (Release reference tld reason at count) = codes "release " ++ release_text reference tld reason at count
+line_text (Damaged name) = codes "damaged " ++ name_text name
+line_text (Sound count) = codes "sound " ++ decimal count
 line_text (Room free total) = room_text free total
 line_text (Listening port) = codes "listening 127.0.0.1:" ++ decimal port

@@ -85,6 +85,18 @@ fn part_line(word: &[u8], name: &DepositName, len: u32, state: &[u8], at: Sec) -
     line
 }
 
+/// A word with its space, and the name of a part.
+fn name_line(word: &[u8], name: &DepositName) -> LineBytes
+    requires { length word.now ≤ 20 }
+    ensures { result.items ≡ (word.now ++ name_text name.now) ++ 10 ∷ [] }
+{
+    let mut line = LineBytes::new();
+    append(&mut line, word);
+    append_name(&mut line, name);
+    append(&mut line, b"\n");
+    line
+}
+
 /// A word with its space, and a number.
 fn count_line(word: &[u8], count: u64) -> LineBytes
     requires { length word.now ≤ 20 }
@@ -203,6 +215,8 @@ impl Line {
                 let release = release_words(reference, tld, *reason, *at, *count as u64);
                 release_line(b"release ", &release)
             }
+            Line::Damaged { name } => name_line(b"damaged ", name),
+            Line::Sound { count } => count_line(b"sound ", *count as u64),
             Line::Room { free, total } => room_line(*free, *total),
             Line::Listening { port } => count_line(b"listening 127.0.0.1:", u64::from(*port)),
         }

@@ -2,6 +2,7 @@
 //! belongs, and the exit status.
 #![tactic(auto)]
 
+mod audited;
 mod bytes;
 mod lines;
 mod number;
@@ -13,6 +14,7 @@ pub use bytes::{LineBytes, append, append_number, fault_bytes, init_error_bytes,
 pub use lines::{Line, names_behind};
 pub use number::VolumeNumber;
 pub use telling::{
-    print_bytes, print_line, print_report, print_state, tell, tell_answer, tell_init, tell_refusal,
+    print_audit, print_bytes, print_line, print_report, print_state, tell, tell_answer, tell_init,
+    tell_refusal,
 };
 pub use writing::{WriteFailed, write_whole};

@@ -69,6 +69,14 @@ pub enum Line {
         at: Sec,
         count: usize,
     },
+    /// A part whose bytes have not its digest.
+    Damaged {
+        name: DepositName,
+    },
+    /// So many parts are held, and each has its digest.
+    Sound {
+        count: usize,
+    },
     /// The free blocks, of all but the head's.
     Room {
         free: u32,
@@ -166,6 +174,8 @@ impl fmt::Display for Line {
                 at,
                 count,
             } => write!(f, "release {reference} {tld} {reason} {at} {count}"),
+            Line::Damaged { name } => write!(f, "damaged {name}"),
+            Line::Sound { count } => write!(f, "sound {count}"),
             Line::Room { free, total } => write!(f, "free {free} of {total}"),
             Line::Listening { port } => write!(f, "listening 127.0.0.1:{port}"),
         }

@@ -9,11 +9,13 @@ ghost use Rattle.custody_records.specs.Held.{records_of};
 ghost use Rattle.custody_records.specs.Tables.{entries_of};
 ghost use Rattle.custody_records.specs.Typed.{notice_key, notice_value};
 ghost use Rattle.custody.specs.Answers.{init_error_text};
+ghost use Rattle.answer_lines.specs.Audited.{audit_status, audit_text};
 ghost use Rattle.answer_lines.specs.Lines.{line_text};
 ghost use Rattle.answer_lines.specs.Printed.{IsTold, Prints, as_line, reply_text};
 ghost use Rattle.answer_lines.specs.State.{lines_text, notice_line, state_text};
 ghost use Rattle.answer_lines.specs.Statuses.{IsStatusAfter, answer_status, init_status};
 
+use crate::audited::{audit_status, write_audit};
 use crate::lines::names_behind;
 use crate::state::{write_report, write_state};
 use crate::writing::{flush, print, write_line};
@@ -21,6 +23,7 @@ use crate::{Line, WriteFailed, fault_bytes, init_error_bytes, refusal_bytes, wri
 use custody::{InitError, Record, Refused, Reply};
 use custody_machine::{Fault, Refusal, Status};
 use custody_records::Records;
+use deposit_name::DepositName;
 use desk::Notice;
 use std::io::Write;
 
@@ -120,6 +123,16 @@ pub fn print_report<W: Write>(notices: &[Notice], out: &mut W) -> u8
     ensures begun { AppendsBeginning (W.contents out.old) (W.contents out.new) (lines_text (map notice_line (entries_of notice_key notice_value notices.now))) }
 {
     status_after(write_report(notices, out), Status::Done)
+}
+
+/// Prints the line of each part that is damaged, or where none is, how many are held, and answers the
+/// status.
+pub fn print_audit<W: Write>(damaged: &[DepositName], records: &Records, out: &mut W) -> u8
+    ensures status { IsStatusAfter (audit_status damaged.now) result }
+    ensures printed { result ≡ audit_status damaged.now → Appends (W.contents out.old) (W.contents out.new) (audit_text damaged.now (records_of records.now)) }
+    ensures begun { AppendsBeginning (W.contents out.old) (W.contents out.new) (audit_text damaged.now (records_of records.now)) }
+{
+    status_after(write_audit(damaged, records, out), audit_status(damaged))
 }
 
 /// The exit status of what was printed, or that of output that was not written.
