@@ -414,9 +414,13 @@ check "a closed pipe is told" test "$(cat pipe.status)" = 3 -a ! -s pipe.err
 cp -r given spoiled
 printf x | dd of=spoiled/vault.vol bs=1 seek=4096 conv=notrunc 2> /dev/null
 expect 3 "" "C5 damaged H8" fetch spoiled R-1 $name0
+expect 0 "sound 2" "" audit given
+expect 1 "damaged $name0" "" audit spoiled
+expect 3 "" "file failed: nowhere: folder missing" audit nowhere
 cp -r given older
 expect 0 "dropped 2" "" purge older --now 2027-08-04T00:00:00Z
 expect 1 "" "Q6 dropped after keeping" fetch older R-1 $name0
+expect 0 "sound 0" "" audit older
 expect 1 "" "Q18 not in release" fetch older R-1 x
 if command -v sqlite3 > /dev/null; then
     sqlite3 given/custody.db "UPDATE handover SET names = '$name0' || char(10) || 'x' || char(10)"

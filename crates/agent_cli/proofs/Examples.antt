@@ -38,6 +38,7 @@ words_give_orders = record {
   of_fetch = inl (codes "R-1", (refl, r_1_is_reference), refl);
   of_report = inl (codes "example", (refl, example_is_tld), refl);
   of_state = refl;
+  of_audit = refl;
   of_serve = inl (Some 1_785_664_800, (omega arith, refl), refl);
   of_serve_now = inl (None, refl, refl);
 }

@@ -10,7 +10,7 @@ use Rattle.clap.specs.Walk.{is_empty}
 use Rattle.deposit_name.proofs.NameLemmas.{kind_text-injective}
 use Rattle.agent_cli.specs.Grammar.{escrow_app}
 use Rattle.agent_cli.specs.Forms.{ShowsMoment}
-use Rattle.agent_cli.specs.Order.{Asks, FetchReading, InitReading, IsOneReading, MetReading, NamedReading, PurgeReading, PutReading, ReadsValue, Reading, RegisterReading, ReleaseReading, ReportReading, ServeReading, StateReading, SweepReading, VerifyReading, named, refused}
+use Rattle.agent_cli.specs.Order.{Asks, AuditReading, FetchReading, InitReading, IsOneReading, MetReading, NamedReading, PurgeReading, PutReading, ReadsValue, Reading, RegisterReading, ReleaseReading, ReportReading, ServeReading, StateReading, SweepReading, VerifyReading, named, refused}
 use Rattle.agent_cli.specs.declared.table.Subcommand.{Subcommand}
 use Rattle.agent_cli.specs.declared.table.Subcommand.TheVariants as subcommand
 use Rattle.agent_cli.specs.declared.order.Argument.{Argument}
@@ -76,6 +76,9 @@ report_one rows = value_one _ _ _ (λ x y h k. h.0 ∙ sym k.0) (λ tld r s h k.
 state_one : (rows : List Row) → IsOne (StateReading rows)
 state_one rows r s h k = h ∙ sym k
 
+audit_one : (rows : List Row) → IsOne (AuditReading rows)
+audit_one rows r s h k = h ∙ sym k
+
 serve_one : (rows : List Row) → IsOne (ServeReading rows)
 serve_one rows =
     value_one _ _ _ (if_given_one ShowsMoment (λ t x y h k. moment_text-injective x y h.0 k.0 (sym h.1 ∙ k.1)) _) (λ x r s h k. h ∙ sym k)
@@ -99,6 +102,7 @@ named_one (Some subcommand.Release) rows = release_one rows
 named_one (Some subcommand.Fetch) rows = fetch_one rows
 named_one (Some subcommand.Report) rows = report_one rows
 named_one (Some subcommand.State) rows = state_one rows
+named_one (Some subcommand.Audit) rows = audit_one rows
 named_one (Some subcommand.Serve) rows = serve_one rows
 
 met_one : (met : Option (Text × List Row)) → IsOne (MetReading met)

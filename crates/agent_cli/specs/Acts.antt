@@ -4,12 +4,16 @@ use Rattle.std.specs.FinMap.{get}
 use Rattle.std.specs.Io.KnownBytes.{Appends}
 use Rattle.std.specs.List.{after_last}
 use Rattle.vault_volume.specs.declared.volume.Volume as volume
+use Rattle.deposit_name.specs.Name.{Name}
 use Rattle.sqlite.specs.Store.{Ghosts}
+use Rattle.custody_records.specs.Records.{Records}
 use Rattle.custody_machine.specs.Machine.{Command, Register, Receive, Statement, Check, Release, Purge}
+use Rattle.custody_machine.specs.declared.answers.Fault.{Fault}
 use Rattle.custody_machine.specs.declared.answers.Refusal.TheVariants.{RegistryUnknown}
 use Rattle.custody_machine.specs.Texts.{fault_text, refusal_text}
 use Rattle.custody_rules.specs.Due.{due_in}
 use Rattle.custody.specs.Custody.{HasApplied, keeper_of, is_open}
+use Rattle.custody.specs.Audited.{HasAudited}
 use Rattle.custody.specs.Fetched.{HasFetched}
 use Rattle.custody.specs.Keeper.{recorded}
 use Rattle.custody.specs.Opening.{free_blocks}
@@ -19,6 +23,7 @@ use Rattle.custody.specs.declared.answers.InitError.TheVariants.{AlreadyInitiali
 use Rattle.custody.specs.declared.answers.Reply.{Reply}
 use Rattle.custody.specs.declared.answers.Refused.{Refused}
 use Rattle.custody.specs.declared.answers.Refused.TheVariants as refused
+use Rattle.answer_lines.specs.Audited.{audit_status, audit_text}
 use Rattle.answer_lines.specs.Printed.{Begins, IsTold, IsUnused, Takes, Writer, as_line}
 use Rattle.answer_lines.specs.State.{report_text, state_text}
 use Rattle.answer_lines.specs.Statuses.{IsStatus, IsStatusAfter, answer_status}
@@ -35,6 +40,12 @@ IsGiven (Ok bytes) status output errors = Takes output bytes 0 status × IsUnuse
 IsGiven (Err (refused.Refusal why)) status output errors = Takes errors (as_line (refusal_text why)) 1 status × IsUnused output
 IsGiven (Err (refused.Fault why)) status output errors = Begins errors (as_line (fault_text why)) × IsUnused output
 
+-- What an audit has found goes to the output: the parts that are damaged, with status 1, or how many are held, with status 0, and whatever the status a beginning of it. The line of a failure goes to the errors.
+abbrev pub IsFound : Records → Result (List Name) Fault → ℕ → Writer → Writer → Type 0
+IsFound records (Ok damaged) status output errors =
+    IsStatusAfter (audit_status damaged) status × Takes output (audit_text damaged records) (audit_status damaged) status × IsUnused errors
+IsFound records (Err why) status output errors = (status ≡ 3) × Begins errors (as_line (fault_text why)) × IsUnused output
+
 module _ {V S : Type 0} {g : volume.Ghosts V} {database : Ghosts S} where
   -- the agent is given one command, whose answer is told
   abbrev pub Applies : Custody V S g database → Command → ℕ → Custody V S g database → ℕ → Writer → Writer → Type 0
@@ -45,6 +56,10 @@ module _ {V S : Type 0} {g : volume.Ghosts V} {database : Ghosts S} where
   abbrev pub Fetches : Custody V S g database → (reference name : List ℕ) → Custody V S g database → ℕ → Writer → Writer → Type 0
   Fetches old reference name new status output errors =
       (answer : Result (List ℕ) Refused) × HasFetched old reference name answer new × IsStatusAfter (answer_status answer) status × IsGiven answer status output errors
+
+  -- it is audited, and what was found is all that is printed
+  abbrev pub Audits : Custody V S g database → Custody V S g database → ℕ → Writer → Writer → Type 0
+  Audits old new status output errors = (answer : Result (List Name) Fault) × HasAudited old answer new × IsFound (recorded (keeper_of old)) answer status output errors
 
   -- what is printed of the records and the free blocks
   abbrev pub state_of : Custody V S g database → List ℕ
@@ -81,7 +96,7 @@ module _ {V S : Type 0} {g : volume.Ghosts V} {database : Ghosts S} where
     pub swept : is_open old ≡ true → IsSwept (due_in (recorded (keeper_of old)) now) old now new status output errors ⊎ ((new ≡ old) × (status ≡ 3) × IsUnused output)
     pub while_closed : is_open old ≡ false → (new ≡ old) × (status ≡ 3) × IsUnused output
 
-  -- `register`, `put`, `verify`, `purge` and `release` give it their command, `sweep` its checks, `fetch` reads, and no other order changes it
+  -- `register`, `put`, `verify`, `purge` and `release` give it their command, `sweep` its checks, `fetch` and `audit` read, and no other order changes it
   abbrev pub Acts : Order → List ℕ → ℕ → Custody V S g database → Custody V S g database → ℕ → Writer → Writer → Type 0
   Acts (order.Init folder blocks number) bytes now old new status output errors =
       (new ≡ old) × IsStatusAfter 1 status × Takes errors (as_line (init_error_text AlreadyInitialised)) 1 status × IsUnused output
@@ -94,4 +109,5 @@ module _ {V S : Type 0} {g : volume.Ghosts V} {database : Ghosts S} where
   Acts (order.Fetch folder reference name) bytes now old new status output errors = IsStatus status × Fetches old reference name.now new status output errors
   Acts (order.Report folder tld) bytes now old new status output errors = (new ≡ old) × IsStatus status × Reports old tld status output errors
   Acts (order.State folder) bytes now old new status output errors = (new ≡ old) × IsStatus status × Shows old status output errors
+  Acts (order.Audit folder) bytes now old new status output errors = IsStatus status × Audits old new status output errors
   Acts (order.Serve folder port requests at) bytes now old new status output errors = (new ≡ old) × (status ≡ 0) × IsUnused output × IsUnused errors

@@ -3,7 +3,7 @@ use Rattle.std.specs.Prelude.{List, [], ◌∷◌, None, Some, codes}
 use Rattle.clap.specs.Words.{Text}
 use Rattle.deposit_name.specs.declared.kinds.Kind.TheVariants.{Full}
 use Rattle.desk.specs.declared.grounds.Ground.TheVariants.{Operator}
-use Rattle.agent_cli.specs.Order.{Asks, Wanted, init, register, put, verify, sweep, purge, release, fetch, report, state, serve, wanted}
+use Rattle.agent_cli.specs.Order.{Asks, Wanted, init, register, put, verify, sweep, purge, release, fetch, report, state, audit, serve, wanted}
 
 -- these words, behind the name of the program, give this order
 abbrev pub Gives : List Text → Wanted → Type 0
@@ -28,5 +28,6 @@ pub record WordsGiveOrders : Type 0 where
   pub of_fetch : Gives (codes "fetch" ∷ codes "vault" ∷ codes "R-1" ∷ codes "part.ryde" ∷ []) (fetch (codes "vault") (codes "R-1") (codes "part.ryde"))
   pub of_report : Gives (codes "report" ∷ codes "vault" ∷ codes "example" ∷ []) (report (codes "vault") (codes "example"))
   pub of_state : Gives (codes "state" ∷ codes "vault" ∷ []) (state (codes "vault"))
+  pub of_audit : Gives (codes "audit" ∷ codes "vault" ∷ []) (audit (codes "vault"))
   pub of_serve : Gives (codes "serve" ∷ codes "vault" ∷ codes "--port" ∷ codes "8080" ∷ codes "--requests" ∷ codes "2" ∷ codes "--now" ∷ codes "2026-08-02T10:00:00Z" ∷ []) (serve (codes "vault") 8080 2 (Some 1_785_664_800))
   pub of_serve_now : Gives (codes "serve" ∷ codes "vault" ∷ codes "--port" ∷ codes "8080" ∷ codes "--requests" ∷ codes "2" ∷ []) (serve (codes "vault") 8080 2 None)

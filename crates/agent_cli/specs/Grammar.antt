@@ -6,7 +6,7 @@ use Rattle.clap.specs.declared.builder.ValueParser.TheVariants.{Signed}
 use Rattle.agent_cli.specs.declared.table.Form.{Form}
 use Rattle.agent_cli.specs.declared.table.Form.TheVariants.{Place, Option, Count}
 use Rattle.agent_cli.specs.declared.table.Subcommand.{Subcommand}
-use Rattle.agent_cli.specs.declared.table.Subcommand.TheVariants.{Init, Register, Put, Verify, Sweep, Purge, Release, Fetch, Report, State, Serve}
+use Rattle.agent_cli.specs.declared.table.Subcommand.TheVariants.{Init, Register, Put, Verify, Sweep, Purge, Release, Fetch, Report, State, Audit, Serve}
 use Rattle.agent_cli.specs.declared.table.Word.{Word}
 use Rattle.vault_volume.specs.declared.extent.TheConstants.{FEWEST_BLOCKS, MOST_BLOCKS}
 
@@ -66,11 +66,13 @@ words_of Fetch = (codes "fetch", folder_rule ∷ positional_rule (codes "REF") �
 words_of Report = (codes "report", folder_rule ∷ tld_rule ∷ [])
 -- `state DIR`
 words_of State = (codes "state", folder_rule ∷ [])
+-- `audit DIR`
+words_of Audit = (codes "audit", folder_rule ∷ [])
 -- `serve DIR --port P --requests N [--now MOMENT]`
 words_of Serve = (codes "serve", folder_rule ∷ count_rule (codes "port") 1 65_535 ∷ count_rule (codes "requests") 1 1_000_000 ∷ now_rule ∷ [])
 
 abbrev pub subcommands : List Subcommand
-subcommands = Init ∷ Register ∷ Put ∷ Verify ∷ Sweep ∷ Purge ∷ Release ∷ Fetch ∷ Report ∷ State ∷ Serve ∷ []
+subcommands = Init ∷ Register ∷ Put ∷ Verify ∷ Sweep ∷ Purge ∷ Release ∷ Fetch ∷ Report ∷ State ∷ Audit ∷ Serve ∷ []
 
 abbrev pub is_named : Text → Subcommand → Bool
 is_named name subcommand = bytes_eq (words_of subcommand).0 name

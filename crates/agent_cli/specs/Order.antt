@@ -32,6 +32,7 @@ pub data Wanted : Type 0 where
   fetch : Text → List ℕ → Text → Wanted
   report : Text → List ℕ → Wanted
   state : Text → Wanted
+  audit : Text → Wanted
   serve : Text → ℕ → ℕ → Option ℕ → Wanted
 
 -- what words are: an order, words with an argument out of form, or no words of the command
@@ -112,6 +113,9 @@ ReportReading rows =
 abbrev pub StateReading : List Row → Reading → Type 0
 StateReading rows r = r ≡ wanted (state (text_of (codes "DIR") rows))
 
+abbrev pub AuditReading : List Row → Reading → Type 0
+AuditReading rows r = r ≡ wanted (audit (text_of (codes "DIR") rows))
+
 abbrev pub ServeReading : List Row → Reading → Type 0
 ServeReading rows =
     ReadsValue argument.Now (ShowsIfGiven ShowsMoment (first_of (codes "now") rows)) (λ now r.
@@ -130,6 +134,7 @@ NamedReading (Some subcommand.Release) rows r = ReleaseReading rows r
 NamedReading (Some subcommand.Fetch) rows r = FetchReading rows r
 NamedReading (Some subcommand.Report) rows r = ReportReading rows r
 NamedReading (Some subcommand.State) rows r = StateReading rows r
+NamedReading (Some subcommand.Audit) rows r = AuditReading rows r
 NamedReading (Some subcommand.Serve) rows r = ServeReading rows r
 
 -- the subcommand of a name
@@ -162,6 +167,7 @@ meaning (order.Release folder reference tld reason now) = release folder.now ref
 meaning (order.Fetch folder reference name) = fetch folder.now reference name.now
 meaning (order.Report folder tld) = report folder.now tld
 meaning (order.State folder) = state folder.now
+meaning (order.Audit folder) = audit folder.now
 meaning (order.Serve folder port requests now) = serve folder.now port requests now
 
 -- the answer is the reading, or memory ran out

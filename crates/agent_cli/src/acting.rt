@@ -1,12 +1,12 @@
 //! What an order does to the agent of a folder.
 ghost use Rattle.std.specs.Prelude.{◌≡◌};
 ghost use Rattle.answer_lines.specs.Statuses.{IsStatus};
-ghost use Rattle.agent_cli.specs.Acts.{Acts, Fetches, Reports, Shows};
+ghost use Rattle.agent_cli.specs.Acts.{Acts, Audits, Fetches, Reports, Shows};
 
 use crate::sweeping::sweep;
 use crate::{Order, Progress, last_part};
 use answer_lines::{
-    print_bytes, print_report, print_state, tell, tell_answer, tell_init, tell_refusal,
+    print_audit, print_bytes, print_report, print_state, tell, tell_answer, tell_init, tell_refusal,
 };
 use custody::{Custody, InitError, Refused};
 use custody_machine::{Command, Refusal, Status};
@@ -69,6 +69,7 @@ pub fn act<V: Volume, S: Alter, W: Write, E: Write, P: Progress>(
         } => fetch(alloc, custody, reference, name, out, err),
         Order::Report { tld, .. } => show_report(custody, tld, out, err),
         Order::State { .. } => show(custody, out, err),
+        Order::Audit { .. } => audit(alloc, custody, out, err),
         Order::Serve { .. } => Status::Done.number(),
     }
 }
@@ -89,6 +90,25 @@ fn fetch<V: Volume, S: Alter, W: Write, E: Write>(
         Ok(()) => print_bytes(&bytes, out),
         Err(Refused::Refusal(refusal)) => tell_refusal(&refusal, err),
         Err(Refused::Fault(fault)) => tell(&fault, err),
+    }
+}
+
+fn audit<V: Volume, S: Alter, W: Write, E: Write>(
+    alloc: Global,
+    custody: &mut Custody<V, S>,
+    out: &mut W,
+    err: &mut E,
+) -> u8
+    ensures status { IsStatus result }
+    ensures audits { Audits custody.old custody.new result (record { before = W.contents out.old; after = W.contents out.new }) (record { before = E.contents err.old; after = E.contents err.new }) }
+{
+    let damaged = match custody.audit(alloc) {
+        Ok(damaged) => damaged,
+        Err(fault) => return tell(&fault, err),
+    };
+    match custody.records() {
+        Ok(records) => print_audit(&damaged, records, out),
+        Err(fault) => tell(&fault, err),
     }
 }
 

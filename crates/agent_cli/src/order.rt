@@ -68,6 +68,9 @@ pub enum Order<'a> {
     State {
         folder: &'a str,
     },
+    Audit {
+        folder: &'a str,
+    },
     Serve {
         folder: &'a str,
         port: u16,

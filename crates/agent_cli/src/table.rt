@@ -18,11 +18,12 @@ pub(crate) enum Subcommand {
     Fetch,
     Report,
     State,
+    Audit,
     Serve,
 }
 
 /// All of them, in the order in which help shows them.
-pub(crate) const SUBCOMMANDS: [Subcommand; 11] = [
+pub(crate) const SUBCOMMANDS: [Subcommand; 12] = [
     Subcommand::Init,
     Subcommand::Register,
     Subcommand::Put,
@@ -33,6 +34,7 @@ pub(crate) const SUBCOMMANDS: [Subcommand; 11] = [
     Subcommand::Fetch,
     Subcommand::Report,
     Subcommand::State,
+    Subcommand::Audit,
     Subcommand::Serve,
 ];
 
@@ -312,6 +314,15 @@ static STATE: Row<'static> = Row {
     words: &[DIR],
 };
 
+static AUDIT: Row<'static> = Row {
+    name: "audit",
+    about: "Reads each part that is held and compares it with its recorded digest",
+    after: "Prints: damaged NAME for each part that has not its digest,\n        \
+            or sound N, N the number of parts that are held\n\
+            Example: escrow audit vault",
+    words: &[DIR],
+};
+
 static SERVE: Row<'static> = Row {
     name: "serve",
     about: "Answers requests over HTTP on 127.0.0.1, one connection after the other",
@@ -363,6 +374,7 @@ impl Subcommand {
             Subcommand::Fetch => &FETCH,
             Subcommand::Report => &REPORT,
             Subcommand::State => &STATE,
+            Subcommand::Audit => &AUDIT,
             Subcommand::Serve => &SERVE,
         }
     }

@@ -2,7 +2,7 @@
 ghost use Rattle.std.specs.Prelude.{◌≡◌, Some, map};
 ghost use Rattle.std.specs.String.{string_bytes};
 ghost use Rattle.clap.specs.Words.{found_of, rows_of};
-ghost use Rattle.agent_cli.specs.Order.{Answers, Asks, FetchReading, InitReading, IsFaultFrom, NamedReading, PurgeReading, PutReading, RegisterReading, ReleaseReading, ReportReading, ServeReading, StateReading, SweepReading, VerifyReading};
+ghost use Rattle.agent_cli.specs.Order.{Answers, Asks, AuditReading, FetchReading, InitReading, IsFaultFrom, NamedReading, PurgeReading, PutReading, RegisterReading, ReleaseReading, ReportReading, ServeReading, StateReading, SweepReading, VerifyReading};
 
 use crate::grammar::escrow_command;
 use crate::table::Subcommand;
@@ -138,6 +138,14 @@ fn state_order<'a>(matches: &ArgMatches<'a>) -> Result<Order<'a>, WordFault>
     })
 }
 
+fn audit_order<'a>(matches: &ArgMatches<'a>) -> Result<Order<'a>, WordFault>
+    ensures { Answers (AuditReading (rows_of (found_of matches.now))) result }
+{
+    Ok(Order::Audit {
+        folder: text_in(matches, "DIR"),
+    })
+}
+
 fn serve_order<'a>(matches: &ArgMatches<'a>) -> Result<Order<'a>, WordFault>
     ensures { Answers (ServeReading (rows_of (found_of matches.now))) result }
 {
@@ -165,6 +173,7 @@ fn order_in<'a>(subcommand: Subcommand, matches: &ArgMatches<'a>) -> Result<Orde
         Subcommand::Fetch => fetch_order(matches),
         Subcommand::Report => report_order(matches),
         Subcommand::State => state_order(matches),
+        Subcommand::Audit => audit_order(matches),
         Subcommand::Serve => serve_order(matches),
     }
 }

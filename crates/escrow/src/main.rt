@@ -115,7 +115,8 @@ fn carry_out(rt: &HostRuntime, order: &Order<'_>) -> Result<u8, Stop> {
         Order::Register { folder, .. }
         | Order::Fetch { folder, .. }
         | Order::Report { folder, .. }
-        | Order::State { folder } => { work(rt, folder, order, &[], clock::now(rt)?) }
+        | Order::State { folder }
+        | Order::Audit { folder } => { work(rt, folder, order, &[], clock::now(rt)?) }
         Order::Put { folder, file, now } => {
             let bytes = read_file(rt, file)?;
             work(rt, folder, order, &bytes, moment(rt, *now)?)
