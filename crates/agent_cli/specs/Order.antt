@@ -1,5 +1,5 @@
 -- What the words of a call ask for: the matches of the command, each value in form.
-use Rattle.std.specs.Prelude.{◌≡◌, ◌≢◌, ◌⊎◌, ℕ, Bool, List, [], ◌∷◌, Option, Some, None, Result, Ok, Err, MatchBool, codes, find}
+use Rattle.std.specs.Prelude.{◌≡◌, ◌≢◌, ◌⊎◌, ℕ, List, Option, Some, None, Result, Ok, Err, MatchBool, codes, find}
 use Rattle.clap.specs.Words.{Row, Text, fault_of, first_of, kind_of, subcommand_of}
 use Rattle.clap.specs.Walk.{is_empty}
 use Rattle.clap.specs.declared.error.Error.{Error}

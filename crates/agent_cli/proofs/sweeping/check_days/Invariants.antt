@@ -1,5 +1,4 @@
-use Rattle.std.specs.Prelude.{◌≡◌, ℕ, Option, List, drop, map}
-use Rattle.custody.specs.declared.custody.Custody.{Custody}
+use Rattle.std.specs.Prelude.{ℕ, Option, List, drop, map}
 use Rattle.custody_rules.specs.Due.{day_in}
 use Rattle.agent_cli.specs.Acts.{IsSwept}
 use Rattle.agent_cli.proofs.sweeping.check_days.Given as goal
