@@ -39,8 +39,8 @@ fn subcommand<'a>(alloc: Global, row: &Row<'a>) -> Result<Command<'a>, AllocErro
     Ok(command)
 }
 
-/// The version of the program, and the kit with which it is proved.
-const VERSION: &str = "0.1.0, proved with rattle-kit-13b";
+/// The version of the program.
+const VERSION: &str = "0.1.0";
 
 /// The command before its subcommands.
 fn bare_command<'a>(alloc: Global) -> Command<'a>
