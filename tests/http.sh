@@ -222,7 +222,7 @@ compare "the port is taken" "socket failed
 3" "$("$program" serve copy --port $port --requests 1 2>&1; echo $?)"
 compare "the vault is in use" "file failed: vault/vault.vol: file in use
 3" "$("$program" state vault 2>&1; echo $?)"
-third=example_2026-08-02_full_S2_R1.ryde
+third=example_2026-08-04_full_S1_R0.ryde
 before=$(date -u +%F)
 answer=$(printf "PUT /deposits/$third HTTP/1.1\r\nContent-Length: 5\r\n\r\nhello" | raw 9999 0 half | tail -n 1)
 case $answer in
