@@ -15,19 +15,7 @@ server=
 trap '[ -n "$server" ] && kill "$server" 2> /dev/null; rm -rf "$work"' EXIT
 cd "$work" || exit 2
 port=$((20000 + RANDOM % 20000))
-passed=0
-failed=0
-
-ok() { passed=$((passed + 1)); }
-
-no() {
-    failed=$((failed + 1))
-    printf 'FAILED: %s\n' "$1"
-    shift
-    printf '    %s\n' "$@"
-}
-
-skip() { echo "left out: $1"; }
+. "$top/tests/counting.sh"
 
 # compare TITLE WANTED GOT
 compare() { if [ "$2" = "$3" ]; then ok; else no "$1" "wanted: $2" "got: $3"; fi; }

@@ -14,19 +14,7 @@ work=$(mktemp -d)
 chmod 755 "$work"
 trap 'umount "$work/small" 2>/dev/null; rm -rf "$work"' EXIT
 cd "$work" || exit 2
-passed=0
-failed=0
-
-ok() { passed=$((passed + 1)); }
-
-no() {
-    failed=$((failed + 1))
-    printf 'FAILED: %s\n' "$1"
-    shift
-    printf '    %s\n' "$@"
-}
-
-skip() { echo "left out: $1"; }
+. "$top/tests/counting.sh"
 
 # expect STATUS OUT ERR WORDS..: runs the program on the words. OUT and ERR are the texts without their last line feed.
 expect() {
