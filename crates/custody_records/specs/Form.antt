@@ -21,7 +21,7 @@ use Rattle.desk.specs.declared.notices.NoticeKind.TheVariants.{Receipt, Failure,
 use Rattle.desk.specs.declared.grounds.Ground.{Ground}
 use Rattle.desk.specs.declared.grounds.Ground.TheVariants.{Operator, Termination, NoNotices, SundayFailed, FiveFailed, Insolvency, Critical, Order, Audit}
 use Rattle.extent_map.specs.declared.extent.Extent.{Extent}
-use Rattle.vault_volume.specs.declared.extent.TheConstants.{FEWEST_BLOCKS, MOST_BLOCKS, MAX_PART_LEN}
+use Rattle.vault_volume.specs.Limits.{fewest_blocks, most_blocks, max_part_len}
 use Rattle.custody_records.specs.declared.damage.Damage.{Damage}
 use Rattle.custody_records.specs.declared.damage.Damage.TheVariants as damage
 use Rattle.custody_records.specs.Keys.{text_cmp, PartKey, part_cmp, NoticeKey, notice_cmp}
@@ -88,7 +88,7 @@ extents_in (Some (byte ∷ bytes)) = option_map Some (extents_of (byte ∷ bytes
 -- the row's numbers and its digest are in form, and the bytes are kept for a year from the day received (Specification 2, Part B section 4)
 abbrev pub is_part : PartRow → Bool
 is_part row = is_tld row.tld && (is_deposit_day row.day && (is_within 0 99 row.rev && (is_within 1 8 row.part && (is_moment row.received
-    && (is_number (year_after (day_of (natural row.received))) row.keep_day && (is_within 1 MAX_PART_LEN row.len && length row.sha == 32))))))
+    && (is_number (year_after (day_of (natural row.received))) row.keep_day && (is_within 1 max_part_len row.len && length row.sha == 32))))))
 
 abbrev pub part_key : PartRow → PartKey
 part_key row = record { tld = row.tld; day = natural row.day; rev = natural row.rev; part = natural row.part }
@@ -155,7 +155,7 @@ number_in text = from_hex (decode_sized text 8)
 
 -- one, a number of 16 lower-case hexadecimal digits, and as many blocks as a volume may have
 abbrev pub is_meta : MetaRow → Bool
-is_meta row = is_number 1 row.one && (bytes_eq row.number (encode_lower (to_be_bytes w64 (number_in row.number))) && is_within FEWEST_BLOCKS MOST_BLOCKS row.blocks)
+is_meta row = is_number 1 row.one && (bytes_eq row.number (encode_lower (to_be_bytes w64 (number_in row.number))) && is_within fewest_blocks most_blocks row.blocks)
 
 -- ---- all tables
 

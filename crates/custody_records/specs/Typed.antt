@@ -5,8 +5,8 @@ use Rattle.schedule.specs.Schedule.{day_of, year_after}
 use Rattle.deposit_name.specs.declared.kinds.Kind.{Kind}
 use Rattle.deposit_name.specs.Identifiers.{is_tld}
 use Rattle.deposit_name.specs.Name.{Name}
-use Rattle.desk.specs.declared.notices.Notice as told
-use Rattle.vault_volume.specs.declared.extent.TheConstants.{FEWEST_BLOCKS, MOST_BLOCKS}
+use Rattle.desk.specs.declared.notices.Notice as desk
+use Rattle.vault_volume.specs.Limits.{fewest_blocks, most_blocks}
 use Rattle.custody_records.specs.declared.meta.Meta.{Meta}
 use Rattle.custody_records.specs.declared.notices.NoticeColumns.{NoticeColumns}
 use Rattle.custody_records.specs.declared.parts.Part.{Part}
@@ -68,13 +68,13 @@ received_in row = if is_moment row.received && is_number (year_after (day_of (na
 
 -- ---- notices
 
-abbrev pub notice_key : told.Notice → NoticeKey
+abbrev pub notice_key : desk.Notice → NoticeKey
 notice_key n = record { tld = n.tld; number = n.number }
 
-abbrev pub notice_value : told.Notice → Notice
+abbrev pub notice_value : desk.Notice → Notice
 notice_value n = record { day = n.day; at = n.at; kind = n.kind }
 
-abbrev pub notice_entry : told.Notice → NoticeKey × Notice
+abbrev pub notice_entry : desk.Notice → NoticeKey × Notice
 notice_entry n = (notice_key n, notice_value n)
 
 abbrev pub notice_row : NoticeColumns → NoticeRow
@@ -101,4 +101,4 @@ meta_of row = record { one = row.one; schema_no = row.schema_no; number = (if by
 
 -- the number and the blocks of a row in form
 abbrev pub volume_of : Meta → Option (ℕ × ℕ)
-volume_of m = if is_number 1 m.one && is_within FEWEST_BLOCKS MOST_BLOCKS m.blocks then option_map (λ n. (n, natural m.blocks)) m.number else None
+volume_of m = if is_number 1 m.one && is_within fewest_blocks most_blocks m.blocks then option_map (λ n. (n, natural m.blocks)) m.number else None

@@ -11,7 +11,7 @@ use Rattle.desk.specs.Grounds.{ground_text}
 use Rattle.desk.specs.declared.notices.NoticeKind.{NoticeKind}
 use Rattle.desk.specs.declared.notices.NoticeKind.TheVariants.{Receipt, Failure, Absence}
 use Rattle.extent_map.specs.declared.extent.Extent.{Extent}
-use Rattle.vault_volume.specs.declared.extent.TheConstants.{MAX_PART_LEN}
+use Rattle.vault_volume.specs.Limits.{max_part_len}
 use Rattle.custody_records.specs.Keys.{PartKey, NoticeKey}
 use Rattle.custody_records.specs.Records.{PartRecord, Notice, Release}
 use Rattle.custody_records.specs.Rows.{RegistryRow, PartRow, NoticeRow, HandoverRow}
@@ -58,7 +58,7 @@ pub record IsPart (key : PartKey) (part : PartRecord) : Type 0 where
   pub rev : key.rev ≤ 99
   pub place : IsInRange 1 8 key.part
   pub received : IsMoment part.received
-  pub len : IsInRange 1 MAX_PART_LEN part.len
+  pub len : IsInRange 1 max_part_len part.len
   pub digest : length part.digest ≡ 32
   pub extents : AreWritable part.extents
 
