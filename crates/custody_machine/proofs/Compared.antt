@@ -13,7 +13,7 @@ use Rattle.custody_machine.specs.State.{State}
 use Rattle.custody_machine.specs.Machine.{Command, Register, Receive, Statement, Check, Release, Purge, OfPart, Reply, Outcome, Refuse, Accept, OtherBytes, refusal_of, step, reads, Accepted, Refused, Failed, Fault, NoMemory, VolumeFailed, Damaged, MayFail}
 use Rattle.custody_machine.specs.declared.damage.Damage.TheVariants.{Digest}
 use Rattle.custody_machine.specs.Stored.{part_of, state_in, HasDigestAt}
-use Rattle.custody_machine.specs.Moves.{RestsOnBytes}
+use Rattle.custody_machine.specs.Moves.{DependsOnBytes}
 use Rattle.custody_machine.specs.Rulings.{ByBytes, Decides, IsUnder, bytes_of}
 use Rattle.custody_machine.specs.Custody.{LeftSince, Same, Other, Broken, Compares}
 use Rattle.custody_machine.proofs.SameValues.{text_decides}
@@ -52,7 +52,7 @@ module _ (records : Records) (i : List ℕ) (command : Command) (now : ℕ) (nam
       by (Release reference tld reason) none under = absurd under
       by Purge none under = absurd under
 
-  pub same_rests : Compares Same (part_bytes i extents part.len) bytes part.digest → (reply : Reply) → RestsOnBytes records i command now (Accepted reply)
+  pub same_rests : Compares Same (part_bytes i extents part.len) bytes part.digest → (reply : Reply) → DependsOnBytes records i command now (Accepted reply)
   same_rests same reply k within = absurd (nothing_in _ k (reads_none (step_accepts (state_in records i) command now _ _ (same_rules same)).0) within)
 
   has_digest : sha256 (part_bytes i extents part.len) ≡ part.digest → HasDigestAt i records (key_of name)
@@ -68,11 +68,11 @@ module _ (records : Records) (i : List ℕ) (command : Command) (now : ℕ) (nam
       same_extents a b o p q = cc
 
   -- other bytes are told of a part that has its digest
-  pub other_rests : Compares Other (part_bytes i extents part.len) bytes part.digest → RestsOnBytes records i command now (Refused OtherBytes)
+  pub other_rests : Compares Other (part_bytes i extents part.len) bytes part.digest → DependsOnBytes records i command now (Refused OtherBytes)
   other_rests other k within = subst (HasDigestAt i records) (one_in _ (key_of name) k (reads_key other.0) within) (has_digest other.1)
 
   -- and damage of one that has not
-  pub broken_rests : Compares Broken (part_bytes i extents part.len) bytes part.digest → RestsOnBytes records i command now (Failed (Damaged Digest))
+  pub broken_rests : Compares Broken (part_bytes i extents part.len) bytes part.digest → DependsOnBytes records i command now (Failed (Damaged Digest))
   broken_rests broken = (key_of name, first_in _ (key_of name) (reads_key broken.0), λ has. broken.1 (has part extents d.0.recorded d.0.held))
 
   pub broken_may_fail : Compares Broken (part_bytes i extents part.len) bytes part.digest → MayFail (step (state_in records i) command now) (reads (state_in records i) command now) (Damaged Digest)

@@ -24,7 +24,7 @@ use Rattle.custody_machine.specs.State.{State, Held, places, at_place, has_notic
 use Rattle.custody_machine.specs.Machine.{Statement, Check, Release, Purge, first_part, part_keys, if_made, Command, Register, Receive, Refusal, NameRefused, RegistryUnknown, DateOutOfRange, Size, OtherBytes, DroppedAfterKeeping, RevisionNotDue, AlreadyStated, TypeDiffers, PartOutOfOrder, VolumeFull, PartsDiffer, LaterDayPassed, NotYetDue, DayHasVerdict, GroundDoesNotStand, ReferenceUsed, NotInRelease, ReleaseUnknown, Record, OfRegistry, OfPart, Reply, Refuse, Accept, max_part_len, of_kind, recorded, part_in, has_other_kind, is_failure_of, refusal_of, kept, effect, received, unless_kept, unless_refused, step, state_of, state_after, received_part, with_part, Entry, read_by, reads, Answer, Accepted, Failed, StoreFailed, MayFail, Answers, named_tests, first_standing}
 use Rattle.custody_machine.specs.History.{IsFoundWithin, doubt_of, MayFind, is_open_after}
 use Rattle.custody_machine.specs.Stored.{AreNaming, IsNamed, AreWhole, IsVolumeOf, is_part_of, IsGood, part_of, state_in, KeepsParts, OpensFrom}
-use Rattle.custody_machine.specs.Moves.{Place, Serving, Shut, MayLeave, MayLeaveWithin, RestsOnBytes, place_after}
+use Rattle.custody_machine.specs.Moves.{Place, Serving, Shut, MayLeave, MayLeaveWithin, DependsOnBytes, place_after}
 use Rattle.custody_machine.specs.Custody.{IsPlaceable, IsInOrder, IsOnVolume, IsInStore, IsPlaced, IsSettled, staged_record, IsAt, Serves}
 use Rattle.custody_machine.proofs.MapValues.{get-map_values}
 use Rattle.custody_machine.proofs.Series.{prior_taken, is_place}
@@ -188,7 +188,7 @@ module _ (records : Records) (rows : Rows) (i : List ℕ) (size failures : ℕ) 
 
   -- a command that changed nothing
   pub changes_nothing : (command : Command) (now : ℕ) (answer : Answer) (is_open : Bool) (new : Records) (later : List ℕ) (since : List ℕ → Type 0) (rows_then : Rows → Type 0) (images_then : List ℕ → Type 0)
-      → Answers (state_in records i) command now answer (state_in records i) → RestsOnBytes records i command now answer → is_open ≡ is_open_after answer → (is_open ≡ true → (new ≡ records) × (later ≡ i))
+      → Answers (state_in records i) command now answer (state_in records i) → DependsOnBytes records i command now answer → is_open ≡ is_open_after answer → (is_open ≡ true → (new ≡ records) × (later ≡ i))
       → ((j : List ℕ) → since j → DiffersOnlyIn free i j) → ((r : Rows) → rows_then r → left_rows r) → ((j : List ℕ) → images_then j → DiffersOnlyIn free i j)
       → Serves (record { records = records; image = i }) command now answer is_open (record { records = new; image = later }) (record { rows_before = left_rows; images_since = since; rows_then = rows_then; images_then = images_then })
   changes_nothing command now answer is_open new later since rows_then images_then allowed rests opened goes_on during rows_same images_same = record {
@@ -224,7 +224,7 @@ module _ (records : Records) (rows : Rows) (i : List ℕ) (size failures : ℕ) 
 
   -- it is answered, and the commit has answered `Ok`
   pub accepts : (new : Records) (later : List ℕ) (since : List ℕ → Type 0) (rows_then : Rows → Type 0) (images_then : List ℕ → Type 0)
-      → RestsOnBytes records i command now (Accepted reply) → (new ≡ changed) × (later ≡ j)
+      → DependsOnBytes records i command now (Accepted reply) → (new ≡ changed) × (later ≡ j)
       → ((k : List ℕ) → since k → DiffersOnlyIn free i k) → ((r : Rows) → rows_then r → form_of r ≡ InForm changed) → ((k : List ℕ) → images_then k → DiffersOnlyIn g j k)
       → Serves (record { records = records; image = i }) command now (Accepted reply) true (record { records = new; image = later }) (record { rows_before = left_rows; images_since = since; rows_then = rows_then; images_then = images_then })
   accepts new later since rows_then images_then rests goes_on during only same = record {

@@ -3,7 +3,7 @@ use Rattle.std.proofs.Common.{◌≡◌, ◌≢◌, ℕ, [], ◌∷◌, Some, No
 use Rattle.custody_machine.specs.State.{State}
 use Rattle.custody_machine.specs.Machine.{Command, Entry, Reply, Accept, step, state_of, state_after, reads, VolumeFailed, StoreFailed, MayFail}
 use Rattle.custody_machine.specs.SameValues.{is_same_state}
-use Rattle.custody_machine.specs.History.{Running, Halted, Resting, leads_to}
+use Rattle.custody_machine.specs.History.{Running, Halted, Stopped, leads_to}
 use Rattle.custody_machine.specs.Examples.{pair_of, HasExamples, HistoriesHappen}
 use Rattle.custody_machine.proofs.SameValues.{state_decides}
 
@@ -38,16 +38,16 @@ module _ (first new : State) (command : Command) (now : ℕ) (reply : Reply) (is
 
   pub has_examples : HasExamples first new command now reply
   has_examples = record {
-    acknowledged = ((Running first, Running new, refl, (Running new, (new, is, refl), (Resting (pair_of new), ((new, refl, refl, refl), refl), (Running new, (refl, refl, refl), refl)))), refl);
-    within_found = ((Running first, Running new, refl, (Resting (pair_of new), ((new, refl, inr goes, refl), refl), (Running new, (refl, refl, refl), refl))), found_one);
-    within_lost = λ other. ((Running first, Running first, refl, (Resting (pair_of first), ((first, refl, inl refl, refl), refl), (Running first, (refl, refl, refl), refl))), found_none other);
-    in_doubt_found = λ e. ((Running first, Running new, refl, (Halted first (Some (command, now)), (first, (store_failed e, refl), refl), (Resting (pair_of new), ((new, refl, inr goes, refl), refl), (Running new, (refl, refl, refl), refl)))), found_one);
-    in_doubt_lost = λ e other. ((Running first, Running first, refl, (Halted first (Some (command, now)), (first, (store_failed e, refl), refl), (Resting (pair_of first), ((first, refl, inl refl, refl), refl), (Running first, (refl, refl, refl), refl)))), found_none other);
-    volume_failed = ((Running first, Running first, refl, (Halted first None, (first, (volume_failed, refl), refl), (Halted first None, (refl, refl), (Resting (pair_of first), ((first, refl, refl, refl), refl), (Running first, (refl, refl, refl), refl))))), refl);
-    repeated = λ later again e. ((Running first, Running new, refl, (Running new, (new, is, refl), (Running new, (new, e, refl), (Resting (pair_of new), ((new, refl, refl, refl), refl), (Running new, (refl, refl, refl), refl))))), refl);
-    opened_again = ((Running first, Running first, refl, (Resting (pair_of first), ((first, refl, refl, refl), refl), (Resting (pair_of first), (refl, tt, refl), (Resting (pair_of first), (refl, refl), (Running first, (refl, refl, refl), refl))))), refl);
-    rested = ((Running first, Running new, refl, (Running first, refl, (Running new, (new, is, refl), (Resting (pair_of new), ((new, refl, refl, refl), refl), (Running new, (refl, refl, refl), refl))))), refl);
-    shut_down = ((Running first, Running first, refl, (Halted first None, refl, (Resting (pair_of first), ((first, refl, refl, refl), refl), (Running first, (refl, refl, refl), refl)))), refl);
+    acknowledged = ((Running first, Running new, refl, (Running new, (new, is, refl), (Stopped (pair_of new), ((new, refl, refl, refl), refl), (Running new, (refl, refl, refl), refl)))), refl);
+    within_found = ((Running first, Running new, refl, (Stopped (pair_of new), ((new, refl, inr goes, refl), refl), (Running new, (refl, refl, refl), refl))), found_one);
+    within_lost = λ other. ((Running first, Running first, refl, (Stopped (pair_of first), ((first, refl, inl refl, refl), refl), (Running first, (refl, refl, refl), refl))), found_none other);
+    in_doubt_found = λ e. ((Running first, Running new, refl, (Halted first (Some (command, now)), (first, (store_failed e, refl), refl), (Stopped (pair_of new), ((new, refl, inr goes, refl), refl), (Running new, (refl, refl, refl), refl)))), found_one);
+    in_doubt_lost = λ e other. ((Running first, Running first, refl, (Halted first (Some (command, now)), (first, (store_failed e, refl), refl), (Stopped (pair_of first), ((first, refl, inl refl, refl), refl), (Running first, (refl, refl, refl), refl)))), found_none other);
+    volume_failed = ((Running first, Running first, refl, (Halted first None, (first, (volume_failed, refl), refl), (Halted first None, (refl, refl), (Stopped (pair_of first), ((first, refl, refl, refl), refl), (Running first, (refl, refl, refl), refl))))), refl);
+    repeated = λ later again e. ((Running first, Running new, refl, (Running new, (new, is, refl), (Running new, (new, e, refl), (Stopped (pair_of new), ((new, refl, refl, refl), refl), (Running new, (refl, refl, refl), refl))))), refl);
+    opened_again = ((Running first, Running first, refl, (Stopped (pair_of first), ((first, refl, refl, refl), refl), (Stopped (pair_of first), (refl, tt, refl), (Stopped (pair_of first), (refl, refl), (Running first, (refl, refl, refl), refl))))), refl);
+    rested = ((Running first, Running new, refl, (Running first, refl, (Running new, (new, is, refl), (Stopped (pair_of new), ((new, refl, refl, refl), refl), (Running new, (refl, refl, refl), refl))))), refl);
+    shut_down = ((Running first, Running first, refl, (Halted first None, refl, (Stopped (pair_of first), ((first, refl, refl, refl), refl), (Running first, (refl, refl, refl), refl)))), refl);
   }
 
 pub histories_happen : HistoriesHappen

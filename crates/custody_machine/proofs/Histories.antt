@@ -3,7 +3,7 @@ use Rattle.std.proofs.Common.{◌≡◌, ℕ, List, [], ◌∷◌, ◌++◌, Opt
 use Rattle.custody_machine.specs.State.{State}
 use Rattle.custody_machine.specs.Machine.{Command, Entry, Outcome, Refuse, Accept, step, state_of, state_after, after, Answer, Accepted, Refused, Failed, NoMemory, VolumeFailed, StoreFailed, Closed, Damaged}
 use Rattle.custody_machine.specs.SameValues.{is_same_state}
-use Rattle.custody_machine.specs.History.{IsFoundWithin, MayFind, Pair, OpenAnswer, Opened, NotOpened, MayOpen, Event, Answered, Rested, ShutDown, StoppedAtRest, StoppedWithin, OpenedWith, Condition, Running, Halted, Resting, OpensSoundly, Happens, Run, Begins, Found, leads_to, settled, or_else, found_then, found_after, none_found, OpeningsAreRight, NothingIsTakenBack, AcceptedIsFound}
+use Rattle.custody_machine.specs.History.{IsFoundWithin, MayFind, Pair, OpenAnswer, Opened, NotOpened, MayOpen, Event, Answered, Rested, ShutDown, StoppedAtRest, StoppedWithin, OpenedWith, Condition, Running, Halted, Stopped, OpensSoundly, Happens, Run, Begins, Found, leads_to, settled, or_else, found_then, found_after, none_found, OpeningsAreRight, NothingIsTakenBack, AcceptedIsFound}
 use Rattle.custody_machine.proofs.SameValues.{state_decides}
 
 pub after-append : (state : State) (xs ys : List Entry) → after state (xs ++ ys) ≡ after (after state xs) ys
@@ -35,7 +35,7 @@ module _ (first : State) where
   abbrev pub Fits : Condition → Found → Type 0
   Fits (Running state) f = (after first f.commands ≡ state) × (f.in_doubt ≡ None)
   Fits (Halted old doubt) f = (after first f.commands ≡ old) × (f.in_doubt ≡ doubt)
-  Fits (Resting pair) f = OpensSoundly (λ state. state ≡ after first f.commands) pair × (f.in_doubt ≡ None)
+  Fits (Stopped pair) f = OpensSoundly (λ state. state ≡ after first f.commands) pair × (f.in_doubt ≡ None)
 
   settled_by : (commands : List Entry) (entry : Entry) (pair : Pair) → OpensSoundly (IsFoundWithin (after first commands) entry.0 entry.1) pair
       → OpensSoundly (λ s. s ≡ after first (settled first commands (Some entry) pair).commands) pair
@@ -49,12 +49,12 @@ module _ (first : State) where
       )
 
   -- a session has ended with a command in doubt, or with none
-  settles : (commands : List Entry) (doubt : Option Entry) (pair : Pair) → OpensSoundly (MayFind (after first commands) doubt) pair → Fits (Resting pair) (settled first commands doubt pair)
+  settles : (commands : List Entry) (doubt : Option Entry) (pair : Pair) → OpensSoundly (MayFind (after first commands) doubt) pair → Fits (Stopped pair) (settled first commands doubt pair)
   settles commands None pair h = (h, refl)
   settles commands (Some entry) pair h = (settled_by commands entry pair h, refl)
 
   -- in the state and the doubt that the account names
-  settles_as : (f : Found) (old : State) (doubt : Option Entry) (pair : Pair) → after first f.commands ≡ old → f.in_doubt ≡ doubt → OpensSoundly (MayFind old doubt) pair → Fits (Resting pair) (settled first f.commands f.in_doubt pair)
+  settles_as : (f : Found) (old : State) (doubt : Option Entry) (pair : Pair) → after first f.commands ≡ old → f.in_doubt ≡ doubt → OpensSoundly (MayFind old doubt) pair → Fits (Stopped pair) (settled first f.commands f.in_doubt pair)
   settles_as f old doubt pair is in_doubt h = settles f.commands f.in_doubt pair (weaker pair (λ s m. subst (λ d. MayFind (after first f.commands) d s) (sym in_doubt) (subst (λ o. MayFind o doubt s) (sym is) m)) h)
 
   -- a stop within a command leaves no more
@@ -63,7 +63,7 @@ module _ (first : State) where
   or_within old (Some entry) command now s h = h
 
   settles_within : (f : Found) (old : State) (doubt : Option Entry) (command : Command) (now : ℕ) (pair : Pair) → after first f.commands ≡ old → f.in_doubt ≡ doubt → OpensSoundly (MayFind old (or_else doubt (Some (command, now)))) pair
-      → Fits (Resting pair) (settled first f.commands (or_else f.in_doubt (Some (command, now))) pair)
+      → Fits (Stopped pair) (settled first f.commands (or_else f.in_doubt (Some (command, now))) pair)
   settles_within f old doubt command now pair is in_doubt h =
       settles f.commands (or_else f.in_doubt (Some (command, now))) pair
       (weaker pair (λ s m. subst (λ d. MayFind (after first f.commands) (or_else d (Some (command, now))) s) (sym in_doubt) (subst (λ o. MayFind o (or_else doubt (Some (command, now))) s) (sym is) m)) h)
@@ -102,18 +102,18 @@ module _ (first : State) where
       subst (λ c. Fits c (settled first f.commands (or_else f.in_doubt (Some (command, now))) pair)) (sym h.1)
       (settles_within f old doubt command now pair fits.0 fits.1 (weaker pair (or_within old doubt command now) h.0))
   fits_then (Halted old doubt) (OpenedWith pair answer) next f fits h = absurd h
-  fits_then (Resting left) (Answered command now answer) next f fits h = absurd h
-  fits_then (Resting left) Rested next f fits h = absurd h
-  fits_then (Resting left) ShutDown next f fits h = absurd h
-  fits_then (Resting left) (StoppedAtRest pair) next f fits h =
-      subst (λ c. Fits c (settled first f.commands f.in_doubt pair)) (sym h.1) (subst (λ d. Fits (Resting left) (settled first f.commands d pair)) (sym fits.1) (fits.0, refl))
-  fits_then (Resting left) (StoppedWithin command now pair) next f fits h = absurd h
-  fits_then (Resting left) (OpenedWith pair (Opened state)) next f fits h =
+  fits_then (Stopped left) (Answered command now answer) next f fits h = absurd h
+  fits_then (Stopped left) Rested next f fits h = absurd h
+  fits_then (Stopped left) ShutDown next f fits h = absurd h
+  fits_then (Stopped left) (StoppedAtRest pair) next f fits h =
+      subst (λ c. Fits c (settled first f.commands f.in_doubt pair)) (sym h.1) (subst (λ d. Fits (Stopped left) (settled first f.commands d pair)) (sym fits.1) (fits.0, refl))
+  fits_then (Stopped left) (StoppedWithin command now pair) next f fits h = absurd h
+  fits_then (Stopped left) (OpenedWith pair (Opened state)) next f fits h =
       subst (λ c. Fits c f) (sym h.2) (sym fits.0.2 ∙ opened fits.0.0 left.opens fits.0.1 (subst (λ (p : Pair). p.opens ≡ Some state) h.0 h.1), fits.1)
     where
       opened : (s : State) (o : Option State) → o ≡ Some s → o ≡ Some state → s ≡ state
       opened s o p q = cc
-  fits_then (Resting left) (OpenedWith pair (NotOpened fault)) next f fits h = subst (λ c. Fits c f) (sym (h.2 ∙ ap Resting h.0)) fits
+  fits_then (Stopped left) (OpenedWith pair (NotOpened fault)) next f fits h = subst (λ c. Fits c f) (sym (h.2 ∙ ap Stopped h.0)) fits
 
   pub fits_after : (c : Condition) (events : List Event) (last : Condition) (f : Found) → Fits c f → Run c events last → Fits last (found_after first f events)
   fits_after c [] last f fits run = subst (λ d. Fits d f) (sym run) fits
@@ -122,12 +122,12 @@ module _ (first : State) where
   pub fits_first : (c : Condition) → Begins first c → Fits c none_found
   fits_first (Running state) h = (sym h, refl)
   fits_first (Halted old doubt) h = absurd h
-  fits_first (Resting pair) h = (h, refl)
+  fits_first (Stopped pair) h = (h, refl)
 
   opening_is_right : (c next : Condition) (pair : Pair) (answer : OpenAnswer) (f : Found) → Fits c f → Happens c (OpenedWith pair answer) next → OpensSoundly (λ state. state ≡ after first f.commands) pair × MayOpen (Some (after first f.commands)) answer
   opening_is_right (Running old) next pair answer f fits h = absurd h
   opening_is_right (Halted old doubt) next pair answer f fits h = absurd h
-  opening_is_right (Resting left) next pair answer f fits h =
+  opening_is_right (Stopped left) next pair answer f fits h =
       let sound : OpensSoundly (λ state. state ≡ after first f.commands) pair = subst (OpensSoundly (λ state. state ≡ after first f.commands)) (sym h.0) fits.0 in
       (sound, subst (λ opens. MayOpen opens answer) (sound.1 ∙ ap Some sound.2) h.1)
 

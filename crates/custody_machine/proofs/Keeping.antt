@@ -21,7 +21,7 @@ use Rattle.desk.specs.declared.notices.NoticeKind.TheVariants.{Receipt, Failure,
 use Rattle.custody_records.specs.Keys.{PartKey, part_cmp, NoticeKey}
 use Rattle.custody_records.specs.Records as kept_in
 use Rattle.custody_records.specs.Records.{Notice, key_of}
-use Rattle.custody_machine.specs.declared.command.Statement as told
+use Rattle.custody_machine.specs.declared.command.Statement as statement
 use Rattle.custody_machine.specs.Names.{read_name}
 use Rattle.custody_machine.specs.SameValues.{is_same_kind}
 use Rattle.custody_machine.specs.State.{State, Part, Held, places, at_place, is_notice_of, has_notice}
@@ -154,11 +154,11 @@ and_both true b h = (refl, h)
 and_both false b h = cc
 
 -- an entry is a verdict on the revision
-abbrev is_verdict_on : told.Statement → NoticeKey × Notice → Bool
+abbrev is_verdict_on : statement.Statement → NoticeKey × Notice → Bool
 is_verdict_on st = is_notice_of st.tld st.day (is_verdict_of st.rev)
 
 -- what is kept of a statement that was accepted
-pub record KeepsVerdict (s : State) (st : told.Statement) (entry : Record) : Type 0 where
+pub record KeepsVerdict (s : State) (st : statement.Statement) (entry : Record) : Type 0 where
   pub kept : NoticeKey × Notice
   pub found : kept_verdict s st ≡ Some kept
   pub made : entry ≡ OfNotice kept.0 kept.1
@@ -179,7 +179,7 @@ pub record KeepsRelease (s : State) (reference tld : List ℕ) (reason : Ground)
   pub registry : is_unknown s tld ≡ false
 
 -- what a verdict that is kept tells: the parts are as stated, it is the one of the revision, and it has the id
-pub kept_tells : (s : State) (st : told.Statement) (kept : NoticeKey × Notice) → kept_verdict s st ≡ Some kept → (are_as_stated s st ≡ true) × (verdict_told s st ≡ Some kept) × (has_id st.id kept.1.kind ≡ true)
+pub kept_tells : (s : State) (st : statement.Statement) (kept : NoticeKey × Notice) → kept_verdict s st ≡ Some kept → (are_as_stated s st ≡ true) × (verdict_told s st ≡ Some kept) × (has_id st.id kept.1.kind ≡ true)
 kept_tells s st kept e = by (are_as_stated s st) refl e
   where
     by_id : (o : Option (NoticeKey × Notice)) → option_and_then (if_of_id st.id) o ≡ Some kept → (o ≡ Some kept) × (has_id st.id kept.1.kind ≡ true)
@@ -190,7 +190,7 @@ kept_tells s st kept e = by (are_as_stated s st) refl e
     by true t e = let h = by_id (verdict_told s st) e in (t, h.0, h.1)
     by false t e = cc
 
-pub kept_of : (s : State) (st : told.Statement) (kept : NoticeKey × Notice) → are_as_stated s st ≡ true → verdict_told s st ≡ Some kept → has_id st.id kept.1.kind ≡ true → kept_verdict s st ≡ Some kept
+pub kept_of : (s : State) (st : statement.Statement) (kept : NoticeKey × Notice) → are_as_stated s st ≡ true → verdict_told s st ≡ Some kept → has_id st.id kept.1.kind ≡ true → kept_verdict s st ≡ Some kept
 kept_of s st kept as_stated told has = ap (λ b. if b then option_and_then (if_of_id st.id) (verdict_told s st) else None) as_stated ∙ ap (option_and_then (if_of_id st.id)) told ∙ ap (λ b. if b then Some kept else None) has
 
 -- the first notice of a day that passes a test is one of the day's
@@ -201,20 +201,20 @@ first_is_there s tld day test found e = (
   any_of_found (is_notice_of tld day test) (is_notice_of tld day test) (entries s.notices) found e (passes_found (is_notice_of tld day test) (entries s.notices) found e),
 )
 
-pub told_is_there : (s : State) (st : told.Statement) (kept : NoticeKey × Notice) → verdict_told s st ≡ Some kept → (get s.notices kept.0 ≡ Some kept.1) × (has_verdict s st ≡ true)
+pub told_is_there : (s : State) (st : statement.Statement) (kept : NoticeKey × Notice) → verdict_told s st ≡ Some kept → (get s.notices kept.0 ≡ Some kept.1) × (has_verdict s st ≡ true)
 told_is_there s st kept e = first_is_there s st.tld st.day (is_verdict_of st.rev) kept e
 
 -- parts at the same places, of the same kinds, are as stated alike
-pub as_stated_alike : (s t : State) (st : told.Statement) → ((place : ℕ) → is_some (part_in t (first_part st) place) ≡ is_some (part_in s (first_part st) place))
+pub as_stated_alike : (s t : State) (st : statement.Statement) → ((place : ℕ) → is_some (part_in t (first_part st) place) ≡ is_some (part_in s (first_part st) place))
     → ((place : ℕ) → has_other_kind st.kind (part_in t (first_part st) place) ≡ has_other_kind st.kind (part_in s (first_part st) place)) → are_as_stated t st ≡ are_as_stated s st
 as_stated_alike s t st there kinds = λ i. not (list_any (λ place. kinds place i) places)
     && not ((count_by (λ place. there place i) places == 0) || not (count_by (λ place. there place i) places == st.parts))
 
-same_as_stated : (s t : State) (st : told.Statement) → ((place : ℕ) → part_in t (first_part st) place ≡ part_in s (first_part st) place) → are_as_stated t st ≡ are_as_stated s st
+same_as_stated : (s t : State) (st : statement.Statement) → ((place : ℕ) → part_in t (first_part st) place ≡ part_in s (first_part st) place) → are_as_stated t st ≡ are_as_stated s st
 same_as_stated s t st e = as_stated_alike s t st (λ place. ap is_some (e place)) (λ place. ap (has_other_kind st.kind) (e place))
 
 -- a part of another revision is no part of this one
-part_elsewhere : (s : State) (key : PartKey) (part : Part) (st : told.Statement) → ((key.tld ≡ st.tld) → (key.day ≡ st.day) → (key.rev ≡ st.rev) → ⊥) → (place : ℕ) → part_in (with_part s key part) (first_part st) place ≡ part_in s (first_part st) place
+part_elsewhere : (s : State) (key : PartKey) (part : Part) (st : statement.Statement) → ((key.tld ≡ st.tld) → (key.day ≡ st.day) → (key.rev ≡ st.rev) → ⊥) → (place : ℕ) → part_in (with_part s key part) (first_part st) place ≡ part_in s (first_part st) place
 part_elsewhere s key part st other place = get-insert part_total s.parts key part (at_place (key_of (first_part st)) place) ∙ by (at_place (key_of (first_part st)) place) (λ e. e) (eq_by_cmp part_cmp (at_place (key_of (first_part st)) place) key) refl
   where
     by : (q : PartKey) → (q ≡ key → at_place (key_of (first_part st)) place ≡ key) → (b : Bool) → eq_by_cmp part_cmp q key ≡ b → cond b (Some part) (get s.parts q) ≡ get s.parts q
@@ -223,18 +223,18 @@ part_elsewhere s key part st other place = get-insert part_total s.parts key par
         absurd (other (ap (λ (k : PartKey). k.tld) (sym same)) (ap (λ (k : PartKey). k.day) (sym same)) (ap (λ (k : PartKey). k.rev) (sym same)))
     by q is false t = refl
 
-verdict_rev : (st : told.Statement) (v : Verdict) (rev : ℕ) → is_verdict_of rev (notice_kind st v) ≡ (st.rev == rev)
+verdict_rev : (st : statement.Statement) (v : Verdict) (rev : ℕ) → is_verdict_of rev (notice_kind st v) ≡ (st.rev == rev)
 verdict_rev st Pass rev = refl
 verdict_rev st (Fail check) rev = refl
 
-verdict_id : (st : told.Statement) (v : Verdict) → has_id st.id (notice_kind st v) ≡ true
+verdict_id : (st : statement.Statement) (v : Verdict) → has_id st.id (notice_kind st v) ≡ true
 verdict_id st Pass = (text_decides st.id st.id).1 refl
 verdict_id st (Fail check) = (text_decides st.id st.id).1 refl
 
 -- a state that goes on from another: it has its records, and what was stated is stated still, and what was missed is
 pub record Continues (s new : State) : Type 0 where
   pub records : KeepsRecords s new
-  pub verdicts : (st : told.Statement) (kept : NoticeKey × Notice) → kept_verdict s st ≡ Some kept → kept_verdict new st ≡ Some kept
+  pub verdicts : (st : statement.Statement) (kept : NoticeKey × Notice) → kept_verdict s st ≡ Some kept → kept_verdict new st ≡ Some kept
   pub absences : (tld : List ℕ) (day : ℕ) (kept : NoticeKey × Notice) → absence_of s tld day ≡ Some kept → absence_of new tld day ≡ Some kept
 
 continues_itself : (s : State) → Continues s s
@@ -253,7 +253,7 @@ continues_adding s text bytes now name none at records = record {
     unstated : has_notice s.notices name.tld name.day (is_verdict_of name.rev) ≡ false
     unstated = ap (λ o. is_none o && has_notice s.notices name.tld name.day (is_verdict_of name.rev)) (sym at) ∙ none.stated
 
-    elsewhere : (st : told.Statement) → has_verdict s st ≡ true → (name.tld ≡ st.tld) → (name.day ≡ st.day) → (name.rev ≡ st.rev) → ⊥
+    elsewhere : (st : statement.Statement) → has_verdict s st ≡ true → (name.tld ≡ st.tld) → (name.day ≡ st.day) → (name.rev ≡ st.rev) → ⊥
     elsewhere st has a b c = let same : has_notice s.notices name.tld name.day (is_verdict_of name.rev) ≡ has_verdict s st = (λ i. has_notice s.notices (a i) (b i) (is_verdict_of (c i))) in
         let clash : true ≡ false = sym has ∙ sym same ∙ unstated in cc
 
@@ -279,7 +279,7 @@ continues_dropping s today = record {
   absences = λ tld day kept e. e;
 }
   where
-    after : (st : told.Statement) (place : ℕ) → part_in (without_due s today) (first_part st) place ≡ option_map (dropped_if_due today) (part_in s (first_part st) place)
+    after : (st : statement.Statement) (place : ℕ) → part_in (without_due s today) (first_part st) place ≡ option_map (dropped_if_due today) (part_in s (first_part st) place)
     after st place = get-map_values part_cmp (dropped_if_due today) s.parts (at_place (key_of (first_part st)) place)
 
     there : (o : Option Part) → is_some (option_map (dropped_if_due today) o) ≡ is_some o
@@ -321,7 +321,7 @@ continues_noticing s tld notice first = record {
 }
 
 -- a verdict is the first on its revision, where there is none
-verdict_is_first : (s : State) (st : told.Statement) (v : Verdict) (now : ℕ) → has_verdict s st ≡ false → IsFirst s st.tld (verdict_notice st v now)
+verdict_is_first : (s : State) (st : statement.Statement) (v : Verdict) (now : ℕ) → has_verdict s st ≡ false → IsFirst s st.tld (verdict_notice st v now)
 verdict_is_first s st v now unstated = record {
   verdict = λ rev is.
       let same : st.rev ≡ rev = (Decides-eqb st.rev rev).0 (sym (verdict_rev st v rev) ∙ is) in
@@ -342,13 +342,13 @@ absence_is_first s tld day now at = record { verdict = λ rev is. cc; absence = 
     by true h = let found = found_where_any (is_notice_of tld day is_absence) (entries s.notices) h in let clash : Some found.0 ≡ None = sym found.1 ∙ at in cc
 
 -- where no verdict is kept and none of the refusals stands, the revision has none
-pub unstated_of : (s : State) (st : told.Statement) (now : ℕ) → NoneStandsOf s st now → kept_verdict s st ≡ None → has_verdict s st ≡ false
+pub unstated_of : (s : State) (st : statement.Statement) (now : ℕ) → NoneStandsOf s st now → kept_verdict s st ≡ None → has_verdict s st ≡ false
 unstated_of s st now none e = ap (λ o. is_none o && has_verdict s st) (sym e) ∙ none.stated
 
 pub step_continues : (s : State) (c : Command) (now : ℕ) (reply : Reply) (new : State) → step s c now ≡ Accept reply new → Continues s new
 step_continues s (Register tld day) now reply new e = record { records = step_keeps s (Register tld day) now reply new e; verdicts = λ st kept h. by st kept h (first_day_of s tld) (step_accepts s (Register tld day) now reply new e).1; absences = λ other at kept h. absent other at kept h (first_day_of s tld) (step_accepts s (Register tld day) now reply new e).1 }
   where
-    by : (st : told.Statement) (kept : NoticeKey × Notice) → kept_verdict s st ≡ Some kept → (o : Option ℕ) → registered s tld day now o ≡ Accept reply new → kept_verdict new st ≡ Some kept
+    by : (st : statement.Statement) (kept : NoticeKey × Notice) → kept_verdict s st ≡ Some kept → (o : Option ℕ) → registered s tld day now o ≡ Accept reply new → kept_verdict new st ≡ Some kept
     by st kept h (Some first) e = subst (λ t. kept_verdict t st ≡ Some kept) (accept_inj _ _ _ _ e).1 h
     by st kept h None e = subst (λ t. kept_verdict t st ≡ Some kept) (accept_inj _ _ _ _ e).1 h
 

@@ -25,3 +25,4 @@ pub mod Purged
 pub mod Compared
 pub mod Room
 pub mod Examples
+pub mod Accepted

@@ -8,7 +8,7 @@ use Rattle.custody_records.specs.Records.{Records}
 use Rattle.custody_records.specs.Rows.{Rows}
 use Rattle.custody_machine.specs.State.{State}
 use Rattle.custody_machine.specs.Machine.{Command, after, Answer, Failed, Fault, NoMemory, VolumeFailed, StoreFailed, Closed, Damage, Damaged, Answers}
-use Rattle.custody_machine.specs.History.{IsFoundWithin, MayFind, doubt_of, is_open_after, Pair, Opened, NotOpened, MayOpen, Event, Answered, Rested, ShutDown, StoppedAtRest, StoppedWithin, OpenedWith, Condition, Running, Halted, Resting, OpensSoundly, Happens, Run, Begins, Found, found, found_after, none_found}
+use Rattle.custody_machine.specs.History.{IsFoundWithin, MayFind, doubt_of, is_open_after, Pair, Opened, NotOpened, MayOpen, Event, Answered, Rested, ShutDown, StoppedAtRest, StoppedWithin, OpenedWith, Condition, Running, Halted, Stopped, OpensSoundly, Happens, Run, Begins, Found, found, found_after, none_found}
 use Rattle.custody_machine.specs.Stored.{part_of, content_of, state_in, Stands, HasDigests, IsSound, OpensFrom}
 use Rattle.custody_machine.specs.Moves.{Place, Serving, Shut, Left, MayLeave, Finds, MayNotOpen, Moves, MovesAlong, IsBegun, MovesAreHistories, IsIn, PlacesAreRight, fault_told, NoDamageIsTold, ReadsBackAsReceived, FindsOne, ChainsMove}
 use Rattle.custody_machine.proofs.MapValues.{get-map_values}
@@ -48,13 +48,13 @@ finds_one rows image a b f g =
 abbrev pub Follows : Place → Condition → Type 0
 Follows (Serving records image) (Running state) = (state ≡ state_in records image) × HasDigests image records
 Follows (Serving records image) (Halted old doubt) = ⊥
-Follows (Serving records image) (Resting pair) = ⊥
+Follows (Serving records image) (Stopped pair) = ⊥
 Follows (Shut records image doubt) (Running state) = ⊥
 Follows (Shut records image doubt) (Halted old entry) = (old ≡ state_in records image) × (entry ≡ doubt) × HasDigests image records
-Follows (Shut records image doubt) (Resting pair) = ⊥
+Follows (Shut records image doubt) (Stopped pair) = ⊥
 Follows (Left rows image) (Running state) = ⊥
 Follows (Left rows image) (Halted old doubt) = ⊥
-Follows (Left rows image) (Resting pair) = (state : State) × Stands rows image state × IsSound rows image × (pair ≡ pair_of state)
+Follows (Left rows image) (Stopped pair) = (state : State) × Stands rows image state × IsSound rows image × (pair ≡ pair_of state)
 
 -- an event goes from a condition to one that follows the place
 abbrev Goes : Condition → Event → Place → Type 0
@@ -68,7 +68,7 @@ module _ (records : Records) (image : List ℕ) (has : HasDigests image records)
   opens_soundly : OpensSoundly P pair
   opens_soundly = subst (OpensSoundly P) (sym is_pair) (state_in o.records left, refl, o.state, refl)
 
-  follows_left : Follows (Left rows left) (Resting pair)
+  follows_left : Follows (Left rows left) (Stopped pair)
   follows_left = (state_in o.records left, stands_of records image P rows left o, sound_of records image P rows left o has, is_pair)
 
 answered_follows : (records : Records) (image : List ℕ) (state : State) (command : Command) (now : ℕ) (answer : Answer) (next : Place) → Follows (Serving records image) (Running state) → Moves (Serving records image) (Answered command now answer) next → Goes (Running state) (Answered command now answer) next
@@ -106,48 +106,48 @@ move_happens (Serving records image) (Running state) Rested next follows m =
 move_happens (Serving records image) (Running state) ShutDown next follows m = (Halted state None, refl, subst (λ p. Follows p (Halted state None)) (sym m) (follows.0, refl, follows.1))
 move_happens (Serving records image) (Running state) (StoppedAtRest pair) next follows m =
     let P : State → Type 0 = λ found. found ≡ state_in records image in
-    (Resting pair, (subst (λ s. OpensSoundly (λ found. found ≡ s) pair) (sym follows.0) (opens_soundly records image follows.1 P m.0 m.1 pair m.2 m.3), refl), subst (λ p. Follows p (Resting pair)) (sym m.4) (follows_left records image follows.1 P m.0 m.1 pair m.2 m.3))
+    (Stopped pair, (subst (λ s. OpensSoundly (λ found. found ≡ s) pair) (sym follows.0) (opens_soundly records image follows.1 P m.0 m.1 pair m.2 m.3), refl), subst (λ p. Follows p (Stopped pair)) (sym m.4) (follows_left records image follows.1 P m.0 m.1 pair m.2 m.3))
 move_happens (Serving records image) (Running state) (StoppedWithin command now pair) next follows m =
     let P : State → Type 0 = IsFoundWithin (state_in records image) command now in
-    (Resting pair, (subst (λ s. OpensSoundly (IsFoundWithin s command now) pair) (sym follows.0) (opens_soundly records image follows.1 P m.0 m.1 pair m.2 m.3), refl), subst (λ p. Follows p (Resting pair)) (sym m.4) (follows_left records image follows.1 P m.0 m.1 pair m.2 m.3))
+    (Stopped pair, (subst (λ s. OpensSoundly (IsFoundWithin s command now) pair) (sym follows.0) (opens_soundly records image follows.1 P m.0 m.1 pair m.2 m.3), refl), subst (λ p. Follows p (Stopped pair)) (sym m.4) (follows_left records image follows.1 P m.0 m.1 pair m.2 m.3))
 move_happens (Serving records image) (Running state) (OpenedWith pair answer) next follows m = absurd m
 move_happens (Shut records image doubt) (Halted old entry) (Answered command now answer) next follows m = (Halted old entry, (m.0, refl), subst (λ p. Follows p (Halted old entry)) (sym m.1) follows)
 move_happens (Shut records image doubt) (Halted old entry) Rested next follows m = (Halted old entry, refl, subst (λ p. Follows p (Halted old entry)) (sym m) follows)
 move_happens (Shut records image doubt) (Halted old entry) ShutDown next follows m = (Halted old entry, refl, subst (λ p. Follows p (Halted old entry)) (sym m) follows)
 move_happens (Shut records image doubt) (Halted old entry) (StoppedAtRest pair) next follows m =
     let P : State → Type 0 = MayFind (state_in records image) doubt in (
-      Resting pair,
+      Stopped pair,
       ((λ (z : OpensSoundly (MayFind old entry) pair). z) (subst (λ s. OpensSoundly (MayFind s entry) pair) (sym follows.0) (subst (λ d. OpensSoundly (MayFind (state_in records image) d) pair) (sym follows.1) (opens_soundly records image follows.2 P m.0 m.1 pair m.2 m.3))), refl),
-      subst (λ p. Follows p (Resting pair)) (sym m.4) (follows_left records image follows.2 P m.0 m.1 pair m.2 m.3),
+      subst (λ p. Follows p (Stopped pair)) (sym m.4) (follows_left records image follows.2 P m.0 m.1 pair m.2 m.3),
     )
 move_happens (Shut records image doubt) (Halted old entry) (StoppedWithin command now pair) next follows m =
     let P : State → Type 0 = MayFind (state_in records image) doubt in (
-      Resting pair,
+      Stopped pair,
       ((λ (z : OpensSoundly (MayFind old entry) pair). z) (subst (λ s. OpensSoundly (MayFind s entry) pair) (sym follows.0) (subst (λ d. OpensSoundly (MayFind (state_in records image) d) pair) (sym follows.1) (opens_soundly records image follows.2 P m.0 m.1 pair m.2 m.3))), refl),
-      subst (λ p. Follows p (Resting pair)) (sym m.4) (follows_left records image follows.2 P m.0 m.1 pair m.2 m.3),
+      subst (λ p. Follows p (Stopped pair)) (sym m.4) (follows_left records image follows.2 P m.0 m.1 pair m.2 m.3),
     )
 move_happens (Shut records image doubt) (Halted old entry) (OpenedWith pair answer) next follows m = absurd m
-move_happens (Left rows image) (Resting left) (Answered command now answer) next follows m = absurd m
-move_happens (Left rows image) (Resting left) Rested next follows m = absurd m
-move_happens (Left rows image) (Resting left) ShutDown next follows m = absurd m
-move_happens (Left rows image) (Resting left) (StoppedAtRest pair) next follows m = stopped rows image left pair m.0 m.1 next follows m.2 m.3 m.4
+move_happens (Left rows image) (Stopped left) (Answered command now answer) next follows m = absurd m
+move_happens (Left rows image) (Stopped left) Rested next follows m = absurd m
+move_happens (Left rows image) (Stopped left) ShutDown next follows m = absurd m
+move_happens (Left rows image) (Stopped left) (StoppedAtRest pair) next follows m = stopped rows image left pair m.0 m.1 next follows m.2 m.3 m.4
   where
-    stopped : (rows : Rows) (image : List ℕ) (left pair : Pair) (others : Rows) (other : List ℕ) (next : Place) → Follows (Left rows image) (Resting left) → MayLeave (Left rows image) others other → Finds others other pair → next ≡ Left others other → Goes (Resting left) (StoppedAtRest pair) next
+    stopped : (rows : Rows) (image : List ℕ) (left pair : Pair) (others : Rows) (other : List ℕ) (next : Place) → Follows (Left rows image) (Stopped left) → MayLeave (Left rows image) others other → Finds others other pair → next ≡ Left others other → Goes (Stopped left) (StoppedAtRest pair) next
     stopped rows image left pair others other next follows may finds is =
         let s : Stands rows image follows.0 = follows.1 in
         let has : HasDigests image s.records = follows.2 s.records s.in_form in
         let o = may s.records s.in_form s.good in
         let P : State → Type 0 = λ found. found ≡ state_in s.records image in
         let same : pair ≡ left = is_pair s.records image has P others other pair o finds ∙ ap pair_of (o.state ∙ sym s.meaning) ∙ sym follows.3 in
-        (Resting left, (same, refl), subst (λ p. Follows p (Resting left)) (sym is) (subst (λ q. Follows (Left others other) (Resting q)) same (follows_left s.records image has P others other pair o finds)))
-move_happens (Left rows image) (Resting left) (StoppedWithin command now pair) next follows m = absurd m
-move_happens (Left rows image) (Resting left) (OpenedWith pair (Opened state)) next follows m =
+        (Stopped left, (same, refl), subst (λ p. Follows p (Stopped left)) (sym is) (subst (λ q. Follows (Left others other) (Stopped q)) same (follows_left s.records image has P others other pair o finds)))
+move_happens (Left rows image) (Stopped left) (StoppedWithin command now pair) next follows m = absurd m
+move_happens (Left rows image) (Stopped left) (OpenedWith pair (Opened state)) next follows m =
     let finds = m.0 in let r = m.1 in
     let stands : Stands rows image state = record { records = r.0; in_form = r.1; good = r.2; meaning = r.3 } in
     let same : pair ≡ pair_of state = finds_one rows image pair (pair_of state) finds (finds_some rows image state stands follows.2) in
     let left_is : left ≡ pair_of state = follows.3 ∙ ap pair_of (stands_for_one rows image follows.0 state follows.1 stands) in
     (Running state, (same ∙ sym left_is, ap (λ (p : Pair). p.opens) same, refl), subst (λ p. Follows p (Running state)) (sym r.4) (r.3, follows.2 r.0 r.1))
-move_happens (Left rows image) (Resting left) (OpenedWith pair (NotOpened fault)) next follows m = failed rows image left pair fault m.2.0 m.2.1 next follows m.0 m.1 m.2.2 m.2.3
+move_happens (Left rows image) (Stopped left) (OpenedWith pair (NotOpened fault)) next follows m = failed rows image left pair fault m.2.0 m.2.1 next follows m.0 m.1 m.2.2 m.2.3
   where
     may_open : (rows : Rows) (image : List ℕ) (state : State) (opens : Option State) (fault : Fault) → Stands rows image state → MayNotOpen rows image fault → MayOpen opens (NotOpened fault)
     may_open rows image state opens NoMemory stands may = tt
@@ -156,7 +156,7 @@ move_happens (Left rows image) (Resting left) (OpenedWith pair (NotOpened fault)
     may_open rows image state opens Closed stands may = may
     may_open rows image state opens (Damaged damage) stands may = absurd (damaged_stands damage rows image state may.is_true stands)
 
-    failed : (rows : Rows) (image : List ℕ) (left pair : Pair) (fault : Fault) (others : Rows) (other : List ℕ) (next : Place) → Follows (Left rows image) (Resting left) → Finds rows image pair → MayNotOpen rows image fault → MayLeave (Left rows image) others other → next ≡ Left others other → Goes (Resting left) (OpenedWith pair (NotOpened fault)) next
+    failed : (rows : Rows) (image : List ℕ) (left pair : Pair) (fault : Fault) (others : Rows) (other : List ℕ) (next : Place) → Follows (Left rows image) (Stopped left) → Finds rows image pair → MayNotOpen rows image fault → MayLeave (Left rows image) others other → next ≡ Left others other → Goes (Stopped left) (OpenedWith pair (NotOpened fault)) next
     failed rows image left pair fault others other next follows finds may leaves is =
         let s : Stands rows image follows.0 = follows.1 in
         let has : HasDigests image s.records = follows.2 s.records s.in_form in
@@ -164,14 +164,14 @@ move_happens (Left rows image) (Resting left) (OpenedWith pair (NotOpened fault)
         let P : State → Type 0 = λ found. found ≡ state_in s.records image in
         let same : pair ≡ left = finds_one rows image pair (pair_of follows.0) finds (finds_some rows image follows.0 s follows.2) ∙ sym follows.3 in
         let found : pair ≡ pair_of (state_in o.records other) = same ∙ follows.3 ∙ ap pair_of (s.meaning ∙ sym o.state) in (
-          Resting pair,
+          Stopped pair,
           (same, may_open rows image follows.0 pair.opens fault s may, refl),
-          subst (λ p. Follows p (Resting pair)) (sym is) (state_in o.records other, stands_of s.records image P others other o, sound_of s.records image P others other o has, found),
+          subst (λ p. Follows p (Stopped pair)) (sym is) (state_in o.records other, stands_of s.records image P others other o, sound_of s.records image P others other o has, found),
         )
 move_happens (Serving records image) (Halted old entry) event next follows m = absurd follows
-move_happens (Serving records image) (Resting left) event next follows m = absurd follows
+move_happens (Serving records image) (Stopped left) event next follows m = absurd follows
 move_happens (Shut records image doubt) (Running state) event next follows m = absurd follows
-move_happens (Shut records image doubt) (Resting left) event next follows m = absurd follows
+move_happens (Shut records image doubt) (Stopped left) event next follows m = absurd follows
 move_happens (Left rows image) (Running state) event next follows m = absurd follows
 move_happens (Left rows image) (Halted old entry) event next follows m = absurd follows
 
@@ -185,7 +185,7 @@ moves_follow place condition (event ∷ events) end follows m =
 begun_follows : (first : State) (place : Place) → IsBegun first place → (start : Condition) × Begins first start × Follows place start
 begun_follows first (Serving records image) h = (Running (state_in records image), h.0, (refl, h.1))
 begun_follows first (Shut records image doubt) h = absurd h
-begun_follows first (Left rows image) h = (Resting (pair_of first), (first, refl, refl, refl), (first, h.0, h.1, refl))
+begun_follows first (Left rows image) h = (Stopped (pair_of first), (first, refl, refl, refl), (first, h.0, h.1, refl))
 
 pub moves_are_histories : (first : State) → MovesAreHistories first
 moves_are_histories first start end events begun m =
@@ -198,14 +198,14 @@ moves_are_histories first start end events begun m =
 is_in : (first : State) (place : Place) (condition : Condition) (f : Found) → Follows place condition → Fits first condition f → IsIn (after first f.commands) place
 is_in first (Serving records image) (Running state) f follows fits = (sym follows.0 ∙ sym fits.0, follows.1)
 is_in first (Shut records image doubt) (Halted old entry) f follows fits = (sym follows.0 ∙ sym fits.0, follows.2)
-is_in first (Left rows image) (Resting pair) f follows fits =
+is_in first (Left rows image) (Stopped pair) f follows fits =
     let opens : Some fits.0.0 ≡ Some follows.0 = sym fits.0.1 ∙ ap (λ (p : Pair). p.opens) follows.3 in
     let same : fits.0.0 ≡ follows.0 = cc in
     (subst (Stands rows image) (sym same ∙ fits.0.2) follows.1, follows.2)
 is_in first (Serving records image) (Halted old entry) f follows fits = absurd follows
-is_in first (Serving records image) (Resting pair) f follows fits = absurd follows
+is_in first (Serving records image) (Stopped pair) f follows fits = absurd follows
 is_in first (Shut records image doubt) (Running state) f follows fits = absurd follows
-is_in first (Shut records image doubt) (Resting pair) f follows fits = absurd follows
+is_in first (Shut records image doubt) (Stopped pair) f follows fits = absurd follows
 is_in first (Left rows image) (Running state) f follows fits = absurd follows
 is_in first (Left rows image) (Halted old entry) f follows fits = absurd follows
 

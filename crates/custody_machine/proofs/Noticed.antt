@@ -17,7 +17,7 @@ use Rattle.custody_records.specs.Keys.{PartKey, NoticeKey, notice_cmp}
 use Rattle.custody_records.specs.Records.{PartRecord, Notice, Records, key_of}
 use Rattle.custody_records.specs.Records as recorded_in
 use Rattle.custody_records.specs.Orders.{notice_total, notice_exact}
-use Rattle.custody_machine.specs.declared.command.Statement as told
+use Rattle.custody_machine.specs.declared.command.Statement as statement
 use Rattle.custody_machine.specs.State.{places, at_place, is_notice_of, has_notice}
 use Rattle.custody_machine.specs.Machine.{Statement, Check, absence_of, absence_notice, is_absence, OfNotice, Reply, Accept, step, reads, is_receipt, is_failure_of, is_verdict_of, has_other_kind, is_dropped, is_gone, part_in, first_part, has_dropped_part, has_verdict, kept_verdict, next_key, notice_kind, verdict_notice, verdict_on, part_keys, with_notice, if_made}
 use Rattle.custody_machine.specs.Stored.{AreLinked, AreWhole, IsGood, AreOfOneDay, part_of, content_of, revision_of, state_in}
@@ -246,7 +246,7 @@ module _ (records : Records) (whole : AreWhole records) (tld : List ℕ) (notice
 
 -- ---- the notice of a verdict
 
-module _ (records : Records) (i : List ℕ) (whole : AreWhole records) (st : told.Statement) (now : ℕ) (d : Decides (Makes (AddsVerdict st)) records (Statement st) now) where
+module _ (records : Records) (i : List ℕ) (whole : AreWhole records) (st : statement.Statement) (now : ℕ) (d : Decides (Makes (AddsVerdict st)) records (Statement st) now) where
   stated : IsStated (state_in records i) st now (record { entry = OfNotice (next_key records.notices st.tld) (verdict_notice st (verdict_on (state_in records i) st) now); is_repeat = false })
       (with_notice (state_in records i) (next_key records.notices st.tld) (verdict_notice st (verdict_on (state_in records i) st) now))
   stated = accepts_statement (state_in records i) st now _ _ (d.1 i)

@@ -5,7 +5,7 @@ use Rattle.std.proofs.lemmas.Bool.Decides.{Decides-eqb}
 use Rattle.custody_machine.specs.State.{State}
 use Rattle.custody_machine.specs.Machine.{Command, Entry, Record, Reply, Outcome, Refuse, Accept, step, state_of, state_after, after, reads, Answer, Accepted, Refused, Failed, NoMemory, VolumeFailed, StoreFailed, Closed, Damaged, Answers, MayRefuse, MayFail}
 use Rattle.custody_machine.specs.SameValues.{is_same_state}
-use Rattle.custody_machine.specs.History.{Pair, Opened, Event, Answered, Rested, ShutDown, StoppedAtRest, StoppedWithin, OpenedWith, Condition, Running, Halted, Resting, Happens, Run, Found, leads_to, settled, or_else, found_then, found_after, found, none_found}
+use Rattle.custody_machine.specs.History.{Pair, Opened, Event, Answered, Rested, ShutDown, StoppedAtRest, StoppedWithin, OpenedWith, Condition, Running, Halted, Stopped, Happens, Run, Found, leads_to, settled, or_else, found_then, found_after, found, none_found}
 use Rattle.custody_machine.specs.Retries.{Key, OfTld, OfName, OfRevision, OfDay, OfReference, key, are_same_keys, has_same_key, KeysAreCompared, once_after, ActsOnce, AsksAgain, record_of, first_record, IsAnsweredAgain, RepeatsAreAnswered, IsOfCommand, StillHas, AcknowledgedIsKept}
 use Rattle.custody_machine.proofs.SameValues.{text_decides}
 use Rattle.custody_machine.proofs.Histories.{after-append, Fits, fits_then, fits_after, fits_first, run_split, found_after-append, all_more, openings_are_right}
@@ -45,7 +45,7 @@ module _ (first : State) where
     where
       no : Accepted reply ≡ Failed Closed → ⊥
       no e = cc
-  accepted_then (Resting pair) (Answered command now (Accepted reply)) next f fits h all = absurd h
+  accepted_then (Stopped pair) (Answered command now (Accepted reply)) next f fits h all = absurd h
   accepted_then c (Answered command now (Refused q)) next f fits h all = all
   accepted_then c (Answered command now (Failed fault)) next f fits h all = all
   accepted_then c Rested next f fits h all = all
@@ -210,7 +210,7 @@ repeated first (Running old) next f entry kept command now answer fits h keeps a
     (subst (λ s. IsAnsweredAgain s command (Some kept) answer) (sym fits.0) (answered_by old h.0 command now kept answer (kept_is_there old command kept here).0 outcome.0 outcome.1 h.1), unchanged_by first f old command now kept answer fits.0 outcome.0)
 repeated first (Halted old doubt) next f entry kept command now answer fits h keeps again =
     subst (λ a. IsAnsweredAgain (after first f.commands) command (Some kept) a × (after first (found_then first f (Answered command now a)).commands ≡ after first f.commands)) (sym h.0) (tt, refl)
-repeated first (Resting pair) next f entry kept command now answer fits h keeps again = absurd h
+repeated first (Stopped pair) next f entry kept command now answer fits h keeps again = absurd h
 
 pub repeats_are_answered : (first : State) → RepeatsAreAnswered first
 repeats_are_answered first earlier later before behind entry command now answer history is again =
@@ -235,7 +235,7 @@ accepted_keeps first (Halted old doubt) next f command now reply fits h = absurd
   where
     no : Accepted reply ≡ Failed Closed → ⊥
     no e = cc
-accepted_keeps first (Resting pair) next f command now reply fits h = absurd h
+accepted_keeps first (Stopped pair) next f command now reply fits h = absurd h
 
 -- the rest of commands that were accepted was, too
 rest_accepted : (s : State) (xs ys : List Entry) → AllAccepted s (xs ++ ys) → AllAccepted (after s xs) ys

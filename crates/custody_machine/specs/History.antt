@@ -78,7 +78,7 @@ pub data Condition : Type 0 where
   -- a custody is closed, from this state, with the command in doubt
   Halted : State → Option Entry → Condition
   -- there is no custody, and database and volume are as after a restart
-  Resting : Pair → Condition
+  Stopped : Pair → Condition
 
 -- the pair is sound, and opens as a state of which P holds
 abbrev pub OpensSoundly : (State → Type 0) → Pair → Type 0
@@ -90,30 +90,30 @@ condition_after old command now answer new = if is_open_after answer then Runnin
 
 abbrev pub condition_opened : Pair → OpenAnswer → Condition
 condition_opened pair (Opened state) = Running state
-condition_opened pair (NotOpened fault) = Resting pair
+condition_opened pair (NotOpened fault) = Stopped pair
 
 -- an event may take one condition to the next
 abbrev pub Happens : Condition → Event → Condition → Type 0
 Happens (Running old) (Answered command now answer) next = (new : State) × Answers old command now answer new × (next ≡ condition_after old command now answer new)
 Happens (Running old) Rested next = next ≡ Running old
 Happens (Running old) ShutDown next = next ≡ Halted old None
-Happens (Running old) (StoppedAtRest pair) next = OpensSoundly (λ found. found ≡ old) pair × (next ≡ Resting pair)
-Happens (Running old) (StoppedWithin command now pair) next = OpensSoundly (IsFoundWithin old command now) pair × (next ≡ Resting pair)
+Happens (Running old) (StoppedAtRest pair) next = OpensSoundly (λ found. found ≡ old) pair × (next ≡ Stopped pair)
+Happens (Running old) (StoppedWithin command now pair) next = OpensSoundly (IsFoundWithin old command now) pair × (next ≡ Stopped pair)
 Happens (Running old) (OpenedWith pair answer) next = ⊥
 -- A closed custody answers that it is closed, and changes nothing of what a stop may leave.
 Happens (Halted old doubt) (Answered command now answer) next = (answer ≡ Failed Closed) × (next ≡ Halted old doubt)
 Happens (Halted old doubt) Rested next = next ≡ Halted old doubt
 Happens (Halted old doubt) ShutDown next = next ≡ Halted old doubt
-Happens (Halted old doubt) (StoppedAtRest pair) next = OpensSoundly (MayFind old doubt) pair × (next ≡ Resting pair)
-Happens (Halted old doubt) (StoppedWithin command now pair) next = OpensSoundly (MayFind old doubt) pair × (next ≡ Resting pair)
+Happens (Halted old doubt) (StoppedAtRest pair) next = OpensSoundly (MayFind old doubt) pair × (next ≡ Stopped pair)
+Happens (Halted old doubt) (StoppedWithin command now pair) next = OpensSoundly (MayFind old doubt) pair × (next ≡ Stopped pair)
 Happens (Halted old doubt) (OpenedWith pair answer) next = ⊥
 -- Opening changes nothing, and neither does a stop within it.
-Happens (Resting left) (Answered command now answer) next = ⊥
-Happens (Resting left) Rested next = ⊥
-Happens (Resting left) ShutDown next = ⊥
-Happens (Resting left) (StoppedAtRest pair) next = (pair ≡ left) × (next ≡ Resting left)
-Happens (Resting left) (StoppedWithin command now pair) next = ⊥
-Happens (Resting left) (OpenedWith pair answer) next = (pair ≡ left) × MayOpen pair.opens answer × (next ≡ condition_opened pair answer)
+Happens (Stopped left) (Answered command now answer) next = ⊥
+Happens (Stopped left) Rested next = ⊥
+Happens (Stopped left) ShutDown next = ⊥
+Happens (Stopped left) (StoppedAtRest pair) next = (pair ≡ left) × (next ≡ Stopped left)
+Happens (Stopped left) (StoppedWithin command now pair) next = ⊥
+Happens (Stopped left) (OpenedWith pair answer) next = (pair ≡ left) × MayOpen pair.opens answer × (next ≡ condition_opened pair answer)
 
 -- events that may happen one after the other
 abbrev pub Run : Condition → List Event → Condition → Type 0
@@ -124,7 +124,7 @@ Run old (event ∷ events) new = (next : Condition) × Happens old event next ×
 abbrev pub Begins : State → Condition → Type 0
 Begins first (Running state) = state ≡ first
 Begins first (Halted old doubt) = ⊥
-Begins first (Resting pair) = OpensSoundly (λ state. state ≡ first) pair
+Begins first (Stopped pair) = OpensSoundly (λ state. state ≡ first) pair
 
 abbrev pub IsHistory : State → List Event → Type 0
 IsHistory first events = (start : Condition) × (end : Condition) × Begins first start × Run start events end

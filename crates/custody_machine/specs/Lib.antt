@@ -17,3 +17,4 @@ pub mod Rulings
 pub mod Custody
 pub mod Commands
 pub mod Examples
+pub mod Accepted

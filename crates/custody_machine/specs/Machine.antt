@@ -27,11 +27,11 @@ pub use Rattle.custody_machine.specs.declared.answers.Refusal.TheVariants.{NameR
 pub use Rattle.custody_machine.specs.declared.answers.Fault.{Fault}
 pub use Rattle.custody_machine.specs.declared.answers.Fault.TheVariants.{NoMemory, VolumeFailed, StoreFailed, Closed, Damaged}
 use Rattle.custody_machine.specs.declared.damage.Damage.TheVariants.{Digest}
-use Rattle.vault_volume.specs.declared.extent.TheConstants.{MAX_PART_LEN}
+pub use Rattle.vault_volume.specs.Limits.{max_part_len}
 use Rattle.custody_machine.specs.Names.{is_same_text, read_name}
 use Rattle.custody_machine.specs.SameValues.{is_same_ground, is_same_kind}
 use Rattle.custody_machine.specs.MapValues.{map_values}
-use Rattle.custody_machine.specs.declared.command.Statement as told
+use Rattle.custody_machine.specs.declared.command.Statement as statement
 use Rattle.custody_machine.specs.State.{State, Part, Content, Held, Dropped, places, at_place, is_notice_of, has_notice}
 
 -- ---- what is asked and answered
@@ -42,7 +42,7 @@ pub data Command : Type 0 where
   -- takes a part of a deposit under its file name (Part A section 5)
   Receive : (name : List ℕ) → (bytes : List ℕ) → Command
   -- has a deposit verified whose parts are all there, as its operator states (Part A section 7)
-  Statement : told.Statement → Command
+  Statement : statement.Statement → Command
   -- has it recorded that a scheduled deposit was not received (Part B section 7)
   Check : (tld : List ℕ) → (day : ℕ) → Command
   -- hands the deposits of a registry over on a ground (Part B section 6)
@@ -68,9 +68,6 @@ pub data Outcome : Type 0 where
   Accept : Reply → State → Outcome
 
 -- ---- the state, as the rules read it
-
-abbrev pub max_part_len : ℕ
-max_part_len = MAX_PART_LEN
 
 abbrev pub first_day_of : State → List ℕ → Option ℕ
 first_day_of state tld = get state.registries tld
@@ -150,7 +147,7 @@ bytes_held (Some part) = bytes_in part.content
 -- ---- what a statement speaks of
 
 -- the name of the first of its parts
-abbrev pub first_part : told.Statement → Name
+abbrev pub first_part : statement.Statement → Name
 first_part stated = record { tld = stated.tld; day = stated.day; kind = stated.kind; part = 1; rev = stated.rev }
 
 -- how many parts the revision of a name has
@@ -174,28 +171,28 @@ has_id id (Failure _ of _) = is_same_text of id
 has_id id Absence = false
 
 -- the verdict on its revision, with its number
-abbrev pub verdict_told : State → told.Statement → Option (NoticeKey × Notice)
+abbrev pub verdict_told : State → statement.Statement → Option (NoticeKey × Notice)
 verdict_told state stated = find (is_notice_of stated.tld stated.day (is_verdict_of stated.rev)) (entries state.notices)
 
 abbrev pub if_of_id : List ℕ → NoticeKey × Notice → Option (NoticeKey × Notice)
 if_of_id id entry = if has_id id entry.1.kind then Some entry else None
 
-abbrev pub has_verdict : State → told.Statement → Bool
+abbrev pub has_verdict : State → statement.Statement → Bool
 has_verdict state stated = has_notice state.notices stated.tld stated.day (is_verdict_of stated.rev)
 
 -- the revision has no part, or another number of them than is stated
-abbrev pub differ_in_number : State → told.Statement → Bool
+abbrev pub differ_in_number : State → statement.Statement → Bool
 differ_in_number state stated = count_parts state (first_part stated) == 0 || not (count_parts state (first_part stated) == stated.parts)
 
 -- the parts are those stated, by their kind and their number
-abbrev pub are_as_stated : State → told.Statement → Bool
+abbrev pub are_as_stated : State → statement.Statement → Bool
 are_as_stated state stated = not (has_part_of_other_kind state (first_part stated)) && not (differ_in_number state stated)
 
 -- the verdict that was made on the same statement: it has its id
-abbrev pub kept_verdict : State → told.Statement → Option (NoticeKey × Notice)
+abbrev pub kept_verdict : State → statement.Statement → Option (NoticeKey × Notice)
 kept_verdict state stated = if are_as_stated state stated then option_and_then (if_of_id stated.id) (verdict_told state stated) else None
 
-abbrev pub has_later_receipt : State → told.Statement → Bool
+abbrev pub has_later_receipt : State → statement.Statement → Bool
 has_later_receipt state stated = list_any (λ (entry : NoticeKey × Notice). is_same_text entry.0.tld stated.tld && (nat_lt stated.day entry.1.day && is_receipt entry.1.kind)) (entries state.notices)
 
 -- ---- what a check speaks of
@@ -277,7 +274,7 @@ abbrev pub latest_of : List (ℕ × List ℕ) → Option (List ℕ)
 latest_of passed = option_map (λ (one : ℕ × List ℕ). one.1) (find (λ (one : ℕ × List ℕ). list_all (λ (other : ℕ × List ℕ). nat_le other.0 one.0) passed) passed)
 
 -- what is known of a stated deposit
-abbrev pub known_of : FinMap notice_cmp Notice → told.Statement → Known
+abbrev pub known_of : FinMap notice_cmp Notice → statement.Statement → Known
 known_of notices stated = record {
   name = first_part stated;
   id = stated.id;
@@ -367,7 +364,7 @@ named_tests state (Err fault) bytes now = (NameRefused fault, true) ∷ []
 named_tests state (Ok name) bytes now = receive_tests state name bytes now
 
 -- The tests of a statement. Those of the day and of later days are for one that was not made before, that of dropped parts for a revision without a verdict.
-abbrev pub statement_tests : State → told.Statement → ℕ → List Test
+abbrev pub statement_tests : State → statement.Statement → ℕ → List Test
 statement_tests state stated now =
     (RegistryUnknown, is_unregistered state (first_part stated))
     ∷ (DateOutOfRange, is_none (kept_verdict state stated) && is_outside state (first_part stated) now)
@@ -464,25 +461,25 @@ abbrev pub next_number : FinMap notice_cmp Notice → List ℕ → ℕ
 next_number notices tld = suc (greatest_number (filter (λ (entry : NoticeKey × Notice). is_same_text entry.0.tld tld) (entries notices)))
 
 -- a deposit that passes has a receipt, and any other a failure of the least check that fails
-abbrev pub notice_kind : told.Statement → Verdict → NoticeKind
+abbrev pub notice_kind : statement.Statement → Verdict → NoticeKind
 notice_kind stated Pass = Receipt stated.rev stated.id
 notice_kind stated (Fail check) = Failure stated.rev stated.id check
 
 abbrev pub next_key : FinMap notice_cmp Notice → List ℕ → NoticeKey
 next_key notices tld = record { tld = tld; number = next_number notices tld }
 
-abbrev pub verdict_notice : told.Statement → Verdict → ℕ → Notice
+abbrev pub verdict_notice : statement.Statement → Verdict → ℕ → Notice
 verdict_notice stated told now = record { day = stated.day; at = now; kind = notice_kind stated told }
 
 -- the verdict on the deposit whose parts are kept
-abbrev pub verdict_on : State → told.Statement → Verdict
+abbrev pub verdict_on : State → statement.Statement → Verdict
 verdict_on state stated = verdict (joined state (first_part stated)) (known_of state.notices stated)
 
 -- a notice of the verdict is recorded
 abbrev pub noticed : State → NoticeKey → Notice → Outcome
 noticed state key notice = Accept (record { entry = OfNotice key notice; is_repeat = false }) (with_notice state key notice)
 
-abbrev pub stated_as : State → told.Statement → ℕ → Outcome
+abbrev pub stated_as : State → statement.Statement → ℕ → Outcome
 stated_as state stated now = noticed state (next_key state.notices stated.tld) (verdict_notice stated (verdict_on state stated) now)
 
 -- the deposit of a day was not received

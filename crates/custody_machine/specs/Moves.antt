@@ -45,14 +45,14 @@ pub record Finds (rows : Rows) (image : List ℕ) (pair : Pair) : Type 0 where
 -- ---- what is answered
 
 -- Damage is told where a part that is read has not its digest, and what else the bytes of parts decide only where each that is read has it.
-abbrev pub RestsOnBytes : Records → List ℕ → Command → ℕ → Answer → Type 0
-RestsOnBytes records image command now (Accepted reply) = (key : PartKey) → Contains (reads (state_in records image) command now) key → HasDigestAt image records key
-RestsOnBytes records image command now (Refused refusal) = (key : PartKey) → Contains (reads (state_in records image) command now) key → HasDigestAt image records key
-RestsOnBytes records image command now (Failed NoMemory) = Unit {0}
-RestsOnBytes records image command now (Failed VolumeFailed) = Unit {0}
-RestsOnBytes records image command now (Failed StoreFailed) = Unit {0}
-RestsOnBytes records image command now (Failed Closed) = Unit {0}
-RestsOnBytes records image command now (Failed (Damaged damage)) = (key : PartKey) × Contains (reads (state_in records image) command now) key × (¬ HasDigestAt image records key)
+abbrev pub DependsOnBytes : Records → List ℕ → Command → ℕ → Answer → Type 0
+DependsOnBytes records image command now (Accepted reply) = (key : PartKey) → Contains (reads (state_in records image) command now) key → HasDigestAt image records key
+DependsOnBytes records image command now (Refused refusal) = (key : PartKey) → Contains (reads (state_in records image) command now) key → HasDigestAt image records key
+DependsOnBytes records image command now (Failed NoMemory) = Unit {0}
+DependsOnBytes records image command now (Failed VolumeFailed) = Unit {0}
+DependsOnBytes records image command now (Failed StoreFailed) = Unit {0}
+DependsOnBytes records image command now (Failed Closed) = Unit {0}
+DependsOnBytes records image command now (Failed (Damaged damage)) = (key : PartKey) × Contains (reads (state_in records image) command now) key × (¬ HasDigestAt image records key)
 
 -- after an answer by which a custody went from old records and an old image to new ones
 abbrev pub place_after : Records → List ℕ → Command → ℕ → Answer → Records → List ℕ → Place
@@ -73,7 +73,7 @@ Stops may_leave pair next = (rows : Rows) × (left : List ℕ) × may_leave rows
 
 -- an event may take one place to the next
 abbrev pub Moves : Place → Event → Place → Type 0
-Moves (Serving records image) (Answered command now answer) next = (new : Records) × (later : List ℕ) × Answers (state_in records image) command now answer (state_in new later) × RestsOnBytes records image command now answer
+Moves (Serving records image) (Answered command now answer) next = (new : Records) × (later : List ℕ) × Answers (state_in records image) command now answer (state_in new later) × DependsOnBytes records image command now answer
     × KeepsParts records image new later × (next ≡ place_after records image command now answer new later)
 Moves (Serving records image) Rested next = (later : List ℕ) × (state_in records later ≡ state_in records image) × KeepsParts records image records later × (next ≡ Serving records later)
 Moves (Serving records image) ShutDown next = next ≡ Shut records image None

@@ -6,7 +6,7 @@ use Rattle.desk.specs.declared.grounds.Ground.{Ground}
 use Rattle.extent_map.specs.declared.extent.Extent.{Extent}
 use Rattle.vault_volume.specs.Extents.{part_bytes}
 use Rattle.custody_records.specs.Records.{PartRecord, Records, key_of}
-use Rattle.custody_machine.specs.declared.command.Statement as told
+use Rattle.custody_machine.specs.declared.command.Statement as statement
 use Rattle.custody_machine.specs.Names.{read_name}
 use Rattle.custody_machine.specs.State.{State}
 use Rattle.custody_machine.specs.Machine.{Command, Register, Receive, Statement, Check, Release, Purge, Record, OfRegistry, OfPart, Outcome, Refuse, Accept, Refusal, OtherBytes, VolumeFull, step, received_part, with_registry, with_part, stated_as, missed, new_release, purged, released}
@@ -21,7 +21,7 @@ pub data Change : Type 0 where
   -- a part is kept under this name, with the bytes of the command
   AddsPart : Name → Change
   -- the deposit that is stated is verified, and the notice of its verdict is kept
-  AddsVerdict : told.Statement → Change
+  AddsVerdict : statement.Statement → Change
   -- the notice that a day has passed without a deposit is kept
   AddsAbsence : (tld : List ℕ) → (day : ℕ) → Change
   -- the deposits of a registry are handed over: a release of its parts that are held is kept

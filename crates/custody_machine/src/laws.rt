@@ -7,8 +7,11 @@ ghost use Rattle.custody_machine.specs.Fetched.{FetchesOne, FetchesHeld};
 ghost use Rattle.custody_machine.specs.Machine.{TestsAreInOrder};
 ghost use Rattle.custody_machine.specs.History.{OpeningsAreRight, NothingIsTakenBack, AcceptedIsFound, HeldAsReceived};
 ghost use Rattle.custody_machine.specs.Examples.{HistoriesHappen};
+ghost use Rattle.custody_machine.specs.Accepted.{CustodyLives};
 ghost use Rattle.custody_machine.specs.Moves.{MovesAreHistories, PlacesAreRight, NoDamageIsTold, ReadsBackAsReceived, FindsOne, ChainsMove};
 ghost use Rattle.custody_machine.specs.Retries.{KeysAreCompared, ActsOnce, RepeatsAreAnswered, NothingIsRemoved, RepliesAreRecords, AcknowledgedIsKept};
+
+use deposit_verify::law_verdict;
 
 /// The name that the machine reads in a text is the one whose text it is; and a text that is none is
 /// refused by its first fault.
@@ -65,3 +68,11 @@ pub fn law_retries()
     ensures kept { NothingIsRemoved }
     ensures replies { RepliesAreRecords }
 {}
+
+/// A command of each kind is accepted, so that there are histories of each kind; and what is released is
+/// fetched until it is dropped.
+pub fn law_accepted()
+    ensures { CustodyLives }
+{
+    law_verdict();
+}

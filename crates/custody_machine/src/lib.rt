@@ -12,4 +12,6 @@ pub use answers::{Fault, Refusal};
 pub use codes::{Code, HttpStatus, Status};
 pub use command::{Command, Statement};
 pub use damage::Damage;
-pub use laws::{law_damage, law_fetched, law_histories, law_read_name, law_refusals, law_retries};
+pub use laws::{
+    law_accepted, law_damage, law_fetched, law_histories, law_read_name, law_refusals, law_retries,
+};

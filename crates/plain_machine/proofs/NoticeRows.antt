@@ -8,7 +8,7 @@ use Rattle.std.specs.Cmp.{Equal-is}
 use Rattle.std.specs.Ordering.{eq_by_cmp}
 use Rattle.std.proofs.lemmas.List.{take_more}
 use Rattle.std.proofs.lemmas.List.Elements.{filter_map-append}
-use Rattle.desk.specs.declared.notices.Notice as told
+use Rattle.desk.specs.declared.notices.Notice as desk
 use Rattle.custody_records.specs.Keys.{NoticeKey, notice_cmp}
 use Rattle.custody_records.specs.Records.{Notice}
 use Rattle.custody_records.specs.Tables.{entries_of, is_rising, table_map}
@@ -20,15 +20,15 @@ use Rattle.custody_machine.specs.Machine.{greatest_number, next_key}
 use Rattle.custody_machine.proofs.SameValues.{text_decides}
 use Rattle.plain_machine.specs.Plain.{greatest_of}
 
-entries_mapped : (rows : List told.Notice) → entries_of notice_key notice_value rows ≡ map notice_entry rows
+entries_mapped : (rows : List desk.Notice) → entries_of notice_key notice_value rows ≡ map notice_entry rows
 entries_mapped [] = refl
 entries_mapped (n ∷ rows) = ap (λ (l : List (NoticeKey × Notice)). notice_entry n ∷ l) (entries_mapped rows)
 
-any_mapped : (test : NoticeKey × Notice → Bool) (rows : List told.Notice) → list_any (λ n. test (notice_entry n)) rows ≡ list_any test (map notice_entry rows)
+any_mapped : (test : NoticeKey × Notice → Bool) (rows : List desk.Notice) → list_any (λ n. test (notice_entry n)) rows ≡ list_any test (map notice_entry rows)
 any_mapped test [] = refl
 any_mapped test (n ∷ rows) = ap (λ b. test (notice_entry n) || b) (any_mapped test rows)
 
-find_mapped : (test : NoticeKey × Notice → Bool) (rows : List told.Notice) → option_map notice_entry (find (λ n. test (notice_entry n)) rows) ≡ find test (map notice_entry rows)
+find_mapped : (test : NoticeKey × Notice → Bool) (rows : List desk.Notice) → option_map notice_entry (find (λ n. test (notice_entry n)) rows) ≡ find test (map notice_entry rows)
 find_mapped test [] = refl
 find_mapped test (n ∷ rows) = by (test (notice_entry n)) (find_mapped test rows)
   where
@@ -37,11 +37,11 @@ find_mapped test (n ∷ rows) = by (test (notice_entry n)) (find_mapped test row
     by true rest = refl
     by false rest = rest
 
-filter_mapped : {X : Type 0} (f : NoticeKey × Notice → Option X) (rows : List told.Notice) → filter_map (λ n. f (notice_entry n)) rows ≡ filter_map f (map notice_entry rows)
+filter_mapped : {X : Type 0} (f : NoticeKey × Notice → Option X) (rows : List desk.Notice) → filter_map (λ n. f (notice_entry n)) rows ≡ filter_map f (map notice_entry rows)
 filter_mapped f [] = refl
 filter_mapped f (n ∷ rows) = ap (cons_option (f (notice_entry n))) (filter_mapped f rows)
 
-module _ (rows found : List told.Notice) (is : found ≡ rows) (rising : is_rising notice_cmp notice_key rows ≡ true) where
+module _ (rows found : List desk.Notice) (is : found ≡ rows) (rising : is_rising notice_cmp notice_key rows ≡ true) where
   pub entries_are : map notice_entry found ≡ entries (table_map notice_cmp notice_key notice_value rows)
   entries_are = ap (map notice_entry) is ∙ sym (entries_mapped rows) ∙ sym (entries-table_map notice_cmp notice_key notice_value rows rising)
 
@@ -56,10 +56,10 @@ module _ (rows found : List told.Notice) (is : found ≡ rows) (rising : is_risi
 
 -- ---- a row more
 
-row_more : (rows : List told.Notice) (i : ℕ) (n : told.Notice) → i < length rows → n ≡ get_or rows i n → take (i + 1) rows ≡ take i rows ++ n ∷ []
-row_more rows i n lt is = take_more rows i n lt ∙ ap (λ (r : told.Notice). take i rows ++ r ∷ []) (sym is)
+row_more : (rows : List desk.Notice) (i : ℕ) (n : desk.Notice) → i < length rows → n ≡ get_or rows i n → take (i + 1) rows ≡ take i rows ++ n ∷ []
+row_more rows i n lt is = take_more rows i n lt ∙ ap (λ (r : desk.Notice). take i rows ++ r ∷ []) (sym is)
 
-pub filter_more : {X : Type 0} (f : told.Notice → Option X) (rows : List told.Notice) (i : ℕ) (n : told.Notice) → i < length rows → n ≡ get_or rows i n
+pub filter_more : {X : Type 0} (f : desk.Notice → Option X) (rows : List desk.Notice) (i : ℕ) (n : desk.Notice) → i < length rows → n ≡ get_or rows i n
     → filter_map f (take (i + 1) rows) ≡ filter_map f (take i rows) ++ filter_map f (n ∷ [])
 filter_more f rows i n lt is = ap (filter_map f) (row_more rows i n lt is) ∙ filter_map-append f (take i rows) (n ∷ [])
 
@@ -67,7 +67,7 @@ max_swap : (a b c : ℕ) → max a (max b c) ≡ max b (max a c)
 max_swap a b c = omega arith
 
 -- the greatest number, with one entry more
-greatest_push : (tld : List ℕ) (rows : List told.Notice) (n : told.Notice) → greatest_of tld (map notice_entry (rows ++ n ∷ [])) ≡ cond (is_same_text n.tld tld) (max n.number (greatest_of tld (map notice_entry rows))) (greatest_of tld (map notice_entry rows))
+greatest_push : (tld : List ℕ) (rows : List desk.Notice) (n : desk.Notice) → greatest_of tld (map notice_entry (rows ++ n ∷ [])) ≡ cond (is_same_text n.tld tld) (max n.number (greatest_of tld (map notice_entry rows))) (greatest_of tld (map notice_entry rows))
 greatest_push tld [] n = by (is_same_text n.tld tld)
   where
     by : (b : Bool) → greatest_number (cond b (notice_entry n ∷ []) []) ≡ cond b (max n.number 0) 0
@@ -88,9 +88,9 @@ greatest_push tld (m ∷ rows) n = by (is_same_text m.tld tld) (is_same_text n.t
     by false true rest = rest
     by false false rest = rest
 
-pub greatest_more : (tld : List ℕ) (rows : List told.Notice) (i : ℕ) (n : told.Notice) → i < length rows → n ≡ get_or rows i n
+pub greatest_more : (tld : List ℕ) (rows : List desk.Notice) (i : ℕ) (n : desk.Notice) → i < length rows → n ≡ get_or rows i n
     → greatest_of tld (map notice_entry (take (i + 1) rows)) ≡ cond (is_same_text n.tld tld) (max n.number (greatest_of tld (map notice_entry (take i rows)))) (greatest_of tld (map notice_entry (take i rows)))
-greatest_more tld rows i n lt is = ap (λ (l : List told.Notice). greatest_of tld (map notice_entry l)) (row_more rows i n lt is) ∙ greatest_push tld (take i rows) n
+greatest_more tld rows i n lt is = ap (λ (l : List desk.Notice). greatest_of tld (map notice_entry l)) (row_more rows i n lt is) ∙ greatest_push tld (take i rows) n
 
 -- ---- the next number is new
 

@@ -27,7 +27,7 @@ use Rattle.custody_machine.proofs.Accepting.{recorded_is}
 use Rattle.custody_machine.proofs.Composed.{register_repeats}
 use Rattle.custody_machine.proofs.Stated.{none_stand_of, stated_by}
 use Rattle.custody_machine.proofs.Checked.{missed_by}
-use Rattle.custody_machine.specs.declared.command.Statement as told
+use Rattle.custody_machine.specs.declared.command.Statement as statement
 use Rattle.custody_records.specs.Keys.{NoticeKey}
 use Rattle.custody_records.specs.Records.{Notice}
 use Rattle.custody_records.specs.Typed.{notice_entry, notice_key, notice_value}
@@ -93,7 +93,7 @@ module _ (s : State) (text bytes : List ℕ) (now : ℕ) (name : Name) (named : 
 
 -- ---- statements
 
-module _ (s : State) (st : told.Statement) (now : ℕ) where
+module _ (s : State) (st : statement.Statement) (now : ℕ) where
   pub refuses_stated : (q : Refusal) → first_standing (statement_tests s st now) ≡ Some q → IsOutcome (answer.Refused q) s s (step s (Statement st) now)
   refuses_stated q e = (step_refuses s (Statement st) now q e, refl)
 

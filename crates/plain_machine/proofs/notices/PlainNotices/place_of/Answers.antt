@@ -2,13 +2,13 @@ use Rattle.std.proofs.Common.{List, subst, rules, arith}
 use Rattle.std.specs.List.Sorted.{IsBinarySearchResult}
 use Rattle.std.proofs.lemmas.Fn.{always_returns_same}
 use Rattle.std.proofs.lemmas.Grind.{common_steps}
-use Rattle.desk.specs.declared.notices.Notice as told
+use Rattle.desk.specs.declared.notices.Notice as desk
 use Rattle.custody_records.specs.Keys.{notice_cmp}
 use Rattle.custody_records.specs.Typed.{notice_key}
 use Rattle.plain_machine.proofs.notices.PlainNotices.place_of.Goals as goal
 
 pub returns-clause-place : goal.returns-clause-place
 returns-clause-place c =
-    subst (λ (rows : List told.Notice). IsBinarySearchResult (λ row. notice_cmp (notice_key row) c.args.sought.now) rows c.binary_search_by.result) c.deref.ensures.value
+    subst (λ (rows : List desk.Notice). IsBinarySearchResult (λ row. notice_cmp (notice_key row) c.args.sought.now) rows c.binary_search_by.result) c.deref.ensures.value
     (c.binary_search_by.ensures.position (λ row. notice_cmp (notice_key row) c.args.sought.now) (always_returns_same _ _ _ (λ a r s called.
     (first_of (search rules, grind (arith, common_steps)), first_of (search rules, cc, grind (arith, common_steps))))))

@@ -1,0 +1,246 @@
+-- One life of a custody, computed command by command.
+use Rattle.std.proofs.Common.{◌≡◌, ◌≢◌, ℕ, List, [], ◌∷◌, ◌==◌, length, is_some, Some, None, Bool, true, false, cond, codes, refl, sym, ◌∙◌, ap, subst, arith, Ok, Err}
+use Rattle.std.specs.Prelude.{slice_index}
+use Rattle.std.specs.Ordering.{eq_by_cmp}
+use Rattle.std.specs.declared.cmp.Ordering.{Ordering}
+use Rattle.std.specs.FinMap as fin
+use Rattle.std.specs.FinMap.{entries, get, insert, get-empty, get-insert, entries-insert, len-entries, len-empty}
+use Rattle.schedule.specs.Calendar.{date_of, day_number, days_of_years, days_of_months}
+use Rattle.schedule.specs.Schedule.{year_after}
+use Rattle.deposit_name.specs.declared.kinds.Kind.TheVariants.{Full}
+use Rattle.deposit_name.specs.Name.{Name, IsName, name_text}
+use Rattle.deposit_name.proofs.IdentifierLemmas.{is_tld-IsTld}
+use Rattle.desk.specs.declared.checks.Check.TheVariants.{Frame}
+use Rattle.desk.specs.declared.grounds.Ground.TheVariants.{Operator}
+use Rattle.desk.specs.declared.notices.NoticeKind.TheVariants.{Failure, Absence}
+use Rattle.deposit_verify.specs.declared.verdict.Verdict.TheVariants.{Fail}
+use Rattle.deposit_verify.specs.Known.{Known}
+use Rattle.deposit_verify.specs.Verdict.{verdict, IsLawful}
+use Rattle.deposit_verify.specs.Checks.{Holds, IsVerdict}
+use Rattle.deposit_verify.proofs.Verdicts.{below_none}
+use Rattle.custody_records.specs.Keys.{PartKey, text_cmp, part_cmp, NoticeKey, notice_cmp}
+use Rattle.custody_records.specs.Orders.{text_total, part_total, part_exact, notice_total}
+use Rattle.custody_records.specs.Records as records
+use Rattle.custody_records.specs.Records.{Notice}
+use Rattle.custody_machine.specs.declared.answers.Refusal.TheVariants.{DroppedAfterKeeping}
+use Rattle.custody_machine.specs.Names.{read_name}
+use Rattle.custody_machine.specs.State.{State, Part, empty}
+use Rattle.custody_machine.specs.MapValues.{map_values}
+use Rattle.custody_machine.specs.Machine.{Command, Register, Receive, Statement, Check, Release, Purge, Record, OfRegistry, OfPart, OfNotice, OfRelease, OfPurge, Accept, Entry, refusal_of, kept, effect, unless_kept, step, state_of, state_after, after, with_registry, with_part, received_part, with_notice, with_release, without_bytes, is_dropped, dropped_if_due, count_due}
+use Rattle.custody_machine.specs.History.{Running, Stopped, Run, found}
+use Rattle.custody_machine.specs.Examples.{pair_of}
+use Rattle.custody_machine.specs.Fetched.{fetched}
+use Rattle.custody_machine.specs.Accepted.{moment, tld, file, place, deposit, notice, until_release, life, commands_of, new_reply, reply_again, IsAccepted, AreAccepted, events_of, CustodyLives}
+use Rattle.custody_machine.proofs.MapValues.{map_values-empty, map_values-insert}
+use Rattle.custody_machine.proofs.Accepting.{read_of, step_none, insert_here}
+use Rattle.custody_machine.proofs.Examples.{has_examples}
+
+-- ---- a name, a verdict and a day
+
+abbrev name : Name
+name = record { tld = tld; day = 20_667; kind = Full; part = 1; rev = 0 }
+
+name_in_form : IsName name
+name_in_form = record {
+  tld = (is_tld-IsTld tld).0 refl;
+  day = (omega arith, omega arith);
+  part = (omega arith, omega arith);
+  rev = omega arith;
+}
+
+file_of_name : file ≡ name_text name
+unfolding date_of
+file_of_name = refl
+
+name_read : read_name file ≡ Ok name
+name_read = read_of file name (name_in_form, file_of_name)
+
+-- the five bytes begin otherwise than a frame
+hello_fails : (known : Known) → IsVerdict (codes "hello") known (Fail Frame)
+hello_fails known = (λ holds. let first : 104 ≡ 82 = ap (λ (t : List ℕ). slice_index t 0) holds.2.1 in absurd (omega arith), below_none (Holds (codes "hello") known))
+
+kept_until : year_after 20_667 ≡ 21_032
+unfolding year_after date_of day_number days_of_years days_of_months
+kept_until = refl
+
+-- ---- maps of one entry, and of none
+
+nothing : {K X : Type 0} (R : K → K → Ordering) → entries (fin.empty {K = K} {X = X} {R = R}) ≡ []
+nothing {X = X} R = of _ (sym (len-entries fin.empty) ∙ len-empty R X)
+  where
+    of : {A : Type 0} (es : List A) → length es ≡ 0 → es ≡ []
+    of [] e = refl
+    of (x ∷ es) e = absurd (omega arith)
+
+-- ---- the states
+
+abbrev registered : State
+registered = with_registry empty tld 20_667
+
+abbrev part : Part
+part = received_part name (codes "hello") (moment 20_667 10 0)
+
+abbrev received : State
+received = with_part registered place part
+
+abbrev failure : Notice
+failure = record { day = 20_667; at = moment 20_667 10 5; kind = Failure 0 (codes "X") Frame }
+
+abbrev stated : State
+stated = with_notice received (notice 1) failure
+
+abbrev absence : Notice
+absence = record { day = 20_668; at = moment 20_670 0 0; kind = Absence }
+
+abbrev checked : State
+checked = with_notice stated (notice 2) absence
+
+abbrev release : records.Release
+release = record { tld = tld; reason = Operator; at = moment 20_670 3 0; names = file ∷ [] }
+
+abbrev released : State
+released = with_release checked (codes "R-1") release
+
+abbrev purged : State
+purged = record released { parts = insert fin.empty place (without_bytes part) }
+
+-- ---- what the maps have
+
+first_day : get registered.registries tld ≡ Some 20_667
+first_day = insert_here text_total fin.empty tld 20_667
+
+one_part : (p : Part) (q : PartKey) → get (insert (fin.empty {R = part_cmp}) place p) q ≡ cond (eq_by_cmp part_cmp q place) (Some p) None
+one_part p q = get-insert part_total fin.empty place p q ∙ ap (cond (eq_by_cmp part_cmp q place) (Some p)) (get-empty part_cmp q)
+
+one_entry : (p : Part) → entries (insert (fin.empty {R = part_cmp}) place p) ≡ (place, p) ∷ []
+one_entry p = entries-insert part_total fin.empty place p ∙ ap (fin.put part_cmp place p) (nothing part_cmp)
+
+no_notices : entries (fin.empty {X = Notice} {R = notice_cmp}) ≡ []
+no_notices = nothing notice_cmp
+
+one_notice : entries (insert (fin.empty {R = notice_cmp}) (notice 1) failure) ≡ (notice 1, failure) ∷ []
+one_notice = entries-insert notice_total fin.empty (notice 1) failure ∙ ap (fin.put notice_cmp (notice 1) failure) no_notices
+
+two_notices : entries (insert (insert (fin.empty {R = notice_cmp}) (notice 1) failure) (notice 2) absence) ≡ (notice 1, failure) ∷ (notice 2, absence) ∷ []
+two_notices = entries-insert notice_total _ (notice 2) absence ∙ ap (fin.put notice_cmp (notice 2) absence) one_notice
+
+released_under : get released.releases (codes "R-1") ≡ Some release
+released_under = insert_here text_total fin.empty (codes "R-1") release
+
+-- ---- the commands
+
+-- what a test tells apart is not the same
+apart : (test : State → Bool) (a b : State) → test a ≡ true → test b ≡ false → a ≢ b
+apart test a b passes fails same = let clash : true ≡ false = sym passes ∙ ap test same ∙ fails in cc
+
+-- a command that is not refused and no repeat has its effect
+made : (old new : State) (c : Command) (now : ℕ) (record_made : Record) → refusal_of old c now ≡ None → kept old c ≡ None → effect old c now ≡ Accept (new_reply record_made) new → step old c now ≡ Accept (new_reply record_made) new
+made old new c now record_made stands repeats gives = step_none old c now stands ∙ (λ i. unless_kept old (repeats i) (gives i))
+
+-- and a repeat is answered by its record
+repeated : (s : State) (c : Command) (now : ℕ) (record_kept : Record) → refusal_of s c now ≡ None → kept s c ≡ Some record_kept → step s c now ≡ Accept (record { entry = record_kept; is_repeat = true }) s
+repeated s c now record_kept stands repeats = step_none s c now stands ∙ ap (λ o. unless_kept s o (effect s c now)) repeats
+
+accepted : (old new : State) (c : Command) (now : ℕ) (record_made : Record) → step old c now ≡ Accept (new_reply record_made) new → new ≢ old → step new c now ≡ Accept (reply_again record_made) new → IsAccepted old new (c, now) record_made
+accepted old new c now record_made accepts changes again = record { accepts = accepts; changes = changes; again = again; examples = has_examples old new c now (new_reply record_made) accepts }
+
+registering : IsAccepted empty registered (Register tld 20_667, moment 20_667 9 0) (OfRegistry tld 20_667)
+registering = accepted _ _ _ _ _ (made _ _ _ _ _ refl (simp (get-empty {X = ℕ} text_cmp)) refl) (apart (λ state. is_some (get state.registries tld)) _ _ (ap is_some first_day) (ap is_some (get-empty text_cmp tld))) (repeated _ _ _ _ refl (simp first_day))
+
+receiving : IsAccepted registered received (Receive file (codes "hello"), moment 20_667 10 0) (OfPart place part)
+receiving = accepted _ _ _ _ _
+    (made _ _ _ _ _ (simp (name_read, first_day, get-empty {X = Part} part_cmp, no_notices)) (simp (name_read, get-empty {X = Part} part_cmp)) (simp name_read))
+    (apart (λ state. is_some (get state.parts place)) _ _ (ap is_some (one_part part place)) (ap is_some (get-empty {X = Part} part_cmp place))) (repeated _ _ _ _ (simp (name_read, first_day, one_part, no_notices)) (simp (name_read, one_part)))
+
+stating : IsLawful → IsAccepted received stated (Statement deposit, moment 20_667 10 5) (OfNotice (notice 1) failure)
+stating lawful = accepted _ _ _ _ _
+    (made _ _ _ _ _ (simp (first_day, one_part, no_notices)) (simp (one_part, no_notices)) (simp (one_part, no_notices, fails)))
+    (apart (λ state. length (entries state.notices) == 1) _ _ (ap (λ (es : List (NoticeKey × Notice)). length es == 1) one_notice) (ap (λ (es : List (NoticeKey × Notice)). length es == 1) no_notices)) (repeated _ _ _ _ (simp (first_day, one_part, one_notice)) (simp (one_part, one_notice)))
+  where
+    fails : (known : Known) → verdict (codes "hello") known ≡ Fail Frame
+    fails known = sym (lawful.only (codes "hello") known (Fail Frame) (hello_fails known))
+
+checking : IsAccepted stated checked (Check tld 20_668, moment 20_670 0 0) (OfNotice (notice 2) absence)
+checking = accepted _ _ _ _ _ (made _ _ _ _ _ (simp (first_day, one_notice)) (simp one_notice) (simp one_notice)) (apart (λ state. length (entries state.notices) == 2) _ _ (ap (λ (es : List (NoticeKey × Notice)). length es == 2) two_notices) (ap (λ (es : List (NoticeKey × Notice)). length es == 2) one_notice)) (repeated _ _ _ _ (simp (first_day, two_notices)) (simp two_notices))
+
+releasing : IsAccepted checked released (Release (codes "R-1") tld Operator, moment 20_670 3 0) (OfRelease (codes "R-1") release)
+releasing = accepted _ _ _ _ _
+    (made _ _ _ _ _ (simp (first_day, get-empty {X = records.Release} text_cmp)) (simp (get-empty {X = records.Release} text_cmp)) (simp (one_entry, sym file_of_name)))
+    (apart (λ state. is_some (get state.releases (codes "R-1"))) _ _ (ap is_some released_under) (ap is_some (get-empty text_cmp (codes "R-1")))) (repeated _ _ _ _ (simp (first_day, released_under)) (simp released_under))
+
+-- a purge of one part
+dropping : (old new : Part) → dropped_if_due 21_033 old ≡ new → map_values (dropped_if_due 21_033) (insert (fin.empty {R = part_cmp}) place old) ≡ insert fin.empty place new
+dropping old new is = map_values-insert part_cmp (dropped_if_due 21_033) part_total part_exact fin.empty place old
+    ∙ (λ i. insert (map_values-empty part_cmp (dropped_if_due 21_033) part_total part_exact i) place (is i))
+
+purging : IsAccepted released purged (Purge, moment 21_033 0 0) (OfPurge 1)
+purging = accepted _ _ _ _ _
+    (made _ _ _ _ _ refl refl (λ i. Accept (new_reply (OfPurge (one_due i))) (record released { parts = dropping part (without_bytes part) due i })))
+    (apart (λ state. is_dropped (get state.parts place)) _ _ (ap is_dropped (one_part (without_bytes part) place)) (ap is_dropped (one_part part place)))
+    (made _ _ _ _ _ refl refl (λ i. Accept (new_reply (OfPurge (none_due i))) (record released { parts = dropping (without_bytes part) (without_bytes part) refl i })))
+  where
+    due : dropped_if_due 21_033 part ≡ without_bytes part
+    due = simp kept_until
+
+    one_due : count_due released 21_033 ≡ 1
+    one_due = simp (one_entry, kept_until)
+
+    none_due : count_due purged 21_033 ≡ 0
+    none_due = simp one_entry
+
+-- ---- what is fetched
+
+hello_is_fetched : fetched released (codes "R-1") file ≡ Ok (codes "hello")
+hello_is_fetched = simp (released_under, name_read, one_part)
+
+hello_is_dropped : fetched purged (codes "R-1") file ≡ Err DroppedAfterKeeping
+hello_is_dropped = simp (released_under, name_read, one_part)
+
+-- ---- the life
+
+-- from one state to another, by commands that make these records
+LeadTo : State → List (Entry × Record) → State → Type 0
+LeadTo old [] end = old ≡ end
+LeadTo old (one ∷ later) end = (new : State) × IsAccepted old new one.0 one.1 × LeadTo new later end
+
+until_released : IsLawful → LeadTo empty until_release released
+unfolding LeadTo
+until_released lawful = (registered, registering, (received, receiving, (stated, stating lawful, (checked, checking, (released, releasing, refl)))))
+
+until_purged : IsLawful → LeadTo empty life purged
+unfolding LeadTo
+until_purged lawful = (registered, registering, (received, receiving, (stated, stating lawful, (checked, checking, (released, releasing, (purged, purging, refl))))))
+
+goes : (old new : State) (one : Entry × Record) → IsAccepted old new one.0 one.1 → new ≡ state_after old one.0.0 one.0.1
+goes old new one is = sym (ap (state_of old) is.accepts)
+
+are_accepted : (old : State) (ones : List (Entry × Record)) (end : State) → LeadTo old ones end → AreAccepted old ones
+unfolding LeadTo
+are_accepted old [] end leads = tt
+are_accepted old (one ∷ later) end leads =
+    subst (λ (new : State). IsAccepted old new one.0 one.1 × AreAccepted new later) (goes old leads.0 one leads.1) (leads.1, are_accepted leads.0 later end leads.2)
+
+is_after : (old : State) (ones : List (Entry × Record)) (end : State) → LeadTo old ones end → after old (commands_of ones) ≡ end
+unfolding LeadTo
+is_after old [] end leads = leads
+is_after old (one ∷ later) end leads = ap (λ new. after new (commands_of later)) (sym (goes old leads.0 one leads.1)) ∙ is_after leads.0 later end leads.2
+
+all_accepted : IsLawful → AreAccepted empty life
+all_accepted lawful = are_accepted empty life purged (until_purged lawful)
+
+-- ---- the history
+
+ran : (old : State) (ones : List (Entry × Record)) → AreAccepted old ones → Run (Running old) (events_of ones (after old (commands_of ones))) (Running (after old (commands_of ones)))
+ran old [] each = (Stopped (pair_of old), ((old, refl, refl, refl), refl), (Running old, (refl, refl, refl), refl))
+ran old (one ∷ later) each = (Running (state_after old one.0.0 one.0.1), (state_after old one.0.0 one.0.1, each.0.accepts, refl), ran (state_after old one.0.0 one.0.1) later each.1)
+
+all_found : (end : State) → found empty (events_of life end) ≡ commands_of life
+all_found end = refl
+
+pub custody_lives : IsLawful → CustodyLives
+custody_lives lawful = record {
+  accepted = all_accepted lawful;
+  found = ((Running empty, Running (after empty (commands_of life)), refl, ran empty life (all_accepted lawful)), all_found (after empty (commands_of life)));
+  released = ap (λ state. fetched state (codes "R-1") file) (is_after empty until_release released (until_released lawful)) ∙ hello_is_fetched;
+  dropped = ap (λ state. fetched state (codes "R-1") file) (is_after empty life purged (until_purged lawful)) ∙ hello_is_dropped;
+}
