@@ -6,7 +6,7 @@ use Rattle.std.specs.FinMap.{entries}
 use Rattle.std.specs.Ordering.{is_eq}
 use Rattle.std.proofs.lemmas.List.FromFn.{filter_of_map_range_with_len_more}
 use Rattle.std.proofs.lemmas.Map.Text.{is_eq-slice_cmp}
-use Rattle.desk.specs.declared.notices.Notice as told
+use Rattle.desk.specs.declared.notices.Notice as desk
 use Rattle.custody_records.specs.Keys.{NoticeKey, notice_cmp, text_cmp}
 use Rattle.custody_records.specs.Records.{Notice, Records, notices_of}
 use Rattle.custody_records.specs.Tables.{entries_of}
@@ -39,7 +39,7 @@ and_true : (b : Bool) → b ≡ (b && true)
 and_true true = refl
 and_true false = refl
 
-pub noticed_day : (records : Records) (tld : List ℕ) (rows : List told.Notice) → entries_of notice_key notice_value rows ≡ notices_of records tld → (day : ℕ) → list_any (λ (n : told.Notice). n.day == day) rows ≡ has_notice records.notices tld day (λ kind. true)
+pub noticed_day : (records : Records) (tld : List ℕ) (rows : List desk.Notice) → entries_of notice_key notice_value rows ≡ notices_of records tld → (day : ℕ) → list_any (λ (n : desk.Notice). n.day == day) rows ≡ has_notice records.notices tld day (λ kind. true)
 noticed_day records tld rows is day =
     any_entries notice_cmp notice_key notice_value (λ (e : NoticeKey × Notice). e.1.day == day) rows ∙ ap (list_any (λ (e : NoticeKey × Notice). e.1.day == day)) is
     ∙ any_filtered (λ (e : NoticeKey × Notice). is_eq (text_cmp e.0.tld tld)) (λ (e : NoticeKey × Notice). e.1.day == day) (entries records.notices)

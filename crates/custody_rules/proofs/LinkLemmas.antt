@@ -5,7 +5,7 @@ use Rattle.std.specs.Bool.{Decides}
 use Rattle.std.specs.List.{list_all}
 use Rattle.std.specs.FinMap.{get}
 use Rattle.std.proofs.lemmas.Bool.Decides.{Decides-eqb, Decides-and, not_from_Decides, nat_tests}
-use Rattle.desk.specs.declared.notices.Notice as told
+use Rattle.desk.specs.declared.notices.Notice as desk
 use Rattle.custody_records.specs.declared.parts.Part.{Part}
 use Rattle.custody_records.specs.declared.releases.Release as given
 use Rattle.custody_records.specs.Keys.{PartKey, NoticeKey, text_cmp, part_cmp, notice_cmp}
@@ -161,8 +161,8 @@ module _ (records : Records) where
   releases_pass releases are_releases releases_rise =
       all_rows text_cmp release_key release_value releases records.releases are_releases releases_rise (λ (e : List ℕ × Release). is_release_linked records e.1)
 
-module _ (records : Records) (rows : List told.Notice) (is : records.notices ≡ table_map notice_cmp notice_key notice_value rows) (rising : is_rising notice_cmp notice_key rows ≡ true) where
-  pub notices_pass : list_all (λ (n : told.Notice). is_notice_linked records (notice_key n) (notice_value n)) rows ≡ notices_test records
+module _ (records : Records) (rows : List desk.Notice) (is : records.notices ≡ table_map notice_cmp notice_key notice_value rows) (rising : is_rising notice_cmp notice_key rows ≡ true) where
+  pub notices_pass : list_all (λ (n : desk.Notice). is_notice_linked records (notice_key n) (notice_value n)) rows ≡ notices_test records
   notices_pass = all_rows notice_cmp notice_key notice_value rows records.notices is rising (λ (e : NoticeKey × Notice). is_notice_linked records e.0 e.1)
 
   -- where no day has two notices of which it has one at most

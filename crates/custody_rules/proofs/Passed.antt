@@ -11,7 +11,7 @@ use Rattle.deposit_verify.specs.Known.{Known}
 use Rattle.custody_machine.specs.declared.command.Statement as stated
 use Rattle.std.proofs.lemmas.List.Elements.{filter_map-append}
 use Rattle.std.proofs.lemmas.Map.Text.{is_eq-slice_cmp}
-use Rattle.desk.specs.declared.notices.Notice as told
+use Rattle.desk.specs.declared.notices.Notice as desk
 use Rattle.custody_records.specs.Keys.{NoticeKey, text_cmp}
 use Rattle.custody_records.specs.Records.{Notice, Records, notices_of}
 use Rattle.custody_records.specs.Tables.{entries_of}
@@ -132,17 +132,17 @@ later_is all (Some best) next h = by (nat_le next.0 best.0) refl
 -- ---- rows
 
 -- one row more
-pub rows_more : (rows : List told.Notice) (n : told.Notice) → passed_rows (rows ++ n ∷ []) ≡ passed_rows rows ++ cons_option (passed_row n) []
+pub rows_more : (rows : List desk.Notice) (n : desk.Notice) → passed_rows (rows ++ n ∷ []) ≡ passed_rows rows ++ cons_option (passed_row n) []
 rows_more rows n = filter_map-append passed_row rows (n ∷ [])
 
 -- the rows of a registry's notices tell what its notices do
-pub rows_of_registry : (records : Records) (tld : List ℕ) (rows : List told.Notice) → entries_of notice_key notice_value rows ≡ notices_of records tld → passed_rows rows ≡ passed_of records.notices tld
+pub rows_of_registry : (records : Records) (tld : List ℕ) (rows : List desk.Notice) → entries_of notice_key notice_value rows ≡ notices_of records tld → passed_rows rows ≡ passed_of records.notices tld
 rows_of_registry records tld rows is = as_entries rows ∙ ap (filter_map in_entry) is ∙ of_registry (entries records.notices)
   where
     in_entry : NoticeKey × Notice → Option (ℕ × List ℕ)
     in_entry e = option_map (λ (id : List ℕ). (e.1.day, id)) (passed_id e.1.kind)
 
-    as_entries : (rows : List told.Notice) → passed_rows rows ≡ filter_map in_entry (entries_of notice_key notice_value rows)
+    as_entries : (rows : List desk.Notice) → passed_rows rows ≡ filter_map in_entry (entries_of notice_key notice_value rows)
     as_entries [] = refl
     as_entries (n ∷ rows) = ap (cons_option (passed_row n)) (as_entries rows)
 
@@ -161,10 +161,10 @@ rows_of_registry records tld rows is = as_entries rows ∙ ap (filter_map in_ent
 -- ---- a loop over the rows
 
 -- the rows up to the next one, and what they tell
-pub rows_up_to : (rows : List told.Notice) (i : ℕ) (n : told.Notice) → i < length rows → get_or rows i n ≡ n → passed_rows (take (i + 1) rows) ≡ passed_rows (take i rows) ++ cons_option (passed_row n) []
+pub rows_up_to : (rows : List desk.Notice) (i : ℕ) (n : desk.Notice) → i < length rows → get_or rows i n ≡ n → passed_rows (take (i + 1) rows) ≡ passed_rows (take i rows) ++ cons_option (passed_row n) []
 rows_up_to rows i n lt at = ap passed_rows (take_more rows i n lt ∙ ap (λ m. take i rows ++ m ∷ []) at) ∙ rows_more (take i rows) n
 
-pub latest_more : (rows : List told.Notice) (i : ℕ) (n : told.Notice) (latest next : Option (ℕ × List ℕ)) → i < length rows → get_or rows i n ≡ n → IsLatest (passed_rows (take i rows)) latest
+pub latest_more : (rows : List desk.Notice) (i : ℕ) (n : desk.Notice) (latest next : Option (ℕ × List ℕ)) → i < length rows → get_or rows i n ≡ n → IsLatest (passed_rows (take i rows)) latest
     → ((pair : ℕ × List ℕ) → passed_row n ≡ Some pair → next ≡ Some (later_pair latest pair)) → (passed_row n ≡ None → next ≡ latest) → IsLatest (passed_rows (take (i + 1) rows)) next
 latest_more rows i n latest next lt at so_far told nothing = by (passed_row n) refl (rows_up_to rows i n lt at)
   where
@@ -176,7 +176,7 @@ latest_more rows i n latest next lt at so_far told nothing = by (passed_row n) r
         nothing_more (x ∷ xs) = ap (λ l. x ∷ l) (nothing_more xs)
     by (Some pair) is rest = subst (λ (z : List (ℕ × List ℕ)). IsLatest z next) (sym rest) (subst (IsLatest (passed_rows (take i rows) ++ pair ∷ [])) (sym (told pair is)) (later_is (passed_rows (take i rows)) latest pair so_far))
 
-pub ids_more : (rows : List told.Notice) (i : ℕ) (n : told.Notice) (ids next : List (List ℕ)) → i < length rows → get_or rows i n ≡ n → ids ≡ map (λ (one : ℕ × List ℕ). one.1) (passed_rows (take i rows))
+pub ids_more : (rows : List desk.Notice) (i : ℕ) (n : desk.Notice) (ids next : List (List ℕ)) → i < length rows → get_or rows i n ≡ n → ids ≡ map (λ (one : ℕ × List ℕ). one.1) (passed_rows (take i rows))
     → ((pair : ℕ × List ℕ) → passed_row n ≡ Some pair → next ≡ ids ++ pair.1 ∷ []) → (passed_row n ≡ None → next ≡ ids) → next ≡ map (λ (one : ℕ × List ℕ). one.1) (passed_rows (take (i + 1) rows))
 ids_more rows i n ids next lt at so_far told nothing = by (passed_row n) refl ∙ ap (map (λ (one : ℕ × List ℕ). one.1)) (sym (rows_up_to rows i n lt at))
   where
@@ -192,11 +192,11 @@ ids_more rows i n ids next lt at so_far told nothing = by (passed_row n) refl �
         none_more (x ∷ xs) = ap (λ l. x.1 ∷ l) (none_more xs)
     by (Some pair) is = told pair is ∙ ap (λ l. l ++ pair.1 ∷ []) so_far ∙ map_more (passed_rows (take i rows)) (pair ∷ []) ∙ ap (λ o. map (λ (one : ℕ × List ℕ). one.1) (passed_rows (take i rows) ++ cons_option o [])) (sym is)
 
-pub latest_at_end : (rows : List told.Notice) (i : ℕ) (latest : Option (ℕ × List ℕ)) → length rows ≤ i → IsLatest (passed_rows (take i rows)) latest → option_map (λ (one : ℕ × List ℕ). one.1) latest ≡ latest_of (passed_rows rows)
+pub latest_at_end : (rows : List desk.Notice) (i : ℕ) (latest : Option (ℕ × List ℕ)) → length rows ≤ i → IsLatest (passed_rows (take i rows)) latest → option_map (λ (one : ℕ × List ℕ). one.1) latest ≡ latest_of (passed_rows rows)
 latest_at_end rows i latest end h = latest_is (passed_rows rows) latest (subst (λ l. IsLatest (passed_rows l) latest) (take_all i rows end) h)
 
 -- what is known of a stated deposit, put together
-pub known_is : (st : stated.Statement) (records : Records) (name : Name) (rows : List told.Notice) (latest : Option (List ℕ)) (ids : List (List ℕ)) → name ≡ first_part st → entries_of notice_key notice_value rows ≡ notices_of records st.tld
+pub known_is : (st : stated.Statement) (records : Records) (name : Name) (rows : List desk.Notice) (latest : Option (List ℕ)) (ids : List (List ℕ)) → name ≡ first_part st → entries_of notice_key notice_value rows ≡ notices_of records st.tld
     → latest ≡ latest_of (passed_rows rows) → ids ≡ map (λ (one : ℕ × List ℕ). one.1) (passed_rows rows) → ◌≡◌ {A = Known} (record { name = name; id = st.id; latest = latest; passed = ids }) (known_of records.notices st)
 known_is st records name rows latest ids named is late all = λ i. record {
   name = named i;

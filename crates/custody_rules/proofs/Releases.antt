@@ -12,7 +12,7 @@ use Rattle.deposit_name.specs.Name.{IsName, name_text}
 use Rattle.extent_map.specs.declared.extent.Extent.{Extent}
 use Rattle.desk.specs.Standing.{ground_stands}
 use Rattle.desk.specs.declared.grounds.Ground.{Ground}
-use Rattle.desk.specs.declared.notices.Notice as told
+use Rattle.desk.specs.declared.notices.Notice as desk
 use Rattle.custody_records.specs.declared.parts.Part.{Part}
 use Rattle.custody_records.specs.Keys.{NoticeKey, PartKey, part_cmp, text_cmp}
 use Rattle.custody_records.specs.Orders.{part_total, part_exact}
@@ -84,12 +84,12 @@ module _ (records : Records) (reference tld : List ℕ) (reason : Ground) (now :
     )
 
 -- the rows of a registry's notices are what it was told
-pub rows_told : (records : Records) (tld : List ℕ) (rows : List told.Notice) → entries_of notice_key notice_value rows ≡ notices_of records tld → rows ≡ told_to records.notices tld
+pub rows_told : (records : Records) (tld : List ℕ) (rows : List desk.Notice) → entries_of notice_key notice_value rows ≡ notices_of records tld → rows ≡ told_to records.notices tld
 rows_told records tld rows is = as_told rows ∙ ap (map told_notice) (is ∙ (λ i. filter (λ (e : NoticeKey × Notice). is_eq-slice_cmp e.0.tld tld i) (entries records.notices)))
   where
-    as_told : (rows : List told.Notice) → rows ≡ map told_notice (entries_of notice_key notice_value rows)
+    as_told : (rows : List desk.Notice) → rows ≡ map told_notice (entries_of notice_key notice_value rows)
     as_told [] = refl
-    as_told (n ∷ rows) = ap (λ (l : List told.Notice). n ∷ l) (as_told rows)
+    as_told (n ∷ rows) = ap (λ (l : List desk.Notice). n ∷ l) (as_told rows)
 
 -- ---- what it lists
 

@@ -8,7 +8,7 @@ use Rattle.std.proofs.lemmas.List.Folds.{Any-from_list_any, list_any_at}
 use Rattle.std.proofs.lemmas.Option.{slice_get-get_or, slice_get_within, get_or_from_slice_get}
 use Rattle.desk.specs.declared.notices.NoticeKind.{NoticeKind}
 use Rattle.desk.specs.declared.notices.NoticeKind.TheVariants.{Receipt, Failure, Absence}
-use Rattle.desk.specs.declared.notices.Notice as told
+use Rattle.desk.specs.declared.notices.Notice as desk
 use Rattle.custody_records.specs.Keys.{NoticeKey, notice_cmp}
 use Rattle.custody_records.specs.Orders.{notice_total, notice_exact}
 use Rattle.custody_records.specs.Records.{Notice, Records}
@@ -68,7 +68,7 @@ failure_is_verdict rev (Receipt _ _) e = cc
 failure_is_verdict rev (Failure of _ _) e = ap Some ((Decides-eqb of rev).0 e)
 failure_is_verdict rev Absence e = cc
 
-failure_about : (n : told.Notice) (t : FailedRevision) → failed_revision_of n ≡ Some t → subject_of n ≡ Some (record { tld = t.tld; day = t.day; rev = Some t.rev })
+failure_about : (n : desk.Notice) (t : FailedRevision) → failed_revision_of n ≡ Some t → subject_of n ≡ Some (record { tld = t.tld; day = t.day; rev = Some t.rev })
 failure_about n t e =
     let is = revision_of_failure n.tld n.day n.kind t e in
     let tld = is.0 in
@@ -76,22 +76,22 @@ failure_about n t e =
     let rev = failure_is_verdict t.rev n.kind is.1.1 in
     λ i. Some (record { tld = tld i; day = day i; rev = rev i })
 
-pub failures_once : (notices : List told.Notice) → AreToldOnce subject_of notices → AreToldOnce failed_revision_of notices
+pub failures_once : (notices : List desk.Notice) → AreToldOnce subject_of notices → AreToldOnce failed_revision_of notices
 failures_once notices once i j m n t at_i at_j tells_m tells_n = once i j m n (record { tld = t.tld; day = t.day; rev = Some t.rev }) at_i at_j (failure_about m t tells_m) (failure_about n t tells_n)
 
-fails_decides : (n : told.Notice) (t : FailedRevision) → Decides (is_same_text n.tld t.tld && (n.day == t.day && is_failure_of t.rev n.kind)) (failed_revision_of n ≡ Some t)
+fails_decides : (n : desk.Notice) (t : FailedRevision) → Decides (is_same_text n.tld t.tld && (n.day == t.day && is_failure_of t.rev n.kind)) (failed_revision_of n ≡ Some t)
 fails_decides n t =
     Decides-like _ (λ h. failure_of_revision n.tld n.day n.kind t h.0 h.1.0 h.1.1) (revision_of_failure n.tld n.day n.kind t)
     (Decides-and _ _ (text_decides n.tld t.tld) (Decides-and _ _ (Decides-eqb n.day t.day) (λ e. e, λ e. e)))
 
 -- ---- what all of them tell
 
-module _ (records : Records) (rows : List told.Notice) (is : records.notices ≡ table_map notice_cmp notice_key notice_value rows) (rising : is_rising notice_cmp notice_key rows ≡ true) where
+module _ (records : Records) (rows : List desk.Notice) (is : records.notices ≡ table_map notice_cmp notice_key notice_value rows) (rising : is_rising notice_cmp notice_key rows ≡ true) where
   -- the revisions whose failure they tell are those that have failed
   pub failures_are : (has : FailedRevision → Bool) → ((t : FailedRevision) → (has t ≡ true) ↔ IsTold failed_revision_of rows t) → (t : FailedRevision) → has t ≡ has_notice records.notices t.tld t.day (is_failure_of t.rev)
   failures_are has tell t = same_from_decides (has t) (list_any fails rows) (tell t) (there, back) ∙ any_rows notice_cmp notice_key notice_value rows records.notices is rising (λ (e : NoticeKey × Notice). is_same_text e.0.tld t.tld && (e.1.day == t.day && is_failure_of t.rev e.1.kind))
     where
-      fails : told.Notice → Bool
+      fails : desk.Notice → Bool
       fails n = is_same_text n.tld t.tld && (n.day == t.day && is_failure_of t.rev n.kind)
 
       there : list_any fails rows ≡ true → IsTold failed_revision_of rows t
@@ -105,11 +105,11 @@ module _ (records : Records) (rows : List told.Notice) (is : records.notices ≡
           (ap fails (get_or_from_slice_get rows tells.place tells.notice tells.notice tells.at) ∙ (fails_decides tells.notice t).1 tells.tells)
 
   -- each row of this key and value tells it
-  abbrev Tells : {T : Type 0} → (told.Notice → Option T) → T → NoticeKey → Notice → Type 0
-  Tells told_by t key notice = (n : told.Notice) → notice_key n ≡ key → notice_value n ≡ notice → told_by n ≡ Some t
+  abbrev Tells : {T : Type 0} → (desk.Notice → Option T) → T → NoticeKey → Notice → Type 0
+  Tells told_by t key notice = (n : desk.Notice) → notice_key n ≡ key → notice_value n ≡ notice → told_by n ≡ Some t
 
   -- two notices of the records that tell the same are one
-  module _ {T : Type 0} (told_by : told.Notice → Option T) (once : AreToldOnce told_by rows) (t : T) where
+  module _ {T : Type 0} (told_by : desk.Notice → Option T) (once : AreToldOnce told_by rows) (t : T) where
     one_key : (j k : NoticeKey) (m n : Notice) → get records.notices j ≡ Some m → get records.notices k ≡ Some n → Tells told_by t j m → Tells told_by t k n → j ≡ k
     one_key j k m n at_j at_k tells_m tells_n =
         let first = table_has_row notice_cmp notice_key notice_value notice_exact rows rising j m (ap (λ notices. get notices j) (sym is) ∙ at_j) in
@@ -149,17 +149,17 @@ module _ (records : Records) (rows : List told.Notice) (is : records.notices ≡
 
   -- where records belong together, each of these stands once
   module _ (linked : AreLinked records) where
-    recorded : (i : ℕ) (n : told.Notice) → slice_get rows i ≡ Some n → get records.notices (notice_key n) ≡ Some (notice_value n)
+    recorded : (i : ℕ) (n : desk.Notice) → slice_get rows i ≡ Some n → get records.notices (notice_key n) ≡ Some (notice_value n)
     recorded i n at =
         let here = get_or_from_slice_get rows i n n at in
         ap (λ notices. get notices (notice_key n)) is
-        ∙ subst (λ (r : told.Notice). get (table_map notice_cmp notice_key notice_value rows) (notice_key r) ≡ Some (notice_value r)) here
+        ∙ subst (λ (r : desk.Notice). get (table_map notice_cmp notice_key notice_value rows) (notice_key r) ≡ Some (notice_value r)) here
         (row_in_table notice_cmp notice_key notice_value notice_total rows rising i n (slice_get_within rows i n at))
 
-    one_place : (i j : ℕ) (m n : told.Notice) → slice_get rows i ≡ Some m → slice_get rows j ≡ Some n → notice_key m ≡ notice_key n → i ≡ j
+    one_place : (i j : ℕ) (m n : desk.Notice) → slice_get rows i ≡ Some m → slice_get rows j ≡ Some n → notice_key m ≡ notice_key n → i ≡ j
     one_place i j m n at_i at_j same = by (i == j) refl
       where
-        keys : (d : told.Notice) → notice_key (get_or rows i d) ≡ notice_key (get_or rows j d)
+        keys : (d : desk.Notice) → notice_key (get_or rows i d) ≡ notice_key (get_or rows j d)
         keys d = ap notice_key (get_or_from_slice_get rows i m d at_i) ∙ same ∙ sym (ap notice_key (get_or_from_slice_get rows j n d at_j))
 
         first : ¬ (i < j)

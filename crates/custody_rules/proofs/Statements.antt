@@ -8,7 +8,7 @@ use Rattle.schedule.specs.Schedule.{day_of}
 use Rattle.extent_map.specs.declared.extent.Extent.{Extent}
 use Rattle.custody_records.specs.Keys.{NoticeKey}
 use Rattle.custody_records.specs.Records.{Notice, PartRecord, Records, key_of}
-use Rattle.custody_machine.specs.declared.command.Statement as told
+use Rattle.custody_machine.specs.declared.command.Statement as statement
 use Rattle.custody_machine.specs.State.{State, places, at_place, has_notice, is_notice_of}
 use Rattle.custody_machine.specs.Stored.{part_of, content_of, state_in}
 use Rattle.custody_machine.specs.declared.answers.Refusal.{Refusal}
@@ -21,7 +21,7 @@ use Rattle.custody_machine.proofs.Stated.{statement_refusals, stated_by}
 use Rattle.custody_rules.specs.Judged.{differ_in, is_later_receipt, is_of_other_kind, is_without_bytes, kept_in}
 use Rattle.custody_rules.proofs.Judged.{part_in_state, kinds_in_state, count_in_state}
 
-module _ (records : Records) (st : told.Statement) (image : List ℕ) where
+module _ (records : Records) (st : statement.Statement) (image : List ℕ) where
   dropped_in_state : has_dropped_part (state_in records image) (first_part st) ≡ list_any (λ place. is_without_bytes (get records.parts (at_place (key_of (first_part st)) place))) places
   dropped_in_state = λ i. list_any (λ place. each place i) places
     where
@@ -81,7 +81,7 @@ module _ (b c d e f g : Bool) where
 
 -- ---- what is decided of a statement
 
-module _ (records : Records) (st : told.Statement) (now : ℕ) where
+module _ (records : Records) (st : statement.Statement) (now : ℕ) where
   pub refuses_unknown : get records.registries st.tld ≡ None → Decides (Refuses RegistryUnknown) records (Statement st) now
   refuses_unknown unknown = (λ e. cc, λ e. cc, λ image. step_refuses (state_in records image) (Statement st) now RegistryUnknown (by _ _ (ap is_none unknown)))
     where

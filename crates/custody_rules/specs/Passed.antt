@@ -1,7 +1,7 @@
 -- The deposits that passed and the greatest number, as the rows of notices tell them.
 use Rattle.std.specs.Prelude.{ℕ, max, List, [], ◌∷◌, Option, Some, None, if◌then◌else◌, nat_le, option_map}
 use Rattle.std.specs.List.{filter_map}
-use Rattle.desk.specs.declared.notices.Notice as told
+use Rattle.desk.specs.declared.notices.Notice as desk
 use Rattle.custody_machine.specs.Machine.{passed_id}
 use Rattle.custody_rules.specs.declared.known.Passed.{Passed}
 
@@ -9,10 +9,10 @@ abbrev pub passed_pair : Passed → ℕ × List ℕ
 passed_pair passed = (passed.day, passed.id)
 
 -- the deposit that a notice tells to have passed
-abbrev pub passed_row : told.Notice → Option (ℕ × List ℕ)
+abbrev pub passed_row : desk.Notice → Option (ℕ × List ℕ)
 passed_row notice = option_map (λ (id : List ℕ). (notice.day, id)) (passed_id notice.kind)
 
-abbrev pub passed_rows : List told.Notice → List (ℕ × List ℕ)
+abbrev pub passed_rows : List desk.Notice → List (ℕ × List ℕ)
 passed_rows = filter_map passed_row
 
 -- of two deposits the later one, and of one day the first
@@ -20,6 +20,6 @@ abbrev pub later_pair : Option (ℕ × List ℕ) → ℕ × List ℕ → ℕ × 
 later_pair None next = next
 later_pair (Some before) next = if nat_le next.0 before.0 then before else next
 
-abbrev pub greatest_of : List told.Notice → ℕ
+abbrev pub greatest_of : List desk.Notice → ℕ
 greatest_of [] = 0
 greatest_of (notice ∷ others) = max notice.number (greatest_of others)
