@@ -1,6 +1,8 @@
 -- The bytes that a reader gave so far.
-use Rattle.std.proofs.Common.{◌≡◌, ℕ, ◌+◌, ◌<◌, ◌≤◌, List, ◌++◌, length, take, Option, Some, None, IfSome, sym, ◌∙◌, ap, arith, length-append}
-use Rattle.std.proofs.lemmas.List.{append-nil, take_at}
+use Rattle.std.proofs.Common.{◌≡◌, ℕ, ◌+◌, ◌<◌, ◌≤◌, List, ◌++◌, length, take, drop, Option, Some, None, IfSome, sym, ◌∙◌, ap, arith, length-append}
+use Rattle.std.proofs.lemmas.List.{append-nil, length-take-le, take_at, take-append-le}
+use Rattle.std.proofs.Math.Seq.{take-append-add}
+use borrow.Rule.Slice.PartMut.{put_mid}
 use Rattle.std.specs.Io.KnownBytes.{Consumes, IsAtEnd}
 use Rattle.std.proofs.KnownBytes.{Consumes-trans}
 use Rattle.std.specs.Fmt.{option_append}
@@ -40,3 +42,17 @@ comes_more old mid now len left sent piece rest come more less = (Consumes-trans
 pub chained_known : (known : Option (List ℕ)) (first : List ℕ) (P : List ℕ → Type 0) → IfSome (option_append (Some first) known) P → IfSome known (λ rest. P (first ++ rest))
 chained_known None first P h = tt
 chained_known (Some rest) first P h = h
+
+-- ---- one read more into a buffer
+
+-- what was there first, followed by what was read behind it
+pub take-put_more : (old got : List ℕ) (k n room : ℕ) → k ≤ length old → n ≤ length got → take (k + n) (put_mid k room old got) ≡ take k old ++ take n got
+take-put_more old got k n room inside within =
+    ap (λ m. take (m + n) (put_mid k room old got)) (sym (length-take-le k old inside))
+    ∙ take-append-add (take k old) (got ++ drop room (drop k old)) n ∙ ap (λ l. take k old ++ l) (take-append-le n got (drop room (drop k old)) within)
+
+-- there is room for both
+pub within-put_more : (old got : List ℕ) (k n room : ℕ) → k ≤ length old → n ≤ length got → k + n ≤ length (put_mid k room old got)
+within-put_more old got k n room inside within =
+    let rest = drop room (drop k old) in
+    omega (arith, length-append (take k old) (got ++ rest), length-append got rest, length-take-le k old inside, within)

@@ -20,7 +20,7 @@ use Rattle.custody_machine.specs.Machine.{Command, Refuse, Accept, step, reads, 
 use Rattle.custody_machine.specs.State.{State}
 use Rattle.custody_machine.specs.History.{is_open_after}
 use Rattle.custody_machine.specs.Stored.{IsVolumeOf, IsGood, state_in}
-use Rattle.custody_machine.specs.Moves.{RestsOnBytes}
+use Rattle.custody_machine.specs.Moves.{DependsOnBytes}
 use Rattle.custody_machine.specs.Rulings.{bytes_of}
 use Rattle.custody_machine.specs.Custody.{IsInOrder, IsInStore}
 use Rattle.custody_machine.specs.declared.answers.Fault.{Fault}
@@ -35,7 +35,7 @@ use Rattle.custody.specs.declared.answers.Refused.TheVariants as refused
 use Rattle.custody.specs.declared.keeper.Keeper.{Keeper}
 use Rattle.custody.specs.Answers.{answer_of, stays_open, uses_volume, writes_volume}
 use Rattle.custody.specs.Ruled.{IsRuled}
-use Rattle.custody.specs.Shown.{IsShown, HoldsBytes}
+use Rattle.custody.specs.Shown.{IsRecorded, HoldsBytes}
 use Rattle.custody.specs.Keeper.{recorded, stored, image_of, failures_of, left_by, left_since, KeepsOrder, KeepsImage, KeepsRows, IsSafe, IsUnwritten, HasDone}
 use Rattle.custody.proofs.KeeperLemmas.{on_ok, stays_still, leaves_more, either_form, form_then, rows_then, safe_done, safe_undone, image_same, order_same, good_before, does_nothing, does_change, is_in_doubt}
 
@@ -64,8 +64,8 @@ module _ {V S : Type 0} {g : volume.Ghosts V} (database : Ghosts S) (old : Keepe
 
   module _ (new : Keeper V S g) (same : recorded new ≡ recorded old) (store_same : new.store ≡ old.store) (free : SameFree (IsFree old.vault) (IsFree new.vault)) (unwritten : g.tells → IsUnwritten old new) where
     pub reads_done : (answer : Result Reply not_accepted.Refused) → IsSafe old command answer new → IsRuled (recorded old) command now answer (recorded new)
-        → IfOk answer (λ reply. IsShown (recorded new) reply.record) → (g.tells → IfOk answer (λ reply. HoldsBytes (image_of new) reply.record (bytes_of command)))
-        → (g.tells → Answers (state_in (recorded old) (image_of old)) command now (answer_of command answer) (state_in (recorded old) (image_of old)) × RestsOnBytes (recorded old) (image_of old) command now (answer_of command answer))
+        → IfOk answer (λ reply. IsRecorded (recorded new) reply.record) → (g.tells → IfOk answer (λ reply. HoldsBytes (image_of new) reply.record (bytes_of command)))
+        → (g.tells → Answers (state_in (recorded old) (image_of old)) command now (answer_of command answer) (state_in (recorded old) (image_of old)) × DependsOnBytes (recorded old) (image_of old) command now (answer_of command answer))
         → HasDone database old command now answer new
     reads_done answer safe ruled shown holds told = record {
       safe = safe;
@@ -94,8 +94,8 @@ module _ {V S : Type 0} {g : volume.Ghosts V} (database : Ghosts S) (old : Keepe
     resting = record { vault = old.vault; store = old.store; records = r }
 
     pub rests_done : answer ≢ Err (refused.Refusal VolumeFull) → IsRuled (recorded old) command now answer (records_of r)
-        → IfOk answer (λ reply. IsShown (records_of r) reply.record) → (g.tells → IfOk answer (λ reply. HoldsBytes (image_of old) reply.record (bytes_of command)))
-        → (g.tells → Answers (state_in (recorded old) (image_of old)) command now (answer_of command answer) (state_in (recorded old) (image_of old)) × RestsOnBytes (recorded old) (image_of old) command now (answer_of command answer))
+        → IfOk answer (λ reply. IsRecorded (records_of r) reply.record) → (g.tells → IfOk answer (λ reply. HoldsBytes (image_of old) reply.record (bytes_of command)))
+        → (g.tells → Answers (state_in (recorded old) (image_of old)) command now (answer_of command answer) (state_in (recorded old) (image_of old)) × DependsOnBytes (recorded old) (image_of old) command now (answer_of command answer))
         → HasDone database old command now answer (record { vault = old.vault; store = old.store; records = r })
     rests_done full ruled shown holds told =
         reads_done resting same refl (λ b. (λ f. f, λ f. f)) (λ _. (refl, stays_still g.moment g.left_at (volume_of old.vault))) answer
@@ -115,11 +115,11 @@ module _ {V S : Type 0} {g : volume.Ghosts V} (database : Ghosts S) (old : Keepe
 
     -- a repeat, and no bytes decided it
     pub repeats_done : (answer : Reply) (reply : machine.Reply) → answer_of command (Ok answer) ≡ Accepted reply → step (state_in (recorded old) (image_of old)) command now ≡ Accept reply (state_in (recorded old) (image_of old)) → reads (state_in (recorded old) (image_of old)) command now ≡ []
-        → IsRuled (recorded old) command now (Ok answer) (records_of r) → IsShown (records_of r) answer.record → (g.tells → HoldsBytes (image_of old) answer.record (bytes_of command)) → HasDone database old command now (Ok answer) (record { vault = old.vault; store = old.store; records = r })
+        → IsRuled (recorded old) command now (Ok answer) (records_of r) → IsRecorded (records_of r) answer.record → (g.tells → HoldsBytes (image_of old) answer.record (bytes_of command)) → HasDone database old command now (Ok answer) (record { vault = old.vault; store = old.store; records = r })
     repeats_done answer reply told is none ruled shown holds = rests_done r same (Ok answer) refl (ok_not_full answer) ruled shown holds
         (λ _. (
           subst (λ a. Answers (state_in (recorded old) (image_of old)) command now a (state_in (recorded old) (image_of old))) (sym told) is,
-          subst (λ a. RestsOnBytes (recorded old) (image_of old) command now a) (sym told) (λ key within. absurd (nothing_in _ key none within)),
+          subst (λ a. DependsOnBytes (recorded old) (image_of old) command now a) (sym told) (λ key within. absurd (nothing_in _ key none within)),
         ))
 
     -- it would be accepted, and there is no memory
@@ -138,7 +138,7 @@ module _ {V S : Type 0} {g : volume.Ghosts V} (database : Ghosts S) (old : Keepe
     pub first : reply.is_repeat ≡ false
     pub written : g.tells → DiffersOnlyIn (IsFree old.vault) (image_of old) (image_of new)
     pub accepted : g.tells → KeepsImage old → step (state_in (recorded old) (image_of old)) command now ≡ Accept reply (state_in changed (image_of new))
-    pub rests : g.tells → KeepsImage old → RestsOnBytes (recorded old) (image_of old) command now (Accepted reply)
+    pub rests : g.tells → KeepsImage old → DependsOnBytes (recorded old) (image_of old) command now (Accepted reply)
     pub change : g.tells → KeepsImage old → IsGood (recorded old) (image_of old) → IsChange (recorded old) (image_of old) (IsFree old.vault) changed (image_of new) unsettled
     pub volume : g.tells → KeepsImage old → IsVolumeOf changed (image_of new)
     pub any_moment : g.tells → KeepsImage old → LeavesOnly g.moment g.left_at (volume_of old.vault) (volume_of new.vault) (DiffersOnlyIn (IsFree old.vault) (image_of old))
@@ -208,7 +208,7 @@ module _ {V S : Type 0} {g : volume.Ghosts V} (database : Ghosts S) (old : Keepe
     is = goes.change
 
     pub commits_done : is_err result ≡ false → recorded new ≡ changed → (answer : Reply) → answer.is_repeat ≡ false → answer_of command (Ok answer) ≡ Accepted reply → IsRuled (recorded old) command now (Ok answer) (recorded new)
-        → IsShown (recorded new) answer.record → (g.tells → HoldsBytes (image_of new) answer.record (bytes_of command)) → HasDone database old command now (Ok answer) new
+        → IsRecorded (recorded new) answer.record → (g.tells → HoldsBytes (image_of new) answer.record (bytes_of command)) → HasDone database old command now (Ok answer) new
     commits_done good same answer first told ruled shown holds = record {
       safe = safe_done old new command answer first is.uncalled is.failures (subst (λ r. IsInOrder r (g.size (volume_of new.vault)) (failures_of new) (IsFree new.vault)) (sym same) goes.in_order);
       ruled = ruled;

@@ -24,7 +24,7 @@ use Rattle.custody_machine.specs.Machine as machine
 use Rattle.custody_machine.specs.Machine.{Command, Accept, step, Accepted, Answers}
 use Rattle.custody_machine.specs.History.{is_open_after}
 use Rattle.custody_machine.specs.Stored.{AreWhole, IsVolumeOf, IsGood, state_in}
-use Rattle.custody_machine.specs.Moves.{RestsOnBytes}
+use Rattle.custody_machine.specs.Moves.{DependsOnBytes}
 use Rattle.custody_machine.specs.Custody.{IsPlaceable, HasRoomFor, IsInStore, LeftSince, Serves}
 use Rattle.custody_machine.specs.declared.answers.Fault.TheVariants.{VolumeFailed, StoreFailed, Closed}
 use Rattle.custody_machine.specs.declared.answers.Refusal.TheVariants.{VolumeFull}
@@ -105,7 +105,7 @@ module _ {V S : Type 0} {g : volume.Ghosts V} (database : Ghosts S) (old new : K
   good_before = good_now (recorded old) (stored database old).rows (image_of old) _ _ (IsFree old.vault) (stored database old).IsReady (stored database old).may_leave (left_by old) order volume store
 
   -- it is refused, it failed before the commit, or it is a repeat
-  pub does_nothing : (answer : Result Reply Refused) → Answers (state_in (recorded old) (image_of old)) command now (answer_of command answer) (state_in (recorded old) (image_of old)) → RestsOnBytes (recorded old) (image_of old) command now (answer_of command answer)
+  pub does_nothing : (answer : Result Reply Refused) → Answers (state_in (recorded old) (image_of old)) command now (answer_of command answer) (state_in (recorded old) (image_of old)) → DependsOnBytes (recorded old) (image_of old) command now (answer_of command answer)
       → stays_open answer ≡ is_open_after (answer_of command answer) → recorded new ≡ recorded old → (stays_open answer ≡ true → image_of new ≡ image_of old)
       → ((j : List ℕ) → left_since old new j → DiffersOnlyIn (IsFree old.vault) (image_of old) j) → ((r : Rows) → (stored database new).may_leave r → (stored database old).may_leave r) → ((j : List ℕ) → left_by new j → DiffersOnlyIn (IsFree old.vault) (image_of old) j)
       → HasServed database old command now answer new
@@ -116,7 +116,7 @@ module _ {V S : Type 0} {g : volume.Ghosts V} (database : Ghosts S) (old new : K
   module _ (changed : Records) (unsettled : ℕ → Type 0) (change : IsChange (recorded old) (image_of old) (IsFree old.vault) changed (image_of new) unsettled) where
     -- it is done, and answered
     pub does_change : (reply : Reply) (shown_reply : machine.Reply) → answer_of command (Ok reply) ≡ Accepted shown_reply → step (state_in (recorded old) (image_of old)) command now ≡ Accept shown_reply (state_in changed (image_of new))
-        → RestsOnBytes (recorded old) (image_of old) command now (Accepted shown_reply) → recorded new ≡ changed
+        → DependsOnBytes (recorded old) (image_of old) command now (Accepted shown_reply) → recorded new ≡ changed
         → ((j : List ℕ) → left_since old new j → DiffersOnlyIn (IsFree old.vault) (image_of old) j) → ((r : Rows) → (stored database new).may_leave r → form_of r ≡ InForm changed) → ((j : List ℕ) → left_by new j → DiffersOnlyIn unsettled (image_of new) j)
         → HasServed database old command now (Ok reply) new
     does_change reply shown_reply is ruled rests same during only images_same =

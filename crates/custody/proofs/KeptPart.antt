@@ -27,7 +27,7 @@ use Rattle.custody.specs.declared.answers.Record.{Record}
 use Rattle.custody.specs.declared.keeper.Keeper.{Keeper}
 use Rattle.custody.specs.Answers.{answer_of}
 use Rattle.custody.specs.Ruled.{IsRuled, received_record}
-use Rattle.custody.specs.Shown.{ShowsPart, IsShown, HoldsBytes}
+use Rattle.custody.specs.Shown.{ShowsPart, IsRecorded, HoldsBytes}
 use Rattle.custody.specs.Keeper.{recorded, image_of, failures_of, left_by, KeepsOrder, KeepsImage}
 use Rattle.custody.proofs.Done.{GoesOn}
 use Rattle.custody.proofs.PartLemmas.{part_means}
@@ -90,7 +90,7 @@ module _ {V S : Type 0} {g : volume.Ghosts V} (old new : Keeper V S g) (text byt
         received : staged_record n now staged ≡ received_record n now bytes staged.extents
         received = λ i. record { kind = n.kind; received = now; len = placed.len i; digest = placed.digest i; extents = Some staged.extents }
 
-    pub kept_shown : IsShown (recorded new) told
+    pub kept_shown : IsRecorded (recorded new) told
     kept_shown = shown_of n (staged_record n now staged) (recorded new) told shows (ap (λ (r : Records). get r.parts (key_of n)) same ∙ insert_here part_total (recorded old).parts (key_of n) (staged_record n now staged))
 
     pub kept_holds : part_bytes (image_of new) staged.extents staged.len ≡ bytes → HoldsBytes (image_of new) told bytes

@@ -14,7 +14,7 @@ use Rattle.custody_records.specs.Records.{Records}
 use Rattle.custody_records.specs.Typed.{part_place, part_value}
 use Rattle.custody_machine.specs.State.{Held}
 use Rattle.custody_machine.specs.Machine.{Command, Register, Receive, Statement, Check, Release, Purge, OfPart, Accept, Answer, Accepted, Answers, MayRefuse}
-use Rattle.custody_machine.specs.Moves.{RestsOnBytes}
+use Rattle.custody_machine.specs.Moves.{DependsOnBytes}
 use Rattle.custody_machine.specs.Stored.{ForExtents, AreExtents, content_of, state_in}
 use Rattle.custody_machine.specs.Rulings.{ByBytes, Decides, IsUnder, bytes_of}
 use Rattle.custody_machine.specs.Custody.{Compares, Same, Other, Broken}
@@ -29,7 +29,7 @@ use Rattle.custody.specs.declared.answers.Refused.TheVariants as refused
 use Rattle.custody.specs.declared.keeper.Keeper.{Keeper}
 use Rattle.custody.specs.Answers.{answer_of, may_call, uses_volume, unread}
 use Rattle.custody.specs.Ruled.{IsCompared}
-use Rattle.custody.specs.Shown.{ShowsPart, IsShown, HoldsBytes}
+use Rattle.custody.specs.Shown.{ShowsPart, IsRecorded, HoldsBytes}
 use Rattle.custody.specs.Keeper.{recorded, image_of, failures_of, KeepsOrder, IsSafe, IsUnwritten, HasDone}
 use Rattle.custody.proofs.KeeperLemmas.{stays_still, order_same, safe_undone}
 use Rattle.custody.proofs.ShownLemmas.{shown_of, holds_of, entry_of}
@@ -61,14 +61,14 @@ module _ {V S : Type 0} {g : volume.Ghosts V} (old : Keeper V S g) (order : Keep
       (unwritten : g.tells → IsUnwritten old new) (database : Ghosts S) where
     -- what the machine may answer, and on which bytes it rests
     abbrev MayTell : Answer → Type 0
-    MayTell told = Answers (state_in (recorded old) (image_of old)) command now told (state_in (recorded old) (image_of old)) × RestsOnBytes (recorded old) (image_of old) command now told
+    MayTell told = Answers (state_in (recorded old) (image_of old)) command now told (state_in (recorded old) (image_of old)) × DependsOnBytes (recorded old) (image_of old) command now told
 
     compared_safe : (answer : Result Reply not_accepted.Refused) → failures_of new ≡ failures_of old → answer ≢ Err (refused.Fault fault.Closed) → answer ≢ Err (refused.Fault fault.VolumeFailed) → answer ≢ Err (refused.Refusal VolumeFull)
         → (may_call command answer ≡ false → volume_of new.vault ≡ volume_of old.vault) → IsSafe old command answer new
     compared_safe answer failures closed failed full uncalled =
         safe_undone old new records_same free command answer closed (λ h. absurd (failed h)) (λ _. failures) (λ h. absurd (full h)) uncalled store_same (λ _. order_same old new records_same free size failures order)
 
-    compared_done : (answer : Result Reply not_accepted.Refused) → IsSafe old command answer new → IsCompared part.name (part_value part) answer → IfOk answer (λ reply. IsShown (recorded new) reply.record) → (g.tells → IfOk answer (λ reply. HoldsBytes (image_of new) reply.record bytes)) → (g.tells → MayTell (answer_of command answer)) → HasDone database old command now answer new
+    compared_done : (answer : Result Reply not_accepted.Refused) → IsSafe old command answer new → IsCompared part.name (part_value part) answer → IfOk answer (λ reply. IsRecorded (recorded new) reply.record) → (g.tells → IfOk answer (λ reply. HoldsBytes (image_of new) reply.record bytes)) → (g.tells → MayTell (answer_of command answer)) → HasDone database old command now answer new
     compared_done answer safe compared shown holds told = reads_done database old order command now new records_same store_same free unwritten answer safe (ByBytes part.name (part_value part) extents, d, compared) shown holds told
 
     pub repeat_done : (told : Record) → ShowsPart told part.name (part_value part) → failures_of new ≡ failures_of old → (g.tells → Compares Same (part_bytes (image_of old) extents part.len) bytes part.digest)

@@ -10,11 +10,11 @@ use Rattle.custody_machine.specs.Machine.{OfPart}
 use Rattle.custody.specs.declared.answers.Record.{Record}
 use Rattle.custody.specs.declared.answers.Record.TheVariants as of
 use Rattle.custody.specs.Answers.{record_shown}
-use Rattle.custody.specs.Shown.{ShowsPart, IsShown, HoldsBytes}
+use Rattle.custody.specs.Shown.{ShowsPart, IsRecorded, HoldsBytes}
 
 module _ (name : Name) (part : PartRecord) where
   -- it is shown, where it is recorded
-  pub shown_of : (records : Records) (told : Record) → ShowsPart told name part → get records.parts (key_of name) ≡ Some part → IsShown records told
+  pub shown_of : (records : Records) (told : Record) → ShowsPart told name part → get records.parts (key_of name) ≡ Some part → IsRecorded records told
   shown_of records (of.Registry tld day) shows at = absurd shows
   shown_of records (of.Notice notice) shows at = absurd shows
   shown_of records (of.Release release) shows at = absurd shows

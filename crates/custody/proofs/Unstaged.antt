@@ -12,7 +12,7 @@ use Rattle.vault_volume.specs.Vault.{volume_of, IsFree}
 use Rattle.custody_records.specs.Records.{key_of}
 use Rattle.custody_machine.specs.Machine.{Receive, OfPart, Accept, MayRefuse, MayFail, Answers, step, reads, received_part, with_part}
 use Rattle.custody_machine.specs.History.{is_open_after}
-use Rattle.custody_machine.specs.Moves.{RestsOnBytes}
+use Rattle.custody_machine.specs.Moves.{DependsOnBytes}
 use Rattle.custody_machine.specs.Stored.{state_in}
 use Rattle.custody_store.specs.Standing.{standing}
 use Rattle.custody_machine.specs.Rulings.{AddsPart, Makes, Decides}
@@ -87,7 +87,7 @@ module _ {V S : Type 0} {g : volume.Ghosts V} (old new : Keeper V S g) (same : r
         may NoMemory = (subst (λ r. MayFail r (reads (state_in (recorded old) (image_of old)) (Receive text bytes) now) fault.NoMemory) (sym accepted) tt, refl)
         may VolumeFailed = (subst (λ r. MayFail r (reads (state_in (recorded old) (image_of old)) (Receive text bytes) now) fault.VolumeFailed) (sym accepted) tt, refl)
 
-        rests : (d : StageError) → RestsOnBytes (recorded old) (image_of old) (Receive text bytes) now (answer_of (Receive text bytes) (Err (unstaged d)))
+        rests : (d : StageError) → DependsOnBytes (recorded old) (image_of old) (Receive text bytes) now (answer_of (Receive text bytes) (Err (unstaged d)))
         rests Full = λ key within. absurd (nothing_in _ key (reads_nothing (recorded old) (image_of old) order.whole text bytes now n ruled.0.0 ruled.0.1 accepted) within)
         rests NoMemory = tt
         rests VolumeFailed = tt

@@ -14,7 +14,7 @@ use Rattle.custody_records.specs.Held.{records_of}
 use Rattle.custody_records.specs.Keys.{PartKey, NoticeKey}
 use Rattle.custody_records.specs.Records.{Notice, PartRecord, Records, key_of, with_notice}
 use Rattle.custody_records.specs.Written.{IsNoticeKind}
-use Rattle.custody_machine.specs.declared.command.Statement as told
+use Rattle.custody_machine.specs.declared.command.Statement as statement
 use Rattle.custody_machine.specs.declared.answers.Fault.TheVariants.{NoMemory, VolumeFailed, StoreFailed, Closed, Damaged}
 use Rattle.custody_machine.specs.declared.damage.Damage.TheVariants.{Digest}
 use Rattle.custody_machine.specs.Machine.{Statement, OfNotice, Accept, MayFail, first_part, next_key, notice_kind, verdict_notice, part_keys, reads, step}
@@ -33,7 +33,7 @@ use Rattle.custody.specs.Verified.{HasFirstPart, IsVerified, CountsVerified}
 use Rattle.custody.proofs.KeeperLemmas.{leaves_more, order_same, safe_undone}
 use Rattle.custody.proofs.Done.{GoesOn, reads_done, no_memory_done}
 
-module _ {V S : Type 0} {g : volume.Ghosts V} (database : Ghosts S) (old : Keeper V S g) (order : KeepsOrder old) (stated : told.Statement) (now : ℕ) (d : Decides (Makes (AddsVerdict stated)) (recorded old) (Statement stated) now) where
+module _ {V S : Type 0} {g : volume.Ghosts V} (database : Ghosts S) (old : Keeper V S g) (order : KeepsOrder old) (stated : statement.Statement) (now : ℕ) (d : Decides (Makes (AddsVerdict stated)) (recorded old) (Statement stated) now) where
   abbrev keys : List PartKey
   keys = part_keys (state_in (recorded old) (image_of old)) (first_part stated)
 

@@ -120,14 +120,14 @@ module _ {V S : Type 0} {g : volume.Ghosts V} where
 
     -- ---- the calls
 
-    abbrev pub IsOpened : (before : Keeper V S g) → List ℕ → ℕ → ℕ → (after : Keeper V S g) → code.Intake → Type 0
-    IsOpened before text len now after intake = IsTaking (record { start = before; text = text; len = len; now = now }) after intake []
+    abbrev pub OpensIntake : (before : Keeper V S g) → List ℕ → ℕ → ℕ → (after : Keeper V S g) → code.Intake → Type 0
+    OpensIntake before text len now after intake = IsTaking (record { start = before; text = text; len = len; now = now }) after intake []
 
     abbrev pub OpensPart : (before : Keeper V S g) → Name → ℕ → (after : Keeper V S g) → code.Intake → Type 0
-    OpensPart before name len after intake = (text : List ℕ) (now : ℕ) → KeepsOrder before → DecidesPart (Makes (AddsPart name)) (recorded before) text len now → IsOpened before text len now after intake
+    OpensPart before name len after intake = (text : List ℕ) (now : ℕ) → KeepsOrder before → DecidesPart (Makes (AddsPart name)) (recorded before) text len now → OpensIntake before text len now after intake
 
     abbrev pub OpensChange : (before : Keeper V S g) → Change → ℕ → (after : Keeper V S g) → code.Intake → Type 0
-    OpensChange before change len after intake = (text : List ℕ) (now : ℕ) → KeepsOrder before → DecidesPart (Makes (change_of change)) (recorded before) text len now → IsOpened before text len now after intake
+    OpensChange before change len after intake = (text : List ℕ) (now : ℕ) → KeepsOrder before → DecidesPart (Makes (change_of change)) (recorded before) text len now → OpensIntake before text len now after intake
 
     abbrev pub OpensKept : (before : Keeper V S g) → ℕ → (after : Keeper V S g) → Comparing → code.Intake → Type 0
     OpensKept before len after c intake = (s : Sending (Keeper V S g)) → IsComparing s before c [] → s.len ≡ len → IsTaking s after intake []

@@ -20,7 +20,7 @@ use Rattle.custody.specs.declared.keeper.Keeper.{Keeper}
 use Rattle.custody.specs.Answers.{answer_of, stays_open, may_change, may_call, writes_volume}
 use Rattle.custody.specs.Order.{IsInOrder-prop}
 use Rattle.custody.specs.Ruled.{IsRuled}
-use Rattle.custody.specs.Shown.{IsShown, HoldsBytes}
+use Rattle.custody.specs.Shown.{IsRecorded, HoldsBytes}
 
 module _ {V S : Type 0} {g : volume.Ghosts V} where
   abbrev pub recorded : Keeper V S g → Records
@@ -115,7 +115,7 @@ module _ {V S : Type 0} {g : volume.Ghosts V} where
     -- what the records decide is answered
     pub ruled : IsRuled (recorded old) command now answer (recorded new)
     -- a record is answered that is one of the records then
-    pub shown : IfOk answer (λ reply. IsShown (recorded new) reply.record)
+    pub shown : IfOk answer (λ reply. IsRecorded (recorded new) reply.record)
     -- and a part lies there, with the bytes of the command
     pub holds : g.tells → IfOk answer (λ reply. HoldsBytes (image_of new) reply.record (bytes_of command))
     -- only free blocks are written

@@ -24,7 +24,7 @@ use Rattle.custody_machine.specs.Damage.{damage_number, IsDamaged, NoneBefore, I
 use Rattle.custody_machine.specs.Stored.{AreWhole}
 use Rattle.custody_machine.specs.Moves.{Left, MayLeave}
 use Rattle.custody_machine.specs.Custody.{LeftSince, LeftByCall, Leaves}
-use Rattle.vault_volume.specs.declared.extent.TheConstants.{FEWEST_BLOCKS, MOST_BLOCKS}
+use Rattle.vault_volume.specs.Limits.{fewest_blocks, most_blocks}
 use Rattle.custody.specs.declared.answers.InitError.{InitError}
 use Rattle.custody.specs.declared.answers.InitError.TheVariants as init_error
 
@@ -59,12 +59,12 @@ free_blocks records = records.blocks - 1 - sum_by (λ (entry : PartKey × PartRe
 
 -- how many blocks a volume may have
 abbrev pub IsSize : ℕ → Type 0
-IsSize blocks = (FEWEST_BLOCKS ≤ blocks) × (blocks ≤ MOST_BLOCKS)
+IsSize blocks = (fewest_blocks ≤ blocks) × (blocks ≤ most_blocks)
 
 -- The volume counted a failure where that is told, and none where it is not.
-pub record CountsFailures (IsTold : Type 0) (before after : ℕ) : Type 0 where
-  pub failed : IsTold → before < after
-  pub not_failed : ¬ IsTold → after ≡ before
+pub record CountsFailures (IsFailure : Type 0) (before after : ℕ) : Type 0 where
+  pub failed : IsFailure → before < after
+  pub not_failed : ¬ IsFailure → after ≡ before
 
 -- The volume is read, and not written.
 pub record ReadsVolume {V : Type 0} (device : volume.Ghosts V) (old new : V) : Type 0 where

@@ -1,5 +1,5 @@
 -- A part that is received from a reader: which bytes are the part's, and what is done where they do not all come.
-use Rattle.std.specs.Prelude.{◌≡◌, ℕ, ◌≤◌, ◌<◌, List, [], ◌++◌, length, take, Option, IfSome, true, false, Result, Ok, Err}
+use Rattle.std.specs.Prelude.{◌≡◌, ◌⊎◌, ℕ, ◌≤◌, ◌<◌, min, List, [], ◌++◌, length, take, Option, IfSome, true, false, Result, Ok, Err}
 use Rattle.std.specs.Io.KnownBytes.{Consumes, IsAtEnd}
 use denote.Ref.{Bor}
 use Rattle.vault_volume.specs.declared.volume.Volume as volume
@@ -36,9 +36,16 @@ Came known len sent (Err ended.ReadFailed) = Unit {0}
 abbrev pub HasCome : Option (List ℕ) → ℕ → Result (Unit {0}) Ended → Type 0
 HasCome known len result = (sent : List ℕ) × Came known len sent result
 
--- the next bytes of a reader, or it is at its end, or failed
+-- so many bytes at the front of a buffer are the next ones of a reader: the buffer is full, or the reader at its end
+pub record Fills (old new : Option (List ℕ)) (buffer : List ℕ) (count : ℕ) : Type 0 where
+  pub bound : count ≤ length buffer
+  pub bytes : Consumes old new (take count buffer)
+  pub full : (count ≡ length buffer) ⊎ IsAtEnd new
+
+-- the next bytes of a reader, as many as are left or as a buffer takes, or fewer where it is at its end; or there are none, or it failed
 abbrev pub GivesPiece : Option (List ℕ) → Option (List ℕ) → ℕ → Result (Bor (List ℕ)) Ended → Type 0
 GivesPiece old new left (Ok piece) = (1 ≤ length piece.now) × (length piece.now ≤ left) × (length piece.now ≤ 32_768) × Consumes old new piece.now
+    × ((length piece.now ≡ min left 32_768) ⊎ IsAtEnd new)
 GivesPiece old new left (Err ended.Short) = IsAtEnd old
 GivesPiece old new left (Err ended.ReadFailed) = Unit {0}
 

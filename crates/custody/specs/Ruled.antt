@@ -7,7 +7,7 @@ use Rattle.extent_map.specs.declared.extent.Extent.{Extent}
 use Rattle.schedule.specs.Schedule.{day_of}
 use Rattle.custody_records.specs.Records.{PartRecord, Records, key_of, with_registry, with_part, with_notice, with_release}
 use Rattle.deposit_verify.specs.declared.verdict.Verdict.{Verdict}
-use Rattle.custody_machine.specs.declared.command.Statement as told
+use Rattle.custody_machine.specs.declared.command.Statement as statement
 use Rattle.custody_machine.specs.Machine.{Command, OfNotice, OfRelease, absence_notice, next_key, verdict_notice}
 use Rattle.custody_machine.specs.Machine as machine
 use Rattle.custody_machine.specs.Purge.{count_due, without_due}
@@ -57,7 +57,7 @@ IsReceived records name now bytes (Err (refused.Refusal refusal)) later = refusa
 IsReceived records name now bytes (Err (refused.Fault fault)) later = (fault ≡ NoMemory) ⊎ ((fault ≡ VolumeFailed) ⊎ (fault ≡ StoreFailed))
 
 -- a notice of some verdict is recorded under the next number, and answered as it is recorded; or memory, the volume or the database fails, or a part has not its digest
-abbrev pub IsNoticed : Records → told.Statement → ℕ → Result Reply Refused → Records → Type 0
+abbrev pub IsNoticed : Records → statement.Statement → ℕ → Result Reply Refused → Records → Type 0
 IsNoticed records stated now (Ok reply) later =
     (found : Verdict) × (record_shown [] reply.record ≡ OfNotice (next_key records.notices stated.tld) (verdict_notice stated found now)) × (reply.is_repeat ≡ false)
     × (later ≡ with_notice records (next_key records.notices stated.tld) (verdict_notice stated found now))

@@ -17,13 +17,13 @@ ShowsPart (of.Release release) name part = ⊥
 ShowsPart (of.Purge count) name part = ⊥
 
 -- one of these records
-abbrev pub IsShown : Records → Record → Type 0
-IsShown records (of.Registry tld first_day) = get records.registries tld ≡ Some first_day
-IsShown records (of.Part name received len digest extents) =
+abbrev pub IsRecorded : Records → Record → Type 0
+IsRecorded records (of.Registry tld first_day) = get records.registries tld ≡ Some first_day
+IsRecorded records (of.Part name received len digest extents) =
     get records.parts (key_of name) ≡ Some (record { kind = name.kind; received = received; len = len; digest = digest; extents = Some extents.items })
-IsShown records (of.Notice notice) = get records.notices (notice_key notice) ≡ Some (notice_value notice)
-IsShown records (of.Release release) = get records.releases (release_key release) ≡ Some (release_value release)
-IsShown records (of.Purge count) = Unit {0}
+IsRecorded records (of.Notice notice) = get records.notices (notice_key notice) ≡ Some (notice_value notice)
+IsRecorded records (of.Release release) = get records.releases (release_key release) ≡ Some (release_value release)
+IsRecorded records (of.Purge count) = Unit {0}
 
 -- a part whose extents hold these bytes
 abbrev pub HoldsBytes : List ℕ → Record → List ℕ → Type 0

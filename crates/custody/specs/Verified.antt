@@ -4,7 +4,7 @@ use Rattle.std.specs.FinMap.{get}
 use Rattle.deposit_verify.specs.declared.verdict.Verdict.{Verdict}
 use Rattle.custody_records.specs.Keys.{PartKey}
 use Rattle.custody_records.specs.Records.{PartRecord, Records, key_of}
-use Rattle.custody_machine.specs.declared.command.Statement as told
+use Rattle.custody_machine.specs.declared.command.Statement as statement
 use Rattle.custody_machine.specs.declared.answers.Fault.TheVariants.{NoMemory, VolumeFailed, StoreFailed, Closed, Damaged}
 use Rattle.custody_machine.specs.declared.damage.Damage.TheVariants.{Digest}
 use Rattle.custody_machine.specs.Machine.{first_part, part_keys, verdict_on}
@@ -13,11 +13,11 @@ use Rattle.custody.specs.declared.answers.Refused.{Refused}
 use Rattle.custody.specs.declared.answers.Refused.TheVariants as refused
 
 -- the first of the stated parts is recorded, and has the stated kind
-abbrev pub HasFirstPart : Records → told.Statement → Type 0
+abbrev pub HasFirstPart : Records → statement.Statement → Type 0
 HasFirstPart records stated = (part : PartRecord) × (get records.parts (key_of (first_part stated)) ≡ Some part) × (part.kind ≡ stated.kind)
 
 -- the verdict is that on the parts that the image holds, and each has its digest; damage is told where one has not
-abbrev pub IsVerified : Result Verdict Refused → Records → List ℕ → told.Statement → Type 0
+abbrev pub IsVerified : Result Verdict Refused → Records → List ℕ → statement.Statement → Type 0
 IsVerified (Ok found) records image stated =
     (found ≡ verdict_on (state_in records image) stated) × ((key : PartKey) → Contains (part_keys (state_in records image) (first_part stated)) key → HasDigestAt image records key)
 IsVerified (Err e) records image stated =

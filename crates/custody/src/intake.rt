@@ -12,7 +12,7 @@ ghost use Rattle.custody_machine.specs.Stored.{AreExtents};
 ghost use Rattle.custody.specs.Keeper.{recorded, KeepsOrder};
 ghost use Rattle.custody.specs.Reading.{IsOnlyRead};
 ghost use Rattle.custody.specs.Shown.{ShowsPart};
-ghost use Rattle.custody.specs.Intake.{kept_part, IsOpened, MayOpen, OpensPart, MayChange, OpensChange, OpensKept, MayWrite, WritesPiece, MayCompare, ComparesPiece, MayDiffer, TellsOther, MayTake, TakesPiece, MaySettle, Settles, MayFinish, Finishes, MayGiveUp, GivesUp};
+ghost use Rattle.custody.specs.Intake.{kept_part, OpensIntake, MayOpen, OpensPart, MayChange, OpensChange, OpensKept, MayWrite, WritesPiece, MayCompare, ComparesPiece, MayDiffer, TellsOther, MayTake, TakesPiece, MaySettle, Settles, MayFinish, Finishes, MayGiveUp, GivesUp};
 
 use crate::custody::stays_open;
 use crate::keeper::{Keeper, make_room};
@@ -102,7 +102,7 @@ impl<V: Volume, S: Alter> Keeper<V, S> {
     /// Judges a part by its name and length, and makes ready for its bytes.
     pub(crate) fn open_intake(&mut self, alloc: Global, name: &[u8], len: u32, now: Sec) -> Intake
         requires order { KeepsOrder self.old }
-        ensures { IsOpened S.Store self.old name.now len now self.new result }
+        ensures { OpensIntake S.Store self.old name.now len now self.new result }
     {
         match judge_part(&self.records, name, len as usize, now) {
             Ruling::Refuse(refusal) => Intake::Known(Err(Refused::Refusal(refusal))),

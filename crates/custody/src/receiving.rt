@@ -1,13 +1,13 @@
 //! A part that is received while its bytes are read.
-ghost use Rattle.std.specs.Prelude.{◌≡◌, ◌≤◌, ◌<◌, length};
+ghost use Rattle.std.specs.Prelude.{◌≡◌, ◌≤◌, ◌<◌, IfOk, length};
 ghost use Rattle.std.specs.Io.KnownBytes.{IsAtEnd};
-ghost use Rattle.custody.specs.Receiving.{GivesPiece, HasCome, MayTakeAll, TakesBody};
+ghost use Rattle.custody.specs.Receiving.{Fills, GivesPiece, HasCome, MayTakeAll, TakesBody};
 
 use crate::Refused;
 use crate::intake::{Intake, PIECE_LEN, new_buffer};
 use crate::keeper::Keeper;
 use sqlite::Alter;
-use std::io::Read;
+use std::io::{self, Read};
 use vault_volume::Volume;
 
 /// Why no part was received.
@@ -95,7 +95,8 @@ pub(crate) fn drop_body<R: Read>(len: u32, reader: &mut R) -> Result<(), Ended>
     Ok(())
 }
 
-/// The next bytes: at least one, and no more than are left.
+/// The next bytes: as many as are left or as the buffer takes, and fewer only where the reader ends. So
+/// the volume is called as often for a peer that sends a byte at a time as for any other.
 fn next_piece<'b, R: Read>(
     reader: &mut R,
     buffer: &'b mut [u8; 32_768],
@@ -105,9 +106,24 @@ fn next_piece<'b, R: Read>(
     ensures { GivesPiece (R.remaining reader.old) (R.remaining reader.new) left result }
 {
     let room = left.min(PIECE_LEN);
-    match reader.read(&mut buffer[..room]) {
+    match fill(reader, &mut buffer[..room]) {
         Ok(0) => Err(Ended::Short),
         Ok(count) => Ok(&buffer[..count]),
         Err(_) => Err(Ended::ReadFailed),
     }
+}
+
+/// Fills a buffer from a reader, up to the reader's end, and answers how many bytes there were.
+fn fill<R: Read>(reader: &mut R, buffer: &mut [u8]) -> io::Result<usize>
+    ensures { IfOk result (λ count. Fills (R.remaining reader.old) (R.remaining reader.new) buffer.new count) }
+{
+    let mut filled = 0;
+    while filled < buffer.len() {
+        let count = reader.read(&mut buffer[filled..])?;
+        if count == 0 {
+            return Ok(filled);
+        }
+        filled += count;
+    }
+    Ok(filled)
 }

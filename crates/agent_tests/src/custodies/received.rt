@@ -13,11 +13,12 @@ use vault_volume::Volume;
 
 const LEN: u32 = 100_000;
 
-/// So many bytes that are this letter, at most 1,000 at a time, and then the end or a failure.
+/// So many bytes that are this letter, at most so many at a time, and then the end or a failure.
 #[derive(Drop)]
 struct Sender {
     letter: u8,
     left: usize,
+    most: usize,
     fails: bool,
 }
 
@@ -26,29 +27,35 @@ impl Read for Sender {
         if self.left == 0 && self.fails {
             return Err(Error::from(ErrorKind::TimedOut));
         }
-        let count = buf.len().min(self.left).min(1000);
+        let count = buf.len().min(self.left).min(self.most);
         buf[..count].fill(self.letter);
         self.left -= count;
         Ok(count)
     }
 }
 
-/// What is answered to a part of 100,000 bytes of which 100 were read already: its length and whether it
-/// is a repeat, or why it was not received.
+impl Sender {
+    /// One of at most 1,000 bytes at a time.
+    fn new(letter: u8, left: usize, fails: bool) -> Sender {
+        Sender {
+            letter,
+            left,
+            most: 1000,
+            fails,
+        }
+    }
+}
+
+/// Whether a part of 100,000 bytes, of which 100 were read already, is a repeat; or why it was not
+/// received.
 fn send<V: Volume, S: Alter>(
     alloc: Global,
     custody: &mut Custody<V, S>,
-    letter: u8,
-    left: usize,
-    fails: bool,
+    sender: Sender,
 ) -> Result<Result<bool, ReceiveError>, Fail> {
     let now = read_moment(AT_TEN).ok_or("a moment")?;
     let first = [b'a'; 100];
-    let mut reader = Sender {
-        letter,
-        left,
-        fails,
-    };
+    let mut reader = sender;
     match custody.receive_from(alloc, NAME, LEN, &first, &mut reader, now) {
         Ok(reply) => Ok(Ok(reply.is_repeat)),
         Err(error) => Ok(Err(error)),
@@ -65,7 +72,7 @@ fn is_as_before(custody: TestCustody) -> bool {
 
 fn ends_well(alloc: Global, fails: bool, wanted: ReceiveError) -> Result<bool, Fail> {
     let mut custody = registered(alloc, 300)?;
-    let answer = send(alloc, &mut custody, b'a', 69_900, fails)?;
+    let answer = send(alloc, &mut custody, Sender::new(b'a', 69_900, fails))?;
     Ok(answer == Err(wanted) && is_as_before(custody))
 }
 
@@ -92,7 +99,7 @@ fn count_wrong<V: Volume, S: Alter>(
     ];
     let mut wrong = 0usize;
     for (letter, left, wanted) in sent {
-        if send(alloc, custody, letter, left, false)? != wanted {
+        if send(alloc, custody, Sender::new(letter, left, false))? != wanted {
             wrong = wrong.saturating_add(1);
         }
     }
@@ -107,6 +114,31 @@ fn a_part_that_comes_whole_is_received_once(rt: HostRuntime) -> Result<(), Fail>
     Ok(())
 }
 
+/// How many calls of the volume the part costs where so many of its bytes come at a time.
+fn calls_for(alloc: Global, most: usize) -> Result<usize, Fail> {
+    let (volume, _) = registered(alloc, 300)?.close();
+    let before = volume.calls();
+    let mut custody = registered(alloc, 300)?;
+    let whole = Sender {
+        letter: b'a',
+        left: 99_900,
+        most,
+        fails: false,
+    };
+    send(alloc, &mut custody, whole)?.map_err(|_| Fail::from("not received"))?;
+    let (volume, _) = custody.close();
+    Ok(volume.calls().saturating_sub(before))
+}
+
+/// Three writes of 32,768 bytes, one of 1,696, and a sync.
+#[test]
+fn a_part_costs_as_many_calls_whoever_sends_it(rt: HostRuntime) -> Result<(), Fail> {
+    for most in [1, 7, 1000, 100_000] {
+        assert_eq!(rt; calls_for(rt.alloc(), most)?, 5);
+    }
+    Ok(())
+}
+
 fn closes_well(alloc: Global) -> Result<bool, Fail> {
     let custody = registered(alloc, 300)?;
     let (mut volume, db) = custody.close();
@@ -115,9 +147,9 @@ fn closes_well(alloc: Global) -> Result<bool, Fail> {
     let Some(mut custody) = super::bench::opened_if_any(alloc, volume, db)? else {
         return Err(Fail::from("not opened"));
     };
-    let short = send(alloc, &mut custody, b'a', 69_900, false)?;
-    let closed = send(alloc, &mut custody, b'a', 99_900, false)?;
-    let cut = send(alloc, &mut custody, b'a', 69_900, false)?;
+    let short = send(alloc, &mut custody, Sender::new(b'a', 69_900, false))?;
+    let closed = send(alloc, &mut custody, Sender::new(b'a', 99_900, false))?;
+    let cut = send(alloc, &mut custody, Sender::new(b'a', 69_900, false))?;
     let fault = ReceiveError::Refused(Refused::Fault(Fault::Closed));
     Ok(short == Err(ReceiveError::Short) && closed == Err(fault) && cut == short)
 }
