@@ -6,15 +6,15 @@ use Rattle.std.proofs.lemmas.Bool.{true_from_ne_false}
 use Rattle.httparse.specs.Grammar.{RequestHead, ReadsRequest}
 use Rattle.http_request.specs.declared.head.Head.{Head}
 use Rattle.http_request.specs.declared.plan.Plan.{Plan}
-use Rattle.http_request.specs.declared.stop.Stop.{Stop}
-use Rattle.http_request.specs.declared.stop.Stop.TheVariants as stop
+use Rattle.http_request.specs.declared.error.RequestError.{RequestError}
+use Rattle.http_request.specs.declared.error.RequestError.TheVariants as error
 use Rattle.http_request.specs.Head.{IsAt, IsHeadOf, rest_of}
-use Rattle.http_request.specs.Paths.{Target, Deposit, is_target_byte}
-use Rattle.http_request.specs.Asked.{RequestFault, Stands, NoneBelow, fault_number, Asks, bad, asks_for, lengths, limit_of}
+use Rattle.http_request.specs.Paths.{Target, Deposit, Names, is_target_byte}
+use Rattle.http_request.specs.Asked.{RequestFault, Stands, NoneBelow, fault_number, Asks, SendsPart, bad, asks_for, lengths, limit_of}
 use Rattle.http_request.specs.declared.faults.RequestFault.TheVariants as fault
-use Rattle.http_request.specs.Body.{IsToldBody}
+use Rattle.http_request.specs.Body.{IsDeclaredBody}
 use Rattle.http_request.specs.Plans.{IsPlanned, FitsLength}
-use Rattle.http_request.specs.Stops.{StopsBefore, StopsWithin, IsBodyShort}
+use Rattle.http_request.specs.Errors.{IsRequestError, IsBodyError, IsBodyShort}
 use Rattle.http_request.specs.Targets.{seen}
 use Rattle.http_request.specs.Wanted.{Wanted, Means}
 use Rattle.http_request.proofs.PlanLemmas.{short_asked, form_asked, wanted_asked}
@@ -29,10 +29,10 @@ abbrev pub Plans : Head → Plan → Type 0
 Plans head plan = (h : RequestHead) → IsAt head h → IsPlanned h plan
 
 module _ (head : Head) where
-  pub plan_stops : (a b : Option (List ℕ)) → Consumes a b head.bytes.items → IsHeadOf head → (found : RequestFault) → PlanFails head found → IfSome a (λ input. StopsBefore input (stop.Fault found))
-  plan_stops None b taken is found fails = tt
-  plan_stops (Some input) None taken is found fails = absurd taken
-  plan_stops (Some input) (Some after) taken is found fails =
+  pub plan_error : (a b : Option (List ℕ)) → Consumes a b head.bytes.items → IsHeadOf head → (found : RequestFault) → PlanFails head found → IfSome a (λ input. IsRequestError input (error.Fault found))
+  plan_error None b taken is found fails = tt
+  plan_error (Some input) None taken is found fails = absurd taken
+  plan_error (Some input) (Some after) taken is found fails =
       let h = is.1.0 in
       let at = is.1.1 in
       let rest = rest_of head ++ after in
@@ -49,16 +49,27 @@ module _ (head : Head) where
         by None fits = absurd fits
         by (Some n) fits = (n, refl, fits.1)
 
+    -- a part is sent
+    pub part_sent : (a b : Option (List ℕ)) → Consumes a b head.bytes.items → IsHeadOf head → Plans head plan → (name : List ℕ) → seen plan.target ≡ Deposit name → IfSome a SendsPart
+    part_sent None b taken is plans name e = tt
+    part_sent (Some input) None taken is plans name e = absurd taken
+    part_sent (Some input) (Some after) taken is plans name e =
+        let h = is.1.0 in
+        let at = is.1.1 in
+        let rest = rest_of head ++ after in
+        let planned = plans h at in
+        (h, rest, reads_on input after head h taken at, is.1.2, (name, subst (Names h.target) e planned.0), planned.2 rest)
+
     bytes_pass : (h : RequestHead) (rest : List ℕ) → NoneBelow 9 h rest → list_all is_target_byte h.target ≡ true
     bytes_pass h rest below = true_from_ne_false (list_all is_target_byte h.target) (below fault.Target (omega arith))
 
-    pub body_stops : (a b : Option (List ℕ)) → Consumes a b head.bytes.items → IsHeadOf head → Plans head plan → (s : Stop)
-        → IfSome b (λ rest. StopsWithin (rest_of head ++ rest) plan.length s) → IfSome a (λ input. StopsBefore input s)
-    body_stops None b taken is plans s within = tt
-    body_stops (Some input) None taken is plans s within = absurd taken
-    body_stops (Some input) (Some after) taken is plans stop.Unread within = tt
-    body_stops (Some input) (Some after) taken is plans stop.NoMemory within = tt
-    body_stops (Some input) (Some after) taken is plans (stop.Fault found) within = by found within
+    pub body_error : (a b : Option (List ℕ)) → Consumes a b head.bytes.items → IsHeadOf head → Plans head plan → (s : RequestError)
+        → IfSome b (λ rest. IsBodyError (rest_of head ++ rest) plan.length s) → IfSome a (λ input. IsRequestError input s)
+    body_error None b taken is plans s within = tt
+    body_error (Some input) None taken is plans s within = absurd taken
+    body_error (Some input) (Some after) taken is plans error.Unread within = tt
+    body_error (Some input) (Some after) taken is plans error.NoMemory within = tt
+    body_error (Some input) (Some after) taken is plans (error.Fault found) within = by found within
       where
         by : (found : RequestFault) → IsBodyShort (rest_of head ++ after) plan.length found → Asks input (bad found)
         by fault.BodyShort short =
@@ -84,12 +95,12 @@ module _ (head : Head) where
         by fault.TooLong l = absurd l
         by fault.Form l = absurd l
 
-    pub form_stops : (a b : Option (List ℕ)) → Consumes a b head.bytes.items → IsHeadOf head → Plans head plan → (body : List ℕ)
-        → IfSome b (λ rest. IsToldBody (rest_of head ++ rest) plan.length body) → ((wanted : Wanted) → ¬ Means (seen plan.target) body wanted)
-        → IfSome a (λ input. StopsBefore input (stop.Fault fault.Form))
-    form_stops None b taken is plans body has none = tt
-    form_stops (Some input) None taken is plans body has none = absurd taken
-    form_stops (Some input) (Some after) taken is plans body has none =
+    pub form_error : (a b : Option (List ℕ)) → Consumes a b head.bytes.items → IsHeadOf head → Plans head plan → (body : List ℕ)
+        → IfSome b (λ rest. IsDeclaredBody (rest_of head ++ rest) plan.length body) → ((wanted : Wanted) → ¬ Means (seen plan.target) body wanted)
+        → IfSome a (λ input. IsRequestError input (error.Fault fault.Form))
+    form_error None b taken is plans body has none = tt
+    form_error (Some input) None taken is plans body has none = absurd taken
+    form_error (Some input) (Some after) taken is plans body has none =
         let h = is.1.0 in
         let at = is.1.1 in
         let rest = rest_of head ++ after in
@@ -104,7 +115,7 @@ module _ (head : Head) where
         )
 
     pub asks_wanted : (a b : Option (List ℕ)) → Consumes a b head.bytes.items → IsHeadOf head → Plans head plan → (body : List ℕ)
-        → IfSome b (λ rest. IsToldBody (rest_of head ++ rest) plan.length body) → (wanted : Wanted) → Means (seen plan.target) body wanted
+        → IfSome b (λ rest. IsDeclaredBody (rest_of head ++ rest) plan.length body) → (wanted : Wanted) → Means (seen plan.target) body wanted
         → IfSome a (λ input. Asks input (asks_for wanted))
     asks_wanted None b taken is plans body has wanted means = tt
     asks_wanted (Some input) None taken is plans body has wanted means = absurd taken
@@ -121,7 +132,3 @@ module _ (head : Head) where
           is.1.2,
           wanted_asked h (seen plan.target) (bytes_pass h rest below) planned.0 rest plan.length body wanted below planned.1 has means,
         )
-
-pub some_weaker : {X : Type 0} (a : Option X) (P Q : X → Type 0) → ((x : X) → P x → Q x) → IfSome a P → IfSome a Q
-some_weaker None P Q f p = tt
-some_weaker (Some x) P Q f p = f x p

@@ -10,7 +10,7 @@ use Rattle.desk.specs.declared.grounds.Ground.{Ground}
 use Rattle.desk.specs.Grounds.{ground_text}
 use Rattle.custody_records.specs.Form.{ground_in}
 use Rattle.custody_records.proofs.FieldLemmas.{ground_in-ground_text}
-use Rattle.custody_machine.specs.declared.command.Statement as told
+use Rattle.custody_machine.specs.declared.command.Statement as statement
 use Rattle.custody_machine.specs.Machine.{Register, Statement, Check, Release}
 use Rattle.httparse.specs.Grammar.{RequestHead}
 use Rattle.httparse.proofs.GrammarLemmas.{request_unique}
@@ -46,14 +46,14 @@ one_handover a b e = some_same a b (sym (release_back a) ∙ ap release_at e ∙
 ground_text-injective : (a b : Ground) → ground_text a ≡ ground_text b → a ≡ b
 ground_text-injective a b e = some_same a b (sym (ground_in-ground_text a) ∙ ap ground_in e ∙ ground_in-ground_text b)
 
-made : List ℕ → ℕ → Kind → ℕ → ℕ → List ℕ → told.Statement
+made : List ℕ → ℕ → Kind → ℕ → ℕ → List ℕ → statement.Statement
 made tld day kind rev parts id = record { tld = tld; day = day; kind = kind; rev = rev; parts = parts; id = id }
 
 made_same : (tld tld2 : List ℕ) (day day2 : ℕ) (kind kind2 : Kind) (rev rev2 parts parts2 : ℕ) (id id2 : List ℕ)
     → tld ≡ tld2 → day ≡ day2 → kind ≡ kind2 → rev ≡ rev2 → parts ≡ parts2 → id ≡ id2 → made tld day kind rev parts id ≡ made tld2 day2 kind2 rev2 parts2 id2
 made_same tld tld2 day day2 kind kind2 rev rev2 parts parts2 id id2 a b c d e f = cc
 
-one_statement : (s t : told.Statement) → IsStatement s → IsStatement t → texts_of s ≡ texts_of t → s ≡ t
+one_statement : (s t : statement.Statement) → IsStatement s → IsStatement t → texts_of s ≡ texts_of t → s ≡ t
 unfolding made
 one_statement s t h k e =
     let day = day_text-injective s.day t.day h.day k.day (ap (λ (x : StatementTexts). x.date) e) in
@@ -71,7 +71,7 @@ one_meaning (Registry tld) body v w (in_form, (d, day, json, is)) (in_form2, (e,
 one_meaning (Deposit name) body v w h k = h ∙ sym k
 one_meaning Statements body v w (s, form, json, is) (t, form2, json2, is2) =
     let same = one_statement s t form form2 (one_texts (texts_of s) (texts_of t) (one_value body _ _ json json2)) in
-    is ∙ ap (λ (x : told.Statement). Do (Statement x)) same ∙ sym is2
+    is ∙ ap (λ (x : statement.Statement). Do (Statement x)) same ∙ sym is2
 one_meaning (paths.Check tld date) body v w (in_form, (d, day, text, is)) (in_form2, (e, day2, text2, is2)) =
     is ∙ ap (λ (n : ℕ). Do (Check tld n)) (day_text-injective d e day day2 (sym text ∙ text2)) ∙ sym is2
 one_meaning (paths.Release reference) body v w (in_form, (tld, reason, known, json, is)) (in_form2, (tld2, reason2, known2, json2, is2)) =

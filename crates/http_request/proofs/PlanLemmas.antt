@@ -11,11 +11,11 @@ use Rattle.http_request.specs.declared.fields.Named.{Named}
 use Rattle.http_request.specs.declared.fields.Named.TheVariants as named
 use Rattle.http_request.specs.Plans.{IsReached, FitsLength, LengthFault, IsLengthFault}
 use Rattle.std.proofs.lemmas.Bool.{cases_lt}
-use Rattle.http_request.specs.Body.{IsToldBody}
+use Rattle.http_request.specs.Body.{IsDeclaredBody}
 use Rattle.http_request.specs.Wanted.{Wanted, Means}
 use Rattle.http_request.proofs.Finding.{one_named}
 
-pub some_values : (values : List (List ℕ)) (told : Named) → AreNamed values told → told ≢ named.None → values ≢ []
+pub some_values : (values : List (List ℕ)) (declared : Named) → AreNamed values declared → declared ≢ named.None → values ≢ []
 some_values values named.None h n = absurd (n refl)
 some_values values (named.One value) h n = λ e. let bad = sym h ∙ e in cc
 some_values values named.Several h n = λ e. let none = ap length e in omega arith
@@ -102,11 +102,11 @@ module _ (h : RequestHead) (target : Target) (r : IsReached h target) (rest : Li
       by None e l = absurd l
       by (Some limit) e l = length_fault plain limit e found l
 
-  pub below_nine : codings h ≡ [] → (told : Option ℕ) → FitsLength (limit_of target) (lengths h) told → NoneBelow 9 h rest
-  below_nine plain told fits = by (limit_of target) refl told fits
+  pub below_nine : codings h ≡ [] → (declared : Option ℕ) → FitsLength (limit_of target) (lengths h) declared → NoneBelow 9 h rest
+  below_nine plain declared fits = by (limit_of target) refl declared fits
     where
-      by : (limit : Option ℕ) → limit_of target ≡ limit → (told : Option ℕ) → FitsLength limit (lengths h) told → NoneBelow 9 h rest
-      by None e told f =
+      by : (limit : Option ℕ) → limit_of target ≡ limit → (declared : Option ℕ) → FitsLength limit (lengths h) declared → NoneBelow 9 h rest
+      by None e declared f =
           none_below h rest 9 (λ _. not_target) (λ _. not_route) (λ m. λ _. not_method m) (λ _. λ s. s plain) (λ _. λ s. limit_at (λ limit. lengths h ≡ []) None e s.0 s.1 s.2)
           (λ _. λ s. limit_at (λ limit. (lengths h ≢ []) × ((n : ℕ) → ¬ AreLength (lengths h) n)) None e s.0 s.1 s.2)
           (λ _. λ s. limit_at (λ limit. (n : ℕ) × AreLength (lengths h) n × (limit < n)) None e s.0 s.1 s.2) (λ lt. absurd (omega arith)) (λ lt. absurd (omega arith))
@@ -125,8 +125,8 @@ module _ (h : RequestHead) (target : Target) (bytes : list_all is_target_byte h.
   the_target : (other : Target) → Names h.target other → other ≡ target
   the_target other other_names = one_named h.target bytes other target other_names names
 
-  body_is : (limit told : Option ℕ) (body : List ℕ) → FitsLength limit (lengths h) told → IsToldBody rest told body → IsBody limit h rest body
-  body_is None told body fits has = let none : told ≡ None = fits in let h2 : IsToldBody rest None body = subst (λ (o : Option ℕ). IsToldBody rest o body) none has in h2
+  body_is : (limit declared : Option ℕ) (body : List ℕ) → FitsLength limit (lengths h) declared → IsDeclaredBody rest declared body → IsBody limit h rest body
+  body_is None declared body fits has = let none : declared ≡ None = fits in let h2 : IsDeclaredBody rest None body = subst (λ (o : Option ℕ). IsDeclaredBody rest o body) none has in h2
   body_is (Some limit) None body fits has = absurd fits
   body_is (Some limit) (Some n) body fits has = (n, fits.0, has.0, has.1)
 
@@ -134,13 +134,13 @@ module _ (h : RequestHead) (target : Target) (bytes : list_all is_target_byte h.
   same_body None body other b o = b ∙ sym o
   same_body (Some limit) body other b o = b.3 ∙ ap (λ n. take n rest) (one_length (lengths h) b.0 o.0 b.1 o.1) ∙ sym o.3
 
-  not_short : (told : Option ℕ) (body : List ℕ) → FitsLength (limit_of target) (lengths h) told → IsToldBody rest told body → ¬ Stands h rest fault.BodyShort
-  not_short told body fits has s =
+  not_short : (declared : Option ℕ) (body : List ℕ) → FitsLength (limit_of target) (lengths h) declared → IsDeclaredBody rest declared body → ¬ Stands h rest fault.BodyShort
+  not_short declared body fits has s =
       let here : Takes (limit_of target) (λ limit. (n : ℕ) × AreLength (lengths h) n × (length rest < n)) = subst (λ (t : Target). Takes (limit_of t) (λ limit. (n : ℕ) × AreLength (lengths h) n × (length rest < n))) (the_target s.0 s.1) s.2 in
-      by (limit_of target) told fits has here
+      by (limit_of target) declared fits has here
     where
-      by : (limit told : Option ℕ) → FitsLength limit (lengths h) told → IsToldBody rest told body → Takes limit (λ limit. (n : ℕ) × AreLength (lengths h) n × (length rest < n)) → ⊥
-      by None told fits has here = here
+      by : (limit declared : Option ℕ) → FitsLength limit (lengths h) declared → IsDeclaredBody rest declared body → Takes limit (λ limit. (n : ℕ) × AreLength (lengths h) n × (length rest < n)) → ⊥
+      by None declared fits has here = here
       by (Some limit) None fits has here = fits
       by (Some limit) (Some n) fits has here =
           let same = one_length (lengths h) n here.0 fits.0 here.1 in
@@ -155,11 +155,11 @@ module _ (h : RequestHead) (target : Target) (bytes : list_all is_target_byte h.
       by (inl l) = below other l
       by (inr m) = here other (omega arith)
 
-  pub below_ten : (told : Option ℕ) (body : List ℕ) → NoneBelow 9 h rest → FitsLength (limit_of target) (lengths h) told → IsToldBody rest told body → NoneBelow 10 h rest
-  below_ten told body below fits has = one_below 9 below only
+  pub below_ten : (declared : Option ℕ) (body : List ℕ) → NoneBelow 9 h rest → FitsLength (limit_of target) (lengths h) declared → IsDeclaredBody rest declared body → NoneBelow 10 h rest
+  below_ten declared body below fits has = one_below 9 below only
     where
       only : (other : RequestFault) → fault_number other ≡ 9 → ¬ Stands h rest other
-      only fault.BodyShort e = not_short told body fits has
+      only fault.BodyShort e = not_short declared body fits has
       only fault.Head e = cc
       only fault.Target e = cc
       only fault.NoRoute e = cc
@@ -170,23 +170,23 @@ module _ (h : RequestHead) (target : Target) (bytes : list_all is_target_byte h.
       only fault.TooLong e = cc
       only fault.Form e = cc
 
-  pub short_asked : (told : Option ℕ) (n : ℕ) → told ≡ Some n → NoneBelow 9 h rest → FitsLength (limit_of target) (lengths h) told → length rest < n → IsAskedBy h rest (bad fault.BodyShort)
-  short_asked told n is below fits less =
+  pub short_asked : (declared : Option ℕ) (n : ℕ) → declared ≡ Some n → NoneBelow 9 h rest → FitsLength (limit_of target) (lengths h) declared → length rest < n → IsAskedBy h rest (bad fault.BodyShort)
+  short_asked declared n is below fits less =
       ((target, names, by (limit_of target) (subst (λ (o : Option ℕ). FitsLength (limit_of target) (lengths h) o) is fits)), below)
     where
       by : (limit : Option ℕ) → FitsLength limit (lengths h) (Some n) → Takes limit (λ limit. (n : ℕ) × AreLength (lengths h) n × (length rest < n))
       by None f = cc
       by (Some limit) f = (n, f.0, less)
 
-  pub form_asked : (told : Option ℕ) (body : List ℕ) → NoneBelow 9 h rest → FitsLength (limit_of target) (lengths h) told → IsToldBody rest told body
+  pub form_asked : (declared : Option ℕ) (body : List ℕ) → NoneBelow 9 h rest → FitsLength (limit_of target) (lengths h) declared → IsDeclaredBody rest declared body
       → ((wanted : Wanted) → ¬ Means target body wanted) → IsAskedBy h rest (bad fault.Form)
-  form_asked told body below fits has none = ((target, body, names, body_is (limit_of target) told body fits has, none), below_ten told body below fits has)
+  form_asked declared body below fits has none = ((target, body, names, body_is (limit_of target) declared body fits has, none), below_ten declared body below fits has)
 
-  pub wanted_asked : (told : Option ℕ) (body : List ℕ) (wanted : Wanted) → NoneBelow 9 h rest → FitsLength (limit_of target) (lengths h) told → IsToldBody rest told body
+  pub wanted_asked : (declared : Option ℕ) (body : List ℕ) (wanted : Wanted) → NoneBelow 9 h rest → FitsLength (limit_of target) (lengths h) declared → IsDeclaredBody rest declared body
       → Means target body wanted → IsAskedBy h rest (asks_for wanted)
-  wanted_asked told body wanted below fits has means =
-      let is = body_is (limit_of target) told body fits has in
-      ((target, body, names, is, means), one_below 10 (below_ten told body below fits has) (only is))
+  wanted_asked declared body wanted below fits has means =
+      let is = body_is (limit_of target) declared body fits has in
+      ((target, body, names, is, means), one_below 10 (below_ten declared body below fits has) (only is))
     where
       in_form : IsBody (limit_of target) h rest body → ¬ Stands h rest fault.Form
       in_form is s =

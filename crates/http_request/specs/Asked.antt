@@ -62,7 +62,7 @@ AreLength values n = (value : List ℕ) × (values ≡ value ∷ []) × IsInRang
 
 -- ---- what is asked
 
--- the body: none where the route takes none, and else as many bytes behind the head as are told
+-- the body: none where the route takes none, and else as many bytes behind the head as are declared
 abbrev pub IsBody : Option ℕ → RequestHead → List ℕ → List ℕ → Type 0
 IsBody None h rest body = body ≡ []
 IsBody (Some limit) h rest body = (n : ℕ) × AreLength (lengths h) n × (n ≤ length rest) × (body ≡ take n rest)
@@ -112,6 +112,10 @@ IsAskedBy h rest (asks_for wanted) = ((target : Target) × (body : List ℕ) × 
 -- the input asks this: it has no short head, or what its head and the bytes behind it ask
 abbrev pub Asks : List ℕ → Asked → Type 0
 Asks input asked = (HasNoShortHead input × (asked ≡ bad fault.Head)) ⊎ ((h : RequestHead) × (rest : List ℕ) × ReadsRequest input h rest × IsShort h × IsAskedBy h rest asked)
+
+-- The input sends a part: its head has a deposit as its target, and no fault (A1 to A8).
+abbrev pub SendsPart : List ℕ → Type 0
+SendsPart input = (h : RequestHead) × (rest : List ℕ) × ReadsRequest input h rest × IsShort h × ((name : List ℕ) × Names h.target (Deposit name)) × NoneBelow 9 h rest
 
 -- An input asks one thing at most.
 abbrev pub IsOneAsked : Type 0

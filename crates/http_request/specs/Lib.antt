@@ -3,11 +3,11 @@ pub mod Bodies
 pub mod Body
 pub mod BodyReading
 pub mod BodyTexts
+pub mod Errors
 pub mod Fields
 pub mod Head
 pub mod Paths
 pub mod Plans
-pub mod Stops
 pub mod Table
 pub mod Targets
 pub mod Wanted

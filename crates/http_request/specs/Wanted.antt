@@ -7,7 +7,7 @@ use Rattle.deposit_name.specs.Identifiers.{IsTld, IsDepositId, IsReference}
 use Rattle.deposit_name.specs.Name.{kind_text}
 use Rattle.desk.specs.declared.grounds.Ground.{Ground}
 use Rattle.desk.specs.Grounds.{ground_text}
-use Rattle.custody_machine.specs.declared.command.Statement as told
+use Rattle.custody_machine.specs.declared.command.Statement as statement
 use Rattle.custody_machine.specs.Machine.{Command, Register, Receive, Statement, Check, Release, Purge}
 use Rattle.http_request.specs.Bodies.{StatementTexts, ReleaseTexts, IsJsonOf, registration_json, statement_json, release_json}
 use Rattle.http_request.specs.Paths as paths
@@ -21,7 +21,7 @@ pub data Wanted : Type 0 where
   Fetch : (reference name : List ℕ) → Wanted
 
 -- the values of a statement are in form
-pub record IsStatement (s : told.Statement) : Type 0 where
+pub record IsStatement (s : statement.Statement) : Type 0 where
   pub tld : IsTld s.tld
   pub day : IsDay s.day
   pub rev : s.rev ≤ 99
@@ -29,7 +29,7 @@ pub record IsStatement (s : told.Statement) : Type 0 where
   pub id : IsDepositId s.id
 
 -- the texts that they have in a body
-abbrev pub texts_of : told.Statement → StatementTexts
+abbrev pub texts_of : statement.Statement → StatementTexts
 texts_of s = record { date = day_text s.day; id = s.id; kind = kind_text s.kind; parts = s.parts; revision = s.rev; tld = s.tld }
 
 abbrev pub handover_texts : List ℕ → Ground → ReleaseTexts
@@ -39,7 +39,7 @@ handover_texts tld reason = record { reason = ground_text reason; tld = tld }
 abbrev pub Means : paths.Target → List ℕ → Wanted → Type 0
 Means (paths.Registry tld) body wanted = IsTld tld × ((first_day : ℕ) × IsDay first_day × IsJsonOf body (registration_json (day_text first_day)) × (wanted ≡ Do (Register tld first_day)))
 Means (paths.Deposit name) body wanted = wanted ≡ Do (Receive name body)
-Means paths.Statements body wanted = (s : told.Statement) × IsStatement s × IsJsonOf body (statement_json (texts_of s)) × (wanted ≡ Do (Statement s))
+Means paths.Statements body wanted = (s : statement.Statement) × IsStatement s × IsJsonOf body (statement_json (texts_of s)) × (wanted ≡ Do (Statement s))
 Means (paths.Check tld date) body wanted = IsTld tld × ((day : ℕ) × IsDay day × (date ≡ day_text day) × (wanted ≡ Do (Check tld day)))
 Means (paths.Release reference) body wanted =
     IsReference reference × ((tld : List ℕ) × (reason : Ground) × IsTld tld × IsJsonOf body (release_json (handover_texts tld reason)) × (wanted ≡ Do (Release reference tld reason)))

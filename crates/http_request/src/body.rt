@@ -1,31 +1,31 @@
 //! The body of a request, from a reader.
 ghost use Rattle.std.specs.Prelude.{◌≡◌, ◌<◌, ◌++◌, IfOk, IfErr, IfSome, None, length};
-ghost use Rattle.http_request.specs.Body.{BeginsWith, IsToldBody};
-ghost use Rattle.http_request.specs.Stops.{StopsWithin};
+ghost use Rattle.http_request.specs.Body.{BeginsWith, IsDeclaredBody};
+ghost use Rattle.http_request.specs.Errors.{IsBodyError};
 
-use crate::stop::ReadFault;
-use crate::{RequestFault, Stop};
+use crate::error::ReadFault;
+use crate::{RequestError, RequestFault};
 use std::alloc::Global;
 use std::io::Read;
 
-/// Reads the body of which so many bytes are told, behind those that were read with the head.
+/// Reads the body of which so many bytes are declared, behind those that were read with the head.
 pub fn read_body<R: Read>(
     alloc: Global,
     reader: &mut R,
     front: &[u8],
-    told: Option<u64>,
-) -> Result<Vec<u8>, Stop>
-    ensures found { IfOk result (λ body. IfSome (R.remaining reader.old) (λ rest. IsToldBody (front.now ++ rest) told body.items)) }
-    ensures stopped { IfErr result (λ stop. IfSome (R.remaining reader.old) (λ rest. StopsWithin (front.now ++ rest) told stop)) }
+    declared: Option<u64>,
+) -> Result<Vec<u8>, RequestError>
+    ensures found { IfOk result (λ body. IfSome (R.remaining reader.old) (λ rest. IsDeclaredBody (front.now ++ rest) declared body.items)) }
+    ensures error { IfErr result (λ error. IfSome (R.remaining reader.old) (λ rest. IsBodyError (front.now ++ rest) declared error)) }
 {
-    let Some(length) = told else {
+    let Some(length) = declared else {
         return Ok(Vec::new(alloc));
     };
     match take_body(alloc, reader, front, length as usize) {
         Ok(Some(body)) => Ok(body),
-        Ok(None) => Err(Stop::Fault(RequestFault::BodyShort)),
-        Err(ReadFault::Unread) => Err(Stop::Unread),
-        Err(ReadFault::NoMemory) => Err(Stop::NoMemory),
+        Ok(None) => Err(RequestError::Fault(RequestFault::BodyShort)),
+        Err(ReadFault::Unread) => Err(RequestError::Unread),
+        Err(ReadFault::NoMemory) => Err(RequestError::NoMemory),
     }
 }
 

@@ -2,10 +2,10 @@
 ghost use Rattle.std.specs.Prelude.{◌≡◌, IfOk, IfErr, IfSome, None};
 ghost use Rattle.std.specs.Io.KnownBytes.{Consumes};
 ghost use Rattle.http_request.specs.Head.{HasNoShortHead, IsHeadOf};
-ghost use Rattle.http_request.specs.Stops.{StopsBefore};
+ghost use Rattle.http_request.specs.Errors.{IsRequestError};
 
-use crate::stop::ReadFault;
-use crate::{RequestFault, Stop};
+use crate::error::ReadFault;
+use crate::{RequestError, RequestFault};
 use httparse::Status;
 use httparse::spans::{EMPTY_HEADER_SPAN, HeaderSpan, RequestSpans, parse_request};
 use std::alloc::Global;
@@ -36,15 +36,15 @@ impl Head {
 }
 
 /// Reads the head of a request: as long as none has come and one can come.
-pub fn read_head<R: Read>(alloc: Global, reader: &mut R) -> Result<Head, Stop>
+pub fn read_head<R: Read>(alloc: Global, reader: &mut R) -> Result<Head, RequestError>
     ensures found { IfOk result (λ head. Consumes (R.remaining reader.old) (R.remaining reader.new) head.bytes.items × IsHeadOf head) }
-    ensures stopped { IfErr result (λ stop. IfSome (R.remaining reader.old) (λ input. StopsBefore input stop)) }
+    ensures error { IfErr result (λ error. IfSome (R.remaining reader.old) (λ input. IsRequestError input error)) }
 {
     match find_head(alloc, reader) {
         Ok(Some(head)) => Ok(head),
-        Ok(None) => Err(Stop::Fault(RequestFault::Head)),
-        Err(ReadFault::Unread) => Err(Stop::Unread),
-        Err(ReadFault::NoMemory) => Err(Stop::NoMemory),
+        Ok(None) => Err(RequestError::Fault(RequestFault::Head)),
+        Err(ReadFault::Unread) => Err(RequestError::Unread),
+        Err(ReadFault::NoMemory) => Err(RequestError::NoMemory),
     }
 }
 

@@ -6,6 +6,7 @@
 
 mod bodies;
 mod body;
+mod error;
 mod faults;
 mod fields;
 mod head;
@@ -13,15 +14,14 @@ mod laws;
 mod meaning;
 mod plan;
 mod routes;
-mod stop;
 mod wanted;
 
 pub use body::read_body;
+pub use error::RequestError;
 pub use faults::{Method, RequestFault};
 pub use head::{Head, read_head};
 pub use laws::law_asked;
 pub use meaning::{BodyFault, meaning_of};
 pub use plan::{Plan, read_plan};
 pub use routes::{Route, Routes, Target};
-pub use stop::Stop;
 pub use wanted::Wanted;

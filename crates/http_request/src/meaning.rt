@@ -3,7 +3,7 @@ ghost use Rattle.std.specs.Prelude.{◌≡◌, ◌≤◌, ℕ, List, Err, Some, 
 ghost use Rattle.schedule.specs.Schedule.{IsDay};
 ghost use Rattle.schedule.specs.Text.{day_text};
 ghost use Rattle.deposit_name.specs.Identifiers.{IsTld};
-ghost use Rattle.custody_machine.specs.declared.command.Statement as told;
+ghost use Rattle.custody_machine.specs.declared.command.Statement as statement;
 ghost use Rattle.serde_json.specs.Data.{Data};
 ghost use Rattle.serde_json.specs.View as json;
 ghost use Rattle.http_request.specs.Bodies.{IsJsonOf, registration_json, statement_json, release_json};
@@ -78,7 +78,7 @@ fn at_most(number: u64, limit: u8) -> Option<u8>
 /// The statement of which these are the texts.
 fn statement_in(fields: &StatementFields<'_>) -> Option<Statement>
     ensures found { IfSome result (λ s. IsStatement s × (statement_texts fields.now ≡ texts_of s)) }
-    ensures only { (s : told.Statement) → IsStatement s → statement_texts fields.now ≡ texts_of s → result ≡ Some s }
+    ensures only { (s : statement.Statement) → IsStatement s → statement_texts fields.now ≡ texts_of s → result ≡ Some s }
 {
     let day = read_day(fields.date.as_bytes())?;
     let id = DepositId::parse(fields.id.as_bytes())?;
@@ -103,14 +103,14 @@ fn statement_in(fields: &StatementFields<'_>) -> Option<Statement>
 #[tactic(auto, using(crate::proofs::BodyLemmas::statement_is, crate::proofs::BodyLemmas::statement_back))]
 fn statement_at(value: &Value) -> Option<Statement>
     ensures found { IfSome result (λ s. IsStatement s × (json.view value.now ≡ statement_json (texts_of s))) }
-    ensures only { (s : told.Statement) → IsStatement s → json.view value.now ≡ statement_json (texts_of s) → result ≡ Some s }
+    ensures only { (s : statement.Statement) → IsStatement s → json.view value.now ≡ statement_json (texts_of s) → result ≡ Some s }
 {
     statement_in(&statement_fields(value)?)
 }
 
 fn statement_of(alloc: Global, body: &[u8]) -> Result<Statement, BodyFault>
     ensures found { IfOk result (λ s. IsStatement s × IsJsonOf body.now (statement_json (texts_of s))) }
-    ensures form { result ≡ Err BodyFault.Form → (s : told.Statement) → IsStatement s → ¬ IsJsonOf body.now (statement_json (texts_of s)) }
+    ensures form { result ≡ Err BodyFault.Form → (s : statement.Statement) → IsStatement s → ¬ IsJsonOf body.now (statement_json (texts_of s)) }
 {
     let value = value_of(alloc, body)?;
     statement_at(&value).ok_or(BodyFault::Form)

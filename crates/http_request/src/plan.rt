@@ -47,14 +47,14 @@ fn target_text(bytes: &[u8]) -> Option<&str>
 }
 
 /// The length that the fields tell, where the route takes a body.
-fn length_of(told: Named<'_>, limit: Option<u64>) -> Result<Option<u64>, RequestFault>
-    ensures ok { IfOk result (λ n. (values : List (List ℕ)) → AreNamed values told.entry → FitsLength limit values n) }
-    ensures err { IfErr result (λ fault. (values : List (List ℕ)) → AreNamed values told.entry → IsLengthFault limit values fault) }
+fn length_of(named: Named<'_>, limit: Option<u64>) -> Result<Option<u64>, RequestFault>
+    ensures ok { IfOk result (λ n. (values : List (List ℕ)) → AreNamed values named.entry → FitsLength limit values n) }
+    ensures err { IfErr result (λ fault. (values : List (List ℕ)) → AreNamed values named.entry → IsLengthFault limit values fault) }
 {
     let Some(limit) = limit else {
         return Ok(None);
     };
-    match told {
+    match named {
         Named::None => Err(RequestFault::NoLength),
         Named::Several => Err(RequestFault::Length),
         Named::One(value) => match number_of(value) {
@@ -83,7 +83,7 @@ fn read_target<'h>(routes: &Routes, head: &'h Head) -> Result<Target<'h>, Reques
 }
 
 /// The values of the fields of a name.
-fn told<'h>(head: &'h Head, name: &[u8]) -> Named<'h>
+fn named<'h>(head: &'h Head, name: &[u8]) -> Named<'h>
     requires { IsHeadOf head.now }
     ensures { (h : RequestHead) → IsAt head.now h → AreNamed (values_named name.now (map name_and_value h.fields)) result }
 {
@@ -102,10 +102,10 @@ pub fn read_plan<'h>(routes: &Routes, head: &'h Head) -> Result<Plan<'h>, Reques
         → (rest : List ℕ) → Stands h rest fault × NoneBelow (fault_number fault) h rest) }
 {
     let target = read_target(routes, head)?;
-    let Named::None = told(head, b"transfer-encoding") else {
+    let Named::None = named(head, b"transfer-encoding") else {
         return Err(RequestFault::TransferCoding);
     };
-    let values = told(head, b"content-length");
+    let values = named(head, b"content-length");
     match length_of(values, target.limit()) {
         Ok(length) => Ok(Plan { target, length }),
         Err(fault) => Err(fault),

@@ -5,7 +5,7 @@ use std::io;
 
 /// Why a request asks nothing of the agent.
 #[derive(Clone, Copy, Debug, PartialEq, Eq)]
-pub enum Stop {
+pub enum RequestError {
     /// The reader failed.
     Unread,
     /// Memory was refused.
