@@ -1,11 +1,8 @@
 -- How long the texts in the head of a response are.
-use Rattle.std.proofs.Common.{◌≡◌, ◌≤◌, ◌+◌, ◌++◌, ◌∙◌, ℕ, List, Option, ap, arith, length, length-append, sym}
+use Rattle.std.proofs.Common.{◌≤◌, arith, length}
 use Rattle.std.specs.Fmt.{digits}
 use Rattle.custody_machine.specs.declared.codes.HttpStatus.{HttpStatus}
 use Rattle.custody_machine.specs.declared.codes.HttpStatus.TheVariants.{BadRequest, NotFound, Conflict, Gone, ContentTooLarge, InternalServerError, ServiceUnavailable, InsufficientStorage}
-use Rattle.http_request.specs.declared.faults.Method.{Method}
-use Rattle.http_api.specs.declared.response.Media.{Media}
-use Rattle.http_api.specs.Responses.{answer_of, head_text, shown}
 use Rattle.http_api.specs.Statuses.{coded_text, status_text}
 use Rattle.http_api.specs.declared.status.Status.{Status}
 use Rattle.http_api.specs.declared.status.Status.TheVariants.{Done, Created, MethodNotAllowed, LengthRequired, NotImplemented, Coded}
@@ -28,10 +25,3 @@ status_short MethodNotAllowed = omega arith
 status_short LengthRequired = omega arith
 status_short NotImplemented = omega arith
 status_short (Coded status) = coded_short status
-
--- a head that tells how long two texts are together, and both
-pub record_shown : (status : Status) (media : Media) (allow : Option Method) (head line names text : List ℕ) (count : ℕ) → head ≡ head_text status media allow count
-    → count ≡ length line + length names → text ≡ line ++ names → head ++ (line ++ names) ≡ shown (answer_of status media allow text)
-record_shown status media allow head line names text count is counted both =
-    let whole : count ≡ length (line ++ names) = counted ∙ sym (length-append line names) in
-    ap (λ (h : List ℕ). h ++ (line ++ names)) (is ∙ ap (head_text status media allow) whole) ∙ ap (λ (t : List ℕ). shown (answer_of status media allow t)) (sym both)

@@ -1,4 +1,3 @@
 mod ReportLemmas
-mod WriteLemmas
 mod HeadLemmas
 mod PartLemmas

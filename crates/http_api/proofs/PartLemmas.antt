@@ -8,8 +8,8 @@ use Rattle.std.specs.Io.KnownBytes.{Consumes}
 use Rattle.custody_machine.specs.Machine.{Receive}
 use Rattle.custody.specs.declared.custody.Custody.{Custody}
 use Rattle.custody.specs.Receiving.{IsBody, IsShort}
-use Rattle.http_request.specs.Asked.{asks_for}
-use Rattle.http_request.specs.Body.{BeginsWith, IsToldBody}
+use Rattle.http_request.specs.Asked.{asks_for, SendsPart}
+use Rattle.http_request.specs.Body.{BeginsWith, IsDeclaredBody}
 use Rattle.http_request.specs.Head.{IsHeadOf, rest_of}
 use Rattle.http_request.specs.Paths.{Target, Deposit}
 use Rattle.http_request.specs.Targets.{seen}
@@ -18,13 +18,17 @@ use Rattle.http_request.specs.declared.head.Head.{Head}
 use Rattle.http_request.specs.declared.plan.Plan.{Plan}
 use Rattle.http_request.specs.declared.faults.RequestFault.{RequestFault}
 use Rattle.http_request.specs.declared.faults.RequestFault.TheVariants as fault
-use Rattle.http_request.specs.Stops.{StopsWithin}
-use Rattle.http_request.specs.declared.stop.Stop.{Stop}
-use Rattle.http_request.specs.declared.stop.Stop.TheVariants as stop
+use Rattle.http_request.specs.Errors.{IsBodyError}
+use Rattle.http_request.specs.declared.error.RequestError.{RequestError}
+use Rattle.http_request.specs.declared.error.RequestError.TheVariants as error
 use Rattle.http_request.proofs.Asking.{Plans, asks_wanted}
 use Rattle.http_api.specs.declared.serve.Outcome.{Outcome}
-use Rattle.http_api.specs.Served.{HasTakenPart, LeavesBe, Serves, StopLeaves}
-use Rattle.http_api.proofs.WriteLemmas.{either_on}
+use Rattle.http_api.specs.Served.{HasTakenPart, IsNoCommand, LeavesBe, Serves, ErrorLeaves}
+
+-- the first of two things as another
+pub either_on : {A B C : Type 0} → (A → B) → A ⊎ C → B ⊎ C
+either_on f (inl a) = inl (f a)
+either_on f (inr c) = inr c
 
 cut_same : (front rest : List ℕ) (n : ℕ) → take n (take n front ++ rest) ≡ take n (front ++ rest)
 cut_same [] rest zero = refl
@@ -54,32 +58,39 @@ part_came (Some rest) front body n (counted, same) =
     (long_enough (front ++ rest) body n counted cut, cut)
 
 pub part_short : (known : Option (List ℕ)) (front : List ℕ) (n : ℕ) → IsShort known (take n front) n
-    → IfSome known (λ rest. StopsWithin (front ++ rest) (Some n) (stop.Fault fault.BodyShort))
+    → IfSome known (λ rest. IsBodyError (front ++ rest) (Some n) (error.Fault fault.BodyShort))
 part_short None front n short = tt
 part_short (Some rest) front n short = (n, refl, cut_short front rest n short)
 
-pub part_unread : (known : Option (List ℕ)) (front : List ℕ) (n : ℕ) → IfSome known (λ rest. StopsWithin (front ++ rest) (Some n) stop.Unread)
+pub part_unread : (known : Option (List ℕ)) (front : List ℕ) (n : ℕ) → IfSome known (λ rest. IsBodyError (front ++ rest) (Some n) error.Unread)
 part_unread None front n = tt
 part_unread (Some rest) front n = tt
 
-module _ {V S : Type 0} {g : volume.Ghosts V} {database : Ghosts S} (old new : Custody V S g database) (same : new ≡ old) where
-  fault_alone : (found : RequestFault) → LeavesBe found old new
-  fault_alone fault.Head = same
-  fault_alone fault.Target = same
-  fault_alone fault.NoRoute = same
-  fault_alone (fault.Method allowed) = same
-  fault_alone fault.TransferCoding = same
-  fault_alone fault.NoLength = same
-  fault_alone fault.Length = same
-  fault_alone fault.TooLong = same
-  fault_alone fault.BodyShort = inl same
-  fault_alone fault.Form = same
+module _ {V S : Type 0} {g : volume.Ghosts V} {database : Ghosts S} (known : Option (List ℕ)) (old new : Custody V S g database) where
+  fault_alone : new ≡ old → (found : RequestFault) → LeavesBe known found old new
+  fault_alone same fault.BodyShort = inl same
+  fault_alone same _ = same
 
   -- a custody that is as it was
-  pub left_alone : (s : Stop) → StopLeaves s old new
-  left_alone stop.Unread = inl same
-  left_alone stop.NoMemory = same
-  left_alone (stop.Fault found) = fault_alone found
+  pub left_alone : new ≡ old → (s : RequestError) → ErrorLeaves known s old new
+  left_alone same error.Unread = inl same
+  left_alone same error.NoMemory = same
+  left_alone same (error.Fault found) = fault_alone same found
+
+  module _ (sends : IfSome known SendsPart) where
+    no_part : IsNoCommand None old new → IsNoCommand known old new
+    no_part (inl same) = inl same
+    no_part (inr (any, ended)) = inr (sends, ended)
+
+    fault_of_part : (found : RequestFault) → LeavesBe None found old new → LeavesBe known found old new
+    fault_of_part fault.BodyShort left = no_part left
+    fault_of_part _ same = same
+
+    -- the custody where a part is sent
+    pub part_left : (s : RequestError) → ErrorLeaves None s old new → ErrorLeaves known s old new
+    part_left error.Unread left = no_part left
+    part_left error.NoMemory same = same
+    part_left (error.Fault found) left = fault_of_part found left
 
 -- the part of a request is received: that is what the request asks
 module _ {V S : Type 0} {g : volume.Ghosts V} {database : Ghosts S} (head : Head) (plan : Plan) where
@@ -88,7 +99,7 @@ module _ {V S : Type 0} {g : volume.Ghosts V} {database : Ghosts S} (head : Head
       → HasTakenPart b (rest_of head) name len now old outcome new → Serves a now old outcome new
   part_serves a b taken is plans name e len told now old new outcome (body, has, step) =
       let wanted = Do (Receive name body) in
-      let whole = subst (λ (t : Option ℕ). IfSome b (λ rest. IsToldBody (rest_of head ++ rest) t body)) (sym told) has in
+      let whole = subst (λ (t : Option ℕ). IfSome b (λ rest. IsDeclaredBody (rest_of head ++ rest) t body)) (sym told) has in
       let means = subst (λ (t : Target). Means t body wanted) (sym e) refl in
       let asks = asks_wanted head plan a b taken is plans body whole wanted means in
       λ answer shown. either_on (λ gives. (asks_for wanted, asks, gives)) (step answer shown)

@@ -24,14 +24,14 @@ use Rattle.custody.specs.Fetched.{HasFetched}
 use Rattle.custody.specs.Receiving.{HasEnded}
 use Rattle.answer_lines.specs.Printed.{reply_text}
 use Rattle.answer_lines.specs.State.{report_text}
-use Rattle.http_request.specs.Asked.{Asked, bad, asks_for, Asks}
+use Rattle.http_request.specs.Asked.{Asked, bad, asks_for, Asks, SendsPart}
 use Rattle.http_request.specs.declared.faults.Method.{Method}
 use Rattle.http_request.specs.declared.faults.RequestFault.{RequestFault}
 use Rattle.http_request.specs.declared.faults.RequestFault.TheVariants as fault
-use Rattle.http_request.specs.declared.stop.Stop.{Stop}
-use Rattle.http_request.specs.declared.stop.Stop.TheVariants as stop
-use Rattle.http_request.specs.Body.{IsToldBody}
-use Rattle.http_request.specs.Wanted.{Do, Report, Fetch}
+use Rattle.http_request.specs.declared.error.RequestError.{RequestError}
+use Rattle.http_request.specs.declared.error.RequestError.TheVariants as error
+use Rattle.http_request.specs.Body.{IsDeclaredBody}
+use Rattle.http_request.specs.Wanted.{Wanted, Do, Report, Fetch}
 use Rattle.http_api.specs.declared.status.Status.{Status}
 use Rattle.http_api.specs.declared.status.Status.TheVariants as status
 use Rattle.http_api.specs.declared.response.Media.TheVariants.{Text, Bytes}
@@ -117,21 +117,25 @@ module _ {V S : Type 0} {g : volume.Ghosts V} {database : Ghosts S} where
 
   -- ---- the step
 
-  -- No command: nothing is done; or a part is begun of which not all the bytes come.
-  abbrev pub IsNoCommand : Custody V S g database → Custody V S g database → Type 0
-  IsNoCommand old new = (new ≡ old) ⊎ HasEnded old new
+  -- No command: nothing is done; or the input, where it is known, sends a part, of which not all the bytes come.
+  abbrev pub IsNoCommand : Option (List ℕ) → Custody V S g database → Custody V S g database → Type 0
+  IsNoCommand known old new = (new ≡ old) ⊎ (IfSome known SendsPart × HasEnded old new)
 
   -- what a request that has a fault leaves of a custody
-  abbrev pub LeavesBe : RequestFault → Custody V S g database → Custody V S g database → Type 0
-  LeavesBe fault.BodyShort old new = IsNoCommand old new
-  LeavesBe _ old new = new ≡ old
+  abbrev pub LeavesBe : Option (List ℕ) → RequestFault → Custody V S g database → Custody V S g database → Type 0
+  LeavesBe known fault.BodyShort old new = IsNoCommand known old new
+  LeavesBe known _ old new = new ≡ old
 
-  -- what is asked is done, and answered
-  abbrev pub Gives : Asked → ℕ → Custody V S g database → Answer → Custody V S g database → Type 0
-  Gives (bad found) now old answer new = (answer ≡ fault_answer found) × LeavesBe found old new
-  Gives (asks_for (Do command)) now old answer new = (r : Result Reply not_accepted.Refused) × HasApplied old command now r new × (answer ≡ reply_answer r)
-  Gives (asks_for (Report tld)) now old answer new = (answer ≡ report_answer old tld) × (new ≡ old)
-  Gives (asks_for (Fetch reference name)) now old answer new = (r : Result (List ℕ) not_accepted.Refused) × HasFetched old reference name r new × (answer ≡ fetch_answer r)
+  -- what is wanted is done, and answered
+  abbrev pub Does : Wanted → ℕ → Custody V S g database → Answer → Custody V S g database → Type 0
+  Does (Do command) now old answer new = (r : Result Reply not_accepted.Refused) × HasApplied old command now r new × (answer ≡ reply_answer r)
+  Does (Report tld) now old answer new = (answer ≡ report_answer old tld) × (new ≡ old)
+  Does (Fetch reference name) now old answer new = (r : Result (List ℕ) not_accepted.Refused) × HasFetched old reference name r new × (answer ≡ fetch_answer r)
+
+  -- the same of all that is asked: a fault is answered, and no command is done
+  abbrev pub Gives : Option (List ℕ) → Asked → ℕ → Custody V S g database → Answer → Custody V S g database → Type 0
+  Gives known (bad found) now old answer new = (answer ≡ fault_answer found) × LeavesBe known found old new
+  Gives known (asks_for wanted) now old answer new = Does wanted now old answer new
 
   -- memory ran out before any step
   abbrev pub HasNoMemory : Custody V S g database → Answer → Custody V S g database → Type 0
@@ -140,7 +144,7 @@ module _ {V S : Type 0} {g : volume.Ghosts V} {database : Ghosts S} where
   -- The reader's bytes, where they are known, ask something, which is done and answered; or memory ran out before.
   abbrev pub IsServed : Option (List ℕ) → ℕ → Custody V S g database → Answer → Custody V S g database → Type 0
   IsServed known now old answer new =
-      ((asked : Asked) × IfSome known (λ input. Asks input asked) × Gives asked now old answer new) ⊎ HasNoMemory old answer new
+      ((asked : Asked) × IfSome known (λ input. Asks input asked) × Gives known asked now old answer new) ⊎ HasNoMemory old answer new
 
   -- ---- an outcome before it is written
 
@@ -149,9 +153,9 @@ module _ {V S : Type 0} {g : volume.Ghosts V} {database : Ghosts S} where
   Answers custody (outcome.Told response) answer = answer ≡ response_seen response
   Answers custody (outcome.Report tld) answer = (answer ≡ report_answer custody tld) ⊎ (answer ≡ no_memory_answer)
 
-  -- each answer of it is one to what is asked
-  abbrev pub IsStep : Asked → ℕ → Custody V S g database → Outcome → Custody V S g database → Type 0
-  IsStep asked now old outcome new = (answer : Answer) → Answers new outcome answer → Gives asked now old answer new ⊎ HasNoMemory old answer new
+  -- each answer of it is one to what is wanted
+  abbrev pub IsStep : Wanted → ℕ → Custody V S g database → Outcome → Custody V S g database → Type 0
+  IsStep wanted now old outcome new = (answer : Answer) → Answers new outcome answer → Does wanted now old answer new ⊎ HasNoMemory old answer new
 
   abbrev pub Serves : Option (List ℕ) → ℕ → Custody V S g database → Outcome → Custody V S g database → Type 0
   Serves known now old outcome new = (answer : Answer) → Answers new outcome answer → IsServed known now old answer new
@@ -159,12 +163,12 @@ module _ {V S : Type 0} {g : volume.Ghosts V} {database : Ghosts S} where
   -- ---- before there is an outcome
 
   -- what is left where a request asks nothing
-  abbrev pub StopLeaves : Stop → Custody V S g database → Custody V S g database → Type 0
-  StopLeaves stop.Unread old new = IsNoCommand old new
-  StopLeaves stop.NoMemory old new = new ≡ old
-  StopLeaves (stop.Fault found) old new = LeavesBe found old new
+  abbrev pub ErrorLeaves : Option (List ℕ) → RequestError → Custody V S g database → Custody V S g database → Type 0
+  ErrorLeaves known error.Unread old new = IsNoCommand known old new
+  ErrorLeaves known error.NoMemory old new = new ≡ old
+  ErrorLeaves known (error.Fault found) old new = LeavesBe known found old new
 
   -- the bytes that are told have come, and are received as a part
   abbrev pub HasTakenPart : Option (List ℕ) → List ℕ → List ℕ → ℕ → ℕ → Custody V S g database → Outcome → Custody V S g database → Type 0
   HasTakenPart known front name len now old outcome new = (body : List ℕ)
-      × IfSome known (λ rest. IsToldBody (front ++ rest) (Some len) body) × IsStep (asks_for (Do (Receive name body))) now old outcome new
+      × IfSome known (λ rest. IsDeclaredBody (front ++ rest) (Some len) body) × IsStep (Do (Receive name body)) now old outcome new

@@ -1,5 +1,5 @@
 //! Responses, and their bytes. Writing one takes no memory.
-ghost use Rattle.std.specs.Prelude.{◌≡◌, ◌+◌, ◌≤◌, ◌++◌, OnOk, OnErr, length};
+ghost use Rattle.std.specs.Prelude.{◌≡◌, ◌+◌, ◌≤◌, ◌++◌, OnOk, length};
 ghost use Rattle.std.specs.Io.KnownBytes.{Appends};
 ghost use Rattle.arrayvec.specs.ArrayVec.{array_vec_len};
 ghost use Rattle.desk.specs.Lines.{AppendsBeginning, report_text};
@@ -9,8 +9,10 @@ ghost use Rattle.http_api.specs.Statuses.{status_text};
 
 use crate::Status;
 use crate::report::Report;
-use crate::writing::{WriteFailed, write_three, write_two, write_whole};
-use answer_lines::{Line, LineBytes, append, append_number, names_behind};
+use crate::writing::{write_three, write_two};
+use answer_lines::{
+    Line, LineBytes, WriteFailed, append, append_number, names_behind, write_whole,
+};
 use custody::Record;
 use desk::{Notice, report};
 use http_request::Method;
@@ -108,21 +110,21 @@ fn head_of(status: Status, media: Media, allow: Option<Method>, length: u64) -> 
 
 /// Writes a response.
 pub(crate) fn write_message<W: Write>(
-    writer: &mut W,
     message: &Message<'_>,
+    writer: &mut W,
 ) -> Result<(), WriteFailed>
     ensures whole { OnOk result (Appends (W.contents writer.old) (W.contents writer.new) (shown (message_seen message.now))) }
-    ensures begun { OnErr result (AppendsBeginning (W.contents writer.old) (W.contents writer.new) (shown (message_seen message.now))) }
+    ensures begun { AppendsBeginning (W.contents writer.old) (W.contents writer.new) (shown (message_seen message.now)) }
 {
     match message {
-        Message::Told(response) => write_response(writer, response),
-        Message::Report(report) => write_report(writer, report),
+        Message::Told(response) => write_response(response, writer),
+        Message::Report(report) => write_report(report, writer),
     }
 }
 
-fn write_response<W: Write>(writer: &mut W, response: &Response) -> Result<(), WriteFailed>
+fn write_response<W: Write>(response: &Response, writer: &mut W) -> Result<(), WriteFailed>
     ensures whole { OnOk result (Appends (W.contents writer.old) (W.contents writer.new) (shown (response_seen response.now))) }
-    ensures begun { OnErr result (AppendsBeginning (W.contents writer.old) (W.contents writer.new) (shown (response_seen response.now))) }
+    ensures begun { AppendsBeginning (W.contents writer.old) (W.contents writer.new) (shown (response_seen response.now)) }
 {
     let Response {
         status,
@@ -130,67 +132,65 @@ fn write_response<W: Write>(writer: &mut W, response: &Response) -> Result<(), W
         body,
     } = response;
     match body {
-        Body::Line(line) => write_body(writer, *status, Media::Text, *allow, line.as_slice()),
-        Body::Record(told) => write_record(writer, *status, *allow, told),
-        Body::Part(bytes) => write_body(writer, *status, Media::Bytes, *allow, bytes.as_slice()),
+        Body::Line(line) => write_body(*status, Media::Text, *allow, line.as_slice(), writer),
+        Body::Record(told) => write_record(*status, *allow, told, writer),
+        Body::Part(bytes) => write_body(*status, Media::Bytes, *allow, bytes.as_slice(), writer),
     }
 }
 
 /// Writes a response with these bytes as its body.
 fn write_body<W: Write>(
-    writer: &mut W,
     status: Status,
     media: Media,
     allow: Option<Method>,
     body: &[u8],
+    writer: &mut W,
 ) -> Result<(), WriteFailed>
     ensures whole { OnOk result (Appends (W.contents writer.old) (W.contents writer.new) (shown (answer_of status media allow body.now))) }
-    ensures begun { OnErr result (AppendsBeginning (W.contents writer.old) (W.contents writer.new) (shown (answer_of status media allow body.now))) }
+    ensures begun { AppendsBeginning (W.contents writer.old) (W.contents writer.new) (shown (answer_of status media allow body.now)) }
 {
     let head = head_of(status, media, allow, body.len() as u64);
-    write_two(writer, head.as_slice(), body)
+    write_two(head.as_slice(), body, writer)
 }
 
 /// Writes a response whose body is what is printed of a record.
 fn write_record<W: Write>(
-    writer: &mut W,
     status: Status,
     allow: Option<Method>,
     told: &Record,
+    writer: &mut W,
 ) -> Result<(), WriteFailed>
     ensures whole { OnOk result (Appends (W.contents writer.old) (W.contents writer.new) (shown (answer_of status Media.Text allow (reply_text told.now)))) }
-    ensures begun { OnErr result (AppendsBeginning (W.contents writer.old) (W.contents writer.new) (shown (answer_of status Media.Text allow (reply_text told.now)))) }
+    ensures begun { AppendsBeginning (W.contents writer.old) (W.contents writer.new) (shown (answer_of status Media.Text allow (reply_text told.now))) }
 {
     let line = Line::of_record(told).bytes();
     let names = names_behind(told);
     let length = line.len() as u64 + names.len() as u64;
     let head = head_of(status, Media::Text, allow, length);
-    write_three(writer, head.as_slice(), line.as_slice(), names)
+    write_three(head.as_slice(), line.as_slice(), names, writer)
 }
 
 /// Writes the report, a line at a time.
-fn write_report<W: Write>(writer: &mut W, told: &Report<'_>) -> Result<(), WriteFailed>
+fn write_report<W: Write>(told: &Report<'_>, writer: &mut W) -> Result<(), WriteFailed>
     ensures whole { OnOk result (Appends (W.contents writer.old) (W.contents writer.new) (shown (report_seen told.now))) }
-    ensures begun { OnErr result (AppendsBeginning (W.contents writer.old) (W.contents writer.new) (shown (report_seen told.now))) }
+    ensures begun { AppendsBeginning (W.contents writer.old) (W.contents writer.new) (shown (report_seen told.now)) }
 {
     let head = head_of(Status::Done, Media::Text, None, told.len);
-    write_lines(writer, head.as_slice(), told.notices)
+    write_lines(head.as_slice(), told.notices, writer)
 }
 
 /// Writes bytes, and then the lines of notices.
 fn write_lines<W: Write>(
-    writer: &mut W,
     first: &[u8],
     notices: &[Notice],
+    writer: &mut W,
 ) -> Result<(), WriteFailed>
     ensures whole { OnOk result (Appends (W.contents writer.old) (W.contents writer.new) (first.now ++ report_text notices.now)) }
-    ensures begun { OnErr result (AppendsBeginning (W.contents writer.old) (W.contents writer.new) (first.now ++ report_text notices.now)) }
+    ensures begun { AppendsBeginning (W.contents writer.old) (W.contents writer.new) (first.now ++ report_text notices.now) }
 {
-    match write_whole(writer, first) {
-        Ok(()) => match report(notices, writer) {
-            Ok(()) => Ok(()),
-            Err(_) => Err(WriteFailed),
-        },
-        Err(failed) => Err(failed),
+    write_whole(first, writer)?;
+    match report(notices, writer) {
+        Ok(()) => Ok(()),
+        Err(_) => Err(WriteFailed),
     }
 }

@@ -1,14 +1,13 @@
 //! One request, one response.
-ghost use Rattle.std.specs.Prelude.{◌≡◌, ◌≤◌, ◌++◌, ℕ, List, length, take, Err, Some, Result, IfOk, IfErr, IfSome, OnOk, OnErr};
+ghost use Rattle.std.specs.Prelude.{◌≡◌, ◌≤◌, ◌++◌, ℕ, List, length, take, Err, Some, None, Result, IfOk, IfErr, IfSome, OnOk, OnErr};
 ghost use Rattle.std.specs.Io.KnownBytes.{Appends, Keeps};
 ghost use Rattle.desk.specs.Lines.{AppendsBeginning};
 ghost use Rattle.custody.specs.Fetched.{HasFetched};
 ghost use Rattle.custody.specs.declared.answers.Refused as not_accepted;
-ghost use Rattle.http_request.specs.Asked.{asks_for};
-ghost use Rattle.http_request.specs.Stops.{StopsBefore, StopsWithin};
+ghost use Rattle.http_request.specs.Errors.{IsRequestError, IsBodyError};
 ghost use Rattle.http_request.specs.WantedSeen.{wanted_of};
 ghost use Rattle.http_api.specs.Responses.{Answer, message_seen, response_seen, shown};
-ghost use Rattle.http_api.specs.Served.{Answers, HasTakenPart, IsNoCommand, IsServed, IsStep, Serves, StopLeaves, fetch_answer};
+ghost use Rattle.http_api.specs.Served.{Answers, ErrorLeaves, HasTakenPart, IsNoCommand, IsServed, IsStep, Serves, fetch_answer};
 
 use crate::Status;
 use crate::report::Report;
@@ -21,8 +20,8 @@ use custody::{Custody, ReceiveError};
 use custody_machine::{Fault, Refusal};
 use deposit_name::{Reference, Tld};
 use http_request::{
-    BodyFault, RequestFault, Routes, Stop, Target, Wanted, meaning_of, read_body, read_head,
-    read_plan,
+    BodyFault, RequestError, RequestFault, Routes, Target, Wanted, meaning_of, read_body,
+    read_head, read_plan,
 };
 use schedule::Sec;
 use sqlite::Alter;
@@ -98,7 +97,7 @@ fn obey<V: Volume, S: Alter>(
     wanted: &Wanted<'_>,
     now: Sec,
 ) -> Outcome
-    ensures { IsStep (asks_for (wanted_of wanted.now)) now custody.old result custody.new }
+    ensures { IsStep (wanted_of wanted.now) now custody.old result custody.new }
 {
     match wanted {
         Wanted::Do(command) => Outcome::Told(response_of(custody.apply(alloc, command, now))),
@@ -124,19 +123,20 @@ fn receive<R: Read, V: Volume, S: Alter>(
     len: u32,
     front: &[u8],
     now: Sec,
-) -> Result<Outcome, Stop>
+) -> Result<Outcome, RequestError>
     ensures done { IfOk result (λ outcome.
         HasTakenPart (R.remaining reader.old) front.now name.now len now custody.old outcome custody.new) }
-    ensures stopped { IfErr result (λ stop.
-        IfSome (R.remaining reader.old) (λ rest. StopsWithin (front.now ++ rest) (Some len) stop)) }
-    ensures left { IfErr result (λ stop. StopLeaves stop custody.old custody.new) }
+    ensures error { IfErr result (λ error.
+        IfSome (R.remaining reader.old) (λ rest. IsBodyError (front.now ++ rest) (Some len) error)) }
+    // That a part is sent, the caller knows.
+    ensures left { IfErr result (λ error. ErrorLeaves None error custody.old custody.new) }
 {
     let first = first_of(front, len);
     match custody.receive_from(alloc, name, len, first, reader, now) {
         Ok(reply) => Ok(Outcome::Told(reply_response(reply))),
         Err(ReceiveError::Refused(refused)) => Ok(Outcome::Told(refused_response(&refused))),
-        Err(ReceiveError::Short) => Err(Stop::Fault(RequestFault::BodyShort)),
-        Err(ReceiveError::ReadFailed) => Err(Stop::Unread),
+        Err(ReceiveError::Short) => Err(RequestError::Fault(RequestFault::BodyShort)),
+        Err(ReceiveError::ReadFailed) => Err(RequestError::Unread),
     }
 }
 
@@ -147,18 +147,18 @@ fn outcome_of<R: Read, V: Volume, S: Alter>(
     reader: &mut R,
     custody: &mut Custody<V, S>,
     now: Sec,
-) -> Result<Outcome, Stop>
+) -> Result<Outcome, RequestError>
     ensures done { IfOk result (λ outcome. Serves (R.remaining reader.old) now custody.old outcome custody.new) }
-    ensures stopped { IfErr result (λ stop. IfSome (R.remaining reader.old) (λ input. StopsBefore input stop)) }
-    ensures left { IfErr result (λ stop. StopLeaves stop custody.old custody.new) }
+    ensures error { IfErr result (λ error. IfSome (R.remaining reader.old) (λ input. IsRequestError input error)) }
+    ensures left { IfErr result (λ error. ErrorLeaves (R.remaining reader.old) error custody.old custody.new) }
 {
     let head = match read_head(alloc, reader) {
         Ok(head) => head,
-        Err(stop) => return Err(stop),
+        Err(error) => return Err(error),
     };
     let plan = match read_plan(routes, &head) {
         Ok(plan) => plan,
-        Err(fault) => return Err(Stop::Fault(fault)),
+        Err(fault) => return Err(RequestError::Fault(fault)),
     };
     if let Target::Deposit(name) = plan.target {
         let len = plan.length.unwrap_or(0) as u32;
@@ -166,12 +166,12 @@ fn outcome_of<R: Read, V: Volume, S: Alter>(
     }
     let body = match read_body(alloc, reader, head.rest(), plan.length) {
         Ok(body) => body,
-        Err(stop) => return Err(stop),
+        Err(error) => return Err(error),
     };
     match meaning_of(alloc, plan.target, &body) {
         Ok(wanted) => Ok(obey(alloc, custody, &wanted, now)),
-        Err(BodyFault::Form) => Err(Stop::Fault(RequestFault::Form)),
-        Err(BodyFault::NoMemory) => Err(Stop::NoMemory),
+        Err(BodyFault::Form) => Err(RequestError::Fault(RequestFault::Form)),
+        Err(BodyFault::NoMemory) => Err(RequestError::NoMemory),
     }
 }
 
@@ -184,13 +184,13 @@ fn respond<R: Read, V: Volume, S: Alter>(
     now: Sec,
 ) -> Result<Outcome, ReadFailed>
     ensures serves { IfOk result (λ outcome. Serves (R.remaining reader.old) now custody.old outcome custody.new) }
-    ensures left { OnErr result (IsNoCommand custody.old custody.new) }
+    ensures left { OnErr result (IsNoCommand (R.remaining reader.old) custody.old custody.new) }
 {
     match outcome_of(alloc, routes, reader, custody, now) {
         Ok(outcome) => Ok(outcome),
-        Err(Stop::Unread) => Err(ReadFailed),
-        Err(Stop::NoMemory) => Ok(Outcome::Told(failure_response(&Fault::NoMemory))),
-        Err(Stop::Fault(fault)) => Ok(Outcome::Told(fault_response(fault))),
+        Err(RequestError::Unread) => Err(ReadFailed),
+        Err(RequestError::NoMemory) => Ok(Outcome::Told(failure_response(&Fault::NoMemory))),
+        Err(RequestError::Fault(fault)) => Ok(Outcome::Told(fault_response(fault))),
     }
 }
 
@@ -253,7 +253,8 @@ impl Api {
             × IsServed (R.remaining reader.old) now custody.old answer custody.new
             × Appends (W.contents writer.old) (W.contents writer.new) (shown answer)) }
         ensures read_failed { result ≡ Err ServeError.Read
-            → IsNoCommand custody.old custody.new × Keeps (W.contents writer.old) (W.contents writer.new) }
+            → IsNoCommand (R.remaining reader.old) custody.old custody.new
+            × Keeps (W.contents writer.old) (W.contents writer.new) }
         ensures write_failed { result ≡ Err ServeError.Write → (answer : Answer)
             × IsServed (R.remaining reader.old) now custody.old answer custody.new
             × AppendsBeginning (W.contents writer.old) (W.contents writer.new) (shown answer) }
@@ -262,7 +263,7 @@ impl Api {
             Ok(outcome) => outcome,
             Err(ReadFailed) => return Err(ServeError::Read),
         };
-        match write_message(writer, &message_of(custody, outcome)) {
+        match write_message(&message_of(custody, outcome), writer) {
             Ok(()) => Ok(Served),
             Err(_) => Err(ServeError::Write),
         }

@@ -3,27 +3,26 @@ use Rattle.std.proofs.lemmas.Result.{IfOk-weaker, IfErr-weaker}
 use Rattle.http_request.specs.Asked.{asks_for}
 use Rattle.http_request.specs.WantedSeen.{wanted_of}
 use Rattle.http_request.specs.Head.{rest_of}
-use Rattle.http_request.specs.Stops.{StopsWithin}
+use Rattle.http_request.specs.Errors.{IsBodyError}
 use Rattle.http_request.specs.Targets.{seen}
-use Rattle.http_request.specs.declared.stop.Stop.TheVariants as stop
-use Rattle.http_request.proofs.Asking.{plan_stops, part_told, body_stops, form_stops, asks_wanted}
-use Rattle.http_api.proofs.PartLemmas.{left_alone, part_serves}
-use Rattle.http_api.proofs.WriteLemmas.{either_on}
+use Rattle.http_request.specs.declared.error.RequestError.TheVariants as error
+use Rattle.http_request.proofs.Asking.{plan_error, part_sent, part_told, body_error, form_error, asks_wanted}
+use Rattle.http_api.proofs.PartLemmas.{either_on, left_alone, part_left, part_serves}
 use Rattle.http_api.proofs.serve.outcome_of.Goals as goal
 
-pub returns-in-Err-read_plan-clause-stopped : goal.returns-in-Err-read_plan-clause-stopped
-returns-in-Err-read_plan-clause-stopped g c = plan_stops c.in-Ok.head _ _ c.in-Ok.ensures.found.0 c.in-Ok.ensures.found.1 c.in-Err-read_plan.fault c.in-Err-read_plan.ensures.err
+pub returns-in-Err-read_plan-clause-error : goal.returns-in-Err-read_plan-clause-error
+returns-in-Err-read_plan-clause-error g c = plan_error c.in-Ok.head _ _ c.in-Ok.ensures.found.0 c.in-Ok.ensures.found.1 c.in-Err-read_plan.fault c.in-Err-read_plan.ensures.err
 
-pub returns-in-Err-read_body-clause-stopped : goal.returns-in-Err-read_body-clause-stopped
-returns-in-Err-read_body-clause-stopped g c =
-    let within = rw c.rest-2.ensures at c.in-Err-read_body.ensures.stopped in
-    body_stops c.in-Ok.head c.in-Ok-read_plan.plan _ _ c.in-Ok.ensures.found.0 c.in-Ok.ensures.found.1 c.in-Ok-read_plan.ensures.ok c.in-Err-read_body.stop within
+pub returns-in-Err-read_body-clause-error : goal.returns-in-Err-read_body-clause-error
+returns-in-Err-read_body-clause-error g c =
+    let within = rw c.rest-2.ensures at c.in-Err-read_body.ensures.error in
+    body_error c.in-Ok.head c.in-Ok-read_plan.plan _ _ c.in-Ok.ensures.found.0 c.in-Ok.ensures.found.1 c.in-Ok-read_plan.ensures.ok c.in-Err-read_body.error within
 
-pub returns-in-Err-Form-clause-stopped : goal.returns-in-Err-Form-clause-stopped
-returns-in-Err-Form-clause-stopped g c =
+pub returns-in-Err-Form-clause-error : goal.returns-in-Err-Form-clause-error
+returns-in-Err-Form-clause-error g c =
     let body = rw c.rest-2.ensures at c.in-Ok-read_body.ensures.found in
     let none = rw c.deref.ensures.value at (c.in-Err-Form.ensures.form (ap (λ u. Err u) c.in-Err-Form.field-0-is)) in
-    form_stops c.in-Ok.head c.in-Ok-read_plan.plan _ _ c.in-Ok.ensures.found.0 c.in-Ok.ensures.found.1 c.in-Ok-read_plan.ensures.ok c.in-Ok-read_body.body.items body none
+    form_error c.in-Ok.head c.in-Ok-read_plan.plan _ _ c.in-Ok.ensures.found.0 c.in-Ok.ensures.found.1 c.in-Ok-read_plan.ensures.ok c.in-Ok-read_body.body.items body none
 
 pub returns-in-Ok-meaning_of-clause-done : goal.returns-in-Ok-meaning_of-clause-done
 returns-in-Ok-meaning_of-clause-done g c =
@@ -34,13 +33,13 @@ returns-in-Ok-meaning_of-clause-done g c =
     λ answer told. either_on (λ gives. (asks_for wanted, asks, gives)) (c.obey.ensures answer told)
 
 pub returns-in-Err-clause-left : goal.returns-in-Err-clause-left
-returns-in-Err-clause-left g c = left_alone _ _ refl c.in-Err.stop
+returns-in-Err-clause-left g c = left_alone _ _ _ refl c.in-Err.error
 
 pub returns-in-Err-read_plan-clause-left : goal.returns-in-Err-read_plan-clause-left
-returns-in-Err-read_plan-clause-left g c = left_alone _ _ refl (stop.Fault c.in-Err-read_plan.fault)
+returns-in-Err-read_plan-clause-left g c = left_alone _ _ _ refl (error.Fault c.in-Err-read_plan.fault)
 
 pub returns-in-Err-read_body-clause-left : goal.returns-in-Err-read_body-clause-left
-returns-in-Err-read_body-clause-left g c = left_alone _ _ refl c.in-Err-read_body.stop
+returns-in-Err-read_body-clause-left g c = left_alone _ _ _ refl c.in-Err-read_body.error
 
 pub overflow_cast-len : goal.overflow_cast-len
 overflow_cast-len g c =
@@ -58,14 +57,19 @@ returns-in-Deposit-clause-done g c =
     (λ outcome part. part_serves head plan _ _ c.in-Ok.ensures.found.0 c.in-Ok.ensures.found.1 c.in-Ok-read_plan.ensures.ok c.in-Deposit.name.now named _ len _ _ _ outcome part)
     (rw c.rest.ensures at c.receive.ensures.done)
 
-pub returns-in-Deposit-clause-stopped : goal.returns-in-Deposit-clause-stopped
-returns-in-Deposit-clause-stopped g c =
+pub returns-in-Deposit-clause-error : goal.returns-in-Deposit-clause-error
+returns-in-Deposit-clause-error g c =
     let head = c.in-Ok.head in
     let plan = c.in-Ok-read_plan.plan in
     let named = ap seen c.in-Deposit.is in
     let told = part_told head plan c.in-Ok.ensures.found.1 c.in-Ok-read_plan.ensures.ok c.in-Deposit.name.now named in
     let len = told.1 ∙ ap Some (sym (rw told.1 at c.unwrap_or-len.ensures)) in
     IfErr-weaker c.receive.result _ _
-    (λ s within. body_stops head plan _ _ c.in-Ok.ensures.found.0 c.in-Ok.ensures.found.1 c.in-Ok-read_plan.ensures.ok s
-    (subst (λ (t : Option ℕ). IfSome (g.R.Read.remaining c.read_head.new.reader) (λ rest. StopsWithin (rest_of head ++ rest) t s)) (sym len) within))
-    (rw c.rest.ensures at c.receive.ensures.stopped)
+    (λ s within. body_error head plan _ _ c.in-Ok.ensures.found.0 c.in-Ok.ensures.found.1 c.in-Ok-read_plan.ensures.ok s
+    (subst (λ (t : Option ℕ). IfSome (g.R.Read.remaining c.read_head.new.reader) (λ rest. IsBodyError (rest_of head ++ rest) t s)) (sym len) within))
+    (rw c.rest.ensures at c.receive.ensures.error)
+
+pub returns-in-Deposit-clause-left : goal.returns-in-Deposit-clause-left
+returns-in-Deposit-clause-left g c =
+    let sends = part_sent c.in-Ok.head c.in-Ok-read_plan.plan _ _ c.in-Ok.ensures.found.0 c.in-Ok.ensures.found.1 c.in-Ok-read_plan.ensures.ok c.in-Deposit.name.now (ap seen c.in-Deposit.is) in
+    IfErr-weaker c.receive.result _ _ (λ s left. part_left _ _ _ sends s left) c.receive.ensures.left

@@ -12,20 +12,20 @@ returns-in-Err-Refused-clause-done g c =
     let received = rw (c.in-Err-Refused.field-0-is, c.first_of-first.ensures.bytes) at c.in-Err-Refused.ensures in
     (received.0, part_came _ c.args.front.now received.0 c.args.len received.1, λ answer told. inl (Err c.in-Err-Refused.refused, received.2, told ∙ c.refused_response.ensures))
 
-pub returns-in-Err-Short-clause-stopped : goal.returns-in-Err-Short-clause-stopped
-returns-in-Err-Short-clause-stopped g c =
+pub returns-in-Err-Short-clause-error : goal.returns-in-Err-Short-clause-error
+returns-in-Err-Short-clause-error g c =
     let ended = rw (c.in-Err-Short.field-0-is, c.first_of-first.ensures.bytes) at c.in-Err-Short.ensures in
     part_short _ c.args.front.now c.args.len ended.0
 
 pub returns-in-Err-Short-clause-left : goal.returns-in-Err-Short-clause-left
 returns-in-Err-Short-clause-left g c =
     let ended = rw c.in-Err-Short.field-0-is at c.in-Err-Short.ensures in
-    inr ended.1
+    inr (tt, ended.1)
 
-pub returns-in-Err-ReadFailed-clause-stopped : goal.returns-in-Err-ReadFailed-clause-stopped
-returns-in-Err-ReadFailed-clause-stopped g c = part_unread _ c.args.front.now c.args.len
+pub returns-in-Err-ReadFailed-clause-error : goal.returns-in-Err-ReadFailed-clause-error
+returns-in-Err-ReadFailed-clause-error g c = part_unread _ c.args.front.now c.args.len
 
 pub returns-in-Err-ReadFailed-clause-left : goal.returns-in-Err-ReadFailed-clause-left
 returns-in-Err-ReadFailed-clause-left g c =
     let ended = rw c.in-Err-ReadFailed.field-0-is at c.in-Err-ReadFailed.ensures in
-    inr ended
+    inr (tt, ended)

@@ -4,7 +4,7 @@ use Rattle.http_api.proofs.serve.respond.Goals as goal
 
 pub returns-in-Err-Fault-clause-serves : goal.returns-in-Err-Fault-clause-serves
 returns-in-Err-Fault-clause-serves g c =
-    let stopped = rw c.in-Err-Fault.field-0-is at c.in-Err-Fault.ensures.stopped in
+    let stopped = rw c.in-Err-Fault.field-0-is at c.in-Err-Fault.ensures.error in
     λ answer told. inl (bad c.in-Err-Fault.fault, stopped, (told ∙ c.fault_response.ensures, rw c.in-Err-Fault.field-0-is at c.in-Err-Fault.ensures.left))
 
 pub returns-in-Err-NoMemory-clause-serves : goal.returns-in-Err-NoMemory-clause-serves
