@@ -1,4 +1,7 @@
 //! Connections, one after the other.
+ghost use Rattle.std.specs.Prelude.{◌≡◌, ◌<◌, ℕ, Some, IfOk, IfSome, OnOk, OnErr};
+ghost use Rattle.http_serve.specs.Turns.{AreTurns, IsTurn};
+
 use crate::client::{REQUEST_SECONDS, RESPONSE_SECONDS, Timed, end_connection};
 use crate::clock::moment_of;
 use custody::Custody;
@@ -41,15 +44,30 @@ fn next_client(listener: &TcpListener) -> Result<Option<TcpStream>, ServeFault> 
     }
 }
 
-/// Serves one connection: one request, one response.
+/// The moment of a connection: the one that is given, or that of the clock.
+fn moment_at<C: Clock>(given: &Option<Sec>, clock: &C) -> Result<Sec, ServeFault>
+    ensures { IfOk result (λ now. IfSome given.now (λ moment. now ≡ moment)) }
+{
+    match given {
+        Some(moment) => Ok(*moment),
+        None => moment_of(clock).ok_or(ServeFault::Clock),
+    }
+}
+
+/// Serves a connection, if one is there: one request, one response.
 fn serve_client<C: Clock, V: Volume, S: Alter>(
     alloc: Global,
     clock: &C,
     api: &Api,
-    stream: &TcpStream,
+    client: Option<&TcpStream>,
     custody: &mut Custody<V, S>,
     now: Sec,
-) -> Result<(), ServeError> {
+) -> Result<(), ServeError>
+    ensures { IsTurn (Some now) custody.old custody.new }
+{
+    let Some(stream) = client else {
+        return Err(ServeError::Read);
+    };
     let Ok(mut reader) = Timed::new(stream, clock, REQUEST_SECONDS) else {
         return Err(ServeError::Read);
     };
@@ -72,17 +90,14 @@ pub fn serve_connections<C: Clock, V: Volume, S: Alter, E: Write>(
     custody: &mut Custody<V, S>,
     now: Option<Sec>,
     err: &mut E,
-) -> Result<(), ServeFault> {
+) -> Result<(), ServeFault>
+    ensures all { OnOk result (AreTurns now count custody.old custody.new) }
+    ensures fewer { OnErr result ((served : ℕ) × (served < count) × AreTurns now served custody.old custody.new) }
+{
     for _ in 0..count {
         let client = next_client(listener)?;
-        let now = match now {
-            Some(now) => now,
-            None => moment_of(clock).ok_or(ServeFault::Clock)?,
-        };
-        let served = match &client {
-            Some(stream) => serve_client(alloc, clock, api, stream, custody, now),
-            None => Err(ServeError::Read),
-        };
+        let moment = moment_at(&now, clock)?;
+        let served = serve_client(alloc, clock, api, client.as_ref(), custody, moment);
         if let Err(error) = served {
             let _ = writeln!(err, "{error}");
         }
