@@ -24,7 +24,7 @@ use Rattle.custody.specs.declared.answers.Reply.{Reply}
 use Rattle.custody.specs.declared.answers.Refused.{Refused}
 use Rattle.custody.specs.declared.answers.Refused.TheVariants as refused
 use Rattle.answer_lines.specs.Audited.{audit_status, audit_text}
-use Rattle.answer_lines.specs.Printed.{Begins, IsTold, IsUnused, Takes, Writer, as_line}
+use Rattle.answer_lines.specs.Printed.{Begins, IsPrinted, IsUnused, Takes, Writer, as_line}
 use Rattle.answer_lines.specs.State.{report_text, state_text}
 use Rattle.answer_lines.specs.Statuses.{IsStatus, IsStatusAfter, answer_status}
 use Rattle.agent_cli.specs.declared.order.Order.{Order}
@@ -50,7 +50,7 @@ module _ {V S : Type 0} {g : volume.Ghosts V} {database : Ghosts S} where
   -- the agent is given one command, whose answer is told
   abbrev pub Applies : Custody V S g database → Command → ℕ → Custody V S g database → ℕ → Writer → Writer → Type 0
   Applies old command now new status output errors =
-      (answer : Result Reply Refused) × HasApplied old command now answer new × IsStatusAfter (answer_status answer) status × IsTold answer status output errors
+      (answer : Result Reply Refused) × HasApplied old command now answer new × IsStatusAfter (answer_status answer) status × IsPrinted answer status output errors
 
   -- a part is fetched, and its bytes are all that the output is given
   abbrev pub Fetches : Custody V S g database → (reference name : List ℕ) → Custody V S g database → ℕ → Writer → Writer → Type 0
@@ -66,7 +66,7 @@ module _ {V S : Type 0} {g : volume.Ghosts V} {database : Ghosts S} where
   state_of custody = as_line (state_text (recorded (keeper_of custody)) (free_blocks (recorded (keeper_of custody))) ((recorded (keeper_of custody)).blocks - 1))
 
   -- an open agent prints its records and its free blocks, and one that is closed nothing of them
-  pub record Shows (custody : Custody V S g database) (status : ℕ) (output errors : Writer) : Type 0 where
+  pub record PrintsState (custody : Custody V S g database) (status : ℕ) (output errors : Writer) : Type 0 where
     pub shown : status ≡ 0 → (is_open custody ≡ true) × Appends output.before output.after (state_of custody)
     -- whatever the status, what is printed is a beginning of it
     pub begun : is_open custody ≡ true → Begins output (state_of custody)
@@ -108,6 +108,6 @@ module _ {V S : Type 0} {g : volume.Ghosts V} {database : Ghosts S} where
   Acts (order.Release folder reference tld reason at) bytes now old new status output errors = Applies old (Release reference tld reason) now new status output errors
   Acts (order.Fetch folder reference name) bytes now old new status output errors = IsStatus status × Fetches old reference name.now new status output errors
   Acts (order.Report folder tld) bytes now old new status output errors = (new ≡ old) × IsStatus status × Reports old tld status output errors
-  Acts (order.State folder) bytes now old new status output errors = (new ≡ old) × IsStatus status × Shows old status output errors
+  Acts (order.State folder) bytes now old new status output errors = (new ≡ old) × IsStatus status × PrintsState old status output errors
   Acts (order.Audit folder) bytes now old new status output errors = IsStatus status × Audits old new status output errors
   Acts (order.Serve folder port requests at) bytes now old new status output errors = (new ≡ old) × (status ≡ 0) × IsUnused output × IsUnused errors

@@ -8,7 +8,7 @@ use Rattle.agent_cli.specs.declared.table.Form.TheVariants.{Place, Option, Count
 use Rattle.agent_cli.specs.declared.table.Subcommand.{Subcommand}
 use Rattle.agent_cli.specs.declared.table.Subcommand.TheVariants.{Init, Register, Put, Verify, Sweep, Purge, Release, Fetch, Report, State, Audit, Serve}
 use Rattle.agent_cli.specs.declared.table.Word.{Word}
-use Rattle.vault_volume.specs.declared.extent.TheConstants.{FEWEST_BLOCKS, MOST_BLOCKS}
+use Rattle.vault_volume.specs.Limits.{fewest_blocks, most_blocks}
 
 -- a positional argument, which has to be there
 abbrev pub positional_rule : Text → Rule
@@ -43,7 +43,7 @@ now_rule = option_rule (codes "now") false
 -- the name of a subcommand, and its arguments
 abbrev pub words_of : Subcommand → Text × List Rule
 -- `init DIR --blocks N --number HEX16`
-words_of Init = (codes "init", folder_rule ∷ count_rule (codes "blocks") FEWEST_BLOCKS MOST_BLOCKS ∷ option_rule (codes "number") true ∷ [])
+words_of Init = (codes "init", folder_rule ∷ count_rule (codes "blocks") fewest_blocks most_blocks ∷ option_rule (codes "number") true ∷ [])
 -- `register DIR TLD --first DATE`
 words_of Register = (codes "register", folder_rule ∷ tld_rule ∷ option_rule (codes "first") true ∷ [])
 -- `put DIR FILE [--now MOMENT]`

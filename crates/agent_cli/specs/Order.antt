@@ -6,9 +6,9 @@ use Rattle.clap.specs.declared.error.Error.{Error}
 use Rattle.clap.specs.declared.error.ErrorKind.TheVariants.{OutOfMemory}
 use Rattle.deposit_name.specs.declared.kinds.Kind.{Kind}
 use Rattle.desk.specs.declared.grounds.Ground.{Ground}
-use Rattle.custody_machine.specs.declared.command.Statement as told
+use Rattle.custody_machine.specs.declared.command.Statement as statement
 use Rattle.answer_lines.specs.Number.{ShowsNumber}
-use Rattle.vault_volume.specs.declared.extent.TheConstants.{MOST_BLOCKS}
+use Rattle.vault_volume.specs.Limits.{most_blocks}
 use Rattle.agent_cli.specs.Grammar.{escrow_app, is_named, subcommands, text_of}
 use Rattle.agent_cli.specs.declared.table.Subcommand.{Subcommand}
 use Rattle.agent_cli.specs.declared.table.Subcommand.TheVariants as subcommand
@@ -25,7 +25,7 @@ pub data Wanted : Type 0 where
   init : Text → ℕ → ℕ → Wanted
   register : Text → List ℕ → ℕ → Wanted
   put : Text → Text → Option ℕ → Wanted
-  verify : Text → told.Statement → Option ℕ → Wanted
+  verify : Text → statement.Statement → Option ℕ → Wanted
   sweep : Text → Option ℕ → Wanted
   purge : Text → Option ℕ → Wanted
   release : Text → (reference : List ℕ) → (tld : List ℕ) → Ground → Option ℕ → Wanted
@@ -46,7 +46,7 @@ abbrev pub ReadsValue : {X : Type 0} → Argument → (X → Type 0) → (X → 
 ReadsValue {X} a Shows Next r = ((x : X) × Shows x × Next x r) ⊎ (((x : X) → ¬ Shows x) × (r ≡ bad a))
 
 -- what is stated of a deposit
-abbrev pub stated : List ℕ → ℕ → Kind → List ℕ → List Row → told.Statement
+abbrev pub stated : List ℕ → ℕ → Kind → List ℕ → List Row → statement.Statement
 stated tld day kind id rows = record {
   tld = tld;
   day = day;
@@ -60,7 +60,7 @@ stated tld day kind id rows = record {
 abbrev pub InitReading : List Row → Reading → Type 0
 InitReading rows =
     ReadsValue argument.Number (ShowsNumber (text_of (codes "number") rows)) (λ number r.
-    r ≡ wanted (init (text_of (codes "DIR") rows) (count_of (codes "blocks") MOST_BLOCKS rows) number))
+    r ≡ wanted (init (text_of (codes "DIR") rows) (count_of (codes "blocks") most_blocks rows) number))
 
 abbrev pub RegisterReading : List Row → Reading → Type 0
 RegisterReading rows =
@@ -169,6 +169,16 @@ meaning (order.Report folder tld) = report folder.now tld
 meaning (order.State folder) = state folder.now
 meaning (order.Audit folder) = audit folder.now
 meaning (order.Serve folder port requests now) = serve folder.now port requests now
+
+-- the moment that the words name
+abbrev pub named_moment : Wanted → Option ℕ
+named_moment (put folder file now) = now
+named_moment (verify folder statement now) = now
+named_moment (sweep folder now) = now
+named_moment (purge folder now) = now
+named_moment (release folder reference tld reason now) = now
+named_moment (serve folder port requests now) = now
+named_moment _ = None
 
 -- the answer is the reading, or memory ran out
 abbrev pub Answers : (Reading → Type 0) → Result Order WordFault → Type 0

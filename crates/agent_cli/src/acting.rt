@@ -1,7 +1,7 @@
 //! What an order does to the agent of a folder.
 ghost use Rattle.std.specs.Prelude.{◌≡◌};
 ghost use Rattle.answer_lines.specs.Statuses.{IsStatus};
-ghost use Rattle.agent_cli.specs.Acts.{Acts, Audits, Fetches, Reports, Shows};
+ghost use Rattle.agent_cli.specs.Acts.{Acts, Audits, Fetches, PrintsState, Reports};
 
 use crate::sweeping::sweep;
 use crate::{Order, Progress, last_part};
@@ -137,7 +137,7 @@ fn show<V: Volume, S: Alter, W: Write, E: Write>(
     err: &mut E,
 ) -> u8
     ensures status { IsStatus result }
-    ensures shown { Shows custody.now result (record { before = W.contents out.old; after = W.contents out.new }) (record { before = E.contents err.old; after = E.contents err.new }) }
+    ensures shown { PrintsState custody.now result (record { before = W.contents out.old; after = W.contents out.new }) (record { before = E.contents err.old; after = E.contents err.new }) }
 {
     let records = match custody.records() {
         Ok(records) => records,

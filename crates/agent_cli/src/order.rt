@@ -81,6 +81,30 @@ pub enum Order<'a> {
     },
 }
 
+impl<'a> Order<'a> {
+    ghost use Rattle.agent_cli.specs.Order.{meaning, named_moment};
+
+    /// The moment of the call, where the words name it.
+    pub fn named_moment(&self) -> Option<Sec>
+        ensures { result ≡ named_moment (meaning self.now) }
+    {
+        match self {
+            Order::Put { now, .. }
+            | Order::Verify { now, .. }
+            | Order::Sweep { now, .. }
+            | Order::Purge { now, .. }
+            | Order::Release { now, .. }
+            | Order::Serve { now, .. } => *now,
+            Order::Init { .. }
+            | Order::Register { .. }
+            | Order::Fetch { .. }
+            | Order::Report { .. }
+            | Order::State { .. }
+            | Order::Audit { .. } => None,
+        }
+    }
+}
+
 /// An argument whose text has a form of its own, in the order in which they are tested.
 #[derive(Clone, Copy, Debug, PartialEq, Eq, PartialOrd, Ord, Hash)]
 pub enum Argument {

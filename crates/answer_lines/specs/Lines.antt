@@ -6,7 +6,7 @@ use Rattle.deposit_name.specs.Name.{name_text}
 use Rattle.desk.specs.Grounds.{ground_text}
 use Rattle.desk.specs.Lines.{line}
 use Rattle.desk.specs.declared.grounds.Ground.{Ground}
-use Rattle.desk.specs.declared.notices.Notice as told
+use Rattle.desk.specs.declared.notices.Notice as desk
 use Rattle.custody_records.specs.Written.{digits_of}
 use Rattle.answer_lines.specs.declared.lines.Line.{Line}
 use Rattle.answer_lines.specs.declared.lines.Line.TheVariants.{Ready, Registered, Received, Notice, Released, Purged, Registry, Part, Dropped, Release, Damaged, Sound, Room, Listening}
@@ -15,7 +15,7 @@ abbrev pub room_text : ℕ → ℕ → List ℕ
 room_text free total = codes "free " ++ decimal free ++ codes " of " ++ decimal total
 
 -- the line of a notice in a report (Specification 2, Part B section 7)
-abbrev pub notice_text : told.Notice → List ℕ
+abbrev pub notice_text : desk.Notice → List ℕ
 notice_text notice = take (length (line notice) - 1) (line notice)
 
 -- a release of so many names

@@ -55,7 +55,7 @@ abbrev pub IsUnused : Writer → Type 0
 IsUnused w = w.after ≡ w.before
 
 -- What is printed of a reply goes to the output alone, and that of a refusal or of a failure to the errors alone: with status 0 the first stands there whole, with status 1 the second, and whatever the status a beginning of it.
-abbrev pub IsTold : Result Reply Refused → ℕ → Writer → Writer → Type 0
-IsTold (Ok reply) status output errors = Takes output (reply_text reply.record) 0 status × IsUnused errors
-IsTold (Err (refused.Refusal why)) status output errors = Takes errors (as_line (refusal_text why)) 1 status × IsUnused output
-IsTold (Err (refused.Fault why)) status output errors = Begins errors (as_line (fault_text why)) × IsUnused output
+abbrev pub IsPrinted : Result Reply Refused → ℕ → Writer → Writer → Type 0
+IsPrinted (Ok reply) status output errors = Takes output (reply_text reply.record) 0 status × IsUnused errors
+IsPrinted (Err (refused.Refusal why)) status output errors = Takes errors (as_line (refusal_text why)) 1 status × IsUnused output
+IsPrinted (Err (refused.Fault why)) status output errors = Begins errors (as_line (fault_text why)) × IsUnused output

@@ -11,7 +11,7 @@ ghost use Rattle.custody_records.specs.Typed.{notice_key, notice_value};
 ghost use Rattle.custody.specs.Answers.{init_error_text};
 ghost use Rattle.answer_lines.specs.Audited.{audit_status, audit_text};
 ghost use Rattle.answer_lines.specs.Lines.{line_text};
-ghost use Rattle.answer_lines.specs.Printed.{IsTold, Prints, as_line, reply_text};
+ghost use Rattle.answer_lines.specs.Printed.{IsPrinted, Prints, as_line, reply_text};
 ghost use Rattle.answer_lines.specs.State.{lines_text, notice_line, state_text};
 ghost use Rattle.answer_lines.specs.Statuses.{IsStatusAfter, answer_status, init_status};
 
@@ -35,7 +35,7 @@ pub fn tell_answer<W: Write, E: Write>(
     err: &mut E,
 ) -> u8
     ensures status { IsStatusAfter (answer_status answer.now) result }
-    ensures told { IsTold answer.now result (record { before = W.contents out.old; after = W.contents out.new }) (record { before = E.contents err.old; after = E.contents err.new }) }
+    ensures told { IsPrinted answer.now result (record { before = W.contents out.old; after = W.contents out.new }) (record { before = E.contents err.old; after = E.contents err.new }) }
 {
     match answer {
         Ok(reply) => print_reply(&reply.record, out),
