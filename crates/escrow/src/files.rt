@@ -1,10 +1,11 @@
 //! The files: the two of a vault's folder, and the file that is put.
 ghost use Rattle.std.specs.Prelude.{◌≡◌, true, false, IfOk};
 ghost use Rattle.vault_volume.specs.declared.file.FileVolume.{FileVolume};
+ghost use Rattle.vault_volume.specs.File.{is_made_anew};
 ghost use Rattle.custody_store.specs.Standing.{standing};
 ghost use Rattle.custody.specs.Opening.{HasAllOrNone, HasNoRecord};
 
-use crate::stop::Stop;
+use crate::error::ProgramError;
 use crate::vault::Ended;
 use custody::has_record;
 use custody_machine::Fault;
@@ -14,13 +15,6 @@ use std::fs;
 use std::io::{self, Read};
 use vault_volume::{FileError, FileVolume, Volume};
 
-/// The volume of a folder, and whether it was made anew.
-#[derive(Drop)]
-pub struct Found {
-    pub volume: FileVolume,
-    pub is_new: bool,
-}
-
 /// The database in a file.
 pub type Database = Connection<FileStore<File>>;
 
@@ -28,24 +22,24 @@ pub type Database = Connection<FileStore<File>>;
 const READ_BYTES: u64 = 1_048_577;
 
 /// Reads the file that is put.
-pub fn read_file(rt: &HostRuntime, path: &str) -> Result<Vec<u8>, Stop> {
+pub fn read_file(rt: &HostRuntime, path: &str) -> Result<Vec<u8>, ProgramError> {
     let path = String::from_str(rt.alloc(), path)?;
     let file = match fs::File::open(rt, path.as_str()) {
         Ok(file) => file,
-        Err(error) => return Err(Stop::by_file(path, error)),
+        Err(error) => return Err(ProgramError::by_file(path, error)),
     };
     let mut bytes = Vec::new(rt.alloc());
     match file.take(READ_BYTES).read_to_end(&mut bytes) {
         Ok(_) => Ok(bytes),
-        Err(error) => Err(Stop::by_file(path, error)),
+        Err(error) => Err(ProgramError::by_file(path, error)),
     }
 }
 
 /// Opens the two files of a folder, which have to be there.
-pub fn find(rt: &HostRuntime, folder: &str) -> Result<(Found, Database), Stop>
-    ensures failures { IfOk result (λ files. ⟦<FileVolume as Volume>⟧.failures files.0.volume ≡ 0) }
+pub fn find(rt: &HostRuntime, folder: &str) -> Result<(FileVolume, Database), ProgramError>
+    ensures failures { IfOk result (λ files. ⟦<FileVolume as Volume>⟧.failures files.0 ≡ 0) }
     // It makes no volume.
-    ensures found { IfOk result (λ files. files.0.is_new ≡ false) }
+    ensures found { IfOk result (λ files. is_made_anew files.0 ≡ false) }
 {
     find_folder(rt, folder)?;
     let volume = open_volume(rt, folder)?;
@@ -53,8 +47,12 @@ pub fn find(rt: &HostRuntime, folder: &str) -> Result<(Found, Database), Stop>
 }
 
 /// Makes the two files of a folder. A volume of which the database has a record is left as it is.
-pub fn make(rt: &HostRuntime, folder: &str, blocks: u32) -> Result<(Found, Database), Stop>
-    ensures { IfOk result (λ files. ⟦<FileVolume as Volume>⟧.failures files.0.volume ≡ 0) }
+pub fn make(
+    rt: &HostRuntime,
+    folder: &str,
+    blocks: u32,
+) -> Result<(FileVolume, Database), ProgramError>
+    ensures { IfOk result (λ files. ⟦<FileVolume as Volume>⟧.failures files.0 ≡ 0) }
 {
     find_folder(rt, folder)?;
     let path = database_path(rt.alloc(), folder)?;
@@ -63,7 +61,11 @@ pub fn make(rt: &HostRuntime, folder: &str, blocks: u32) -> Result<(Found, Datab
 }
 
 /// The volume of a folder with its database, which has to be there.
-fn with_database<V: Drop>(rt: &HostRuntime, folder: &str, volume: V) -> Result<(V, Database), Stop>
+fn with_database<V: Drop>(
+    rt: &HostRuntime,
+    folder: &str,
+    volume: V,
+) -> Result<(V, Database), ProgramError>
     ensures { IfOk result (λ files. files.0 ≡ volume) }
 {
     let path = there(rt, database_path(rt.alloc(), folder)?)?;
@@ -77,17 +79,17 @@ fn with_volume<S: Alter + Drop>(
     folder: &str,
     blocks: u32,
     db: Connection<S>,
-) -> Result<(Found, Connection<S>), Stop>
-    ensures failures { IfOk result (λ files. ⟦<FileVolume as Volume>⟧.failures files.0.volume ≡ 0) }
+) -> Result<(FileVolume, Connection<S>), ProgramError>
+    ensures failures { IfOk result (λ files. ⟦<FileVolume as Volume>⟧.failures files.0 ≡ 0) }
     // A volume is made anew only where the database has no record of one.
     ensures made { HasAllOrNone (standing S.Store db) → IfOk result (λ files. (standing S.Store files.1).IsHonest
-        → files.0.is_new ≡ true → HasNoRecord (standing S.Store db).rows) }
+        → is_made_anew files.0 ≡ true → HasNoRecord (standing S.Store db).rows) }
 {
     let mut db = db;
     let volume = match has_record(&mut db) {
         Ok(true) => open_volume(rt, folder)?,
         Ok(false) => create_volume(rt, folder, blocks)?,
-        Err(fault) => return Err(Stop::Fault(fault)),
+        Err(fault) => return Err(ProgramError::Fault(fault)),
     };
     Ok((volume, db))
 }
@@ -104,26 +106,26 @@ pub fn close(ended: Ended<FileVolume, FileStore<File>>) -> u8 {
 }
 
 /// Finds the folder of a vault, which has to be there.
-fn find_folder(rt: &HostRuntime, folder: &str) -> Result<(), Stop> {
+fn find_folder(rt: &HostRuntime, folder: &str) -> Result<(), ProgramError> {
     let path = String::from_str(rt.alloc(), folder)?;
     match fs::metadata(rt, path.as_str()) {
         Ok(found) if found.is_dir() => Ok(()),
-        Ok(_) => Err(Stop::NoFolder(path)),
-        Err(error) if error.kind() == io::ErrorKind::NotFound => Err(Stop::NoFolder(path)),
-        Err(error) => Err(Stop::by_file(path, error)),
+        Ok(_) => Err(ProgramError::NoFolder(path)),
+        Err(error) if error.kind() == io::ErrorKind::NotFound => Err(ProgramError::NoFolder(path)),
+        Err(error) => Err(ProgramError::by_file(path, error)),
     }
 }
 
 /// The path, where something is there.
-fn there(rt: &HostRuntime, path: String) -> Result<String, Stop> {
+fn there(rt: &HostRuntime, path: String) -> Result<String, ProgramError> {
     match fs::metadata(rt, path.as_str()) {
         Ok(_) => Ok(path),
-        Err(error) => Err(Stop::by_file(path, error)),
+        Err(error) => Err(ProgramError::by_file(path, error)),
     }
 }
 
 /// Settles the names of the files in a folder.
-fn sync_folder(rt: &HostRuntime, folder: &str) -> Result<(), Stop> {
+fn sync_folder(rt: &HostRuntime, folder: &str) -> Result<(), ProgramError> {
     let path = String::from_str(rt.alloc(), folder)?;
     let synced = match fs::File::open(rt, folder) {
         Ok(opened) => opened.sync_all(),
@@ -131,7 +133,7 @@ fn sync_folder(rt: &HostRuntime, folder: &str) -> Result<(), Stop> {
     };
     match synced {
         Ok(()) => Ok(()),
-        Err(error) => Err(Stop::by_file(path, error)),
+        Err(error) => Err(ProgramError::by_file(path, error)),
     }
 }
 
@@ -143,53 +145,49 @@ fn volume_path(alloc: Global, folder: &str) -> Result<String, AllocError> {
     format!(in alloc; "{folder}/vault.vol")
 }
 
-fn open_volume(rt: &HostRuntime, folder: &str) -> Result<Found, Stop>
-    ensures failures { IfOk result (λ found. ⟦<FileVolume as Volume>⟧.failures found.volume ≡ 0) }
-    ensures found { IfOk result (λ found. found.is_new ≡ false) }
+fn open_volume(rt: &HostRuntime, folder: &str) -> Result<FileVolume, ProgramError>
+    ensures failures { IfOk result (λ volume. ⟦<FileVolume as Volume>⟧.failures volume ≡ 0) }
+    ensures found { IfOk result (λ volume. is_made_anew volume ≡ false) }
 {
     let path = volume_path(rt.alloc(), folder)?;
     match FileVolume::open(rt, path.as_str()) {
-        Ok(volume) => Ok(Found {
-            volume,
-            is_new: false,
-        }),
-        Err(cause) => Err(Stop::File { path, cause }),
+        Ok(volume) => Ok(volume),
+        Err(cause) => Err(ProgramError::File { path, cause }),
     }
 }
 
-fn create_volume(rt: &HostRuntime, folder: &str, blocks: u32) -> Result<Found, Stop>
-    ensures failures { IfOk result (λ found. ⟦<FileVolume as Volume>⟧.failures found.volume ≡ 0) }
-    ensures made { IfOk result (λ found. found.is_new ≡ true) }
+fn create_volume(rt: &HostRuntime, folder: &str, blocks: u32) -> Result<FileVolume, ProgramError>
+    ensures { IfOk result (λ volume. ⟦<FileVolume as Volume>⟧.failures volume ≡ 0) }
 {
     let path = volume_path(rt.alloc(), folder)?;
     match FileVolume::create(rt, path.as_str(), blocks) {
         Ok(volume) => {
             sync_folder(rt, folder)?;
-            Ok(Found {
-                volume,
-                is_new: true,
-            })
+            Ok(volume)
         }
-        Err(cause) => Err(Stop::File { path, cause }),
+        Err(cause) => Err(ProgramError::File { path, cause }),
     }
 }
 
 /// Opens a database, and makes it where it is not there.
-fn open_database(rt: &HostRuntime, path: String) -> Result<Database, Stop> {
+fn open_database(rt: &HostRuntime, path: String) -> Result<Database, ProgramError> {
     match Connection::open(rt, path.as_str()) {
         Ok(db) => Ok(db),
-        Err(error) => Err(stop_of(path, error)),
+        Err(error) => Err(error_of(path, error)),
     }
 }
 
-fn stop_of(path: String, error: Error) -> Stop {
+fn error_of(path: String, error: Error) -> ProgramError {
     match error {
-        Error::SqliteFailure(ErrorCode::DatabaseBusy) => Stop::File {
+        Error::SqliteFailure(ErrorCode::DatabaseBusy) => ProgramError::File {
             path,
             cause: FileError::Locked,
         },
-        Error::SqliteFailure(ErrorCode::CannotOpen) => Stop::Database { path, cause: error },
-        Error::SqliteFailure(ErrorCode::OutOfMemory) => Stop::Fault(Fault::NoMemory),
-        _ => Stop::Fault(Fault::StoreFailed),
+        Error::SqliteFailure(ErrorCode::CannotOpen) => ProgramError::Database {
+            path,
+            cause: error,
+        },
+        Error::SqliteFailure(ErrorCode::OutOfMemory) => ProgramError::Fault(Fault::NoMemory),
+        _ => ProgramError::Fault(Fault::StoreFailed),
     }
 }

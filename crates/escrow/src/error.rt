@@ -7,7 +7,7 @@ use vault_volume::FileError;
 
 /// What stops the program before an order is carried out. It prints as one line.
 #[derive(Debug, Drop)]
-pub enum Stop {
+pub enum ProgramError {
     /// An argument is no text.
     Words,
     /// A file is not there, is in use, or fails.
@@ -22,25 +22,25 @@ pub enum Stop {
     Fault(Fault),
 }
 
-impl Stop {
+impl ProgramError {
     /// The exit status.
     pub fn status(&self) -> u8 {
         let status = match self {
-            Stop::Words => Status::Misused,
+            ProgramError::Words => Status::Misused,
             _ => Status::Failed,
         };
         status.number()
     }
 
-    /// The stop by an error of a file.
-    pub fn by_file(path: String, error: io::Error) -> Stop {
+    /// The error that a file gives.
+    pub fn by_file(path: String, error: io::Error) -> ProgramError {
         match error.kind() {
-            io::ErrorKind::OutOfMemory => Stop::Fault(Fault::NoMemory),
-            io::ErrorKind::NotFound => Stop::File {
+            io::ErrorKind::OutOfMemory => ProgramError::Fault(Fault::NoMemory),
+            io::ErrorKind::NotFound => ProgramError::File {
                 path,
                 cause: FileError::Missing,
             },
-            _ => Stop::File {
+            _ => ProgramError::File {
                 path,
                 cause: FileError::Io(error),
             },
@@ -48,21 +48,21 @@ impl Stop {
     }
 }
 
-impl fmt::Display for Stop {
+impl fmt::Display for ProgramError {
     fn fmt<W: fmt::Write>(&self, f: &mut fmt::Formatter<W>) -> fmt::Result {
         match self {
-            Stop::Words => f.write_str("error: an argument is no text"),
-            Stop::File { path, cause } => write!(f, "file failed: {path}: {cause}"),
-            Stop::NoFolder(path) => write!(f, "file failed: {path}: folder missing"),
-            Stop::Database { path, cause } => write!(f, "file failed: {path}: {cause}"),
-            Stop::Clock => f.write_str("clock failed"),
-            Stop::Fault(fault) => write!(f, "{fault}"),
+            ProgramError::Words => f.write_str("error: an argument is no text"),
+            ProgramError::File { path, cause } => write!(f, "file failed: {path}: {cause}"),
+            ProgramError::NoFolder(path) => write!(f, "file failed: {path}: folder missing"),
+            ProgramError::Database { path, cause } => write!(f, "file failed: {path}: {cause}"),
+            ProgramError::Clock => f.write_str("clock failed"),
+            ProgramError::Fault(fault) => write!(f, "{fault}"),
         }
     }
 }
 
-impl From<AllocError> for Stop {
-    fn from(_error: AllocError) -> Stop {
-        Stop::Fault(Fault::NoMemory)
+impl From<AllocError> for ProgramError {
+    fn from(_error: AllocError) -> ProgramError {
+        ProgramError::Fault(Fault::NoMemory)
     }
 }

@@ -1,0 +1,20 @@
+//! The standard streams.
+use crate::error::ProgramError;
+use std::fs::File;
+
+/// What stands in for a stream that is closed: it is opened for reading, so that printing to it fails.
+const NULL: &str = "/dev/null";
+
+/// Takes the places of the standard streams that are closed, for as long as the files are held. Else a
+/// file of the vault would be opened in such a place, and what is printed be written over it.
+pub fn hold_streams(rt: &HostRuntime) -> Result<(File, File, File), ProgramError> {
+    Ok((open_null(rt)?, open_null(rt)?, open_null(rt)?))
+}
+
+fn open_null(rt: &HostRuntime) -> Result<File, ProgramError> {
+    let path = String::from_str(rt.alloc(), NULL)?;
+    match File::open(rt, path.as_str()) {
+        Ok(file) => Ok(file),
+        Err(error) => Err(ProgramError::by_file(path, error)),
+    }
+}
