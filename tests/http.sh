@@ -16,6 +16,7 @@ trap '[ -n "$server" ] && kill "$server" 2> /dev/null; rm -rf "$work"' EXIT
 cd "$work" || exit 2
 port=$((20000 + RANDOM % 20000))
 . "$top/tests/counting.sh"
+. "$top/tests/deposits.sh"
 
 # compare TITLE WANTED GOT
 compare() { if [ "$2" = "$3" ]; then ok; else no "$1" "wanted: $2" "got: $3"; fi; }
@@ -45,15 +46,22 @@ except OSError:
 client.close()
 PYTHON
 
+# new_vault FOLDER: a vault of 300 blocks, which start serves from now on
+new_vault() {
+    vault=$1
+    mkdir "$vault"
+    compare "init" "ready 300 0000000000000001" "$("$program" init "$vault" --blocks 300 --number 0000000000000001)"
+}
+
 # start REQUESTS WORDS..: a server for so many connections
 start() {
     local requests=$1
     shift
     port=$((port + 1))
     rm -f out err
-    "$program" serve vault --port $port --requests "$requests" "$@" > out 2> err &
+    "$program" serve "$vault" --port $port --requests "$requests" "$@" > out 2> err &
     server=$!
-    for _ in $(seq 100); do
+    for _ in $(seq 400); do
         [ -s out ] && break
         sleep 0.05
     done
@@ -92,8 +100,7 @@ asks() {
 part=example_2026-08-02_full_S1_R0.ryde
 at=2026-08-02T10:00:00Z
 received="received $part 5 $at"
-mkdir vault
-compare "init" "ready 300 0000000000000001" "$("$program" init vault --blocks 300 --number 0000000000000001)"
+new_vault vault
 
 # ---- by curl
 
@@ -146,19 +153,16 @@ fi
 
 # ---- by raw sockets
 
-start 11 --now $at
+start 9 --now $at
 request="GET /notices/other HTTP/1.1\r\n\r\n"
 unknown=$(told "404 Not Found" "Q2 registry unknown")
 compare "a byte at a time" "$unknown" "$(printf "$request" | raw 1 0.005 half)"
 compare "a client that does not end" "$unknown" "$(printf "$request" | raw 9999 0 open)"
 compare "two requests" "$unknown" "$(printf "$request$request" | raw 9999 0 half)"
-compare "no byte" "$(told "400 Bad Request" "A1 head")" "$(printf '' | raw 1 0 half)"
 short="PUT /deposits/example_2026-08-03_full_S1_R0.ryde HTTP/1.1\r\nContent-Length: 5\r\n\r\nhel"
 compare "a short body" "$(told "400 Bad Request" "A9 body short")" "$(printf "$short" | raw 9999 0 half)"
 cut_part() { printf "${short%% HTTP*} HTTP/1.1\r\nContent-Length: 100000\r\n\r\n"; head -c 70000 /dev/zero | tr '\0' a; }
 compare "a part that is cut" "$(told "400 Bad Request" "A9 body short")" "$(cut_part | raw 9999 0 half)"
-compare "another method" "$(told "405 Method Not Allowed" "A4 method" "Allow: POST")" \
-    "$(printf 'DELETE /purges HTTP/1.1\r\n\r\n' | raw 9999 0 half)"
 # The head has 29 + 7 + 4 bytes beside the value of its field.
 long() { printf 'GET /notices/other HTTP/1.1\r\nX-Pad: '; head -c "$1" /dev/zero | tr '\0' a; printf '\r\n\r\n'; }
 compare "so long a head" 8192 "$(long 8152 | wc -c)"
@@ -169,6 +173,78 @@ compare "32 fields" "$unknown" "$(fields 32 | raw 9999 0 half)"
 compare "33 fields" "$(told "400 Bad Request" "A1 head")" "$(fields 33 | raw 9999 0 half)"
 ended 0 ""
 compare "nothing more is kept" "$(cat before)" "$("$program" state vault)"
+
+# ---- each answer to its last byte, in vaults of their own
+
+# answers TITLE STATUS BODY LENGTH REQUEST [FIELD]: the response, and how many bytes its body has with the line feed
+answers() {
+    local answer
+    answer=$(printf %b "$5" | raw 9999 0 half)
+    compare "$1" "$(told "$2" "$3" "${6-}")" "$answer"
+    compare "$1: its length" "Content-Length: $4" "$(grep '^Content-Length: ' <<< "$answer")"
+}
+registered="registry example 2026-08-02"
+
+new_vault five
+"$program" register five example --first 2026-08-02 > register.out
+start 3 --now $at
+put_five="PUT /deposits/$part HTTP/1.1\r\nContent-Length: 5\r\n\r\n"
+answers "three of five bytes" "400 Bad Request" "A9 body short" 14 "${put_five}hel"
+answers "five bytes" "201 Created" "$received" 67 "${put_five}hello"
+answers "again" "200 OK" "$received" 67 "${put_five}hello"
+ended 0 ""
+compare "one part" "$registered
+part $part 5 held $at
+free 298 of 299" "$("$program" state five)"
+
+new_vault passed
+"$program" register passed example --first 2026-08-02 > register.out
+mkdir deposit
+full_deposit > deposit/$part
+compare "a deposit" "received $part 1422 $at" "$("$program" put passed deposit/$part --now $at)"
+start 10 --now 2026-08-02T10:05:00Z
+statement() {
+    printf 'POST /statements HTTP/1.1\\r\\nContent-Length: 93\\r\\n\\r\\n'
+    printf '{"date":"2026-08-02","id":"20260802001","kind":"full","parts":%s,"revision":0,"tld":"example"}' "$1"
+}
+end="HTTP/1.1\r\n\r\n"
+answers "no byte" "400 Bad Request" "A1 head" 8 ""
+answers "a byte of no target" "400 Bad Request" "A2 target" 10 "GET /notices/a%20b $end"
+answers "no route" "404 Not Found" "A3 no route" 12 "GET /x $end"
+answers "another method" "405 Method Not Allowed" "A4 method" 10 "DELETE /purges $end" "Allow: POST"
+answers "no length" "411 Length Required" "A6 no length" 13 "POST /checks/example/2026-08-04 $end"
+answers "a long part" "413 Content Too Large" "A8 too long" 12 "PUT /deposits/$part HTTP/1.1\r\nContent-Length: 1048577\r\n\r\n"
+answers "a part of no bytes" "413 Content Too Large" "Q4 size" 8 "PUT /deposits/${part/S1/S2} HTTP/1.1\r\nContent-Length: 0\r\n\r\n"
+answers "nine parts" "400 Bad Request" "A10 form" 9 "$(statement 9)"
+answers "one part" "201 Created" "       1 RECEIPT    2026-08-02 R00 20260802001   2026-08-02T10:05:00Z example" 78 "$(statement 1)"
+answers "a registry that is not known" "404 Not Found" "Q2 registry unknown" 20 "GET /notices/other $end"
+ended 0 ""
+
+# letters COUNT: a part of 100,000 bytes, of which so many are sent
+letters() {
+    printf 'PUT /deposits/%s HTTP/1.1\r\nContent-Length: 100000\r\n\r\n' "$part"
+    head -c "$1" /dev/zero | tr '\0' a
+}
+new_vault letters
+"$program" register letters example --first 2026-08-02 > register.out
+start 1 --now $at
+compare "a part that is cut" "$(told "400 Bad Request" "A9 body short")" "$(letters 70000 | raw 9999 0 half)"
+ended 0 ""
+compare "nothing is kept of it" "$registered
+free 299 of 299" "$("$program" state letters)"
+compare "its first block was written" "" "$(cmp <(tail -c +4097 letters/vault.vol | head -c 4096) <(head -c 4096 /dev/zero | tr '\0' a) 2>&1)"
+start 1 --now $at
+letters 70000 | raw 9999 0.02 reset
+ended 0 "read failed"
+compare "nor of one that is broken off" "$registered
+free 299 of 299" "$("$program" state letters)"
+start 1 --now $at
+compare "the whole part" "$(told "201 Created" "received $part 100000 $at")" "$(letters 100000 | raw 9999 0 half)"
+ended 0 ""
+compare "it is kept" "$registered
+part $part 100000 held $at
+free 274 of 299" "$("$program" state letters)"
+vault=vault
 
 # ---- clients that go away
 

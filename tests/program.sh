@@ -15,6 +15,7 @@ chmod 755 "$work"
 trap 'umount "$work/small" 2>/dev/null; rm -rf "$work"' EXIT
 cd "$work" || exit 2
 . "$top/tests/counting.sh"
+. "$top/tests/deposits.sh"
 
 # expect STATUS OUT ERR WORDS..: runs the program on the words. OUT and ERR are the texts without their last line feed.
 expect() {
@@ -106,35 +107,6 @@ free 43 of 299" "" state big
 check "the bytes lie in the volume" cmp -s <(tail -c +4097 big/vault.vol | head -c 1048576) sizes/$name0
 
 echo "== a deposit is verified"
-ns=urn:ietf:params:xml:ns:
-# header DOMAINS: the member of an envelope in which so many domains are counted
-header() {
-    printf '"header":{"count":{"%s":0,"%s":%s,"%s":0,"%s":0},"tld":"example"}' \
-        ${ns}csvContact-1.0 ${ns}csvDomain-1.0 "$1" ${ns}csvHost-1.0 ${ns}csvRegistrar-1.0
-}
-menu() {
-    printf '"rdeMenu":{"objURI":["%s","%s","%s","%s","%s"],"version":"1.0"},"resend":0' \
-        ${ns}csvContact-1.0 ${ns}csvDomain-1.0 ${ns}csvHost-1.0 ${ns}csvRegistrar-1.0 ${ns}rdeHeader-1.0
-}
-# full_deposit [TABLE TEXT DOMAINS]: the bytes of a full deposit of 2026-08-02 whose eight tables are empty, but TABLE,
-# which is TEXT, and in which so many domains are counted
-full_deposit() {
-    local tables="" table text envelope
-    for table in domain domainContacts domainStatuses domainNameServers host hostAddresses contact registrar; do
-        text=""
-        [ "$table" = "${1-}" ] && text=$2
-        tables=$tables,'{"length":'${#text}',"name":"'$table'","sha256":"'$(printf %s "$text" | sha256sum | cut -d ' ' -f 1)'"}'
-    done
-    envelope='{"contents":['${tables#,}'],'$(header "${3-0}")',"id":"20260802001",'$(menu)
-    envelope=$envelope',"type":"FULL","watermark":"2026-08-02T00:00:00Z"}'
-    printf 'RDE1 %08d\n%s%s' ${#envelope} "$envelope" "${2-}"
-}
-# diff_deposit DAY PREVIOUS: the bytes of a differential deposit with no files, which follows that id
-diff_deposit() {
-    local envelope='{"contents":[],"deletes":[],'$(header 0)',"id":"20260803001","prevId":"'$2'",'$(menu)
-    envelope=$envelope',"type":"DIFF","watermark":"'$1'T00:00:00Z"}'
-    printf 'RDE1 %08d\n%s' ${#envelope} "$envelope"
-}
 five=2026-08-02T10:05:00Z
 # stated VAULT WORDS..: the words of a statement of the day's full deposit, made at 10:05
 stated() {
@@ -176,6 +148,7 @@ free 6 of 7" "" state whole
 part $name0 1422 held $ten
 $receipt
 free 6 of 7" "" state whole
+    expect 0 "sound 1" "" audit whole
 
     cp -r whole missed
     second="       2 ABSENCE    2026-08-03 --- -             2026-08-05T00:00:00Z example"
@@ -371,15 +344,45 @@ if command -v sqlite3 > /dev/null; then
     expect 3 "" "C5 damaged H4" state handed
 fi
 
+echo "== grounds of a release that are looked for"
+vault lost 8
+swept=2026-08-09T00:00:00Z
+absences=$(for n in 1 2 3 4 5 6 7; do echo "       $n ABSENCE    2026-08-0$((n + 1)) --- -             $swept example"; done)
+expect 0 "$absences" "" sweep lost --now $swept
+five_failed="released R-5 example five_failed 2026-09-08T00:00:00Z 0"
+sunday_failed="released R-7 example sunday_failed 2026-08-09T01:00:00Z 0"
+expect 0 "$five_failed" "" release lost R-5 example five_failed --now 2026-09-08T00:00:00Z
+expect 1 "" "Q16 ground does not stand" release lost R-6 example five_failed --now 2026-09-08T00:00:01Z
+expect 0 "$sunday_failed" "" release lost R-7 example sunday_failed --now 2026-08-09T01:00:00Z
+late=2026-08-09T10:00:00Z
+expect 0 "received $name0 1422 $late" "" put lost deposit/$name0 --now $late
+eighth="       8 RECEIPT    2026-08-02 R00 20260802001   $late example"
+expect 0 "$eighth" "" verify lost example --date 2026-08-02 --kind full --revision 0 --parts 1 --id 20260802001 --now $late
+expect 1 "" "Q16 ground does not stand" release lost R-8 example sunday_failed --now $late
+expect 0 "$sunday_failed" "" release lost R-7 example sunday_failed --now $late
+expect 0 "$registry
+part $name0 1422 held $late
+$absences
+$eighth
+${five_failed/released/release}
+${sunday_failed/released/release}
+free 6 of 7" "" state lost
+
 echo "== a part of a release is fetched"
 vault given 8
 diff0=example_2026-08-03_diff_S1_R0.ryde
 diff_deposit 2026-08-03 20260802001 > in/$diff0
 expect 0 "received $name0 1422 $ten" "" put given deposit/$name0 --now $ten
+# shellcheck disable=SC2046
+expect 0 "$receipt" "" $(stated given --parts 1 --id 20260802001)
 expect 0 "received $diff0 583 2026-08-03T10:00:00Z" "" put given in/$diff0 --now 2026-08-03T10:00:00Z
+expect 0 "       2 RECEIPT    2026-08-03 R00 20260803001   2026-08-03T10:05:00Z example" "" \
+    verify given example --date 2026-08-03 --kind diff --revision 0 --parts 1 --id 20260803001 --now 2026-08-03T10:05:00Z
 expect 0 "released R-1 example operator 2026-08-03T12:00:00Z 2
 $name0
 $diff0" "" release given R-1 example operator --now 2026-08-03T12:00:00Z
+expect 1 "" "Q17 reference used" release given R-1 example audit --now 2026-08-03T12:00:00Z
+expect 1 "" "Q16 ground does not stand" release given R-2 example sunday_failed --now 2026-08-03T12:00:00Z
 # fetched NAME FILE: the part is fetched, and is the file, with nothing else
 fetched() {
     "$program" fetch given R-1 "$1" > part 2> part.err
@@ -507,9 +510,13 @@ $held
 free 6 of 7" "" state v
 expect 3 "" "C5 damaged H8" put v in/$name0 --now $ten
 expect 3 "" "C5 damaged H8" verify v example --date 2026-08-02 --kind full --revision 0 --parts 1 --id X --now $ten
+expect 1 "damaged $name0" "" audit v
 expect 0 "$registry
 $held
 free 6 of 7" "" state v
+expect 0 "released R-1 example operator $ten 1
+$name0" "" release v R-1 example operator --now $ten
+expect 3 "" "C5 damaged H8" fetch v R-1 $name0
 with_volume true
 echo "no database" > v/custody.db
 rm -f v/custody.db-wal
@@ -554,6 +561,18 @@ compare 3 "" "" "a full device" sh -c "'$program' put quiet in/$name0 --now $ten
 expect 0 "$registry
 $held
 free 6 of 7" "" state quiet
+
+echo "== a standard stream that is closed"
+# No file of the vault is opened in its place, so what is printed reaches none.
+compare 3 "" "" "no output" sh -c "'$program' state quiet >&-"
+compare 3 "" "" "no errors" sh -c "'$program' report quiet other 2>&-"
+compare 3 "" "" "no stream" sh -c "'$program' put quiet in/$name0 --now $ten <&- >&- 2>&-"
+compare 0 "$registry
+$held
+free 6 of 7" "" "no input" sh -c "'$program' state quiet <&-"
+mkdir mute
+compare 3 "" "" "init" sh -c "'$program' init mute --blocks 8 --number 0000000000000001 >&-"
+expect 0 "free 7 of 7" "" state mute
 
 echo "== a folder that may not be written"
 if [ "$(id -u)" = 0 ] && ! command -v setpriv > /dev/null; then
