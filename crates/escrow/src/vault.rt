@@ -1,5 +1,7 @@
 //! What a call does over a volume and a database, of whatever kinds they are.
-ghost use Rattle.std.specs.Prelude.{◌-◌, ◌^◌, ◌<◌};
+ghost use Rattle.std.specs.Prelude.{◌≡◌, ◌-◌, ◌^◌, ◌<◌, ◌≤◌, ℕ, IfSome};
+ghost use Rattle.agent_cli.specs.Order.{meaning, named_moment};
+ghost use Rattle.http_serve.specs.Turns.{AreTurns};
 
 use agent_cli::{Order, Progress, act};
 use answer_lines::{Line, VolumeNumber, print_line, tell, tell_init};
@@ -45,7 +47,7 @@ pub fn begin<V: Volume, S: Alter + Drop, W: Write, E: Write>(
     }
 }
 
-/// Opens a vault, and carries out an order on it.
+/// Opens a vault, and carries out an order on it, at the moment that its words name, where they name one.
 pub fn serve<V: Volume, S: Alter + Drop, W: Write, E: Write, P: Progress>(
     alloc: Global,
     files: (V, Connection<S>),
@@ -56,7 +58,8 @@ pub fn serve<V: Volume, S: Alter + Drop, W: Write, E: Write, P: Progress>(
     err: &mut E,
     progress: &mut P,
 ) -> Ended<V, S>
-    requires { V.failures files.0 < 2 ^ 64 - 1 }
+    requires failures { V.failures files.0 < 2 ^ 64 - 1 }
+    requires moment { IfSome (named_moment (meaning order.now)) (λ moment. now ≡ moment) }
 {
     let (volume, db) = files;
     let mut custody = match Custody::open(alloc, volume, db) {
@@ -113,7 +116,9 @@ fn answer<V: Volume, S: Alter, W: Write, E: Write>(
     now: Option<Sec>,
     out: &mut W,
     err: &mut E,
-) -> u8 {
+) -> u8
+    ensures { (served : ℕ) × (served ≤ requests) × AreTurns now served custody.old custody.new }
+{
     let alloc = rt.alloc();
     let Ok(api) = Api::new(alloc) else {
         return tell(&Fault::NoMemory, err);
