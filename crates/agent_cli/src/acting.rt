@@ -4,11 +4,11 @@ ghost use Rattle.answer_lines.specs.Statuses.{IsStatus};
 ghost use Rattle.agent_cli.specs.Acts.{Acts, Audits, Fetches, PrintsState, Reports};
 
 use crate::sweeping::sweep;
-use crate::{Order, Progress, last_part};
+use crate::{Order, last_part};
 use answer_lines::{
     print_audit, print_bytes, print_report, print_state, tell, tell_answer, tell_init, tell_refusal,
 };
-use custody::{Custody, InitError, Refused};
+use custody::{Custody, InitError, Progress, Refused};
 use custody_machine::{Command, Refusal, Status};
 use deposit_name::{Reference, Tld};
 use schedule::Sec;
@@ -20,7 +20,7 @@ use vault_volume::Volume;
 /// Carries out an order, prints its lines and answers the exit status. `file` holds the bytes of the
 /// file that a `put` names, and `now` is its moment. An `init` is refused, since the vault is there, and
 /// a `serve` does nothing here, where no socket is.
-/// A sweep says to `progress` how far it is.
+/// A sweep says to `progress` how many days it has checked, and an audit how many blocks it has read.
 pub fn act<V: Volume, S: Alter, W: Write, E: Write, P: Progress>(
     alloc: Global,
     custody: &mut Custody<V, S>,
@@ -69,7 +69,7 @@ pub fn act<V: Volume, S: Alter, W: Write, E: Write, P: Progress>(
         } => fetch(alloc, custody, reference, name, out, err),
         Order::Report { tld, .. } => show_report(custody, tld, out, err),
         Order::State { .. } => show(custody, out, err),
-        Order::Audit { .. } => audit(alloc, custody, out, err),
+        Order::Audit { .. } => audit(alloc, custody, out, err, progress),
         Order::Serve { .. } => Status::Done.number(),
     }
 }
@@ -93,16 +93,17 @@ fn fetch<V: Volume, S: Alter, W: Write, E: Write>(
     }
 }
 
-fn audit<V: Volume, S: Alter, W: Write, E: Write>(
+fn audit<V: Volume, S: Alter, W: Write, E: Write, P: Progress>(
     alloc: Global,
     custody: &mut Custody<V, S>,
     out: &mut W,
     err: &mut E,
+    progress: &mut P,
 ) -> u8
     ensures status { IsStatus result }
     ensures audits { Audits custody.old custody.new result (record { before = W.contents out.old; after = W.contents out.new }) (record { before = E.contents err.old; after = E.contents err.new }) }
 {
-    let damaged = match custody.audit(alloc) {
+    let damaged = match custody.audit(alloc, progress) {
         Ok(damaged) => damaged,
         Err(fault) => return tell(&fault, err),
     };

@@ -5,9 +5,8 @@ ghost use Rattle.custody_rules.specs.Due.{day_in};
 ghost use Rattle.answer_lines.specs.Statuses.{IsStatus};
 ghost use Rattle.agent_cli.specs.Acts.{Applies, IsSwept, Sweeps};
 
-use crate::Progress;
 use answer_lines::{tell, tell_answer};
-use custody::Custody;
+use custody::{Custody, Progress};
 use custody_machine::{Command, Fault};
 use custody_rules::{DueDay, due_days};
 use schedule::Sec;
@@ -60,7 +59,7 @@ fn check_days<V: Volume, S: Alter, W: Write, E: Write, P: Progress>(
         if status != 0 {
             return status;
         }
-        progress.step();
+        progress.advance(1);
     }
     0
 }

@@ -76,7 +76,7 @@ module _ {V S : Type 0} {g : volume.Ghosts V} (database : Ghosts S) (old : Keepe
       unwritten = λ _ _. unwritten;
       reads_only = λ _. unwritten;
       any_moment = λ tells volume. leaves_more g.moment g.left_at (volume_of old.vault) (volume_of new.vault) _ _ volume.elsewhere (unwritten tells).1;
-      mode = λ _ store. subst (λ s. (standing database s).in_transaction ≡ false) (sym store_same) store.ready.autocommit;
+      mode = λ _ store. subst (λ s. (standing database s).in_transaction ≡ false) (sym store_same) store.ready.rest.autocommit;
       trust = subst (λ s. (standing database s).IsHonest) store_same;
       serves = λ tells honest volume store. let allowed = told tells in let still = unwritten tells in
           does_nothing database old new order volume store command now answer allowed.0 allowed.1 (opens_alike command answer) same (λ _. still.0)

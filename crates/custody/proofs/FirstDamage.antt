@@ -20,8 +20,14 @@ use Rattle.custody_machine.specs.declared.damage.Damage.{Damage}
 use Rattle.custody_machine.specs.Stored.{AreInRange, AreOnce}
 use Rattle.custody_records.specs.Records.{Records}
 use Rattle.custody_records.proofs.FormLemmas.{InForm-injective}
+use Rattle.custody_records.proofs.ReadLemmas.{some_same}
+use Rattle.sqlite.specs.State.{State}
+use Rattle.custody_store.specs.Schema.{meta_schema}
+use Rattle.custody_store.specs.Reading.{rows_in}
+use Rattle.custody_store.specs.Standing.{HasFirst, shown, has_all}
+use Rattle.custody_store.proofs.MissingLemmas.{missing_form}
 use Rattle.custody_rules.specs.Breaks.{BreaksFirst}
-use Rattle.custody.specs.Opening.{HasNoRecord, IsRowDamage}
+use Rattle.custody.specs.Opening.{HasNoRecord, IsDamageTold, IsRowDamage}
 use Rattle.custody.proofs.Opened.{broken_damaged}
 
 -- a row that was found is there
@@ -62,6 +68,32 @@ unknown_schema rows found image is schema = by rows.meta refl is
     by (Some (row ∷ others)) at is =
         let same : found ≡ typed.meta_of row = cc in
         let known : is_known row ≡ false = ap (λ (m : Meta). is_number 1 m.schema_no) (sym same) ∙ schema in rw known refl
+
+-- and one that is known is that of the first row
+pub known_schema : (rows : Rows) (found : Meta) → Some found ≡ option_map typed.meta_of (first_meta rows) → is_number 1 found.schema_no ≡ true → (meta : MetaRow) → first_meta rows ≡ Some meta → is_known meta ≡ true
+known_schema rows found is schema meta first =
+    let same : found ≡ typed.meta_of meta = some_same found (typed.meta_of meta) (is ∙ ap (option_map typed.meta_of) first) in
+    ap (λ (m : Meta). is_number 1 m.schema_no) (sym same) ∙ schema
+
+-- a table that is not there is told where none of H0 to H3 is true
+module _ (rows : Rows) (out : form_of rows ≡ OutOfForm form.Form) where
+  pub missing_told : (tells : Type 0) (image : List ℕ) → ¬ HasNoRecord rows → (tells → NoneBefore wrong.Schema rows image) → IsDamageTold tells rows image wrong.Form
+  missing_told tells image has before = record {
+    is_first = λ told. record {
+      is_true = out;
+      first = none_before_next wrong.Schema wrong.Form rows image refl (before told) (λ other. let clash : OutOfForm form.Form ≡ OutOfForm form.Schema = sym out ∙ other in cc);
+    };
+    not_before = λ _. has;
+    of_rows = λ _ _ any. out;
+  }
+
+-- so it is where meta is there with a row of a known schema, and another table is not
+pub row_missing : (s : State) → HasFirst meta_schema.tables s → has_all (shown s) ≡ false → ¬ HasNoRecord (rows_in s.now.trees) → ((meta : MetaRow) → first_meta (rows_in s.now.trees) ≡ Some meta → is_known meta ≡ true) → form_of (rows_in s.now.trees) ≡ OutOfForm form.Form
+row_missing s first missing has known = by (first_meta (rows_in s.now.trees)) refl
+  where
+    by : (found : Option MetaRow) → first_meta (rows_in s.now.trees) ≡ found → form_of (rows_in s.now.trees) ≡ OutOfForm form.Form
+    by None at = absurd (has at)
+    by (Some meta) at = missing_form s first missing meta at (known meta at)
 
 -- a number that was read is that of the digits
 digits_read : (text : List ℕ) (number : ℕ) → cond (bytes_eq text (digits_of (number_in text))) (Some (number_in text)) None ≡ Some number → text ≡ digits_of number

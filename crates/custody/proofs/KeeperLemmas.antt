@@ -72,10 +72,10 @@ module _ (old new : State) (records changed : Records) (after : Rows) (was : IsI
 
   module _ (ready : IsReady new) (is : (shown new).rows ≡ after) where
     pub form_then : (rows : Rows) → (shown new).may_leave rows → form_of rows ≡ InForm changed
-    form_then rows left = ap form_of (ready.only rows left ∙ is) ∙ means
+    form_then rows left = ap form_of (ready.rest.only rows left ∙ is) ∙ means
 
     pub rows_then : (records_then : Records) → records_then ≡ changed → IsInStore records_then (shown new).rows (shown new).IsReady (shown new).may_leave
-    rows_then records_then same = record { ready = ready; in_form = ap form_of is ∙ means ∙ ap InForm (sym same); settled = λ rows left. ready.only rows left }
+    rows_then records_then same = record { ready = ready; in_form = ap form_of is ∙ means ∙ ap InForm (sym same); settled = λ rows left. ready.rest.only rows left }
 
 -- the row of a new registry
 pub registry_means : (rows : Rows) (records : Records) (tld : List ℕ) (day : ℕ) → form_of rows ≡ InForm records → IsTld tld → IsDay day → get records.registries tld ≡ None → form_of (with_registry_row (row_of_registry tld day) rows) ≡ InForm (with_registry records tld day)

@@ -24,9 +24,10 @@ use Rattle.custody_records.specs.Rows.{fresh}
 use Rattle.custody_records.specs.Written.{digits_of}
 use Rattle.custody_records.proofs.FormLemmas.{fresh_in_form}
 use Rattle.custody_store.specs.Reading.{rows_in, has_table}
-use Rattle.custody_store.specs.Standing.{Standing, standing, shown, IsReady, IsBare, leaves, has_any, has_all, Founds, Reads}
+use Rattle.custody_store.specs.Schema.{meta_schema}
+use Rattle.custody_store.specs.Standing.{Standing, standing, shown, IsAtRest, IsReady, IsBare, HasFirst, HasMetaOrNone, HasKnownTables, leaves, has_any, Founds, Reads, StandsAs}
 use Rattle.custody_store.proofs.BareLemmas.{rows_bare}
-use Rattle.custody_store.proofs.ReadLemmas.{reads_then, meta_there, all_there}
+use Rattle.custody_store.proofs.ReadLemmas.{still, reads_then, meta_there, meta_of_first, first_of_ready}
 use Rattle.custody_machine.specs.State.{empty as nothing}
 use Rattle.custody_machine.specs.Stored.{AreWhole, IsGood, KeepsParts, part_of, state_in, HasDigests}
 use Rattle.custody_machine.specs.Moves.{Serving, Left, MayLeave, IsBegun}
@@ -102,29 +103,46 @@ bare_has_none s bare = ap first_meta (rows_bare s bare)
 
 -- nor has what a stop leaves of it
 pub none_left : (s : State) → IsBare s → (rows : Rows) → leaves s rows → HasNoRecord rows
-none_left s bare rows left = ap first_meta (bare.only rows left) ∙ bare_has_none s bare
+none_left s bare rows left = ap first_meta (bare.rest.only rows left) ∙ bare_has_none s bare
 
 -- where there is no record, what a stop leaves has none
-pub still_none : (s : State) → IsReady s ⊎ IsBare s → HasNoRecord (rows_in s.now.trees) → (rows : Rows) → leaves s rows → HasNoRecord rows
-still_none s (inl ready) none rows left = ap first_meta (ready.only rows left) ∙ none
-still_none s (inr bare) none rows left = none_left s bare rows left
+pub still_none : (s : State) → IsAtRest s → HasNoRecord (rows_in s.now.trees) → (rows : Rows) → leaves s rows → HasNoRecord rows
+still_none s rest none rows left = ap first_meta (rest.only rows left) ∙ none
 
--- where all tables are there, one is
-any_there : (s : State) → IsReady s → has_any (shown s) ≡ true
-any_there s ready = ap (λ b. b || has_table (codes "registry") s.now.schema || has_table (codes "part") s.now.schema || has_table (codes "notice") s.now.schema || has_table (codes "handover") s.now.schema) (meta_there s ready)
+-- where meta is there, one is
+any_there : (s : State) → HasFirst meta_schema.tables s → has_any (shown s) ≡ true
+any_there s first = ap (λ b. b || has_table (codes "registry") s.now.schema || has_table (codes "part") s.now.schema || has_table (codes "notice") s.now.schema || has_table (codes "handover") s.now.schema) (meta_there s first)
+
+-- a database with its tables begins with meta
+pub meta_of_ready : (s : State) → IsReady s → HasFirst meta_schema.tables s
+meta_of_ready s ready = meta_of_first s (first_of_ready s ready)
 
 pub none_ready : (s : State) → false ≡ has_any (shown s) → IsReady s → ⊥
-none_ready s none ready = let some : false ≡ true = none ∙ any_there s ready in cc
+none_ready s none ready = let some : false ≡ true = none ∙ any_there s (meta_of_ready s ready) in cc
+
+-- and its tables are known
+pub known_of_ready : (s : State) → IsReady s → HasKnownTables (shown s)
+known_of_ready s ready = inr (meta_of_ready s ready, λ _. first_of_ready s ready)
 
 -- where none is there, there is no table at all
 pub bare_where_none : (s : State) → false ≡ has_any (shown s) → IsReady s ⊎ IsBare s → IsBare s
 bare_where_none s none (inl ready) = absurd (none_ready s none ready)
 bare_where_none s none (inr bare) = bare
 
--- where one is missing, and there is a record, there are others than those that are made
-pub some_missing : (s : State) → false ≡ has_all (shown s) → IsReady s ⊎ IsBare s → ¬ HasNoRecord (rows_in s.now.trees) → ⊥
-some_missing s missing (inl ready) has = let all : false ≡ true = missing ∙ all_there s ready in cc
-some_missing s missing (inr bare) has = has (bare_has_none s bare)
+-- where its tables are known, it begins with meta, or has none
+pub meta_where_known : (s : Standing) → HasKnownTables s → HasMetaOrNone s
+meta_where_known s (inl bare) = inr bare
+meta_where_known s (inr known) = inl known.0
+
+-- either is at rest
+pub either_rests : (s : State) → IsReady s ⊎ IsBare s → IsAtRest s
+either_rests s (inl ready) = ready.rest
+either_rests s (inr bare) = bare.rest
+
+-- and is known to begin with meta, or to have no table
+pub meta_or_none : (s : State) → IsReady s ⊎ IsBare s → HasMetaOrNone (shown s)
+meta_or_none s (inl ready) = inl (meta_of_ready s ready)
+meta_or_none s (inr bare) = inr bare
 
 -- the same with another fault
 pub founds_err : {A B E F : Type 0} (old new : Standing) (after : Rows) (e : E) (f : F) → Founds {A = A} old new after (Err e) → Founds {A = B} old new after (Err f)
@@ -194,36 +212,14 @@ module _ (number blocks : ℕ) where
 
 -- ---- calls that only read
 
--- a stop leaves nothing new
-pub reads_left : {A E : Type 0} (old new : Standing) (r : Result A E) → Reads old new r → new.IsHonest → old.IsReady ⊎ old.IsBare → (rows : Rows) → new.may_leave rows → old.may_leave rows
-reads_left old new r p honest (inl ready) rows left = (p.same honest ready).left rows left
-reads_left old new r p honest (inr bare) rows left = (p.bare honest bare).left rows left
-
 module _ {A E : Type 0} (old mid new : Standing) (x : A) (reads : Reads {E = E} old mid (Ok x)) (is : new ≡ mid) where
-  honest_mid : new.IsHonest → mid.IsHonest
-  honest_mid honest = subst (λ s. s.IsHonest) is honest
-
-  -- without tables as before
-  pub bare_still : new.IsHonest → old.IsBare → new.IsBare
-  bare_still honest bare = subst (λ s. s.IsBare) (sym is) ((reads.bare (honest_mid honest) bare).kept (reads.still_open (honest_mid honest) (inr bare))).0
-
-  -- with its tables and rows as before
-  pub ready_still : new.IsHonest → old.IsReady → new.IsReady × (new.rows ≡ old.rows)
-  ready_still honest ready =
-      let kept = (reads.same (honest_mid honest) ready).kept (reads.still_open (honest_mid honest) (inl ready)) in
-      (subst (λ s. s.IsReady) (sym is) kept.0, ap (λ s. s.rows) is ∙ kept.1)
+  -- the tables and rows are those that were there
+  pub stands_still : new.IsHonest → old.IsAtRest → StandsAs old new
+  stands_still honest rest = subst (StandsAs old) (sym is) (still old mid x reads (subst (λ s. s.IsHonest) is honest) rest)
 
   -- and then another such call
   pub reads_on : {B F : Type 0} (later end : Standing) (r : Result B F) → Reads new later r → end ≡ later → Reads old end r
   reads_on later end r then at = subst (λ s. Reads old s r) (sym at) (reads_then old mid later x r reads (subst (λ s. Reads s later r) is then))
-
--- the same call, where another error is told
-pub reads_fails : {A B E F : Type 0} (old new : Standing) (r : Result A E) (f : F) → Reads old new r → Reads {A = B} old new (Err f)
-reads_fails old new r f p = record { trust = p.trust; mode = p.mode; commits_nothing = p.commits_nothing; same = p.same; bare = p.bare; still_open = λ _ _. tt }
-
--- or another value answered
-pub reads_answers : {A B E F : Type 0} (old new : Standing) (x : A) (y : B) → Reads {E = E} old new (Ok x) → Reads {E = F} old new (Ok y)
-reads_answers old new x y p = record { trust = p.trust; mode = p.mode; commits_nothing = p.commits_nothing; same = p.same; bare = p.bare; still_open = p.still_open }
 
 -- ---- what an opening leaves
 
@@ -237,17 +233,13 @@ left_same rows image r j same_rows same_image records is good = record {
   state = ap (state_in records) same_image;
 }
 
-rows_same : (s : State) → IsReady s ⊎ IsBare s → (rows : Rows) → leaves s rows → rows ≡ rows_in s.now.trees
-rows_same s (inl ready) rows left = ready.only rows left
-rows_same s (inr bare) rows left = bare.only rows left
-
 -- a stop within it, or after it
-pub leaves_start : {A E V : Type 0} (s : State) (new : Standing) (r : Result A E) (moment : V → ℕ) (left_at : V → ℕ → List ℕ → Type 0) (old later : V) (image : List ℕ) → IsReady s ⊎ IsBare s → Reads (shown s) new r → new.IsHonest
+pub leaves_start : {A E V : Type 0} (s : State) (new : Standing) (r : Result A E) (moment : V → ℕ) (left_at : V → ℕ → List ℕ → Type 0) (old later : V) (image : List ℕ) → IsAtRest s → Reads (shown s) new r → new.IsHonest
     → LeavesOne image (left_at old (moment old)) → LeavesOnly moment left_at old later (left_at old (moment old))
     → Leaves (record { rows_before = leaves s; images_since = LeftSince moment left_at old later; rows_then = new.may_leave; images_then = left_at later (moment later) }) (MayLeave (Left (rows_in s.now.trees) image)) (MayLeave (Left (rows_in s.now.trees) image))
-leaves_start s new r moment left_at old later image either reads honest one only = record {
-  within = λ rows j h since. left_same (rows_in s.now.trees) image rows j (rows_same s either rows h) ((one j).0 (only.since since.0 j since.1 since.2 since.3));
-  at_exit = λ rows j h left. left_same (rows_in s.now.trees) image rows j (rows_same s either rows (reads_left (shown s) new r reads honest either rows h))
+leaves_start s new r moment left_at old later image rest reads honest one only = record {
+  within = λ rows j h since. left_same (rows_in s.now.trees) image rows j (rest.only rows h) ((one j).0 (only.since since.0 j since.1 since.2 since.3));
+  at_exit = λ rows j h left. left_same (rows_in s.now.trees) image rows j (rest.only rows (reads.commits_nothing honest rows h))
       ((one j).0 (only.since (moment later) j only.later (omega arith) left));
 }
 
@@ -257,7 +249,7 @@ module _ {V S : Type 0} (device : volume.Ghosts V) (database : Ghosts S) where
   only_reads volume db later then r image rows = record {
     image = image;
     rows = rows;
-    leaves = λ tells one either honest. leaves_start (state database db) (standing database then) r device.moment device.left_at volume later (device.image volume) either rows honest one (image.any_moment tells);
+    leaves = λ tells one rest honest. leaves_start (state database db) (standing database then) r device.moment device.left_at volume later (device.image volume) rest rows honest one (image.any_moment tells);
   }
 
 -- ---- what a beginning leaves that makes nothing
@@ -271,7 +263,7 @@ is_written why (inr is) (inr (inr same)) = cc
 
 -- where the database was only read
 pub none_made : {A E V S : Type 0} (device : volume.Ghosts V) (database : Ghosts S) (volume : V) (db : Held S) (number : ℕ) (error : InitError) (later : V) (then : Held S) (r : Result A E) → Reads (standing database db) (standing database then) r → (standing database then).IsHonest
-    → ((standing database db).IsReady ⊎ (standing database db).IsBare → error ≡ init_error.AlreadyInitialised → ¬ HasNoRecord (standing database db).rows) → ((standing database db).IsReady ⊎ (standing database db).IsBare → error ≡ init_error.Size → HasNoRecord (standing database db).rows)
+    → (HasMetaOrNone (standing database db) → error ≡ init_error.AlreadyInitialised → ¬ HasNoRecord (standing database db).rows) → (HasMetaOrNone (standing database db) → error ≡ init_error.Size → HasNoRecord (standing database db).rows)
     → LeavesNone device database volume db number error later then
 none_made device database volume db number error later then r reads honest taken not_taken = record {
   taken = taken;
@@ -283,7 +275,7 @@ none_made device database volume db number error later then r reads honest taken
 }
   where
     none_then : (standing database db).IsReady ⊎ (standing database db).IsBare → HasNoRecord (standing database db).rows → (rows : Rows) → (standing database then).may_leave rows → HasNoRecord rows
-    none_then either none rows left = still_none (state database db) either none rows (reads_left (standing database db) (standing database then) r reads honest either rows left)
+    none_then either none rows left = still_none (state database db) (either_rests (state database db) either) none rows (reads.commits_nothing honest rows left)
 
 -- ---- what is kept of the volume and the rows
 
@@ -304,4 +296,4 @@ pub fresh_in_store : {A E : Type 0} (old : Standing) (new : State) (x : A) (numb
     → HasCleanDisk new → old.IsBare → (records : Records) → records ≡ new_records number blocks → IsInStore records (shown new).rows (IsReady new) (leaves new)
 fresh_in_store old new x number blocks lt fits founds honest bare records is =
     let done = (founds.effect honest bare).done in
-    record { ready = done.0; in_form = ap form_of done.1 ∙ fresh_in_form number blocks lt fits.0 fits.1 ∙ ap InForm (sym is); settled = done.0.only }
+    record { ready = done.0; in_form = ap form_of done.1 ∙ fresh_in_form number blocks lt fits.0 fits.1 ∙ ap InForm (sym is); settled = done.0.rest.only }

@@ -186,7 +186,7 @@ module _ {V S : Type 0} {g : volume.Ghosts V} {database : Ghosts S} where
       subst (λ c. IsThere c (place_of database old)) (sym run) (record {
         at = subst (λ b. IsAt b (recorded (keeper_of old)) (image_of (keeper_of old)) (place_of database old)) (sym serving.opened) (refl, refl);
         leaves = rests old serving;
-        mode = serving.rows.ready.autocommit;
+        mode = serving.rows.ready.rest.autocommit;
         serves = λ _. serving;
       }),
       subst (λ c. KeepsPast (keeper_of old) (keeper_of c)) (sym run) (past_same (keeper_of old)),

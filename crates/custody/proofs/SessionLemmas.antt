@@ -1,5 +1,5 @@
 -- Sessions of a custody, and one after another, as moves of the machine.
-use Rattle.std.proofs.Common.{◌≡◌, ◌≢◌, inl, ℕ, suc, length, ap, List, [], ◌∷◌, refl, sym, ◌∙◌, subst, Result}
+use Rattle.std.proofs.Common.{◌≡◌, ◌≢◌, ℕ, suc, length, ap, List, [], ◌∷◌, refl, sym, ◌∙◌, subst, Result}
 use Rattle.vault_volume.specs.declared.volume.Volume as volume
 use Rattle.vault_volume.specs.Disk.{LeavesOne}
 use Rattle.vault_volume.specs.Vault.{volume_of}
@@ -28,7 +28,7 @@ use Rattle.custody.specs.declared.custody.Custody.{Custody}
 use Rattle.custody.specs.Keeper.{recorded, stored, image_of, left_by}
 use Rattle.custody.specs.Custody.{keeper_of, HasRun}
 use Rattle.custody.specs.Sessions.{answers_of, IsAfter, IsServing, place_of, state_of, IsSession, IsNotOpened, IsReopened, IsResumed, RestsMayStop, SessionsGoOn, OpeningsMayFail}
-use Rattle.custody.proofs.Opened.{reads_left, left_same}
+use Rattle.custody.proofs.Opened.{left_same}
 use Rattle.custody.proofs.RunMoves.{along_join, runs_move}
 
 -- what a stop leaves of a place where each held part has its digest has them too
@@ -60,7 +60,7 @@ pub not_opened : {A E : Type 0} (s : database_state.State) (new : Standing) (ima
     → LeavesOne image was_left → ((j : List ℕ) → images_left j → was_left j) → IsNotOpened (shown s).rows image fault new.may_leave images_left
 not_opened s new image fault result images_left was_left cause ready reads honest one left = record {
   cause = cause;
-  leaves = λ r j h w. left_same (shown s).rows image r j (ready.only r (reads_left (shown s) new result reads honest (inl ready) r h)) ((one j).0 (left j w));
+  leaves = λ r j h w. left_same (shown s).rows image r j (ready.rest.only r (reads.commits_nothing honest r h)) ((one j).0 (left j w));
 }
 
 -- a stop at rest

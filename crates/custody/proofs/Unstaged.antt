@@ -113,7 +113,7 @@ module _ {V S : Type 0} {g : volume.Ghosts V} (old new : Keeper V S g) (same : r
     unwritten = λ _ stays tells. subst (λ v. (g.image v ≡ image_of old) × LeavesOnly g.moment g.left_at (volume_of old.vault) v (left_by old)) (sym (volume_same stays)) (refl, stays_still g.moment g.left_at (volume_of old.vault));
     reads_only = λ e. cc;
     any_moment = leaves;
-    mode = λ _ store. subst (λ s. (standing database s).in_transaction ≡ false) (sym store_same) store.ready.autocommit;
+    mode = λ _ store. subst (λ s. (standing database s).in_transaction ≡ false) (sym store_same) store.ready.rest.autocommit;
     trust = subst (λ s. (standing database s).IsHonest) store_same;
     serves = λ tells honest volume store. unstaged_serves volume (leaves tells volume) database store (Err (unstaged e)) refl;
     image = λ stays tells volume. unstaged_image volume (leaves tells volume) (Err (unstaged e)) refl stays;

@@ -8,7 +8,7 @@ use Rattle.custody_records.specs.Records.{new_records}
 use Rattle.custody_records.specs.Rows.{Rows, fresh}
 use Rattle.custody_records.specs.Form.{form_of, InForm}
 use Rattle.custody_records.specs.Written.{digits_of}
-use Rattle.custody_store.specs.Standing.{standing, has_any, has_all}
+use Rattle.custody_store.specs.Standing.{standing, has_any, has_all, HasMetaOrNone}
 use Rattle.custody_machine.specs.declared.answers.Fault.{Fault}
 use Rattle.custody_machine.specs.declared.answers.Fault.TheVariants as fault
 use Rattle.custody_machine.specs.declared.damage.Damage.{Damage}
@@ -88,9 +88,9 @@ module _ {V S : Type 0} (g : volume.Ghosts V) (database : Ghosts S) (volume : V)
   -- What is left where none was begun, of a database that is honest.
   pub record LeavesNone (number : ℕ) (error : InitError) (later : V) (then : Held S) : Type 0 where
     -- a database is refused as begun already where it has a record
-    pub taken : HasAllOrNone (standing database db) → error ≡ init_error.AlreadyInitialised → ¬ HasNoRecord (standing database db).rows
+    pub taken : HasMetaOrNone (standing database db) → error ≡ init_error.AlreadyInitialised → ¬ HasNoRecord (standing database db).rows
     -- and a size only where it has none
-    pub not_taken : HasAllOrNone (standing database db) → error ≡ init_error.Size → HasNoRecord (standing database db).rows
+    pub not_taken : HasMetaOrNone (standing database db) → error ≡ init_error.Size → HasNoRecord (standing database db).rows
     -- no row changes where one of the five tables is there, whatever tables there are
     pub untouched : has_any (standing database db) ≡ true → (rows : Rows) → (standing database then).may_leave rows → (standing database db).may_leave rows
     -- and after a refusal and a want of memory
@@ -115,8 +115,8 @@ module _ {V S : Type 0} (g : volume.Ghosts V) (database : Ghosts S) (volume : V)
 
   -- What it has of volume and database, each where it tells.
   pub record IsLoaded (custody : Custody V S g database) : Type 0 where
-    -- the records for which the rows stand
-    pub in_form : (standing database db).IsReady → (stored database (keeper_of custody)).IsHonest → form_of (standing database db).rows ≡ InForm (recorded (keeper_of custody))
+    -- the records for which the rows stand, whatever tables there are after the five
+    pub in_form : (standing database db).HasTablesFirst → (stored database (keeper_of custody)).IsHonest → form_of (standing database db).rows ≡ InForm (recorded (keeper_of custody))
     -- they are good with the image
     pub good : g.tells → IsGood (recorded (keeper_of custody)) (g.image volume)
     -- which is as it was

@@ -1,5 +1,5 @@
 -- What an opening and a beginning find, and what their steps give.
-use Rattle.std.specs.Prelude.{◌≡◌, ◌≢◌, ◌⊎◌, ℕ, ◌-◌, ◌<◌, ◌≤◌, List, Option, Some, None, sum_by, Result}
+use Rattle.std.specs.Prelude.{◌≡◌, ◌≢◌, ◌⊎◌, ℕ, ◌-◌, ◌<◌, ◌≤◌, List, Option, Some, None, true, sum_by, Result}
 use Rattle.std.specs.FinMap.{entries}
 use Rattle.extent_map.specs.declared.extent.Extent.{Extent}
 use Rattle.vault_volume.specs.declared.volume.Volume as volume
@@ -12,7 +12,8 @@ use Rattle.sqlite.specs.Held.{Held}
 use Rattle.custody_records.specs.Keys.{PartKey}
 use Rattle.custody_records.specs.Records.{PartRecord, Records}
 use Rattle.custody_records.specs.declared.damage.Damage.TheVariants as rows_damage
-use Rattle.custody_records.specs.Rows.{Rows, first_meta}
+use Rattle.custody_records.specs.Form.{is_known}
+use Rattle.custody_records.specs.Rows.{MetaRow, Rows, first_meta}
 use Rattle.custody_store.specs.Standing.{Standing, standing, Reads}
 use Rattle.custody_store.specs.declared.faults.StoreFault.{StoreFault}
 use Rattle.custody_store.specs.declared.faults.StoreFault.TheVariants as store
@@ -91,8 +92,8 @@ module _ {V S : Type 0} (device : volume.Ghosts V) (database : Ghosts S) where
     pub image : ReadsVolume device volume later
     -- of the database
     pub rows : Reads (standing database db) (standing database then) result
-    -- what a stop within it or after it may leave is what the start may leave
-    pub leaves : device.tells → LeavesOne (device.image volume) (device.left_at volume (device.moment volume)) → HasAllOrNone (standing database db) → (standing database then).IsHonest
+    -- what a stop within it or after it may leave is what the start may leave, whatever the tables are
+    pub leaves : device.tells → LeavesOne (device.image volume) (device.left_at volume (device.moment volume)) → (standing database db).IsAtRest → (standing database then).IsHonest
         → let start = MayLeave (Left (standing database db).rows (device.image volume)) in
         Leaves (left_by_reading volume db later then) start start
 
@@ -131,6 +132,8 @@ pub record IsIdentified (tells : Type 0) (rows : Rows) (image : List ℕ) : Type
   pub row : ¬ HasNoRecord rows
   -- and none of H0 to H2 is true
   pub undamaged : tells → NoneBefore Schema rows image
+  -- nor H3
+  pub known : (meta : MetaRow) → first_meta rows ≡ Some meta → is_known meta ≡ true
 
 -- Why a beginning over these rows is refused.
 pub record IsRefusedBy (rows : Rows) (error : InitError) : Type 0 where

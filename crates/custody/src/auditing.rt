@@ -9,18 +9,20 @@ ghost use Rattle.custody_rules.specs.Blocks.{IsInRange};
 ghost use Rattle.custody.specs.Audited.{AreDamaged, AreHeld, has_digest};
 ghost use Rattle.custody.specs.Reading.{CountsRead, IsOnlyRead};
 
+use crate::Progress;
 use crate::intake::digest_part;
 use custody_records::{Part, Records};
 use deposit_name::DepositName;
 use std::alloc::Global;
-use vault_volume::{Failed, ReadError, Vault, Volume};
+use vault_volume::{Failed, ReadError, Vault, Volume, blocks_for};
 
 /// The names of the parts that have not their recorded digests, in the order of the records. Each is
-/// read in pieces; memory is taken for the names alone.
-pub(crate) fn audit_parts<V: Volume>(
+/// read in pieces; memory is taken for the names alone. `progress` is told the blocks that were read.
+pub(crate) fn audit_parts<V: Volume, P: Progress>(
     alloc: Global,
     vault: &mut Vault<V>,
     records: &Records,
+    progress: &mut P,
 ) -> Result<Vec<DepositName>, ReadError>
     requires range { AreInRange (records_of records.now) }
     requires blocks { V.size (volume_of vault.old) ≡ (records_of records.now).blocks }
@@ -35,6 +37,7 @@ pub(crate) fn audit_parts<V: Volume>(
         let Ok(intact) = has_digest(vault, part) else {
             return Err(ReadError::VolumeFailed);
         };
+        progress.advance(blocks_read(part));
         if !intact {
             let Ok(()) = damaged.push(part.name) else {
                 return Err(ReadError::NoMemory);
@@ -42,6 +45,14 @@ pub(crate) fn audit_parts<V: Volume>(
         }
     }
     Ok(damaged)
+}
+
+/// How many blocks an audit reads of a part.
+fn blocks_read(part: &Part) -> usize {
+    match part.extents {
+        Some(_) => blocks_for(part.len) as usize,
+        None => 0,
+    }
 }
 
 /// Whether a part has its recorded digest. One whose bytes are dropped is not read.

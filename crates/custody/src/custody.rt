@@ -4,20 +4,20 @@ ghost use Rattle.std.specs.Coded.{Π_prop};
 ghost use Rattle.vault_volume.specs.Vault.{volume_of};
 ghost use Rattle.custody_records.specs.Held.{records_of};
 ghost use Rattle.custody_records.specs.Rows.{Rows};
-ghost use Rattle.custody_store.specs.Standing.{standing};
+ghost use Rattle.custody_store.specs.Standing.{standing, HasKnownTables};
 ghost use Rattle.custody_machine.specs.declared.damage.Damage.TheVariants as damage;
 ghost use Rattle.custody_machine.specs.Commands.{command_of};
 ghost use Rattle.custody_machine.specs.Damage.{IsDamaged};
 ghost use Rattle.custody.specs.Answers.{stays_open};
 ghost use Rattle.custody.specs.Keeper.{recorded, stored, KeepsOrder, KeepsOrder-prop};
-ghost use Rattle.custody.specs.Opening.{HasAllOrNone, HasNoRecord, TellsDamage, OnlyReads, free_blocks};
+ghost use Rattle.custody.specs.Opening.{HasNoRecord, TellsDamage, OnlyReads, free_blocks};
 
 use crate::auditing::audit_parts;
 use crate::fetching::fetch_part;
 use crate::keeper::Keeper;
 use crate::opening::{identify, keeper_over, load_whole, make_records, may_begin};
 use crate::receiving::drop_body;
-use crate::{InitError, ReceiveError, Refused, Reply};
+use crate::{InitError, Progress, ReceiveError, Refused, Reply};
 use custody_machine::{Command, Damage, Fault};
 use custody_records::Records;
 use custody_rules::map_of;
@@ -61,7 +61,7 @@ impl<V: Volume, S: Alter> Custody<V, S> {
         ensures not_begun { IfErr result (λ e. IsNotBegun V.Volume S.Store volume db e.0 e.1 e.2) }
         ensures leaves { IfErr result (λ e. (standing S.Store e.2).IsHonest → LeavesNone V.Volume S.Store volume db number e.0 e.1 e.2) }
         // Where there was no record, a stop before the commit leaves none.
-        ensures within { HasAllOrNone (standing S.Store db) → HasNoRecord (standing S.Store db).rows
+        ensures within { (standing S.Store db).IsAtRest → HasNoRecord (standing S.Store db).rows
             → (rows : Rows) (image : List ℕ) → (standing S.Store db).may_leave rows → IsDamaged damage.NoRecord rows image }
     {
         let mut volume = volume;
@@ -99,7 +99,7 @@ impl<V: Volume, S: Alter> Custody<V, S> {
         ensures opened { IfOk result (λ c. IsOpened V.Volume S.Store volume db c) }
         ensures loaded { IfOk result (λ c. IsLoaded V.Volume S.Store volume db c) }
         ensures cause { IfErr result (λ e. IsNotOpenedFor V.Volume S.Store volume db e.0 e.1 e.2) }
-        ensures damaged { HasAllOrNone (standing S.Store db)
+        ensures damaged { HasKnownTables (standing S.Store db)
             → IfErr result (λ e. (standing S.Store e.2).IsHonest → TellsDamage V.tells (standing S.Store db).rows (V.image volume) e.0) }
         ensures reads { MatchResult result
             (λ c. OnlyReads V.Volume S.Store volume db (volume_of (keeper_of c).vault) (keeper_of c).store result)
@@ -227,15 +227,24 @@ impl<V: Volume, S: Alter> Custody<V, S> {
     }
 
     /// Reads each part that is held against its recorded digest, and names those that have it not, in the
-    /// order of the records. It writes nothing.
-    pub fn audit(&mut self, alloc: Global) -> Result<Vec<DepositName>, Fault>
+    /// order of the records. It writes nothing. It says to `progress` how many blocks of them it has read.
+    pub fn audit<P: Progress>(
+        &mut self,
+        alloc: Global,
+        progress: &mut P,
+    ) -> Result<Vec<DepositName>, Fault>
         ensures { HasAudited self.old (told_names result) self.new }
     {
         if !self.is_open {
             return Err(Fault::Closed);
         }
         let Keeper { vault, records, .. } = &mut self.keeper;
-        match audit_parts(alloc, vault, records) {
+        let held = records
+            .blocks()
+            .saturating_sub(1)
+            .saturating_sub(vault.free_blocks());
+        progress.begin(held as usize);
+        match audit_parts(alloc, vault, records, progress) {
             Ok(damaged) => Ok(damaged),
             Err(ReadError::NoMemory) => Err(Fault::NoMemory),
             Err(ReadError::VolumeFailed) => {

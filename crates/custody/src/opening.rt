@@ -9,7 +9,7 @@ ghost use Rattle.custody_records.specs.Held.{records_of};
 ghost use Rattle.custody_records.specs.Rows.{Rows, fresh, first_meta};
 ghost use Rattle.custody_records.specs.Written.{digits_of};
 ghost use Rattle.custody_records.specs.Typed as typed;
-ghost use Rattle.custody_store.specs.Standing.{standing, Reads, Founds};
+ghost use Rattle.custody_store.specs.Standing.{standing, HasMetaOrNone, Reads, Founds};
 ghost use Rattle.custody_machine.specs.declared.damage.Damage as wrong;
 ghost use Rattle.custody_machine.specs.Damage.{IsDamaged};
 ghost use Rattle.custody_machine.specs.Stored.{AreWhole};
@@ -17,7 +17,7 @@ ghost use Rattle.custody_machine.specs.Custody.{MayInitialise};
 ghost use Rattle.custody_machine.specs.declared.answers.Fault as why;
 ghost use Rattle.custody.specs.Keeper.{recorded, KeepsOrder};
 ghost use Rattle.custody_rules.specs.Blocks.{IsMapOf};
-ghost use Rattle.custody.specs.Opening.{HasAllOrNone, HasNoRecord, fault_of, CountsFailures, IsSize, ReadsVolume, NamesVolume, IsNotIdentified, IsIdentified, IsRefusedBy, TellsDamage, AreWholeOf, IsRowDamage};
+ghost use Rattle.custody.specs.Opening.{HasNoRecord, fault_of, CountsFailures, IsSize, ReadsVolume, NamesVolume, IsNotIdentified, IsIdentified, IsRefusedBy, TellsDamage, AreWholeOf, IsRowDamage};
 
 use crate::InitError;
 use crate::keeper::Keeper;
@@ -31,7 +31,7 @@ use vault_volume::{ExtentMap, FEWEST_BLOCKS, MOST_BLOCKS, Vault, Volume, read_he
 
 /// The first row of meta.
 fn find_record<S: Alter>(db: &mut Connection<S>) -> Result<Option<Meta>, Fault>
-    ensures found { (standing S.Store db.new).IsHonest → HasAllOrNone (standing S.Store db.old)
+    ensures found { (standing S.Store db.new).IsHonest → HasMetaOrNone (standing S.Store db.old)
         → IfOk result (λ found. found ≡ option_map typed.meta_of (first_meta (standing S.Store db.old).rows)) }
     ensures reads { Reads (standing S.Store db.old) (standing S.Store db.new) result }
     ensures kind { IfErr result (λ fault. fault ≡ Fault.StoreFailed) }
@@ -46,7 +46,7 @@ fn find_record<S: Alter>(db: &mut Connection<S>) -> Result<Option<Meta>, Fault>
 
 /// Whether a database has a record of a vault.
 pub fn has_record<S: Alter>(db: &mut Connection<S>) -> Result<bool, Fault>
-    ensures found { (standing S.Store db.new).IsHonest → HasAllOrNone (standing S.Store db.old)
+    ensures found { (standing S.Store db.new).IsHonest → HasMetaOrNone (standing S.Store db.old)
         → IfOk result (λ is_there. is_there ≡ is_some (first_meta (standing S.Store db.old).rows)) }
     ensures reads { Reads (standing S.Store db.old) (standing S.Store db.new) result }
     ensures kind { IfErr result (λ fault. fault ≡ Fault.StoreFailed) }
@@ -96,8 +96,8 @@ pub fn identify<V: Volume, S: Alter>(
         (λ fault. CountsFailures (fault ≡ Fault.VolumeFailed) (V.failures volume.old) (V.failures volume.new)) }
     ensures found { IfOk result (λ found. NamesVolume V.Volume volume.old found) }
     ensures told { IfErr result (λ fault. IsNotIdentified fault) }
-    // What the rows say, where the database is honest and has all five tables or none.
-    ensures rows { (standing S.Store db.new).IsHonest → HasAllOrNone (standing S.Store db.old) → MatchResult result
+    // What the rows say, where the database is honest and its first table is meta, or it has none.
+    ensures rows { (standing S.Store db.new).IsHonest → HasMetaOrNone (standing S.Store db.old) → MatchResult result
         (λ _. IsIdentified V.tells (standing S.Store db.old).rows (V.image volume.old))
         (λ fault. TellsDamage V.tells (standing S.Store db.old).rows (V.image volume.old) fault) }
     // Where there is no table meta, nothing is called.
@@ -144,7 +144,7 @@ pub fn load_whole<S: Alter>(
 ) -> Result<Records, Fault>
     ensures whole { IfOk result (λ records. AreWholeOf number blocks (records_of records)) }
     ensures kind { IfErr result (λ fault. (fault ≢ Fault.VolumeFailed) × (fault ≢ Fault.Closed) × (fault ≢ Fault.Damaged Damage.Digest)) }
-    ensures rows { (standing S.Store store.new).IsHonest → (standing S.Store store.old).IsReady → MatchResult result
+    ensures rows { (standing S.Store store.new).IsHonest → (standing S.Store store.old).HasTablesFirst → MatchResult result
         (λ records. form_of (standing S.Store store.old).rows ≡ InForm (records_of records))
         (λ fault. (damage : wrong.Damage) → fault ≡ Fault.Damaged damage → IsRowDamage (standing S.Store store.old).rows damage) }
     ensures reads { Reads (standing S.Store store.old) (standing S.Store store.new) result }
@@ -170,7 +170,7 @@ pub fn may_begin<S: Alter>(db: &mut Connection<S>, blocks: u32) -> Result<(), In
     ensures kind { IfErr result (λ e. (fault : why.Fault) → e ≡ InitError.Fault fault → fault ≡ Fault.StoreFailed) }
     ensures reads { Reads (standing S.Store db.old) (standing S.Store db.new) result }
     // A database with a record is refused, and no other.
-    ensures rows { (standing S.Store db.new).IsHonest → HasAllOrNone (standing S.Store db.old) → MatchResult result
+    ensures rows { (standing S.Store db.new).IsHonest → HasMetaOrNone (standing S.Store db.old) → MatchResult result
         (λ _. HasNoRecord (standing S.Store db.old).rows) (λ e. IsRefusedBy (standing S.Store db.old).rows e) }
     // Where there is no table meta, the database is not called, and nothing but the size is refused.
     ensures missing { (standing S.Store db.old).has_table (codes "meta") ≡ false → IfErr result (λ e. e ≡ InitError.Size) × (db.new ≡ db.old) }

@@ -14,32 +14,56 @@ use Rattle.sqlite.specs.Listing.{understood}
 use Rattle.sqlite.specs.State.{State, HasCleanDisk, Survives, Executes, CommitsBy, MayCommit, IsUnchanged, IsRolledBack, Writes, mode_of, Runs as RunsTo}
 use Rattle.sqlite.proofs.Callers.{IsPlain, command_of, statement_of, runs_as}
 use Rattle.sqlite.proofs.InsideLemmas.{fails_whole}
-use Rattle.custody_store.specs.Schema.{record_schema}
+use Rattle.sqlite.specs.Table.{Table}
+use Rattle.custody_store.specs.Schema.{meta_schema, record_schema}
 use Rattle.custody_records.specs.Rows.{Rows}
 use Rattle.custody_store.specs.Reading.{rows_in}
-use Rattle.custody_store.specs.Standing.{Standing, HasTables, IsReady, shown, IsOneCommit, Commits}
+use Rattle.custody_store.specs.Standing.{Standing, HasTables, IsAtRest, IsReady, HasFirst, BeginsWith, AreOrdered, StandsAs, shown, IsOneCommit, Commits}
 use Rattle.custody_store.specs.Calls.{IsSettled, Runs}
 use Rattle.custody_store.proofs.ModeLemmas.{ended, runs_mode}
 use Rattle.custody_store.proofs.StatementLemmas.{IsMeaning}
 
-pub ready_at : (s : State) → IsTrue s.is_open → s.in_transaction ≡ false → s.committed ≡ s.now → IsSettled s → HasTables s.now → IsReady s
-ready_at s is_open autocommit committed settled tables = record {
+pub at_rest : (s : State) → IsTrue s.is_open → s.in_transaction ≡ false → s.committed ≡ s.now → IsSettled s → IsAtRest s
+at_rest s is_open autocommit committed settled = record {
   is_open = is_open;
   autocommit = autocommit;
   committed = committed;
   only = λ rows h. h.2 ∙ ap rows_in (settled h.0 is_open h.1 ∙ ap (λ (d : Database). d.trees) committed);
-  tables = tables;
+}
+
+pub ready_at : (s : State) → IsTrue s.is_open → s.in_transaction ≡ false → s.committed ≡ s.now → IsSettled s → HasTables s.now → IsReady s
+ready_at s is_open autocommit committed settled tables = record { rest = at_rest s is_open autocommit committed settled; tables = tables }
+
+first_still : (first : List Table) (old new : State) → IsAtRest new → new.now ≡ old.now → HasFirst first old → HasFirst first new
+first_still first old new rest now h = record {
+  rest = rest;
+  begins = subst (λ (d : Database). BeginsWith first d.schema) (sym now) h.begins;
+  sound = subst IsDatabase (sym now) h.sound;
+  ordered = subst (λ (d : Database). AreOrdered first d.trees) (sym now) h.ordered;
+}
+
+-- the same database, at rest
+pub stands_at : (old new : State) → IsAtRest new → new.now ≡ old.now → StandsAs (shown old) (shown new)
+stands_at old new rest now = record {
+  rows = ap (λ (d : Database). rows_in d.trees) now;
+  rest = rest;
+  ready = λ ready. record { rest = rest; tables = subst HasTables (sym now) ready.tables };
+  first_tables = first_still record_schema.tables old new rest now;
+  first_meta = first_still meta_schema.tables old new rest now;
+  bare = λ bare. record { rest = rest; schema = ap (λ (d : Database). d.schema) now ∙ bare.schema; sound = subst IsDatabase (sym now) bare.sound };
 }
 
 -- a call that changed nothing, or that rolled back
-pub kept : (old new : State) → IsReady old → IsSettled new → IsUnchanged old new ⊎ IsRolledBack old new → IsTrue new.is_open → IsReady new × (rows_in new.now.trees ≡ rows_in old.now.trees)
-kept old new ready settled (inl same) is_open =
+pub stands : (old new : State) → IsAtRest old → IsSettled new → IsUnchanged old new ⊎ IsRolledBack old new → IsTrue new.is_open → StandsAs (shown old) (shown new)
+stands old new was settled (inl same) is_open =
     let now = same.0.now_is in
-    (ready_at new is_open (same.0.mode ∙ ready.autocommit) (same.0.committed_is ∙ ready.committed ∙ sym now) settled (subst HasTables (sym now) ready.tables), ap (λ (d : Database). rows_in d.trees) now)
-kept old new ready settled (inr undone) is_open =
+    stands_at old new (at_rest new is_open (same.0.mode ∙ was.autocommit) (same.0.committed_is ∙ was.committed ∙ sym now) settled) now
+stands old new was settled (inr undone) is_open =
     let both = undone.undone is_open in
-    let now = both.0 ∙ ready.committed in
-    (ready_at new is_open undone.autocommit (both.1 ∙ sym both.0) settled (subst HasTables (sym now) ready.tables), ap (λ (d : Database). rows_in d.trees) now)
+    stands_at old new (at_rest new is_open undone.autocommit (both.1 ∙ sym both.0) settled) (both.0 ∙ was.committed)
+
+kept : (old new : State) → IsReady old → IsSettled new → IsUnchanged old new ⊎ IsRolledBack old new → IsTrue new.is_open → IsReady new × (rows_in new.now.trees ≡ rows_in old.now.trees)
+kept old new ready settled either is_open = let still = stands old new ready.rest settled either is_open in (still.ready ready, still.rows)
 
 -- honesty goes backwards
 pub trusts : (old new : State) (P : Trees → Type 0) → Survives old new P → HasCleanDisk new → HasCleanDisk old
@@ -94,14 +118,14 @@ module _ (sql : List ℕ) (params : Row) (command : Command) (means : IsMeaning 
     wrote x count h clean ready =
         let w = written old new count h ready in
         let made = effect ready w.tally new.now w.changed w.sound in
-        let committed : new.committed ≡ new.now = rw ready.autocommit at w.shown.committed_is in
-        let autocommit = w.shown.mode ∙ ready.autocommit in
+        let committed : new.committed ≡ new.now = rw ready.rest.autocommit at w.shown.committed_is in
+        let autocommit = w.shown.mode ∙ ready.rest.autocommit in
         record { done = (ready_at new w.shown.is_open autocommit committed settled made.0, made.1); kept = tt; left = left ready clean; ended = autocommit }
 
     failed : {A E : Type 0} (x : E) (e : Error) → Executes sql params old new (Err e) → HasCleanDisk new → IsReady old → IsOneCommit {A = A} (shown old) (shown new) (change (rows_in old.now.trees)) (Err x)
     failed x e h clean ready =
         let whole = fails_whole old new false sql params e h in
-        record { done = tt; kept = kept old new ready settled whole; left = left ready clean; ended = ended old new ready.autocommit whole }
+        record { done = tt; kept = kept old new ready settled whole; left = left ready clean; ended = ended old new ready.rest.autocommit whole }
 
   -- One statement that writes rows is one commit.
   pub commits_change : {A E : Type 0} (old new : State) (change : Rows → Rows) (r : Result A E) → (IsReady old → Changes old sql params command change) → Runs sql params old new r → Commits (shown old) (shown new) (change (rows_in old.now.trees)) r
@@ -118,7 +142,7 @@ module _ (sql : List ℕ) (params : Row) (command : Command) (means : IsMeaning 
 
 -- where nothing was called
 pub commits_none : {A E : Type 0} (s : State) (after : Rows) (e : E) → Commits {A = A} (shown s) (shown s) after (Err e)
-commits_none s after e = record { trust = λ honest. honest; mode = λ _ autocommit. autocommit; effect = λ _ ready. record { done = tt; kept = λ _. (ready, refl); left = λ rows h. inl h; ended = ready.autocommit } }
+commits_none s after e = record { trust = λ honest. honest; mode = λ _ autocommit. autocommit; effect = λ _ ready. record { done = tt; kept = λ _. (ready, refl); left = λ rows h. inl h; ended = ready.rest.autocommit } }
 
 pub commits_err : {A B E F : Type 0} (old new : Standing) (after : Rows) (x : E) (r : Result B F) → IsErr r → Commits {A = A} old new after (Err x) → Commits old new after r
 commits_err old new after x (Ok y) is p = absurd (let e = is in cc)

@@ -19,7 +19,7 @@ use Rattle.custody_store.proofs.CommitLemmas.{ready_at, trusts}
 use Rattle.custody_store.proofs.BareLemmas.{bare_at}
 
 pub starts : (old : State) → IsBare old → IsMaking no_schema old.committed (record old { in_transaction = true })
-starts old bare = record { is_open = bare.is_open; inside = refl; committed = refl; schema_is = bare.schema; sound = bare.sound; empty = tt }
+starts old bare = record { is_open = bare.rest.is_open; inside = refl; committed = refl; schema_is = bare.schema; sound = bare.sound; empty = tt }
 
 module _ (old new : State) (bare : IsBare old) (settled : IsSettled new) (clean : HasCleanDisk new) (number : List ℕ) (blocks : ℤ) where
   kept : (mid : State) → (IsTrue mid.is_open → mid.committed ≡ old.committed) → IsRolledBack mid new → IsTrue new.is_open → IsBare new × (rows_in new.now.trees ≡ rows_in old.now.trees)

@@ -16,4 +16,4 @@ pub mod MakingLemmas
 pub mod ModeLemmas
 pub mod FoundLemmas
 pub mod FormLemmas
-pub mod LoadLemmas
+pub mod MissingLemmas

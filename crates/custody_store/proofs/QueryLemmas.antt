@@ -16,7 +16,7 @@ use Rattle.sqlite_resolve.specs.declared.compiled.Compiled.{Compiled}
 use Rattle.sqlite_resolve.specs.declared.error.CompileError.{CompileError}
 use Rattle.sqlite_resolve.specs.declared.error.CompileError.TheVariants.{NoSuchTable}
 use Rattle.sqlite_resolve.specs.Scope.{Name}
-use Rattle.sqlite_resolve.specs.Lowering.{Checked, and_then}
+use Rattle.sqlite_resolve.specs.Lowering.{Checked}
 use Rattle.sqlite_resolve.specs.Compile.{first, compiled, planned, meaning, returning, command}
 use Rattle.custody_store.proofs.ModeLemmas.{OnChecked, any_then, such_then, either}
 
@@ -70,12 +70,18 @@ unfolding understood
 understood_none schema sql is =
     either returns_none (reads_listing schema sql) (if_select (compiled listing_schema sql)) (compiled schema sql) (selected (compiled listing_schema sql) (compiled_none listing_schema sql is)) (compiled_none schema sql is)
 
-none_is_some : (shown : Option Returning) → is_none shown ≡ true → IsSome shown → ⊥
+is_none_none : {X : Type 0} (o : Option X) → is_none o ≡ true → o ≡ None
+is_none_none None is = refl
+is_none_none (Some x) is = absurd (false≢true is)
+
+-- a query has no RETURNING
+pub query_returns_none : (sql : List ℕ) (schema : Schema) → is_query_text sql ≡ true → (c : Compiled) → understood schema sql ≡ Ok c → c.returning ≡ None
+query_returns_none sql schema is c known = is_none_none c.returning (subst (λ (r : Checked Compiled). OnChecked returns_none r) known (understood_none schema sql is))
+
+none_is_some : {X : Type 0} (o : Option X) → o ≡ None → IsSome o → ⊥
 none_is_some None is some = absurd (false≢true some)
-none_is_some (Some what) is some = absurd (false≢true is)
+none_is_some (Some x) is some = absurd (let none = is in cc)
 
 pub query_commits_nothing : (sql : List ℕ) (params : Row) (s : State) (db : Trees) → is_query_text sql ≡ true → ¬ CommitsShowing sql params s db
 unfolding CommitsShowing
-query_commits_nothing sql params s db is h =
-    let kept : returns_none h.0 ≡ true = subst (λ (r : Checked Compiled). OnChecked returns_none r) h.1.is (understood_none s.now.schema sql is) in
-    none_is_some h.0.returning kept h.2
+query_commits_nothing sql params s db is h = none_is_some h.0.returning (query_returns_none sql s.now.schema is h.0 h.1.is) h.2

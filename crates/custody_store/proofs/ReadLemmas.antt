@@ -1,18 +1,19 @@
--- Calls that only read, one after another.
-use Rattle.std.proofs.Common.{◌≡◌, ◌⊎◌, ◌&&◌, inl, inr, true, codes, Ok, Err, Result, OnOk, IsTrue, refl, ap, ◌∙◌}
+-- Calls that only read, one after another; and which tables are there.
+use Rattle.std.proofs.Common.{◌≡◌, ◌&&◌, ◌++◌, ℕ, List, [], Bool, true, codes, drop, Ok, Err, Result, OnOk, refl, ap, ◌∙◌}
+use Rattle.std.specs.List.{list_any}
+use Rattle.std.specs.Result.{IsErr}
+use Rattle.sqlite.specs.Schema.{Schema}
 use Rattle.sqlite.specs.State.{State}
+use Rattle.sqlite.specs.Table.{Table}
 use Rattle.sqlite_schema.specs.Names.{same_name}
-use Rattle.custody_store.specs.Schema.{record_schema}
+use Rattle.custody_store.specs.Schema.{meta_schema, record_schema}
 use Rattle.custody_store.specs.Reading.{has_table}
-use Rattle.custody_store.specs.Standing.{Standing, IsReady, IsBare, shown, has_all, Selects, Reads}
+use Rattle.custody_store.specs.Standing.{Standing, IsReady, HasFirst, StandsAs, shown, has_all, Reads}
+use Rattle.custody_store.proofs.CommitLemmas.{stands_at}
 
-on_ok : {A E : Type 0} (r : Result A E) {P : Type 0} → P → OnOk r P
+pub on_ok : {A E : Type 0} (r : Result A E) {P : Type 0} → P → OnOk r P
 on_ok (Ok x) p = p
 on_ok (Err e) p = tt
-
-open_at : (s : State) → IsReady s ⊎ IsBare s → IsTrue s.is_open
-open_at s (inl ready) = ready.is_open
-open_at s (inr bare) = bare.is_open
 
 -- no call was made
 pub reads_none : {A E : Type 0} (s : State) (r : Result A E) → Reads (shown s) (shown s) r
@@ -20,24 +21,24 @@ reads_none s r = record {
   trust = λ honest. honest;
   mode = λ autocommit. autocommit;
   commits_nothing = λ _ rows h. h;
-  same = λ _ ready. record { kept = λ _. (ready, refl); left = λ rows h. h };
-  bare = λ _ bare. record { kept = λ _. (bare, refl); left = λ rows h. h };
-  still_open = λ _ either. on_ok r (open_at s either);
+  same = λ _ rest _. stands_at s s rest refl;
+  still_open = λ _ rest. on_ok r rest.is_open;
 }
 
--- the rows are read, and the call is another query
-pub selects_then : {A B E F : Type 0} (a b c : Standing) (x : A) (r : Result B F) → Selects {E = E} a b (Ok x) → Selects b c r → Selects a c r
-selects_then a b c x r p q = record {
-  trust = λ honest. p.trust (q.trust honest);
-  mode = λ autocommit. q.mode (p.mode autocommit);
-  commits_nothing = λ honest rows h. p.commits_nothing (q.trust honest) rows (q.commits_nothing honest rows h);
-  same = λ honest ready.
-      let first = p.same (q.trust honest) ready in
-      let at = first.kept (p.still_open (q.trust honest) ready) in
-      let next = q.same honest at.0 in
-      record { kept = λ is_open. let end = next.kept is_open in (end.0, end.1 ∙ at.1); left = λ rows h. first.left rows (next.left rows h) };
-  still_open = λ honest ready. q.still_open honest ((p.same (q.trust honest) ready).kept (p.still_open (q.trust honest) ready)).0;
+-- two calls, one after the other
+stands_then : (a b c : Standing) → StandsAs a b → StandsAs b c → StandsAs a c
+stands_then a b c p q = record {
+  rows = q.rows ∙ p.rows;
+  rest = q.rest;
+  ready = λ h. q.ready (p.ready h);
+  first_tables = λ h. q.first_tables (p.first_tables h);
+  first_meta = λ h. q.first_meta (p.first_meta h);
+  bare = λ h. q.bare (p.bare h);
 }
+
+-- what a call that answered left
+pub still : {A E : Type 0} (a b : Standing) (x : A) → Reads {E = E} a b (Ok x) → b.IsHonest → a.IsAtRest → StandsAs a b
+still a b x p honest rest = p.same honest rest (p.still_open honest rest)
 
 -- A call that reads, after one that answered.
 pub reads_then : {A B E F : Type 0} (a b c : Standing) (x : A) (r : Result B F) → Reads {E = E} a b (Ok x) → Reads b c r → Reads a c r
@@ -45,50 +46,53 @@ reads_then a b c x r p q = record {
   trust = λ honest. p.trust (q.trust honest);
   mode = λ autocommit. q.mode (p.mode autocommit);
   commits_nothing = λ honest rows h. p.commits_nothing (q.trust honest) rows (q.commits_nothing honest rows h);
-  same = λ honest ready.
-      let first = p.same (q.trust honest) ready in
-      let at = first.kept (p.still_open (q.trust honest) (inl ready)) in
-      let next = q.same honest at.0 in
-      record { kept = λ is_open. let end = next.kept is_open in (end.0, end.1 ∙ at.1); left = λ rows h. first.left rows (next.left rows h) };
-  bare = λ honest bare.
-      let first = p.bare (q.trust honest) bare in
-      let at = first.kept (p.still_open (q.trust honest) (inr bare)) in
-      let next = q.bare honest at.0 in
-      record { kept = λ is_open. let end = next.kept is_open in (end.0, end.1 ∙ at.1); left = λ rows h. first.left rows (next.left rows h) };
-  still_open = λ honest either. elim either [
-    | inl ready ↦ q.still_open honest (inl ((p.same (q.trust honest) ready).kept (p.still_open (q.trust honest) (inl ready))).0)
-    | inr bare ↦ q.still_open honest (inr ((p.bare (q.trust honest) bare).kept (p.still_open (q.trust honest) (inr bare))).0)
-  ];
+  same = λ honest rest is_open. let first = still a b x p (q.trust honest) rest in stands_then a b c first (q.same honest first.rest is_open);
+  still_open = λ honest rest. q.still_open honest (still a b x p (q.trust honest) rest).rest;
 }
 
--- queries where a table is there, and then no call
-pub reads_there : {A B E F : Type 0} (old new : State) (r : Result A E) (q : Result B F) → (IsBare old → ⊥) → (OnOk r (IsTrue new.is_open) → OnOk q (IsTrue new.is_open)) → Selects (shown old) (shown new) r → Reads (shown old) (shown new) q
-reads_there old new r q there still p = record {
-  trust = p.trust;
-  mode = p.mode;
-  commits_nothing = p.commits_nothing;
-  same = p.same;
-  bare = λ _ bare. absurd (there bare);
-  still_open = λ honest either. elim either [ inl ready ↦ still (p.still_open honest ready) | inr bare ↦ absurd (there bare) ];
-}
+-- the same call, where another error is told
+pub reads_fails : {A B E F : Type 0} (old new : Standing) (r : Result A E) (f : F) → Reads old new r → Reads {A = B} old new (Err f)
+reads_fails old new r f p = record { trust = p.trust; mode = p.mode; commits_nothing = p.commits_nothing; same = p.same; still_open = λ _ _. tt }
 
-pub reads_on : {A B E F : Type 0} (old new : State) (x : A) (q : Result B F) → (IsBare old → ⊥) → Selects {E = E} (shown old) (shown new) (Ok x) → Reads (shown old) (shown new) q
-reads_on old new x q there p = reads_there old new (Ok x) q there (λ is_open. on_ok q is_open) p
+pub reads_err : {A B E F : Type 0} (old new : Standing) (r : Result A E) (q : Result B F) → IsErr q → Reads old new r → Reads old new q
+reads_err old new r (Ok y) is p = absurd (let e = is in cc)
+reads_err old new r (Err f) is p = reads_fails old new r f p
+
+-- or another value answered
+pub reads_answers : {A B E F : Type 0} (old new : Standing) (x : A) (r : Result B F) → Reads {E = E} old new (Ok x) → Reads old new r
+reads_answers old new x r p = record { trust = p.trust; mode = p.mode; commits_nothing = p.commits_nothing; same = p.same; still_open = λ honest rest. on_ok r (p.still_open honest rest) }
 
 -- ---- the tables
 
-has_all_tables : (has_table (codes "meta") record_schema && has_table (codes "registry") record_schema && has_table (codes "part") record_schema && has_table (codes "notice") record_schema && has_table (codes "handover") record_schema) ≡ true
+-- the five are the first where there are no others
+pub first_of_ready : (s : State) → IsReady s → HasFirst record_schema.tables s
+first_of_ready s ready = record {
+  rest = ready.rest;
+  begins = ([], ap (λ (t : Schema). t.tables) ready.tables.schema);
+  sound = ready.tables.sound;
+  ordered = ready.tables.ordered;
+}
+
+-- and meta is the first of the five
+pub meta_of_first : (s : State) → HasFirst record_schema.tables s → HasFirst meta_schema.tables s
+meta_of_first s at = record { rest = at.rest; begins = (drop 1 record_schema.tables ++ at.begins.0, at.begins.1); sound = at.sound; ordered = (at.ordered.0, tt) }
+
+abbrev any_named : List ℕ → List Table → Bool
+any_named name = list_any (λ t. same_name t.name name)
+
+has_meta : (others : List Table) → any_named (codes "meta") (meta_schema.tables ++ others) ≡ true
 unfolding same_name
-has_all_tables = refl
+has_meta others = refl
 
-pub all_there : (s : State) → IsReady s → has_all (shown s) ≡ true
-all_there s ready =
-    ap (λ t. has_table (codes "meta") t && has_table (codes "registry") t && has_table (codes "part") t && has_table (codes "notice") t && has_table (codes "handover") t) ready.tables.schema
-    ∙ has_all_tables
+pub meta_there : (s : State) → HasFirst meta_schema.tables s → has_table (codes "meta") s.now.schema ≡ true
+meta_there s at = ap (any_named (codes "meta")) at.begins.1 ∙ has_meta at.begins.0
 
-pub has_meta : has_table (codes "meta") record_schema ≡ true
+abbrev all_named : List Table → Bool
+all_named tables = any_named (codes "meta") tables && any_named (codes "registry") tables && any_named (codes "part") tables && any_named (codes "notice") tables && any_named (codes "handover") tables
+
+has_all_five : (others : List Table) → all_named (record_schema.tables ++ others) ≡ true
 unfolding same_name
-has_meta = refl
+has_all_five others = refl
 
-pub meta_there : (s : State) → IsReady s → has_table (codes "meta") s.now.schema ≡ true
-meta_there s ready = ap (has_table (codes "meta")) ready.tables.schema ∙ has_meta
+pub all_there : (s : State) → HasFirst record_schema.tables s → has_all (shown s) ≡ true
+all_there s at = ap all_named at.begins.1 ∙ has_all_five at.begins.0

@@ -1,5 +1,5 @@
--- What the texts of the statements mean over the schema that `create` makes.
-use Rattle.std.proofs.Common.{◌≡◌, List, [], ◌∷◌, ℕ, pos, negsuc, codes, true, false, None, refl}
+-- What the texts of the statements mean: those that write over the schema that `create` makes, and those that read over each whose first tables are these.
+use Rattle.std.proofs.Common.{◌≡◌, List, [], ◌∷◌, ◌++◌, ℕ, pos, negsuc, codes, true, false, None, refl}
 use Rattle.sqlite.specs.declared.types.Value.TheVariants.{Null, Int}
 use Rattle.sqlite.specs.Term.{Term, lit, col, op1, op2}
 use Rattle.sqlite.specs.Query.{Query, inner, end}
@@ -16,7 +16,11 @@ use Rattle.sqlite.specs.Collation.TheVariants.{Binary}
 use Rattle.sqlite_value.specs.Keys.{ascending}
 use Rattle.sqlite_tied.specs.Compute.{everything}
 use Rattle.sqlite.proofs.Callers.{IsPlain, command_of}
-use Rattle.custody_store.specs.Schema.{record_schema}
+use Rattle.sqlite.specs.Table.{Table}
+use Rattle.sqlite.specs.Schema.{Schema}
+use Rattle.sqlite_schema.specs.declared.schema.Index.{Index}
+use Rattle.sqlite_schema.specs.declared.schema.View.{View}
+use Rattle.custody_store.specs.Schema.{meta_schema, record_schema}
 use Rattle.custody_store.proofs.ModeLemmas.{is_change_text}
 use Rattle.custody_store.proofs.QueryLemmas.{is_query_text}
 
@@ -44,12 +48,19 @@ in_order tree project = record {
   offset = lit (Int (pos 0));
 }
 
--- a query of these columns of one table
-pub record IsSelection (sql : List ℕ) (tree : ℕ) (project : List Term) (names : List (List ℕ)) : Type 0 where
-  pub is : command_of (understood record_schema sql) ≡ Select (record { lets = []; body = in_order tree project }) names
-  pub plain : IsPlain (understood record_schema sql)
-  pub unlisted : reads_listing record_schema sql ≡ false
-  pub query : is_query_text sql ≡ true
+-- a query of these columns of one table, over this schema
+pub record IsSelectionOver (schema : Schema) (sql : List ℕ) (tree : ℕ) (project : List Term) (names : List (List ℕ)) : Type 0 where
+  pub is : command_of (understood schema sql) ≡ Select (record { lets = []; body = in_order tree project }) names
+  pub plain : IsPlain (understood schema sql)
+  pub unlisted : reads_listing schema sql ≡ false
+
+-- these tables first, and then others
+abbrev pub beginning_with : List Table → List Table → List Index → List View → Schema
+beginning_with first others indexes views = record { tables = first ++ others; indexes = indexes; views = views }
+
+-- the same over each schema whose first tables are these
+abbrev pub IsSelection : List Table → List ℕ → ℕ → List Term → List (List ℕ) → Type 0
+IsSelection first sql tree project names = (others : List Table) (indexes : List Index) (views : List View) → IsSelectionOver (beginning_with first others indexes views) sql tree project names
 
 -- ---- the statements
 
@@ -112,9 +123,13 @@ meta_places = col 1 0 ∷ col 1 2 ∷ col 1 3 ∷ col 1 4 ∷ []
 abbrev pub meta_names : List (List ℕ)
 meta_names = codes "one" ∷ codes "schema_no" ∷ codes "number" ∷ codes "blocks" ∷ []
 
-pub select_meta_is : IsSelection select_meta_text 0 meta_places meta_names
+pub select_meta_is : IsSelection meta_schema.tables select_meta_text 0 meta_places meta_names
 unfolding understood everything
-select_meta_is = record { is = refl; plain = (refl, refl); unlisted = refl; query = refl }
+select_meta_is others indexes views = record { is = refl; plain = (refl, refl); unlisted = refl }
+
+pub select_meta_query : is_query_text select_meta_text ≡ true
+unfolding understood everything
+select_meta_query = refl
 
 abbrev pub select_registry_text : List ℕ
 select_registry_text = codes "SELECT tld, first_day FROM registry ORDER BY rowid"
@@ -125,9 +140,13 @@ registry_places = col 1 1 ∷ col 1 2 ∷ []
 abbrev pub registry_names : List (List ℕ)
 registry_names = codes "tld" ∷ codes "first_day" ∷ []
 
-pub select_registry_is : IsSelection select_registry_text 1 registry_places registry_names
+pub select_registry_is : IsSelection record_schema.tables select_registry_text 1 registry_places registry_names
 unfolding understood everything
-select_registry_is = record { is = refl; plain = (refl, refl); unlisted = refl; query = refl }
+select_registry_is others indexes views = record { is = refl; plain = (refl, refl); unlisted = refl }
+
+pub select_registry_query : is_query_text select_registry_text ≡ true
+unfolding understood everything
+select_registry_query = refl
 
 abbrev pub select_part_text : List ℕ
 select_part_text = codes "SELECT tld, day, rev, part, kind, received, keep_day, len, sha, extents FROM part ORDER BY rowid"
@@ -138,9 +157,13 @@ part_places = col 1 1 ∷ col 1 2 ∷ col 1 3 ∷ col 1 4 ∷ col 1 5 ∷ col 1 
 abbrev pub part_names : List (List ℕ)
 part_names = codes "tld" ∷ codes "day" ∷ codes "rev" ∷ codes "part" ∷ codes "kind" ∷ codes "received" ∷ codes "keep_day" ∷ codes "len" ∷ codes "sha" ∷ codes "extents" ∷ []
 
-pub select_part_is : IsSelection select_part_text 3 part_places part_names
+pub select_part_is : IsSelection record_schema.tables select_part_text 3 part_places part_names
 unfolding understood everything
-select_part_is = record { is = refl; plain = (refl, refl); unlisted = refl; query = refl }
+select_part_is others indexes views = record { is = refl; plain = (refl, refl); unlisted = refl }
+
+pub select_part_query : is_query_text select_part_text ≡ true
+unfolding understood everything
+select_part_query = refl
 
 abbrev pub select_notice_text : List ℕ
 select_notice_text = codes "SELECT tld, number, kind, day, rev, id, at FROM notice ORDER BY rowid"
@@ -151,9 +174,13 @@ notice_places = col 1 1 ∷ col 1 2 ∷ col 1 3 ∷ col 1 4 ∷ col 1 5 ∷ col 
 abbrev pub notice_names : List (List ℕ)
 notice_names = codes "tld" ∷ codes "number" ∷ codes "kind" ∷ codes "day" ∷ codes "rev" ∷ codes "id" ∷ codes "at" ∷ []
 
-pub select_notice_is : IsSelection select_notice_text 5 notice_places notice_names
+pub select_notice_is : IsSelection record_schema.tables select_notice_text 5 notice_places notice_names
 unfolding understood everything
-select_notice_is = record { is = refl; plain = (refl, refl); unlisted = refl; query = refl }
+select_notice_is others indexes views = record { is = refl; plain = (refl, refl); unlisted = refl }
+
+pub select_notice_query : is_query_text select_notice_text ≡ true
+unfolding understood everything
+select_notice_query = refl
 
 abbrev pub select_handover_text : List ℕ
 select_handover_text = codes "SELECT reference, tld, ground, at, names FROM handover ORDER BY rowid"
@@ -164,9 +191,13 @@ handover_places = col 1 1 ∷ col 1 2 ∷ col 1 3 ∷ col 1 4 ∷ col 1 5 ∷ []
 abbrev pub handover_names : List (List ℕ)
 handover_names = codes "reference" ∷ codes "tld" ∷ codes "ground" ∷ codes "at" ∷ codes "names" ∷ []
 
-pub select_handover_is : IsSelection select_handover_text 7 handover_places handover_names
+pub select_handover_is : IsSelection record_schema.tables select_handover_text 7 handover_places handover_names
 unfolding understood everything
-select_handover_is = record { is = refl; plain = (refl, refl); unlisted = refl; query = refl }
+select_handover_is others indexes views = record { is = refl; plain = (refl, refl); unlisted = refl }
+
+pub select_handover_query : is_query_text select_handover_text ≡ true
+unfolding understood everything
+select_handover_query = refl
 
 abbrev pub drop_due_text : List ℕ
 drop_due_text = codes "UPDATE part SET extents = NULL WHERE extents IS NOT NULL AND keep_day < ?1"

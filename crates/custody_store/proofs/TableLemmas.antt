@@ -1,5 +1,5 @@
--- The rows of a database that has the tables.
-use Rattle.std.proofs.Common.{◌≡◌, inl, inr, ℕ, ◌-◌, ℤ, pos, ◌+ℤ◌, ◌<ℤ◌, ◌&&◌, Bool, List, [], ◌∷◌, ◌++◌, map, filter, find, fold, codes, bytes_eq, option_map, Option, Some, refl, ap, ◌∙◌, IsTrue, Less, int_cmp, arith}
+-- The rows of a database that has the tables, or begins with them.
+use Rattle.std.proofs.Common.{◌≡◌, inl, inr, ℕ, ◌-◌, ℤ, pos, ◌+ℤ◌, ◌<ℤ◌, ◌&&◌, Bool, List, [], ◌∷◌, ◌++◌, map, filter, find, fold, codes, bytes_eq, option_map, Option, Some, refl, ap, subst, ◌∙◌, IsTrue, Less, int_cmp, arith}
 use Rattle.std.specs.List.{AllByRecursion, AllZip}
 use Rattle.std.proofs.lemmas.Int.{ints}
 use Rattle.std.proofs.lemmas.Bool.{cases_Bool}
@@ -13,8 +13,11 @@ use Rattle.sqlite_trees.specs.View.{is_int}
 use Rattle.sqlite_rules.specs.Edit.{id_in, next_rowid}
 use Rattle.sqlite_rules.proofs.TableLemmas.{int_is}
 use Rattle.sqlite_catalog.specs.Listing.{is_table_row, IsTableRow, IsSound}
-use Rattle.custody_store.specs.Schema.{record_schema}
+use Rattle.sqlite.specs.Table.{Table}
+use Rattle.sqlite.specs.Schema.{Schema}
+use Rattle.custody_store.specs.Schema.{meta_schema, record_schema}
 use Rattle.custody_records.specs.Rows.{Rows}
+use Rattle.custody_store.specs.Standing.{BeginsWith}
 use Rattle.custody_store.specs.Reading.{meta_row, registry_row, part_row, notice_row, handover_row, tree_named, rows_in}
 
 -- ---- the table of a name
@@ -38,33 +41,46 @@ named_in name objects = option_map (λ object. number_in (rowid object) - 1) (fi
 abbrev AreNamed : List Row → Type 0
 AreNamed objects = (named_in (codes "meta") objects ≡ Some 0) × (named_in (codes "registry") objects ≡ Some 1) × (named_in (codes "part") objects ≡ Some 3) × (named_in (codes "notice") objects ≡ Some 5) × (named_in (codes "handover") objects ≡ Some 7)
 
-are_named : (objects : List Row) → AllZip IsTableRow objects record_schema.tables → AreNamed objects
-are_named (a ∷ b ∷ c ∷ d ∷ e ∷ []) h =
+are_named : (others : List Table) (objects : List Row) → AllZip IsTableRow objects (record_schema.tables ++ others) → AreNamed objects
+are_named others (a ∷ b ∷ c ∷ d ∷ e ∷ more) h =
     let m = h.0.described in
     let r = h.1.0.described in
     let p = h.1.1.0.described in
     let n = h.1.1.1.0.described in
     let o = h.1.1.1.1.0.described in
     (rw (m.name_is, m.id), rw (m.name_is, r.name_is, r.id), rw (m.name_is, r.name_is, p.name_is, p.id), rw (m.name_is, r.name_is, p.name_is, n.name_is, n.id), rw (m.name_is, r.name_is, p.name_is, n.name_is, o.name_is, o.id))
-are_named [] h = absurd h
-are_named (a ∷ []) h = absurd h.1
-are_named (a ∷ b ∷ []) h = absurd h.1.1
-are_named (a ∷ b ∷ c ∷ []) h = absurd h.1.1.1
-are_named (a ∷ b ∷ c ∷ d ∷ []) h = absurd h.1.1.1.1
-are_named (a ∷ b ∷ c ∷ d ∷ e ∷ f ∷ more) h = absurd h.1.1.1.1.1
+are_named others [] h = absurd h
+are_named others (a ∷ []) h = absurd h.1
+are_named others (a ∷ b ∷ []) h = absurd h.1.1
+are_named others (a ∷ b ∷ c ∷ []) h = absurd h.1.1.1
+are_named others (a ∷ b ∷ c ∷ d ∷ []) h = absurd h.1.1.1.1
+
+meta_named : (others : List Table) (objects : List Row) → AllZip IsTableRow objects (meta_schema.tables ++ others) → named_in (codes "meta") objects ≡ Some 0
+meta_named others (a ∷ more) h = let m = h.0.described in rw (m.name_is, m.id)
+meta_named others [] h = absurd h
 
 pub named : (name : List ℕ) (trees : Trees) → tree_named name trees ≡ named_in name (filter is_table_row (trees catalog_tree))
 named name trees = ap (option_map (λ object. number_in (rowid object) - 1)) (find_filtered is_table_row (λ object. bytes_eq (bytes (column object 2)) name) (trees catalog_tree))
 
-pub rows_held : (trees : Trees) → IsSound record_schema trees → rows_in trees ≡ held_rows trees
-rows_held trees sound =
-    let all = are_named _ sound.lists.listed.tables in
+-- where the first tables are the five, whatever comes after
+pub rows_first : (trees : Trees) (schema : Schema) → BeginsWith record_schema.tables schema → IsSound schema trees → rows_in trees ≡ held_rows trees
+rows_first trees schema begins sound =
+    let all = are_named begins.0 _ (subst (AllZip IsTableRow (filter is_table_row (trees catalog_tree))) begins.1 sound.lists.listed.tables) in
     let m = named (codes "meta") trees ∙ all.0 in
     let r = named (codes "registry") trees ∙ all.1 in
     let p = named (codes "part") trees ∙ all.2 in
     let n = named (codes "notice") trees ∙ all.3 in
     let o = named (codes "handover") trees ∙ all.4 in
     rw (m, r, p, n, o)
+
+pub rows_held : (trees : Trees) → IsSound record_schema trees → rows_in trees ≡ held_rows trees
+rows_held trees sound = rows_first trees record_schema ([], refl) sound
+
+-- where the first is meta
+pub meta_first : (trees : Trees) (schema : Schema) → BeginsWith meta_schema.tables schema → IsSound schema trees → (rows_in trees).meta ≡ Some (map meta_row (trees 0))
+meta_first trees schema begins sound =
+    let m = named (codes "meta") trees ∙ meta_named begins.0 _ (subst (AllZip IsTableRow (filter is_table_row (trees catalog_tree))) begins.1 sound.lists.listed.tables) in
+    rw m refl
 
 -- ---- a row with the next rowid goes to the end
 

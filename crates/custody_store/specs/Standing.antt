@@ -1,44 +1,62 @@
 -- What a store shows of its records, and what a call does to them.
-use Rattle.std.specs.Prelude.{◌≡◌, ◌⊎◌, ◌||◌, ◌&&◌, ℕ, List, Bool, false, codes, Result, IsTrue, OnOk, OnErr}
+use Rattle.std.specs.Prelude.{◌≡◌, ◌⊎◌, ◌||◌, ◌&&◌, ◌++◌, ℕ, List, Bool, true, false, codes, Result, IsTrue, OnOk, OnErr}
 use Rattle.std.specs.List.{AllByRecursion}
-use Rattle.sqlite_trees.specs.declared.store.Shape.TheVariants.{Table}
+use Rattle.sqlite_trees.specs.declared.store.Shape.TheVariants as shape
 use Rattle.sqlite.specs.Store.{Ghosts}
 use Rattle.sqlite.specs.Tree.{Trees}
 use Rattle.sqlite.specs.View.{IsShaped}
 use Rattle.sqlite.specs.Effect.{Database, IsDatabase}
 use Rattle.sqlite.specs.State.{State, HasCleanDisk}
 use Rattle.sqlite.specs.Held.{Held, state}
-use Rattle.custody_store.specs.Schema.{no_schema, record_schema}
+use Rattle.sqlite.specs.Table.{Table}
+use Rattle.sqlite.specs.Schema.{Schema}
+use Rattle.custody_store.specs.Schema.{no_schema, meta_schema, record_schema}
 use Rattle.custody_records.specs.Rows.{Rows}
 use Rattle.custody_store.specs.Reading.{rows_in, has_table}
-
--- the tables are as `create` makes them, and the rows of each are in the order of their rowids
-pub record HasTables (db : Database) : Type 0 where
-  pub schema : db.schema ≡ record_schema
-  pub sound : IsDatabase db
-  pub ordered : AllByRecursion (λ t. IsShaped Table (db.trees t.tree)) record_schema.tables
 
 -- the rows that a stop may leave
 abbrev pub leaves : State → Rows → Type 0
 leaves s rows = (db : Trees) × s.may_leave db × (rows ≡ rows_in db)
 
--- the database is open, it has the tables, and all that it shows is committed
-pub record IsReady (s : State) : Type 0 where
+-- The database is open, and all that it shows is committed.
+pub record IsAtRest (s : State) : Type 0 where
   pub is_open : IsTrue s.is_open
   pub autocommit : s.in_transaction ≡ false
   pub committed : s.committed ≡ s.now
   -- a stop leaves these rows and no others
   pub only : (rows : Rows) → leaves s rows → rows ≡ rows_in s.now.trees
+
+-- the rows of each table are in the order of their rowids
+abbrev pub AreOrdered : List Table → Trees → Type 0
+AreOrdered tables trees = AllByRecursion (λ t. IsShaped shape.Table (trees t.tree)) tables
+
+-- the tables are as `create` makes them, and there are no others
+pub record HasTables (db : Database) : Type 0 where
+  pub schema : db.schema ≡ record_schema
+  pub sound : IsDatabase db
+  pub ordered : AreOrdered record_schema.tables db.trees
+
+-- the first tables are these; after them, and as indexes and views, there may be any
+abbrev pub BeginsWith : List Table → Schema → Type 0
+BeginsWith first schema = (others : List Table) × (schema.tables ≡ first ++ others)
+
+-- A database at rest, with the tables of `create` and no others.
+pub record IsReady (s : State) : Type 0 where
+  pub rest : IsAtRest s
   pub tables : HasTables s.now
 
--- the same of a database that has no table yet
+-- A database at rest that has no table yet.
 pub record IsBare (s : State) : Type 0 where
-  pub is_open : IsTrue s.is_open
-  pub autocommit : s.in_transaction ≡ false
-  pub committed : s.committed ≡ s.now
-  pub only : (rows : Rows) → leaves s rows → rows ≡ rows_in s.now.trees
+  pub rest : IsAtRest s
   pub schema : s.now.schema ≡ no_schema
   pub sound : IsDatabase s.now
+
+-- A database at rest whose first tables are these, as `create` makes them.
+pub record HasFirst (first : List Table) (s : State) : Type 0 where
+  pub rest : IsAtRest s
+  pub begins : BeginsWith first s.now.schema
+  pub sound : IsDatabase s.now
+  pub ordered : AreOrdered first s.now.trees
 
 pub record Standing : Type 1 where
   pub rows : Rows
@@ -46,9 +64,15 @@ pub record Standing : Type 1 where
   pub may_leave : Rows → Type 0
   -- the database has returned what was written
   pub IsHonest : Type 0
-  -- it is open, has the tables that `create` makes, and a stop leaves its rows
+  -- it is open, no transaction is, and a stop leaves its rows
+  pub IsAtRest : Type 0
+  -- it is at rest, and has the tables that `create` makes and no others
   pub IsReady : Type 0
-  -- it is open, and has no table
+  -- it is at rest, and its first tables are the five that `create` makes
+  pub HasTablesFirst : Type 0
+  -- it is at rest, and its first table is meta, as `create` makes it
+  pub HasMetaFirst : Type 0
+  -- it is at rest, and has no table
   pub IsBare : Type 0
   -- no failure has shut it
   pub is_open : Bool
@@ -61,7 +85,10 @@ shown s = record {
   rows = rows_in s.now.trees;
   may_leave = leaves s;
   IsHonest = HasCleanDisk s;
+  IsAtRest = IsAtRest s;
   IsReady = IsReady s;
+  HasTablesFirst = HasFirst record_schema.tables s;
+  HasMetaFirst = HasFirst meta_schema.tables s;
   IsBare = IsBare s;
   is_open = s.is_open;
   in_transaction = s.in_transaction;
@@ -78,6 +105,14 @@ has_any s = s.has_table (codes "meta") || s.has_table (codes "registry") || s.ha
 -- all five tables are there
 abbrev pub has_all : Standing → Bool
 has_all s = s.has_table (codes "meta") && s.has_table (codes "registry") && s.has_table (codes "part") && s.has_table (codes "notice") && s.has_table (codes "handover")
+
+-- its first table is meta, or it has none
+abbrev pub HasMetaOrNone : Standing → Type 0
+HasMetaOrNone s = s.HasMetaFirst ⊎ s.IsBare
+
+-- Its tables are known: none at all, or meta first, and where all five are there, these first.
+abbrev pub HasKnownTables : Standing → Type 0
+HasKnownTables s = s.IsBare ⊎ (s.HasMetaFirst × (has_all s ≡ true → s.HasTablesFirst))
 
 -- These rows are committed at once, or the rows are those that were there.
 pub record IsOneCommit {A E : Type 0} (old new : Standing) (after : Rows) (result : Result A E) : Type 0 where
@@ -105,26 +140,21 @@ pub record Founds {A E : Type 0} (old new : Standing) (after : Rows) (result : R
   pub mode : old.in_transaction ≡ false → new.in_transaction ≡ false
   pub effect : new.IsHonest → old.IsBare → IsOneFounding old new after result
 
--- The database is as it was, or it is shut, and a stop leaves nothing new.
-pub record Keeps (old new : Standing) (IsSame : Type 0) : Type 0 where
-  pub kept : IsTrue new.is_open → IsSame × (new.rows ≡ old.rows)
-  pub left : (rows : Rows) → new.may_leave rows → old.may_leave rows
+-- The tables and the rows are those that were there.
+pub record StandsAs (old new : Standing) : Type 0 where
+  pub rows : new.rows ≡ old.rows
+  pub rest : new.IsAtRest
+  pub ready : old.IsReady → new.IsReady
+  pub first_tables : old.HasTablesFirst → new.HasTablesFirst
+  pub first_meta : old.HasMetaFirst → new.HasMetaFirst
+  pub bare : old.IsBare → new.IsBare
 
--- A query of tables that are there.
-pub record Selects {A E : Type 0} (old new : Standing) (result : Result A E) : Type 0 where
-  pub trust : new.IsHonest → old.IsHonest
-  pub mode : old.in_transaction ≡ false → new.in_transaction ≡ false
-  -- a stop leaves nothing new, whatever the tables are
-  pub commits_nothing : new.IsHonest → (rows : Rows) → new.may_leave rows → old.may_leave rows
-  pub same : new.IsHonest → old.IsReady → Keeps old new new.IsReady
-  pub still_open : new.IsHonest → old.IsReady → OnOk result (IsTrue new.is_open)
-
--- A call that only reads.
+-- A call that only reads, whatever the tables are.
 pub record Reads {A E : Type 0} (old new : Standing) (result : Result A E) : Type 0 where
   pub trust : new.IsHonest → old.IsHonest
   pub mode : old.in_transaction ≡ false → new.in_transaction ≡ false
-  -- a stop leaves nothing new, whatever the tables are
+  -- a stop leaves nothing new
   pub commits_nothing : new.IsHonest → (rows : Rows) → new.may_leave rows → old.may_leave rows
-  pub same : new.IsHonest → old.IsReady → Keeps old new new.IsReady
-  pub bare : new.IsHonest → old.IsBare → Keeps old new new.IsBare
-  pub still_open : new.IsHonest → old.IsReady ⊎ old.IsBare → OnOk result (IsTrue new.is_open)
+  -- what was at rest stands as it stood, or it is shut
+  pub same : new.IsHonest → old.IsAtRest → IsTrue new.is_open → StandsAs old new
+  pub still_open : new.IsHonest → old.IsAtRest → OnOk result (IsTrue new.is_open)

@@ -9,7 +9,7 @@ ghost use Rattle.custody_records.specs.declared.damage.Damage.TheVariants as dam
 ghost use Rattle.custody_records.specs.declared.errors.RowError.TheVariants as row_error;
 ghost use Rattle.custody_store.specs.Loaded.{answered_rows};
 ghost use Rattle.custody_store.specs.Reading.{answered_meta};
-ghost use Rattle.custody_store.specs.Standing.{standing, Selects};
+ghost use Rattle.custody_store.specs.Standing.{standing, Reads};
 
 use crate::faults::StoreFault;
 use crate::meta::{first_of, select_meta};
@@ -31,9 +31,9 @@ pub struct TableRows {
 
 /// The rows of the five tables, which are there.
 pub fn select_all<S: Alter>(db: &mut Connection<S>) -> Result<TableRows, StoreFault>
-    ensures found { (standing S.Store db.new).IsHonest → (standing S.Store db.old).IsReady
+    ensures found { (standing S.Store db.new).IsHonest → (standing S.Store db.old).HasTablesFirst
         → IfOk result (λ t. (standing S.Store db.old).rows ≡ answered_rows t) }
-    ensures selects { Selects (standing S.Store db.old) (standing S.Store db.new) result }
+    ensures reads { Reads (standing S.Store db.old) (standing S.Store db.new) result }
     ensures kind { IfErr result (λ e. e ≡ StoreFault.Failed) }
 {
     let meta = select_meta(db)?;

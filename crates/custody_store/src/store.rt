@@ -180,7 +180,7 @@ impl<S: Alter> Store<S> {
 
     /// The records, where meta has a row. It fails where meta has none.
     pub fn load(&mut self, alloc: Global) -> Result<Records, StoreFault>
-        ensures found { (standing S.Store self.new).IsHonest → (standing S.Store self.old).IsReady → MatchResult result
+        ensures found { (standing S.Store self.new).IsHonest → (standing S.Store self.old).HasTablesFirst → MatchResult result
             (λ records. form_of (standing S.Store self.old).rows ≡ InForm (records_of records))
             (λ e. (why : Damage) → e ≡ StoreFault.Damaged why → form_of (standing S.Store self.old).rows ≡ OutOfForm why) }
         ensures reads { Reads (standing S.Store self.old) (standing S.Store self.new) result }

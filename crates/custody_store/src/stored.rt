@@ -8,7 +8,7 @@ ghost use Rattle.custody_records.specs.Held.{records_of};
 ghost use Rattle.custody_records.specs.Records as specs;
 ghost use Rattle.custody_records.specs.Rows.{Rows};
 ghost use Rattle.custody_records.specs.declared.errors.RowError.TheVariants.{OutOfForm};
-ghost use Rattle.custody_store.specs.Standing.{standing, Selects};
+ghost use Rattle.custody_store.specs.Standing.{standing, Reads};
 
 use crate::faults::StoreFault;
 use custody_records::{Records, RowError};
@@ -41,9 +41,9 @@ pub trait Stored {
 
     /// The rows of the table, in the order in which they were added.
     fn select<S: Alter>(db: &mut Connection<S>) -> Result<Vec<Row>, StoreFault>
-        ensures found { (standing S.Store db.new).IsHonest → (standing S.Store db.old).IsReady
+        ensures found { (standing S.Store db.new).IsHonest → (standing S.Store db.old).HasTablesFirst
             → IfOk result (λ rows. rows_of (standing S.Store db.old).rows ≡ Some (map answered rows.items)) }
-        ensures selects { Selects (standing S.Store db.old) (standing S.Store db.new) result }
+        ensures reads { Reads (standing S.Store db.old) (standing S.Store db.new) result }
         ensures kind { IfErr result (λ e. e ≡ StoreFault.Failed) };
 
     /// Adds the record of a row, where its fields are in form and its key is new.

@@ -83,7 +83,7 @@ fn work(
     ))?;
     let files = find(rt, folder)?;
     let mut err = rt.stderr();
-    let mut progress = Terminal::of(rt);
+    let mut progress = Terminal::of(rt, order);
     let ended = serve(
         rt.alloc(),
         files,

@@ -1,25 +1,49 @@
 //! How far a call is, for those who look on.
-use agent_cli::Progress;
+ghost use Rattle.std.specs.Prelude.{◌<◌};
+
+use agent_cli::Order;
+use custody::Progress;
 use std::fs;
 use std::io::{Stderr, Write};
 
-/// It is told after each so many steps.
-const EVERY: usize = 1000;
+/// What a call of many steps goes through: a sweep days, and an audit the blocks of parts.
+#[derive(Clone, Copy)]
+enum Step {
+    Day,
+    Block,
+}
+
+impl Step {
+    /// After how many steps it is told how far the call is. (So many blocks are 16 MiB.)
+    fn every(self) -> usize
+        ensures { 0 < result }
+    {
+        match self {
+            Step::Day => 1_000,
+            Step::Block => 4_096,
+        }
+    }
+}
 
 /// The terminal of a call, if it has one: standard error, where that is no file and no pipe.
 #[derive(Drop)]
 pub struct Terminal {
     err: Stderr,
     is_there: bool,
+    step: Step,
     done: usize,
     steps: usize,
 }
 
 impl Terminal {
-    pub fn of(rt: &HostRuntime) -> Terminal {
+    pub fn of(rt: &HostRuntime, order: &Order<'_>) -> Terminal {
         Terminal {
             err: rt.stderr(),
             is_there: is_terminal(rt),
+            step: match order {
+                Order::Audit { .. } => Step::Block,
+                _ => Step::Day,
+            },
             done: 0,
             steps: 0,
         }
@@ -32,10 +56,16 @@ impl Progress for Terminal {
         self.steps = steps;
     }
 
-    fn step(&mut self) {
-        self.done = self.done.saturating_add(1);
-        if self.is_there && self.done % EVERY == 0 {
-            let _ = writeln!(self.err, "swept {} of {} days", self.done, self.steps);
+    fn advance(&mut self, steps: usize) {
+        let every = self.step.every();
+        let told = self.done / every;
+        self.done = self.done.saturating_add(steps);
+        if self.is_there && self.done / every > told {
+            let (done, steps) = (self.done, self.steps);
+            let _ = match self.step {
+                Step::Day => writeln!(self.err, "swept {done} of {steps} days"),
+                Step::Block => writeln!(self.err, "audited {done} of {steps} blocks"),
+            };
         }
     }
 }

@@ -3,9 +3,9 @@ ghost use Rattle.std.specs.Prelude.{◌≡◌, ◌-◌, ◌^◌, ◌<◌, ◌≤
 ghost use Rattle.agent_cli.specs.Order.{meaning, named_moment};
 ghost use Rattle.http_serve.specs.Turns.{AreTurns};
 
-use agent_cli::{Order, Progress, act};
+use agent_cli::{Order, act};
 use answer_lines::{Line, VolumeNumber, print_line, tell, tell_init};
-use custody::Custody;
+use custody::{Custody, Progress};
 use custody_machine::{Fault, Status};
 use http_api::Api;
 use http_serve::{ServeFault, serve_connections};

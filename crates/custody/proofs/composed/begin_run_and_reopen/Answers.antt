@@ -5,6 +5,7 @@ use Rattle.sqlite.specs.Steps.{over_memory}
 use Rattle.sqlite.proofs.Callers.{memory_is_clean}
 use Rattle.custody_store.specs.Reading.{rows_in}
 use Rattle.custody_store.specs.Standing.{standing}
+use Rattle.custody_store.proofs.ReadLemmas.{first_of_ready}
 use Rattle.custody.specs.Custody.{entries_of, keeper_of}
 use Rattle.custody.specs.Sessions.{IsServing}
 use Rattle.custody.proofs.RunMoves.{runs_move}
@@ -25,8 +26,8 @@ returns-in-Ok-open c =
     let run = c.in-Ok-run.ensures.run in
     let there : IsServing over_memory new = (runs_move tt old new serving honest entries answers run).serves c.in_default-records.ensures.found.0 in
     let ready = subst (λ d. (standing over_memory d).IsReady) (sym c.close-stopped.ensures.store) there.rows.ready in
-    let shown : (standing over_memory db).may_leave (standing over_memory db).rows = ((state over_memory db).committed.trees, refl, ap (λ (d : Database). rows_in d.trees) (sym ready.committed)) in
+    let shown : (standing over_memory db).may_leave (standing over_memory db).rows = ((state over_memory db).committed.trees, refl, ap (λ (d : Database). rows_in d.trees) (sym ready.rest.committed)) in
     let loaded = c.in-Ok-open.ensures.loaded in
     resumed tt old new later entries answers serving c.in-Ok-init.ensures.new.begun run honest c.close-stopped.result.0 db c.close-stopped.ensures.volume c.close-stopped.ensures.store
-    (standing over_memory db).rows c.restart.new.self.image.items shown c.restart.ensures.restarted.found (loaded.in_form ready honest_later) (loaded.good tt) (loaded.same_image tt)
+    (standing over_memory db).rows c.restart.new.self.image.items shown c.restart.ensures.restarted.found (loaded.in_form (first_of_ready (state over_memory db) ready) honest_later) (loaded.good tt) (loaded.same_image tt)
     (record { opened = c.in-Ok-open.ensures.opened.opened; image = loaded.image tt c.restart.ensures.restarted.settled; rows = loaded.rows ready honest_later })

@@ -14,10 +14,12 @@ returns-clause-bare c = by c.open_in_memory.result c.open_in_memory.ensures.empt
   where
     by : (r : Result (Held _) AllocError) → IfOk r (λ db. IsEmpty (state over_memory db)) → IfOk r (λ db. (standing over_memory db).IsBare)
     by (Ok db) e = record {
-      is_open = e.0.is_open;
-      autocommit = e.0.autocommit;
-      committed = sym e.0.clean;
-      only = λ rows left. left.2 ∙ ap rows_in left.1 ∙ ap (λ (d : Database). rows_in d.trees) (sym e.0.clean);
+      rest = record {
+        is_open = e.0.is_open;
+        autocommit = e.0.autocommit;
+        committed = sym e.0.clean;
+        only = λ rows left. left.2 ∙ ap rows_in left.1 ∙ ap (λ (d : Database). rows_in d.trees) (sym e.0.clean);
+      };
       schema = e.2;
       sound = (e.1 e.0.is_open).0;
     }

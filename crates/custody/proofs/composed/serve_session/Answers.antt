@@ -1,12 +1,13 @@
-use Rattle.std.proofs.Common.{inl, sym, ◌∙◌, ap, subst}
+use Rattle.std.proofs.Common.{sym, ◌∙◌, ap, subst}
 use Rattle.vault_volume.specs.Vault.{volume_of}
 use Rattle.sqlite.specs.Held.{state}
 use Rattle.custody_store.specs.Standing.{standing}
+use Rattle.custody_store.proofs.ReadLemmas.{first_of_ready}
 use Rattle.custody_machine.specs.declared.answers.Fault.TheVariants.{NoMemory}
 use Rattle.custody.specs.Custody.{entries_of, keeper_of}
 use Rattle.custody.specs.Keeper.{stored}
 use Rattle.custody.specs.Sessions.{answers_of, IsServing, IsSession, IsNotOpened}
-use Rattle.custody.proofs.Opened.{left_now}
+use Rattle.custody.proofs.Opened.{left_now, known_of_ready}
 use Rattle.custody.proofs.RunMoves.{honest_then}
 use Rattle.custody.proofs.SessionLemmas.{may_not_open, not_opened, session_made}
 use Rattle.custody.proofs.composed.serve_session.Goals as goal
@@ -24,7 +25,7 @@ returns-in-Ok-answers-clause-served g c tells one ready honest =
     let then = honest_then old new entries answers run clean in
     let loaded = c.in-Ok.ensures.loaded in
     let serving : IsServing g.S.Store old = record { opened = c.in-Ok.ensures.opened.opened; image = loaded.image tells one; rows = loaded.rows ready then } in
-    let made = session_made tells old new rows image entries answers serving (loaded.in_form ready then) (loaded.good tells) (loaded.same_image tells) run clean in
+    let made = session_made tells old new rows image entries answers serving (loaded.in_form (first_of_ready (state g.S.Store c.args.db) ready) then) (loaded.good tells) (loaded.same_image tells) run clean in
     let left = (standing g.S.Store c.close-volume.result.1).may_leave in
     subst (λ v. IsSession rows image entries (answers_of entries answers) left (g.V.Volume.left_at v (g.V.Volume.moment v))) (sym c.close-volume.ensures.volume)
     (subst (λ db. let there = volume_of (keeper_of new).vault in IsSession rows image entries (answers_of entries answers) (standing g.S.Store db).may_leave (g.V.Volume.left_at there (g.V.Volume.moment there))) (sym c.close-volume.ensures.store) made)
@@ -35,7 +36,7 @@ returns-in-Err-clause-failed g c tells one ready honest =
     let volume = c.args.volume in
     let image = g.V.Volume.image volume in
     let failed = c.in-Err.failed in
-    let cause = may_not_open (standing g.S.Store db).rows image failed.0 c.in-Err.ensures.cause.not_closed (λ damage same. (c.in-Err.ensures.damaged (inl ready) honest damage same).is_first tells) in
+    let cause = may_not_open (standing g.S.Store db).rows image failed.0 c.in-Err.ensures.cause.not_closed (λ damage same. (c.in-Err.ensures.damaged (known_of_ready (state g.S.Store db) ready) honest damage same).is_first tells) in
     not_opened (state g.S.Store db) (standing g.S.Store failed.2) image failed.0 _ (g.V.Volume.left_at failed.1 (g.V.Volume.moment failed.1)) (g.V.Volume.left_at volume (g.V.Volume.moment volume)) cause ready c.in-Err.ensures.reads.rows honest one
     (left_now g.V.Volume.moment g.V.Volume.left_at volume failed.1 _ (c.in-Err.ensures.reads.image.any_moment tells))
 

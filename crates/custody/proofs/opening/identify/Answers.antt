@@ -5,7 +5,7 @@ use Rattle.custody_machine.proofs.Damages.{none_before_all}
 use Rattle.custody_store.specs.Standing.{standing}
 use Rattle.custody.specs.Opening.{IsDamageTold}
 use Rattle.custody.proofs.Opened.{other_volume}
-use Rattle.custody.proofs.FirstDamage.{has_record, has_none, none_before_head, none_before_volume, none_before_schema, unknown_schema}
+use Rattle.custody.proofs.FirstDamage.{has_record, has_none, none_before_head, none_before_volume, none_before_schema, known_schema, unknown_schema}
 use Rattle.custody.proofs.opening.identify.Goals as goal
 
 -- there is no record
@@ -88,4 +88,5 @@ returns-clause-rows g c honest either =
       row = has_record rows c.in-Ok-Some.meta found;
       undamaged = λ tells. none_before_schema rows c.in-Ok-Some.meta (g.V.Volume.image volume) found c.in-Ok.number fits (c.in-Ok.ensures.head tells)
           (g.V.Volume.size volume) (g.met.V.Volume.image_length volume tells) of.0 (of.1 ∙ ap pos size);
+      known = known_schema rows c.in-Ok-Some.meta found (sym c.if-not-is_known.ensures);
     }

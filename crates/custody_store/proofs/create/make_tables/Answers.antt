@@ -1,8 +1,8 @@
 use Rattle.std.proofs.Common.{arith}
 use Rattle.sqlite.specs.State.{HasCleanDisk}
 use Rattle.sqlite.specs.Held.{state}
-use Rattle.custody_store.specs.Schema.{no_schema, meta_table, registry_table, part_table, notice_table, handover_table}
-use Rattle.custody_store.proofs.SchemaLemmas.{meta_text, registry_text, part_text, notice_text, handover_text, with_meta, with_registry, with_part, with_notice, makes_meta, makes_registry, makes_part, makes_notice, makes_handover}
+use Rattle.custody_store.specs.Schema.{no_schema, meta_schema, meta_table, registry_table, part_table, notice_table, handover_table}
+use Rattle.custody_store.proofs.SchemaLemmas.{meta_text, registry_text, part_text, notice_text, handover_text, with_registry, with_part, with_notice, makes_meta, makes_registry, makes_part, makes_notice, makes_handover}
 use Rattle.custody_store.proofs.MakingLemmas.{makes}
 use Rattle.custody_store.proofs.create.make_tables.Goals as goal
 
@@ -21,7 +21,7 @@ returns-clause-made g c clean first start =
     let ran1 = c.in_ok-make.ensures.made clean1 start.inside in
     let one = makes meta_text s0 s1 ran1.0 ran1.1 no_schema meta_table first makes_meta start in
     let ran2 = c.in_ok-make-2.ensures.made clean2 one.inside in
-    let two = makes registry_text s1 s2 ran2.0 ran2.1 with_meta registry_table first makes_registry one in
+    let two = makes registry_text s1 s2 ran2.0 ran2.1 meta_schema registry_table first makes_registry one in
     let ran3 = c.in_ok-make-3.ensures.made clean3 two.inside in
     let three = makes part_text s2 s3 ran3.0 ran3.1 with_registry part_table first makes_part two in
     let ran4 = c.in_ok-make-4.ensures.made clean4 three.inside in

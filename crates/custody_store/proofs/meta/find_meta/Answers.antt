@@ -8,7 +8,7 @@ use Rattle.custody_store.proofs.meta.find_meta.Goals as goal
 
 pub returns-then-not-has_table-clause-found : goal.returns-then-not-has_table-clause-found
 returns-then-not-has_table-clause-found g c clean either = elim either [
-  | inl ready ↦ let there = meta_there (state g.S.Store c.args.db.now) ready in absurd (search (rules, there))
+  | inl first ↦ let there = meta_there (state g.S.Store c.args.db.now) first in absurd (search (rules, there))
   | inr bare ↦ sym (ap (λ rows. option_map meta_of (first_meta rows)) (rows_bare (state g.S.Store c.args.db.now) bare))
 ]
 

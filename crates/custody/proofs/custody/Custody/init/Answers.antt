@@ -12,7 +12,7 @@ use Rattle.custody_machine.specs.Custody.{IsInStore}
 use Rattle.custody.specs.declared.answers.InitError.TheVariants as init_error
 use Rattle.custody.specs.Keeper.{recorded, image_of}
 use Rattle.custody.specs.Opening.{IsSize}
-use Rattle.custody.proofs.Opened.{none_left, still_none, none_ready, bare_where_none, bare_still, new_whole, new_begun, begun_left, on_volume, fresh_in_store, is_written, none_made}
+use Rattle.custody.proofs.Opened.{none_left, still_none, none_ready, bare_where_none, stands_still, meta_or_none, new_whole, new_begun, begun_left, on_volume, fresh_in_store, is_written, none_made}
 use Rattle.custody.proofs.custody.Custody.init.Goals as goal
 
 -- ---- it is refused, or the database was not read
@@ -37,7 +37,7 @@ returns-in-Err-clause-leaves g c honest =
     (λ either. (c.in-Err.ensures.rows honest either).taken) (λ either. (c.in-Err.ensures.rows honest either).not_taken)
 
 pub returns-in-Err-clause-within : goal.returns-in-Err-clause-within
-returns-in-Err-clause-within g c either none rows image left = still_none (state g.S.Store c.args.db) either none rows left
+returns-in-Err-clause-within g c rest none rows image left = still_none (state g.S.Store c.args.db) rest none rows left
 
 -- ---- a table is there
 
@@ -60,7 +60,7 @@ returns-then-has_tables-clause-leaves g c honest =
     none_made g.V.Volume g.S.Store c.args.volume c.args.db c.args.number _ c.args.volume c.may_begin.new.db _ c.in_default.ensures.reads honest (λ _ same none. cc) (λ _ same. cc)
 
 pub returns-then-has_tables-clause-within : goal.returns-then-has_tables-clause-within
-returns-then-has_tables-clause-within g c either none rows image left = still_none (state g.S.Store c.args.db) either none rows left
+returns-then-has_tables-clause-within g c rest none rows image left = still_none (state g.S.Store c.args.db) rest none rows left
 
 -- ---- no memory for the map
 
@@ -89,7 +89,7 @@ returns-in_default-map_of-clause-leaves g c honest =
     none_made g.V.Volume g.S.Store c.args.volume c.args.db c.args.number _ c.args.volume c.may_begin.new.db _ c.in_default.ensures.reads honest (λ _ same none. cc) (λ _ same. cc)
 
 pub returns-in_default-map_of-clause-within : goal.returns-in_default-map_of-clause-within
-returns-in_default-map_of-clause-within g c either none rows image left = still_none (state g.S.Store c.args.db) either none rows left
+returns-in_default-map_of-clause-within g c rest none rows image left = still_none (state g.S.Store c.args.db) rest none rows left
 
 -- ---- block 0 was not written, or the tables were not made
 
@@ -123,19 +123,19 @@ returns-in-Err-make_records-clause-leaves g c honest =
       unwritten = λ un. absurd (is_written _ made.kind un);
       rows = λ either none rows left.
           let bare = bare_where_none (state g.S.Store c.args.db) c.if-has_tables.ensures either in
-          let bare_then = bare_still (standing g.S.Store c.args.db) (standing g.S.Store c.may_begin.new.db) (standing g.S.Store c.over-store.result) _ c.in_default.ensures.reads (ap (standing g.S.Store) c.over-store.ensures) (made.founds.trust clean) bare in
+          let bare_then = (stands_still (standing g.S.Store c.args.db) (standing g.S.Store c.may_begin.new.db) (standing g.S.Store c.over-store.result) _ c.in_default.ensures.reads (ap (standing g.S.Store) c.over-store.ensures) (made.founds.trust clean) bare.rest).bare bare in
           elim ((made.founds.effect clean bare_then).left rows (subst (λ db. (standing g.S.Store db).may_leave rows) at left)) [
             | inl old ↦ inl (none_left (state g.S.Store c.over-store.result) bare_then rows old)
             | inr new ↦ inr (new ∙ ap (λ n. fresh (digits_of c.args.number) (pos n)) c.size-blocks.ensures)
           ];
       fails = λ tells either none rows image left there.
           let bare = bare_where_none (state g.S.Store c.args.db) c.if-has_tables.ensures either in
-          let bare_then = bare_still (standing g.S.Store c.args.db) (standing g.S.Store c.may_begin.new.db) (standing g.S.Store c.over-store.result) _ c.in_default.ensures.reads (ap (standing g.S.Store) c.over-store.ensures) (made.founds.trust clean) bare in
+          let bare_then = (stands_still (standing g.S.Store c.args.db) (standing g.S.Store c.may_begin.new.db) (standing g.S.Store c.over-store.result) _ c.in_default.ensures.reads (ap (standing g.S.Store) c.over-store.ensures) (made.founds.trust clean) bare.rest).bare bare in
           made.at_exit tells clean bare_then rows image (subst (λ db. (standing g.S.Store db).may_leave rows) at left) there;
     }
 
 pub returns-in-Err-make_records-clause-within : goal.returns-in-Err-make_records-clause-within
-returns-in-Err-make_records-clause-within g c either none rows image left = still_none (state g.S.Store c.args.db) either none rows left
+returns-in-Err-make_records-clause-within g c rest none rows image left = still_none (state g.S.Store c.args.db) rest none rows left
 
 -- ---- it is begun
 
@@ -177,20 +177,20 @@ returns-clause-kept g c =
       rows = λ either honest.
           let clean = subst (λ db. (standing g.S.Store db).IsHonest) at honest in
           let bare = bare_where_none (state g.S.Store c.args.db) c.if-has_tables.ensures either in
-          let bare_then = bare_still (standing g.S.Store c.args.db) (standing g.S.Store c.may_begin.new.db) (standing g.S.Store c.over-store.result) _ c.in_default.ensures.reads over (made.founds.trust clean) bare in
+          let bare_then = (stands_still (standing g.S.Store c.args.db) (standing g.S.Store c.may_begin.new.db) (standing g.S.Store c.over-store.result) _ c.in_default.ensures.reads over (made.founds.trust clean) bare.rest).bare bare in
           subst (λ db. IsInStore (recorded c.keeper_over.result) (standing g.S.Store db).rows (standing g.S.Store db).IsReady (standing g.S.Store db).may_leave) (sym at)
           (fresh_in_store (standing g.S.Store c.over-store.result) (state g.S.Store c.make_records.new.store) _ c.args.number c.size-blocks.result fits room made.founds clean bare_then (recorded c.keeper_over.result) is);
       not_taken = λ either honest.
-          c.in_default.ensures.rows (subst (λ s. s.IsHonest) over (made.founds.trust (subst (λ db. (standing g.S.Store db).IsHonest) at honest))) either;
+          c.in_default.ensures.rows (subst (λ s. s.IsHonest) over (made.founds.trust (subst (λ db. (standing g.S.Store db).IsHonest) at honest))) (meta_or_none (state g.S.Store c.args.db) either);
       begins = λ tells either honest rows image left there.
           let clean = subst (λ db. (standing g.S.Store db).IsHonest) at honest in
           let bare = bare_where_none (state g.S.Store c.args.db) c.if-has_tables.ensures either in
-          let bare_then = bare_still (standing g.S.Store c.args.db) (standing g.S.Store c.may_begin.new.db) (standing g.S.Store c.over-store.result) _ c.in_default.ensures.reads over (made.founds.trust clean) bare in
+          let bare_then = (stands_still (standing g.S.Store c.args.db) (standing g.S.Store c.may_begin.new.db) (standing g.S.Store c.over-store.result) _ c.in_default.ensures.reads over (made.founds.trust clean) bare.rest).bare bare in
           let done = (made.founds.effect clean bare_then).done in
           begun_left c.args.number c.size-blocks.result (g.V.Volume.image volume) fits room (made.head tells) (g.met.V.Volume.image_length volume tells ∙ ap (λ n. 4096 * n) size) rows image
-          (done.0.only rows (subst (λ db. (standing g.S.Store db).may_leave rows) at left) ∙ done.1)
+          (done.0.rest.only rows (subst (λ db. (standing g.S.Store db).may_leave rows) at left) ∙ done.1)
           ((made.settled tells image).0 (subst (λ v. g.V.Volume.left_at v (g.V.Volume.moment v) image) c.keeper_over.ensures.volume there));
     }
 
 pub returns-clause-within : goal.returns-clause-within
-returns-clause-within g c either none rows image left = still_none (state g.S.Store c.args.db) either none rows left
+returns-clause-within g c rest none rows image left = still_none (state g.S.Store c.args.db) rest none rows left

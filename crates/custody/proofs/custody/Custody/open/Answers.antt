@@ -1,4 +1,4 @@
-use Rattle.std.proofs.Common.{inl, inr, ℕ, ◌≤◌, arith, List, ◌*◌, sym, ◌∙◌, ap, subst}
+use Rattle.std.proofs.Common.{◌≡◌, inl, inr, ℕ, ◌≤◌, arith, List, ◌*◌, sym, ◌∙◌, ap, subst}
 use Rattle.vault_volume.specs.Head.{head_of}
 use Rattle.vault_volume.specs.Image.{bytes_at}
 use Rattle.vault_volume.specs.Vault.{volume_of, IsFree}
@@ -6,12 +6,14 @@ use Rattle.sqlite.specs.Held.{state}
 use Rattle.custody_records.specs.Form.{form_of, InForm}
 use Rattle.custody_records.specs.Records.{Records}
 use Rattle.custody_store.specs.Standing.{standing}
-use Rattle.custody_machine.specs.declared.damage.Damage.TheVariants.{Schema, Digest}
+use Rattle.custody_store.proofs.ReadLemmas.{first_of_ready, reads_fails, reads_answers}
+use Rattle.custody_machine.specs.declared.damage.Damage.TheVariants.{Schema, Form, Digest}
 use Rattle.custody_machine.specs.Damage.{NoneBefore, IsDamaged}
 use Rattle.custody_machine.specs.Stored.{AreWhole}
 use Rattle.custody.specs.Keeper.{recorded}
-use Rattle.custody.specs.Opening.{ReadsVolume}
-use Rattle.custody.proofs.Opened.{bare_has_none, some_missing, ready_still, left_now, reads_on, reads_fails, reads_answers, only_reads, on_volume}
+use Rattle.custody.specs.Opening.{IsDamageTold, ReadsVolume}
+use Rattle.custody.proofs.Opened.{bare_has_none, meta_where_known, stands_still, left_now, reads_on, only_reads, on_volume}
+use Rattle.custody.proofs.FirstDamage.{missing_told, row_missing}
 use Rattle.custody.proofs.custody.Custody.open.Goals as goal
 
 -- ---- the volume was not found, or not that of the record
@@ -26,7 +28,7 @@ returns-in-Err-clause-cause g c = record {
 }
 
 pub returns-in-Err-clause-damaged : goal.returns-in-Err-clause-damaged
-returns-in-Err-clause-damaged g c either honest = c.in-Err.ensures.rows honest either
+returns-in-Err-clause-damaged g c known honest = c.in-Err.ensures.rows honest (meta_where_known (standing g.S.Store c.args.db) known)
 
 pub returns-in-Err-clause-reads : goal.returns-in-Err-clause-reads
 returns-in-Err-clause-reads g c =
@@ -35,7 +37,17 @@ returns-in-Err-clause-reads g c =
 -- ---- a table is missing
 
 pub returns-then-not-has_tables-clause-damaged : goal.returns-then-not-has_tables-clause-damaged
-returns-then-not-has_tables-clause-damaged g c either honest = absurd (some_missing (state g.S.Store c.args.db) c.if-not-has_tables.ensures either (c.in-Ok.ensures.rows honest either).row)
+returns-then-not-has_tables-clause-damaged g c known honest damage same =
+    let s = state g.S.Store c.args.db in
+    let rows = (standing g.S.Store c.args.db).rows in
+    let image = g.V.Volume.image c.args.volume in
+    let is : Form ≡ damage = cc in
+    let found = c.in-Ok.ensures.rows honest (meta_where_known (standing g.S.Store c.args.db) known) in
+    elim known [
+      | inl bare ↦ absurd (found.row (bare_has_none s bare))
+      | inr first ↦ subst (IsDamageTold g.V.Volume.tells rows image) is
+          (missing_told rows (row_missing s first.0 (sym c.if-not-has_tables.ensures) found.row found.known) g.V.Volume.tells image found.row found.undamaged)
+    ]
 
 pub returns-then-not-has_tables-clause-reads : goal.returns-then-not-has_tables-clause-reads
 returns-then-not-has_tables-clause-reads g c =
@@ -44,25 +56,26 @@ returns-then-not-has_tables-clause-reads g c =
 -- ---- the rows are not whole
 
 pub returns-in-Err-load_whole-clause-damaged : goal.returns-in-Err-load_whole-clause-damaged
-returns-in-Err-load_whole-clause-damaged g c either honest damage same =
+returns-in-Err-load_whole-clause-damaged g c known honest damage same =
     let clean = subst (λ db. (standing g.S.Store db).IsHonest) c.into_inner-in-Err-load_whole.ensures honest in
     let over = ap (standing g.S.Store) c.over-store.ensures in
     let then = c.in-Err-load_whole.ensures.reads.trust clean in
-    let found = c.in-Ok.ensures.rows (subst (λ s. s.IsHonest) over then) either in
+    let found = c.in-Ok.ensures.rows (subst (λ s. s.IsHonest) over then) (meta_where_known (standing g.S.Store c.args.db) known) in
     let image = g.V.Volume.image c.args.volume in
-    elim either [
-      | inl ready ↦
-          let still = ready_still (standing g.S.Store c.args.db) (standing g.S.Store c.identify.new.db) (standing g.S.Store c.over-store.result) _ c.in-Ok.ensures.reads over then ready in
-          let of = c.in-Err-load_whole.ensures.rows clean still.0 damage same in
+    elim known [
+      | inl bare ↦ absurd (found.row (bare_has_none (state g.S.Store c.args.db) bare))
+      | inr meta ↦
+          let first = meta.1 (sym c.if-not-has_tables.ensures) in
+          let same_tables = stands_still (standing g.S.Store c.args.db) (standing g.S.Store c.identify.new.db) (standing g.S.Store c.over-store.result) _ c.in-Ok.ensures.reads over then first.rest in
+          let of = c.in-Err-load_whole.ensures.rows clean (same_tables.first_tables first) damage same in
           record {
             is_first = λ tells. record {
-              is_true = subst (λ rows. IsDamaged damage rows image) still.1 (of.is_true image);
-              first = subst (λ rows. NoneBefore damage rows image) still.1 (of.first image (subst (λ rows. NoneBefore Schema rows image) (sym still.1) (found.undamaged tells)));
+              is_true = subst (λ rows. IsDamaged damage rows image) same_tables.rows (of.is_true image);
+              first = subst (λ rows. NoneBefore damage rows image) same_tables.rows (of.first image (subst (λ rows. NoneBefore Schema rows image) (sym same_tables.rows) (found.undamaged tells)));
             };
             not_before = λ _. found.row;
-            of_rows = λ _ _ any. subst (λ rows. IsDamaged damage rows any) still.1 (of.is_true any);
+            of_rows = λ _ _ any. subst (λ rows. IsDamaged damage rows any) same_tables.rows (of.is_true any);
           }
-      | inr bare ↦ absurd (found.row (bare_has_none (state g.S.Store c.args.db) bare))
     ]
 
 pub returns-in-Err-load_whole-clause-reads : goal.returns-in-Err-load_whole-clause-reads
@@ -94,10 +107,10 @@ returns-in-Ok-map_of-clause-loaded g c =
     let number = sym of.number_is ∙ ap (λ (r : Records). r.number) is in
     let blocks = sym found.blocks ∙ sym of.blocks_is ∙ ap (λ (r : Records). r.blocks) is in
     record {
-      in_form = λ ready honest.
+      in_form = λ first honest.
           let clean = subst (λ db. (standing g.S.Store db).IsHonest) at honest in
-          let still = ready_still (standing g.S.Store c.args.db) (standing g.S.Store c.identify.new.db) (standing g.S.Store c.over-store.result) _ c.in-Ok.ensures.reads over (c.in-Ok-load_whole.ensures.reads.trust clean) ready in
-          ap form_of (sym still.1) ∙ c.in-Ok-load_whole.ensures.rows clean still.0 ∙ ap InForm is;
+          let still = stands_still (standing g.S.Store c.args.db) (standing g.S.Store c.identify.new.db) (standing g.S.Store c.over-store.result) _ c.in-Ok.ensures.reads over (c.in-Ok-load_whole.ensures.reads.trust clean) first.rest in
+          ap form_of (sym still.rows) ∙ c.in-Ok-load_whole.ensures.rows clean (still.first_tables first) ∙ ap InForm is;
       good = λ tells. record {
         whole = subst AreWhole is of.whole;
         volume = record { head = found.head tells ∙ ap head_of number; size = g.met.V.Volume.image_length volume tells ∙ ap (λ n. 4096 * n) blocks };
@@ -110,12 +123,12 @@ returns-in-Ok-map_of-clause-loaded g c =
           (λ i left. (one i).0 (left_now g.V.Volume.moment g.V.Volume.left_at volume later _ (c.in-Ok.ensures.volume.any_moment tells) i left) ∙ sym (same tells));
       rows = λ ready honest.
           let clean = subst (λ db. (standing g.S.Store db).IsHonest) at honest in
-          let still = ready_still (standing g.S.Store c.args.db) (standing g.S.Store c.identify.new.db) (standing g.S.Store c.over-store.result) _ c.in-Ok.ensures.reads over (c.in-Ok-load_whole.ensures.reads.trust clean) ready in
-          let on = ready_still (standing g.S.Store c.over-store.result) (standing g.S.Store c.load_whole.new.store) (standing g.S.Store c.keeper_over.result.store) _ c.in-Ok-load_whole.ensures.reads (ap (standing g.S.Store) at) honest still.0 in
+          let still = stands_still (standing g.S.Store c.args.db) (standing g.S.Store c.identify.new.db) (standing g.S.Store c.over-store.result) _ c.in-Ok.ensures.reads over (c.in-Ok-load_whole.ensures.reads.trust clean) ready.rest in
+          let on = stands_still (standing g.S.Store c.over-store.result) (standing g.S.Store c.load_whole.new.store) (standing g.S.Store c.keeper_over.result.store) _ c.in-Ok-load_whole.ensures.reads (ap (standing g.S.Store) at) honest still.rest in
           record {
-            ready = on.0;
-            in_form = ap form_of on.1 ∙ c.in-Ok-load_whole.ensures.rows clean still.0 ∙ ap InForm is;
-            settled = on.0.only;
+            ready = on.ready (still.ready ready);
+            in_form = ap form_of on.rows ∙ c.in-Ok-load_whole.ensures.rows clean (still.first_tables (first_of_ready (state g.S.Store c.args.db) ready)) ∙ ap InForm is;
+            settled = on.rest.only;
           };
     }
 

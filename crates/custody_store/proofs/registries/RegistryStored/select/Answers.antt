@@ -1,12 +1,12 @@
 use Rattle.sqlite.specs.Held.{state}
 use Rattle.custody_store.specs.Calls.{items_of}
-use Rattle.custody_store.proofs.StatementLemmas.{select_registry_text, registry_places, registry_names, select_registry_is}
-use Rattle.custody_store.proofs.SelectLemmas.{selects}
+use Rattle.custody_store.proofs.StatementLemmas.{select_registry_text, select_registry_query}
+use Rattle.custody_store.proofs.SelectLemmas.{reads}
 use Rattle.custody_store.proofs.FindLemmas.{finds_registry}
 use Rattle.custody_store.proofs.registries.RegistryStored.select.Goals as goal
 
 pub returns-clause-found : goal.returns-clause-found
-returns-clause-found g c clean ready = finds_registry (state g.S.Store c.args.db.now) (state g.S.Store c.ask.new.db) _ clean ready c.ask.ensures.asks
+returns-clause-found g c clean at = finds_registry (state g.S.Store c.args.db.now) (state g.S.Store c.ask.new.db) _ clean at c.ask.ensures.asks
 
-pub returns-clause-selects : goal.returns-clause-selects
-returns-clause-selects g c = selects select_registry_text 1 registry_places registry_names select_registry_is items_of (state g.S.Store c.args.db.now) (state g.S.Store c.ask.new.db) _ c.ask.ensures.asks
+pub returns-clause-reads : goal.returns-clause-reads
+returns-clause-reads g c = reads select_registry_text select_registry_query items_of (state g.S.Store c.args.db.now) (state g.S.Store c.ask.new.db) _ c.ask.ensures.asks

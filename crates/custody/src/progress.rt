@@ -5,8 +5,8 @@ pub trait Progress {
     /// So many steps are to come.
     fn begin(&mut self, steps: usize);
 
-    /// One step more is done.
-    fn step(&mut self);
+    /// So many steps more are done.
+    fn advance(&mut self, steps: usize);
 }
 
 /// Says nothing.
@@ -16,5 +16,5 @@ pub struct Silent;
 impl Progress for Silent {
     fn begin(&mut self, _steps: usize) {}
 
-    fn step(&mut self) {}
+    fn advance(&mut self, _steps: usize) {}
 }
