@@ -2,13 +2,14 @@
 ghost use Rattle.std.specs.Prelude.{◌≡◌, true, false, IfOk};
 ghost use Rattle.vault_volume.specs.declared.file.FileVolume.{FileVolume};
 ghost use Rattle.vault_volume.specs.File.{is_made_anew};
-ghost use Rattle.custody_store.specs.Standing.{standing};
-ghost use Rattle.custody.specs.Opening.{HasAllOrNone, HasNoRecord};
+ghost use Rattle.custody_store.specs.Standing.{standing, HasMetaOrNone, has_any};
+ghost use Rattle.custody.specs.Opening.{HasNoRecord};
 
 use crate::error::ProgramError;
 use crate::vault::Ended;
 use custody::has_record;
 use custody_machine::Fault;
+use custody_store::has_any;
 use sqlite::{Alter, Connection, Error, ErrorCode, File, FileStore};
 use std::alloc::{AllocError, Global};
 use std::fs;
@@ -73,7 +74,8 @@ fn with_database<V: Drop>(
     Ok((volume, db))
 }
 
-/// The database of a folder with its volume: a new one where the database has no record.
+/// The database of a folder with its volume: a new one where the database is new. One that has tables and
+/// no record has failed, and the volume is left as it is.
 fn with_volume<S: Alter + Drop>(
     rt: &HostRuntime,
     folder: &str,
@@ -81,17 +83,31 @@ fn with_volume<S: Alter + Drop>(
     db: Connection<S>,
 ) -> Result<(FileVolume, Connection<S>), ProgramError>
     ensures failures { IfOk result (λ files. ⟦<FileVolume as Volume>⟧.failures files.0 ≡ 0) }
-    // A volume is made anew only where the database has no record of one.
-    ensures made { HasAllOrNone (standing S.Store db) → IfOk result (λ files. (standing S.Store files.1).IsHonest
+    // A volume is made anew only where none of the five tables is there.
+    ensures new { IfOk result (λ files. is_made_anew files.0 ≡ true → has_any (standing S.Store db) ≡ false) }
+    // So it has no record of one.
+    ensures made { HasMetaOrNone (standing S.Store db) → IfOk result (λ files. (standing S.Store files.1).IsHonest
         → is_made_anew files.0 ≡ true → HasNoRecord (standing S.Store db).rows) }
 {
     let mut db = db;
+    let is_new = is_empty(&db) && !has_any(&db);
     let volume = match has_record(&mut db) {
         Ok(true) => open_volume(rt, folder)?,
-        Ok(false) => create_volume(rt, folder, blocks)?,
+        Ok(false) if is_new => create_volume(rt, folder, blocks)?,
+        Ok(false) => return Err(ProgramError::Fault(Fault::StoreFailed)),
         Err(fault) => return Err(ProgramError::Fault(fault)),
     };
     Ok((volume, db))
+}
+
+/// Whether nothing is listed in a database. (A table is not among its tables where an index or a trigger
+/// on it is none that the database reads.)
+fn is_empty<S: Alter>(db: &Connection<S>) -> bool {
+    let schema = db.schema();
+    let tables = schema.tables.as_slice().len();
+    let indexes = schema.indexes.as_slice().len();
+    let views = schema.views.as_slice().len();
+    tables == 0 && indexes == 0 && views == 0
 }
 
 /// Closes the files of a vault, and answers the exit status. What was acknowledged is kept also where
