@@ -3,7 +3,8 @@
 #
 #   tests/program.sh [PROGRAM]
 #
-# With KILLS=N in the environment N puts are killed, and N/4 calls of init; else 120 and 30.
+# With KILLS=N in the environment N puts are killed, and N/4 calls of init; else 120 and 30. With SEED=S other vaults are
+# changed at random than with the seed 1.
 # PROGRAM is crates/escrow/out/escrow where it is not named. `./demo` builds it. Where there is no sqlite3 or
 # setpriv, or no tmpfs can be mounted, what needs it is left out, and a line says so.
 set -u
@@ -655,6 +656,24 @@ check "each day has its notice" test "$(wc -l < all.out)" = 2408
 check "the new lines are printed" cmp -s all.out <(cat first.all rest.out)
 expect 0 "" "" sweep swept --now $later
 
+echo "== an audit of many blocks"
+vault wide 4353
+mkdir long
+for n in $(seq 0 16); do
+    part=example_2026-08-0$((2 + n / 8))_full_S$((1 + n % 8))_R0.ryde
+    head -c 1048576 /dev/zero > "long/$part"
+    check "part $n is received" test -n "$("$program" put wide "long/$part" --now 2026-08-04T12:00:00Z)"
+done
+expect 0 "sound 17" "" audit wide
+if command -v script > /dev/null; then
+    script -qec "'$program' audit wide > wide.out" /dev/null < /dev/null > shown.err
+    check "a terminal is told how far it is" test "$(tr -d '\r' < shown.err)" = "audited 4096 of 4352 blocks"
+    check "and the output is as without it" test "$(cat wide.out)" = "sound 17"
+else
+    skip "no script, so no terminal"
+fi
+rm -r wide long
+
 echo "== killed at any moment"
 kills=${KILLS:-120}
 vault k $((kills + 2))
@@ -753,6 +772,127 @@ free 7 of 7" "" state altered
     expect 1 "" "Q6 dropped after keeping" put altered in/$name0 --now $ten
 else
     skip "no sqlite3"
+fi
+
+echo "== hostile rows and images"
+if command -v sqlite3 > /dev/null; then
+    # edited SQL [COMMAND..]: a copy of the vault with a deposit that has passed; its database is
+    # edited, and then the command is run
+    edited() {
+        local sql=$1
+        shift
+        rm -rf e
+        cp -r whole e
+        sqlite3 e/custody.db "$sql" .dump > rows && "$@" && cp e/vault.vol image
+    }
+    # kept TITLE: the copy is as the edit has left it
+    kept() {
+        check "no row is changed: $1" cmp -s rows <(sqlite3 e/custody.db .dump)
+        check "no block is changed: $1" cmp -s image e/vault.vol
+    }
+    # listed: the lines of the page's questions to the records
+    listed() { sqlite3 -readonly e/custody.db < "$top/docs/damage.sql" 2> /dev/null; }
+    # damaged NUMBER TITLE SQL [COMMAND..]: so edited the copy is damaged, and stays so
+    damaged() {
+        local number=$1 title=$2
+        shift 2
+        check "it can be edited: $title" edited "$@"
+        compare 3 "" "C5 damaged $number" "state: $title" "$program" state e
+        compare 3 "" "C5 damaged $number" "audit: $title" "$program" audit e
+        kept "$title"
+        case $number in
+            H1 | H2) ;;
+            *) check "it is listed first: $title" test "$(listed | sed '1!d; s/|.*//')" = "$number" ;;
+        esac
+    }
+    # opened TITLE SQL: so edited the copy is the vault that it was
+    opened() {
+        check "it can be edited: $1" edited "$2"
+        compare 0 "$registry
+part $name0 1422 held $ten
+$receipt
+free 6 of 7" "" "state: $1" "$program" state e
+        compare 0 "sound 1" "" "audit: $1" "$program" audit e
+        kept "$1"
+        check "nothing is listed: $1" test -z "$(listed)"
+    }
+    number="UPDATE meta SET number = '0000000000000002'"
+    schema="UPDATE meta SET schema_no = 2"
+    extents() { echo "UPDATE part SET extents = x'$1'"; }
+    # also REV PART BLOCK: one part more, of the first ten bytes of this block
+    also() {
+        local sha
+        sha=$(tail -c +$((4096 * $3 + 1)) whole/vault.vol | head -c 10 | sha256sum | cut -d ' ' -f 1)
+        echo "INSERT INTO part SELECT tld, day, $1, $2, kind, received, keep_day, 10, x'$sha'," \
+            "x'0000000${3}00000001' FROM part"
+    }
+
+    opened "as it is" ""
+    damaged H0 "no row of meta" "DELETE FROM meta"
+    damaged H1 "block 0, and the number" "$number" \
+        dd if=/dev/zero of=e/vault.vol bs=1 count=1 conv=notrunc status=none
+    damaged H2 "the number" "$number"
+    damaged H3 "the schema, and a length" "UPDATE meta SET schema_no = 9; UPDATE part SET len = 0"
+    damaged H4 "a length" "UPDATE part SET len = 0"
+    damaged H4 "the kind of a notice" "UPDATE notice SET kind = 14"
+    damaged H4 "no bytes of extents" "$(extents "")"
+    damaged H4 "4 bytes of extents" "$(extents 00000001)"
+    damaged H4 "9 bytes of extents" "$(extents 000000010000000100)"
+    damaged H4 "12 bytes of extents" "$(extents 000000010000000100000002)"
+    damaged H5 "block 0 in a part" "$(extents 0000000000000001)"
+    damaged H5 "a block behind the last" "$(extents 0000000800000001)"
+    damaged H5 "two blocks of a part of one" "$(extents 0000000100000002)"
+    damaged H6 "a block of two parts" "$(also 0 2 1)"
+    damaged H7 "no first part" "UPDATE part SET part = 2"
+    damaged H7 "no first notice" "UPDATE notice SET number = 2"
+    damaged H7 "a revision after the receipt" "$(also 1 1 2)"
+
+    damaged H4 "no parts" "DROP TABLE part"
+    damaged H4 "no notices" "DROP TABLE notice"
+    damaged H4 "no releases" "DROP TABLE handover"
+    damaged H4 "no notices and no releases" "DROP TABLE notice; DROP TABLE handover"
+    all="DROP TABLE handover; DROP TABLE notice; DROP TABLE part; DROP TABLE registry"
+    damaged H4 "meta alone" "$all"
+    damaged H3 "no releases, and the schema" "DROP TABLE handover; $schema"
+    damaged H2 "no releases, and the number" "DROP TABLE handover; $number"
+    damaged H0 "no meta" "DROP TABLE meta"
+    damaged H0 "no table" "$all; DROP TABLE meta"
+
+    # The database refuses a file in which a table refers to one that is not there.
+    for sql in "DROP TABLE registry" "DROP TABLE part; DROP TABLE registry"; do
+        check "it can be edited: $sql" edited "$sql"
+        compare 3 "" "C3 store failed" "state: $sql" "$program" state e
+        kept "$sql"
+    done
+
+    # An init leaves the volume as it is where there is a table, also one that the database does not see.
+    for sql in "DELETE FROM meta" "DROP TABLE meta" "CREATE INDEX more ON meta (lower(number))"; do
+        check "it can be edited: $sql" edited "$sql"
+        compare 3 "" "C5 damaged H0" "state: $sql" "$program" state e
+        compare 3 "" "C3 store failed" "init: $sql" \
+            "$program" init e --blocks 8 --number 0000000000000001
+        kept "$sql"
+    done
+    sqlite3 e/custody.db "DROP INDEX more"
+    compare 0 "sound 1" "" "audit: the index is gone" "$program" audit e
+
+    opened "statistics" "ANALYZE"
+    opened "an index more" "CREATE INDEX more ON part (day)"
+    opened "a table more" "CREATE TABLE more (text TEXT NOT NULL) STRICT"
+    opened "a table and an index more" \
+        "CREATE TABLE more (text TEXT NOT NULL) STRICT; CREATE INDEX most ON more (text)"
+    opened "the file made anew" "VACUUM"
+    opened "a number of its user" "PRAGMA user_version = 7"
+    opened "a view more" "CREATE VIEW more AS SELECT tld FROM registry"
+else
+    skip "no sqlite3"
+fi
+
+echo "== vaults that are changed at random"
+if python3 -c "import sqlite3" 2> /dev/null; then
+    check "tests/hostile.py" "$top/tests/hostile.py" "$program" --cases 300 --seed "${SEED:-1}" --seconds 300
+else
+    skip "no python3 with sqlite3"
 fi
 
 echo "$passed passed, $failed failed"
