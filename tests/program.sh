@@ -454,6 +454,7 @@ expect 3 "" "file failed: nowhere: folder missing" init nowhere --blocks 8 --num
 check "an init makes no folder" test ! -e nowhere
 compare 2 "" "error: an argument is no text" "words that are no text" "$program" $'\xff'
 compare 0 "$("$program" --help)" "" "help" "$program" --help
+compare 0 "$("$program" --help)" "" "help as a subcommand" "$program" help
 compare 0 "escrow 0.1.0" "" "the version" "$program" --version
 compare 2 "" "$("$program" state 2>&1)" "no folder is named" "$program" state
 

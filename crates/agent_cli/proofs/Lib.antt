@@ -1,6 +1,7 @@
 pub mod Examples
 pub mod FoldLemmas
 pub mod FormLemmas
+mod HelpLemmas
 pub mod OneReading
 pub mod PathLemmas
 pub mod Readings

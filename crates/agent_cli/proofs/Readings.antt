@@ -1,11 +1,11 @@
 -- What the matches of a parse give, and where a parse that passes has met a subcommand.
-use Rattle.std.proofs.Common.{◌∙◌, ◌≡◌, ◌≤◌, ◌<◌, ◌^◌, ◌&&◌, if◌then◌else◌, nat_le, nat_lt, ap, arith, refl, sym, subst, IsErrAnd, inl, inr, List, ℕ, [], ◌∷◌, Bool, true, false, Option, Some, None, Result, Ok, Err, option_map, unwrap_or, IfSome, cond, find, is_some, length}
+use Rattle.std.proofs.Common.{◌∙◌, ◌≡◌, ◌≤◌, ◌<◌, ◌^◌, ◌&&◌, ◌||◌, not, if◌then◌else◌, nat_le, nat_lt, ap, arith, refl, sym, subst, IsErrAnd, inl, inr, List, ℕ, [], ◌∷◌, Bool, true, false, Option, Some, None, Result, Ok, Err, option_map, unwrap_or, IfSome, cond, find, is_some, length}
 use Rattle.std.specs.Borrow.{Bor}
 use Rattle.std.specs.List.{list_all}
 use Rattle.std.specs.Option.{option_map_or}
 use Rattle.std.specs.Str.Parse.{ExplainsUnsignedError, HasUnsignedDigitsIfOk, ParsesUnsigned, digits_value, without_leading_plus}
 use Rattle.clap.specs.Words.{Row, Shape, Text, kind_of, subcommand_of, fault_of, built, HasKind, IsAmong, Kinds, one_text, rows_of}
-use Rattle.clap.specs.Walk.{answers_to, is_empty, stop_after}
+use Rattle.clap.specs.Walk.{answers_to, is_empty, nothing_held, stop_after, walk_from}
 use Rattle.clap.specs.Simple.{argument_words, entered, label_of, names_of, rows_at}
 use Rattle.clap.specs.Matches.{subcommand_name_of}
 use Rattle.clap.specs.Words.{subcommand_rows_of}
@@ -20,6 +20,7 @@ use Rattle.clap.specs.declared.error.Error.{Error}
 use Rattle.clap.specs.declared.error.ErrorKind.{ErrorKind}
 use Rattle.clap.proofs.ValueTestLemmas.{accepts-Accepts, Accepts-accepts}
 use Rattle.agent_cli.specs.Grammar.{escrow_app}
+use Rattle.agent_cli.proofs.HelpLemmas.{IsNotHelp, first_empty, other_way, walk_none}
 use Rattle.agent_cli.specs.Forms.{count_in_text, count_of}
 use Rattle.agent_cli.specs.Order.{Answers, Asks, IsFaultFrom, NamedReading, Reading, bad, named, refused}
 use Rattle.agent_cli.specs.declared.order.Argument.{Argument}
@@ -108,27 +109,37 @@ bad_answers Reads a e is (Err x) h reads = subst (λ (y : WordFault). Answers Re
 
 -- ---- a subcommand
 
-at_test : {X : Type 0} (p q : X → Bool) (x : X) (rest : Option X) (b : Bool) → q x ≡ true → IfSome rest (λ y. q y ≡ true) → IfSome (cond b (Some x) rest) (λ y. q y ≡ true)
-at_test p q x rest true here later = here
-at_test p q x rest false here later = later
+at_test : {X : Type 0} (q : X → Bool) (x : X) (rest : Option X) (b : Bool) → (q x || not b) ≡ true → IfSome rest (λ y. q y ≡ true)
+    → IfSome (cond b (Some x) rest) (λ y. q y ≡ true)
+at_test q x rest true here later = at_least (q x) here
+  where
+    at_least : (b : Bool) → (b || false) ≡ true → b ≡ true
+    at_least true e = refl
+    at_least false e = e
+at_test q x rest false here later = later
 
-found_passes : {X : Type 0} (p q : X → Bool) (xs : List X) → list_all q xs ≡ true → IfSome (find p xs) (λ x. q x ≡ true)
+found_passes : {X : Type 0} (p q : X → Bool) (xs : List X) → list_all (λ x. q x || not (p x)) xs ≡ true → IfSome (find p xs) (λ x. q x ≡ true)
 found_passes p q [] h = tt
-found_passes p q (x ∷ xs) h = at_test p q x (find p xs) (p x) (both (q x) (list_all q xs) h).0 (found_passes p q xs (both (q x) (list_all q xs) h).1)
+found_passes p q (x ∷ xs) h = at_test q x (find p xs) (p x) (both _ _ h).0 (found_passes p q xs (both _ _ h).1)
 
 shape_named : (o : Option Shape) (words : List Text) → IfSome o (λ s. is_some (named s.name) ≡ true)
     → IfSome (option_map (λ s. rows_at s words) o) (λ p. is_some (named p.0) ≡ true)
 shape_named None words h = tt
 shape_named (Some s) words h = h
 
-pub knows_subcommand : (words : List Text) → IfSome (subcommand_of escrow_app words) (λ p. is_some (named p.0) ≡ true)
-knows_subcommand words = go (stop_after (built escrow_app).top.rules (names_of (built escrow_app)) (argument_words escrow_app words))
+-- words that pass name a subcommand of the table: `help`, which is none, is told as help
+pub knows_subcommand : (words : List Text) → fault_of escrow_app words ≡ [] → IfSome (subcommand_of escrow_app words) (λ p. is_some (named p.0) ≡ true)
+knows_subcommand words none =
+    let rest = argument_words escrow_app words in
+    go (stop_after (built escrow_app).top.rules (names_of (built escrow_app)) rest)
+    (walk_none (built escrow_app).top (names_of (built escrow_app)) refl rest (walk_from nothing_held) tt (first_empty _ _ none))
   where
-    go : (stop : Option (Text × List Text)) → IfSome (entered (built escrow_app) stop) (λ p. is_some (named p.0) ≡ true)
-    go None = tt
-    go (Some p) =
+    go : (stop : Option (Text × List Text)) → IsNotHelp stop → IfSome (entered (built escrow_app) stop) (λ p. is_some (named p.0) ≡ true)
+    go None other = tt
+    go (Some p) other =
         let test : Shape → Bool = λ s. answers_to p.0 (label_of s) in
-        shape_named (find test (built escrow_app).subs) p.1 (found_passes test (λ s. is_some (named s.name)) (built escrow_app).subs refl)
+        let help = other_way p.0 other in
+        shape_named (find test (built escrow_app).subs) p.1 (found_passes test (λ s. is_some (named s.name)) (built escrow_app).subs (rw help refl))
 
 pair_of : {X : Type 0} (h : X → Text × List Row) (s : Option X) (name : Text) (rows : List Row) → Some name ≡ option_map (λ b. (h b).0) s
     → Some rows ≡ option_map {T = Text × List Row} (λ p. p.1) (option_map h s) → option_map h s ≡ Some (name, rows)

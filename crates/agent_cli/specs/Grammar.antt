@@ -84,10 +84,10 @@ shape_in name rules = (fold with_rule (new_app name) rules).top
 abbrev pub shape : Subcommand → Shape
 shape subcommand = shape_in (words_of subcommand).0 (words_of subcommand).1
 
--- a subcommand has to be named, `help` is none, and `--version` is asked of the command alone
+-- a subcommand has to be named, and `--version` is asked of the command alone
 abbrev pub bare_app : App
 bare_app = record (new_app (codes "escrow")) {
-  top = record (new_app (codes "escrow")).top { subcommand_required = true; disable_help_subcommand = true; has_version = true };
+  top = record (new_app (codes "escrow")).top { subcommand_required = true; has_version = true };
 }
 
 abbrev pub escrow_app : App

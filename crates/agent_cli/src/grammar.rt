@@ -63,7 +63,6 @@ fn bare_command<'a>(alloc: Global) -> Command<'a>
         .after_help(after)
         .version(VERSION)
         .subcommand_required(true)
-        .disable_help_subcommand(true)
 }
 
 pub(crate) fn escrow_command<'a>(alloc: Global) -> Result<Command<'a>, AllocError>

@@ -29,8 +29,9 @@ pub unreachable-requires-in-None : goal.unreachable-requires-in-None
 unreachable-requires-in-None c =
     let words : List (List ℕ) = map string_bytes c.args.words.now in
     let app = c.in_ok-command.ensures in
+    let none = subst (λ (a : App). fault_of a words ≡ []) app (c.in-Ok.ensures.kinds (ap is_simple_and_free app)) in
     let met = met_rows c.in-Ok.matches c.in-Some.name.now (rows_of (found_of c.in-Some.inner.now)) c.in-Some.ensures.name c.in-Some.ensures.rows in
     let sub = (c.in-Ok.ensures.matches (ap is_simple app)).1 ∙ ap (λ (a : App). subcommand_of a words) app in
-    let known : is_some (named c.in-Some.name.now) ≡ true = subst (λ o. IfSome o (λ p. is_some (named p.0) ≡ true)) (sym sub ∙ met) (knows_subcommand words) in
+    let known : is_some (named c.in-Some.name.now) ≡ true = subst (λ o. IfSome o (λ p. is_some (named p.0) ≡ true)) (sym sub ∙ met) (knows_subcommand words none) in
     let clash : true ≡ false = sym known ∙ ap is_some (sym c.named.ensures ∙ c.in-None.is) in
     cc
