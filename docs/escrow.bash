@@ -1,0 +1,63 @@
+# Completions of bash for escrow. Made by tests/made.py from the table of the words.
+# Source this file, or copy it to /usr/share/bash-completion/completions/escrow
+declare -gA _escrow_options=(
+    [init]='--blocks --number'
+    [register]='--first'
+    [put]='--now'
+    [verify]='--date --kind --revision --parts --id --now'
+    [sweep]='--now'
+    [purge]='--now'
+    [release]='--now'
+    [fetch]=''
+    [report]=''
+    [state]=''
+    [audit]=''
+    [serve]='--port --requests --now'
+)
+declare -gA _escrow_places=(
+    [init]='DIR'
+    [register]='DIR TLD'
+    [put]='DIR FILE'
+    [verify]='DIR TLD'
+    [sweep]='DIR'
+    [purge]='DIR'
+    [release]='DIR REF TLD GROUND'
+    [fetch]='DIR REF NAME'
+    [report]='DIR TLD'
+    [state]='DIR'
+    [audit]='DIR'
+    [serve]='DIR'
+)
+declare -gA _escrow_values=(
+    [verify --kind]='full diff'
+    [release GROUND]='operator termination no_notices sunday_failed five_failed insolvency critical order audit'
+)
+
+_escrow_offer() { mapfile -t COMPREPLY < <(compgen "$@" -- "${COMP_WORDS[COMP_CWORD]}"); }
+
+_escrow() {
+    local command=${COMP_WORDS[1]} before=${COMP_WORDS[COMP_CWORD - 1]} places=() place=0 at
+    COMPREPLY=()
+    if ((COMP_CWORD == 1)); then
+        _escrow_offer -W "${!_escrow_places[*]} help --help --version"
+    elif [[ $command == help ]]; then
+        ((COMP_CWORD == 2)) && _escrow_offer -W "${!_escrow_places[*]}"
+    elif [[ " ${_escrow_options[$command]} " == *" $before "* ]]; then
+        _escrow_offer -W "${_escrow_values[$command $before]}"
+    elif [[ ${COMP_WORDS[COMP_CWORD]} == -* ]]; then
+        _escrow_offer -W "${_escrow_options[$command]} --help"
+    else
+        # the place of the word among those that are no option and no value of one
+        for ((at = 2; at < COMP_CWORD; at++)); do
+            if [[ ${COMP_WORDS[at]} == --* ]]; then ((at++)); else ((place++)); fi
+        done
+        read -ra places <<< "${_escrow_places[$command]}"
+        case ${places[place]} in
+            DIR) _escrow_offer -d ;;
+            FILE) _escrow_offer -f ;;
+            "") _escrow_offer -W "${_escrow_options[$command]} --help" ;;
+            *) _escrow_offer -W "${_escrow_values[$command ${places[place]}]}" ;;
+        esac
+    fi
+}
+complete -o filenames -F _escrow escrow

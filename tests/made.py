@@ -1,0 +1,333 @@
+#!/usr/bin/env python3
+"""The pages of docs/ that are made from other files, so that they cannot part from them.
+
+    docs/escrow.1, docs/escrow.bash   the manual page and bash's completions, from the table of the words
+                                      (crates/agent_cli/src/table.rt, and the texts of src/grammar.rt beside it)
+    docs/crates.svg                   the crates with the ways of a command and of a request, from crates.txt
+
+usage: tests/made.py            writes them
+       tests/made.py --check    compares them. The last line is `N passed, M failed`
+"""
+import re
+import sys
+from dataclasses import dataclass
+from pathlib import Path
+
+TOP = Path(__file__).resolve().parent.parent
+CLI = TOP / "crates" / "agent_cli" / "src"
+
+
+# ---- the table of the words
+
+
+@dataclass
+class Word:
+    """An argument: its id, the name of its value where it is an option, and what help says of it."""
+
+    id: str
+    value: str
+    required: bool
+    help: str
+
+    @property
+    def shown(self):
+        return f"--{self.id} {self.value}" if self.value else self.id
+
+
+@dataclass
+class Row:
+    name: str
+    about: str
+    after: str
+    words: list
+
+
+def text(literal):
+    """The text of a literal of Rust, without its quotes."""
+    joined = re.sub(r"\\\n\s*", "", literal)
+    return joined.replace("\\n", "\n").replace('\\"', '"')
+
+
+STRING = r'"((?:[^"\\]|\\.|\\\n)*)"'
+
+
+def field(name, block):
+    return text(re.search(rf"\b{name}:\s*{STRING}", block, re.DOTALL)[1])
+
+
+def word_of(block):
+    value = re.search(rf"Form::Option \{{\s*value: {STRING}", block)
+    value = value[1] if value else "N" if "Form::Count" in block else ""
+    return Word(field("id", block), value, "required: false" not in block, field("help", block))
+
+
+def table():
+    source = (CLI / "table.rt").read_text()
+    named = re.finditer(r"const (\w+): Word<.*?= Word \{(.*?)\n\};", source, re.DOTALL)
+    shared = {it[1]: word_of(it[2]) for it in named}
+    rows = []
+    for it in re.finditer(r"static \w+: Row<.*?= Row \{\n(.*?)\n\};", source, re.DOTALL):
+        head, listed = it[1].split("words: &[", 1)
+        found = re.finditer(r"\bWord \{(.*?\n {8}\}),|\b([A-Z]+)\b(?=[,\]])", listed, re.DOTALL)
+        words = [shared[at[2]] if at[2] else word_of(at[1]) for at in found]
+        rows.append(Row(field("name", head), field("about", head), field("after", head), words))
+    return rows
+
+
+def texts():
+    """What help says of the command as a whole, and behind its subcommands; and the version."""
+    source = (CLI / "grammar.rt").read_text()
+    found = re.finditer(rf"(about|after|VERSION)(?:: &str)? =\s*{STRING};", source, re.DOTALL)
+    named = {it[1]: text(it[2]) for it in found}
+    return named["about"], named["after"], named["VERSION"]
+
+
+# ---- the manual page
+
+
+def roff(line):
+    escaped = line.replace("\\", "\\e").replace("-", "\\-")
+    return "\\&" + escaped if escaped[:1] in (".", "'") else escaped
+
+
+def usage(row):
+    """The words of a call in roff, names in bold and values in italics."""
+    options = [
+        f"\\fB\\-\\-{it.id}\\fR \\fI{it.value}\\fR" if it.required else f"[\\fB\\-\\-{it.id}\\fR \\fI{it.value}\\fR]"
+        for it in row.words
+        if it.value
+    ]
+    places = [f"\\fI{it.id}\\fR" for it in row.words if not it.value]
+    return " ".join([f"\\fBescrow {row.name}\\fR", *places, *options])
+
+
+def manual(rows):
+    about, after, version = texts()
+    first, status = after.split("\n\n")
+    lines = [
+        '.\\" Made by tests/made.py from the table of the words.',
+        f'.TH ESCROW 1 "" "escrow {version}"',
+        ".SH NAME",
+        "escrow \\- custody of registry data escrow deposits",
+        ".SH SYNOPSIS",
+    ]
+    for row in rows:
+        lines += [usage(row), ".br"]
+    lines += [".SH DESCRIPTION", roff(about) + ".", ".SH COMMANDS"]
+    for row in rows:
+        lines += [".TP", usage(row), roff(row.about) + "."]
+        for word in row.words:
+            lines += [".RS", ".TP", f"\\fI{roff(word.shown)}\\fR", roff(word.help) + ".", ".RE"]
+        lines += [".RS", ".PP", ".nf", *map(roff, row.after.split("\n")), ".fi", ".RE"]
+    lines += [".SH EXAMPLES", ".nf", *(roff(it.strip()) for it in first.split("\n")[1:]), ".fi"]
+    lines += [".SH EXIT STATUS"]
+    for it in status.removeprefix("Exit status: ").split(", "):
+        number, meaning = it.split(" ", 1)
+        lines += [".TP", f"\\fB{number}\\fR", roff(meaning)]
+    return "\n".join(lines) + "\n"
+
+
+# ---- completions
+
+
+def choices(row, word):
+    """The values of a word that the table lists, as `a, b or c` behind a colon: in its help, or in a line behind."""
+    behind = re.sub(r",\n +", ", ", row.after).split("\n")
+    said = [word.help, *(it for it in behind if it.lower().startswith(f"{word.id.lower()}: "))]
+    found = [re.search(r": ((?:\w+, )*\w+ or \w+)$", it) for it in said]
+    return next((re.split(", | or ", it[1]) for it in found if it), [])
+
+
+COMPLETE = """
+_escrow_offer() { mapfile -t COMPREPLY < <(compgen "$@" -- "${COMP_WORDS[COMP_CWORD]}"); }
+
+_escrow() {
+    local command=${COMP_WORDS[1]} before=${COMP_WORDS[COMP_CWORD - 1]} places=() place=0 at
+    COMPREPLY=()
+    if ((COMP_CWORD == 1)); then
+        _escrow_offer -W "${!_escrow_places[*]} help --help --version"
+    elif [[ $command == help ]]; then
+        ((COMP_CWORD == 2)) && _escrow_offer -W "${!_escrow_places[*]}"
+    elif [[ " ${_escrow_options[$command]} " == *" $before "* ]]; then
+        _escrow_offer -W "${_escrow_values[$command $before]}"
+    elif [[ ${COMP_WORDS[COMP_CWORD]} == -* ]]; then
+        _escrow_offer -W "${_escrow_options[$command]} --help"
+    else
+        # the place of the word among those that are no option and no value of one
+        for ((at = 2; at < COMP_CWORD; at++)); do
+            if [[ ${COMP_WORDS[at]} == --* ]]; then ((at++)); else ((place++)); fi
+        done
+        read -ra places <<< "${_escrow_places[$command]}"
+        case ${places[place]} in
+            DIR) _escrow_offer -d ;;
+            FILE) _escrow_offer -f ;;
+            "") _escrow_offer -W "${_escrow_options[$command]} --help" ;;
+            *) _escrow_offer -W "${_escrow_values[$command ${places[place]}]}" ;;
+        esac
+    fi
+}
+complete -o filenames -F _escrow escrow
+"""
+
+
+def completions(rows):
+    options = {row.name: [f"--{it.id}" for it in row.words if it.value] for row in rows}
+    places = {row.name: [it.id for it in row.words if not it.value] for row in rows}
+    values = {
+        f"{row.name} {f'--{it.id}' if it.value else it.id}": choices(row, it)
+        for row in rows
+        for it in row.words
+        if choices(row, it)
+    }
+    lines = [
+        "# Completions of bash for escrow. Made by tests/made.py from the table of the words.",
+        "# Source this file, or copy it to /usr/share/bash-completion/completions/escrow",
+    ]
+    for name, table in (("options", options), ("places", places), ("values", values)):
+        entries = (f"    [{key}]='{' '.join(words)}'" for key, words in table.items())
+        lines += [f"declare -gA _escrow_{name}=(", *entries, ")"]
+    return "\n".join(lines) + "\n" + COMPLETE
+
+
+# ---- the picture of the crates
+
+WIDTH, ROW, BOX, HIGH = 760, 84, 150, 34
+COLOURS = {
+    "Base": "#e8e8e8",
+    "Format": "#fdebd0",
+    "Verification": "#fdebd0",
+    "Records": "#d5f0e0",
+    "Store": "#d5f0e0",
+    "Machine": "#d5f0e0",
+    "Rules": "#d5f0e0",
+    "Custody": "#b8e6cb",
+    "Words": "#dbe9fb",
+    "HTTP": "#eadcf7",
+    "Program": "#ffffff",
+}
+# The crates in the order in which a command and a request come to them, and the colour of their numbers.
+WAYS = {
+    "a command": ("#1f5fbf", "escrow agent_cli custody custody_rules vault_volume custody_store answer_lines".split()),
+    "a request": ("#8e44ad", "escrow http_serve http_api http_request custody answer_lines".split()),
+}
+
+
+def crates():
+    """The group of each crate, and what it names of the repository; without tests, benches and what only tests use."""
+    group, found = "", {}
+    for line in (TOP / "crates.txt").read_text().splitlines():
+        if heading := re.match(r"# (\w+)[:. ]", line):
+            group = f"{heading[1]} {'tests' if 'Only tests' in line else ''}".strip()
+        elif named := re.match(r"(\w+):(.*)", line):
+            found[named[1]] = (group, named[2].split())
+    drawn = {name: it for name, it in found.items() if it[0] in COLOURS}
+    return {name: (group, [it for it in below if it in drawn]) for name, (group, below) in drawn.items()}
+
+
+def all_below(name, found):
+    return set(found[name][1]).union(*(all_below(it, found) for it in found[name][1]))
+
+
+def nearest(name, found):
+    """What a crate names and reaches through no other crate that it names."""
+    below = found[name][1]
+    return [it for it in below if not any(it in all_below(other, found) for other in below)]
+
+
+def levels(found):
+    """The rows of the picture, the highest first: each crate above all that it stands on, and each line that crosses a
+    row as a place of its own, a pair of crates."""
+    level = {}
+    for name in found:
+        level[name] = 1 + max((level[it] for it in found[name][1]), default=-1)
+    top = max(level.values())
+    rows = [[it for it in found if level[it] == top - height] for height in range(top + 1)]
+    for name in found:
+        for it in nearest(name, found):
+            for height in range(level[it] + 1, level[name]):
+                rows[top - height].append((name, it))
+    return rows
+
+
+def places(found):
+    """The middle of the upper edge of each box, and of each line in a row that it crosses: near what is above it."""
+    place, above = {}, {it: [] for it in found}
+    for name in found:
+        for it in nearest(name, found):
+            above[it].append(name)
+
+    def middle(it):
+        over = [it] if isinstance(it, tuple) else [(name, it) for name in above[it]]
+        xs = [place[pair][0] if pair in place else place[pair[0]][0] for pair in over]
+        return sum(xs) // len(xs) if xs else 0
+
+    for height, row in enumerate(levels(found)):
+        gap = WIDTH // (len(row) + 1)
+        for at, it in enumerate(sorted(row, key=middle)):
+            place[it] = place[it, height] = (gap * (at + 1), 30 + ROW * height)
+    return place
+
+
+def line(points):
+    """A line through points, each the lower end of a box or of a row, and the upper end of the next."""
+    (x, y), *more = points
+    path = f"M{x} {y}"
+    for to, low in more:
+        bend = (low - y) // 2
+        path += f" C{x} {y + bend} {to} {low - bend} {to} {low}"
+        x, y = to, low + HIGH
+        path += f" L{x} {y}"
+    return path
+
+
+def picture():
+    found = crates()
+    place = places(found)
+    height = max(y for _, y in place.values()) + HIGH + 46
+    size = f'viewBox="0 0 {WIDTH} {height}"'
+    lines = [
+        f'<svg xmlns="http://www.w3.org/2000/svg" {size} font-family="sans-serif" font-size="14">',
+        "<!-- Made by tests/made.py from crates.txt. -->",
+        f'<rect width="{WIDTH}" height="{height}" fill="#ffffff"/>',
+    ]
+    for name in found:
+        for it in nearest(name, found):
+            x, y = place[name]
+            crossed = [at for key, at in place.items() if key[0] == (name, it)]
+            lines.append(f'<path d="{line([(x, y + HIGH), *crossed, place[it]])}" fill="none" stroke="#888888"/>')
+    for name, (group, _) in found.items():
+        x, y = place[name]
+        box = f'<rect x="{x - BOX // 2}" y="{y}" width="{BOX}" height="{HIGH}" rx="5"'
+        lines.append(f'{box} fill="{COLOURS[group]}" stroke="#555555"/>')
+        lines.append(f'<text x="{x}" y="{y + 22}" text-anchor="middle">{name}</text>')
+    for number, (title, (colour, way)) in enumerate(WAYS.items()):
+        dots = [(place[it][0] + (BOX // 2 if number else -BOX // 2), place[it][1] + HIGH // 2) for it in way]
+        for at, (x, y) in enumerate(dots, 1):
+            lines.append(f'<circle cx="{x}" cy="{y}" r="9" fill="{colour}"/>')
+            lines.append(f'<text x="{x}" y="{y + 4}" text-anchor="middle" font-size="11" fill="#ffffff">{at}</text>')
+        x, y = 30 + 200 * number, height - 20
+        lines.append(f'<circle cx="{x}" cy="{y}" r="9" fill="{colour}"/>')
+        lines.append(f'<text x="{x + 16}" y="{y + 5}">the way of {title}</text>')
+    return "\n".join([*lines, "</svg>"]) + "\n"
+
+
+def main():
+    rows = table()
+    made = {"escrow.1": manual(rows), "escrow.bash": completions(rows), "crates.svg": picture()}
+    passed = 0
+    for name, text in made.items():
+        file = TOP / "docs" / name
+        if sys.argv[1:] != ["--check"]:
+            file.write_text(text)
+        elif file.is_file() and file.read_text() == text:
+            passed += 1
+        else:
+            print(f"docs/{name} is not what tests/made.py makes: run it, and look at what changes")
+    if sys.argv[1:] == ["--check"]:
+        print(f"{passed} passed, {len(made) - passed} failed")
+        return passed != len(made)
+    return 0
+
+
+if __name__ == "__main__":
+    sys.exit(main())
