@@ -1,4 +1,4 @@
-# Completions of bash for escrow. Made by tests/made.py from the table of the words.
+# Completions of bash for escrow. The tables are made by tests/made.py from the table of the words.
 # Source this file, or copy it to /usr/share/bash-completion/completions/escrow
 declare -gA _escrow_options=(
     [init]='--blocks --number'
@@ -33,6 +33,7 @@ declare -gA _escrow_values=(
     [release GROUND]='operator termination no_notices sunday_failed five_failed insolvency critical order audit'
 )
 
+# What is offered for the word at the cursor.
 _escrow_offer() { mapfile -t COMPREPLY < <(compgen "$@" -- "${COMP_WORDS[COMP_CWORD]}"); }
 
 _escrow() {

@@ -1,7 +1,7 @@
 #!/usr/bin/env python3
 """The pages of docs/ that are made from other files, so that they cannot part from them.
 
-    docs/escrow.1, docs/escrow.bash   the manual page and bash's completions, from the table of the words
+    docs/escrow.1, docs/escrow.bash   the manual page, and the tables of bash's completions, from the table of the words
                                       (crates/agent_cli/src/table.rt, and the texts of src/grammar.rt beside it)
     docs/crates.svg                   the crates with the ways of a command and of a request, from crates.txt
 
@@ -138,36 +138,8 @@ def choices(row, word):
     return next((re.split(", | or ", it[1]) for it in found if it), [])
 
 
-COMPLETE = """
-_escrow_offer() { mapfile -t COMPREPLY < <(compgen "$@" -- "${COMP_WORDS[COMP_CWORD]}"); }
-
-_escrow() {
-    local command=${COMP_WORDS[1]} before=${COMP_WORDS[COMP_CWORD - 1]} places=() place=0 at
-    COMPREPLY=()
-    if ((COMP_CWORD == 1)); then
-        _escrow_offer -W "${!_escrow_places[*]} help --help --version"
-    elif [[ $command == help ]]; then
-        ((COMP_CWORD == 2)) && _escrow_offer -W "${!_escrow_places[*]}"
-    elif [[ " ${_escrow_options[$command]} " == *" $before "* ]]; then
-        _escrow_offer -W "${_escrow_values[$command $before]}"
-    elif [[ ${COMP_WORDS[COMP_CWORD]} == -* ]]; then
-        _escrow_offer -W "${_escrow_options[$command]} --help"
-    else
-        # the place of the word among those that are no option and no value of one
-        for ((at = 2; at < COMP_CWORD; at++)); do
-            if [[ ${COMP_WORDS[at]} == --* ]]; then ((at++)); else ((place++)); fi
-        done
-        read -ra places <<< "${_escrow_places[$command]}"
-        case ${places[place]} in
-            DIR) _escrow_offer -d ;;
-            FILE) _escrow_offer -f ;;
-            "") _escrow_offer -W "${_escrow_options[$command]} --help" ;;
-            *) _escrow_offer -W "${_escrow_values[$command ${places[place]}]}" ;;
-        esac
-    fi
-}
-complete -o filenames -F _escrow escrow
-"""
+# What stands before the code in docs/escrow.bash: the tables above it are made, and the code is kept.
+CODE = "# What is offered for the word at the cursor.\n"
 
 
 def completions(rows):
@@ -180,13 +152,14 @@ def completions(rows):
         if choices(row, it)
     }
     lines = [
-        "# Completions of bash for escrow. Made by tests/made.py from the table of the words.",
+        "# Completions of bash for escrow. The tables are made by tests/made.py from the table of the words.",
         "# Source this file, or copy it to /usr/share/bash-completion/completions/escrow",
     ]
     for name, table in (("options", options), ("places", places), ("values", values)):
         entries = (f"    [{key}]='{' '.join(words)}'" for key, words in table.items())
         lines += [f"declare -gA _escrow_{name}=(", *entries, ")"]
-    return "\n".join(lines) + "\n" + COMPLETE
+    kept = (TOP / "docs" / "escrow.bash").read_text()
+    return "\n".join(lines) + "\n\n" + kept[kept.index(CODE) :]
 
 
 # ---- the picture of the crates

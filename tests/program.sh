@@ -65,6 +65,13 @@ mkdir in other
 printf hello > in/$name0
 printf hellp > other/$name0
 
+echo "== the transcript of ./demo"
+if "$top/tests/demo/play.py" "$program" > "$work/transcript" 2>&1; then
+    ok
+else
+    no "the transcript" "$(tail -n 6 "$work/transcript")"
+fi
+
 echo "== one part, received once"
 vault d 8
 expect 0 "$received" "" put d in/$name0 --now $ten
