@@ -1,7 +1,7 @@
 #!/usr/bin/env python3
 """Times the reading of tables against Python's csv module, and measures the memory that a reading takes.
 
-Run `rt run` in crates/tables_bench first. Then: python3 bench/tables.py
+Run `rt run` in crates/format_bench first. Then: python3 bench/tables.py
 """
 import csv
 import io
@@ -13,7 +13,7 @@ import subprocess
 import tempfile
 import time
 
-PROGRAM = pathlib.Path(__file__).resolve().parent.parent / "crates/tables_bench/out/tables_bench"
+PROGRAM = pathlib.Path(__file__).resolve().parent.parent / "crates/format_bench/out/format_bench"
 SIZE = 8 * 1024 * 1024
 TIMES = 20
 RUNS = 5

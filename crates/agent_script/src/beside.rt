@@ -40,6 +40,17 @@ impl Plain {
         !self.is_beside || printed.status == 3 || printed.err.starts_with(b"Q11 ")
     }
 
+    fn step(
+        &mut self,
+        alloc: Global,
+        command: &Command<'_>,
+        now: Sec,
+    ) -> Result<PlainAnswer, ScriptFault> {
+        let _notice: Option<Notice> = None;
+        let _kind: Option<NoticeKind> = None;
+        Ok(step_plain(&mut self.state, alloc, command, now)?)
+    }
+
     /// Takes a command that the agent has answered, and adds a line to what is printed where the plain
     /// program answers it otherwise.
     pub fn follow(
@@ -54,7 +65,7 @@ impl Plain {
         if self.passes_over(printed) {
             return Ok(());
         }
-        let answer = step_plain(&mut self.state, alloc, command, now)?;
+        let answer = self.step(alloc, command, now)?;
         compare(alloc, &answer, printed)
     }
 
@@ -64,10 +75,10 @@ impl Plain {
         if self.passes_over(printed) {
             return Ok(());
         }
-        let mut registries = Vec::new(alloc);
-        registries.extend_from_slice(&self.state.registries)?;
-        for registry in &registries {
-            self.check_days(alloc, registry, now)?;
+        for at in 0..self.state.registries.len() {
+            if let Some(registry) = self.state.registries.get(at).copied() {
+                self.check_days(alloc, &registry, now)?;
+            }
         }
         Ok(())
     }
@@ -83,12 +94,7 @@ impl Plain {
         let _kind: Option<NoticeKind> = None;
         for number in registry.first_day.number()..now.day().number() {
             let day = Day::new(number).ok_or(ScriptFault::Line)?;
-            step_plain(
-                &mut self.state,
-                alloc,
-                &Command::Check(registry.tld, day),
-                now,
-            )?;
+            self.step(alloc, &Command::Check(registry.tld, day), now)?;
         }
         Ok(())
     }
@@ -121,13 +127,13 @@ pub fn command_of<'a>(order: &Order<'a>, file: &'a [u8]) -> Option<Command<'a>> 
     }
 }
 
-/// Adds a line where an answer is printed otherwise.
-fn compare(alloc: Global, answer: &PlainAnswer, printed: &mut Printed) -> Result<(), ScriptFault> {
-    let text = match answer {
-        PlainAnswer::Refused(refusal) => format!(in alloc; "{refusal}\n")?,
+/// The line of what was accepted.
+fn line_of(answer: &PlainAnswer) -> Option<Line> {
+    match answer {
+        PlainAnswer::Refused(_) => None,
         PlainAnswer::Registered { tld, first_day, .. } => {
             let (tld, first) = (*tld, *first_day);
-            format!(in alloc; "{}\n", Line::Registered { tld, first })?
+            Some(Line::Registered { tld, first })
         }
         PlainAnswer::Received {
             name,
@@ -135,11 +141,11 @@ fn compare(alloc: Global, answer: &PlainAnswer, printed: &mut Printed) -> Result
             len,
             ..
         } => {
-            let length = u32::try_from(*len).ok().ok_or(ScriptFault::Line)?;
+            let length = u32::try_from(*len).ok()?;
             let (name, at) = (*name, *received);
-            format!(in alloc; "{}\n", Line::Received { name, length, at })?
+            Some(Line::Received { name, length, at })
         }
-        PlainAnswer::Noticed { notice, .. } => format!(in alloc; "{}\n", Line::Notice(*notice))?,
+        PlainAnswer::Noticed { notice, .. } => Some(Line::Notice(*notice)),
         PlainAnswer::Released {
             reference,
             tld,
@@ -149,20 +155,33 @@ fn compare(alloc: Global, answer: &PlainAnswer, printed: &mut Printed) -> Result
             ..
         } => {
             let (reference, tld, reason, at, count) = (*reference, *tld, *reason, *at, *count);
-            let line = Line::Released {
+            Some(Line::Released {
                 reference,
                 tld,
                 reason,
                 at,
                 count,
-            };
-            format!(in alloc; "{line}\n")?
+            })
         }
-        PlainAnswer::Purged { count } => {
-            format!(in alloc; "{}\n", Line::Purged { count: *count })?
-        }
-    };
-    // (Behind the line of a release its names are printed, which are compared among the records.)
+        PlainAnswer::Purged { count } => Some(Line::Purged { count: *count }),
+    }
+}
+
+/// What is printed of an answer. Behind the line of a release come its names.
+fn text_of(alloc: Global, answer: &PlainAnswer) -> Result<String, ScriptFault> {
+    let _notice: Option<Notice> = None;
+    let _kind: Option<NoticeKind> = None;
+    if let PlainAnswer::Refused(refusal) = answer {
+        return Ok(format!(in alloc; "{refusal}\n")?);
+    }
+    let line = line_of(answer).ok_or(ScriptFault::Line)?;
+    Ok(format!(in alloc; "{line}\n")?)
+}
+
+/// Adds a line where an answer is printed otherwise. (The names of a release are compared among the
+/// records.)
+fn compare(alloc: Global, answer: &PlainAnswer, printed: &mut Printed) -> Result<(), ScriptFault> {
+    let text = text_of(alloc, answer)?;
     let is_told = match answer {
         PlainAnswer::Released { .. } => printed.begins_with(text.as_bytes()),
         _ => printed.is(text.as_bytes()),

@@ -3,6 +3,7 @@ use crate::beside::Plain;
 use crate::fault::ScriptFault;
 use crate::files::Files;
 use crate::orders::{Way, check, order};
+use crate::requests::request;
 use crate::vault::Vault;
 use custody_records::{Part, Records};
 use sqlite::{Alter, Connection};
@@ -28,14 +29,16 @@ pub fn deed<S: Alter + Drop, W: Write>(
         "ask" => order(alloc, Way::Command, words, files, vault, plain, out),
         "check" => check(alloc, rest, vault, plain, out),
         "count" => count(alloc, rest, vault, out),
+        "calls" => count_calls(vault, out),
+        "send" | "break" | "breaks" | "cut" | "cuts" => {
+            plain.leave();
+            request(alloc, verb, rest, files, vault, out)
+        }
         "parts" => {
             show_parts(&vault, out)?;
             Ok(vault)
         }
-        _ => {
-            let (volume, db) = vault.close();
-            edit(alloc, verb, rest, volume, db, plain)
-        }
+        _ => change(alloc, verb, rest, vault, plain),
     }
 }
 
@@ -66,9 +69,22 @@ fn count<S: Alter + Drop, W: Write>(
 ) -> Result<Vault<S>, ScriptFault> {
     let (volume, db) = vault.close();
     let mut db = db;
+    writeln!(out, "{}", rows_in(alloc, sql, &mut db)?)?;
+    Ok(Vault::Closed(volume, db))
+}
+
+fn rows_in<S: Alter>(alloc: Global, sql: &str, db: &mut Connection<S>) -> Result<i64, ScriptFault> {
     let sql = format!(in alloc; "SELECT count(*) {sql}")?;
-    let count: i64 = db.query_row(sql.as_str(), &[])?.get(0)?;
-    writeln!(out, "{count}")?;
+    Ok(db.query_row(sql.as_str(), &[])?.get(0)?)
+}
+
+/// Closes a vault, and prints how many calls of its volume there were.
+fn count_calls<S: Alter + Drop, W: Write>(
+    vault: Vault<S>,
+    out: &mut W,
+) -> Result<Vault<S>, ScriptFault> {
+    let (volume, db) = vault.close();
+    writeln!(out, "{} calls", volume.calls())?;
     Ok(Vault::Closed(volume, db))
 }
 
@@ -76,29 +92,39 @@ fn number_in(word: &str) -> Result<u32, ScriptFault> {
     word.parse().ok().ok_or(ScriptFault::Line)
 }
 
-/// Changes what a closed vault holds, or what its volume is to do.
-fn edit<S: Alter + Drop>(
+/// Closes a vault, and changes what it holds, or what its volume is to do.
+fn change<S: Alter + Drop>(
     alloc: Global,
     verb: &str,
     rest: &str,
-    volume: MemVolume,
-    db: Connection<S>,
+    vault: Vault<S>,
     plain: &mut Plain,
 ) -> Result<Vault<S>, ScriptFault> {
-    let mut volume = volume;
-    let mut db = db;
+    let (mut volume, mut db) = vault.close();
+    edit(alloc, verb, rest, &mut volume, &mut db, plain)?;
+    Ok(Vault::Closed(volume, db))
+}
+
+fn edit<S: Alter>(
+    alloc: Global,
+    verb: &str,
+    rest: &str,
+    volume: &mut MemVolume,
+    db: &mut Connection<S>,
+    plain: &mut Plain,
+) -> Result<(), ScriptFault> {
     match verb {
         "volume" | "disk" => {}
-        "restart" => restart(alloc, rest, &mut volume)?,
-        "stop" => volume.stop_at(call_in(&volume, rest)?),
-        "fail" => volume.fail_at(vec![in alloc; call_in(&volume, rest)?; 1]?),
+        "restart" => restart(alloc, rest, volume)?,
+        "stop" => volume.stop_at(call_in(volume, rest)?),
+        "fail" => volume.fail_at(vec![in alloc; call_in(volume, rest)?; 1]?),
         "flip" => {
             plain.leave();
-            flip(&mut volume, number_in(rest)?)?;
+            flip(volume, number_in(rest)?)?;
         }
         "head" => {
             plain.leave();
-            rename(&mut volume, number_in(rest)?)?;
+            rename(volume, number_in(rest)?)?;
         }
         "sql" => {
             plain.leave();
@@ -106,7 +132,7 @@ fn edit<S: Alter + Drop>(
         }
         _ => return Err(ScriptFault::Line),
     }
-    Ok(Vault::Closed(volume, db))
+    Ok(())
 }
 
 /// The number of a call of the volume, where the next one is the first.

@@ -1,17 +1,12 @@
 //! Examples over a database in two files in memory, whose machine stops.
 use crate::beside::Plain;
 use crate::databases::{ALL, Calls, Database, files_of, left_of, open_files};
-use crate::example::play;
+use crate::example::play_closed;
 use crate::fault::ScriptFault;
 use crate::files::Files;
-use crate::vault::Vault;
-use sqlite::FileStore;
-use sqlite_disk::{Fuse, Memory};
 use std::alloc::Global;
 use std::io::Write;
 use vault_volume::MemVolume;
-
-type DiskVault = Vault<FileStore<Fuse<Memory>>>;
 
 /// What a line begins with by which the database comes back.
 const LOG: &str = "\n! log ";
@@ -24,12 +19,7 @@ pub fn play_on_disk<W: Write>(
     files: &mut Files,
     out: &mut W,
 ) -> Result<(), ScriptFault> {
-    let (first, rest) = example.split_once(LOG).ok_or(ScriptFault::Line)?;
-    let volume = MemVolume::new(alloc, 8, 400, 16)?;
-    let vault = Vault::Closed(volume, open_files(alloc, &[], &[], ALL)?);
-    let mut plain = Plain::new(alloc);
-    let vault = play(alloc, first, files, vault, &mut plain, out)?;
-    match play_pieces(alloc, rest, files, vault, &mut plain, out) {
+    match play_pieces(alloc, example, files, &mut Plain::new(alloc), out) {
         Err(ScriptFault::Unopened) => writeln!(out, "the database does not open\n")?,
         played => {
             played?;
@@ -39,35 +29,37 @@ pub fn play_on_disk<W: Write>(
     Ok(())
 }
 
-/// Plays the pieces of an example that each begin with a coming back of the database. Each hands the
-/// vault on, so that there are few exits at which it is let go, each of which is dear to prove.
+/// Plays the pieces of an example, each but the first after a coming back of the database.
 fn play_pieces<W: Write>(
     alloc: Global,
-    pieces: &str,
+    example: &str,
     files: &mut Files,
-    vault: DiskVault,
     plain: &mut Plain,
     out: &mut W,
 ) -> Result<(), ScriptFault> {
-    let mut vault = vault;
-    for piece in pieces.split(LOG) {
-        vault = play_piece(alloc, piece, files, vault, plain, out)?;
+    let (first, rest) = example.split_once(LOG).ok_or(ScriptFault::Line)?;
+    let volume = MemVolume::new(alloc, 8, 400, 16)?;
+    let db = open_files(alloc, &[], &[], ALL)?;
+    let mut left = play_piece(alloc, first, files, volume, db, plain, out)?;
+    for piece in rest.split(LOG) {
+        let (words, lines) = piece.split_once('\n').unwrap_or((piece, ""));
+        let (volume, db) = left;
+        let db = back(alloc, words, db, out)?;
+        left = play_piece(alloc, lines, files, volume, db, plain, out)?;
     }
     Ok(())
 }
 
 fn play_piece<W: Write>(
     alloc: Global,
-    piece: &str,
+    lines: &str,
     files: &mut Files,
-    vault: DiskVault,
+    volume: MemVolume,
+    db: Database,
     plain: &mut Plain,
     out: &mut W,
-) -> Result<DiskVault, ScriptFault> {
-    let (words, lines) = piece.split_once('\n').unwrap_or((piece, ""));
-    let (volume, db) = vault.close();
-    let vault = Vault::Closed(volume, back(alloc, words, db, out)?);
-    play(alloc, lines, files, vault, plain, out)
+) -> Result<(MemVolume, Database), ScriptFault> {
+    play_closed(alloc, lines, files, volume, db, plain, out)
 }
 
 /// The database that comes back.

@@ -5,9 +5,10 @@ use crate::fault::ScriptFault;
 use crate::files::Files;
 use crate::orders::{Way, order};
 use crate::vault::Vault;
-use sqlite::Alter;
+use sqlite::{Alter, Connection};
 use std::alloc::Global;
 use std::io::Write;
+use vault_volume::MemVolume;
 
 /// Plays lines of an example. After `$` stand the words of a call of `escrow`, after `!` what else is
 /// done, and any other line is a comment.
@@ -29,4 +30,18 @@ pub fn play<S: Alter + Drop, W: Write>(
         };
     }
     Ok(vault)
+}
+
+/// Plays lines of an example over what a closed vault holds, and closes it.
+pub fn play_closed<S: Alter + Drop, W: Write>(
+    alloc: Global,
+    lines: &str,
+    files: &mut Files,
+    volume: MemVolume,
+    db: Connection<S>,
+    plain: &mut Plain,
+    out: &mut W,
+) -> Result<(MemVolume, Connection<S>), ScriptFault> {
+    let vault = play(alloc, lines, files, Vault::Closed(volume, db), plain, out)?;
+    Ok(vault.close())
 }

@@ -11,6 +11,7 @@ mod fault;
 mod files;
 mod orders;
 mod printed;
+mod requests;
 mod sessions;
 mod vault;
 mod wide;

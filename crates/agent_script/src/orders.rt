@@ -13,7 +13,7 @@ use schedule::{Day, Sec, read_day, read_moment};
 use sqlite::Alter;
 use std::alloc::{AllocError, Global};
 use std::io::Write;
-use vault_volume::Volume;
+use vault_volume::{MemVolume, Volume};
 
 /// How an order is done.
 #[derive(Clone, Copy)]
@@ -90,20 +90,32 @@ fn carry_out<'a, S: Alter + Drop>(
         printed.status = status;
         return Ok(vault);
     }
-    let now = moment_of(order).ok_or(ScriptFault::Line)?;
     match vault.open(alloc)? {
-        Ok(mut custody) => {
-            match way {
-                Way::Program => serve(alloc, order, file, now, &mut custody, plain, printed)?,
-                Way::Command => ask_order(alloc, order, file, now, &mut custody, plain, printed)?,
-            }
-            Ok(Vault::Open(custody))
-        }
+        Ok(custody) => carry_out_on(alloc, way, order, file, custody, plain, printed),
         Err((fault, volume, db)) => {
             printed.status = tell(&fault, &mut printed.err);
             Ok(Vault::Closed(volume, db))
         }
     }
+}
+
+/// The same on the custody that is open.
+fn carry_out_on<'a, S: Alter + Drop>(
+    alloc: Global,
+    way: Way,
+    order: &Order<'a>,
+    file: &'a [u8],
+    custody: Custody<MemVolume, S>,
+    plain: &mut Plain,
+    printed: &mut Printed,
+) -> Result<Vault<S>, ScriptFault> {
+    let now = moment_of(order).ok_or(ScriptFault::Line)?;
+    let mut custody = custody;
+    match way {
+        Way::Program => serve(alloc, order, file, now, &mut custody, plain, printed)?,
+        Way::Command => ask_order(alloc, order, file, now, &mut custody, plain, printed)?,
+    }
+    Ok(Vault::Open(custody))
 }
 
 /// Carries out an order on the custody, and beside it on the plain program.
@@ -187,15 +199,31 @@ pub fn check<S: Alter + Drop, W: Write>(
     let (tld, day, now) = check_in(words).ok_or(ScriptFault::Line)?;
     let mut printed = Printed::new(alloc);
     let vault = match vault.open(alloc)? {
-        Ok(mut custody) => {
-            let command = Command::Check(tld, day);
-            ask(alloc, &command, now, &mut custody, plain, &mut printed)?;
-            Vault::Open(custody)
-        }
+        Ok(custody) => ask_on(
+            alloc,
+            &Command::Check(tld, day),
+            now,
+            custody,
+            plain,
+            &mut printed,
+        )?,
         Err((_, volume, db)) => Vault::Closed(volume, db),
     };
     printed.show(out)?;
     Ok(vault)
+}
+
+fn ask_on<S: Alter + Drop>(
+    alloc: Global,
+    command: &Command<'_>,
+    now: Sec,
+    custody: Custody<MemVolume, S>,
+    plain: &mut Plain,
+    printed: &mut Printed,
+) -> Result<Vault<S>, ScriptFault> {
+    let mut custody = custody;
+    ask(alloc, command, now, &mut custody, plain, printed)?;
+    Ok(Vault::Open(custody))
 }
 
 fn check_in(words: &str) -> Option<(Tld, Day, Sec)> {

@@ -1,12 +1,12 @@
 //! Sessions, and openings over what a stop has left of them: the calls that the headline is about.
 use crate::fault::ScriptFault;
-use custody::composed::{begin_run_and_reopen, open_run_and_reopen};
+use custody::composed::{begin_run_and_reopen, new_database, open_run_and_reopen};
 use custody::{Custody, Refused, Reply};
 use custody_machine::Command;
 use deposit_name::Tld;
 use desk::NoticeKind;
 use schedule::{Day, Sec, read_day, read_moment};
-use sqlite::{Connection, MemStore};
+use sqlite::{Alter, Connection};
 use std::alloc::Global;
 use std::io::{self, Write};
 use vault_volume::{MemVolume, Volume};
@@ -23,13 +23,14 @@ fn registry() -> Option<(Tld, Day, Sec)> {
     Some((tld, first_day, now))
 }
 
-/// A vault that was begun, so many of whose commands were done.
-fn after(
+/// What is left of a vault that was begun over a database, and whose commands were done.
+fn after<S: Alter + Drop>(
     alloc: Global,
+    db: Connection<S>,
     commands: &[(Command<'_>, Sec)],
-) -> Result<(MemVolume, Connection<MemStore>), ScriptFault> {
+) -> Result<(MemVolume, Connection<S>), ScriptFault> {
     let volume = MemVolume::new(alloc, BLOCKS, 64, 16)?;
-    match Custody::init(alloc, volume, Connection::open_in_memory(alloc)?, 1) {
+    match Custody::init(alloc, volume, db, 1) {
         Ok(mut custody) => {
             let _answers = custody.run(alloc, commands)?;
             Ok(custody.close())
@@ -57,11 +58,13 @@ fn show<W: Write>(
 }
 
 /// A session through a stop at a call of the volume, where the stop leaves a database in which so many
-/// of the commands were done.
-fn show_stop<W: Write>(
+/// of the commands were done. The two databases are new.
+fn show_stop<S: Alter + Drop, W: Write>(
     alloc: Global,
     stop: u64,
     found: usize,
+    db: Connection<S>,
+    left: Connection<S>,
     out: &mut W,
 ) -> Result<(), ScriptFault> {
     let (tld, first_day, now) = registry().ok_or(ScriptFault::Line)?;
@@ -69,19 +72,19 @@ fn show_stop<W: Write>(
         (Command::Register(tld, first_day), now),
         (Command::Receive(NAME, b"hello"), now),
     ];
-    let (mut volume, db) = after(alloc, &[])?;
-    let (_, left) = after(alloc, commands.get(..found).unwrap_or(&[]))?;
+    let (mut volume, db) = after(alloc, db, &[])?;
+    let (_, left) = after(alloc, left, commands.get(..found).unwrap_or(&[]))?;
     volume.stop_at(stop);
     if volume.failures() > 9 {
         return Err(ScriptFault::Line);
     }
     let fill = vec![in alloc; 255u8; 4096 * BLOCKS as usize]?;
     write!(out, "stop at call {stop}:")?;
-    match open_run_and_reopen(alloc, volume, db, &commands, &fill, left) {
-        Ok(it) => show(&it.answers, it.custody.room().ok().map(|room| room.0), out)?,
-        Err(fault) => writeln!(out, " {fault}")?,
-    }
-    Ok(())
+    let shown = match open_run_and_reopen(alloc, volume, db, &commands, &fill, left) {
+        Ok(it) => show(&it.answers, it.custody.room().ok().map(|room| room.0), out),
+        Err(fault) => writeln!(out, " {fault}"),
+    };
+    Ok(shown?)
 }
 
 /// A session from the beginning of a vault on.
@@ -94,16 +97,23 @@ fn show_whole<W: Write>(alloc: Global, out: &mut W) -> Result<(), ScriptFault> {
     let volume = MemVolume::new(alloc, BLOCKS, 64, 16)?;
     let fill = vec![in alloc; 255u8; 4096 * BLOCKS as usize]?;
     write!(out, "from the beginning:")?;
-    match begin_run_and_reopen(alloc, volume, 1, &commands, &fill) {
-        Ok(it) => show(&it.answers, it.custody.room().ok().map(|room| room.0), out)?,
-        Err(error) => writeln!(out, " {error}")?,
-    }
-    Ok(())
+    let shown = match begin_run_and_reopen(alloc, volume, 1, &commands, &fill) {
+        Ok(it) => show(&it.answers, it.custody.room().ok().map(|room| room.0), out),
+        Err(error) => writeln!(out, " {error}"),
+    };
+    Ok(shown?)
 }
 
 /// Prints the sessions. A beginning makes two calls, an opening one and a part two.
 pub fn show_sessions<W: Write>(alloc: Global, out: &mut W) -> Result<(), ScriptFault> {
-    show_stop(alloc, 3, 1, out)?;
-    show_stop(alloc, 60, 2, out)?;
+    show_stop(alloc, 3, 1, new_database(alloc)?, new_database(alloc)?, out)?;
+    show_stop(
+        alloc,
+        60,
+        2,
+        new_database(alloc)?,
+        new_database(alloc)?,
+        out,
+    )?;
     show_whole(alloc, out)
 }

@@ -1,4 +1,4 @@
-//! Tests of the formats of deposits: days, names, lines, envelopes, tables and verdicts. They stand
+//! Tests of the formats of deposits: days, names, envelopes, tables and verdicts. They stand
 //! apart from the crates that they are of, since a crate that has tests is proved a second time with
 //! them.
 #![tactic(auto)]
@@ -7,8 +7,6 @@
 mod days;
 #[cfg(test)]
 mod envelopes;
-#[cfg(test)]
-mod lines;
 #[cfg(test)]
 mod memory;
 #[cfg(test)]

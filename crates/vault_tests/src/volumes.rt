@@ -5,8 +5,8 @@ use std::alloc::Global;
 use std::test::Fail;
 use std::{env, fs, process};
 use vault_volume::{
-    Extent, ExtentMap, FileError, FileVolume, MemVolume, Staged, Vault, Volume, blocks_for,
-    read_head, write_head,
+    Extent, ExtentMap, FileError, FileVolume, MemVolume, Staged, Vault, Volume, read_head,
+    write_head,
 };
 
 const NUMBER: u64 = 0x0123_4567_89AB_CDEF;
@@ -184,99 +184,6 @@ fn a_stop_at_each_call_of_stage_spares_what_is_held(rt: HostRuntime) -> Result<(
     Ok(())
 }
 
-// SHA-256 of `abc`, as FIPS 180-2 gives it in its first example.
-const ABC: [u8; 32] = [
-    0xba, 0x78, 0x16, 0xbf, 0x8f, 0x01, 0xcf, 0xea, 0x41, 0x41, 0x40, 0xde, 0x5d, 0xae, 0x22, 0x23,
-    0xb0, 0x03, 0x61, 0xa3, 0x96, 0x17, 0x7a, 0x9c, 0xb4, 0x10, 0xff, 0x61, 0xf2, 0x00, 0x15, 0xad,
-];
-
-fn stage_held(alloc: Global, place: u32) -> Result<(Vault<MemVolume>, Staged), Fail> {
-    let volume = MemVolume::new(alloc, 4, 12, 6)?;
-    if place == 0 || place > volume.size() || volume.failures() > 9 {
-        return Err(Fail::from("no place"));
-    }
-    let map = map_from(alloc, volume.size(), place).ok_or("a map")?;
-    let mut vault = Vault::over(volume, map);
-    let staged = vault.stage(alloc, &HELD)?;
-    Ok((vault, staged))
-}
-
-#[test]
-fn a_staged_part_has_the_first_free_blocks(rt: HostRuntime) -> Result<(), Fail> {
-    let (vault, staged) = stage_held(rt.alloc(), 3)?;
-    let (extents, len, digest) = staged.spend();
-    let block = Extent { start: 3, count: 1 };
-    assert_eq!(rt; extents.as_slice(), [block].as_slice());
-    assert!(rt; block.is_within(4) && !block.is_within(3));
-    assert_eq!(rt; (len, blocks_for(len), blocks_for(4097)), (3, 1, 2));
-    assert_eq!(rt; digest, ABC);
-    assert_eq!(rt; vault.volume().failures(), 0);
-    Ok(())
-}
-
-// What becomes of the blocks of the first of two parts, where there is room for one.
-#[derive(Clone, Copy)]
-enum Fate {
-    Kept,
-    Cancelled,
-    GivenBack,
-}
-
-fn has_room_after(alloc: Global, fate: Fate) -> Result<bool, Fail> {
-    let volume = MemVolume::new(alloc, 4, 12, 6)?;
-    let map = map_from(alloc, volume.size(), 3).ok_or("a map")?;
-    let mut vault = Vault::over(volume, map);
-    let staged = vault.stage(alloc, &HELD)?;
-    match fate {
-        Fate::Cancelled => vault.cancel(staged),
-        fate => {
-            let (extents, _, _) = staged.spend();
-            if let Fate::GivenBack = fate {
-                vault.give_back(&extents);
-            }
-        }
-    }
-    Ok(keep(alloc, &mut vault, &HELD))
-}
-
-#[test]
-fn blocks_are_used_until_they_are_given_back(rt: HostRuntime) -> Result<(), Fail> {
-    assert!(rt; !has_room_after(rt.alloc(), Fate::Kept)?);
-    assert!(rt; has_room_after(rt.alloc(), Fate::Cancelled)?);
-    assert!(rt; has_room_after(rt.alloc(), Fate::GivenBack)?);
-    Ok(())
-}
-
-// The map of eight blocks of which 2 and 5 are used.
-fn map_with_gaps(alloc: Global) -> Option<ExtentMap>
-    ensures { IfSome result (λ map. size_of map ≡ 8) }
-{
-    let second = Extent { start: 2, count: 1 };
-    let fifth = Extent { start: 5, count: 1 };
-    ExtentMap::from_used(alloc, 8, &[second, fifth]).ok()
-}
-
-#[test]
-fn a_part_lies_in_several_runs(rt: HostRuntime) -> Result<(), Fail> {
-    let mut bytes = vec![in rt.alloc(); b'a'; 4096]?;
-    bytes.resize(9000, b'b')?;
-    let volume = MemVolume::new(rt.alloc(), 8, 12, 6)?;
-    let map = map_with_gaps(rt.alloc()).ok_or("a map")?;
-    let mut vault = Vault::over(volume, map);
-    let staged = vault.stage(rt.alloc(), &bytes)?;
-    let (extents, len, _) = staged.spend();
-    let runs = [Extent { start: 1, count: 1 }, Extent { start: 3, count: 2 }];
-    assert_eq!(rt; extents.as_slice(), runs.as_slice());
-    assert_eq!(rt; len, 9000);
-    let volume = vault.into_inner();
-    assert_eq!(rt; volume.calls(), 3);
-    let mut first = volume.bytes().iter().skip(4096).take(4096);
-    assert!(rt; first.all(|byte| *byte == b'a'));
-    let mut second = volume.bytes().iter().skip(3 * 4096).take(4904);
-    assert!(rt; second.all(|byte| *byte == b'b'));
-    Ok(())
-}
-
 // Stages the bytes in two pieces, and tells whether that was done.
 fn upload<V: Volume>(
     alloc: Global,
@@ -300,36 +207,6 @@ fn upload<V: Volume>(
         return None;
     }
     vault.finish(opened).ok()
-}
-
-// What is staged on eight blocks with gaps, as a whole or in two pieces, and the volume then.
-fn staged_with_gaps(
-    alloc: Global,
-    bytes: &[u8],
-    cut: usize,
-) -> Result<(Vec<Extent>, [u8; 32], MemVolume), Fail> {
-    let volume = MemVolume::new(alloc, 8, 12, 6)?;
-    let map = map_with_gaps(alloc).ok_or("a map")?;
-    let mut vault = Vault::over(volume, map);
-    let (first, rest) = bytes.split_at(cut.min(bytes.len()));
-    let staged = upload(alloc, &mut vault, first, rest).ok_or("not staged")?;
-    let (extents, _, digest) = staged.spend();
-    Ok((extents, digest, vault.into_inner()))
-}
-
-#[test]
-fn pieces_cut_blocks_and_runs(rt: HostRuntime) -> Result<(), Fail> {
-    let mut bytes = vec![in rt.alloc(); b'a'; 4000]?;
-    bytes.resize(6000, b'b')?;
-    bytes.resize(9000, b'c')?;
-    let (extents, digest, whole) = staged_with_gaps(rt.alloc(), &bytes, 0)?;
-    assert_eq!(rt; (extents.len(), whole.calls()), (2, 3));
-    for cut in [1usize, 4096, 5000] {
-        let (pieces, pieced, volume) = staged_with_gaps(rt.alloc(), &bytes, cut)?;
-        assert!(rt; pieces == extents && pieced == digest, "cut at {cut}");
-        assert!(rt; volume.bytes() == whole.bytes(), "cut at {cut}");
-    }
-    Ok(())
 }
 
 // Whether an upload that is stopped between its pieces leaves what is held, and its blocks free.

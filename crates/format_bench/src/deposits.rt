@@ -1,11 +1,8 @@
-//! Verifies a deposit in a file as often as is asked, and prints the verdict. Its name, its id, and the id of the deposit
-//! before it come first.
-#![tactic(auto)]
-
+//! Deposits that are verified.
 use deposit_name::{DepositId, DepositName};
 use deposit_verify::{About, NoMemory, Verdict, verify};
 use std::alloc::Global;
-use std::{env, fs, io};
+use std::{fs, io};
 
 fn verify_often(
     alloc: Global,
@@ -20,6 +17,7 @@ fn verify_often(
     Ok(verdict)
 }
 
+/// What is known of a deposit: its name, its id, and the id of the deposit before it, or another text.
 fn about(alloc: Global, name: &str, id: &str, latest: &str) -> Option<About> {
     Some(About {
         name: DepositName::parse(name.as_bytes()).ok()?,
@@ -29,19 +27,17 @@ fn about(alloc: Global, name: &str, id: &str, latest: &str) -> Option<About> {
     })
 }
 
-fn main(rt: HostRuntime) -> io::Result<()> {
-    let mut words = env::args(&rt)?.skip(1);
-    let (Some(name), Some(id), Some(latest)) = (words.next(), words.next(), words.next()) else {
-        return println!(rt; "usage: verify_bench NAME ID LATEST FILE TIMES");
+/// Verifies the deposit in a file so often, and prints the verdict.
+pub fn print_verdict(
+    rt: &HostRuntime,
+    [name, id, latest]: [&str; 3],
+    path: &str,
+    times: u32,
+) -> io::Result<()> {
+    let Some(about) = about(rt.alloc(), name, id, latest) else {
+        return println!(rt; "no such name or id");
     };
-    let (Some(path), Some(times)) = (words.next(), words.next()) else {
-        return println!(rt; "usage: verify_bench NAME ID LATEST FILE TIMES");
-    };
-    let known = about(rt.alloc(), name.as_str(), id.as_str(), latest.as_str());
-    let (Some(about), Ok(times)) = (known, times.parse::<u32>()) else {
-        return println!(rt; "no such name, id or number");
-    };
-    let joined = fs::read(&rt, path.as_str())?;
+    let joined = fs::read(rt, path)?;
     match verify_often(rt.alloc(), joined.as_slice(), &about, times) {
         Ok(Verdict::Pass) => println!(rt; "PASS"),
         Ok(Verdict::Fail(check)) => println!(rt; "FAILURE-{check}"),
