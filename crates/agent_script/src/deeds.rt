@@ -27,10 +27,11 @@ pub fn deed<S: Alter + Drop, W: Write>(
             Ok(vault)
         }
         "ask" => order(alloc, Way::Command, words, files, vault, plain, out),
-        "check" => check(alloc, rest, vault, plain, out),
+        "check" => check(alloc, Way::Command, rest, vault, plain, out),
+        "insist" => insist(alloc, rest, files, vault, plain, out),
         "count" => count(alloc, rest, vault, out),
         "calls" => count_calls(vault, out),
-        "send" | "break" | "breaks" | "cut" | "cuts" => {
+        "send" | "resend" | "break" | "breaks" | "cut" | "cuts" => {
             plain.leave();
             request(alloc, verb, rest, files, vault, out)
         }
@@ -39,6 +40,21 @@ pub fn deed<S: Alter + Drop, W: Write>(
             Ok(vault)
         }
         _ => change(alloc, verb, rest, vault, plain),
+    }
+}
+
+/// A call or a check, which is done once more where memory is wanting.
+fn insist<S: Alter + Drop, W: Write>(
+    alloc: Global,
+    words: &str,
+    files: &Files,
+    vault: Vault<S>,
+    plain: &mut Plain,
+    out: &mut W,
+) -> Result<Vault<S>, ScriptFault> {
+    match words.strip_prefix("check ") {
+        Some(words) => check(alloc, Way::Twice, words, vault, plain, out),
+        None => order(alloc, Way::Twice, words, files, vault, plain, out),
     }
 }
 

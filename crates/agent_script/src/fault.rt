@@ -1,5 +1,5 @@
 //! Why a script is not played to its end.
-use std::alloc::AllocError;
+use std::alloc::{AllocError, AllocFailed};
 use std::{fmt, io};
 
 #[derive(Debug, Drop)]
@@ -40,5 +40,11 @@ impl From<io::Error> for ScriptFault {
 impl From<sqlite::Error> for ScriptFault {
     fn from(error: sqlite::Error) -> ScriptFault {
         ScriptFault::Database(error)
+    }
+}
+
+impl<T: Drop> From<AllocFailed<T>> for ScriptFault {
+    fn from(_failed: AllocFailed<T>) -> ScriptFault {
+        ScriptFault::NoMemory
     }
 }

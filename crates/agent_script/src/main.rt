@@ -6,18 +6,24 @@ mod beside;
 mod databases;
 mod deeds;
 mod disk;
+mod everywhere;
 mod example;
 mod fault;
 mod files;
 mod orders;
+mod places;
 mod printed;
 mod requests;
+mod runs;
 mod sessions;
+mod steps;
+mod stopping;
 mod vault;
 mod wide;
 
 use beside::Plain;
 use disk::play_on_disk;
+use everywhere::play_everywhere;
 use example::play;
 use fault::ScriptFault;
 use files::Files;
@@ -46,15 +52,26 @@ fn blocks_of(example: &str) -> u32 {
     BLOCKS
 }
 
-/// Plays an example over a new volume and a new database.
+/// The deed of the first line, if it is one.
+fn kind_of(example: &str) -> &str {
+    let line = example.lines().next().unwrap_or("");
+    let words = line.strip_prefix("! ").unwrap_or("");
+    words.split(' ').next().unwrap_or("")
+}
+
+/// Plays an example, most of them over a new volume and a new database.
 fn play_anew<W: Write>(
     alloc: Global,
     example: &str,
     files: &mut Files,
     out: &mut W,
 ) -> Result<(), ScriptFault> {
-    if example.starts_with("! disk") {
-        return play_on_disk(alloc, example, files, out);
+    match kind_of(example) {
+        "disk" => return play_on_disk(alloc, example, files, out),
+        "stops" | "fails" => return play_everywhere(alloc, example, files, out),
+        "sizes" => return show_sizes(alloc, out),
+        "sessions" => return show_sessions(alloc, out),
+        _ => {}
     }
     let volume = MemVolume::new(alloc, blocks_of(example), 400, 16)?;
     let vault = Vault::Closed(volume, Connection::open_in_memory(alloc)?);
@@ -103,8 +120,6 @@ fn play_all<W: Write>(alloc: Global, script: &str, out: &mut W) -> Result<(), Sc
     for example in script.split("\n\n") {
         play_each(alloc, example, &mut files, out)?;
     }
-    show_sizes(alloc, out)?;
-    show_sessions(alloc, out)?;
     out.flush()?;
     Ok(())
 }

@@ -16,10 +16,12 @@ use std::io::Write;
 use vault_volume::{MemVolume, Volume};
 
 /// How an order is done.
-#[derive(Clone, Copy)]
+#[derive(Clone, Copy, PartialEq, Eq)]
 pub enum Way {
     /// As the program does it.
     Program,
+    /// So too, and where memory is wanting once more, after an opening.
+    Twice,
     /// By the one command that it asks for, of whose answer it is told whether it is a repeat.
     Command,
 }
@@ -34,28 +36,61 @@ pub fn order<S: Alter + Drop, W: Write>(
     plain: &mut Plain,
     out: &mut W,
 ) -> Result<Vault<S>, ScriptFault> {
-    let (words, file) = words.split_once(" < ").unwrap_or((words, ""));
-    let bytes = if file.is_empty() {
-        &[]
-    } else {
-        files.find(file)?
-    };
-    let words = words_in(alloc, words)?;
-    let mut printed = Printed::new(alloc);
-    let vault = match order_of(alloc, words.as_slice()) {
-        Ok(order) => carry_out(alloc, way, &order, bytes, vault, plain, &mut printed)?,
-        Err(fault) => {
-            write!(printed.err, "{fault}")?;
-            printed.status = fault.status();
-            vault
-        }
-    };
+    let (words, file) = call_of(alloc, words, files)?;
+    let mut printed = Printed::new(alloc)?;
+    let mut vault = call(alloc, way, &words, file, vault, plain, &mut printed)?;
+    if way == Way::Twice && printed.wants_memory() {
+        printed = Printed::new(alloc)?;
+        vault = call(
+            alloc,
+            way,
+            &words,
+            file,
+            vault.closed(),
+            plain,
+            &mut printed,
+        )?;
+    }
     printed.show(out)?;
     Ok(vault)
 }
 
+/// The words of a call, and the bytes of the file that it puts.
+pub fn call_of<'a>(
+    alloc: Global,
+    text: &str,
+    files: &'a Files,
+) -> Result<(Vec<String>, &'a [u8]), ScriptFault> {
+    let (words, file) = text.split_once(" < ").unwrap_or((text, ""));
+    let file = if file.is_empty() {
+        &[]
+    } else {
+        files.find(file)?
+    };
+    Ok((words_in(alloc, words)?, file))
+}
+
+fn call<S: Alter + Drop>(
+    alloc: Global,
+    way: Way,
+    words: &[String],
+    file: &[u8],
+    vault: Vault<S>,
+    plain: &mut Plain,
+    printed: &mut Printed,
+) -> Result<Vault<S>, ScriptFault> {
+    match order_of(alloc, words) {
+        Ok(order) => carry_out(alloc, way, &order, file, vault, plain, printed),
+        Err(fault) => {
+            write!(printed.err, "{fault}")?;
+            printed.status = fault.status();
+            Ok(vault)
+        }
+    }
+}
+
 /// The words of a call. `''` is the word of no letters.
-fn words_in(alloc: Global, text: &str) -> Result<Vec<String>, AllocError> {
+pub fn words_in(alloc: Global, text: &str) -> Result<Vec<String>, AllocError> {
     let mut words = Vec::new(alloc);
     for word in text.split_whitespace() {
         let word = if word == "''" { "" } else { word };
@@ -65,7 +100,7 @@ fn words_in(alloc: Global, text: &str) -> Result<Vec<String>, AllocError> {
 }
 
 /// The moment that the words name, if they name one, and else the first of all.
-fn moment_of(order: &Order<'_>) -> Option<Sec> {
+pub fn moment_of(order: &Order<'_>) -> Option<Sec> {
     match order {
         Order::Put { now, .. }
         | Order::Verify { now, .. }
@@ -112,7 +147,7 @@ fn carry_out_on<'a, S: Alter + Drop>(
     let now = moment_of(order).ok_or(ScriptFault::Line)?;
     let mut custody = custody;
     match way {
-        Way::Program => serve(alloc, order, file, now, &mut custody, plain, printed)?,
+        Way::Program | Way::Twice => serve(alloc, order, file, now, &mut custody, plain, printed)?,
         Way::Command => ask_order(alloc, order, file, now, &mut custody, plain, printed)?,
     }
     Ok(Vault::Open(custody))
@@ -191,26 +226,39 @@ fn compare<V: Volume, S: Alter>(
 /// Checks a day: the words are its registry, the day and the moment.
 pub fn check<S: Alter + Drop, W: Write>(
     alloc: Global,
+    way: Way,
     words: &str,
     vault: Vault<S>,
     plain: &mut Plain,
     out: &mut W,
 ) -> Result<Vault<S>, ScriptFault> {
     let (tld, day, now) = check_in(words).ok_or(ScriptFault::Line)?;
-    let mut printed = Printed::new(alloc);
-    let vault = match vault.open(alloc)? {
-        Ok(custody) => ask_on(
-            alloc,
-            &Command::Check(tld, day),
-            now,
-            custody,
-            plain,
-            &mut printed,
-        )?,
-        Err((_, volume, db)) => Vault::Closed(volume, db),
-    };
+    let command = Command::Check(tld, day);
+    let mut printed = Printed::new(alloc)?;
+    let mut vault = check_once(alloc, &command, now, vault, plain, &mut printed)?;
+    if way == Way::Twice && printed.wants_memory() {
+        printed = Printed::new(alloc)?;
+        vault = check_once(alloc, &command, now, vault.closed(), plain, &mut printed)?;
+    }
     printed.show(out)?;
     Ok(vault)
+}
+
+fn check_once<S: Alter + Drop>(
+    alloc: Global,
+    command: &Command<'_>,
+    now: Sec,
+    vault: Vault<S>,
+    plain: &mut Plain,
+    printed: &mut Printed,
+) -> Result<Vault<S>, ScriptFault> {
+    match vault.open(alloc)? {
+        Ok(custody) => ask_on(alloc, command, now, custody, plain, printed),
+        Err((fault, volume, db)) => {
+            printed.status = tell(&fault, &mut printed.err);
+            Ok(Vault::Closed(volume, db))
+        }
+    }
 }
 
 fn ask_on<S: Alter + Drop>(
@@ -226,7 +274,8 @@ fn ask_on<S: Alter + Drop>(
     Ok(Vault::Open(custody))
 }
 
-fn check_in(words: &str) -> Option<(Tld, Day, Sec)> {
+/// The registry, the day and the moment of a check.
+pub fn check_in(words: &str) -> Option<(Tld, Day, Sec)> {
     let (tld, rest) = words.split_once(' ')?;
     let (day, moment) = rest.split_once(' ')?;
     let tld = Tld::parse(tld.as_bytes())?;

@@ -1,6 +1,9 @@
 //! What a call prints.
-use std::alloc::Global;
+use std::alloc::{AllocError, Global};
 use std::io::{self, Write};
+
+/// How many bytes have room without a growth.
+const ROOM: usize = 4096;
 
 /// What a call prints to output and to errors, and its exit status.
 #[derive(Drop)]
@@ -11,12 +14,13 @@ pub struct Printed {
 }
 
 impl Printed {
-    pub fn new(alloc: Global) -> Printed {
-        Printed {
-            out: Vec::new(alloc),
-            err: Vec::new(alloc),
+    /// Nothing, with room for some lines: so it is not its own memory that is wanting where they are printed.
+    pub fn new(alloc: Global) -> Result<Printed, AllocError> {
+        Ok(Printed {
+            out: Vec::with_capacity(alloc, ROOM)?,
+            err: Vec::with_capacity(alloc, ROOM)?,
             status: 0,
-        }
+        })
     }
 
     /// Whether output and errors together are this text.
@@ -28,6 +32,11 @@ impl Printed {
     /// Whether the output begins with this text.
     pub fn begins_with(&self, text: &[u8]) -> bool {
         self.err.is_empty() && self.out.starts_with(text)
+    }
+
+    /// Whether memory was wanting, or the database failed, as it does where it finds none.
+    pub fn wants_memory(&self) -> bool {
+        self.status == 3 && (self.err.starts_with(b"C1 ") || self.err.starts_with(b"C3 "))
     }
 
     /// Prints output and errors, and the status where it is not 0.

@@ -36,16 +36,17 @@ impl<'a> Read for Sender<'a> {
     }
 }
 
-/// What is taken, up to 50 bytes at a time and so many in all. Then the taker fails.
+/// What is taken, in pieces of at most so many bytes and so many in all. Then the taker fails.
 #[derive(Drop)]
 struct Taker {
     bytes: Vec<u8>,
+    size: usize,
     room: usize,
 }
 
 impl Write for Taker {
     fn write(&mut self, buf: &[u8]) -> io::Result<usize> {
-        let count = buf.len().min(self.room).min(50);
+        let count = buf.len().min(self.room).min(self.size);
         if count == 0 || self.bytes.extend_from_slice(&buf[..count]).is_err() {
             return Err(io::ErrorKind::Other.into());
         }
@@ -71,7 +72,8 @@ fn exchange<V: Volume, S: Alter>(
     let now = read_moment(MOMENT).ok_or(ScriptFault::Line)?;
     let mut sender = sender;
     let mut taker = Taker {
-        bytes: Vec::new(alloc),
+        bytes: Vec::with_capacity(alloc, room.min(1000))?,
+        size: sender.size,
         room,
     };
     let served = api.serve_one(alloc, &mut sender, &mut taker, custody, now);
@@ -96,10 +98,40 @@ pub fn request<S: Alter + Drop, W: Write>(
     if !file.is_empty() {
         bytes.extend_from_slice(files.find(file)?)?;
     }
+    let mut told = Vec::new(alloc);
+    let mut vault = send(alloc, verb, number as usize, &bytes, vault, &mut told)?;
+    if verb == "resend" && wants_memory(&told) {
+        told.clear();
+        vault = send(
+            alloc,
+            verb,
+            number as usize,
+            &bytes,
+            vault.closed(),
+            &mut told,
+        )?;
+    }
+    out.write_all(&told)?;
+    Ok(vault)
+}
+
+/// Whether what was told of a request is that memory was wanting, or that the database failed.
+fn wants_memory(told: &[u8]) -> bool {
+    told.starts_with(b"HTTP/1.1 503 ") || told.starts_with(b"C1 ") || told.starts_with(b"C3 ")
+}
+
+fn send<S: Alter + Drop>(
+    alloc: Global,
+    verb: &str,
+    number: usize,
+    bytes: &[u8],
+    vault: Vault<S>,
+    told: &mut Vec<u8>,
+) -> Result<Vault<S>, ScriptFault> {
     match vault.open(alloc)? {
-        Ok(custody) => answer(alloc, verb, number as usize, &bytes, custody, out),
+        Ok(custody) => answer(alloc, verb, number, bytes, custody, told),
         Err((fault, volume, db)) => {
-            writeln!(out, "{fault}")?;
+            writeln!(told, "{fault}")?;
             Ok(Vault::Closed(volume, db))
         }
     }

@@ -106,6 +106,7 @@ fn show_whole<W: Write>(alloc: Global, out: &mut W) -> Result<(), ScriptFault> {
 
 /// Prints the sessions. A beginning makes two calls, an opening one and a part two.
 pub fn show_sessions<W: Write>(alloc: Global, out: &mut W) -> Result<(), ScriptFault> {
+    writeln!(out, "! sessions")?;
     show_stop(alloc, 3, 1, new_database(alloc)?, new_database(alloc)?, out)?;
     show_stop(
         alloc,
@@ -115,5 +116,7 @@ pub fn show_sessions<W: Write>(alloc: Global, out: &mut W) -> Result<(), ScriptF
         new_database(alloc)?,
         out,
     )?;
-    show_whole(alloc, out)
+    show_whole(alloc, out)?;
+    writeln!(out)?;
+    Ok(())
 }

@@ -32,6 +32,11 @@ impl<S: Alter + Drop> Vault<S> {
         }
     }
 
+    pub fn closed(self) -> Vault<S> {
+        let (volume, db) = self.close();
+        Vault::Closed(volume, db)
+    }
+
     /// Begins a vault over what a closed one holds, and prints its line; answers the status too.
     pub fn begin<W: Write, E: Write>(
         self,

@@ -57,6 +57,7 @@ impl Volume for Wide {
 /// Begins a vault over the largest volume that there may be, and over one block more, and prints why
 /// there is none.
 pub fn show_sizes<W: Write>(alloc: Global, out: &mut W) -> Result<(), ScriptFault> {
+    writeln!(out, "! sizes")?;
     for blocks in [262_144, 262_145] {
         let db = Connection::open_in_memory(alloc)?;
         let volume = Wide {
@@ -68,5 +69,6 @@ pub fn show_sizes<W: Write>(alloc: Global, out: &mut W) -> Result<(), ScriptFaul
             Err((error, _, _)) => writeln!(out, "{blocks} blocks: {error}")?,
         }
     }
+    writeln!(out)?;
     Ok(())
 }

@@ -1,0 +1,192 @@
+#!/usr/bin/env python3
+"""Lets each system call of the built program on the files of a vault fail, and kills the program at each, by strace.
+
+    tests/faults.py [PROGRAM] [--only COMMAND] [--lanes N]
+
+For each command of the life of a deposit, over a copy of the vault as it stands then: each of its calls on `vault.vol`,
+`custody.db` and the log `custody.db-wal` in turn fails with EIO, with ENOSPC and with EINTR, and the program is killed
+as it makes it. Then:
+
+- The program ends by itself, where it was not killed, with a status and a line as docs/CODES.md has them.
+- The vault opens. Its state is that before the command or that after it, and that after it where the command's line was
+  printed.
+- The same command again prints its record (a purge or a sweep that was done says what it does then), and the state is
+  that after it.
+
+The calls are those that strace shows of a run without a fault. PROGRAM is crates/escrow/out/escrow where it is not
+named. Where strace may not be used, a line says so, and nothing is tried.
+"""
+import argparse
+import collections
+import concurrent.futures
+import os
+import pathlib
+import re
+import shutil
+import signal
+import subprocess
+import sys
+import tempfile
+
+TOP = pathlib.Path(__file__).resolve().parent.parent
+FILES = ("vault.vol", "custody.db", "custody.db-wal")
+FAULTS = ("error=EIO", "error=ENOSPC", "error=EINTR", "signal=KILL")
+FULL, DIFF = "example_2026-08-02_full_S1_R0.ryde", "example_2026-08-03_diff_S1_R0.ryde"
+
+# The commands, in their order, and what one that was done prints when it comes again, where that is something else.
+LIFE = (
+    ("init", "init d --blocks 16 --number 0000000000000001", "I1 already initialised\n"),
+    ("register", "register d example --first 2026-08-02", None),
+    ("put", f"put d in/{FULL} --now 2026-08-02T10:00:00Z", None),
+    ("verify", "verify d example --date 2026-08-02 --kind full --revision 0 --parts 1 --id X --now 2026-08-02T10:05:00Z", None),
+    ("sweep", "sweep d --now 2026-08-04T00:00:00Z", ""),
+    ("release", "release d R-1 example operator --now 2026-08-04T12:00:00Z", None),
+    ("fetch", f"fetch d R-1 {FULL}", None),
+    ("audit", "audit d", None),
+    ("purge", "purge d --now 2027-08-03T00:00:00Z", "dropped 0\n"),
+    ("put again", f"put d in/{DIFF} --now 2027-08-03T01:00:00Z", None),
+)
+# What is printed where a call fails, and its status.
+FAILURES = re.compile(r"(C[1-5] [^\n]+|[^\n]*file failed[^\n]*|[^\n]*: [^\n]+)\n\Z")
+
+Call = collections.namedtuple("Call", "name number")
+Done = collections.namedtuple("Done", "status out err")
+
+
+def run(program, folder, words, tracer=()):
+    """Runs the program in a folder."""
+    try:
+        done = subprocess.run([*tracer, program, *words.split()], cwd=folder, capture_output=True, timeout=60)
+    except subprocess.TimeoutExpired:
+        return Done("no end", b"", b"")
+    return Done(done.returncode, done.stdout, done.stderr)
+
+
+def calls_of(program, folder, words):
+    """The calls of a run on the files of the vault: the name of each, and the how-manieth of that name it is."""
+    trace = folder / "trace"
+    run(program, folder, words, ["strace", "-f", "-y", "-qq", "-o", str(trace), "-e", "trace=%file,%desc"])
+    counts, calls = collections.Counter(), []
+    for line in trace.read_text(errors="replace").splitlines():
+        match = re.match(r"\d+\s+(\w+)\((.*)", line)
+        if not match:
+            continue
+        name, rest = match.groups()
+        counts[name] += 1
+        if re.search(r"(?:vault\.vol|custody\.db(?:-wal)?)[\">]", rest):
+            calls.append(Call(name, counts[name]))
+    trace.unlink()
+    return calls
+
+
+def copied(folder, into):
+    """A copy of the vault and of what is sent."""
+    for name in ("d", "in"):
+        if (folder / name).is_dir():
+            shutil.copytree(folder / name, into / name)
+
+
+class Case:
+    """A command over a vault, without a fault: what it prints, and the states before and after it."""
+
+    def __init__(self, program, start, words, done_before):
+        self.program, self.start, self.words = program, start, words
+        with tempfile.TemporaryDirectory() as room:
+            folder = pathlib.Path(room)
+            copied(start, folder)
+            self.calls = calls_of(program, folder, words)
+        with tempfile.TemporaryDirectory() as room:
+            folder = pathlib.Path(room)
+            copied(start, folder)
+            self.before = run(program, folder, "state d")
+            self.whole = run(program, folder, words)
+            self.after = run(program, folder, "state d")
+        self.again = self.whole.out if done_before is None else done_before.encode()
+
+    def faults(self, call, fault):
+        """How the program ends where this call meets the fault, and what is wrong."""
+        with tempfile.TemporaryDirectory() as room:
+            folder = pathlib.Path(room)
+            copied(self.start, folder)
+            inject = f"inject={call.name}:{fault}:when={call.number}"
+            tracer = ["strace", "-f", "-qqq", "-o", "/dev/null", "-e", f"trace={call.name}", "-e", inject]
+            broken = run(self.program, folder, self.words, tracer)
+            found = run(self.program, folder, "state d")
+            again = run(self.program, folder, self.words)
+            last = run(self.program, folder, "state d")
+            wrong = [*self.ends(broken, fault), *self.opens(broken, found), *self.repeats(found, again)]
+            return broken.status, wrong + ["another state in the end"] * (last != self.after)
+
+    def ends(self, broken, fault):
+        if fault == "signal=KILL" and broken.status in (-signal.SIGKILL, 128 + signal.SIGKILL):
+            return
+        if broken.status == self.whole.status:
+            if broken != self.whole:
+                yield f"prints {broken.out!r} {broken.err!r}"
+        elif broken.status != 3 or not FAILURES.match(broken.err.decode(errors="replace")):
+            yield f"ends with {broken.status}: {broken.err!r}"
+
+    def opens(self, broken, found):
+        if self.words.startswith("init"):
+            return
+        if found not in (self.before, self.after):
+            yield f"opens as {found.out!r} {found.err!r}"
+        elif self.is_told(broken) and found != self.after:
+            yield "what was acknowledged is not there"
+
+    def is_told(self, broken):
+        return broken.status == 0 or broken.out == self.whole.out != b""
+
+    def repeats(self, found, again):
+        if found == self.after != self.before:
+            if self.again not in (again.out, again.err):
+                yield f"again prints {again.out!r} {again.err!r}"
+        elif again != self.whole:
+            yield f"again prints {again.out!r} {again.err!r} in place of {self.whole.out!r}"
+
+
+def try_all(program, only, lanes):
+    """Tries each call of each command; answers how many runs passed, and how many did not."""
+    passed = failed = 0
+    with tempfile.TemporaryDirectory() as room:
+        start = pathlib.Path(room)
+        for name in ("d", "in"):
+            (start / name).mkdir()
+        (start / "in" / FULL).write_bytes(b"full" * 1500)
+        (start / "in" / DIFF).write_bytes(b"diff" * 3000)
+        for name, words, done_before in LIFE:
+            if only in (None, name):
+                case = Case(program, start, words, done_before)
+                runs = [(call, fault) for call in case.calls for fault in FAULTS]
+                with concurrent.futures.ThreadPoolExecutor(lanes) as pool:
+                    told = list(pool.map(lambda it: case.faults(*it), runs))
+                for (call, fault), (_, wrong) in zip(runs, told):
+                    passed, failed = passed + (not wrong), failed + bool(wrong)
+                    for line in wrong:
+                        print(f"FAILED: {name}, {call.name} {call.number}, {fault}: {line}")
+                ends = collections.Counter(status for status, _ in told)
+                done, told_so = ends.pop(case.whole.status, 0), ends.pop(3, 0)
+                print(f"{name}: {len(case.calls)} calls, {len(runs)} runs: {done} done, {told_so} failed, {sum(ends.values())} killed", flush=True)
+            run(program, start, words)
+    return passed, failed
+
+
+def main():
+    words = argparse.ArgumentParser(description=__doc__, formatter_class=argparse.RawDescriptionHelpFormatter)
+    words.add_argument("program", nargs="?", default=TOP / "crates/escrow/out/escrow")
+    words.add_argument("--only")
+    words.add_argument("--lanes", type=int, default=os.cpu_count())
+    asked = words.parse_args()
+    program = pathlib.Path(asked.program).resolve()
+    if not os.access(program, os.X_OK):
+        sys.exit(f"no program at {program}: run ./demo --proved")
+    if not shutil.which("strace") or subprocess.run(["strace", "-o", "/dev/null", "true"], capture_output=True).returncode:
+        print("left out: no strace, or it may not be used")
+        print("0 passed, 0 failed")
+        return
+    passed, failed = try_all(program, asked.only, asked.lanes)
+    print(f"{passed} passed, {failed} failed")
+    sys.exit(1 if failed else 0)
+
+
+main()
