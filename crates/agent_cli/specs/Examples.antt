@@ -1,7 +1,7 @@
 -- Words of each subcommand, and the order that they give: with all of its options, and without the one that may be left out.
 use Rattle.std.specs.Prelude.{List, [], ◌∷◌, None, Some, codes}
 use Rattle.clap.specs.Words.{Text}
-use Rattle.deposit_name.specs.declared.kinds.Kind.TheVariants.{Full}
+use Rattle.deposit_name.specs.declared.kinds.Kind.TheVariants.{Full, Incr}
 use Rattle.desk.specs.declared.grounds.Ground.TheVariants.{Operator}
 use Rattle.agent_cli.specs.Order.{Asks, Wanted, init, register, put, verify, sweep, purge, release, fetch, report, state, audit, serve, wanted}
 
@@ -19,6 +19,8 @@ pub record WordsGiveOrders : Type 0 where
       (verify (codes "vault") (record { tld = codes "example"; day = 20_667; kind = Full; rev = 3; parts = 2; id = codes "X" }) (Some 1_785_664_800))
   pub of_verify_now : Gives (codes "verify" ∷ codes "vault" ∷ codes "example" ∷ codes "--date" ∷ codes "2026-08-02" ∷ codes "--kind" ∷ codes "full" ∷ codes "--revision" ∷ codes "3" ∷ codes "--parts" ∷ codes "2" ∷ codes "--id" ∷ codes "X" ∷ [])
       (verify (codes "vault") (record { tld = codes "example"; day = 20_667; kind = Full; rev = 3; parts = 2; id = codes "X" }) None)
+  pub of_verify_partial : Gives (codes "verify" ∷ codes "vault" ∷ codes "example" ∷ codes "--date" ∷ codes "2026-08-02" ∷ codes "--kind" ∷ codes "incr" ∷ codes "--revision" ∷ codes "3" ∷ codes "--parts" ∷ codes "2" ∷ codes "--id" ∷ codes "X" ∷ [])
+      (verify (codes "vault") (record { tld = codes "example"; day = 20_667; kind = Incr; rev = 3; parts = 2; id = codes "X" }) None)
   pub of_sweep : Gives (codes "sweep" ∷ codes "vault" ∷ codes "--now" ∷ codes "2026-08-02T10:00:00Z" ∷ []) (sweep (codes "vault") (Some 1_785_664_800))
   pub of_sweep_now : Gives (codes "sweep" ∷ codes "vault" ∷ []) (sweep (codes "vault") None)
   pub of_purge : Gives (codes "purge" ∷ codes "vault" ∷ codes "--now" ∷ codes "2026-08-02T10:00:00Z" ∷ []) (purge (codes "vault") (Some 1_785_664_800))

@@ -23,7 +23,7 @@ ShowsDay text d = IsDay d × (text ≡ day_text d)
 abbrev pub ShowsMoment : Text → ℕ → Type 0
 ShowsMoment text s = IsMoment s × (text ≡ moment_text s)
 
--- `full` or `diff`
+-- `full`, `diff` or `incr`
 abbrev pub ShowsKind : Text → Kind → Type 0
 ShowsKind text kind = text ≡ kind_text kind
 

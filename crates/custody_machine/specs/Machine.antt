@@ -6,6 +6,7 @@ use Rattle.std.specs.FinMap.{FinMap, entries, get, insert}
 use Rattle.std.specs.Ordering.{nat_cmp}
 use Rattle.schedule.specs.Schedule.{day_of, year_after}
 use Rattle.deposit_name.specs.declared.kinds.Kind.{Kind}
+use Rattle.deposit_name.specs.declared.kinds.Kind.TheVariants.{Full}
 use Rattle.deposit_name.specs.declared.faults.NameError.{NameError}
 use Rattle.deposit_name.specs.Name.{Name, name_text}
 use Rattle.desk.specs.Standing.{ground_stands}
@@ -265,21 +266,43 @@ passed_id (Receipt _ id) = Some id
 passed_id (Failure _ _ _) = None
 passed_id Absence = None
 
--- the days and ids of those of a registry, in the order of their notices
+-- the day and the id of a registry's deposit that passed, where a notice tells it
+abbrev pub passed_in : List ℕ → NoticeKey × Notice → Option (ℕ × List ℕ)
+passed_in tld entry = if is_same_text entry.0.tld tld then option_map (λ (id : List ℕ). (entry.1.day, id)) (passed_id entry.1.kind) else None
+
+-- those of a registry, in the order of their notices
 abbrev pub passed_of : FinMap notice_cmp Notice → List ℕ → List (ℕ × List ℕ)
-passed_of notices tld = filter_map (λ (entry : NoticeKey × Notice). if is_same_text entry.0.tld tld then option_map (λ (id : List ℕ). (entry.1.day, id)) (passed_id entry.1.kind) else None) (entries notices)
+passed_of notices tld = filter_map (passed_in tld) (entries notices)
+
+-- a revision is a full deposit: its first part is recorded under the name of one (Part A section 5)
+abbrev pub is_full_revision : State → List ℕ → ℕ → ℕ → Bool
+is_full_revision state tld day rev = is_some (recorded state (record { tld = tld; day = day; kind = Full; part = 1; rev = rev }))
+
+abbrev pub is_receipt_of_full : State → List ℕ → ℕ → NoticeKind → Bool
+is_receipt_of_full state tld day (Receipt rev _) = is_full_revision state tld day rev
+is_receipt_of_full state tld day (Failure _ _ _) = false
+is_receipt_of_full state tld day Absence = false
+
+-- a notice tells that a full deposit passed
+abbrev pub tells_full : State → NoticeKey × Notice → Bool
+tells_full state entry = is_receipt_of_full state entry.0.tld entry.1.day entry.1.kind
+
+-- of a registry's deposits that passed, the full ones
+abbrev pub full_of : State → List ℕ → List (ℕ × List ℕ)
+full_of state tld = filter_map (passed_in tld) (filter (tells_full state) (entries state.notices))
 
 -- the id of the latest: of one that no other is later than
 abbrev pub latest_of : List (ℕ × List ℕ) → Option (List ℕ)
 latest_of passed = option_map (λ (one : ℕ × List ℕ). one.1) (find (λ (one : ℕ × List ℕ). list_all (λ (other : ℕ × List ℕ). nat_le other.0 one.0) passed) passed)
 
 -- what is known of a stated deposit
-abbrev pub known_of : FinMap notice_cmp Notice → statement.Statement → Known
-known_of notices stated = record {
+abbrev pub known_of : State → statement.Statement → Known
+known_of state stated = record {
   name = first_part stated;
   id = stated.id;
-  latest = latest_of (passed_of notices stated.tld);
-  passed = map (λ (one : ℕ × List ℕ). one.1) (passed_of notices stated.tld);
+  latest = latest_of (passed_of state.notices stated.tld);
+  full = latest_of (full_of state stated.tld);
+  passed = map (λ (one : ℕ × List ℕ). one.1) (passed_of state.notices stated.tld);
 }
 
 -- ---- refusals
@@ -473,7 +496,7 @@ verdict_notice stated told now = record { day = stated.day; at = now; kind = not
 
 -- the verdict on the deposit whose parts are kept
 abbrev pub verdict_on : State → statement.Statement → Verdict
-verdict_on state stated = verdict (joined state (first_part stated)) (known_of state.notices stated)
+verdict_on state stated = verdict (joined state (first_part stated)) (known_of state stated)
 
 -- a notice of the verdict is recorded
 abbrev pub noticed : State → NoticeKey → Notice → Outcome

@@ -9,7 +9,7 @@ use Rattle.hex.specs.Hex.{encode_lower, decode_sized}
 use Rattle.hex.specs.declared.FromHexError.{FromHexError}
 use Rattle.schedule.specs.Schedule.{day_of, year_after}
 use Rattle.deposit_name.specs.declared.kinds.Kind.{Kind}
-use Rattle.deposit_name.specs.declared.kinds.Kind.TheVariants.{Full, Diff}
+use Rattle.deposit_name.specs.declared.kinds.Kind.TheVariants.{Full, Diff, Incr}
 use Rattle.deposit_name.specs.Identifiers.{is_tld, is_deposit_id, is_reference}
 use Rattle.deposit_name.specs.Name.{kind_text}
 use Rattle.desk.specs.Checks.{check_number}
@@ -70,7 +70,7 @@ registry_in row = if is_tld row.tld && is_day row.first_day then Some (row.tld, 
 -- ---- parts
 
 abbrev pub kind_in : List ℕ → Option Kind
-kind_in text = find (λ kind. bytes_eq text (kind_text kind)) (Full ∷ Diff ∷ [])
+kind_in text = find (λ kind. bytes_eq text (kind_text kind)) (Full ∷ Diff ∷ Incr ∷ [])
 
 -- extents, of which start and count are four bytes each, the greatest first
 abbrev pub extents_of : List ℕ → Option (List Extent)

@@ -5,7 +5,6 @@ use Rattle.std.specs.FinMap.{entries, get}
 use Rattle.std.specs.Option.{option_and_then}
 use Rattle.deposit_name.specs.declared.kinds.Kind.{Kind}
 use Rattle.deposit_name.specs.Name.{Name}
-use Rattle.desk.specs.declared.notices.NoticeKind.{NoticeKind}
 use Rattle.custody_records.specs.declared.parts.Part as typed
 use Rattle.custody_records.specs.Typed.{part_place, part_value}
 use Rattle.custody_records.specs.Keys.{NoticeKey}

@@ -1,11 +1,11 @@
 -- The thirteen checks of a deposit, each said by what the deposit reads as, and the verdict.
-use Rattle.std.specs.Prelude.{◌≡◌, ◌<◌, ⊤, ℕ, List, [], ◌∷◌, Contains, Option, Some, None, codes, length, map, take}
+use Rattle.std.specs.Prelude.{◌≡◌, ◌<◌, ⊤, ℕ, List, [], ◌∷◌, Contains, IfSome, Option, Some, None, codes, length, map, take}
 use Rattle.std.specs.List.{AllZip}
 use Rattle.std.specs.List.Sorted.{IsStrictlyIncreasing}
 use Rattle.schedule.specs.Schedule.{IsSunday}
 use Rattle.deposit_name.specs.Name.{Name}
 use Rattle.deposit_name.specs.declared.kinds.Kind.{Kind}
-use Rattle.deposit_name.specs.declared.kinds.Kind.TheVariants.{Full, Diff}
+use Rattle.deposit_name.specs.declared.kinds.Kind.TheVariants.{Full, Diff, Incr}
 use Rattle.deposit_name.specs.declared.table.TableName.{TableName}
 use Rattle.deposit_name.specs.declared.table.TableName.TheVariants.{Domain, DomainContacts, DomainStatuses, DomainNameServers, Host, HostAddresses, Contact, Registrar}
 use Rattle.desk.specs.Checks.{check_number}
@@ -29,10 +29,15 @@ pub record AgreesWithName (v : Env) (name : Name) : Type 0 where
   pub day : v.watermark ≡ name.day
   pub resend : v.resend ≡ name.rev
 
--- a full deposit follows none, and a differential one the latest that passed
-abbrev pub FollowsLatest : Kind → Option (List ℕ) → Option (List ℕ) → Type 0
-FollowsLatest Full prev_id latest = prev_id ≡ None
-FollowsLatest Diff prev_id latest = (id : List ℕ) × (prev_id ≡ Some id) × (latest ≡ Some id)
+-- a full deposit has passed, and no other deposit is named as the one before
+abbrev pub FollowsFull : Option (List ℕ) → Option (List ℕ) → Type 0
+FollowsFull prev_id full = (id : List ℕ) × (full ≡ Some id) × IfSome prev_id (λ named. named ≡ id)
+
+-- a full deposit follows none, a differential one the latest that passed, and an incremental one the latest full one that passed
+abbrev pub FollowsPassed : Kind → Option (List ℕ) → Known → Type 0
+FollowsPassed Full prev_id known = prev_id ≡ None
+FollowsPassed Diff prev_id known = (id : List ℕ) × (prev_id ≡ Some id) × (known.latest ≡ Some id)
+FollowsPassed Incr prev_id known = FollowsFull prev_id known.full
 
 -- the objects of a deposit, by the URIs of their namespaces (RFC 9022)
 abbrev pub object_uris : List (List ℕ)
@@ -70,10 +75,11 @@ table_place Registrar = 7
 abbrev pub StandInOrder : List TableName → Type 0
 StandInOrder names = IsStrictlyIncreasing (map table_place names)
 
--- a full deposit has all tables, and a differential one some of them, in order
+-- a full deposit has all tables, and any other some of them, in order
 abbrev pub HasContents : Kind → List TableName → Type 0
 HasContents Full names = names ≡ all_tables
 HasContents Diff names = StandInOrder names
+HasContents Incr names = StandInOrder names
 
 pub record HasMenu (v : Env) : Type 0 where
   pub objects : v.object_uris ≡ object_uris
@@ -104,7 +110,7 @@ Says v rest known check.Envelope = ⊤
 Says v rest known check.Name = AgreesWithName v known.name
 Says v rest known check.Statement = v.id ≡ known.id
 Says v rest known check.Weekday = IsSunday v.watermark → v.kind ≡ Full
-Says v rest known check.PrevId = FollowsLatest v.kind v.prev_id known.latest
+Says v rest known check.PrevId = FollowsPassed v.kind v.prev_id known
 Says v rest known check.IdTaken = ¬ Contains known.passed v.id
 Says v rest known check.Menu = HasMenu v
 Says v rest known check.Files = HasFiles v rest (λ files. ⊤)

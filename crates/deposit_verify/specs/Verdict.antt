@@ -6,7 +6,7 @@ use Rattle.std.specs.Str.{bytes_eq}
 use Rattle.sha2.specs.Sha256.{sha256}
 use Rattle.deposit_name.specs.Name.{Name}
 use Rattle.deposit_name.specs.declared.kinds.Kind.{Kind}
-use Rattle.deposit_name.specs.declared.kinds.Kind.TheVariants.{Full, Diff}
+use Rattle.deposit_name.specs.declared.kinds.Kind.TheVariants.{Full, Diff, Incr}
 use Rattle.deposit_name.specs.declared.table.TableName.{TableName}
 use Rattle.deposit_name.specs.declared.table.TableName.TheVariants.{Domain, DomainContacts, DomainStatuses, DomainNameServers, Host, HostAddresses, Contact, Registrar}
 use Rattle.desk.specs.declared.checks.Check.{Check}
@@ -30,8 +30,13 @@ use Rattle.deposit_verify.specs.Tables.{table_of}
 abbrev pub is_same_kind : Kind → Kind → Bool
 is_same_kind Full Full = true
 is_same_kind Full Diff = false
+is_same_kind Full Incr = false
 is_same_kind Diff Full = false
 is_same_kind Diff Diff = true
+is_same_kind Diff Incr = false
+is_same_kind Incr Full = false
+is_same_kind Incr Diff = false
+is_same_kind Incr Incr = true
 
 abbrev pub is_full : Kind → Bool
 is_full kind = is_same_kind kind Full
@@ -46,9 +51,16 @@ is_same_id None other = false
 is_same_id (Some id) None = false
 is_same_id (Some id) (Some other) = bytes_eq id other
 
-abbrev pub follows_latest : Kind → Option (List ℕ) → Option (List ℕ) → Bool
-follows_latest Full prev_id latest = is_none prev_id
-follows_latest Diff prev_id latest = is_same_id prev_id latest
+-- an id that is there, and another that is the same or not there
+abbrev pub follows_full : Option (List ℕ) → Option (List ℕ) → Bool
+follows_full prev_id None = false
+follows_full None (Some full) = true
+follows_full (Some prev_id) (Some full) = bytes_eq prev_id full
+
+abbrev pub follows_passed : Kind → Option (List ℕ) → Known → Bool
+follows_passed Full prev_id known = is_none prev_id
+follows_passed Diff prev_id known = is_same_id prev_id known.latest
+follows_passed Incr prev_id known = follows_full prev_id known.full
 
 abbrev pub contains_text : List (List ℕ) → List ℕ → Bool
 contains_text texts text = list_any (λ one. bytes_eq one text) texts
@@ -65,6 +77,7 @@ stand_in_order names = increase (map table_place names)
 abbrev pub has_contents : Kind → List TableName → Bool
 has_contents Full names = bytes_eq (map table_place names) (map table_place all_tables)
 has_contents Diff names = stand_in_order names
+has_contents Incr names = stand_in_order names
 
 abbrev pub has_menu : Env → Bool
 has_menu v =
@@ -145,7 +158,7 @@ passes v known found check.Envelope = true
 passes v known found check.Name = agrees_with_name v known.name
 passes v known found check.Statement = bytes_eq v.id known.id
 passes v known found check.Weekday = not (v.watermark % 7 == 3) || is_full v.kind
-passes v known found check.PrevId = follows_latest v.kind v.prev_id known.latest
+passes v known found check.PrevId = follows_passed v.kind v.prev_id known
 passes v known found check.IdTaken = not (contains_text known.passed v.id)
 passes v known found check.Menu = has_menu v
 passes v known found check.Files = is_some found.files

@@ -10,7 +10,7 @@ use Rattle.schedule.specs.Text.{day_text}
 use Rattle.deposit_name.specs.Identifiers.{IsTld, IsDepositId}
 use Rattle.deposit_name.specs.Tables.{table_text, has_deletes}
 use Rattle.deposit_name.specs.declared.kinds.Kind.{Kind}
-use Rattle.deposit_name.specs.declared.kinds.Kind.TheVariants.{Full, Diff}
+use Rattle.deposit_name.specs.declared.kinds.Kind.TheVariants.{Full, Diff, Incr}
 use Rattle.envelope.specs.Uri.{is_uri}
 use Rattle.envelope.specs.declared.envelope.FileEntry.{FileEntry}
 use Rattle.envelope.specs.declared.envelope.Count.{Count}
@@ -66,12 +66,14 @@ pub record AreDeletes (ds : List FileEntry) : Type 0 where
   pub files : All IsFile ds
   pub named : All (λ f. IsTrue (has_deletes f.name)) ds
 
--- there are deletes exactly in a DIFF
+-- there are deletes exactly in a DIFF and in an INCR
 abbrev pub FitsKind : Kind → Option (List FileEntry) → Type 0
 FitsKind Full None = Unit {0}
 FitsKind Full (Some ds) = ⊥
 FitsKind Diff None = ⊥
 FitsKind Diff (Some ds) = AreDeletes ds
+FitsKind Incr None = ⊥
+FitsKind Incr (Some ds) = AreDeletes ds
 
 pub record IsEnvelope (v : Env) : Type 0 where
   pub contents_few : length v.contents ≤ 8
@@ -139,6 +141,7 @@ count_text cs = 123 ∷ (join_with_byte 44 (map count_member cs) ++ 125 ∷ [])
 abbrev pub kind_text : Kind → List ℕ
 kind_text Full = codes "FULL"
 kind_text Diff = codes "DIFF"
+kind_text Incr = codes "INCR"
 
 -- the list of the files
 abbrev pub files_text : List FileEntry → List ℕ

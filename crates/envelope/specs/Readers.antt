@@ -8,7 +8,7 @@ use Rattle.serde_json.specs.Read.{read}
 use Rattle.deposit_name.specs.Identifiers.{is_tld, is_deposit_id}
 use Rattle.deposit_name.specs.Tables.{has_deletes}
 use Rattle.deposit_name.specs.declared.kinds.Kind.{Kind}
-use Rattle.deposit_name.specs.declared.kinds.Kind.TheVariants.{Full, Diff}
+use Rattle.deposit_name.specs.declared.kinds.Kind.TheVariants.{Full, Diff, Incr}
 use Rattle.envelope.specs.Uri.{is_uri}
 use Rattle.envelope.specs.declared.envelope.FileEntry.{FileEntry}
 use Rattle.envelope.specs.declared.envelope.Count.{Count}
@@ -52,11 +52,16 @@ is_file f = nat_le f.length 8388608 && (length f.sha256 == 32 && list_all (λ by
 abbrev pub are_files : ℕ → List FileEntry → Bool
 are_files most fs = nat_le (length fs) most && list_all is_file fs
 
+abbrev pub are_deletes : List FileEntry → Bool
+are_deletes ds = are_files 4 ds && list_all (λ f. has_deletes f.name) ds
+
 abbrev pub fits_kind : Kind → Option (List FileEntry) → Bool
 fits_kind Full None = true
 fits_kind Full (Some ds) = false
 fits_kind Diff None = false
-fits_kind Diff (Some ds) = are_files 4 ds && list_all (λ f. has_deletes f.name) ds
+fits_kind Diff (Some ds) = are_deletes ds
+fits_kind Incr None = false
+fits_kind Incr (Some ds) = are_deletes ds
 
 abbrev pub is_count : Count → Bool
 is_count c = is_uri c.uri && nat_lt c.count (2 ^ 32)

@@ -7,7 +7,7 @@ use Rattle.schedule.specs.Reading.{day_at}
 use Rattle.deposit_name.specs.Identifiers.{passing, is_tld, is_deposit_id}
 use Rattle.deposit_name.specs.Tables.{table_at, has_deletes}
 use Rattle.deposit_name.specs.declared.kinds.Kind.{Kind}
-use Rattle.deposit_name.specs.declared.kinds.Kind.TheVariants.{Full, Diff}
+use Rattle.deposit_name.specs.declared.kinds.Kind.TheVariants.{Full, Diff, Incr}
 use Rattle.serde_json.specs.Data.{Data, Items, no_items, item, Members, no_members, member}
 use Rattle.serde_json.specs.Find.{get, as_number, as_u64, as_str, as_array, as_object}
 use Rattle.std.specs.Str.{bytes_eq}
@@ -109,14 +109,22 @@ counts_at d = do
   few 16 cs
 
 unfoldable pub kind_at : List ℕ → Option Kind
-kind_at t = if bytes_eq t (codes "FULL") then Some Full else if bytes_eq t (codes "DIFF") then Some Diff else None
+kind_at t =
+    if bytes_eq t (codes "FULL") then Some Full
+    else if bytes_eq t (codes "DIFF") then Some Diff
+    else if bytes_eq t (codes "INCR") then Some Incr
+    else None
 
-unfoldable pub deletes_at : Kind → Data → Option (Option (List FileEntry))
-deletes_at Full d = Some None
-deletes_at Diff d = do
+abbrev pub deleted_at : Data → Option (Option (List FileEntry))
+deleted_at d = do
   x ← get (codes "deletes") d
   fs ← files_at 4 x
   if list_all (λ f. has_deletes f.name) fs then Some (Some fs) else None
+
+unfoldable pub deletes_at : Kind → Data → Option (Option (List FileEntry))
+deletes_at Full d = Some None
+deletes_at Diff d = deleted_at d
+deletes_at Incr d = deleted_at d
 
 unfoldable pub id_at : List ℕ → Data → Option (List ℕ)
 id_at name d = do

@@ -1,5 +1,5 @@
 -- The state that a plain program shows.
-use Rattle.std.specs.Prelude.{◌≡◌, ◌&&◌, ◌==◌, ℕ, List, Option, None, length, map, option_map, Bool, false, if◌then◌else◌, nat_lt}
+use Rattle.std.specs.Prelude.{◌≡◌, ◌&&◌, ◌==◌, ℕ, List, length, map, Bool, false, nat_lt}
 use Rattle.std.specs.FinMap.{FinMap, from_entries}
 use Rattle.std.specs.List.{filter}
 use Rattle.deposit_name.specs.Name.{Name}
@@ -19,7 +19,7 @@ use Rattle.plain_machine.specs.declared.kept.PlainAnswer.{PlainAnswer}
 use Rattle.plain_machine.specs.declared.kept.PlainAnswer.TheVariants as answer
 use Rattle.custody_machine.specs.Names.{is_same_text}
 use Rattle.custody_machine.specs.State.{State, Part, Content, Held, Dropped}
-use Rattle.custody_machine.specs.Machine.{OfRegistry, OfPart, OfNotice, OfRelease, OfPurge, Outcome, Refuse, Accept, content_len, dropped_if_due, greatest_number, is_receipt, passed_id}
+use Rattle.custody_machine.specs.Machine.{OfRegistry, OfPart, OfNotice, OfRelease, OfPurge, Outcome, Refuse, Accept, content_len, dropped_if_due, greatest_number, is_receipt}
 
 abbrev pub registry_entry : PlainRegistry → List ℕ × ℕ
 registry_entry r = (r.tld, r.first_day)
@@ -73,9 +73,6 @@ is_to tld notice = is_same_text notice.tld tld
 
 abbrev pub is_later_receipt : List ℕ → ℕ → NoticeKey × Notice → Bool
 is_later_receipt tld day entry = is_same_text entry.0.tld tld && (nat_lt day entry.1.day && is_receipt entry.1.kind)
-
-abbrev pub passed_in : List ℕ → NoticeKey × Notice → Option (ℕ × List ℕ)
-passed_in tld entry = if is_same_text entry.0.tld tld then option_map (λ (id : List ℕ). (entry.1.day, id)) (passed_id entry.1.kind) else None
 
 abbrev pub greatest_of : List ℕ → List (NoticeKey × Notice) → ℕ
 greatest_of tld entries = greatest_number (filter (λ (entry : NoticeKey × Notice). is_same_text entry.0.tld tld) entries)
