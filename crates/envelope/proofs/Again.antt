@@ -17,15 +17,15 @@ use Rattle.deposit_name.proofs.IdentifierLemmas.{is_tld-IsTld, is_deposit_id-IsD
 use Rattle.deposit_name.proofs.TableLemmas.{table_at-table_text}
 use Rattle.deposit_name.specs.Tables.{has_deletes}
 use Rattle.deposit_name.specs.declared.kinds.Kind.{Kind}
-use Rattle.deposit_name.specs.declared.kinds.Kind.TheVariants.{Full, Diff}
+use Rattle.deposit_name.specs.declared.kinds.Kind.TheVariants.{Full, Diff, Incr}
 use Rattle.serde_json.specs.Data.{unsigned, Data, number, string}
 use Rattle.serde_json.specs.Find.{get, as_str}
 use Rattle.serde_json.specs.View.{items_of}
 use Rattle.envelope.specs.Uri.{is_uri}
 use Rattle.envelope.specs.declared.envelope.FileEntry.{FileEntry}
 use Rattle.envelope.specs.declared.envelope.Count.{Count}
-use Rattle.envelope.specs.Envelope.{Env, IsFile, IsCount, FitsKind, IsEnvelope, kind_text}
-use Rattle.envelope.specs.Reading.{◌>>=◌, number_at, text_at, digest_at, file_at, uri_at, each_at, count_at, counts_of, few, files_at, uris_at, counts_at, kind_at, deletes_at, id_at, prev_id_at, watermark_at, tld_at, header_at, menu_at, resend_at, env_at}
+use Rattle.envelope.specs.Envelope.{Env, IsFile, IsCount, AreDeletes, FitsKind, IsEnvelope, kind_text}
+use Rattle.envelope.specs.Reading.{◌>>=◌, number_at, text_at, digest_at, file_at, uri_at, each_at, count_at, counts_of, few, files_at, uris_at, counts_at, kind_at, deleted_at, deletes_at, id_at, prev_id_at, watermark_at, tld_at, header_at, menu_at, resend_at, env_at}
 use Rattle.envelope.proofs.Values.{members_from, file_data, files_data, count_pair, counts_data, header_data, uris_data, menu_data, watermark_data, whole, env_data}
 
 if_true : {A : Type 0} (b : Bool) (x : A) → b ≡ true → cond b (Some x) None ≡ Some x
@@ -43,6 +43,7 @@ kind_again : (k : Kind) → kind_at (kind_text k) ≡ Some k
 unfolding kind_at
 kind_again Full = refl
 kind_again Diff = refl
+kind_again Incr = refl
 
 digest_again : (f : FileEntry) → IsFile f → digest_at (encode_lower f.sha256) ≡ Some f.sha256
 digest_again f h = ap result_ok (decode_sized-encode_lower f.sha256 32 h.digest h.bytes)
@@ -178,15 +179,20 @@ all_named : (ds : List FileEntry) → AllByRecursion (λ f. IsTrue (has_deletes 
 all_named [] h = refl
 all_named (f ∷ ds) h = and_from _ _ h.0 (all_named ds h.1)
 
+deleted_again : (ds : List FileEntry) (d : Data) → AreDeletes ds → get (codes "deletes") d ≡ Some (files_data ds) → deleted_at d ≡ Some (Some ds)
+deleted_again ds d h e =
+    ap (λ o. o >>= λ x. files_at 4 x >>= λ fs. cond (list_all (λ f. has_deletes f.name) fs) (Some (Some fs)) None) e
+    ∙ ap (λ o. o >>= λ fs. cond (list_all (λ f. has_deletes f.name) fs) (Some (Some fs)) None) (files_again 4 ds h.few h.files)
+    ∙ ap (λ b. cond b (Some (Some ds)) None) (all_named ds (recursion_from_All (λ f. IsTrue (has_deletes f.name)) ds h.named))
+
 deletes_again : (k : Kind) (o : Option (List FileEntry)) (d : Data) → FitsKind k o → get (codes "deletes") d ≡ option_map files_data o → deletes_at k d ≡ Some o
 unfolding deletes_at
 deletes_again Full None d h e = refl
 deletes_again Full (Some ds) d h e = absurd h
 deletes_again Diff None d h e = absurd h
-deletes_again Diff (Some ds) d h e =
-    ap (λ o. o >>= λ x. files_at 4 x >>= λ fs. cond (list_all (λ f. has_deletes f.name) fs) (Some (Some fs)) None) e
-    ∙ ap (λ o. o >>= λ fs. cond (list_all (λ f. has_deletes f.name) fs) (Some (Some fs)) None) (files_again 4 ds h.few h.files)
-    ∙ ap (λ b. cond b (Some (Some ds)) None) (all_named ds (recursion_from_All (λ f. IsTrue (has_deletes f.name)) ds h.named))
+deletes_again Diff (Some ds) d h e = deleted_again ds d h e
+deletes_again Incr None d h e = absurd h
+deletes_again Incr (Some ds) d h e = deleted_again ds d h e
 
 id_again : (name : List ℕ) (d : Data) (t : List ℕ) → get name d ≡ Some (string t) → IsDepositId t → id_at name d ≡ Some t
 unfolding id_at

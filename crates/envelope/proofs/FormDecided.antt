@@ -14,13 +14,13 @@ use Rattle.hex.specs.Hex.{IsBytes}
 use Rattle.deposit_name.specs.Identifiers.{IsDepositId}
 use Rattle.deposit_name.specs.Tables.{has_deletes}
 use Rattle.deposit_name.specs.declared.kinds.Kind.{Kind}
-use Rattle.deposit_name.specs.declared.kinds.Kind.TheVariants.{Full, Diff}
+use Rattle.deposit_name.specs.declared.kinds.Kind.TheVariants.{Full, Diff, Incr}
 use Rattle.deposit_name.proofs.IdentifierLemmas.{is_tld-IsTld, is_deposit_id-IsDepositId}
 use Rattle.envelope.specs.Uri.{is_uri}
 use Rattle.envelope.specs.declared.envelope.FileEntry.{FileEntry}
 use Rattle.envelope.specs.declared.envelope.Count.{Count}
-use Rattle.envelope.specs.Envelope.{Env, FitsKind, IsCount, IsEnvelope, IsFile, Rises}
-use Rattle.envelope.specs.Readers.{are_counts, are_files, are_uris, fits_kind, is_count, is_envelope, is_file, is_prev_id, rise}
+use Rattle.envelope.specs.Envelope.{AreDeletes, Env, FitsKind, IsCount, IsEnvelope, IsFile, Rises}
+use Rattle.envelope.specs.Readers.{are_counts, are_deletes, are_files, are_uris, fits_kind, is_count, is_envelope, is_file, is_prev_id, rise}
 
 itself : (b : Bool) → Decides b (IsTrue b)
 itself b = (λ e. e, λ e. e)
@@ -51,13 +51,18 @@ file_decides f =
 files_decide : (most : ℕ) (fs : List FileEntry) → Decides (are_files most fs) ((length fs ≤ most) × All IsFile fs)
 files_decide most fs = Decides-and _ _ (most_decides (length fs) most) (all_decides is_file IsFile file_decides fs)
 
+deletes_decide : (ds : List FileEntry) → Decides (are_deletes ds) (AreDeletes ds)
+deletes_decide ds =
+    Decides-like _ (λ h. record { few = h.0.0; files = h.0.1; named = h.1 }) (λ h. ((h.few, h.files), h.named))
+    (Decides-and _ _ (files_decide 4 ds) (all_decides (λ f. has_deletes f.name) (λ f. IsTrue (has_deletes f.name)) (λ f. itself (has_deletes f.name)) ds))
+
 kind_decides : (kind : Kind) (deletes : Option (List FileEntry)) → Decides (fits_kind kind deletes) (FitsKind kind deletes)
 kind_decides Full None = (λ _. tt, λ _. refl)
 kind_decides Full (Some ds) = (λ e. cc e, λ h. absurd h)
 kind_decides Diff None = (λ e. cc e, λ h. absurd h)
-kind_decides Diff (Some ds) =
-    Decides-like _ (λ h. record { few = h.0.0; files = h.0.1; named = h.1 }) (λ h. ((h.few, h.files), h.named))
-    (Decides-and _ _ (files_decide 4 ds) (all_decides (λ f. has_deletes f.name) (λ f. IsTrue (has_deletes f.name)) (λ f. itself (has_deletes f.name)) ds))
+kind_decides Diff (Some ds) = deletes_decide ds
+kind_decides Incr None = (λ e. cc e, λ h. absurd h)
+kind_decides Incr (Some ds) = deletes_decide ds
 
 count_decides : (c : Count) → Decides (is_count c) (IsCount c)
 count_decides c =

@@ -19,7 +19,7 @@ use Rattle.deposit_name.specs.Tables.{table_text}
 use Rattle.deposit_name.specs.declared.table.TableName.{TableName}
 use Rattle.deposit_name.specs.declared.table.TableName.TheVariants.{Domain, DomainContacts, DomainStatuses, DomainNameServers, Host, HostAddresses, Contact, Registrar}
 use Rattle.deposit_name.specs.declared.kinds.Kind.{Kind}
-use Rattle.deposit_name.specs.declared.kinds.Kind.TheVariants.{Full, Diff}
+use Rattle.deposit_name.specs.declared.kinds.Kind.TheVariants.{Full, Diff, Incr}
 use Rattle.json.specs.Tree as tree
 use Rattle.serde_json.specs.Data.{unsigned, Data, number, string}
 use Rattle.serde_json.specs.Read.{read}
@@ -105,6 +105,7 @@ plain_table Registrar = refl
 plain_kind : (k : Kind) → Plain (kind_text k)
 plain_kind Full = refl
 plain_kind Diff = refl
+plain_kind Incr = refl
 
 at_index : (test : ℕ → Bool) (t : List ℕ) (i : ℕ) → list_all test t ≡ true → i < length t → test (get_or t i 0) ≡ true
 at_index test [] i h lt = absurd (omega arith)
@@ -133,6 +134,7 @@ plain_deletes : (k : Kind) (o : Option (List FileEntry)) → FitsKind k o → If
 plain_deletes k None h = tt
 plain_deletes Full (Some ds) h = absurd h
 plain_deletes Diff (Some ds) h = weaker IsFile PlainFile plain_file ds h.files
+plain_deletes Incr (Some ds) h = weaker IsFile PlainFile plain_file ds h.files
 
 plain_prev : (o : Option (List ℕ)) → IfSome o IsDepositId → IfSome o Plain
 plain_prev None h = tt
@@ -232,6 +234,7 @@ deletes_canonical : (k : Kind) (o : Option (List FileEntry)) → FitsKind k o �
 deletes_canonical k None h = tt
 deletes_canonical Full (Some ds) h = absurd h
 deletes_canonical Diff (Some ds) h = files_canonical ds (recursion_from_All IsFile ds h.files)
+deletes_canonical Incr (Some ds) h = files_canonical ds (recursion_from_All IsFile ds h.files)
 
 prev_canonical : (o : Option (List ℕ)) → IfSome o IsDepositId → OfOption (option_map string o)
 prev_canonical None h = tt

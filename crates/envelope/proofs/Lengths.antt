@@ -15,7 +15,7 @@ use Rattle.deposit_name.specs.Tables.{table_text}
 use Rattle.deposit_name.specs.declared.table.TableName.{TableName}
 use Rattle.deposit_name.specs.declared.table.TableName.TheVariants.{Domain, DomainContacts, DomainStatuses, DomainNameServers, Host, HostAddresses, Contact, Registrar}
 use Rattle.deposit_name.specs.declared.kinds.Kind.{Kind}
-use Rattle.deposit_name.specs.declared.kinds.Kind.TheVariants.{Full, Diff}
+use Rattle.deposit_name.specs.declared.kinds.Kind.TheVariants.{Full, Diff, Incr}
 use Rattle.envelope.specs.Uri.{is_uri, is_uri_byte}
 use Rattle.envelope.specs.declared.envelope.FileEntry.{FileEntry}
 use Rattle.envelope.specs.declared.envelope.Count.{Count}
@@ -107,6 +107,7 @@ deletes_most : (k : Kind) (o : Option (List FileEntry)) → FitsKind k o → len
 deletes_most k None h = omega arith
 deletes_most Full (Some ds) h = absurd h
 deletes_most Diff (Some ds) h = omega (arith, length-later (codes "deletes") (files_text ds), files_most ds h.files, h.few)
+deletes_most Incr (Some ds) h = omega (arith, length-later (codes "deletes") (files_text ds), files_most ds h.files, h.few)
 
 prev_most : (o : Option (List ℕ)) → IfSome o IsDepositId → length (later_if (codes "prevId") quoted o) ≤ 30
 prev_most None h = omega arith
@@ -115,6 +116,7 @@ prev_most (Some i) h = omega (arith, length-later (codes "prevId") (quoted i), l
 kind_most : (k : Kind) → length (kind_text k) ≤ 4
 kind_most Full = omega arith
 kind_most Diff = omega arith
+kind_most Incr = omega arith
 
 -- ---- the whole text
 

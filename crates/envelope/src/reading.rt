@@ -105,6 +105,7 @@ fn kind_of(t: &str) -> Option<Kind>
     match t {
         "FULL" => Some(Kind::Full),
         "DIFF" => Some(Kind::Diff),
+        "INCR" => Some(Kind::Incr),
         _ => None,
     }
 }
@@ -222,7 +223,7 @@ fn deletes_of(alloc: Global, value: &Value, kind: Kind) -> Result<Option<Vec<Fil
 {
     match kind {
         Kind::Full => Ok(None),
-        Kind::Diff => {
+        Kind::Diff | Kind::Incr => {
             let list = value.get("deletes").ok_or(EnvError::Spelling)?;
             let files = files_of(alloc, list, DELETES_MAX)?;
             if !have_deletes(&files) {

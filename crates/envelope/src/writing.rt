@@ -130,6 +130,7 @@ fn kind_text(kind: Kind) -> &'static str
     match kind {
         Kind::Full => "FULL",
         Kind::Diff => "DIFF",
+        Kind::Incr => "INCR",
     }
 }
 
