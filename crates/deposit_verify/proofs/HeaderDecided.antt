@@ -13,13 +13,14 @@ use Rattle.std.proofs.lemmas.Slice.Eq.{bytes_eq-Decides, slice_eq-Decides}
 use Rattle.schedule.specs.Schedule.{IsSunday}
 use Rattle.deposit_name.specs.Name.{Name}
 use Rattle.deposit_name.specs.declared.kinds.Kind.{Kind}
-use Rattle.deposit_name.specs.declared.kinds.Kind.TheVariants.{Full, Diff}
+use Rattle.deposit_name.specs.declared.kinds.Kind.TheVariants.{Full, Diff, Incr}
 use Rattle.deposit_name.specs.declared.table.TableName.{TableName}
 use Rattle.deposit_name.specs.declared.table.TableName.TheVariants.{Domain}
 use Rattle.envelope.specs.Envelope.{Env}
-use Rattle.deposit_verify.specs.Checks.{AgreesWithName, FollowsLatest, HasContents, HasMenu, StandInOrder, all_tables, counted_uris, object_uris, table_place}
+use Rattle.deposit_verify.specs.Checks.{AgreesWithName, FollowsFull, FollowsPassed, HasContents, HasMenu, StandInOrder, all_tables, counted_uris, object_uris, table_place}
 use Rattle.deposit_verify.specs.Deposit.{deletes_of}
-use Rattle.deposit_verify.specs.Verdict.{agrees_with_name, contains_text, follows_latest, has_contents, has_menu, increase, is_full, is_same_id, is_same_kind, stand_in_order}
+use Rattle.deposit_verify.specs.Known.{Known}
+use Rattle.deposit_verify.specs.Verdict.{agrees_with_name, contains_text, follows_full, follows_passed, has_contents, has_menu, increase, is_full, is_same_id, is_same_kind, stand_in_order}
 use Rattle.deposit_verify.proofs.Judged.{all_tables_right}
 
 -- a fact that is asked only where another holds
@@ -30,8 +31,13 @@ implies_decides false b p q = (λ _ h. absurd (not_from_Decides false p refl h),
 pub same_kind_decides : (one other : Kind) → Decides (is_same_kind one other) (one ≡ other)
 same_kind_decides Full Full = (λ _. refl, λ _. refl)
 same_kind_decides Full Diff = (λ e. cc e, λ e. cc e)
+same_kind_decides Full Incr = (λ e. cc e, λ e. cc e)
 same_kind_decides Diff Full = (λ e. cc e, λ e. cc e)
 same_kind_decides Diff Diff = (λ _. refl, λ _. refl)
+same_kind_decides Diff Incr = (λ e. cc e, λ e. cc e)
+same_kind_decides Incr Full = (λ e. cc e, λ e. cc e)
+same_kind_decides Incr Diff = (λ e. cc e, λ e. cc e)
+same_kind_decides Incr Incr = (λ _. refl, λ _. refl)
 
 pub name_decides : (v : Env) (name : Name) → Decides (agrees_with_name v name) (AgreesWithName v name)
 name_decides v name =
@@ -53,9 +59,18 @@ same_id_decides (Some id) (Some other) = (
   λ h. (bytes_eq-Decides id other).1 (same_Some id h.0 h.1 ∙ sym (same_Some other h.0 h.2)),
 )
 
-pub latest_decides : (kind : Kind) (prev_id latest : Option (List ℕ)) → Decides (follows_latest kind prev_id latest) (FollowsLatest kind prev_id latest)
-latest_decides Full prev_id latest = none_decides prev_id
-latest_decides Diff prev_id latest = same_id_decides prev_id latest
+full_decides : (prev_id full : Option (List ℕ)) → Decides (follows_full prev_id full) (FollowsFull prev_id full)
+full_decides prev_id None = (λ e. cc e, λ h. let clash = h.1 in cc clash)
+full_decides None (Some full) = (λ _. (full, refl, tt), λ _. refl)
+full_decides (Some prev_id) (Some full) = (
+  λ e. (full, refl, (bytes_eq-Decides prev_id full).0 e),
+  λ h. (bytes_eq-Decides prev_id full).1 (h.2 ∙ sym (same_Some full h.0 h.1)),
+)
+
+pub passed_decides : (kind : Kind) (prev_id : Option (List ℕ)) (known : Known) → Decides (follows_passed kind prev_id known) (FollowsPassed kind prev_id known)
+passed_decides Full prev_id known = none_decides prev_id
+passed_decides Diff prev_id known = same_id_decides prev_id known.latest
+passed_decides Incr prev_id known = full_decides prev_id known.full
 
 pub contains_decides : (texts : List (List ℕ)) (text : List ℕ) → Decides (contains_text texts text) (Contains texts text)
 contains_decides texts text =
@@ -99,6 +114,7 @@ same_places (x ∷ xs) (y ∷ ys) e =
 contents_decide : (kind : Kind) (names : List TableName) → Decides (has_contents kind names) (HasContents kind names)
 contents_decide Full names = Decides-like _ (same_places names all_tables) (ap (map table_place)) (bytes_eq-Decides (map table_place names) (map table_place all_tables))
 contents_decide Diff names = order_decides names
+contents_decide Incr names = order_decides names
 
 pub menu_decides : (v : Env) → Decides (has_menu v) (HasMenu v)
 menu_decides v =

@@ -5,7 +5,7 @@ use Rattle.std.proofs.lemmas.List.Elements.{All-nil}
 use Rattle.std.proofs.lemmas.List.{drop-map, get_or-map, length-map, take-map}
 use Rattle.deposit_name.specs.Tables.{has_deletes}
 use Rattle.deposit_name.specs.declared.kinds.Kind.{Kind}
-use Rattle.deposit_name.specs.declared.kinds.Kind.TheVariants.{Full, Diff}
+use Rattle.deposit_name.specs.declared.kinds.Kind.TheVariants.{Full, Diff, Incr}
 use Rattle.deposit_name.specs.declared.table.TableName.{TableName}
 use Rattle.deposit_name.specs.declared.table.TableName.TheVariants.{Domain, DomainContacts, DomainStatuses, DomainNameServers, Host, HostAddresses, Contact, Registrar}
 use Rattle.desk.specs.declared.checks.Check.{Check}
@@ -93,6 +93,8 @@ named_deletes v form = by_kind v.kind v.deletes form.deletes
     by_kind Full (Some ds) fits = absurd fits
     by_kind Diff None fits = All-nil (λ entry. IsTrue (has_deletes entry.name))
     by_kind Diff (Some ds) fits = fits.named
+    by_kind Incr None fits = All-nil (λ entry. IsTrue (has_deletes entry.name))
+    by_kind Incr (Some ds) fits = fits.named
 
 -- ---- the checks from that of the files on, each where the lower ones hold
 

@@ -17,7 +17,7 @@ use Rattle.deposit_verify.specs.References.{AreReferencesKept}
 use Rattle.deposit_verify.specs.Verdict.{are_counts, are_references_kept, checks_inside, contents_at, envelope_verdict, first_failing, frame_verdict, passes, verdict, with_tables}
 use Rattle.deposit_verify.specs.declared.verdict.Verdict.TheVariants.{Fail}
 use Rattle.deposit_verify.proofs.FilesDecided.{counts_decide, deletes_decide, files_are, files_decide, full_decides, references_decide, table_decides}
-use Rattle.deposit_verify.proofs.HeaderDecided.{contains_decides, latest_decides, menu_decides, name_decides, weekday_decides}
+use Rattle.deposit_verify.proofs.HeaderDecided.{contains_decides, menu_decides, name_decides, passed_decides, weekday_decides}
 use Rattle.deposit_verify.proofs.Lifted.{OneReading, least}
 use Rattle.deposit_verify.proofs.Uniques.{OneText}
 use Rattle.deposit_verify.proofs.Verdicts.{below_all, below_more, below_none}
@@ -55,7 +55,7 @@ module _ (reader : IsTableReader) (one : OneText) (v : Env) (rest : List ℕ) (k
   check_decides check.Name below = name_decides v k.name
   check_decides check.Statement below = bytes_eq-Decides v.id k.id
   check_decides check.Weekday below = weekday_decides v
-  check_decides check.PrevId below = latest_decides v.kind v.prev_id k.latest
+  check_decides check.PrevId below = passed_decides v.kind v.prev_id k
   check_decides check.IdTaken below = Decides-not _ (contains_decides k.passed v.id)
   check_decides check.Menu below = menu_decides v
   check_decides check.Files below = files_decide v rest

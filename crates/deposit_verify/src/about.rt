@@ -10,6 +10,8 @@ pub struct About {
     pub id: DepositId,
     /// The id of the latest deposit of the registry that passed.
     pub latest: Option<DepositId>,
+    /// The id of the latest full deposit of the registry that passed.
+    pub full: Option<DepositId>,
     /// The ids of the deposits of the registry that passed.
     pub passed: Vec<DepositId>,
 }

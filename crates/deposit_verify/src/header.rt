@@ -3,7 +3,7 @@ ghost use Rattle.std.specs.Prelude.{◌≡◌, ◌↔◌, IsTrue, Contains, Matc
 ghost use Rattle.envelope.specs.Envelope.{view};
 ghost use Rattle.schedule.specs.Schedule.{IsSunday};
 ghost use Rattle.deposit_name.specs.declared.kinds.Kind.TheVariants.{Full};
-ghost use Rattle.deposit_verify.specs.Checks.{AgreesWithName, Below, FollowsLatest, IsLeastFailing, Says};
+ghost use Rattle.deposit_verify.specs.Checks.{AgreesWithName, Below, FollowsFull, FollowsPassed, IsLeastFailing, Says};
 ghost use Rattle.deposit_verify.specs.Known.{known};
 
 use crate::about::About;
@@ -38,12 +38,24 @@ fn is_same_id(one: Option<DepositId>, other: Option<DepositId>) -> bool
     }
 }
 
-fn follows_latest(envelope: &Envelope, latest: Option<DepositId>) -> bool
-    ensures { IsTrue result ↔ FollowsLatest envelope.now.kind envelope.now.prev_id latest }
+// Whether there is a full deposit, and no other is named.
+fn follows_full(prev_id: Option<DepositId>, full: Option<DepositId>) -> bool
+    ensures { IsTrue result ↔ FollowsFull prev_id full }
+{
+    match (prev_id, full) {
+        (_, None) => false,
+        (None, Some(_)) => true,
+        (Some(prev_id), Some(full)) => prev_id == full,
+    }
+}
+
+fn follows_passed(envelope: &Envelope, about: &About) -> bool
+    ensures { IsTrue result ↔ FollowsPassed envelope.now.kind envelope.now.prev_id (known about.now) }
 {
     match envelope.kind {
         Kind::Full => envelope.prev_id.is_none(),
-        Kind::Diff => is_same_id(envelope.prev_id, latest),
+        Kind::Diff => is_same_id(envelope.prev_id, about.latest),
+        Kind::Incr => follows_full(envelope.prev_id, about.full),
     }
 }
 
@@ -67,7 +79,7 @@ pub fn header_fault(envelope: &Envelope, about: &About) -> Option<Check>
     if !is_full_on_sunday(envelope) {
         return Some(Check::Weekday);
     }
-    if !follows_latest(envelope, about.latest) {
+    if !follows_passed(envelope, about) {
         return Some(Check::PrevId);
     }
     if has_passed(envelope.id, &about.passed) {

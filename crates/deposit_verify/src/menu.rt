@@ -83,7 +83,7 @@ fn has_contents(kind: Kind, files: &[FileEntry]) -> bool
 {
     match kind {
         Kind::Full => are_all_tables(files),
-        Kind::Diff => stand_in_order(files),
+        Kind::Diff | Kind::Incr => stand_in_order(files),
     }
 }
 

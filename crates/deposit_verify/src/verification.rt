@@ -46,7 +46,7 @@ fn tables_fault(
     ensures { IfOk result (TablesSay (view envelope.now) tables.now) }
 {
     match envelope.kind {
-        Kind::Diff => Ok(None),
+        Kind::Diff | Kind::Incr => Ok(None),
         Kind::Full => full_fault(alloc, &envelope.header.count, tables),
     }
 }
