@@ -23,6 +23,7 @@ fn about(alloc: Global, name: &str, id: &str, latest: &str) -> Option<About> {
         name: DepositName::parse(name.as_bytes()).ok()?,
         id: DepositId::parse(id.as_bytes())?,
         latest: DepositId::parse(latest.as_bytes()),
+        full: None,
         passed: Vec::new(alloc),
     })
 }

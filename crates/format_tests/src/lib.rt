@@ -8,6 +8,8 @@ mod days;
 #[cfg(test)]
 mod envelopes;
 #[cfg(test)]
+mod incremental;
+#[cfg(test)]
 mod memory;
 #[cfg(test)]
 mod names;

@@ -451,6 +451,7 @@ fn about(alloc: Global, (name, id, latest): Known) -> Option<About> {
         name: DepositName::parse(name.as_bytes()).ok()?,
         id: DepositId::parse(id.as_bytes())?,
         latest,
+        full: None,
         passed,
     })
 }
