@@ -7,7 +7,7 @@ use Rattle.std.proofs.lemmas.Bool.Decides.{nat_tests}
 use Rattle.std.proofs.lemmas.Slice.Eq.{bytes_eq-Decides}
 use Rattle.schedule.specs.Schedule.{IsDay, IsMoment}
 use Rattle.deposit_name.specs.declared.kinds.Kind.{Kind}
-use Rattle.deposit_name.specs.declared.kinds.Kind.TheVariants.{Full, Diff}
+use Rattle.deposit_name.specs.declared.kinds.Kind.TheVariants.{Full, Diff, Incr}
 use Rattle.deposit_name.specs.Identifiers.{is_tld, is_reference, IsTld, IsReference}
 use Rattle.deposit_name.proofs.IdentifierLemmas.{is_tld-IsTld, is_reference-IsReference}
 use Rattle.deposit_name.specs.Name.{kind_text, IsNameDay}
@@ -74,9 +74,10 @@ word_read {W} text words t None each value only = by (find (λ x. bytes_eq t (te
 pub kind_in-kind_text : (kind : Kind) → kind_in (kind_text kind) ≡ Some kind
 kind_in-kind_text Full = refl
 kind_in-kind_text Diff = refl
+kind_in-kind_text Incr = refl
 
 pub kind_read : (t : List ℕ) (o : Option Kind) → IfSome o (λ k. t ≡ kind_text k) → ((k : Kind) → t ≡ kind_text k → o ≡ Some k) → o ≡ kind_in t
-kind_read t o = word_read kind_text (Full ∷ Diff ∷ []) t o kind_in-kind_text
+kind_read t o = word_read kind_text (Full ∷ Diff ∷ Incr ∷ []) t o kind_in-kind_text
 
 pub ground_in-ground_text : (reason : Ground) → ground_in (ground_text reason) ≡ Some reason
 ground_in-ground_text Operator = refl
