@@ -8,7 +8,7 @@ use Rattle.std.proofs.lemmas.List.{take-append-drop, drop_at}
 use Rattle.std.proofs.lemmas.Bool.Decides.{Decides-eqb, not_from_Decides}
 use Rattle.schedule.specs.Text.{day_text}
 use Rattle.deposit_name.specs.declared.kinds.Kind.{Kind}
-use Rattle.deposit_name.specs.declared.kinds.Kind.TheVariants.{Full, Diff}
+use Rattle.deposit_name.specs.declared.kinds.Kind.TheVariants.{Full, Diff, Incr}
 use Rattle.deposit_name.specs.declared.faults.NameError.{NameError}
 use Rattle.deposit_name.specs.declared.faults.NameError.TheVariants.{Tld}
 use Rattle.deposit_name.specs.Identifiers.{IsTld, is_tld}
@@ -205,11 +205,16 @@ rev_missing text e h = let high = h.1 in number_missing rev_text 100 0 text e h.
 pub kind_found : (text : List ℕ) (kind : Kind) → kind_in text ≡ Some kind → text ≡ kind_text kind
 kind_found text kind e = by (is_same_text text (codes "full")) refl e
   where
-    by_diff : (b : Bool) → is_same_text text (codes "diff") ≡ b → cond b (Some Diff) None ≡ Some kind → text ≡ kind_text kind
-    by_diff true same e = let is : Diff ≡ kind = cc in (bytes_decides text (codes "diff")).0 same ∙ ap kind_text is
-    by_diff false same e = cc
+    by_incr : (b : Bool) → is_same_text text (codes "incr") ≡ b → cond b (Some Incr) None ≡ Some kind → text ≡ kind_text kind
+    by_incr true same e = let is : Incr ≡ kind = cc in (bytes_decides text (codes "incr")).0 same ∙ ap kind_text is
+    by_incr false same e = cc
 
-    by : (b : Bool) → is_same_text text (codes "full") ≡ b → cond b (Some Full) (cond (is_same_text text (codes "diff")) (Some Diff) None) ≡ Some kind → text ≡ kind_text kind
+    by_diff : (b : Bool) → is_same_text text (codes "diff") ≡ b → cond b (Some Diff) (cond (is_same_text text (codes "incr")) (Some Incr) None) ≡ Some kind → text ≡ kind_text kind
+    by_diff true same e = let is : Diff ≡ kind = cc in (bytes_decides text (codes "diff")).0 same ∙ ap kind_text is
+    by_diff false same e = by_incr (is_same_text text (codes "incr")) refl e
+
+    by : (b : Bool) → is_same_text text (codes "full") ≡ b
+        → cond b (Some Full) (cond (is_same_text text (codes "diff")) (Some Diff) (cond (is_same_text text (codes "incr")) (Some Incr) None)) ≡ Some kind → text ≡ kind_text kind
     by true same e = let is : Full ≡ kind = cc in (bytes_decides text (codes "full")).0 same ∙ ap kind_text is
     by false same e = by_diff (is_same_text text (codes "diff")) refl e
 
