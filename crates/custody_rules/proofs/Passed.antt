@@ -1,24 +1,32 @@
 -- The latest of the deposits that passed, and what notices of a registry tell of them.
 use Rattle.std.proofs.Common.{get_or, subst, ◌+◌, ◌≡◌, ℕ, ◌<◌, ◌≤◌, List, [], ◌∷◌, ◌++◌, map, take, Option, Some, None, Bool, true, false, ◌&&◌, refl, sym, ◌∙◌, ap, cond, nat_lt, length, arith}
-use Rattle.std.specs.Prelude.{nat_le, option_map}
+use Rattle.std.specs.Prelude.{is_some, nat_le, option_map}
 use Rattle.std.specs.List.{filter, filter_map, cons_option, find, list_all}
-use Rattle.std.specs.FinMap.{entries}
+use Rattle.std.specs.FinMap.{entries, get}
+use Rattle.std.specs.Option.{option_and_then}
 use Rattle.std.specs.Ordering.{is_eq}
 use Rattle.std.proofs.lemmas.Bool.Decides.{nat_tests}
 use Rattle.std.proofs.lemmas.List.{take_more, take_all}
+use Rattle.deposit_name.specs.declared.kinds.Kind.TheVariants.{Full}
 use Rattle.deposit_name.specs.Name.{Name}
 use Rattle.deposit_verify.specs.Known.{Known}
 use Rattle.custody_machine.specs.declared.command.Statement as stated
 use Rattle.std.proofs.lemmas.List.Elements.{filter_map-append}
 use Rattle.std.proofs.lemmas.Map.Text.{is_eq-slice_cmp}
 use Rattle.desk.specs.declared.notices.Notice as desk
+use Rattle.desk.specs.declared.notices.NoticeKind.{NoticeKind}
+use Rattle.desk.specs.declared.notices.NoticeKind.TheVariants.{Receipt, Failure, Absence}
 use Rattle.custody_records.specs.Keys.{NoticeKey, text_cmp}
-use Rattle.custody_records.specs.Records.{Notice, Records, notices_of}
+use Rattle.custody_records.specs.Records.{Notice, PartRecord, Records, key_of, notices_of}
 use Rattle.custody_records.specs.Tables.{entries_of}
-use Rattle.custody_records.specs.Typed.{notice_key, notice_value}
+use Rattle.custody_records.specs.Typed.{notice_entry, notice_key, notice_value}
 use Rattle.custody_machine.specs.Names.{is_same_text}
-use Rattle.custody_machine.specs.Machine.{first_part, known_of, latest_of, passed_id, passed_of}
-use Rattle.custody_rules.specs.Passed.{later_pair, passed_row, passed_rows}
+use Rattle.custody_machine.specs.SameValues.{is_same_kind}
+use Rattle.custody_machine.specs.Machine.{first_part, full_of, is_full_revision, is_receipt_of_full, known_of, latest_of, passed_id, passed_in, passed_of, tells_full}
+use Rattle.custody_machine.specs.Stored.{is_part_of, part_of, state_in}
+use Rattle.custody_rules.specs.Judged.{if_of_kind}
+use Rattle.custody_rules.specs.Passed.{is_receipt_of_full_in, later_pair, passed_row, passed_rows, tells_full_in}
+use Rattle.custody_rules.proofs.Judged.{recorded_in_state}
 
 -- ---- the latest
 
@@ -135,28 +143,78 @@ later_is all (Some best) next h = by (nat_le next.0 best.0) refl
 pub rows_more : (rows : List desk.Notice) (n : desk.Notice) → passed_rows (rows ++ n ∷ []) ≡ passed_rows rows ++ cons_option (passed_row n) []
 rows_more rows n = filter_map-append passed_row rows (n ∷ [])
 
+-- what an entry tells, of any registry
+abbrev told_by : NoticeKey × Notice → Option (ℕ × List ℕ)
+told_by e = option_map (λ (id : List ℕ). (e.1.day, id)) (passed_id e.1.kind)
+
+rows_as_entries : (rows : List desk.Notice) → passed_rows rows ≡ filter_map told_by (entries_of notice_key notice_value rows)
+rows_as_entries [] = refl
+rows_as_entries (n ∷ rows) = ap (cons_option (passed_row n)) (rows_as_entries rows)
+
+of_registry : (tld : List ℕ) (es : List (NoticeKey × Notice)) → filter_map told_by (filter (λ (e : NoticeKey × Notice). is_eq (text_cmp e.0.tld tld)) es) ≡ filter_map (passed_in tld) es
+of_registry tld [] = refl
+of_registry tld (e ∷ es) = ap (λ b. filter_map told_by (cond b (e ∷ filter (λ (e : NoticeKey × Notice). is_eq (text_cmp e.0.tld tld)) es) (filter (λ (e : NoticeKey × Notice). is_eq (text_cmp e.0.tld tld)) es))) (is_eq-slice_cmp e.0.tld tld)
+    ∙ by (is_same_text e.0.tld tld) (of_registry tld es)
+  where
+    by : (b : Bool) → filter_map told_by (filter (λ (e : NoticeKey × Notice). is_eq (text_cmp e.0.tld tld)) es) ≡ filter_map (passed_in tld) es
+        → filter_map told_by (cond b (e ∷ filter (λ (e : NoticeKey × Notice). is_eq (text_cmp e.0.tld tld)) es) (filter (λ (e : NoticeKey × Notice). is_eq (text_cmp e.0.tld tld)) es))
+        ≡ cons_option (cond b (told_by e) None) (filter_map (passed_in tld) es)
+    by true rest = ap (cons_option (told_by e)) rest
+    by false rest = rest
+
 -- the rows of a registry's notices tell what its notices do
 pub rows_of_registry : (records : Records) (tld : List ℕ) (rows : List desk.Notice) → entries_of notice_key notice_value rows ≡ notices_of records tld → passed_rows rows ≡ passed_of records.notices tld
-rows_of_registry records tld rows is = as_entries rows ∙ ap (filter_map in_entry) is ∙ of_registry (entries records.notices)
+rows_of_registry records tld rows is = rows_as_entries rows ∙ ap (filter_map told_by) is ∙ of_registry tld (entries records.notices)
+
+-- ---- rows of full deposits
+
+filter_swap : {X : Type 0} (p q : X → Bool) (xs : List X) → filter p (filter q xs) ≡ filter q (filter p xs)
+filter_swap p q [] = refl
+filter_swap p q (x ∷ xs) = by (p x) (q x) refl refl (filter_swap p q xs)
   where
-    in_entry : NoticeKey × Notice → Option (ℕ × List ℕ)
-    in_entry e = option_map (λ (id : List ℕ). (e.1.day, id)) (passed_id e.1.kind)
+    by : (a b : Bool) → p x ≡ a → q x ≡ b → filter p (filter q xs) ≡ filter q (filter p xs) → filter p (cond b (x ∷ filter q xs) (filter q xs)) ≡ filter q (cond a (x ∷ filter p xs) (filter p xs))
+    by true true pass pass_too rest = (λ i. cond (pass i) (x ∷ filter p (filter q xs)) (filter p (filter q xs))) ∙ ap (λ l. x ∷ l) rest ∙ sym (λ i. cond (pass_too i) (x ∷ filter q (filter p xs)) (filter q (filter p xs)))
+    by true false pass fails rest = rest ∙ sym (λ i. cond (fails i) (x ∷ filter q (filter p xs)) (filter q (filter p xs)))
+    by false true fails pass rest = (λ i. cond (fails i) (x ∷ filter p (filter q xs)) (filter p (filter q xs))) ∙ rest
+    by false false fails fails_too rest = rest
 
-    as_entries : (rows : List desk.Notice) → passed_rows rows ≡ filter_map in_entry (entries_of notice_key notice_value rows)
-    as_entries [] = refl
-    as_entries (n ∷ rows) = ap (cons_option (passed_row n)) (as_entries rows)
+filter_entries : (test : NoticeKey × Notice → Bool) (rows : List desk.Notice) → entries_of notice_key notice_value (filter (λ n. test (notice_entry n)) rows) ≡ filter test (entries_of notice_key notice_value rows)
+filter_entries test [] = refl
+filter_entries test (n ∷ rows) = by (test (notice_entry n)) (filter_entries test rows)
+  where
+    by : (b : Bool) → entries_of notice_key notice_value (filter (λ n. test (notice_entry n)) rows) ≡ filter test (entries_of notice_key notice_value rows)
+        → entries_of notice_key notice_value (cond b (n ∷ filter (λ n. test (notice_entry n)) rows) (filter (λ n. test (notice_entry n)) rows))
+        ≡ cond b (notice_entry n ∷ filter test (entries_of notice_key notice_value rows)) (filter test (entries_of notice_key notice_value rows))
+    by true rest = ap (λ (l : List (NoticeKey × Notice)). notice_entry n ∷ l) rest
+    by false rest = rest
 
-    of_registry : (es : List (NoticeKey × Notice)) → filter_map in_entry (filter (λ (e : NoticeKey × Notice). is_eq (text_cmp e.0.tld tld)) es)
-        ≡ filter_map (λ (e : NoticeKey × Notice). cond (is_same_text e.0.tld tld) (in_entry e) None) es
-    of_registry [] = refl
-    of_registry (e ∷ es) = ap (λ b. filter_map in_entry (cond b (e ∷ filter (λ (e : NoticeKey × Notice). is_eq (text_cmp e.0.tld tld)) es) (filter (λ (e : NoticeKey × Notice). is_eq (text_cmp e.0.tld tld)) es))) (is_eq-slice_cmp e.0.tld tld)
-        ∙ by (is_same_text e.0.tld tld) (of_registry es)
-      where
-        by : (b : Bool) → filter_map in_entry (filter (λ (e : NoticeKey × Notice). is_eq (text_cmp e.0.tld tld)) es) ≡ filter_map (λ (e : NoticeKey × Notice). cond (is_same_text e.0.tld tld) (in_entry e) None) es
-            → filter_map in_entry (cond b (e ∷ filter (λ (e : NoticeKey × Notice). is_eq (text_cmp e.0.tld tld)) es) (filter (λ (e : NoticeKey × Notice). is_eq (text_cmp e.0.tld tld)) es))
-            ≡ cons_option (cond b (in_entry e) None) (filter_map (λ (e : NoticeKey × Notice). cond (is_same_text e.0.tld tld) (in_entry e) None) es)
-        by true rest = ap (cons_option (in_entry e)) rest
-        by false rest = rest
+module _ (records : Records) (image : List ℕ) where
+  -- the first part of a revision is one of a full deposit in the records as in their state
+  full_in_state : (tld : List ℕ) (day rev : ℕ) → is_part_of Full (get records.parts (record { tld = tld; day = day; rev = rev; part = 1 })) ≡ is_full_revision (state_in records image) tld day rev
+  full_in_state tld day rev = sym (ap is_some (recorded_in_state records image name) ∙ by (get records.parts (key_of name)))
+    where
+      name : Name
+      name = record { tld = tld; day = day; kind = Full; part = 1; rev = rev }
+
+      if_same : (b : Bool) (part : PartRecord) → is_some (option_map (part_of image) (cond b (Some part) None)) ≡ b
+      if_same true part = refl
+      if_same false part = refl
+
+      by : (o : Option PartRecord) → is_some (option_map (part_of image) (option_and_then (if_of_kind Full) o)) ≡ is_part_of Full o
+      by None = refl
+      by (Some part) = if_same (is_same_kind part.kind Full) part
+
+  receipt_in_state : (tld : List ℕ) (day : ℕ) (kind : NoticeKind) → is_receipt_of_full_in records tld day kind ≡ is_receipt_of_full (state_in records image) tld day kind
+  receipt_in_state tld day (Receipt rev _) = full_in_state tld day rev
+  receipt_in_state tld day (Failure _ _ _) = refl
+  receipt_in_state tld day Absence = refl
+
+  -- the rows of full deposits tell what the state does
+  pub full_of_registry : (tld : List ℕ) (rows : List desk.Notice) → entries_of notice_key notice_value rows ≡ notices_of records tld → passed_rows (filter (tells_full_in records) rows) ≡ full_of (state_in records image) tld
+  full_of_registry tld rows is =
+      (λ i. passed_rows (filter (λ n. receipt_in_state n.tld n.day n.kind i) rows)) ∙ rows_as_entries (filter (λ n. tells_full (state_in records image) (notice_entry n)) rows)
+      ∙ ap (filter_map told_by) (filter_entries (tells_full (state_in records image)) rows ∙ ap (filter (tells_full (state_in records image))) is
+      ∙ filter_swap (tells_full (state_in records image)) (λ (e : NoticeKey × Notice). is_eq (text_cmp e.0.tld tld)) (entries records.notices)) ∙ of_registry tld (filter (tells_full (state_in records image)) (entries records.notices))
 
 -- ---- a loop over the rows
 
@@ -196,11 +254,13 @@ pub latest_at_end : (rows : List desk.Notice) (i : ℕ) (latest : Option (ℕ ×
 latest_at_end rows i latest end h = latest_is (passed_rows rows) latest (subst (λ l. IsLatest (passed_rows l) latest) (take_all i rows end) h)
 
 -- what is known of a stated deposit, put together
-pub known_is : (st : stated.Statement) (records : Records) (name : Name) (rows : List desk.Notice) (latest : Option (List ℕ)) (ids : List (List ℕ)) → name ≡ first_part st → entries_of notice_key notice_value rows ≡ notices_of records st.tld
-    → latest ≡ latest_of (passed_rows rows) → ids ≡ map (λ (one : ℕ × List ℕ). one.1) (passed_rows rows) → ◌≡◌ {A = Known} (record { name = name; id = st.id; latest = latest; passed = ids }) (known_of records.notices st)
-known_is st records name rows latest ids named is late all = λ i. record {
+pub known_is : (st : stated.Statement) (records : Records) (image : List ℕ) (name : Name) (rows full_rows : List desk.Notice) (latest full : Option (List ℕ)) (ids : List (List ℕ)) → name ≡ first_part st
+    → entries_of notice_key notice_value rows ≡ notices_of records st.tld → full_rows ≡ filter (tells_full_in records) rows → latest ≡ latest_of (passed_rows rows) → full ≡ latest_of (passed_rows full_rows)
+    → ids ≡ map (λ (one : ℕ × List ℕ). one.1) (passed_rows rows) → ◌≡◌ {A = Known} (record { name = name; id = st.id; latest = latest; full = full; passed = ids }) (known_of (state_in records image) st)
+known_is st records image name rows full_rows latest full ids named is among late latest_full all = λ i. record {
   name = named i;
   id = st.id;
   latest = (late ∙ ap latest_of (rows_of_registry records st.tld rows is)) i;
+  full = (latest_full ∙ ap (λ l. latest_of (passed_rows l)) among ∙ ap latest_of (full_of_registry records image st.tld rows is)) i;
   passed = (all ∙ ap (map (λ (one : ℕ × List ℕ). one.1)) (rows_of_registry records st.tld rows is)) i;
 }

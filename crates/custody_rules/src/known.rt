@@ -1,19 +1,22 @@
 //! What the records tell of a deposit before it is read, and the next number of a notice.
 ghost use Rattle.std.specs.Prelude.{◌≡◌, ◌≤◌, ◌^◌, List, ℕ, IfNone, IfOk, IfSome, map, option_map};
+ghost use Rattle.std.specs.List.{filter};
 ghost use Rattle.custody_machine.specs.Machine.{first_part, known_of, latest_of, next_number};
+ghost use Rattle.custody_machine.specs.Stored.{state_in};
 ghost use Rattle.custody_records.specs.Held.{records_of};
 ghost use Rattle.deposit_verify.specs.Known.{known};
-ghost use Rattle.custody_rules.specs.Passed.{greatest_of, later_pair, passed_pair, passed_row, passed_rows};
+ghost use Rattle.custody_rules.specs.Passed.{greatest_of, later_pair, passed_pair, passed_row, passed_rows, tells_full_in};
 
+use crate::revision::has_part_of;
 use custody_machine::Statement;
-use custody_records::Records;
-use deposit_name::{DepositId, DepositName, Tld};
+use custody_records::{PartKey, Records};
+use deposit_name::{DepositId, DepositName, Kind, Tld};
 use deposit_verify::About;
 use desk::{Notice, NoticeKind};
 use schedule::Day;
 use std::alloc::{AllocError, Global};
 
-/// What is known of a stated deposit, by the notices of its registry.
+/// What is known of a stated deposit, by the notices of its registry and the kinds of their deposits.
 pub fn known_about(
     alloc: Global,
     records: &Records,
@@ -21,15 +24,50 @@ pub fn known_about(
     name: &DepositName,
 ) -> Result<About, AllocError>
     requires named { name.now ≡ first_part statement.now }
-    ensures { IfOk result (λ about. known about ≡ known_of (records_of records.now).notices statement.now) }
+    ensures { IfOk result (λ about. (image : List ℕ) → known about ≡ known_of (state_in (records_of records.now) image) statement.now) }
 {
     let notices = records.notices_of(&statement.tld);
+    let full = full_receipts(alloc, records, notices)?;
     Ok(About {
         name: *name,
         id: statement.id,
         latest: latest_passed(notices),
+        full: latest_passed(&full),
         passed: passed_ids(alloc, notices)?,
     })
+}
+
+/// The notices that tell that a full deposit passed.
+fn full_receipts(
+    alloc: Global,
+    records: &Records,
+    notices: &[Notice],
+) -> Result<Vec<Notice>, AllocError>
+    ensures { IfOk result (λ full. full.items ≡ filter (tells_full_in (records_of records.now)) notices.now) }
+{
+    notices
+        .iter()
+        .filter(|notice| tells_full(records, notice))
+        .copied()
+        .collect(alloc)
+}
+
+/// Whether a notice tells that a full deposit passed: the first part of its revision is one of it.
+fn tells_full(records: &Records, notice: &Notice) -> bool
+    ensures { result ≡ tells_full_in (records_of records.now) notice.now }
+{
+    match notice.kind {
+        NoticeKind::Receipt { rev, .. } => {
+            let first = PartKey {
+                tld: notice.tld,
+                day: notice.day,
+                rev: rev.number(),
+                part: 1,
+            };
+            has_part_of(records, &first, Kind::Full)
+        }
+        NoticeKind::Failure { .. } | NoticeKind::Absence => false,
+    }
 }
 
 /// A deposit that passed: its day and its id.

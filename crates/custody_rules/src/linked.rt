@@ -12,6 +12,7 @@ ghost use Rattle.custody_records.specs.Typed.{notice_key, notice_value, part_pla
 ghost use Rattle.custody_rules.specs.Orders.{failed_revision_cmp};
 ghost use Rattle.custody_rules.specs.Links.{has_parts, is_due, is_in_series, is_known, is_notice_linked, is_numbered, is_part_linked, is_release_linked};
 
+use crate::revision::has_part_of;
 use crate::told::{FailedRevision, failed_revisions, revision_of};
 use custody_records::{Names, NoticeKey, Part, PartKey, Records, Release};
 use deposit_name::{DepositName, Kind, Tld};
@@ -64,16 +65,6 @@ fn is_known(records: &Records, tld: &Tld) -> bool
     ensures { result ≡ is_known (records_of records.now) tld.now }
 {
     records.first_day(tld).is_some()
-}
-
-/// Whether a part of that kind is recorded at that place.
-fn has_part_of(records: &Records, place: &PartKey, kind: Kind) -> bool
-    ensures { result ≡ is_part_of kind (get (records_of records.now).parts place.now) }
-{
-    match records.part(place) {
-        Some(part) => part.name.kind.as_bytes() == kind.as_bytes(),
-        None => false,
-    }
 }
 
 /// Whether a part has its registry, the part before it, and the failure that its revision follows.

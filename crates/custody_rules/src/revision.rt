@@ -6,6 +6,7 @@ ghost use Rattle.custody_records.specs.Held.{records_of};
 ghost use Rattle.custody_records.specs.Typed.{part_place, part_value};
 ghost use Rattle.custody_machine.specs.SameValues.{is_same_kind};
 ghost use Rattle.custody_machine.specs.State.{at_place, places};
+ghost use Rattle.custody_machine.specs.Stored.{is_part_of};
 ghost use Rattle.custody_rules.specs.Judged.{is_of_other_kind, is_without_bytes};
 
 use custody_records::{Part, PartKey, Records};
@@ -29,6 +30,16 @@ pub(crate) fn is_of_kind(part: &Part, kind: Kind) -> bool
     ensures { result ≡ is_same_kind part.now.name.kind kind }
 {
     part.name.kind == kind
+}
+
+/// Whether a part of that kind is recorded at that place.
+pub(crate) fn has_part_of(records: &Records, place: &PartKey, kind: Kind) -> bool
+    ensures { result ≡ is_part_of kind (get (records_of records.now).parts place.now) }
+{
+    match records.part(place) {
+        Some(part) => is_of_kind(part, kind),
+        None => false,
+    }
 }
 
 /// How many parts the revision has.
