@@ -41,6 +41,15 @@ filter_mapped : {X : Type 0} (f : NoticeKey × Notice → Option X) (rows : List
 filter_mapped f [] = refl
 filter_mapped f (n ∷ rows) = ap (cons_option (f (notice_entry n))) (filter_mapped f rows)
 
+tested_mapped : (test : NoticeKey × Notice → Bool) (rows : List desk.Notice) → map notice_entry (filter (λ n. test (notice_entry n)) rows) ≡ filter test (map notice_entry rows)
+tested_mapped test [] = refl
+tested_mapped test (n ∷ rows) = by (test (notice_entry n)) (tested_mapped test rows)
+  where
+    by : (b : Bool) → map notice_entry (filter (λ n. test (notice_entry n)) rows) ≡ filter test (map notice_entry rows)
+        → map notice_entry (cond b (n ∷ filter (λ n. test (notice_entry n)) rows) (filter (λ n. test (notice_entry n)) rows)) ≡ cond b (notice_entry n ∷ filter test (map notice_entry rows)) (filter test (map notice_entry rows))
+    by true rest = ap (λ (l : List (NoticeKey × Notice)). notice_entry n ∷ l) rest
+    by false rest = rest
+
 module _ (rows found : List desk.Notice) (is : found ≡ rows) (rising : is_rising notice_cmp notice_key rows ≡ true) where
   pub entries_are : map notice_entry found ≡ entries (table_map notice_cmp notice_key notice_value rows)
   entries_are = ap (map notice_entry) is ∙ sym (entries_mapped rows) ∙ sym (entries-table_map notice_cmp notice_key notice_value rows rising)
@@ -53,6 +62,10 @@ module _ (rows found : List desk.Notice) (is : found ≡ rows) (rising : is_risi
 
   pub filter_shown : {X : Type 0} (f : NoticeKey × Notice → Option X) → filter_map (λ n. f (notice_entry n)) found ≡ filter_map f (entries (table_map notice_cmp notice_key notice_value rows))
   filter_shown f = filter_mapped f found ∙ ap (filter_map f) entries_are
+
+  pub tested_shown : {X : Type 0} (test : NoticeKey × Notice → Bool) (f : NoticeKey × Notice → Option X)
+      → filter_map (λ n. f (notice_entry n)) (filter (λ n. test (notice_entry n)) found) ≡ filter_map f (filter test (entries (table_map notice_cmp notice_key notice_value rows)))
+  tested_shown test f = filter_mapped f (filter (λ n. test (notice_entry n)) found) ∙ ap (filter_map f) (tested_mapped test found ∙ ap (filter test) entries_are)
 
 -- ---- a row more
 

@@ -8,13 +8,11 @@ ghost use Rattle.custody_records.specs.Tables.{is_rising, table_map};
 ghost use Rattle.custody_records.specs.Typed.{notice_entry, notice_key, notice_value};
 
 use crate::telling::{
-    compare, find_latest, greatest_of, ids_of, is_absence_of, is_failure_on, is_receipt_after,
-    is_receipt_of, is_to, is_verdict_of, is_verdict_on, key_of, read_all_passed,
+    compare, greatest_of, is_absence_of, is_failure_on, is_receipt_after, is_receipt_of, is_to,
+    is_verdict_of, is_verdict_on, key_of, read_all_passed,
 };
-use custody_machine::Statement;
 use custody_records::NoticeKey;
-use deposit_name::{DepositId, DepositName, Tld};
-use deposit_verify::About;
+use deposit_name::{DepositId, Tld};
 use desk::{Notice, NoticeKind};
 use schedule::Day;
 use std::alloc::{AllocError, Global};
@@ -28,8 +26,7 @@ pub struct PlainNotices {
 
 impl PlainNotices {
     ghost use Rattle.custody_machine.specs.State.{has_notice, is_notice_of};
-    ghost use Rattle.custody_machine.specs.Machine.{first_part, is_absence, is_failure_of, is_receipt, is_verdict, is_verdict_of, known_of, next_number, passed_of};
-    ghost use Rattle.deposit_verify.specs.Known.{known};
+    ghost use Rattle.custody_machine.specs.Machine.{is_absence, is_failure_of, is_receipt, is_verdict, is_verdict_of, next_number, passed_of};
     ghost use Rattle.plain_machine.specs.Plain.{notices_shown, is_later_receipt, is_to};
 
     /// There are none yet.
@@ -43,7 +40,8 @@ impl PlainNotices {
 
     /// The notices.
     pub fn rows(&self) -> &[Notice]
-        ensures { notices_shown self.now ≡ table_map notice_cmp notice_key notice_value result.now }
+        ensures all { notices_shown self.now ≡ table_map notice_cmp notice_key notice_value result.now }
+        ensures rising { is_rising notice_cmp notice_key result.now ≡ true }
     {
         &self.rows
     }
@@ -141,32 +139,15 @@ impl PlainNotices {
         self.find_absence(tld, day).copied()
     }
 
-    // The days and ids of the deposits of a registry that passed.
-    fn passed_of(&self, alloc: Global, tld: &Tld) -> Result<Vec<(Day, DepositId)>, AllocError>
+    /// The days and ids of the deposits of a registry that passed.
+    pub(crate) fn passed_of(
+        &self,
+        alloc: Global,
+        tld: &Tld,
+    ) -> Result<Vec<(Day, DepositId)>, AllocError>
         ensures { IfOk result (λ passed. passed.items ≡ passed_of (notices_shown self.now) tld.now) }
     {
         read_all_passed(alloc, &self.rows, tld)
-    }
-
-    /// What is known of a stated deposit, whose first part has this name.
-    pub(crate) fn known_of(
-        &self,
-        alloc: Global,
-        name: DepositName,
-        stated: &Statement,
-    ) -> Result<About, AllocError>
-        requires named { name ≡ first_part stated.now }
-        ensures { IfOk result (λ about. known about ≡ known_of (notices_shown self.now) stated.now) }
-    {
-        let passed = self.passed_of(alloc, &stated.tld)?;
-        let latest = find_latest(&passed);
-        let ids = ids_of(alloc, &passed)?;
-        Ok(About {
-            name,
-            id: stated.id,
-            latest,
-            passed: ids,
-        })
     }
 
     /// The next number of a notice of a registry, if there is one.

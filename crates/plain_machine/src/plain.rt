@@ -95,7 +95,7 @@ impl PlainState {
         self.find_part(name, place)
     }
 
-    fn recorded(&self, name: &Sought) -> Option<&PlainPart>
+    pub(crate) fn recorded(&self, name: &Sought) -> Option<&PlainPart>
         ensures { option_map (λ p. part_shown p.now) result ≡ recorded (shown self.now) name.now }
     {
         match self.part_at(name, name.part) {

@@ -1,18 +1,20 @@
 //! What is done of a statement.
 ghost use Rattle.std.specs.Prelude.{◌≡◌, ◌++◌, ◌&&◌, find, IfOk, IfSome, IfNone, OnOk, OnErr, is_none, not, option_and_then, option_map};
+ghost use Rattle.std.specs.List.{filter};
 ghost use Rattle.custody_records.specs.Typed.{notice_entry, notice_key, notice_value};
-ghost use Rattle.custody_machine.specs.Machine.{are_as_stated, bytes_held, bytes_in, count_parts, differ_in_number, first_part, first_standing, has_dropped_part, has_later_receipt, has_verdict, if_of_id, is_dropped, is_outside, joined, kept_verdict, next_key, notice_kind, part_in, statement_tests, step, verdict_notice, verdict_on, verdict_told};
+ghost use Rattle.custody_machine.specs.Machine.{are_as_stated, bytes_held, bytes_in, count_parts, differ_in_number, first_part, first_standing, full_of, has_dropped_part, has_later_receipt, has_verdict, if_of_id, is_dropped, is_full_revision, is_outside, joined, kept_verdict, known_of, next_key, notice_kind, part_in, statement_tests, step, tells_full, verdict_notice, verdict_on, verdict_told};
 ghost use Rattle.custody_machine.specs.Machine as machine;
+ghost use Rattle.deposit_verify.specs.Known.{known};
 ghost use Rattle.plain_machine.specs.Plain.{IsOutcome, content_shown, is_in, shown};
 
 use crate::kept::{PlainAnswer, PlainContent, PlainPart, PlainState};
 use crate::sought::Sought;
-use crate::telling::tells_id;
+use crate::telling::{find_latest, ids_of, read_all_passed, tells_id};
 use custody_machine::{Refusal, Statement};
-use deposit_name::DepositName;
-use deposit_verify::{Verdict, verify};
+use deposit_name::{DepositId, DepositName, Kind, Tld};
+use deposit_verify::{About, Verdict, verify};
 use desk::{Notice, NoticeKind};
-use schedule::Sec;
+use schedule::{Day, Sec};
 use std::alloc::{AllocError, Global};
 
 impl PlainState {
@@ -190,6 +192,73 @@ impl PlainState {
         }
     }
 
+    // Whether the first part of the revision is one of a full deposit.
+    fn is_full_revision(&self, tld: &Tld, day: Day, rev: u8) -> bool
+        ensures { result ≡ is_full_revision (shown self.now) tld.now day rev }
+    {
+        let first = Sought {
+            tld: *tld,
+            day,
+            kind: Kind::Full,
+            part: 1,
+            rev,
+        };
+        self.recorded(&first).is_some()
+    }
+
+    // Whether a notice tells that a full deposit passed.
+    fn tells_full(&self, notice: &Notice) -> bool
+        ensures { result ≡ tells_full (shown self.now) (notice_entry notice.now) }
+    {
+        match notice.kind {
+            NoticeKind::Receipt { rev, .. } => {
+                self.is_full_revision(&notice.tld, notice.day, rev.number())
+            }
+            NoticeKind::Failure { .. } | NoticeKind::Absence => false,
+        }
+    }
+
+    // Of some notices those that tell that a full deposit passed.
+    fn full_receipts(&self, alloc: Global, notices: &[Notice]) -> Result<Vec<Notice>, AllocError>
+        ensures { IfOk result (λ full. full.items ≡ filter (λ n. tells_full (shown self.now) (notice_entry n)) notices.now) }
+    {
+        notices
+            .iter()
+            .filter(|n| self.tells_full(n))
+            .copied()
+            .collect(alloc)
+    }
+
+    // The days and ids of the full deposits of a registry that passed.
+    fn full_of(&self, alloc: Global, tld: &Tld) -> Result<Vec<(Day, DepositId)>, AllocError>
+        ensures { IfOk result (λ full. full.items ≡ full_of (shown self.now) tld.now) }
+    {
+        let full = self.full_receipts(alloc, self.notices.rows())?;
+        read_all_passed(alloc, &full, tld)
+    }
+
+    // What is known of a stated deposit, whose first part has this name.
+    fn known_of(
+        &self,
+        alloc: Global,
+        name: DepositName,
+        stated: &Statement,
+    ) -> Result<About, AllocError>
+        requires named { name ≡ first_part stated.now }
+        ensures { IfOk result (λ about. known about ≡ known_of (shown self.now) stated.now) }
+    {
+        let passed = self.notices.passed_of(alloc, &stated.tld)?;
+        let full = self.full_of(alloc, &stated.tld)?;
+        let ids = ids_of(alloc, &passed)?;
+        Ok(About {
+            name,
+            id: stated.id,
+            latest: find_latest(&passed),
+            full: find_latest(&full),
+            passed: ids,
+        })
+    }
+
     // The notice of the verdict on the deposit whose first part has this name.
     fn judge(
         &self,
@@ -204,7 +273,7 @@ impl PlainState {
     {
         let number = self.notices.next_number(&stated.tld).ok_or(AllocError)?;
         let bytes = self.join(alloc, &Sought::of(&name))?;
-        let about = self.notices.known_of(alloc, name, stated)?;
+        let about = self.known_of(alloc, name, stated)?;
         let Ok(verdict) = verify(alloc, &bytes, &about) else {
             return Err(AllocError);
         };

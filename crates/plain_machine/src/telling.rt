@@ -5,8 +5,8 @@ ghost use Rattle.custody_records.specs.Keys.{notice_cmp};
 ghost use Rattle.custody_records.specs.Typed.{notice_entry, notice_key};
 ghost use Rattle.custody_machine.specs.Names.{is_same_text};
 ghost use Rattle.custody_machine.specs.State.{is_notice_of};
-ghost use Rattle.custody_machine.specs.Machine.{has_id, is_absence, is_failure_of, is_receipt, is_verdict, is_verdict_of, latest_of};
-ghost use Rattle.plain_machine.specs.Plain.{greatest_of, is_later_receipt, is_to, passed_in};
+ghost use Rattle.custody_machine.specs.Machine.{has_id, is_absence, is_failure_of, is_receipt, is_verdict, is_verdict_of, latest_of, passed_in};
+ghost use Rattle.plain_machine.specs.Plain.{greatest_of, is_later_receipt, is_to};
 
 use custody_records::NoticeKey;
 use deposit_name::{DepositId, Tld};

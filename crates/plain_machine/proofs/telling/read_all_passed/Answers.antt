@@ -1,7 +1,7 @@
 use Rattle.std.proofs.Common.{ℕ, List, [], ◌∷◌, ◌++◌, sym, ap, ◌∙◌, arith}
 use Rattle.std.specs.List.{filter_map}
 use Rattle.custody_records.specs.Typed.{notice_entry}
-use Rattle.plain_machine.specs.Plain.{passed_in}
+use Rattle.custody_machine.specs.Machine.{passed_in}
 use Rattle.plain_machine.proofs.NoticeRows.{filter_more}
 use Rattle.plain_machine.proofs.telling.read_all_passed.Goals as goal
 

@@ -1,6 +1,6 @@
 use Rattle.std.proofs.Common.{ℕ, List, subst}
 use Rattle.std.specs.Prelude.{◌≡◌, IfOk}
-use Rattle.plain_machine.specs.Plain.{passed_in}
+use Rattle.custody_machine.specs.Machine.{passed_in}
 use Rattle.plain_machine.proofs.NoticeRows.{filter_shown}
 use Rattle.plain_machine.proofs.notices.PlainNotices.passed_of.Goals as goal
 
