@@ -29,7 +29,7 @@ declare -gA _escrow_places=(
     [serve]='DIR'
 )
 declare -gA _escrow_values=(
-    [verify --kind]='full diff'
+    [verify --kind]='full diff incr'
     [release GROUND]='operator termination no_notices sunday_failed five_failed insolvency critical order audit'
 )
 

@@ -4,7 +4,7 @@ use Rattle.clap.specs.Faults.{flags_fault, walk_fault, defaults_fault}
 use Rattle.clap.specs.Walk.{bundle_met, walked}
 use Rattle.schedule.specs.Calendar.{date_of}
 use Rattle.deposit_name.specs.Identifiers.{IsDepositId, IsReference, IsTld}
-use Rattle.deposit_name.specs.declared.kinds.Kind.TheVariants.{Full}
+use Rattle.deposit_name.specs.declared.kinds.Kind.TheVariants.{Full, Incr}
 use Rattle.deposit_name.proofs.IdentifierLemmas.{is_tld-IsTld, is_deposit_id-IsDepositId, is_reference-IsReference}
 use Rattle.desk.specs.declared.grounds.Ground.TheVariants.{Operator}
 use Rattle.answer_lines.proofs.NumberLemmas.{number_one}
@@ -29,6 +29,7 @@ words_give_orders = record {
   of_put_now = inl (None, refl, refl);
   of_verify = inl (codes "example", (refl, example_is_tld), inl (20_667, (omega arith, refl), inl (Full, refl, inl (codes "X", (refl, x_is_id), inl (Some 1_785_664_800, (omega arith, refl), refl)))));
   of_verify_now = inl (codes "example", (refl, example_is_tld), inl (20_667, (omega arith, refl), inl (Full, refl, inl (codes "X", (refl, x_is_id), inl (None, refl, refl)))));
+  of_verify_partial = inl (codes "example", (refl, example_is_tld), inl (20_667, (omega arith, refl), inl (Incr, refl, inl (codes "X", (refl, x_is_id), inl (None, refl, refl)))));
   of_sweep = inl (Some 1_785_664_800, (omega arith, refl), refl);
   of_sweep_now = inl (None, refl, refl);
   of_purge = inl (Some 1_785_664_800, (omega arith, refl), refl);

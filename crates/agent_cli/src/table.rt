@@ -131,7 +131,7 @@ static REGISTER: Row<'static> = Row {
 static PUT: Row<'static> = Row {
     name: "put",
     about: "Receives one part file of a deposit; the same bytes again are answered as before",
-    after: "Name: TLD_DATE_KIND_SN_RM.ryde, KIND full or diff, N from 1 to 8, M from 0 to 99\n\
+    after: "Name: TLD_DATE_KIND_SN_RM.ryde, KIND full, diff or incr, N from 1 to 8, M from 0 to 99\n\
             Prints: received NAME LENGTH MOMENT\n\
             Example: escrow put vault example_2026-08-02_full_S1_R0.ryde --now 2026-08-02T10:00:00Z",
     words: &[
@@ -176,7 +176,7 @@ static VERIFY: Row<'static> = Row {
                 value: "KIND",
                 required: true,
             },
-            help: "What the deposit holds: full or diff",
+            help: "What the deposit holds: full, diff or incr",
         },
         Word {
             id: "revision",

@@ -115,6 +115,9 @@ statement_back s = refl
 pub statement_none : (d : Data) (s : StatementTexts) → statement_at d ≡ None → d ≡ statement_json s → ⊥
 statement_none d s none e = let back = statement_back s in let same : statement_at d ≡ statement_at (statement_json s) = ap statement_at e in cc
 
+pub statement_one : (d : Data) (s t : StatementTexts) → Some s ≡ statement_at d → d ≡ statement_json t → s ≡ t
+statement_one d s t found is = some_same s t (found ∙ ap statement_at is ∙ statement_back t)
+
 pub release_is : (d : Data) (r : ReleaseTexts) → release_at d ≡ Some r → d ≡ release_json r
 unfolding release_at
 release_is d r e =
