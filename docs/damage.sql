@@ -26,7 +26,7 @@ WHERE length(tld) NOT BETWEEN 1 AND 63 OR tld GLOB '*[^a-z0-9-]*' OR tld GLOB '-
 
 SELECT 'H4', 'part', tld, day, rev, part FROM part
 WHERE day NOT BETWEEN 10957 AND 2932531 OR rev NOT BETWEEN 0 AND 99 OR part NOT BETWEEN 1 AND 8
-    OR kind NOT IN ('full', 'diff') OR received NOT BETWEEN 0 AND 253370764799
+    OR kind NOT IN ('full', 'diff', 'incr') OR received NOT BETWEEN 0 AND 253370764799
     OR keep_day <> strftime('%s', received, 'unixepoch', '+1 year') / 86400
         - (strftime('%m-%d', received, 'unixepoch') = '02-29')
     OR len NOT BETWEEN 1 AND 1048576 OR length(sha) <> 32

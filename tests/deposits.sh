@@ -22,9 +22,10 @@ full_deposit() {
     envelope=$envelope',"type":"FULL","watermark":"2026-08-02T00:00:00Z"}'
     printf 'RDE1 %08d\n%s%s' ${#envelope} "$envelope" "${2-}"
 }
-# diff_deposit DAY PREVIOUS: the bytes of a differential deposit with no files, which follows that id
-diff_deposit() {
-    local envelope='{"contents":[],"deletes":[],'$(header 0)',"id":"20260803001","prevId":"'$2'",'$(menu)
-    envelope=$envelope',"type":"DIFF","watermark":"'$1'T00:00:00Z"}'
+# partial_deposit KIND DAY ID [PREVIOUS]: the bytes of a deposit of the kind diff or incr with no files, which has that
+# id, and names the previous one
+partial_deposit() {
+    local envelope='{"contents":[],"deletes":[],'$(header 0)',"id":"'$3'",'${4:+'"prevId":"'$4'",'}$(menu)
+    envelope=$envelope',"type":"'${1^^}'","watermark":"'$2'T00:00:00Z"}'
     printf 'RDE1 %08d\n%s' ${#envelope} "$envelope"
 }

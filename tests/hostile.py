@@ -165,9 +165,9 @@ NUMBERS = (-2**63, -1, 0, 1, 2, 8, 9, 13, 14, 20, 21, 99, 100, 4096, 10_956, 10_
            262_144, 262_145, 1_048_576, 1_048_577, 2_932_531, 2_932_532, 2**31, 2**32, 2**53,
            86_400 * 2_932_532 - 1, 86_400 * 2_932_532, 2**63 - 1)
 TEXTS = (b"", b"a", b"example", b"Example", b"-a", b"a-", b"a" * 63, b"a" * 64, b"a" * 70_000,
-         b"a\0b", b"\0", b"\xc3\xa9", b"\xff", b"example\n", b"\n", b"full", b"diff", b"FULL",
-         b"order", b"five_failed", b"A" * 13, b"A" * 14, b"A" * 32, b"A" * 33, b"0000000000000001",
-         b"00000000000000A1", b"example_2026-08-02_full_S1_R0.ryde\nx\n",
+         b"a\0b", b"\0", b"\xc3\xa9", b"\xff", b"example\n", b"\n", b"full", b"diff", b"incr",
+         b"FULL", b"order", b"five_failed", b"A" * 13, b"A" * 14, b"A" * 32, b"A" * 33,
+         b"0000000000000001", b"00000000000000A1", b"example_2026-08-02_full_S1_R0.ryde\nx\n",
          b"example_2026-08-02_diff_S1_R0.ryde\n", b"other_2026-08-04_full_S1_R0.ryde\n")
 EDGES = (0, 1, 1, 2, 3, 4, 6, 7, 8, 18, 19, 20, 2**31, 2**32 - 1)
 # {t} and {o} are two of the five tables, {c} a column of {t}. A colon begins an edit of the schema.
@@ -313,7 +313,7 @@ FORMS = {
     "meta": {"one": (1, 1), "schema_no": ANY, "number": rb"[0-9a-f]{16}", "blocks": (2, 262_144)},
     "registry": {"tld": TLD, "first_day": (0, LAST)},
     "part": {"tld": TLD, "day": (10_957, LAST), "rev": (0, 99), "part": (1, 8),
-             "kind": b"full|diff", "received": MOMENT, "keep_day": ANY, "len": (1, 1_048_576),
+             "kind": b"full|diff|incr", "received": MOMENT, "keep_day": ANY, "len": (1, 1_048_576),
              "sha": rb"(?s:.{32})", "extents": rb"(?s:.{8})+"},
     "notice": {"tld": TLD, "number": (1, 2**63 - 1), "kind": (0, 20), "day": (0, LAST),
                "rev": (0, 99), "id": rb"[A-Za-z0-9]{0,13}", "at": MOMENT},

@@ -220,6 +220,32 @@ answers "one part" "201 Created" "       1 RECEIPT    2026-08-02 R00 20260802001
 answers "a registry that is not known" "404 Not Found" "Q2 registry unknown" 20 "GET /notices/other $end"
 ended 0 ""
 
+# incremental deposits of the next days
+start 7 --now 2026-08-04T10:05:00Z
+# next DAY [PREVIOUS]: the request that sends one
+next() {
+    local deposit
+    deposit=$(partial_deposit incr "$1" "${1//-/}001" "${2-}")
+    printf 'PUT /deposits/example_%s_incr_S1_R0.ryde HTTP/1.1\\r\\nContent-Length: %s\\r\\n\\r\\n%s' "$1" ${#deposit} "$deposit"
+}
+# next_statement DAY KIND: the request that states it
+next_statement() {
+    printf 'POST /statements HTTP/1.1\\r\\nContent-Length: 93\\r\\n\\r\\n'
+    printf '{"date":"%s","id":"%s001","kind":"%s","parts":1,"revision":0,"tld":"example"}' "$1" "${1//-/}" "$2"
+}
+receipt="       2 RECEIPT    2026-08-03 R00 20260803001   2026-08-04T10:05:00Z example"
+answers "an incremental deposit" "201 Created" "received example_2026-08-03_incr_S1_R0.ryde 560 2026-08-04T10:05:00Z" 69 \
+    "$(next 2026-08-03)"
+answers "of another type" "409 Conflict" "Q9 type differs" 16 "$(next_statement 2026-08-03 diff)"
+answers "of no type" "400 Bad Request" "A10 form" 9 "$(next_statement 2026-08-03 INCR)"
+answers "its statement" "201 Created" "$receipt" 78 "$(next_statement 2026-08-03 incr)"
+answers "again" "200 OK" "$receipt" 78 "$(next_statement 2026-08-03 incr)"
+answers "one behind it" "201 Created" "received example_2026-08-04_incr_S1_R0.ryde 583 2026-08-04T10:05:00Z" 69 \
+    "$(next 2026-08-04 20260803001)"
+answers "its statement" "201 Created" "${receipt//2 RECEIPT    2026-08-03 R00 20260803001/3 FAILURE-06 2026-08-04 R00 20260804001}" 78 \
+    "$(next_statement 2026-08-04 incr)"
+ended 0 ""
+
 # letters COUNT: a part of 100,000 bytes, of which so many are sent
 letters() {
     printf 'PUT /deposits/%s HTTP/1.1\r\nContent-Length: 100000\r\n\r\n' "$part"

@@ -17,6 +17,7 @@ trap 'umount "$work/small" 2>/dev/null; rm -rf "$work"' EXIT
 cd "$work" || exit 2
 . "$top/tests/counting.sh"
 . "$top/tests/deposits.sh"
+. "$top/tests/older.sh"
 
 # expect STATUS OUT ERR WORDS..: runs the program on the words. OUT and ERR are the texts without their last line feed.
 expect() {
@@ -186,27 +187,40 @@ $third" "" report missed example
     fails 11 < <(full_deposit domain "$domains" 2)
     fails 12 < <(full_deposit domain "$domains" 1)
 
-    # follows DAY PREVIOUS VERDICT: a differential deposit that is stated as the registry's second has this verdict
+    # judged VAULT NUMBER VERDICT KIND DAY PREVIOUS: a deposit of that kind that is put and stated has this verdict
+    judged() {
+        local part=example_$5_$4_S1_R0.ryde id=${5//-/}001
+        partial_deposit "$4" "$5" "$id" "$6" > "in/$part"
+        expect 0 "received $part $(stat -c %s "in/$part") $5T10:00:00Z" "" put "$1" "in/$part" --now "$5T10:00:00Z"
+        expect 0 "       $2 $3 $5 R00 $id   $5T10:05:00Z example" "" \
+            verify "$1" example --date "$5" --kind "$4" --revision 0 --parts 1 --id "$id" --now "$5T10:05:00Z"
+    }
+    # follows VERDICT KIND DAY PREVIOUS: the same of the second deposit of the registry
     follows() {
-        local part=example_$1_diff_S1_R0.ryde
         rm -rf following
         cp -r whole following
-        diff_deposit "$1" "$2" > "in/$part"
-        expect 0 "received $part $(stat -c %s "in/$part") $1T10:00:00Z" "" put following "in/$part" --now "$1T10:00:00Z"
-        expect 0 "       2 $3 $1 R00 20260803001   $1T10:05:00Z example" "" \
-            verify following example --date "$1" --kind diff --revision 0 --parts 1 --id 20260803001 --now "$1T10:05:00Z"
+        judged following 2 "$@"
     }
-    follows 2026-08-03 20260802001 "RECEIPT   "
-    follows 2026-08-03 X FAILURE-06
-    follows 2026-08-09 X FAILURE-05
-    check "a head of 14 bytes and an envelope of 569" test "$(diff_deposit 2026-08-03 20260802001 | wc -c)" = 583
+    follows FAILURE-06 diff 2026-08-03 X
+    follows FAILURE-05 diff 2026-08-09 X
+    follows "RECEIPT   " diff 2026-08-03 20260802001
+    check "a head of 14 bytes and an envelope of 569" test "$(stat -c %s in/example_2026-08-03_diff_S1_R0.ryde)" = 583
+    follows FAILURE-06 incr 2026-08-03 X
+    follows FAILURE-05 incr 2026-08-09 20260802001
+    follows "RECEIPT   " incr 2026-08-03 20260802001
+    check "an envelope as long" test "$(stat -c %s in/example_2026-08-03_incr_S1_R0.ryde)" = 583
+    follows "RECEIPT   " incr 2026-08-03 ""
+    check "and one without the previous id" test "$(stat -c %s in/example_2026-08-03_incr_S1_R0.ryde)" = 560
+    # behind it a differential deposit follows it, and an incremental one the full deposit before it
+    cp -r following behind
+    judged behind 3 FAILURE-06 incr 2026-08-04 20260803001
+    judged following 3 "RECEIPT   " diff 2026-08-04 20260803001
+    judged following 4 "RECEIPT   " incr 2026-08-05 20260802001
 
-    # where no deposit has passed, a differential one follows none
+    # where no deposit has passed, a partial one follows none
     vault none 8
-    expect 0 "received example_2026-08-03_diff_S1_R0.ryde 573 2026-08-03T10:00:00Z" "" \
-        put none in/example_2026-08-03_diff_S1_R0.ryde --now 2026-08-03T10:00:00Z
-    expect 0 "       1 FAILURE-06 2026-08-03 R00 20260803001   2026-08-03T10:05:00Z example" "" \
-        verify none example --date 2026-08-03 --kind diff --revision 0 --parts 1 --id 20260803001 --now 2026-08-03T10:05:00Z
+    judged none 1 FAILURE-06 diff 2026-08-03 X
+    judged none 2 FAILURE-06 incr 2026-08-04 ""
 
     failure="       1 FAILURE-01 2026-08-02 R00 X             $five example"
     vault broken 8
@@ -379,7 +393,7 @@ free 6 of 7" "" state lost
 echo "== a part of a release is fetched"
 vault given 8
 diff0=example_2026-08-03_diff_S1_R0.ryde
-diff_deposit 2026-08-03 20260802001 > in/$diff0
+partial_deposit diff 2026-08-03 20260803001 20260802001 > in/$diff0
 expect 0 "received $name0 1422 $ten" "" put given deposit/$name0 --now $ten
 # shellcheck disable=SC2046
 expect 0 "$receipt" "" $(stated given --parts 1 --id 20260802001)
@@ -424,6 +438,50 @@ expect 1 "" "Q18 not in release" fetch older R-1 x
 if command -v sqlite3 > /dev/null; then
     sqlite3 given/custody.db "UPDATE handover SET names = '$name0' || char(10) || 'x' || char(10)"
     expect 3 "" "C5 damaged H7" fetch given R-1 x
+fi
+
+echo "== a vault of before there were incremental deposits"
+if command -v sqlite3 > /dev/null; then
+    older_vault former former-parts
+    notices="       1 RECEIPT    2026-08-02 R00 20260802001   $five example
+       2 RECEIPT    2026-08-03 R00 20260803001   2026-08-03T10:05:00Z example
+       3 FAILURE-01 2026-08-04 R00 X             2026-08-04T10:05:00Z example
+       4 ABSENCE    2026-08-05 --- -             2026-08-06T00:00:00Z example"
+    kept="$registry
+part $name0 1422 dropped $ten
+part $diff0 583 held 2026-08-03T10:00:00Z
+part ${diff0/03/04} 5 held 2026-08-04T10:00:00Z"
+    expect 0 "$kept
+$notices
+release R-1 example operator 2026-08-06T01:00:00Z 3
+free 5 of 7" "" state former
+    expect 0 "sound 2" "" audit former
+    # what it acknowledged is answered as before
+    expect 1 "" "Q6 dropped after keeping" put former former-parts/$name0
+    expect 0 "received $diff0 583 2026-08-03T10:00:00Z" "" put former former-parts/$diff0
+    # shellcheck disable=SC2046
+    expect 0 "${notices%%$'\n'*}" "" $(stated former --parts 1 --id 20260802001)
+    expect 0 "released R-1 example operator 2026-08-06T01:00:00Z 3
+$name0
+$diff0
+${diff0/03/04}" "" release former R-1 example operator
+    check "a part of its release" cmp -s <("$program" fetch former R-1 ${diff0/03/04}) former-parts/${diff0/03/04}
+    # and it goes on: behind the full deposit, whose bytes are dropped, and then behind the incremental one
+    judged former 5 FAILURE-06 incr 2027-08-03 20260803001
+    judged former 6 "RECEIPT   " incr 2027-08-04 20260802001
+    judged former 7 "RECEIPT   " diff 2027-08-05 20270804001
+    expect 0 "$kept
+part example_2027-08-03_incr_S1_R0.ryde 583 held 2027-08-03T10:00:00Z
+part example_2027-08-04_incr_S1_R0.ryde 583 held 2027-08-04T10:00:00Z
+part example_2027-08-05_diff_S1_R0.ryde 583 held 2027-08-05T10:00:00Z
+$notices
+       5 FAILURE-06 2027-08-03 R00 20270803001   2027-08-03T10:05:00Z example
+       6 RECEIPT    2027-08-04 R00 20270804001   2027-08-04T10:05:00Z example
+       7 RECEIPT    2027-08-05 R00 20270805001   2027-08-05T10:05:00Z example
+release R-1 example operator 2026-08-06T01:00:00Z 3
+free 2 of 7" "" state former
+else
+    skip "no sqlite3: a vault of before there were incremental deposits"
 fi
 
 echo "== the moment of the clock"
