@@ -220,30 +220,60 @@ answers "one part" "201 Created" "       1 RECEIPT    2026-08-02 R00 20260802001
 answers "a registry that is not known" "404 Not Found" "Q2 registry unknown" 20 "GET /notices/other $end"
 ended 0 ""
 
-# incremental deposits of the next days
-start 7 --now 2026-08-04T10:05:00Z
-# next DAY [PREVIOUS]: the request that sends one
-next() {
-    local deposit
-    deposit=$(partial_deposit incr "$1" "${1//-/}001" "${2-}")
-    printf 'PUT /deposits/example_%s_incr_S1_R0.ryde HTTP/1.1\\r\\nContent-Length: %s\\r\\n\\r\\n%s' "$1" ${#deposit} "$deposit"
+# ---- incremental deposits, each in a copy of the vault with the full one
+
+later=2026-08-04T10:05:00Z
+cp -r passed with-full
+# copied FROM FOLDER REQUESTS: a copy of a vault, which is served for so many connections
+copied() {
+    vault=$2
+    cp -r "$1" "$2"
+    start "$3" --now $later
 }
-# next_statement DAY KIND: the request that states it
-next_statement() {
+# partial_statement DAY KIND: the request that states one
+partial_statement() {
     printf 'POST /statements HTTP/1.1\\r\\nContent-Length: 93\\r\\n\\r\\n'
     printf '{"date":"%s","id":"%s001","kind":"%s","parts":1,"revision":0,"tld":"example"}' "$1" "${1//-/}" "$2"
 }
-receipt="       2 RECEIPT    2026-08-03 R00 20260803001   2026-08-04T10:05:00Z example"
-answers "an incremental deposit" "201 Created" "received example_2026-08-03_incr_S1_R0.ryde 560 2026-08-04T10:05:00Z" 69 \
-    "$(next 2026-08-03)"
-answers "of another type" "409 Conflict" "Q9 type differs" 16 "$(next_statement 2026-08-03 diff)"
-answers "of no type" "400 Bad Request" "A10 form" 9 "$(next_statement 2026-08-03 INCR)"
-answers "its statement" "201 Created" "$receipt" 78 "$(next_statement 2026-08-03 incr)"
-answers "again" "200 OK" "$receipt" 78 "$(next_statement 2026-08-03 incr)"
-answers "one behind it" "201 Created" "received example_2026-08-04_incr_S1_R0.ryde 583 2026-08-04T10:05:00Z" 69 \
-    "$(next 2026-08-04 20260803001)"
-answers "its statement" "201 Created" "${receipt//2 RECEIPT    2026-08-03 R00 20260803001/3 FAILURE-06 2026-08-04 R00 20260804001}" 78 \
-    "$(next_statement 2026-08-04 incr)"
+# sent DAY KIND [PREVIOUS]: a deposit of that kind is received
+sent() {
+    local deposit part=example_$1_$2_S1_R0.ryde
+    deposit=$(partial_deposit "$2" "$1" "${1//-/}001" "${3-}")
+    answers "a part of $1, $2" "201 Created" "received $part ${#deposit} $later" 69 \
+        "PUT /deposits/$part HTTP/1.1\r\nContent-Length: ${#deposit}\r\n\r\n$deposit"
+}
+# told_of STATUS NUMBER VERDICT DAY KIND: the notice of its statement
+told_of() {
+    answers "the statement of $4, $5: $3" "$1" "       $2 $3 $4 R00 ${4//-/}001   $later example" 78 "$(partial_statement "$4" "$5")"
+}
+copied with-full unnamed 5
+sent 2026-08-03 incr
+answers "of another type" "409 Conflict" "Q9 type differs" 16 "$(partial_statement 2026-08-03 diff)"
+answers "of no type" "400 Bad Request" "A10 form" 9 "$(partial_statement 2026-08-03 INCR)"
+told_of "201 Created" 2 "RECEIPT   " 2026-08-03 incr
+told_of "200 OK" 2 "RECEIPT   " 2026-08-03 incr
+ended 0 ""
+copied unnamed and-differential 2
+sent 2026-08-04 diff 20260803001
+told_of "201 Created" 3 "RECEIPT   " 2026-08-04 diff
+ended 0 ""
+copied unnamed and-incremental 2
+sent 2026-08-04 incr 20260803001
+told_of "201 Created" 3 FAILURE-06 2026-08-04 incr
+ended 0 ""
+copied with-full named 2
+sent 2026-08-03 incr 20260802001
+told_of "201 Created" 2 "RECEIPT   " 2026-08-03 incr
+ended 0 ""
+copied with-full misnamed 2
+sent 2026-08-03 incr X
+told_of "201 Created" 2 FAILURE-06 2026-08-03 incr
+ended 0 ""
+new_vault no-full
+"$program" register no-full example --first 2026-08-02 > register.out
+start 2 --now $later
+sent 2026-08-03 incr
+told_of "201 Created" 1 FAILURE-06 2026-08-03 incr
 ended 0 ""
 
 # letters COUNT: a part of 100,000 bytes, of which so many are sent

@@ -1,6 +1,7 @@
 #!/bin/bash
 # A vault as the program wrote it before there were incremental deposits: its rows as SQL, its volume byte for byte.
-# tests/program.sh sources this file, and goes on with that vault.
+# tests/program.sh sources this file, and goes on with that vault. The pages of the database are those of sqlite3: with
+# OLDER=PROGRAM in the environment such a program makes the vault itself.
 #
 #   tests/older.sh PROGRAM     does its commands with such a program, and compares the vault of that with this one
 . "$(dirname "${BASH_SOURCE[0]}")/deposits.sh"
@@ -61,12 +62,25 @@ older_volume() {
     padded 20480 < "$1/example_2026-08-04_diff_S1_R0.ryde"
 }
 
-# older_vault FOLDER PARTS: makes the vault in that new folder, by sqlite3
+# older_vault: makes the vault in the new folder older, and its parts in the new folder parts
 older_vault() {
-    mkdir "$1" "$2"
-    older_parts "$2"
-    older_volume "$2" > "$1/vault.vol"
-    { echo 'PRAGMA journal_mode = wal;'; older_rows; } | sqlite3 "$1/custody.db" > /dev/null
+    mkdir older parts
+    older_parts parts
+    if [ -n "${OLDER-}" ]; then
+        older_vault_by "$OLDER" > /dev/null
+    else
+        older_volume parts > older/vault.vol
+        { echo 'PRAGMA journal_mode = wal;'; older_rows; } | sqlite3 older/custody.db > /dev/null
+    fi
+}
+
+# older_vault_by PROGRAM: does its commands, of which each has to end with status 0
+older_vault_by() {
+    local words
+    older_commands | while read -r words; do
+        # shellcheck disable=SC2086
+        "$1" $words || return 1
+    done
 }
 
 if [ "${BASH_SOURCE[0]}" = "$0" ]; then
@@ -74,12 +88,12 @@ if [ "${BASH_SOURCE[0]}" = "$0" ]; then
     program=$(realpath "$1")
     work=$(mktemp -d)
     trap 'rm -rf "$work"' EXIT
-    cd "$work"
-    older_vault made parts
-    mkdir older
-    # shellcheck disable=SC2086
-    older_commands | while read -r words; do "$program" $words; done
-    cmp made/vault.vol older/vault.vol
-    diff <(sqlite3 made/custody.db .dump) <(sqlite3 older/custody.db .dump)
+    mkdir "$work/made" "$work/by-program"
+    cd "$work/made"
+    OLDER='' older_vault
+    cd "$work/by-program"
+    OLDER=$program older_vault
+    cmp ../made/older/vault.vol older/vault.vol
+    diff <(sqlite3 ../made/older/custody.db .dump) <(sqlite3 older/custody.db .dump)
     echo "the same vault"
 fi

@@ -4,13 +4,15 @@
 #   tests/program.sh [PROGRAM]
 #
 # With KILLS=N in the environment N puts are killed, and N/4 calls of init; else 120 and 30. With SEED=S other vaults are
-# changed at random than with the seed 1.
+# changed at random than with the seed 1. With OLDER=PROGRAM a program of before there were incremental deposits makes the
+# vault of "a vault of before", and not tests/older.sh.
 # PROGRAM is crates/escrow/out/escrow where it is not named. `./demo` builds it. Where there is no sqlite3 or
 # setpriv, or no tmpfs can be mounted, what needs it is left out, and a line says so.
 set -u
 top=$(cd "$(dirname "$0")/.." && pwd)
 program=$(realpath "${1:-$top/crates/escrow/out/escrow}")
 [ -x "$program" ] || { echo "no program at $program: run ./demo"; exit 2; }
+[ -z "${OLDER-}" ] || OLDER=$(realpath "$OLDER")
 work=$(mktemp -d)
 chmod 755 "$work"
 trap 'umount "$work/small" 2>/dev/null; rm -rf "$work"' EXIT
@@ -442,7 +444,8 @@ fi
 
 echo "== a vault of before there were incremental deposits"
 if command -v sqlite3 > /dev/null; then
-    older_vault former former-parts
+    mkdir before
+    (cd before && older_vault)
     notices="       1 RECEIPT    2026-08-02 R00 20260802001   $five example
        2 RECEIPT    2026-08-03 R00 20260803001   2026-08-03T10:05:00Z example
        3 FAILURE-01 2026-08-04 R00 X             2026-08-04T10:05:00Z example
@@ -454,22 +457,22 @@ part ${diff0/03/04} 5 held 2026-08-04T10:00:00Z"
     expect 0 "$kept
 $notices
 release R-1 example operator 2026-08-06T01:00:00Z 3
-free 5 of 7" "" state former
-    expect 0 "sound 2" "" audit former
+free 5 of 7" "" state before/older
+    expect 0 "sound 2" "" audit before/older
     # what it acknowledged is answered as before
-    expect 1 "" "Q6 dropped after keeping" put former former-parts/$name0
-    expect 0 "received $diff0 583 2026-08-03T10:00:00Z" "" put former former-parts/$diff0
+    expect 1 "" "Q6 dropped after keeping" put before/older before/parts/$name0
+    expect 0 "received $diff0 583 2026-08-03T10:00:00Z" "" put before/older before/parts/$diff0
     # shellcheck disable=SC2046
-    expect 0 "${notices%%$'\n'*}" "" $(stated former --parts 1 --id 20260802001)
+    expect 0 "${notices%%$'\n'*}" "" $(stated before/older --parts 1 --id 20260802001)
     expect 0 "released R-1 example operator 2026-08-06T01:00:00Z 3
 $name0
 $diff0
-${diff0/03/04}" "" release former R-1 example operator
-    check "a part of its release" cmp -s <("$program" fetch former R-1 ${diff0/03/04}) former-parts/${diff0/03/04}
+${diff0/03/04}" "" release before/older R-1 example operator
+    check "a part of its release" cmp -s <("$program" fetch before/older R-1 ${diff0/03/04}) before/parts/${diff0/03/04}
     # and it goes on: behind the full deposit, whose bytes are dropped, and then behind the incremental one
-    judged former 5 FAILURE-06 incr 2027-08-03 20260803001
-    judged former 6 "RECEIPT   " incr 2027-08-04 20260802001
-    judged former 7 "RECEIPT   " diff 2027-08-05 20270804001
+    judged before/older 5 FAILURE-06 incr 2027-08-03 20260803001
+    judged before/older 6 "RECEIPT   " incr 2027-08-04 20260802001
+    judged before/older 7 "RECEIPT   " diff 2027-08-05 20270804001
     expect 0 "$kept
 part example_2027-08-03_incr_S1_R0.ryde 583 held 2027-08-03T10:00:00Z
 part example_2027-08-04_incr_S1_R0.ryde 583 held 2027-08-04T10:00:00Z
@@ -479,7 +482,8 @@ $notices
        6 RECEIPT    2027-08-04 R00 20270804001   2027-08-04T10:05:00Z example
        7 RECEIPT    2027-08-05 R00 20270805001   2027-08-05T10:05:00Z example
 release R-1 example operator 2026-08-06T01:00:00Z 3
-free 2 of 7" "" state former
+free 2 of 7" "" state before/older
+    check "two rows of the new type" test "$(sqlite3 -readonly before/older/custody.db "SELECT count(*) FROM part WHERE kind = 'incr'")" = 2
 else
     skip "no sqlite3: a vault of before there were incremental deposits"
 fi
