@@ -1,12 +1,12 @@
 -- The machine of commands: what each is answered, and what is kept after it (Specification 2, Part B).
 use Rattle.std.specs.Prelude.{◌≡◌, ◌≢◌, ℕ, suc, ◌+◌, ◌-◌, max, List, [], ◌∷◌, map, length, Option, Some, None, option_map, Bool, true, false, not, ◌&&◌, ◌||◌, if◌then◌else◌, nat_lt, nat_le, ◌==◌, is_some, is_none, unwrap_or, count_by, Result, Ok, Err}
-use Rattle.std.specs.List.{filter, filter_map, find, flat_map, list_all, list_any}
+use Rattle.std.specs.List.{filter, filter_map, find, flat_map, last_or, list_all, list_any}
 use Rattle.std.specs.Option.{option_and_then}
 use Rattle.std.specs.FinMap.{FinMap, entries, get, insert}
 use Rattle.std.specs.Ordering.{nat_cmp}
 use Rattle.schedule.specs.Schedule.{day_of, year_after}
 use Rattle.deposit_name.specs.declared.kinds.Kind.{Kind}
-use Rattle.deposit_name.specs.declared.kinds.Kind.TheVariants.{Full}
+use Rattle.deposit_name.specs.declared.kinds.Kind.TheVariants.{Full, Diff, Incr}
 use Rattle.deposit_name.specs.declared.faults.NameError.{NameError}
 use Rattle.deposit_name.specs.Name.{Name, name_text}
 use Rattle.desk.specs.Standing.{ground_stands}
@@ -14,8 +14,10 @@ use Rattle.desk.specs.declared.grounds.Ground.{Ground}
 use Rattle.desk.specs.declared.notices.Notice as desk
 use Rattle.desk.specs.declared.notices.NoticeKind.{NoticeKind}
 use Rattle.desk.specs.declared.notices.NoticeKind.TheVariants.{Receipt, Failure, Absence}
+use Rattle.deposit_verify.specs.declared.base.Base.{Base}
 use Rattle.deposit_verify.specs.declared.verdict.Verdict.{Verdict}
 use Rattle.deposit_verify.specs.declared.verdict.Verdict.TheVariants.{Pass, Fail}
+use Rattle.deposit_verify.specs.Bases.{base_at}
 use Rattle.deposit_verify.specs.Known.{Known}
 use Rattle.deposit_verify.specs.Verdict.{verdict}
 use Rattle.custody_records.specs.Keys.{PartKey, NoticeKey, notice_cmp}
@@ -95,6 +97,11 @@ abbrev pub is_receipt : NoticeKind → Bool
 is_receipt (Receipt _ _) = true
 is_receipt (Failure _ _ _) = false
 is_receipt Absence = false
+
+abbrev pub is_receipt_of : ℕ → NoticeKind → Bool
+is_receipt_of rev (Receipt of _) = of == rev
+is_receipt_of rev (Failure _ _ _) = false
+is_receipt_of rev Absence = false
 
 abbrev pub is_verdict_of : ℕ → NoticeKind → Bool
 is_verdict_of rev (Receipt of _) = of == rev
@@ -295,6 +302,42 @@ full_of state tld = filter_map (passed_in tld) (filter (tells_full state) (entri
 abbrev pub latest_of : List (ℕ × List ℕ) → Option (List ℕ)
 latest_of passed = option_map (λ (one : ℕ × List ℕ). one.1) (find (λ (one : ℕ × List ℕ). list_all (λ (other : ℕ × List ℕ). nat_le other.0 one.0) passed) passed)
 
+-- ---- the chain of a deposit
+
+-- a part is the first of a registry's deposit that passed
+abbrev pub is_first_of_passed : State → List ℕ → PartKey × Part → Bool
+is_first_of_passed state tld entry = is_same_text entry.0.tld tld && (entry.0.part == 1 && has_notice state.notices tld entry.0.day (is_receipt_of entry.0.rev))
+
+-- the names of these parts, by day
+abbrev pub passed_firsts : State → List ℕ → List Name
+passed_firsts state tld = map (λ (entry : PartKey × Part). name_of entry.0 entry.1.kind) (filter (is_first_of_passed state tld) (entries state.parts))
+
+-- the latest full one
+abbrev pub latest_full : List Name → Option Name
+latest_full names = last_or None (filter (λ (name : Name). is_same_kind name.kind Full) names)
+
+abbrev pub later_than : ℕ → List Name → List Name
+later_than day names = filter (λ (name : Name). nat_lt day name.day) names
+
+-- a differential deposit follows the latest full one and all of later days, an incremental one that full one alone (RFC 8909, section 2)
+abbrev pub chain_of : Kind → List Name → Option Name → List Name
+chain_of kind names None = []
+chain_of Full names (Some full) = []
+chain_of Diff names (Some full) = full ∷ later_than full.day names
+chain_of Incr names (Some full) = full ∷ []
+
+-- the deposits that a stated one follows, oldest first, each by the name of its first part
+abbrev pub chain_before : State → statement.Statement → List Name
+chain_before state stated = chain_of stated.kind (passed_firsts state stated.tld) (latest_full (passed_firsts state stated.tld))
+
+-- the same where all their parts are held, and else none
+abbrev pub held_chain : State → statement.Statement → List Name
+held_chain state stated = if list_any (has_dropped_part state) (chain_before state stated) then [] else chain_before state stated
+
+-- the keys that there are after them, where they are held and read
+abbrev pub base_of : State → statement.Statement → Option Base
+base_of state stated = base_at (map (joined state) (held_chain state stated))
+
 -- what is known of a stated deposit
 abbrev pub known_of : State → statement.Statement → Known
 known_of state stated = record {
@@ -303,6 +346,7 @@ known_of state stated = record {
   latest = latest_of (passed_of state.notices stated.tld);
   full = latest_of (full_of state stated.tld);
   passed = map (λ (one : ℕ × List ℕ). one.1) (passed_of state.notices stated.tld);
+  base = base_of state stated;
 }
 
 -- ---- refusals
@@ -608,17 +652,21 @@ read_by (Some refusal) (Ok name) = if is_other_bytes refusal then key_of name �
 abbrev pub part_keys : State → Name → List PartKey
 part_keys state name = map (at_place (key_of name)) (filter (λ place. is_some (part_in state name place)) places)
 
+-- the places of the parts that a verdict hangs on: those of the stated deposit, and of those that it follows
+abbrev pub verdict_keys : State → statement.Statement → List PartKey
+verdict_keys state stated = flat_map (part_keys state) (first_part stated ∷ held_chain state stated)
+
 -- where the command is made
 abbrev pub if_made : Option Refusal → Option Record → List PartKey → List PartKey
 if_made None None keys = keys
 if_made None (Some entry) keys = []
 if_made (Some refusal) entry keys = []
 
--- The parts whose bytes decide a command: where other bytes are sent under a name, the part that is kept under it; and where a deposit is verified, its parts.
+-- The parts whose bytes decide a command: where other bytes are sent under a name, the part that is kept under it; and where a deposit is verified, its parts and those of the deposits that it follows.
 abbrev pub reads : State → Command → ℕ → List PartKey
 reads state (Register tld first_day) now = []
 reads state (Receive text bytes) now = read_by (refusal_of state (Receive text bytes) now) (read_name text)
-reads state (Statement stated) now = if_made (refusal_of state (Statement stated) now) (kept state (Statement stated)) (part_keys state (first_part stated))
+reads state (Statement stated) now = if_made (refusal_of state (Statement stated) now) (kept state (Statement stated)) (verdict_keys state stated)
 reads state (Check tld day) now = []
 reads state (Release reference tld reason) now = []
 reads state Purge now = []

@@ -1,5 +1,6 @@
 pub mod Blocks
 pub mod Breaks
+pub mod Chains
 pub mod Due
 pub mod Fetching
 pub mod Judged

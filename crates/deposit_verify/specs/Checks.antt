@@ -1,5 +1,5 @@
 -- The thirteen checks of a deposit, each said by what the deposit reads as, and the verdict.
-use Rattle.std.specs.Prelude.{◌≡◌, ◌<◌, ⊤, ℕ, List, [], ◌∷◌, Contains, IfSome, Option, Some, None, codes, length, map, take}
+use Rattle.std.specs.Prelude.{◌≡◌, ◌≢◌, ◌<◌, ⊤, ℕ, List, [], ◌∷◌, Contains, IfSome, Option, Some, None, codes, length, map, take}
 use Rattle.std.specs.List.{AllZip}
 use Rattle.std.specs.List.Sorted.{IsStrictlyIncreasing}
 use Rattle.schedule.specs.Schedule.{IsSunday}
@@ -7,7 +7,7 @@ use Rattle.deposit_name.specs.Name.{Name}
 use Rattle.deposit_name.specs.declared.kinds.Kind.{Kind}
 use Rattle.deposit_name.specs.declared.kinds.Kind.TheVariants.{Full, Diff, Incr}
 use Rattle.deposit_name.specs.declared.table.TableName.{TableName}
-use Rattle.deposit_name.specs.declared.table.TableName.TheVariants.{Domain, DomainContacts, DomainStatuses, DomainNameServers, Host, HostAddresses, Contact, Registrar}
+use Rattle.deposit_name.specs.declared.table.TableName.TheVariants.{Domain, Host, Contact, Registrar}
 use Rattle.desk.specs.Checks.{check_number}
 use Rattle.desk.specs.declared.checks.Check.{Check}
 use Rattle.desk.specs.declared.checks.Check.TheVariants as check
@@ -17,7 +17,10 @@ use Rattle.envelope.specs.declared.envelope.Count.{Count}
 use Rattle.deposit_verify.specs.declared.verdict.Verdict.{Verdict}
 use Rattle.deposit_verify.specs.declared.verdict.Verdict.TheVariants.{Pass, Fail}
 use Rattle.deposit_verify.specs.Known.{Known}
-use Rattle.deposit_verify.specs.Deposit.{IsDeposit, AreFiles, AreTables, IsKeyFile, IsTableFile, contents_files, deletes_files, deletes_of, entries_of}
+use Rattle.deposit_verify.specs.declared.base.Base.{Base}
+use Rattle.deposit_verify.specs.Deposit.{AreTables, HasDeletes, HasEnvelope, HasFiles, IsTableFile, contents_files, deletes_of}
+use Rattle.deposit_verify.specs.Keys.{IsKeyAfter, IsNumberOf, keys_in}
+use Rattle.deposit_verify.specs.Places.{all_tables, table_place}
 use Rattle.deposit_verify.specs.References.{AreReferencesKept}
 
 -- ---- what the envelope has to say
@@ -56,21 +59,6 @@ counted_uris = take 4 object_uris
 abbrev pub counted_tables : List TableName
 counted_tables = Contact ∷ Domain ∷ Host ∷ Registrar ∷ []
 
--- all tables, in the order of a deposit
-abbrev pub all_tables : List TableName
-all_tables = Domain ∷ DomainContacts ∷ DomainStatuses ∷ DomainNameServers ∷ Host ∷ HostAddresses ∷ Contact ∷ Registrar ∷ []
-
--- the place of a table among all, from 0
-abbrev pub table_place : TableName → ℕ
-table_place Domain = 0
-table_place DomainContacts = 1
-table_place DomainStatuses = 2
-table_place DomainNameServers = 3
-table_place Host = 4
-table_place HostAddresses = 5
-table_place Contact = 6
-table_place Registrar = 7
-
 -- some tables in that order, each at most once
 abbrev pub StandInOrder : List TableName → Type 0
 StandInOrder names = IsStrictlyIncreasing (map table_place names)
@@ -89,10 +77,6 @@ pub record HasMenu (v : Env) : Type 0 where
 
 -- ---- what the files have to say
 
--- the bytes behind the envelope are its files, of which this holds
-abbrev pub HasFiles : Env → List ℕ → (List (List ℕ) → Type 0) → Type 0
-HasFiles v rest P = (files : List (List ℕ)) × AreFiles (entries_of v) rest files × P files
-
 -- the files of contents are tables, of which this holds
 abbrev pub HasTables : Env → List ℕ → ((TableName → List (List (List ℕ))) → Type 0) → Type 0
 HasTables v rest P = HasFiles v rest (λ files. (tables : TableName → List (List (List ℕ))) × AreTables v.contents (contents_files v files) tables × P tables)
@@ -100,6 +84,14 @@ HasTables v rest P = HasFiles v rest (λ files. (tables : TableName → List (Li
 -- the header's counts, in the order of the counted tables, are the numbers of their rows
 abbrev pub AreCounts : List Count → (TableName → List (List (List ℕ))) → Type 0
 AreCounts counts tables = map (λ c. c.count) counts ≡ map (λ name. length (tables name)) counted_tables
+
+-- they are the numbers of the keys that there are after the deposit, where these are there before it
+abbrev pub AreKeyCounts : Env → List ℕ → Base → Type 0
+AreKeyCounts v rest base = AllZip (λ count name. IsNumberOf (IsKeyAfter v rest (keys_in base name) name) count.count) v.count counted_tables
+
+-- what a deposit that is not full counts is said where the keys before it are known, and those that it deletes are read
+abbrev pub AreChainCounts : Env → List ℕ → Known → Type 0
+AreChainCounts v rest known = IfSome known.base (λ base. HasDeletes v rest → AreKeyCounts v rest base)
 
 -- ---- the checks
 
@@ -115,13 +107,9 @@ Says v rest known check.IdTaken = ¬ Contains known.passed v.id
 Says v rest known check.Menu = HasMenu v
 Says v rest known check.Files = HasFiles v rest (λ files. ⊤)
 Says v rest known check.Table = HasFiles v rest (λ files. AllZip IsTableFile v.contents (contents_files v files))
-Says v rest known check.Counts = v.kind ≡ Full → HasTables v rest (AreCounts v.count)
+Says v rest known check.Counts = (v.kind ≡ Full → HasTables v rest (AreCounts v.count)) × (v.kind ≢ Full → AreChainCounts v rest known)
 Says v rest known check.References = v.kind ≡ Full → HasTables v rest AreReferencesKept
-Says v rest known check.Deletes = HasFiles v rest (λ files. AllZip IsKeyFile (deletes_of v) (deletes_files v files))
-
--- the deposit has an envelope, of which this holds
-abbrev pub HasEnvelope : List ℕ → (Env → List ℕ → Type 0) → Type 0
-HasEnvelope joined P = (v : Env) × (rest : List ℕ) × IsDeposit joined v rest × P v rest
+Says v rest known check.Deletes = HasDeletes v rest
 
 -- the deposit passes a check
 abbrev pub Holds : List ℕ → Known → Check → Type 0

@@ -31,6 +31,10 @@ pub record AreFiles (entries : List FileEntry) (bytes : List ℕ) (files : List 
   pub joined : bytes ≡ concat files
   pub each : AllZip IsFileOf entries files
 
+-- the bytes behind the envelope are its files, of which this holds
+abbrev pub HasFiles : Env → List ℕ → (List (List ℕ) → Type 0) → Type 0
+HasFiles v rest P = (files : List (List ℕ)) × AreFiles (entries_of v) rest files × P files
+
 -- of all files, those of contents and those of deletes
 abbrev pub contents_files : Env → List (List ℕ) → List (List ℕ)
 contents_files v files = take (length v.contents) files
@@ -46,9 +50,21 @@ IsTableOf name file rows = IsTable (columns_of name) (key_columns_of name) file 
 abbrev pub IsTableFile : FileEntry → List ℕ → Type 0
 IsTableFile entry file = (rows : List (List (List ℕ))) × IsTableOf entry.name file rows
 
--- the file is one of deleted keys of the table that its entry names: one column, with the rules of tables
+-- the file is one of deleted keys of a table: one column, with the rules of tables
+abbrev pub AreKeysOf : TableName → List ℕ → List (List (List ℕ)) → Type 0
+AreKeysOf name file keys = IsTable (take 1 (columns_of name)) 1 file keys
+
+-- the file is one of deleted keys of the table that its entry names
 abbrev pub IsKeyFile : FileEntry → List ℕ → Type 0
-IsKeyFile entry file = (keys : List (List (List ℕ))) × IsTable (take 1 (columns_of entry.name)) 1 file keys
+IsKeyFile entry file = (keys : List (List (List ℕ))) × AreKeysOf entry.name file keys
+
+-- each file of deleted keys is one
+abbrev pub HasDeletes : Env → List ℕ → Type 0
+HasDeletes v rest = HasFiles v rest (λ files. AllZip IsKeyFile (deletes_of v) (deletes_files v files))
+
+-- the deposit has an envelope, of which this holds
+abbrev pub HasEnvelope : List ℕ → (Env → List ℕ → Type 0) → Type 0
+HasEnvelope joined P = (v : Env) × (rest : List ℕ) × IsDeposit joined v rest × P v rest
 
 -- the files are the tables of these rows, each under the name of its entry
 abbrev pub AreTables : List FileEntry → List (List ℕ) → (TableName → List (List (List ℕ))) → Type 0

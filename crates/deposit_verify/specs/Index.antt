@@ -1,8 +1,9 @@
 -- Keys in order, for private clauses.
 use Rattle.std.specs.Borrow.{Bor}
-use Rattle.std.specs.Prelude.{◌↔◌, ℕ, List, Contains, map}
+use Rattle.std.specs.Prelude.{◌↔◌, ◌++◌, ℕ, List, Contains, Vec, map}
 use Rattle.std.specs.Cmp.Lexicographic.{slice_cmp}
 use Rattle.std.specs.List.Sorted.{IsSorted}
+use Rattle.std.specs.declared.alloc.Global.{Global}
 use Rattle.std.specs.Ordering.{nat_cmp}
 use Rattle.std.specs.declared.cmp.Ordering.{Ordering}
 use Rattle.deposit_verify.specs.References.{column}
@@ -14,6 +15,15 @@ text_cmp one other = slice_cmp nat_cmp one.now other.now
 -- borrowed texts
 abbrev pub texts_of : List (Bor (List ℕ)) → List (List ℕ)
 texts_of keys = map (λ key. key.now) keys
+
+-- texts in memory of their own
+abbrev pub items_of : List (Vec ℕ Global) → List (List ℕ)
+items_of keys = map (λ key. key.items) keys
+
+-- keys in order that are those of two lists
+pub record AreSortedTexts (keys : List (Bor (List ℕ))) (contained deleted : List (List ℕ)) : Type 0 where
+  pub sorted : IsSorted text_cmp keys
+  pub same : (text : List ℕ) → Contains (texts_of keys) text ↔ Contains (contained ++ deleted) text
 
 -- the keys of rows, in order
 pub record AreSortedKeys (keys : List (Bor (List ℕ))) (rows : List (List (List ℕ))) : Type 0 where

@@ -1,7 +1,13 @@
 pub mod Known
+pub mod Places
+pub mod Rows
 pub mod Deposit
 pub mod References
+pub mod Keys
 pub mod Checks
+pub mod Chain
 pub mod Index
 pub mod Tables
 pub mod Verdict
+pub mod Bases
+pub mod Numbers

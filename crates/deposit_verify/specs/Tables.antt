@@ -1,16 +1,21 @@
 -- Tables as they were read, for private clauses.
-use Rattle.std.specs.Prelude.{◌≡◌, ◌<◌, ℕ, List, [], Option, Some, None, length, slice_index_or}
+use Rattle.std.specs.Prelude.{◌≡◌, ◌≢◌, ◌<◌, ℕ, List, [], All, AllPairs, IsTrue, Option, Some, None, length, slice_index_or}
+use Rattle.std.specs.List.{AllZip}
 use Rattle.deposit_name.specs.declared.table.TableName.{TableName}
+use Rattle.deposit_name.specs.Tables.{has_deletes}
 use Rattle.dnrd_csv.specs.Table.{HaveColumns, columns_of}
+use Rattle.dnrd_csv.specs.Text.{key_rows}
 use Rattle.envelope.specs.declared.envelope.Count.{Count}
 use Rattle.envelope.specs.declared.envelope.FileEntry.{FileEntry}
 use Rattle.deposit_name.specs.declared.kinds.Kind.TheVariants.{Full}
 use Rattle.desk.specs.declared.checks.Check.{Check}
 use Rattle.desk.specs.declared.checks.Check.TheVariants as check
 use Rattle.envelope.specs.Envelope.{Env}
-use Rattle.deposit_verify.specs.Checks.{AreCounts, table_place}
-use Rattle.deposit_verify.specs.References.{AreReferencesKept}
-use Rattle.deposit_verify.specs.Deposit.{IsTableOf}
+use Rattle.deposit_verify.specs.Checks.{AreCounts}
+use Rattle.deposit_verify.specs.Places.{table_place}
+use Rattle.deposit_verify.specs.References.{AreReferencesKept, column}
+use Rattle.deposit_verify.specs.Deposit.{AreFiles, AreKeysOf, IsKeyFile, IsTableOf, contents_files, deletes_files, deletes_of, entries_of}
+use Rattle.deposit_verify.specs.Rows.{rows_under}
 
 -- the tables that the files were read as
 pub record AreReadAs (entries : List FileEntry) (files : List (List ℕ)) (tables : List (List (List (List ℕ)))) : Type 0 where
@@ -21,6 +26,34 @@ pub record AreReadAs (entries : List FileEntry) (files : List (List ℕ)) (table
 abbrev pub HasNoTable : List FileEntry → List (List ℕ) → Type 0
 HasNoTable entries files =
     (i : ℕ) × (i < length entries) × ((e : FileEntry) (rows : List (List (List ℕ))) → ¬ IsTableOf (slice_index_or entries i e).name (slice_index_or files i []) rows)
+
+-- the keys that the files were read as
+pub record AreKeysReadAs (entries : List FileEntry) (files : List (List ℕ)) (keys : List (List (List ℕ))) : Type 0 where
+  pub count : length keys ≡ length entries
+  pub each : (i : ℕ) (e : FileEntry) → i < length entries → AreKeysOf (slice_index_or entries i e).name (slice_index_or files i []) (key_rows (slice_index_or keys i []))
+
+-- what was read of the bytes behind an envelope: the tables of contents, and the deleted keys
+pub record AreReadFrom (v : Env) (rest : List ℕ) (tables : List (List (List (List ℕ)))) (deleted : List (List (List ℕ))) : Type 0 where
+  pub files : List (List ℕ)
+  pub are : AreFiles (entries_of v) rest files
+  pub tables_read : AreReadAs v.contents (contents_files v files) tables
+  pub deleted_read : AreKeysReadAs (deletes_of v) (deletes_files v files) deleted
+
+-- what was not read of them
+abbrev pub Unread : Env → List ℕ → Check → Type 0
+Unread v rest check.Files = (files : List (List ℕ)) → ¬ AreFiles (entries_of v) rest files
+Unread v rest check.Table = (files : List (List ℕ)) × AreFiles (entries_of v) rest files × HasNoTable v.contents (contents_files v files)
+Unread v rest check.Deletes =
+    (files : List (List ℕ)) × AreFiles (entries_of v) rest files × (tables : List (List (List (List ℕ)))) × AreReadAs v.contents (contents_files v files) tables
+    × ¬ AllZip IsKeyFile (deletes_of v) (deletes_files v files)
+Unread v rest c = ⊥
+
+-- tables and deleted keys whose keys can be counted
+pub record AreCountable (v : Env) (tables : List (List (List (List ℕ)))) (deleted : List (List (List ℕ))) : Type 0 where
+  pub tables_count : length tables ≡ length v.contents
+  pub deleted_count : length deleted ≡ length (deletes_of v)
+  pub fields : All (λ rows. All (λ row. 0 < length row) rows) tables
+  pub once : (name : TableName) → IsTrue (has_deletes name) → AllPairs (λ one other. one ≢ other) (column 0 (rows_under v.contents tables name))
 
 -- of all eight tables, the one under a name
 abbrev pub table_of : List (List (List (List ℕ))) → TableName → List (List (List ℕ))

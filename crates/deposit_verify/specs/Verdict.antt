@@ -1,7 +1,8 @@
 -- The verdict on a deposit as a function of its bytes and of what is known of it (Specification 2, Part A, section 7). Only its law is used: `IsLawful`, which says it by `IsVerdict`.
-use Rattle.std.specs.Prelude.{◌≡◌, ◌==◌, ◌%◌, ◌&&◌, ◌||◌, not, ℕ, Bool, true, false, List, [], ◌∷◌, Option, Some, None, if◌then◌else◌, is_none, is_some, length, map, nat_lt, option_and_then, option_map, take, drop, unwrap_or}
+use Rattle.std.specs.Prelude.{◌≡◌, ◌==◌, ◌%◌, ◌&&◌, ◌||◌, not, ℕ, Bool, true, false, List, [], ◌∷◌, ◌++◌, Option, Some, None, if◌then◌else◌, is_none, is_some, length, map, nat_lt, option_and_then, option_map, take, drop, unwrap_or}
 use Rattle.std.specs.Cmp.Lexicographic.{pointwise}
 use Rattle.std.specs.List.{list_all, list_any}
+use Rattle.std.specs.Set.{distinct_count}
 use Rattle.std.specs.Str.{bytes_eq}
 use Rattle.sha2.specs.Sha256.{sha256}
 use Rattle.deposit_name.specs.Name.{Name}
@@ -19,10 +20,14 @@ use Rattle.envelope.specs.declared.envelope.Count.{Count}
 use Rattle.envelope.specs.declared.envelope.FileEntry.{FileEntry}
 use Rattle.deposit_verify.specs.declared.verdict.Verdict.{Verdict}
 use Rattle.deposit_verify.specs.declared.verdict.Verdict.TheVariants.{Pass, Fail}
-use Rattle.deposit_verify.specs.Checks.{IsVerdict, all_tables, counted_tables, counted_uris, object_uris, table_place}
+use Rattle.deposit_verify.specs.Checks.{IsVerdict, counted_tables, counted_uris, object_uris}
+use Rattle.deposit_verify.specs.Places.{all_tables, table_place}
 use Rattle.deposit_verify.specs.Deposit.{contents_files, deletes_files, deletes_of, entries_of}
+use Rattle.deposit_verify.specs.Keys.{keys_in}
 use Rattle.deposit_verify.specs.Known.{Known}
+use Rattle.deposit_verify.specs.declared.base.Base.{Base}
 use Rattle.deposit_verify.specs.References.{column}
+use Rattle.deposit_verify.specs.Rows.{keys_after, rows_under}
 use Rattle.deposit_verify.specs.Tables.{table_of}
 
 -- ---- the envelope
@@ -102,16 +107,36 @@ files_at (entry ∷ entries) bytes =
 abbrev pub rows_at : FileEntry → List ℕ → Option (List (List (List ℕ)))
 rows_at entry file = table_at (columns_of entry.name) (key_columns_of entry.name) file
 
--- the rows of each file, where each is a table
+-- the keys, as rows, of a file of deleted keys
+abbrev pub key_rows_at : FileEntry → List ℕ → Option (List (List (List ℕ)))
+key_rows_at entry file = table_at (take 1 (columns_of entry.name)) 1 file
+
+-- the rows of each file, where each is read
+abbrev pub each_at : (FileEntry → List ℕ → Option (List (List (List ℕ)))) → List FileEntry → List (List ℕ) → Option (List (List (List (List ℕ))))
+each_at read [] [] = Some []
+each_at read [] (file ∷ files) = None
+each_at read (entry ∷ entries) [] = None
+each_at read (entry ∷ entries) (file ∷ files) =
+    option_and_then (λ rows. option_map (λ tables. rows ∷ tables) (each_at read entries files)) (read entry file)
+
 abbrev pub tables_at : List FileEntry → List (List ℕ) → Option (List (List (List (List ℕ))))
-tables_at [] [] = Some []
-tables_at [] (file ∷ files) = None
-tables_at (entry ∷ entries) [] = None
-tables_at (entry ∷ entries) (file ∷ files) =
-    option_and_then (λ rows. option_map (λ tables. rows ∷ tables) (tables_at entries files)) (rows_at entry file)
+tables_at = each_at rows_at
+
+abbrev pub deleted_at : List FileEntry → List (List ℕ) → Option (List (List (List (List ℕ))))
+deleted_at = each_at key_rows_at
 
 abbrev pub is_key_file : FileEntry → List ℕ → Bool
-is_key_file entry file = is_some (table_at (take 1 (columns_of entry.name)) 1 file)
+is_key_file entry file = is_some (key_rows_at entry file)
+
+abbrev pub keys_after_rows : List (List ℕ) → List (List (List ℕ)) → List (List (List ℕ)) → List (List ℕ)
+keys_after_rows before contained deleted = keys_after before (column 0 contained) (column 0 contained ++ column 0 deleted)
+
+abbrev pub keys_after_files : Env → List (List ℕ) → List (List (List (List ℕ))) → List (List (List (List ℕ))) → TableName → List (List ℕ)
+keys_after_files v before tables deleted name = keys_after_rows before (rows_under v.contents tables name) (rows_under (deletes_of v) deleted name)
+
+abbrev pub are_key_counts : Env → Base → List (List (List (List ℕ))) → List (List (List (List ℕ))) → Bool
+are_key_counts v base tables deleted =
+    pointwise (λ count name. count.count == distinct_count bytes_eq (keys_after_files v (keys_in base name) tables deleted name)) v.count counted_tables
 
 abbrev pub are_counts : List Count → (TableName → List (List (List ℕ))) → Bool
 are_counts counts tables = bytes_eq (map (λ c. c.count) counts) (map (λ name. length (tables name)) counted_tables)
@@ -136,13 +161,18 @@ are_references_kept tables =
 
 -- ---- the checks
 
--- what is read behind an envelope: the files, where the bytes are files, and the tables of contents, where these are tables
+-- what is read behind an envelope: the files, where the bytes are files, the tables of contents, where these are tables, and the deleted keys, where these are keys
 pub record Contents : Type 0 where
   pub files : Option (List (List ℕ))
   pub tables : Option (List (List (List (List ℕ))))
+  pub deleted : Option (List (List (List (List ℕ))))
 
 abbrev pub with_tables : Env → Option (List (List ℕ)) → Contents
-with_tables v files = record { files = files; tables = option_and_then (λ all. tables_at v.contents (contents_files v all)) files }
+with_tables v files = record {
+  files = files;
+  tables = option_and_then (λ all. tables_at v.contents (contents_files v all)) files;
+  deleted = option_and_then (λ all. deleted_at (deletes_of v) (deletes_files v all)) files;
+}
 
 abbrev pub contents_at : Env → List ℕ → Contents
 contents_at v rest = with_tables v (files_at (entries_of v) rest)
@@ -150,6 +180,12 @@ contents_at v rest = with_tables v (files_at (entries_of v) rest)
 -- what a test says of the tables of a full deposit; it says nothing of others
 abbrev pub of_full : Env → Contents → ((TableName → List (List (List ℕ))) → Bool) → Bool
 of_full v found test = not (is_full v.kind) || test (table_of (unwrap_or found.tables []))
+
+-- what the counts of any other deposit say, where the keys before it are known and those that it deletes are read
+abbrev pub chain_counts : Env → Option Base → List (List (List (List ℕ))) → Option (List (List (List (List ℕ)))) → Bool
+chain_counts v None tables deleted = true
+chain_counts v (Some base) tables None = true
+chain_counts v (Some base) tables (Some deleted) = are_key_counts v base tables deleted
 
 -- whether a deposit that passes the checks below this one passes it
 abbrev pub passes : Env → Known → Contents → Check → Bool
@@ -163,7 +199,7 @@ passes v known found check.IdTaken = not (contains_text known.passed v.id)
 passes v known found check.Menu = has_menu v
 passes v known found check.Files = is_some found.files
 passes v known found check.Table = is_some found.tables
-passes v known found check.Counts = of_full v found (are_counts v.count)
+passes v known found check.Counts = of_full v found (are_counts v.count) && (is_full v.kind || chain_counts v known.base (unwrap_or found.tables []) found.deleted)
 passes v known found check.References = of_full v found are_references_kept
 passes v known found check.Deletes = pointwise is_key_file (deletes_of v) (deletes_files v (unwrap_or found.files []))
 

@@ -1,14 +1,14 @@
 -- The parts in the order of their places, each with whether its bytes are held.
-use Rattle.std.specs.Prelude.{ℕ, List, Option, None, Some, Bool, not, ◌&&◌, if◌then◌else◌}
+use Rattle.std.specs.Prelude.{ℕ, List, Option, None, Some, Bool, not, ◌&&◌, ◌==◌, if◌then◌else◌}
 use Rattle.std.specs.FinMap.{FinMap}
 use Rattle.deposit_name.specs.declared.kinds.Kind.{Kind}
 use Rattle.deposit_name.specs.Name.{name_text}
 use Rattle.custody_records.specs.Keys.{PartKey, part_cmp}
 use Rattle.custody_records.specs.Records.{key_of}
 use Rattle.custody_records.specs.Tables.{table_map}
-use Rattle.custody_machine.specs.Machine.{is_gone}
+use Rattle.custody_machine.specs.Machine.{is_gone, is_receipt_of}
 use Rattle.custody_machine.specs.Names.{is_same_text}
-use Rattle.custody_machine.specs.State.{Part}
+use Rattle.custody_machine.specs.State.{State, Part, has_notice}
 use Rattle.plain_machine.specs.declared.kept.PlainPart.{PlainPart}
 use Rattle.plain_machine.specs.declared.listing.Listed.{Listed}
 use Rattle.plain_machine.specs.Plain.{part_shown}
@@ -32,3 +32,7 @@ listed_entry p = (key_of p.name, value_of (part_shown p))
 -- the name of a part of the registry whose bytes are held
 abbrev pub listed_name : List ℕ → Listed → Option (List ℕ)
 listed_name tld l = if is_same_text l.name.tld tld && l.is_held then Some (name_text l.name) else None
+
+-- a place is that of the first part of a registry's deposit that passed
+abbrev pub is_first_at : State → List ℕ → PartKey → Bool
+is_first_at state tld key = is_same_text key.tld tld && (key.part == 1 && has_notice state.notices tld key.day (is_receipt_of key.rev))
