@@ -18,8 +18,8 @@ use Rattle.dnrd_csv.specs.Table.{IsTable, columns_of, key_columns_of}
 use Rattle.dnrd_csv.proofs.Decided.{all_decides, zip_decides}
 use Rattle.envelope.specs.Envelope.{Env}
 use Rattle.envelope.specs.declared.envelope.FileEntry.{FileEntry}
-use Rattle.deposit_verify.specs.Checks.{AreCounts, HasFiles, HasMenu, HasTables, counted_tables}
-use Rattle.deposit_verify.specs.Deposit.{AreFiles, IsFileOf, IsKeyFile, IsTableFile, IsTableOf, contents_files, deletes_files, deletes_of, entries_of}
+use Rattle.deposit_verify.specs.Checks.{AreCounts, HasMenu, HasTables, counted_tables}
+use Rattle.deposit_verify.specs.Deposit.{AreFiles, contents_files, deletes_files, deletes_of, entries_of, HasFiles, IsFileOf, IsKeyFile, IsTableFile, IsTableOf}
 use Rattle.deposit_verify.specs.References.{AreKeysOf, AreKeysOrEmpty, AreReferencesKept, column}
 use Rattle.deposit_verify.specs.Tables.{AreReadAs, table_of}
 use Rattle.deposit_verify.specs.Verdict.{are_counts, are_keys, are_keys_or_empty, are_references_kept, contains_text, files_at, is_file_of, is_key_file, of_full, rows_at, tables_at, with_tables}
@@ -89,17 +89,17 @@ in_files v rest files are P test decides =
 
 -- ---- their tables
 
+pub both_some : {A B C : Type 0} (f : A → B → C) (o : Option A) (p : Option B) → is_some (option_and_then (λ a. option_map (f a) p) o) ≡ (is_some o && is_some p)
+both_some f None p = refl
+both_some f (Some a) None = refl
+both_some f (Some a) (Some b) = refl
+
 module _ (reader : IsTableReader) where
   read_decides : (columns : List Form) (key : ℕ) (file : List ℕ) → Decides (is_some (table_at columns key file)) ((rows : List (List (List ℕ))) × IsTable columns key file rows)
   read_decides columns key file = (
     λ e. let there = some_of (table_at columns key file) e in (there.0, (reader.some columns key file there.0).0 there.1),
     λ has. ap is_some ((reader.some columns key file has.0).1 has.1),
   )
-
-  both_some : {A B C : Type 0} (f : A → B → C) (o : Option A) (p : Option B) → is_some (option_and_then (λ a. option_map (f a) p) o) ≡ (is_some o && is_some p)
-  both_some f None p = refl
-  both_some f (Some a) None = refl
-  both_some f (Some a) (Some b) = refl
 
   tables_decide : (entries : List FileEntry) (files : List (List ℕ)) → Decides (is_some (tables_at entries files)) (AllZip IsTableFile entries files)
   tables_decide [] [] = (λ _. tt, λ _. refl)
@@ -109,7 +109,7 @@ module _ (reader : IsTableReader) where
       Decides-at _ _ (both_some (λ rows tables. rows ∷ tables) (rows_at entry file) (tables_at entries files))
       (Decides-and _ _ (read_decides (columns_of entry.name) (key_columns_of entry.name) file) (tables_decide entries files))
 
-  tables_found : (entries : List FileEntry) (files : List (List ℕ)) (tables : List (List (List (List ℕ)))) → tables_at entries files ≡ Some tables → AreReadAs entries files tables
+  pub tables_found : (entries : List FileEntry) (files : List (List ℕ)) (tables : List (List (List (List ℕ)))) → tables_at entries files ≡ Some tables → AreReadAs entries files tables
   tables_found [] [] [] e = record { count = refl; each = λ i d inside. absurd (omega (arith, inside)) }
   tables_found [] [] (table ∷ tables) e = cc e
   tables_found [] (file ∷ files) tables e = cc e
@@ -160,7 +160,7 @@ module _ (reader : IsTableReader) where
 keys_decide : (rows : List (List (List ℕ))) (texts : List (List ℕ)) → Decides (are_keys rows texts) (AreKeysOf rows texts)
 keys_decide rows texts = all_decides (contains_text (column 0 rows)) (Contains (column 0 rows)) (contains_decides (column 0 rows)) texts
 
-unless_decides : {P Q : Type 0} (a b : Bool) → Decides a P → Decides b Q → Decides (a || b) (¬ P → Q)
+pub unless_decides : {P Q : Type 0} (a b : Bool) → Decides a P → Decides b Q → Decides (a || b) (¬ P → Q)
 unless_decides true b p q = (λ _ none. absurd (none (p.0 refl)), λ _. refl)
 unless_decides false b p q = (λ e _. q.0 e, λ f. q.1 (f (not_from_Decides false p refl)))
 

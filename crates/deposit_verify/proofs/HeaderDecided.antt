@@ -17,7 +17,8 @@ use Rattle.deposit_name.specs.declared.kinds.Kind.TheVariants.{Full, Diff, Incr}
 use Rattle.deposit_name.specs.declared.table.TableName.{TableName}
 use Rattle.deposit_name.specs.declared.table.TableName.TheVariants.{Domain}
 use Rattle.envelope.specs.Envelope.{Env}
-use Rattle.deposit_verify.specs.Checks.{AgreesWithName, FollowsFull, FollowsPassed, HasContents, HasMenu, StandInOrder, all_tables, counted_uris, object_uris, table_place}
+use Rattle.deposit_verify.specs.Checks.{AgreesWithName, FollowsFull, FollowsPassed, HasContents, HasMenu, StandInOrder, counted_uris, object_uris}
+use Rattle.deposit_verify.specs.Places.{all_tables, table_place}
 use Rattle.deposit_verify.specs.Deposit.{deletes_of}
 use Rattle.deposit_verify.specs.Known.{Known}
 use Rattle.deposit_verify.specs.Verdict.{agrees_with_name, contains_text, follows_full, follows_passed, has_contents, has_menu, increase, is_full, is_same_id, is_same_kind, stand_in_order}
@@ -94,10 +95,10 @@ increase_decides (m ∷ n ∷ ns) = Decides-like _ there back (Decides-and _ _ (
     back : IsStrictlyIncreasing (m ∷ n ∷ ns) → (m < n) × IsStrictlyIncreasing (n ∷ ns)
     back h = (h 0 (omega arith), λ k inside. let next : suc k + 1 ≡ suc (k + 1) = omega arith in rw next at (h (suc k) (omega (arith, inside))))
 
-order_decides : (names : List TableName) → Decides (stand_in_order names) (StandInOrder names)
+pub order_decides : (names : List TableName) → Decides (stand_in_order names) (StandInOrder names)
 order_decides names = increase_decides (map table_place names)
 
-same_place : (one other : TableName) → table_place one ≡ table_place other → one ≡ other
+pub same_place : (one other : TableName) → table_place one ≡ table_place other → one ≡ other
 same_place one other same = sym (all_tables_right one Domain).1 ∙ ap (λ i. get_or all_tables i Domain) same ∙ (all_tables_right other Domain).1
 
 same_places : (one other : List TableName) → map table_place one ≡ map table_place other → one ≡ other

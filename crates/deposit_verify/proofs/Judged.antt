@@ -1,5 +1,5 @@
 -- The checks of files and tables, from what was read.
-use Rattle.std.proofs.Common.{◌≡◌, ◌<◌, ◌≤◌, ◌∙◌, [], All, Bor, IsTrue, List, Option, Some, None, ℕ, ap, arith, drop, get_or, length, length-append, length-drop, length-take, unwrap_or, map, refl, subst, sym, take}
+use Rattle.std.proofs.Common.{◌≡◌, ◌≢◌, ◌<◌, IfSome, ◌≤◌, ◌∙◌, [], All, Bor, IsTrue, List, Option, Some, None, ℕ, ap, arith, drop, get_or, length, length-append, length-drop, length-take, unwrap_or, map, refl, subst, sym, take}
 use Rattle.std.specs.List.{AllZip}
 use Rattle.std.proofs.lemmas.List.Elements.{All-nil}
 use Rattle.std.proofs.lemmas.List.{drop-map, get_or-map, length-map, take-map}
@@ -12,12 +12,14 @@ use Rattle.desk.specs.declared.checks.Check.{Check}
 use Rattle.desk.specs.declared.checks.Check.TheVariants as check
 use Rattle.envelope.specs.Envelope.{Env, FitsKind, IsEnvelope}
 use Rattle.envelope.specs.declared.envelope.FileEntry.{FileEntry}
-use Rattle.deposit_verify.specs.Checks.{AreCounts, Below, HasContents, HasMenu, HasTables, IsLeast, Says, all_tables, table_place}
-use Rattle.deposit_verify.specs.Deposit.{AreFiles, AreTables, IsFileOf, IsKeyFile, IsTableFile, IsTableOf, contents_files, deletes_files, deletes_of, entries_of}
+use Rattle.deposit_verify.specs.declared.base.Base.{Base}
+use Rattle.deposit_verify.specs.Checks.{AreChainCounts, AreCounts, AreKeyCounts, Below, HasContents, HasMenu, HasTables, IsLeast, Says}
+use Rattle.deposit_verify.specs.Places.{all_tables, table_place}
+use Rattle.deposit_verify.specs.Deposit.{AreFiles, AreTables, HasDeletes, HasFiles, IsFileOf, IsKeyFile, IsTableFile, IsTableOf, contents_files, deletes_files, deletes_of, entries_of}
 use Rattle.deposit_verify.specs.Index.{texts_of}
 use Rattle.deposit_verify.specs.Known.{Known}
 use Rattle.deposit_verify.specs.References.{AreReferencesKept}
-use Rattle.deposit_verify.specs.Tables.{AreAllTables, AreReadAs, HasNoTable, TablesSay, table_of}
+use Rattle.deposit_verify.specs.Tables.{AreAllTables, AreReadAs, HasNoTable, TablesSay, Unread, table_of}
 use Rattle.deposit_verify.specs.declared.verdict.Verdict.TheVariants.{Pass, Fail}
 use Rattle.deposit_verify.proofs.Lists.{no_entry, zip_at, zip_from, zip_length}
 use Rattle.deposit_verify.proofs.TableLemmas.{listed_at}
@@ -104,14 +106,18 @@ pub record AreRead (v : Env) (rest : List ℕ) (files : List (List ℕ)) (tables
   pub are : AreFiles (entries_of v) rest files
   pub read : AreReadAs v.contents (contents_files v files) tables
 
+-- a file of contents that is no table
+no_tables : (v : Env) (rest : List ℕ) (files : List (List ℕ)) → AreFiles (entries_of v) rest files → HasNoTable v.contents (contents_files v files) → HasFiles v rest (λ fs. AllZip IsTableFile v.contents (contents_files v fs)) → ⊥
+no_tables v rest files are none says =
+    let same = same_files (entries_of v) rest says.0 files says.1 are in
+    let all = subst (λ (fs : List (List ℕ)). AllZip IsTableFile v.contents (contents_files v fs)) same says.2 in
+    let there = zip_at IsTableFile v.contents (contents_files v files) none.0 no_entry [] all none.1 in
+    none.2 no_entry there.0 there.1
+
 pub table_fails : (v : Env) (rest : List ℕ) (k : Known) (files : List (List ℕ)) → AreFiles (entries_of v) rest files → HasNoTable v.contents (contents_files v files)
     → Below (Says v rest k) 9 → IsLeast (Says v rest k) (Fail check.Table)
 table_fails v rest k files are none below = (
-  λ says.
-      let same = same_files (entries_of v) rest says.0 files says.1 are in
-      let all = subst (λ (fs : List (List ℕ)). AllZip IsTableFile v.contents (contents_files v fs)) same says.2 in
-      let there = zip_at IsTableFile v.contents (contents_files v files) none.0 no_entry [] all none.1 in
-      none.2 no_entry there.0 there.1,
+  no_tables v rest files are none,
   below_more (Says v rest k) check.Files below (files, are, tt),
 )
 
@@ -148,11 +154,11 @@ only_tables one v rest files tables read full P has =
 pub tables_fail : OneText → (v : Env) (rest : List ℕ) (k : Known) (files : List (List ℕ)) (tables : List (List (List (List ℕ)))) → AreRead v rest files tables
     → (c : Check) → TablesSay v tables (Some c) → Below (Says v rest k) 9 → IsLeast (Says v rest k) (Fail c)
 tables_fail one v rest k files tables read check.Counts says below =
-    (λ holds. says.1 (only_tables one v rest files tables read says.0 (AreCounts v.count) (holds says.0)), tables_hold v rest k files tables read below)
+    (λ holds. says.1 (only_tables one v rest files tables read says.0 (AreCounts v.count) (holds.0 says.0)), tables_hold v rest k files tables read below)
 tables_fail one v rest k files tables read check.References says below = (
   λ holds. says.1.1 (only_tables one v rest files tables read says.0 AreReferencesKept (holds says.0)),
   below_more (Says v rest k) check.Counts (tables_hold v rest k files tables read below)
-      (λ full. (files, read.are, (table_of tables, under_names v rest files tables read full, says.1.0))),
+      (λ full. (files, read.are, (table_of tables, under_names v rest files tables read full, says.1.0)), λ partial. absurd (partial says.0)),
 )
 tables_fail one v rest k files tables read check.Frame says below = absurd says.1
 tables_fail one v rest k files tables read check.Envelope says below = absurd says.1
@@ -167,24 +173,85 @@ tables_fail one v rest k files tables read check.Table says below = absurd says.
 tables_fail one v rest k files tables read check.Deletes says below = absurd says.1
 
 pub references_hold : (v : Env) (rest : List ℕ) (k : Known) (files : List (List ℕ)) (tables : List (List (List (List ℕ)))) → AreRead v rest files tables
-    → TablesSay v tables None → Below (Says v rest k) 9 → Below (Says v rest k) 13
-references_hold v rest k files tables read says below =
+    → TablesSay v tables None → (v.kind ≢ Full → AreChainCounts v rest k) → Below (Says v rest k) 9 → Below (Says v rest k) 13
+references_hold v rest k files tables read says chain below =
     below_more (Says v rest k) check.References
     (below_more (Says v rest k) check.Counts (tables_hold v rest k files tables read below)
-    (λ full. (files, read.are, (table_of tables, under_names v rest files tables read full, (says full).0))))
+    (λ full. (files, read.are, (table_of tables, under_names v rest files tables read full, (says full).0)), chain))
     (λ full. (files, read.are, (table_of tables, under_names v rest files tables read full, (says full).1)))
 
-pub deletes_fail : (v : Env) (rest : List ℕ) (k : Known) (files : List (List ℕ)) (tables : List (List (List (List ℕ)))) → AreRead v rest files tables
-    → TablesSay v tables None → (AllZip IsKeyFile (deletes_of v) (deletes_files v files) → ⊥) → Below (Says v rest k) 9 → IsLeast (Says v rest k) (Fail check.Deletes)
-deletes_fail v rest k files tables read says none below = (
-  λ holds. none (subst (λ (fs : List (List ℕ)). AllZip IsKeyFile (deletes_of v) (deletes_files v fs)) (same_files (entries_of v) rest holds.0 files holds.1 read.are) holds.2),
-  references_hold v rest k files tables read says below,
-)
+-- the deposit deletes no more than these files
+only_deletes : (v : Env) (rest : List ℕ) (files : List (List ℕ)) → AreFiles (entries_of v) rest files → HasDeletes v rest → AllZip IsKeyFile (deletes_of v) (deletes_files v files)
+only_deletes v rest files are holds = subst (λ (fs : List (List ℕ)). AllZip IsKeyFile (deletes_of v) (deletes_files v fs)) (same_files (entries_of v) rest holds.0 files holds.1 are) holds.2
+
+-- a full deposit deletes nothing
+full_deletes : (v : Env) (rest : List ℕ) (files : List (List ℕ)) → IsEnvelope v → AreFiles (entries_of v) rest files → v.kind ≡ Full → AllZip IsKeyFile (deletes_of v) (deletes_files v files)
+full_deletes v rest files form are full =
+    let none : deletes_of v ≡ [] = by v.deletes (subst (λ (k : Kind). FitsKind k v.deletes) full form.deletes) in
+    zip_from IsKeyFile (deletes_of v) (deletes_files v files) no_entry [] (sym (files_parted v rest files are).2) (λ i inside. absurd (omega (arith, inside, ap length none)))
+  where
+    by : (o : Option (List FileEntry)) → FitsKind Full o → unwrap_or o [] ≡ []
+    by None fits = refl
+    by (Some ds) fits = absurd fits
+
+-- where the deleted keys are not read, nothing is said of the counts of a chain
+unread_chain : (v : Env) (rest : List ℕ) (k : Known) → (HasDeletes v rest → ⊥) → AreChainCounts v rest k
+unread_chain v rest k none = by k.base
+  where
+    by : (o : Option Base) → IfSome o (λ base. HasDeletes v rest → AreKeyCounts v rest base)
+    by None = tt
+    by (Some base) = λ has. absurd (none has)
+
+deletes_fail : (v : Env) (rest : List ℕ) (k : Known) (files : List (List ℕ)) (tables : List (List (List (List ℕ)))) → IsEnvelope v → AreRead v rest files tables
+    → (AllZip IsKeyFile (deletes_of v) (deletes_files v files) → ⊥) → Below (Says v rest k) 9 → IsLeast (Says v rest k) (Fail check.Deletes)
+deletes_fail v rest k files tables form read none below =
+    let unread : HasDeletes v rest → ⊥ = λ holds. none (only_deletes v rest files read.are holds) in (
+      unread,
+      references_hold v rest k files tables read (λ full. absurd (none (full_deletes v rest files form read.are full))) (λ _. unread_chain v rest k unread) below,
+    )
+
+-- what is not read of the files of a deposit
+pub unread_fails : (v : Env) (rest : List ℕ) (k : Known) → IsEnvelope v → HasMenu v → (c : Check) → Unread v rest c → Below (Says v rest k) 9 → IsLeast (Says v rest k) (Fail c)
+unread_fails v rest k form menu check.Files unread below = (λ has. unread has.0 has.1, below)
+unread_fails v rest k form menu check.Table unread below = table_fails v rest k unread.0 unread.1 unread.2 below
+unread_fails v rest k form menu check.Deletes unread below =
+    deletes_fail v rest k unread.0 unread.2 form (record { menu = menu; are = unread.1; read = unread.3 }) unread.4 below
+unread_fails v rest k form menu check.Frame unread below = absurd unread
+unread_fails v rest k form menu check.Envelope unread below = absurd unread
+unread_fails v rest k form menu check.Name unread below = absurd unread
+unread_fails v rest k form menu check.Statement unread below = absurd unread
+unread_fails v rest k form menu check.Weekday unread below = absurd unread
+unread_fails v rest k form menu check.PrevId unread below = absurd unread
+unread_fails v rest k form menu check.IdTaken unread below = absurd unread
+unread_fails v rest k form menu check.Menu unread below = absurd unread
+unread_fails v rest k form menu check.Counts unread below = absurd unread
+unread_fails v rest k form menu check.References unread below = absurd unread
+
+-- it is not there
+pub unread_not : (v : Env) (rest : List ℕ) (c : Check) → Unread v rest c → HasFiles v rest (λ fs. AllZip IsTableFile v.contents (contents_files v fs)) → HasDeletes v rest → ⊥
+unread_not v rest check.Files unread tables deletes = unread tables.0 tables.1
+unread_not v rest check.Table unread tables deletes = no_tables v rest unread.0 unread.1 unread.2 tables
+unread_not v rest check.Deletes unread tables deletes = unread.4 (only_deletes v rest unread.0 unread.1 deletes)
+unread_not v rest check.Frame unread tables deletes = unread
+unread_not v rest check.Envelope unread tables deletes = unread
+unread_not v rest check.Name unread tables deletes = unread
+unread_not v rest check.Statement unread tables deletes = unread
+unread_not v rest check.Weekday unread tables deletes = unread
+unread_not v rest check.PrevId unread tables deletes = unread
+unread_not v rest check.IdTaken unread tables deletes = unread
+unread_not v rest check.Menu unread tables deletes = unread
+unread_not v rest check.Counts unread tables deletes = unread
+unread_not v rest check.References unread tables deletes = unread
+
+-- the counts of a chain that are wrong
+pub chain_fails : (v : Env) (rest : List ℕ) (k : Known) (files : List (List ℕ)) (tables : List (List (List (List ℕ)))) → AreRead v rest files tables
+    → v.kind ≢ Full → (AreChainCounts v rest k → ⊥) → Below (Says v rest k) 9 → IsLeast (Says v rest k) (Fail check.Counts)
+chain_fails v rest k files tables read partial none below = (λ holds. none (holds.1 partial), tables_hold v rest k files tables read below)
 
 pub deletes_hold : (v : Env) (rest : List ℕ) (k : Known) (files : List (List ℕ)) (tables : List (List (List (List ℕ)))) → AreRead v rest files tables
-    → TablesSay v tables None → AllZip IsKeyFile (deletes_of v) (deletes_files v files) → Below (Says v rest k) 9 → IsLeast (Says v rest k) Pass
-deletes_hold v rest k files tables read says all below =
-    below_all (Says v rest k) (below_more (Says v rest k) check.Deletes (references_hold v rest k files tables read says below) (files, read.are, all))
+    → TablesSay v tables None → (v.kind ≢ Full → AreChainCounts v rest k) → AllZip IsKeyFile (deletes_of v) (deletes_files v files) → Below (Says v rest k) 9 → IsLeast (Says v rest k) Pass
+deletes_hold v rest k files tables read says chain all below =
+    below_all (Says v rest k) (below_more (Says v rest k) check.Deletes (references_hold v rest k files tables read says chain below) (files, read.are, all))
 
 -- ---- the parts of borrowed files
 

@@ -1,23 +1,25 @@
 -- The verdict that is computed is the least check that fails.
 use Rattle.std.proofs.Common.{◌≡◌, ◌+◌, ◌∷◌, [], ℕ, Bool, true, false, List, Option, Some, None, ap, arith, if◌then◌else◌, refl, subst, sym}
 use Rattle.std.specs.Bool.{Decides}
-use Rattle.std.proofs.lemmas.Bool.Decides.{Decides-at, Decides-not, not_from_Decides}
+use Rattle.std.proofs.lemmas.Bool.Decides.{Decides-and, Decides-at, Decides-not, not_from_Decides}
 use Rattle.std.proofs.lemmas.Slice.Eq.{bytes_eq-Decides}
 use Rattle.desk.specs.Checks.{check_number}
 use Rattle.desk.specs.declared.checks.Check.{Check}
 use Rattle.desk.specs.declared.checks.Check.TheVariants as check
+use Rattle.deposit_name.specs.declared.kinds.Kind.TheVariants.{Full}
 use Rattle.dnrd_csv.specs.Readers.{IsTableReader}
 use Rattle.envelope.specs.Envelope.{Env, env_text}
 use Rattle.envelope.specs.Frame.{IsFrame}
 use Rattle.envelope.specs.Readers.{AreReaders, envelope_at, frame_at}
-use Rattle.deposit_verify.specs.Checks.{AreCounts, Below, HasFiles, Holds, IsLeast, IsVerdict, Says}
-use Rattle.deposit_verify.specs.Deposit.{AreFiles, IsDeposit, entries_of}
+use Rattle.deposit_verify.specs.Checks.{AreCounts, Below, Holds, IsLeast, IsVerdict, Says}
+use Rattle.deposit_verify.specs.Deposit.{AreFiles, entries_of, HasFiles, IsDeposit}
 use Rattle.deposit_verify.specs.Known.{Known}
 use Rattle.deposit_verify.specs.References.{AreReferencesKept}
 use Rattle.deposit_verify.specs.Verdict.{are_counts, are_references_kept, checks_inside, contents_at, envelope_verdict, first_failing, frame_verdict, passes, verdict, with_tables}
 use Rattle.deposit_verify.specs.declared.verdict.Verdict.TheVariants.{Fail}
-use Rattle.deposit_verify.proofs.FilesDecided.{counts_decide, deletes_decide, files_are, files_decide, full_decides, references_decide, table_decides}
-use Rattle.deposit_verify.proofs.HeaderDecided.{contains_decides, menu_decides, name_decides, passed_decides, weekday_decides}
+use Rattle.deposit_verify.proofs.FilesDecided.{counts_decide, deletes_decide, files_are, files_decide, full_decides, references_decide, table_decides, unless_decides}
+use Rattle.deposit_verify.proofs.CountsDecided.{chain_decides}
+use Rattle.deposit_verify.proofs.HeaderDecided.{contains_decides, menu_decides, name_decides, passed_decides, same_kind_decides, weekday_decides}
 use Rattle.deposit_verify.proofs.Lifted.{OneReading, least}
 use Rattle.deposit_verify.proofs.Uniques.{OneText}
 use Rattle.deposit_verify.proofs.Verdicts.{below_all, below_more, below_none}
@@ -61,7 +63,8 @@ module _ (reader : IsTableReader) (one : OneText) (v : Env) (rest : List ℕ) (k
   check_decides check.Files below = files_decide v rest
   check_decides check.Table below = behind_files check.Table (below check.Files (omega arith)) (table_decides reader v rest)
   check_decides check.Counts below = behind_files check.Counts (below check.Files (omega arith)) (λ files are.
-      full_decides reader one v rest files (below check.Menu (omega arith)) are (below check.Table (omega arith)) (AreCounts v.count) (are_counts v.count) (counts_decide v))
+      Decides-and _ _ (full_decides reader one v rest files (below check.Menu (omega arith)) are (below check.Table (omega arith)) (AreCounts v.count) (are_counts v.count) (counts_decide v))
+      (unless_decides _ _ (same_kind_decides v.kind Full) (chain_decides reader v rest files (below check.Menu (omega arith)) are k (below check.Table (omega arith)))))
   check_decides check.References below = behind_files check.References (below check.Files (omega arith)) (λ files are.
       full_decides reader one v rest files (below check.Menu (omega arith)) are (below check.Table (omega arith)) AreReferencesKept are_references_kept references_decide)
   check_decides check.Deletes below = behind_files check.Deletes (below check.Files (omega arith)) (deletes_decide reader v rest)

@@ -10,3 +10,10 @@ pub mod CutLemmas
 pub mod FilesDecided
 pub mod HeaderDecided
 pub mod LeastVerdict
+pub mod KeyCounts
+pub mod NamedRows
+pub mod Readings
+pub mod CountsDecided
+pub mod ChainLemmas
+pub mod BaseLemmas
+pub mod NumberLemmas

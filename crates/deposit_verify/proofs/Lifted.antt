@@ -1,5 +1,5 @@
 -- What an envelope and the bytes behind it say is what the deposit says.
-use Rattle.std.proofs.Common.{◌≡◌, IfOk, List, ℕ, Result, Ok, Err, subst}
+use Rattle.std.proofs.Common.{◌≡◌, IfOk, OnOk, List, ℕ, Result, Ok, Err, subst}
 use Rattle.desk.specs.declared.checks.Check.{Check}
 use Rattle.desk.specs.declared.checks.Check.TheVariants as check
 use Rattle.envelope.specs.Frame.{IsFrame}
@@ -59,6 +59,10 @@ least_failing one joined k v rest d c least =
 pub least : OneReading → (joined : List ℕ) (k : Known) (v : Env) (rest : List ℕ) → IsDeposit joined v rest → (verdict : Verdict) → IsLeast (Says v rest k) verdict → IsLeast (Holds joined k) verdict
 least one joined k v rest d Pass all = λ c. says_holds joined k v rest d c (all c)
 least one joined k v rest d (Fail c) failing = least_failing one joined k v rest d c failing
+
+pub on_ok : {A E : Type 0} (r : Result A E) {P Q : Type 0} → OnOk r P → (P → Q) → OnOk r Q
+on_ok (Ok a) h f = f h
+on_ok (Err e) h f = tt
 
 pub if_ok : {A E : Type 0} (r : Result A E) (P Q : A → Type 0) → IfOk r P → ((a : A) → P a → Q a) → IfOk r Q
 if_ok (Ok a) P Q h f = f a h

@@ -5,24 +5,23 @@ use Rattle.std.proofs.Math.ListN.{get_or-append}
 use Rattle.std.proofs.Math.Seq.{get_or-append_seam}
 use Rattle.deposit_name.specs.declared.table.TableName.{TableName}
 use Rattle.envelope.specs.declared.envelope.FileEntry.{FileEntry}
-use Rattle.deposit_verify.specs.Checks.{all_tables, table_place}
-use Rattle.deposit_verify.specs.Deposit.{IsTableOf}
+use Rattle.deposit_verify.specs.Places.{all_tables, table_place}
 use Rattle.deposit_verify.specs.Index.{texts_of}
 use Rattle.deposit_verify.proofs.Lists.{below_next, file_at}
 
--- the tables of the files below a place
-abbrev pub AreReadBelow : List FileEntry → List (List ℕ) → List (List (List (List ℕ))) → ℕ → Type 0
-AreReadBelow entries files tables i = (k : ℕ) (e : FileEntry) → k < i → IsTableOf (get_or entries k e).name (get_or files k []) (get_or tables k [])
+-- what the files below a place are read as
+abbrev pub AreReadBelow : {X : Type 0} → (FileEntry → List ℕ → X → Type 0) → X → List FileEntry → List (List ℕ) → List X → ℕ → Type 0
+AreReadBelow R none entries files tables i = (k : ℕ) (e : FileEntry) → k < i → R (get_or entries k e) (get_or files k []) (get_or tables k none)
 
-pub read_more : (entries : List FileEntry) (files : List (Bor (List ℕ))) (tables : List (List (List (List ℕ)))) (rows : List (List (List ℕ))) (i : ℕ) (d : FileEntry) (b : Bor (List ℕ))
-    → length tables ≡ i → i < length entries → i < length files → AreReadBelow entries (texts_of files) tables i → IsTableOf (get_or entries i d).name (get_or files i b).now rows
-    → AreReadBelow entries (texts_of files) (tables ++ rows ∷ []) (i + 1)
-read_more entries files tables rows i d b count inside within before here = λ k e below.
-    let R : ℕ → FileEntry → List (List (List ℕ)) → Type 0 = λ k e rows. IsTableOf (get_or entries k e).name (get_or (texts_of files) k []) rows in
-    let last : get_or (tables ++ rows ∷ []) i [] ≡ rows = ap (λ (n : ℕ). get_or (tables ++ rows ∷ []) n []) (sym count) ∙ get_or-append_seam tables rows [] [] in
-    below_next (λ (k : ℕ). (e : FileEntry) → R k e (get_or (tables ++ rows ∷ []) k [])) i
-    (λ k below e. subst (R k e) (sym (get_or-append tables (rows ∷ []) [] k (omega (arith, below, count)))) (before k e below))
-    (λ e. subst (R i e) (sym last) (file_at (λ entry file. IsTableOf entry.name file rows) entries files i d b inside within here e))
+pub read_more : {X : Type 0} (R : FileEntry → List ℕ → X → Type 0) (none : X) (entries : List FileEntry) (files : List (Bor (List ℕ))) (tables : List X) (rows : X) (i : ℕ) (d : FileEntry) (b : Bor (List ℕ))
+    → length tables ≡ i → i < length entries → i < length files → AreReadBelow R none entries (texts_of files) tables i → R (get_or entries i d) (get_or files i b).now rows
+    → AreReadBelow R none entries (texts_of files) (tables ++ rows ∷ []) (i + 1)
+read_more {X} R none entries files tables rows i d b count inside within before here = λ k e below.
+    let At : ℕ → FileEntry → X → Type 0 = λ k e rows. R (get_or entries k e) (get_or (texts_of files) k []) rows in
+    let last : get_or (tables ++ rows ∷ []) i none ≡ rows = ap (λ (n : ℕ). get_or (tables ++ rows ∷ []) n none) (sym count) ∙ get_or-append_seam tables rows [] none in
+    below_next (λ (k : ℕ). (e : FileEntry) → At k e (get_or (tables ++ rows ∷ []) k none)) i
+    (λ k below e. subst (At k e) (sym (get_or-append tables (rows ∷ []) none k (omega (arith, below, count)))) (before k e below))
+    (λ e. subst (At i e) (sym last) (file_at (λ entry file. R entry file rows) entries files i d b inside within here e))
     k below e
 
 -- the tables stand at their places

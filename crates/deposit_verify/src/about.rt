@@ -1,4 +1,5 @@
 //! What is known of a deposit.
+use crate::base::Base;
 use deposit_name::{DepositId, DepositName};
 
 /// What is known of a deposit before it is read.
@@ -14,4 +15,6 @@ pub struct About {
     pub full: Option<DepositId>,
     /// The ids of the deposits of the registry that passed.
     pub passed: Vec<DepositId>,
+    /// The keys after the deposits of its chain that are before it, where they are known.
+    pub base: Option<Base>,
 }

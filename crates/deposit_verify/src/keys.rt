@@ -1,14 +1,14 @@
-//! The keys of a table, in order.
+//! The keys of tables, and their order.
 ghost use Rattle.std.specs.Prelude.{◌≡◌, ◌<◌, ◌↔◌, [], All, Contains, IfOk, IsTrue, get_or, length};
 ghost use Rattle.std.specs.List.Sorted.{IsSorted};
 ghost use Rattle.deposit_verify.specs.References.{column};
-ghost use Rattle.deposit_verify.specs.Index.{AreSortedKeys, text_cmp, texts_of};
+ghost use Rattle.deposit_verify.specs.Index.{AreSortedKeys, AreSortedTexts, text_cmp, texts_of};
 
-use dnrd_csv::Rows;
+use dnrd_csv::{Keys, Rows};
 use std::alloc::{AllocError, Global};
 
-// The first fields of rows, in their order.
-fn first_fields<'t>(alloc: Global, rows: &'t Rows) -> Result<Vec<&'t [u8]>, AllocError>
+/// The first fields of rows, in their order.
+pub fn first_fields<'t>(alloc: Global, rows: &'t Rows) -> Result<Vec<&'t [u8]>, AllocError>
     requires { All (λ row. 0 < length row) rows.now }
     ensures { IfOk result (λ keys. texts_of keys.items ≡ column 0 rows.now) }
 {
@@ -16,6 +16,32 @@ fn first_fields<'t>(alloc: Global, rows: &'t Rows) -> Result<Vec<&'t [u8]>, Allo
     for i in 0..rows.len() {
         keys.push(rows.field(i, 0))?;
     }
+    Ok(keys)
+}
+
+/// The texts of a file of keys, in its order.
+pub fn key_texts<'t>(alloc: Global, keys: &'t Keys) -> Result<Vec<&'t [u8]>, AllocError>
+    ensures { IfOk result (λ texts. texts_of texts.items ≡ keys.now) }
+{
+    let mut texts = Vec::with_capacity(alloc, keys.len())?;
+    for i in 0..keys.len() {
+        texts.push(keys.key(i))?;
+    }
+    Ok(texts)
+}
+
+/// Two lists of keys in one, in ascending order.
+pub fn sorted_texts<'t>(
+    alloc: Global,
+    one: &[&'t [u8]],
+    other: &[&'t [u8]],
+) -> Result<Vec<&'t [u8]>, AllocError>
+    ensures { IfOk result (λ keys. AreSortedTexts keys.items (texts_of one.now) (texts_of other.now)) }
+{
+    let mut keys = Vec::with_capacity(alloc, one.len())?;
+    keys.extend_from_slice(one)?;
+    keys.extend_from_slice(other)?;
+    keys.sort_unstable();
     Ok(keys)
 }
 

@@ -2,6 +2,9 @@
 ghost use Rattle.std.specs.Prelude.{◌≡◌, ℕ, List};
 ghost use Rattle.deposit_verify.specs.Checks.{IsVerdict};
 ghost use Rattle.deposit_verify.specs.Known.{Known};
+ghost use Rattle.deposit_verify.specs.Bases.{AreBases};
+ghost use Rattle.deposit_verify.specs.Chain.{AreChainKeys};
+ghost use Rattle.deposit_verify.specs.Numbers.{AreChainNumbers};
 ghost use Rattle.deposit_verify.specs.Verdict.{IsLawful};
 ghost use Rattle.deposit_verify.specs.declared.verdict.Verdict.{Verdict};
 
@@ -21,5 +24,29 @@ pub fn law_verdict()
     law_one_reading();
     law_readers();
     law_one_text();
+    law_table_reader();
+}
+
+/// The keys of a chain of deposits: those of a chain of one, and how each deposit changes them.
+pub fn law_chains()
+    ensures { AreChainKeys }
+{}
+
+/// The keys of a chain as a function of its deposits' bytes: there are keys just where the deposits are a chain, and
+/// they are its keys.
+pub fn law_bases()
+    ensures { AreBases }
+{
+    law_one_reading();
+    law_readers();
+    law_table_reader();
+}
+
+/// How many keys a chain has: as many as the rows of a full deposit, and as before after one that names none. And what
+/// the check of counts says of a deposit behind a chain: they are the numbers of the keys of the chain that ends with it.
+pub fn law_chain_numbers()
+    ensures { AreChainNumbers }
+{
+    law_one_reading();
     law_table_reader();
 }

@@ -2,11 +2,15 @@
 #![tactic(auto)]
 
 mod about;
+mod base;
 mod files;
+mod files_read;
 mod header;
+mod key_set;
 mod keys;
 mod laws;
 mod menu;
+mod naming;
 mod places;
 mod references;
 mod tables;
@@ -14,6 +18,7 @@ mod verdict;
 mod verification;
 
 pub use about::About;
-pub use laws::{law_one_verdict, law_verdict};
+pub use base::Base;
+pub use laws::{law_bases, law_chain_numbers, law_chains, law_one_verdict, law_verdict};
 pub use verdict::{NoMemory, Verdict};
 pub use verification::verify;

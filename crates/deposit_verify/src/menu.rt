@@ -2,7 +2,8 @@
 ghost use Rattle.std.specs.Prelude.{◌≡◌, ◌<◌, ◌↔◌, [], IsTrue, get_or, map, length};
 ghost use Rattle.envelope.specs.Envelope.{view};
 ghost use Rattle.deposit_verify.specs.Deposit.{deletes_of};
-ghost use Rattle.deposit_verify.specs.Checks.{HasContents, HasMenu, StandInOrder, all_tables, counted_uris, object_uris};
+ghost use Rattle.deposit_verify.specs.Checks.{HasContents, HasMenu, StandInOrder, counted_uris, object_uris};
+ghost use Rattle.deposit_verify.specs.Places.{all_tables};
 
 use crate::places::table_place;
 use deposit_name::Kind;

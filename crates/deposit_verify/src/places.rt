@@ -1,6 +1,6 @@
 //! The places of tables in a deposit.
 ghost use Rattle.std.specs.Prelude.{◌≡◌, ◌<◌, length};
-ghost use Rattle.deposit_verify.specs.Checks.{table_place};
+ghost use Rattle.deposit_verify.specs.Places.{table_place};
 ghost use Rattle.deposit_verify.specs.Tables.{table_of};
 
 use deposit_name::TableName;

@@ -1,14 +1,15 @@
 //! Reading the files of a deposit as tables.
-ghost use Rattle.std.specs.Prelude.{◌≡◌, true, ℕ, List, All, IfOk, IsTrue, MatchOption, length, ◌↔◌};
+ghost use Rattle.std.specs.Prelude.{◌≡◌, true, ℕ, List, All, IfOk, IsTrue, MatchOption, length};
 ghost use Rattle.std.specs.List.{AllZip};
 ghost use Rattle.deposit_name.specs.Tables.{has_deletes};
-ghost use Rattle.deposit_verify.specs.Deposit.{IsKeyFile, IsTableOf};
+ghost use Rattle.dnrd_csv.specs.Text.{key_rows};
+ghost use Rattle.deposit_verify.specs.Deposit.{AreKeysOf, IsKeyFile, IsTableOf};
 ghost use Rattle.deposit_verify.specs.Index.{texts_of};
-ghost use Rattle.deposit_verify.specs.Tables.{AreReadAs, HasNoTable};
+ghost use Rattle.deposit_verify.specs.Tables.{AreKeysReadAs, AreReadAs, HasNoTable};
 
 use crate::verdict::NoMemory;
 use deposit_name::TableName;
-use dnrd_csv::{Rows, TableError, read_keys, read_table};
+use dnrd_csv::{Keys, Rows, TableError, read_keys, read_table};
 use envelope::FileEntry;
 use std::alloc::Global;
 
@@ -44,32 +45,36 @@ pub fn read_tables(
     Ok(Some(tables))
 }
 
-// Whether a file is one of deleted keys.
-fn is_key_file(alloc: Global, entry: &FileEntry, file: &[u8]) -> Result<bool, NoMemory>
-    requires { has_deletes entry.now.name ≡ true }
-    ensures { IfOk result (λ is. IsTrue is ↔ IsKeyFile entry.now file.now) }
+// The keys of a file of deleted keys.
+fn keys_of(alloc: Global, name: TableName, file: &[u8]) -> Result<Option<Keys>, NoMemory>
+    requires { has_deletes name ≡ true }
+    ensures { IfOk result (λ read. MatchOption read
+        ((rows : List (List (List ℕ))) → ¬ AreKeysOf name file.now rows) (λ keys. AreKeysOf name file.now (key_rows keys))) }
 {
-    match read_keys(alloc, entry.name, file) {
-        Ok(_) => Ok(true),
+    match read_keys(alloc, name, file) {
+        Ok(keys) => Ok(Some(keys)),
         Err(TableError::OutOfMemory) => Err(NoMemory),
-        Err(_) => Ok(false),
+        Err(_) => Ok(None),
     }
 }
 
-/// Whether files are those of deleted keys, each of the table that its entry names.
-pub fn are_key_files(
+/// The keys of files of deleted keys, each of the table that its entry names, where each file is one.
+pub fn read_key_files(
     alloc: Global,
     entries: &[FileEntry],
     files: &[&[u8]],
-) -> Result<bool, NoMemory>
+) -> Result<Option<Vec<Keys>>, NoMemory>
     requires count { length files.now ≡ length entries.now }
     requires named { All (λ entry. IsTrue (has_deletes entry.name)) entries.now }
-    ensures { IfOk result (λ are. IsTrue are ↔ AllZip IsKeyFile entries.now (texts_of files.now)) }
+    ensures { IfOk result (λ read. MatchOption read (¬ AllZip IsKeyFile entries.now (texts_of files.now))
+        (λ keys. AreKeysReadAs entries.now (texts_of files.now) keys.items)) }
 {
+    let mut all = Vec::with_capacity(alloc, entries.len())?;
     for i in 0..entries.len() {
-        if !is_key_file(alloc, &entries[i], files[i])? {
-            return Ok(false);
-        }
+        let Some(keys) = keys_of(alloc, entries[i].name, files[i])? else {
+            return Ok(None);
+        };
+        all.push(keys)?;
     }
-    Ok(true)
+    Ok(Some(all))
 }

@@ -1,24 +1,25 @@
 //! The verdict on a deposit.
-ghost use Rattle.std.specs.Prelude.{◌≡◌, ℕ, List, IfOk, IsTrue, MatchOption, map, length, ◌↔◌};
+ghost use Rattle.std.specs.Prelude.{◌≡◌, ◌||◌, ℕ, List, Some, IfOk, IsTrue, MatchOption, map, length, ◌↔◌};
 ghost use Rattle.envelope.specs.Envelope.{IsEnvelope, view};
 ghost use Rattle.deposit_name.specs.declared.kinds.Kind.TheVariants.{Full};
 ghost use Rattle.deposit_verify.specs.Checks.{AreCounts, Below, HasMenu, IsLeast, IsVerdict, Says};
 ghost use Rattle.deposit_verify.specs.Known.{Known, known};
-ghost use Rattle.deposit_verify.specs.Tables.{AreAllTables, FullSays, TablesSay, table_of};
-ghost use Rattle.deposit_verify.specs.Verdict.{verdict};
+ghost use Rattle.deposit_verify.specs.Tables.{AreAllTables, AreCountable, FullSays, TablesSay, table_of};
+ghost use Rattle.deposit_verify.specs.Verdict.{chain_counts, is_full, verdict};
+ghost use Rattle.dnrd_csv.specs.Text.{key_rows};
 
 use crate::about::About;
-use crate::files::{all_entries, cut_files};
+use crate::base::Base;
+use crate::files_read::{FilesRead, read_files};
 use crate::header::header_fault;
 use crate::laws::law_verdict;
 use crate::references::are_references_kept;
-use crate::tables::{are_key_files, read_tables};
 use crate::verdict::{NoMemory, Verdict};
 use deposit_name::Kind;
 use desk::Check;
-use dnrd_csv::{Rows, law_one_text};
+use dnrd_csv::{Rows, law_one_text, law_table_reader};
 use envelope::{Count, EnvError, Envelope, law_one_reading, read_envelope, split_frame};
-use std::alloc::Global;
+use std::alloc::{AllocError, Global};
 
 // Whether counts are the numbers of rows of their tables.
 fn are_counts(counts: &[Count], tables: &[Rows]) -> bool
@@ -64,29 +65,46 @@ fn full_fault(alloc: Global, counts: &[Count], tables: &[Rows]) -> Result<Option
     Ok(None)
 }
 
+// Whether the counts of a deposit that is not full are the numbers of the keys after it, where those before it are known.
+fn has_chain_counts(
+    alloc: Global,
+    envelope: &Envelope,
+    files: &FilesRead,
+    base: &Option<Base>,
+) -> Result<bool, AllocError>
+    requires { AreCountable (view envelope.now) files.now.tables.items files.now.deleted.items }
+    ensures { IfOk result (λ has. has ≡ (is_full envelope.now.kind
+        || chain_counts (view envelope.now) base.now files.now.tables.items (Some (map key_rows files.now.deleted.items)))) }
+{
+    match (envelope.kind, base) {
+        (Kind::Full, _) | (_, None) => Ok(true),
+        (_, Some(base)) => base.has_counts(alloc, envelope, files),
+    }
+}
+
 // The verdict on a deposit that passes the checks up to that of the menu, from the bytes behind its envelope.
-fn judge_files(alloc: Global, envelope: &Envelope, rest: &[u8]) -> Result<Verdict, NoMemory>
+fn judge_files(
+    alloc: Global,
+    envelope: &Envelope,
+    rest: &[u8],
+    base: &Option<Base>,
+) -> Result<Verdict, NoMemory>
     requires form { IsEnvelope (view envelope.now) }
     requires menu { HasMenu (view envelope.now) }
-    ensures { IfOk result (λ verdict. (k : Known) → Below (Says (view envelope.now) rest.now k) 9
+    ensures { IfOk result (λ verdict. (k : Known) → k.base ≡ base.now → Below (Says (view envelope.now) rest.now k) 9
         → IsLeast (Says (view envelope.now) rest.now k) verdict) }
 {
     law_one_text();
-    let entries = all_entries(alloc, envelope)?;
-    let Some(files) = cut_files(alloc, &entries, rest)? else {
-        return Ok(Verdict::Fail(Check::Files));
+    law_table_reader();
+    let files = match read_files(alloc, envelope, rest)? {
+        Ok(files) => files,
+        Err(check) => return Ok(Verdict::Fail(check)),
     };
-    let named = envelope.contents.as_slice();
-    let (contents, deletes) = files.split_at(named.len());
-    let Some(tables) = read_tables(alloc, named, contents)? else {
-        return Ok(Verdict::Fail(Check::Table));
-    };
-    if let Some(fault) = tables_fault(alloc, envelope, &tables)? {
+    if let Some(fault) = tables_fault(alloc, envelope, &files.tables)? {
         return Ok(Verdict::Fail(fault));
     }
-    let (_, deleted) = entries.split_at(named.len());
-    if !are_key_files(alloc, deleted, deletes)? {
-        return Ok(Verdict::Fail(Check::Deletes));
+    if !has_chain_counts(alloc, envelope, &files, base)? {
+        return Ok(Verdict::Fail(Check::Counts));
     }
     Ok(Verdict::Pass)
 }
@@ -115,5 +133,5 @@ pub fn verify(alloc: Global, joined: &[u8], about: &About) -> Result<Verdict, No
     if let Some(fault) = header_fault(&envelope, about) {
         return Ok(Verdict::Fail(fault));
     }
-    judge_files(alloc, &envelope, frame.rest)
+    judge_files(alloc, &envelope, frame.rest, &about.base)
 }

@@ -1,5 +1,5 @@
 use Rattle.std.proofs.Common.{◌≡◌, map, take}
-use Rattle.deposit_verify.specs.Checks.{all_tables}
+use Rattle.deposit_verify.specs.Places.{all_tables}
 use Rattle.deposit_verify.proofs.menu.are_all_tables.Given as goal
 
 abbrev pub invariant-loop-i : goal.invariant-loop-i

@@ -1,5 +1,5 @@
 use Rattle.std.proofs.Common.{ℕ, ◌<◌, ◌+◌, get_or, map}
-use Rattle.deposit_verify.specs.Checks.{table_place}
+use Rattle.deposit_verify.specs.Places.{table_place}
 use Rattle.deposit_verify.proofs.menu.stand_in_order.Given as goal
 
 abbrev pub invariant-loop-i : goal.invariant-loop-i

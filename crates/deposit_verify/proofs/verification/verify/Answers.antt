@@ -1,6 +1,6 @@
 use Rattle.desk.specs.declared.checks.Check.TheVariants as check
 use Rattle.envelope.specs.Envelope.{env_text, view}
-use Rattle.std.proofs.Common.{◌≡◌, Some, None, arith}
+use Rattle.std.proofs.Common.{◌≡◌, Some, None, arith, refl}
 use Rattle.deposit_verify.specs.Checks.{Holds, IsVerdict}
 use Rattle.deposit_verify.specs.Known.{known}
 use Rattle.deposit_verify.specs.declared.verdict.Verdict.TheVariants.{Fail}
@@ -59,7 +59,7 @@ returns-clause-least c =
     let rest = c.in-Ok.frame.rest.now in
     let k = known c.args.about.now in
     let deposit = deposit_of c.args.joined.now _ rest v c.in-Ok.ensures.frame found.0 found.1 in
-    if_ok c.judge_files.result _ _ c.judge_files.ensures (λ verdict says. least one c.args.joined.now k v rest deposit verdict (says k (c.in_default-header_fault.ensures rest)))
+    if_ok c.judge_files.result _ _ c.judge_files.ensures (λ verdict says. least one c.args.joined.now k v rest deposit verdict (says k refl (c.in_default-header_fault.ensures rest)))
 
 pub returns-clause-computed : goal.returns-clause-computed
 returns-clause-computed c =
@@ -70,4 +70,4 @@ returns-clause-computed c =
     let k = known c.args.about.now in
     let deposit = deposit_of c.args.joined.now _ rest v c.in-Ok.ensures.frame found.0 found.1 in
     if_ok c.judge_files.result _ _ c.judge_files.ensures (λ verdict says.
-    c.law_verdict.ensures.only c.args.joined.now k verdict (least one c.args.joined.now k v rest deposit verdict (says k (c.in_default-header_fault.ensures rest))))
+    c.law_verdict.ensures.only c.args.joined.now k verdict (least one c.args.joined.now k v rest deposit verdict (says k refl (c.in_default-header_fault.ensures rest))))

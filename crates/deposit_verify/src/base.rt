@@ -1,0 +1,240 @@
+//! The keys of a chain of deposits.
+ghost use Rattle.std.specs.Prelude.{◌≡◌, ◌↔◌, ◌++◌, ◌∷◌, [], true, ℕ, List, Some, None, IfOk, IfSome, IsTrue, MatchOption, OnOk, if◌then◌else◌, map, option_map};
+ghost use Rattle.std.specs.Set.{distinct_count};
+ghost use Rattle.std.specs.Str.{bytes_eq};
+ghost use Rattle.deposit_name.specs.Tables.{has_deletes};
+ghost use Rattle.dnrd_csv.specs.Text.{key_rows};
+ghost use Rattle.envelope.specs.Envelope.{view};
+ghost use Rattle.deposit_verify.specs.Bases.{base_after, base_at, base_then, no_keys, reading_at, reading_of};
+ghost use Rattle.deposit_verify.specs.Chain.{IsBase, IsFirst, IsLater};
+ghost use Rattle.deposit_verify.specs.Tables.{AreCountable};
+ghost use Rattle.deposit_verify.specs.Verdict.{are_key_counts, is_full, keys_after_files};
+
+use crate::files_read::{FilesRead, deletes_of, read_files};
+use crate::key_set::KeySet;
+use crate::keys::sorted_texts;
+use crate::menu::has_menu;
+use crate::naming::{contained_keys, deleted_keys};
+use crate::verdict::NoMemory;
+use deposit_name::{Kind, TableName};
+use dnrd_csv::law_table_reader;
+use envelope::{EnvError, Envelope, law_one_reading, law_readers, read_envelope, split_frame};
+use std::alloc::{AllocError, Global};
+
+/// The keys that there are after the deposits of a chain, a full one and later ones that are not full: those of
+/// contacts, domains, hosts and registrars.
+#[derive(Debug, Drop)]
+pub struct Base {
+    contacts: KeySet,
+    domains: KeySet,
+    hosts: KeySet,
+    registrars: KeySet,
+}
+
+// A deposit that is read whole.
+#[derive(Drop)]
+struct Whole {
+    envelope: Envelope,
+    files: FilesRead,
+}
+
+fn is_full(envelope: &Envelope) -> bool
+    ensures { result ≡ is_full envelope.now.kind }
+{
+    match envelope.kind {
+        Kind::Full => true,
+        Kind::Diff | Kind::Incr => false,
+    }
+}
+
+// Reads a deposit, where it is read.
+fn read_whole(alloc: Global, joined: &[u8]) -> Result<Option<Whole>, NoMemory>
+    ensures value { IfOk result (λ read. option_map
+        (λ whole. reading_of (view whole.envelope) whole.files.tables.items whole.files.deleted.items) read
+        ≡ reading_at joined.now) }
+    ensures countable { IfOk result (λ read. IfSome read
+        (λ whole. AreCountable (view whole.envelope) whole.files.tables.items whole.files.deleted.items)) }
+{
+    law_one_reading();
+    law_readers();
+    law_table_reader();
+    let Ok(frame) = split_frame(joined) else {
+        return Ok(None);
+    };
+    let envelope = match read_envelope(alloc, frame.envelope) {
+        Ok(envelope) => envelope,
+        Err(EnvError::Spelling) => return Ok(None),
+        Err(EnvError::Memory) => return Err(NoMemory),
+    };
+    if !has_menu(&envelope) {
+        return Ok(None);
+    }
+    match read_files(alloc, &envelope, frame.rest)? {
+        Ok(files) => Ok(Some(Whole { envelope, files })),
+        Err(_) => Ok(None),
+    }
+}
+
+// How many keys of a table there are after a deposit.
+fn count_after(
+    alloc: Global,
+    keys: &KeySet,
+    envelope: &Envelope,
+    files: &FilesRead,
+    name: TableName,
+) -> Result<usize, AllocError>
+    requires files { AreCountable (view envelope.now) files.now.tables.items files.now.deleted.items }
+    requires name { has_deletes name ≡ true }
+    ensures { IfOk result (λ count. count ≡ distinct_count bytes_eq
+        (keys_after_files (view envelope.now) keys.now files.now.tables.items
+        (map key_rows files.now.deleted.items) name)) }
+{
+    let contained = contained_keys(alloc, &envelope.contents, &files.tables, name)?;
+    let deleted = deleted_keys(alloc, deletes_of(envelope), &files.deleted, name)?;
+    let named = sorted_texts(alloc, &contained, &deleted)?;
+    Ok(keys.count_after(&contained, &named))
+}
+
+// Brings the keys of a table to those after a deposit.
+fn change(
+    alloc: Global,
+    keys: &mut KeySet,
+    envelope: &Envelope,
+    files: &FilesRead,
+    name: TableName,
+) -> Result<(), AllocError>
+    requires files { AreCountable (view envelope.now) files.now.tables.items files.now.deleted.items }
+    requires name { has_deletes name ≡ true }
+    ensures { OnOk result (keys.new
+        ≡ keys_after_files (view envelope.now) keys.old files.now.tables.items
+        (map key_rows files.now.deleted.items) name) }
+{
+    let contained = contained_keys(alloc, &envelope.contents, &files.tables, name)?;
+    let deleted = deleted_keys(alloc, deletes_of(envelope), &files.deleted, name)?;
+    let named = sorted_texts(alloc, &contained, &deleted)?;
+    keys.change(alloc, &contained, &named)
+}
+
+impl Base {
+    /// The keys after a full deposit, from its parts, joined in order: `None` where it is not read, or not full.
+    ///
+    /// # Errors
+    ///
+    /// Want of memory, and nothing else.
+    pub fn of_full(alloc: Global, joined: &[u8]) -> Result<Option<Base>, NoMemory>
+        ensures base { IfOk result (λ base. MatchOption base (¬ IsFirst joined.now) (IsBase (joined.now ∷ []))) }
+        // It is the one that is a function of the same.
+        ensures computed { IfOk result (λ base. base ≡ base_at (joined.now ∷ [])) }
+    {
+        law_one_reading();
+        law_readers();
+        law_table_reader();
+        let Some(whole) = read_whole(alloc, joined)? else {
+            return Ok(None);
+        };
+        if !is_full(&whole.envelope) {
+            return Ok(None);
+        }
+        let mut base = Base::empty(alloc);
+        base.follow(alloc, &whole.envelope, &whole.files)?;
+        Ok(Some(base))
+    }
+
+    /// Brings the keys to those after a later deposit of the chain, and says whether it is read and not full. Where it is
+    /// not, or where memory is refused, the keys are of no use any more.
+    ///
+    /// # Errors
+    ///
+    /// Want of memory, and nothing else.
+    pub fn then(&mut self, alloc: Global, joined: &[u8]) -> Result<bool, NoMemory>
+        ensures read { IfOk result (λ is. IsTrue is ↔ IsLater joined.now) }
+        ensures base { IfOk result (λ is. IsTrue is → (chain : List (List ℕ)) → IsBase chain self.old
+            → IsBase (chain ++ joined.now ∷ []) self.new) }
+        // They are those that are a function of the same.
+        ensures computed { IfOk result (λ is. (if is then Some self.new else None)
+            ≡ base_then self.old joined.now) }
+    {
+        law_one_reading();
+        law_readers();
+        law_table_reader();
+        let Some(whole) = read_whole(alloc, joined)? else {
+            return Ok(false);
+        };
+        if is_full(&whole.envelope) {
+            return Ok(false);
+        }
+        self.follow(alloc, &whole.envelope, &whole.files)?;
+        Ok(true)
+    }
+
+    fn empty(alloc: Global) -> Base
+        ensures { result ≡ no_keys }
+    {
+        Base {
+            contacts: KeySet::new(alloc),
+            domains: KeySet::new(alloc),
+            hosts: KeySet::new(alloc),
+            registrars: KeySet::new(alloc),
+        }
+    }
+
+    fn follow(
+        &mut self,
+        alloc: Global,
+        envelope: &Envelope,
+        files: &FilesRead,
+    ) -> Result<(), AllocError>
+        requires { AreCountable (view envelope.now) files.now.tables.items files.now.deleted.items }
+        ensures { OnOk result (self.new ≡ base_after self.old
+            (reading_of (view envelope.now) files.now.tables.items files.now.deleted.items)) }
+    {
+        change(
+            alloc,
+            &mut self.contacts,
+            envelope,
+            files,
+            TableName::Contact,
+        )?;
+        change(alloc, &mut self.domains, envelope, files, TableName::Domain)?;
+        change(alloc, &mut self.hosts, envelope, files, TableName::Host)?;
+        change(
+            alloc,
+            &mut self.registrars,
+            envelope,
+            files,
+            TableName::Registrar,
+        )
+    }
+
+    /// Whether the counts of a deposit are the numbers of the keys after it.
+    pub(crate) fn has_counts(
+        &self,
+        alloc: Global,
+        envelope: &Envelope,
+        files: &FilesRead,
+    ) -> Result<bool, AllocError>
+        requires { AreCountable (view envelope.now) files.now.tables.items files.now.deleted.items }
+        ensures { IfOk result (λ has. has ≡ are_key_counts (view envelope.now) self.now
+            files.now.tables.items (map key_rows files.now.deleted.items)) }
+    {
+        let [contact, domain, host, registrar] = envelope.header.count.as_slice() else {
+            return Ok(false);
+        };
+        let contacts = count_after(alloc, &self.contacts, envelope, files, TableName::Contact)?;
+        let domains = count_after(alloc, &self.domains, envelope, files, TableName::Domain)?;
+        let hosts = count_after(alloc, &self.hosts, envelope, files, TableName::Host)?;
+        let registrars = count_after(
+            alloc,
+            &self.registrars,
+            envelope,
+            files,
+            TableName::Registrar,
+        )?;
+        Ok(
+            contact.count as usize == contacts
+                && domain.count as usize == domains
+                && host.count as usize == hosts
+                && registrar.count as usize == registrars,
+        )
+    }
+}
