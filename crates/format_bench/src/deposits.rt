@@ -25,6 +25,7 @@ fn about(alloc: Global, name: &str, id: &str, latest: &str) -> Option<About> {
         latest: DepositId::parse(latest.as_bytes()),
         full: None,
         passed: Vec::new(alloc),
+        base: None,
     })
 }
 

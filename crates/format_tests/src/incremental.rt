@@ -64,6 +64,7 @@ fn about(alloc: Global, latest: &[u8], full: &[u8]) -> Option<About> {
         latest: DepositId::parse(latest),
         full: DepositId::parse(full),
         passed: Vec::new(alloc),
+        base: None,
     })
 }
 

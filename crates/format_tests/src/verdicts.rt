@@ -453,6 +453,7 @@ fn about(alloc: Global, (name, id, latest): Known) -> Option<About> {
         latest,
         full: None,
         passed,
+        base: None,
     })
 }
 

@@ -1,0 +1,224 @@
+//! Chains of deposits: which keys there are after them, and counts of deposits that are not full.
+use deposit_name::{DepositId, DepositName};
+use deposit_verify::{About, Base, Verdict, law_bases, law_chains, verify};
+use desk::Check;
+use std::alloc::{AllocError, Global};
+use std::test::Fail;
+
+/// The SHA-256 of no bytes.
+const NO_BYTES: &str = "e3b0c44298fc1c149afbf4c8996fb92427ae41e4649b934ca495991b7852b855";
+
+/// A full deposit with no rows. `<none>` stands for the digest of no bytes, `<ns>` for what URIs begin with, `<count>` for
+/// the number of registrars.
+const FULL: &str = concat!(
+    r#"{"contents":[{"length":0,"name":"domain","sha256":"<none>"},"#,
+    r#"{"length":0,"name":"domainContacts","sha256":"<none>"},"#,
+    r#"{"length":0,"name":"domainStatuses","sha256":"<none>"},"#,
+    r#"{"length":0,"name":"domainNameServers","sha256":"<none>"},"#,
+    r#"{"length":0,"name":"host","sha256":"<none>"},"#,
+    r#"{"length":0,"name":"hostAddresses","sha256":"<none>"},"#,
+    r#"{"length":0,"name":"contact","sha256":"<none>"},"#,
+    r#"{"length":0,"name":"registrar","sha256":"<none>"}],"#,
+    r#""header":{"count":{"<ns>csvContact-1.0":0,"<ns>csvDomain-1.0":0,"<ns>csvHost-1.0":0,"#,
+    r#""<ns>csvRegistrar-1.0":<count>},"tld":"example"},"id":"20260802001","#,
+    r#""rdeMenu":{"objURI":["<ns>csvContact-1.0","<ns>csvDomain-1.0","<ns>csvHost-1.0","#,
+    r#""<ns>csvRegistrar-1.0","<ns>rdeHeader-1.0"],"version":"1.0"},"#,
+    r#""resend":0,"type":"FULL","watermark":"2026-08-02T00:00:00Z"}"#,
+);
+
+/// A deposit of the next day that is not full.
+const PARTIAL: &str = concat!(
+    r#"{"contents":[<contents>],"deletes":[<deletes>],"#,
+    r#""header":{"count":{"<ns>csvContact-1.0":0,"<ns>csvDomain-1.0":0,"<ns>csvHost-1.0":0,"#,
+    r#""<ns>csvRegistrar-1.0":<count>},"tld":"example"},"id":"20260803001","prevId":"20260802001","#,
+    r#""rdeMenu":{"objURI":["<ns>csvContact-1.0","<ns>csvDomain-1.0","<ns>csvHost-1.0","#,
+    r#""<ns>csvRegistrar-1.0","<ns>rdeHeader-1.0"],"version":"1.0"},"#,
+    r#""resend":0,"type":"DIFF","watermark":"2026-08-03T00:00:00Z"}"#,
+);
+
+/// The registrar R1, and its key among those that are deleted, once and twice.
+const R1: &str = "R1,Example,292,ok\n";
+
+const HAS_R1: &str =
+    r#"{"length":18,"name":"registrar","sha256":"2d1afaee9efc15858629efd0365cfc058895a4ae8065fc4eeb9e1c7ecc668476"}"#;
+
+const GONE: &str = "R1\n";
+
+const HAS_GONE: &str =
+    r#"{"length":3,"name":"registrar","sha256":"89132c7603ba0736a23f321a22dc0cdba2d4dae96bb16e043884d118254d6496"}"#;
+
+const TWICE: &str = "R1\nR1\n";
+
+const HAS_TWICE: &str =
+    r#"{"length":6,"name":"registrar","sha256":"75e2450189eb6fce49242b5168d2aea401a9031e83807b10e91e9c604163d7c9"}"#;
+
+/// A deposit, by the entries of its contents and of its deletes, and its files.
+#[derive(Clone, Copy)]
+struct Deposit {
+    contents: &'static str,
+    deletes: &'static str,
+    files: &'static [&'static str],
+}
+
+const BRINGS: Deposit = Deposit {
+    contents: HAS_R1,
+    deletes: "",
+    files: &[R1],
+};
+
+const DELETES: Deposit = Deposit {
+    contents: "",
+    deletes: HAS_GONE,
+    files: &[GONE],
+};
+
+const BOTH: Deposit = Deposit {
+    contents: HAS_R1,
+    deletes: HAS_GONE,
+    files: &[R1, GONE],
+};
+
+const NOTHING: Deposit = Deposit {
+    contents: "",
+    deletes: "",
+    files: &[],
+};
+
+const REFUSED: Deposit = Deposit {
+    contents: HAS_R1,
+    deletes: HAS_TWICE,
+    files: &[R1, TWICE],
+};
+
+/// Deposits after the full one, a deposit that follows them, the registrars that it counts, and whether that is right.
+type Case = (&'static [Deposit], Deposit, u32, bool);
+
+static CASES: [Case; 12] = [
+    (&[], NOTHING, 0, true),
+    (&[], NOTHING, 1, false),
+    (&[], BRINGS, 1, true),
+    (&[], BRINGS, 0, false),
+    (&[], DELETES, 0, true),
+    (&[BRINGS], DELETES, 0, true),
+    (&[BRINGS], DELETES, 1, false),
+    (&[BRINGS], BOTH, 1, true),
+    (&[BRINGS], NOTHING, 1, true),
+    (&[BRINGS], NOTHING, 0, false),
+    (&[BRINGS, DELETES], NOTHING, 0, true),
+    (&[BRINGS, DELETES, BOTH], BRINGS, 1, true),
+];
+
+fn filled(
+    alloc: Global,
+    envelope: &str,
+    deposit: Deposit,
+    count: u32,
+) -> Result<String, AllocError> {
+    let text = envelope.replacen(alloc, "<contents>", deposit.contents, 1)?;
+    let text = text.replacen(alloc, "<deletes>", deposit.deletes, 1)?;
+    let count = format!(in alloc; "{count}")?;
+    let text = text.replacen(alloc, "<count>", count.as_str(), 1)?;
+    let text = text.replace(alloc, "<none>", NO_BYTES)?;
+    text.replace(alloc, "<ns>", "urn:ietf:params:xml:ns:")
+}
+
+fn joined(
+    alloc: Global,
+    envelope: &str,
+    deposit: Deposit,
+    count: u32,
+) -> Result<String, AllocError> {
+    let envelope = filled(alloc, envelope, deposit, count)?;
+    let mut joined = format!(in alloc; "RDE1 {:08}\n{}", envelope.len(), envelope)?;
+    for file in deposit.files {
+        joined.push_str(file)?;
+    }
+    Ok(joined)
+}
+
+/// The keys after the full deposit.
+fn first(alloc: Global) -> Option<Base> {
+    let full = joined(alloc, FULL, NOTHING, 0).ok()?;
+    Base::of_full(alloc, full.as_bytes()).ok()?
+}
+
+/// The keys after the full deposit and these.
+fn base(alloc: Global, chain: &[Deposit]) -> Option<Base> {
+    let mut base = first(alloc)?;
+    for deposit in chain {
+        let joined = joined(alloc, PARTIAL, *deposit, 0).ok()?;
+        if base.then(alloc, joined.as_bytes()) != Ok(true) {
+            return None;
+        }
+    }
+    Some(base)
+}
+
+fn verdict(alloc: Global, deposit: Deposit, count: u32, base: Option<Base>) -> Option<Verdict> {
+    let full = DepositId::parse(b"20260802001");
+    let about = About {
+        name: DepositName::parse(b"example_2026-08-03_diff_S1_R0.ryde").ok()?,
+        id: DepositId::parse(b"20260803001")?,
+        latest: full,
+        full,
+        passed: Vec::new(alloc),
+        base,
+    };
+    let joined = joined(alloc, PARTIAL, deposit, count).ok()?;
+    verify(alloc, joined.as_bytes(), &about).ok()
+}
+
+fn is_told(alloc: Global, (chain, deposit, count, is_right): Case) -> Option<bool> {
+    let wanted = if is_right {
+        Verdict::Pass
+    } else {
+        Verdict::Fail(Check::Counts)
+    };
+    let base = base(alloc, chain)?;
+    Some(verdict(alloc, deposit, count, Some(base))? == wanted)
+}
+
+#[test]
+fn counts_the_keys_of_a_chain(rt: HostRuntime) {
+    law_chains();
+    law_bases();
+    for (i, &case) in CASES.iter().enumerate() {
+        assert_eq!(rt; is_told(rt.alloc(), case), Some(true), "case {i}");
+    }
+}
+
+#[test]
+fn counts_nothing_without_a_chain(rt: HostRuntime) {
+    let alloc = rt.alloc();
+    assert_eq!(rt; verdict(alloc, BRINGS, 7, None), Some(Verdict::Pass));
+    let refused = Some(Verdict::Fail(Check::Deletes));
+    assert_eq!(rt; verdict(alloc, REFUSED, 7, None), refused);
+    assert_eq!(rt; verdict(alloc, REFUSED, 7, first(alloc)), refused);
+}
+
+fn is_no_first(alloc: Global, joined: &[u8]) -> bool {
+    match Base::of_full(alloc, joined) {
+        Ok(base) => base.is_none(),
+        Err(_) => false,
+    }
+}
+
+fn is_no_later(alloc: Global, joined: &[u8]) -> bool {
+    match first(alloc) {
+        Some(mut base) => base.then(alloc, joined) == Ok(false),
+        None => false,
+    }
+}
+
+#[test]
+fn takes_no_other_deposits(rt: HostRuntime) -> Result<(), Fail> {
+    let alloc = rt.alloc();
+    let full = joined(alloc, FULL, NOTHING, 0)?;
+    let partial = joined(alloc, PARTIAL, BRINGS, 1)?;
+    let refused = joined(alloc, PARTIAL, REFUSED, 1)?;
+    assert!(rt; is_no_first(alloc, b"") && is_no_later(alloc, b""));
+    assert!(rt; is_no_first(alloc, partial.as_bytes()));
+    assert!(rt; is_no_later(alloc, full.as_bytes()));
+    assert!(rt; is_no_later(alloc, refused.as_bytes()));
+    Ok(())
+}
