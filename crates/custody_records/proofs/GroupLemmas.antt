@@ -1,5 +1,5 @@
 -- The rows of a group stand together in a table.
-use Rattle.std.proofs.Common.{◌≡◌, ◌⊎◌, inl, inr, ℕ, zero, suc, ◌<◌, ◌≤◌, Bool, true, false, cond, List, [], ◌∷◌, length, get_or, take, drop, refl, ap, ◌∙◌, arith}
+use Rattle.std.proofs.Common.{◌≡◌, ◌⊎◌, inl, inr, ℕ, zero, suc, ◌<◌, ◌≤◌, Bool, true, false, cond, List, [], ◌∷◌, length, get_or, take, drop, refl, sym, ap, ◌∙◌, arith}
 use Rattle.std.specs.List.{filter}
 use Rattle.std.specs.List.Sorted.{IsNonDecreasingBy, IsPartitionedBy}
 use Rattle.std.specs.Ordering.{is_lt, is_le, is_eq, ordering_index}
@@ -74,17 +74,28 @@ module _ {Row : Type 0} (f : Row → Ordering) where
       ap (λ b. cond b (row ∷ among rows) (among rows)) (eq_between (f row) (behind 0 row (omega arith)) (within 0 row (omega arith) (omega arith)))
       ∙ ap (λ (l : List Row). row ∷ l) (among_first rows count (λ i d lt. behind (suc i) d (omega arith)) (λ i d lt in_it. within (suc i) d (omega arith) (omega arith)) (λ i d le in_it. past (suc i) d (omega arith) (omega arith)))
 
--- a test of keys, on the entries and on the rows
-pub filter_entries : {Row K X : Type 0} (key : Row → K) (value : Row → X) (test : K → Bool) (rows : List Row)
-    → filter (λ (e : K × X). test e.0) (entries_of key value rows) ≡ entries_of key value (filter (λ row. test (key row)) rows)
+-- a test of entries, on them and on the rows
+pub filter_entries : {Row K X : Type 0} (key : Row → K) (value : Row → X) (test : K × X → Bool) (rows : List Row)
+    → filter test (entries_of key value rows) ≡ entries_of key value (filter (λ row. test (key row, value row)) rows)
 filter_entries key value test [] = refl
-filter_entries {Row} {K} {X} key value test (row ∷ rows) = by (test (key row)) (filter_entries key value test rows)
+filter_entries {Row} {K} {X} key value test (row ∷ rows) = by (test (key row, value row)) (filter_entries key value test rows)
   where
-    by : (b : Bool) → filter (λ (e : K × X). test e.0) (entries_of key value rows) ≡ entries_of key value (filter (λ r. test (key r)) rows)
-        → cond b ((key row, value row) ∷ filter (λ (e : K × X). test e.0) (entries_of key value rows)) (filter (λ (e : K × X). test e.0) (entries_of key value rows))
-        ≡ entries_of key value (cond b (row ∷ filter (λ r. test (key r)) rows) (filter (λ r. test (key r)) rows))
+    by : (b : Bool) → filter test (entries_of key value rows) ≡ entries_of key value (filter (λ r. test (key r, value r)) rows)
+        → cond b ((key row, value row) ∷ filter test (entries_of key value rows)) (filter test (entries_of key value rows))
+        ≡ entries_of key value (cond b (row ∷ filter (λ r. test (key r, value r)) rows) (filter (λ r. test (key r, value r)) rows))
     by true rest = ap (λ (l : List (K × X)). (key row, value row) ∷ l) rest
     by false rest = rest
+
+-- two tests in either order
+pub filter_swap : {X : Type 0} (p q : X → Bool) (xs : List X) → filter p (filter q xs) ≡ filter q (filter p xs)
+filter_swap p q [] = refl
+filter_swap {X} p q (x ∷ xs) = by (p x) (q x) refl refl (filter_swap p q xs)
+  where
+    by : (a b : Bool) → p x ≡ a → q x ≡ b → filter p (filter q xs) ≡ filter q (filter p xs) → filter p (cond b (x ∷ filter q xs) (filter q xs)) ≡ filter q (cond a (x ∷ filter p xs) (filter p xs))
+    by true true pass pass_too rest = (λ i. cond (pass i) (x ∷ filter p (filter q xs)) (filter p (filter q xs))) ∙ ap (λ (l : List X). x ∷ l) rest ∙ sym (λ i. cond (pass_too i) (x ∷ filter q (filter p xs)) (filter q (filter p xs)))
+    by true false pass fails rest = rest ∙ sym (λ i. cond (fails i) (x ∷ filter q (filter p xs)) (filter q (filter p xs)))
+    by false true fails pass rest = (λ i. cond (fails i) (x ∷ filter p (filter q xs)) (filter p (filter q xs))) ∙ rest
+    by false false fails fails_too rest = rest
 
 -- ---- a table, beside a group
 

@@ -36,5 +36,5 @@ returns g c =
     let is : filter (λ row. is_eq (order row)) rows ≡ take count rest = among_behind order rows start (λ i d lt within. first.0 i d (omega arith) lt)
     ∙ ap (filter (λ row. is_eq (order row))) (sym whole)
     ∙ among_first order rest count behind (λ i d lt within. second.0 i d (omega arith) lt) (λ i d le within. second.1 i d le within) in
-    ap (entries_of key value) (sym is) ∙ sym (filter_entries key value (λ k. is_eq (place k)) rows)
+    ap (entries_of key value) (sym is) ∙ sym (filter_entries key value (λ e. is_eq (place e.0)) rows)
     ∙ ap (filter (λ (e : g.row.T-Key.Denot × g.T.Keyed.Value). is_eq (place e.0))) (sym (entries-table_map g.T.Keyed.order key value rows table.rising))
