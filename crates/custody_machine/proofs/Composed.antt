@@ -21,7 +21,7 @@ use Rattle.custody_records.specs.Form.{form_of, InForm}
 use Rattle.custody_machine.specs.Names.{read_name}
 use Rattle.custody_machine.specs.SameValues.{is_same_kind}
 use Rattle.custody_machine.specs.State.{State, Held, places, at_place, has_notice}
-use Rattle.custody_machine.specs.Machine.{Statement, Check, Release, Purge, first_part, part_keys, if_made, Command, Register, Receive, Refusal, NameRefused, RegistryUnknown, DateOutOfRange, Size, OtherBytes, DroppedAfterKeeping, RevisionNotDue, AlreadyStated, TypeDiffers, PartOutOfOrder, VolumeFull, PartsDiffer, LaterDayPassed, NotYetDue, DayHasVerdict, GroundDoesNotStand, ReferenceUsed, NotInRelease, ReleaseUnknown, Record, OfRegistry, OfPart, Reply, Refuse, Accept, max_part_len, of_kind, recorded, part_in, has_other_kind, is_failure_of, refusal_of, kept, effect, received, unless_kept, unless_refused, step, state_of, state_after, received_part, with_part, Entry, read_by, reads, Answer, Accepted, Failed, StoreFailed, MayFail, Answers, named_tests, first_standing}
+use Rattle.custody_machine.specs.Machine.{Statement, Check, Release, Purge, if_made, Command, Register, Receive, Refusal, NameRefused, RegistryUnknown, DateOutOfRange, Size, OtherBytes, DroppedAfterKeeping, RevisionNotDue, AlreadyStated, TypeDiffers, PartOutOfOrder, VolumeFull, PartsDiffer, LaterDayPassed, NotYetDue, DayHasVerdict, GroundDoesNotStand, ReferenceUsed, NotInRelease, ReleaseUnknown, Record, OfRegistry, OfPart, Reply, Refuse, Accept, max_part_len, of_kind, recorded, part_in, has_other_kind, is_failure_of, refusal_of, kept, effect, received, unless_kept, unless_refused, step, state_of, state_after, received_part, with_part, Entry, read_by, reads, Answer, Accepted, Failed, StoreFailed, MayFail, Answers, named_tests, first_standing, verdict_keys}
 use Rattle.custody_machine.specs.History.{IsFoundWithin, doubt_of, MayFind, is_open_after}
 use Rattle.custody_machine.specs.Stored.{AreNaming, IsNamed, AreWhole, IsVolumeOf, is_part_of, IsGood, part_of, state_in, KeepsParts, OpensFrom}
 use Rattle.custody_machine.specs.Moves.{Place, Serving, Shut, MayLeave, MayLeaveWithin, DependsOnBytes, place_after}
@@ -100,7 +100,7 @@ reads_refused s (Register tld day) now q e other = refl
 reads_refused s (Receive text bytes) now q e other = part_refused s text bytes now q e other
 reads_refused s (Statement stated) now q e other = by (refusal_of s (Statement stated) now) (kept s (Statement stated)) e
   where
-    by : (o : Option Refusal) (k : Option Record) → unless_refused o (unless_kept s k (effect s (Statement stated) now)) ≡ Refuse q → if_made o k (part_keys s (first_part stated)) ≡ []
+    by : (o : Option Refusal) (k : Option Record) → unless_refused o (unless_kept s k (effect s (Statement stated) now)) ≡ Refuse q → if_made o k (verdict_keys s stated) ≡ []
     by None None e = cc
     by None (Some entry) e = refl
     by (Some r) k e = refl
@@ -115,7 +115,7 @@ reads_repeated s (Register tld day) now reply new e again = refl
 reads_repeated s (Receive text bytes) now reply new e again = reads_accepted s text bytes now (step_accepts s (Receive text bytes) now reply new e).0
 reads_repeated s (Statement stated) now reply new e again = by (refusal_of s (Statement stated) now) (kept s (Statement stated)) e
   where
-    by : (o : Option Refusal) (k : Option Record) → unless_refused o (unless_kept s k (effect s (Statement stated) now)) ≡ Accept reply new → if_made o k (part_keys s (first_part stated)) ≡ []
+    by : (o : Option Refusal) (k : Option Record) → unless_refused o (unless_kept s k (effect s (Statement stated) now)) ≡ Accept reply new → if_made o k (verdict_keys s stated) ≡ []
     by None None e = let first : false ≡ true = ap (λ (r : Reply). r.is_repeat) (accept_inj _ _ _ _ e).0 ∙ again in cc
     by None (Some entry) e = refl
     by (Some r) k e = refl

@@ -25,7 +25,7 @@ use Rattle.custody_machine.specs.declared.command.Statement as statement
 use Rattle.custody_machine.specs.Names.{read_name}
 use Rattle.custody_machine.specs.SameValues.{is_same_kind}
 use Rattle.custody_machine.specs.State.{State, Part, Held, places, at_place, is_notice_of, has_notice}
-use Rattle.custody_machine.specs.Machine.{Check, Release, Purge, OfRelease, OfPurge, is_on, kept_release, new_release, release_of, has_ground, without_bytes, is_due, dropped_if_due, count_due, without_due, absence_of, absence_notice, is_absence, is_beyond, is_unknown, is_verdict, OfNotice, is_outside, has_part_of_other_kind, differ_in_number, has_later_receipt, first_part, part_keys, if_made, if_of_id, has_id, is_verdict_of, verdict_told, has_verdict, has_dropped_part, are_as_stated, kept_verdict, with_notice, next_key, verdict_notice, notice_kind, verdict_on, Command, Register, Receive, Statement, Refusal, DroppedAfterKeeping, Record, OfRegistry, OfPart, Reply, Outcome, Refuse, Accept, first_day_of, part_at, recorded, has_other_kind, is_held_with_other, holds_other, is_dropped, is_gone, part_in, refusal_of, with_registry, with_part, with_release, received_part, kept, step, state_of, reads, read_by, HasRecord, is_unregistered, is_out_of_size, receive_tests, named_tests, first_standing}
+use Rattle.custody_machine.specs.Machine.{Check, Release, Purge, OfRelease, OfPurge, is_on, kept_release, new_release, release_of, has_ground, without_bytes, is_due, dropped_if_due, count_due, without_due, absence_of, absence_notice, is_absence, is_beyond, is_unknown, is_verdict, OfNotice, is_outside, has_part_of_other_kind, differ_in_number, has_later_receipt, first_part, if_made, if_of_id, has_id, is_verdict_of, verdict_told, has_verdict, has_dropped_part, are_as_stated, kept_verdict, with_notice, next_key, verdict_notice, notice_kind, verdict_on, Command, Register, Receive, Statement, Refusal, DroppedAfterKeeping, Record, OfRegistry, OfPart, Reply, Outcome, Refuse, Accept, first_day_of, part_at, recorded, has_other_kind, is_held_with_other, holds_other, is_dropped, is_gone, part_in, refusal_of, with_registry, with_part, with_release, received_part, kept, step, state_of, reads, read_by, HasRecord, is_unregistered, is_out_of_size, receive_tests, named_tests, first_standing, verdict_keys}
 use Rattle.custody_machine.specs.Retries.{Key, OfTld, OfName, OfRevision, OfDay, OfReference, key, are_same_keys, has_same_key, asked, IsDroppedSince, IsKeptAs, StillHas, KeepsRecords, NothingIsRemoved, RepliesAreRecords, IsOfCommand}
 use Rattle.custody_machine.proofs.MapValues.{get-map_values}
 use Rattle.custody_machine.proofs.SameValues.{text_decides, kind_decides, ground_decides}
@@ -752,7 +752,7 @@ asked_again s (Receive text bytes) entry now keyed h = by h.same
         (inr (step_refuses s (Receive text bytes) now DroppedAfterKeeping (refusal_by (Some DroppedAfterKeeping) stands), (h.name, h.named, dropped)), reads_by (Some DroppedAfterKeeping) stands refl)
 asked_again s (Statement st) entry now keyed h = (
   inl (step_none s (Statement st) now none ∙ ap (stated_by s st now) h.found ∙ ap (λ e. Accept (record { entry = e; is_repeat = true }) s) (sym h.made)),
-  (λ i. if_made (none i) (option_map (λ (e : NoticeKey × Notice). OfNotice e.0 e.1) (h.found i)) (part_keys s (first_part st))),
+  (λ i. if_made (none i) (option_map (λ (e : NoticeKey × Notice). OfNotice e.0 e.1) (h.found i)) (verdict_keys s st)),
 )
   where
     tells : (are_as_stated s st ≡ true) × (verdict_told s st ≡ Some h.kept) × (has_id st.id h.kept.1.kind ≡ true)

@@ -19,7 +19,7 @@ use Rattle.custody_records.specs.Records as recorded_in
 use Rattle.custody_records.specs.Orders.{notice_total, notice_exact}
 use Rattle.custody_machine.specs.declared.command.Statement as statement
 use Rattle.custody_machine.specs.State.{places, at_place, is_notice_of, has_notice}
-use Rattle.custody_machine.specs.Machine.{Statement, Check, absence_of, absence_notice, is_absence, OfNotice, Reply, Accept, step, reads, is_receipt, is_failure_of, is_verdict_of, has_other_kind, is_dropped, is_gone, part_in, first_part, has_dropped_part, has_verdict, kept_verdict, next_key, notice_kind, verdict_notice, verdict_on, part_keys, with_notice, if_made}
+use Rattle.custody_machine.specs.Machine.{Statement, Check, absence_of, absence_notice, is_absence, OfNotice, Reply, Accept, step, reads, is_receipt, is_failure_of, is_verdict_of, has_other_kind, is_dropped, is_gone, part_in, first_part, has_dropped_part, has_verdict, kept_verdict, next_key, notice_kind, verdict_notice, verdict_on, with_notice, if_made, verdict_keys}
 use Rattle.custody_machine.specs.Stored.{AreLinked, AreWhole, IsGood, AreOfOneDay, part_of, content_of, revision_of, state_in}
 use Rattle.custody_machine.specs.Rulings.{AddsVerdict, AddsAbsence, Makes, Decides}
 use Rattle.custody_machine.specs.Custody.{IsInOrder}
@@ -278,8 +278,8 @@ module _ (records : Records) (i : List ℕ) (whole : AreWhole records) (st : sta
       (state_in (recorded_in.with_notice records (next_key records.notices st.tld) (verdict_notice st (verdict_on (state_in records i) st) now)) i)
   verdict_accepted = d.1 i
 
-  pub reads_stated : reads (state_in records i) (Statement st) now ≡ part_keys (state_in records i) (first_part st)
-  reads_stated = λ j. if_made ((step_accepts (state_in records i) (Statement st) now _ _ (d.1 i)).0 j) (option_map (λ (e : NoticeKey × Notice). OfNotice e.0 e.1) (not_kept j)) (part_keys (state_in records i) (first_part st))
+  pub reads_stated : reads (state_in records i) (Statement st) now ≡ verdict_keys (state_in records i) st
+  reads_stated = λ j. if_made ((step_accepts (state_in records i) (Statement st) now _ _ (d.1 i)).0 j) (option_map (λ (e : NoticeKey × Notice). OfNotice e.0 e.1) (not_kept j)) (verdict_keys (state_in records i) st)
 
   -- a part of the revision is of the stated kind, and held
   pub held_at : (place : ℕ) (part : PartRecord) → Contains places place → get records.parts (at_place (key_of (first_part st)) place) ≡ Some part → (part.kind ≡ st.kind) × ((extents : List Extent) × (part.extents ≡ Some extents))
