@@ -23,13 +23,13 @@ use Rattle.custody_machine.specs.State.{State, places, at_place, has_notice}
 use Rattle.custody_machine.specs.Stored.{part_of, content_of, state_in}
 use Rattle.custody_machine.specs.declared.answers.Refusal.{Refusal}
 use Rattle.custody_machine.specs.declared.answers.Refusal.TheVariants.{NameRefused, RegistryUnknown, Size, OtherBytes, DroppedAfterKeeping, VolumeFull}
-use Rattle.custody_machine.specs.Machine.{Register, Receive, OfRegistry, OfPart, Accept, Refuse, first_day_of, of_kind, recorded, part_in, has_other_kind, is_receipt, is_failure_of, is_verdict_of, is_held_with_other, holds_other, is_gone, is_dropped, max_part_len, refusal_of, step, is_unregistered, is_out_of_range, is_out_of_size, receive_tests, named_tests, first_standing}
+use Rattle.custody_machine.specs.Machine.{Register, Receive, OfRegistry, OfPart, Accept, Refuse, first_day_of, of_kind, recorded, part_in, has_other_kind, has_dropped_part, is_receipt, is_failure_of, is_verdict_of, is_held_with_other, holds_other, is_gone, is_dropped, max_part_len, refusal_of, step, is_unregistered, is_out_of_range, is_out_of_size, receive_tests, named_tests, first_standing}
 use Rattle.custody_machine.specs.Rulings.{AddsRegistry, AddsPart, Refuses, Repeats, ByBytes, Makes, Decides, DecidesPart}
 use Rattle.custody_machine.proofs.MapValues.{get-map_values}
 use Rattle.custody_machine.proofs.SameValues.{text_decides, kind_decides}
 use Rattle.custody_machine.proofs.Composed.{register_repeats, register_adds}
 use Rattle.custody_machine.proofs.Accepting.{none_stand, part_refusals, find_none, find_dropped, step_none, step_refuses, step_refuses_text, rules_part, answered, place_is_empty}
-use Rattle.custody_rules.specs.Judged.{if_of_kind, recorded_under, is_of_other_kind, IsRecordedUnder}
+use Rattle.custody_rules.specs.Judged.{if_of_kind, recorded_under, is_of_other_kind, is_without_bytes, IsRecordedUnder}
 
 -- ---- the records in a state
 
@@ -70,6 +70,20 @@ module _ (records : Records) (image : List ℕ) (name : Name) where
 
   pub count_in_state : count_by (λ place. is_some (part_in (state_in records image) name place)) places ≡ count_by (λ place. is_some (get records.parts (at_place (key_of name) place))) places
   count_in_state = λ i. count_by (λ place. taken_in_state place i) places
+
+  pub dropped_in_state : has_dropped_part (state_in records image) name ≡ list_any (λ place. is_without_bytes (get records.parts (at_place (key_of name) place))) places
+  dropped_in_state = λ i. list_any (λ place. each place i) places
+    where
+      gone : (len : ℕ) (o : Option (List Extent)) → is_gone (content_of image len o) ≡ is_none o
+      gone len None = refl
+      gone len (Some extents) = refl
+
+      by : (o : Option PartRecord) → is_dropped (option_map (part_of image) o) ≡ is_without_bytes o
+      by None = refl
+      by (Some part) = gone part.len part.extents
+
+      each : (place : ℕ) → is_dropped (part_in (state_in records image) name place) ≡ is_without_bytes (get records.parts (at_place (key_of name) place))
+      each place = ap is_dropped (part_in_state place) ∙ by (get records.parts (at_place (key_of name) place))
 
 -- ---- a new name
 

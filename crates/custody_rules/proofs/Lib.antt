@@ -1,4 +1,5 @@
 pub mod Apart
+pub mod Chains
 pub mod Checks
 pub mod DueDays
 pub mod Fetched

@@ -9,6 +9,7 @@ use Rattle.std.proofs.lemmas.Bool.Decides.{nat_tests}
 use Rattle.std.proofs.lemmas.List.{take_more, take_all}
 use Rattle.deposit_name.specs.declared.kinds.Kind.TheVariants.{Full}
 use Rattle.deposit_name.specs.Name.{Name}
+use Rattle.deposit_verify.specs.declared.base.Base.{Base}
 use Rattle.deposit_verify.specs.Known.{Known}
 use Rattle.custody_machine.specs.declared.command.Statement as stated
 use Rattle.std.proofs.lemmas.List.Elements.{filter_map-append}
@@ -20,6 +21,7 @@ use Rattle.custody_records.specs.Keys.{NoticeKey, text_cmp}
 use Rattle.custody_records.specs.Records.{Notice, PartRecord, Records, key_of, notices_of}
 use Rattle.custody_records.specs.Tables.{entries_of}
 use Rattle.custody_records.specs.Typed.{notice_entry, notice_key, notice_value}
+use Rattle.custody_records.proofs.GroupLemmas.{filter_entries, filter_swap}
 use Rattle.custody_machine.specs.Names.{is_same_text}
 use Rattle.custody_machine.specs.SameValues.{is_same_kind}
 use Rattle.custody_machine.specs.Machine.{first_part, full_of, is_full_revision, is_receipt_of_full, known_of, latest_of, passed_id, passed_in, passed_of, tells_full}
@@ -168,26 +170,6 @@ rows_of_registry records tld rows is = rows_as_entries rows ∙ ap (filter_map t
 
 -- ---- rows of full deposits
 
-filter_swap : {X : Type 0} (p q : X → Bool) (xs : List X) → filter p (filter q xs) ≡ filter q (filter p xs)
-filter_swap p q [] = refl
-filter_swap p q (x ∷ xs) = by (p x) (q x) refl refl (filter_swap p q xs)
-  where
-    by : (a b : Bool) → p x ≡ a → q x ≡ b → filter p (filter q xs) ≡ filter q (filter p xs) → filter p (cond b (x ∷ filter q xs) (filter q xs)) ≡ filter q (cond a (x ∷ filter p xs) (filter p xs))
-    by true true pass pass_too rest = (λ i. cond (pass i) (x ∷ filter p (filter q xs)) (filter p (filter q xs))) ∙ ap (λ l. x ∷ l) rest ∙ sym (λ i. cond (pass_too i) (x ∷ filter q (filter p xs)) (filter q (filter p xs)))
-    by true false pass fails rest = rest ∙ sym (λ i. cond (fails i) (x ∷ filter q (filter p xs)) (filter q (filter p xs)))
-    by false true fails pass rest = (λ i. cond (fails i) (x ∷ filter p (filter q xs)) (filter p (filter q xs))) ∙ rest
-    by false false fails fails_too rest = rest
-
-filter_entries : (test : NoticeKey × Notice → Bool) (rows : List desk.Notice) → entries_of notice_key notice_value (filter (λ n. test (notice_entry n)) rows) ≡ filter test (entries_of notice_key notice_value rows)
-filter_entries test [] = refl
-filter_entries test (n ∷ rows) = by (test (notice_entry n)) (filter_entries test rows)
-  where
-    by : (b : Bool) → entries_of notice_key notice_value (filter (λ n. test (notice_entry n)) rows) ≡ filter test (entries_of notice_key notice_value rows)
-        → entries_of notice_key notice_value (cond b (n ∷ filter (λ n. test (notice_entry n)) rows) (filter (λ n. test (notice_entry n)) rows))
-        ≡ cond b (notice_entry n ∷ filter test (entries_of notice_key notice_value rows)) (filter test (entries_of notice_key notice_value rows))
-    by true rest = ap (λ (l : List (NoticeKey × Notice)). notice_entry n ∷ l) rest
-    by false rest = rest
-
 module _ (records : Records) (image : List ℕ) where
   -- the first part of a revision is one of a full deposit in the records as in their state
   full_in_state : (tld : List ℕ) (day rev : ℕ) → is_part_of Full (get records.parts (record { tld = tld; day = day; rev = rev; part = 1 })) ≡ is_full_revision (state_in records image) tld day rev
@@ -213,7 +195,7 @@ module _ (records : Records) (image : List ℕ) where
   pub full_of_registry : (tld : List ℕ) (rows : List desk.Notice) → entries_of notice_key notice_value rows ≡ notices_of records tld → passed_rows (filter (tells_full_in records) rows) ≡ full_of (state_in records image) tld
   full_of_registry tld rows is =
       (λ i. passed_rows (filter (λ n. receipt_in_state n.tld n.day n.kind i) rows)) ∙ rows_as_entries (filter (λ n. tells_full (state_in records image) (notice_entry n)) rows)
-      ∙ ap (filter_map told_by) (filter_entries (tells_full (state_in records image)) rows ∙ ap (filter (tells_full (state_in records image))) is
+      ∙ ap (filter_map told_by) (sym (filter_entries notice_key notice_value (tells_full (state_in records image)) rows) ∙ ap (filter (tells_full (state_in records image))) is
       ∙ filter_swap (tells_full (state_in records image)) (λ (e : NoticeKey × Notice). is_eq (text_cmp e.0.tld tld)) (entries records.notices)) ∙ of_registry tld (filter (tells_full (state_in records image)) (entries records.notices))
 
 -- ---- a loop over the rows
@@ -254,13 +236,15 @@ pub latest_at_end : (rows : List desk.Notice) (i : ℕ) (latest : Option (ℕ ×
 latest_at_end rows i latest end h = latest_is (passed_rows rows) latest (subst (λ l. IsLatest (passed_rows l) latest) (take_all i rows end) h)
 
 -- what is known of a stated deposit, put together
-pub known_is : (st : stated.Statement) (records : Records) (image : List ℕ) (name : Name) (rows full_rows : List desk.Notice) (latest full : Option (List ℕ)) (ids : List (List ℕ)) → name ≡ first_part st
+pub known_is : (st : stated.Statement) (records : Records) (image : List ℕ) (base : Option Base) (name : Name) (rows full_rows : List desk.Notice) (latest full : Option (List ℕ)) (ids : List (List ℕ)) → name ≡ first_part st
     → entries_of notice_key notice_value rows ≡ notices_of records st.tld → full_rows ≡ filter (tells_full_in records) rows → latest ≡ latest_of (passed_rows rows) → full ≡ latest_of (passed_rows full_rows)
-    → ids ≡ map (λ (one : ℕ × List ℕ). one.1) (passed_rows rows) → ◌≡◌ {A = Known} (record { name = name; id = st.id; latest = latest; full = full; passed = ids }) (known_of (state_in records image) st)
-known_is st records image name rows full_rows latest full ids named is among late latest_full all = λ i. record {
+    → ids ≡ map (λ (one : ℕ × List ℕ). one.1) (passed_rows rows)
+    → ◌≡◌ {A = Known} (record { name = name; id = st.id; latest = latest; full = full; passed = ids; base = base }) (record (known_of (state_in records image) st) { base = base })
+known_is st records image base name rows full_rows latest full ids named is among late latest_full all = λ i. record {
   name = named i;
   id = st.id;
   latest = (late ∙ ap latest_of (rows_of_registry records st.tld rows is)) i;
   full = (latest_full ∙ ap (λ l. latest_of (passed_rows l)) among ∙ ap latest_of (full_of_registry records image st.tld rows is)) i;
   passed = (all ∙ ap (map (λ (one : ℕ × List ℕ). one.1)) (rows_of_registry records st.tld rows is)) i;
+  base = base;
 }

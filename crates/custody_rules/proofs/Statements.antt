@@ -19,23 +19,9 @@ use Rattle.custody_machine.proofs.Accepting.{step_none, step_refuses}
 use Rattle.custody_machine.proofs.Keeping.{Again, asked_again}
 use Rattle.custody_machine.proofs.Stated.{statement_refusals, stated_by}
 use Rattle.custody_rules.specs.Judged.{differ_in, is_later_receipt, is_of_other_kind, is_without_bytes, kept_in}
-use Rattle.custody_rules.proofs.Judged.{part_in_state, kinds_in_state, count_in_state}
+use Rattle.custody_rules.proofs.Judged.{kinds_in_state, count_in_state, dropped_in_state}
 
 module _ (records : Records) (st : statement.Statement) (image : List ℕ) where
-  dropped_in_state : has_dropped_part (state_in records image) (first_part st) ≡ list_any (λ place. is_without_bytes (get records.parts (at_place (key_of (first_part st)) place))) places
-  dropped_in_state = λ i. list_any (λ place. each place i) places
-    where
-      gone : (len : ℕ) (o : Option (List Extent)) → is_gone (content_of image len o) ≡ is_none o
-      gone len None = refl
-      gone len (Some extents) = refl
-
-      by : (o : Option PartRecord) → is_dropped (option_map (part_of image) o) ≡ is_without_bytes o
-      by None = refl
-      by (Some part) = gone part.len part.extents
-
-      each : (place : ℕ) → is_dropped (part_in (state_in records image) (first_part st) place) ≡ is_without_bytes (get records.parts (at_place (key_of (first_part st)) place))
-      each place = ap is_dropped (part_in_state records image (first_part st) place) ∙ by (get records.parts (at_place (key_of (first_part st)) place))
-
   number_in_state : differ_in_number (state_in records image) st ≡ differ_in records st
   number_in_state = λ i. (count_in_state records image (first_part st) i == 0) || not (count_in_state records image (first_part st) i == st.parts)
 
@@ -49,7 +35,7 @@ module _ (records : Records) (st : statement.Statement) (image : List ℕ) where
       (has_notice records.notices st.tld st.day (is_verdict_of st.rev)) (list_any (λ place. is_of_other_kind st.kind (get records.parts (at_place (key_of (first_part st)) place))) places) (differ_in records st)
       (list_any (is_later_receipt st) (entries records.notices))
   first_of_statement now first known new = λ i.
-      statement_refusals (is_none (known i)) (is_none (none i) && (nat_lt st.day (unwrap_or (known i) 0) || nat_lt (day_of now) st.day)) (not (has_notice records.notices st.tld st.day (is_verdict_of st.rev)) && dropped_in_state i)
+      statement_refusals (is_none (known i)) (is_none (none i) && (nat_lt st.day (unwrap_or (known i) 0) || nat_lt (day_of now) st.day)) (not (has_notice records.notices st.tld st.day (is_verdict_of st.rev)) && dropped_in_state records image (first_part st) i)
       (is_none (none i) && has_notice records.notices st.tld st.day (is_verdict_of st.rev)) (kinds_in_state records image (first_part st) i) (number_in_state i) (is_none (none i) && list_any (is_later_receipt st) (entries records.notices))
     where
       none : kept_verdict (state_in records image) st ≡ None

@@ -3,7 +3,7 @@ ghost use Rattle.std.specs.Prelude.{◌≡◌, ◌==◌, ◌&&◌, find, option_
 ghost use Rattle.std.specs.FinMap.{entries};
 ghost use Rattle.custody_records.specs.Held.{records_of};
 ghost use Rattle.custody_records.specs.Typed.{notice_entry};
-ghost use Rattle.custody_machine.specs.Machine.{is_absence, is_failure_of, is_receipt, is_verdict, is_verdict_of};
+ghost use Rattle.custody_machine.specs.Machine.{is_absence, is_failure_of, is_receipt, is_receipt_of, is_verdict, is_verdict_of};
 ghost use Rattle.custody_machine.specs.Names.{is_same_text};
 ghost use Rattle.custody_machine.specs.State.{has_notice, is_notice_of};
 
@@ -47,6 +47,16 @@ pub(crate) fn has_verdict_on(records: &Records, tld: &Tld, day: Day, rev: u8) ->
         .any(|notice| is_verdict_on(notice, tld, day, rev))
 }
 
+/// Whether a revision has passed.
+pub(crate) fn has_receipt_on(records: &Records, tld: &Tld, day: Day, rev: u8) -> bool
+    ensures { result ≡ has_notice (records_of records.now).notices tld.now day (is_receipt_of rev) }
+{
+    records
+        .notices_of(tld)
+        .iter()
+        .any(|notice| is_receipt_on(notice, tld, day, rev))
+}
+
 /// Whether a revision has failed.
 pub(crate) fn has_failed(records: &Records, tld: &Tld, day: Day, rev: u8) -> bool
     ensures { result ≡ has_notice (records_of records.now).notices tld.now day (is_failure_of rev) }
@@ -88,6 +98,16 @@ fn is_verdict_on(notice: &Notice, tld: &Tld, day: Day, rev: u8) -> bool
                 of.number() == rev
             }
             NoticeKind::Absence => false,
+        }
+}
+
+fn is_receipt_on(notice: &Notice, tld: &Tld, day: Day, rev: u8) -> bool
+    ensures { result ≡ is_notice_of tld.now day (is_receipt_of rev) (notice_entry notice.now) }
+{
+    is_of_day(notice, tld, day)
+        && match notice.kind {
+            NoticeKind::Receipt { rev: passed, .. } => passed.number() == rev,
+            NoticeKind::Failure { .. } | NoticeKind::Absence => false,
         }
 }
 

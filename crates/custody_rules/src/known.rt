@@ -11,20 +11,22 @@ use crate::revision::has_part_of;
 use custody_machine::Statement;
 use custody_records::{PartKey, Records};
 use deposit_name::{DepositId, DepositName, Kind, Tld};
-use deposit_verify::About;
+use deposit_verify::{About, Base};
 use desk::{Notice, NoticeKind};
 use schedule::Day;
 use std::alloc::{AllocError, Global};
 
-/// What is known of a stated deposit, by the notices of its registry and the kinds of their deposits.
+/// What is known of a stated deposit, by the notices of its registry and the kinds of their deposits. The
+/// keys before it are handed in.
 pub fn known_about(
     alloc: Global,
     records: &Records,
     statement: &Statement,
     name: &DepositName,
+    base: Option<Base>,
 ) -> Result<About, AllocError>
     requires named { name.now ≡ first_part statement.now }
-    ensures { IfOk result (λ about. (image : List ℕ) → known about ≡ known_of (state_in (records_of records.now) image) statement.now) }
+    ensures { IfOk result (λ about. (image : List ℕ) → known about ≡ record (known_of (state_in (records_of records.now) image) statement.now) { base = base }) }
 {
     let notices = records.notices_of(&statement.tld);
     let full = full_receipts(alloc, records, notices)?;
@@ -34,6 +36,7 @@ pub fn known_about(
         latest: latest_passed(notices),
         full: latest_passed(&full),
         passed: passed_ids(alloc, notices)?,
+        base,
     })
 }
 

@@ -2,6 +2,7 @@
 #![tactic(auto)]
 
 mod blocks;
+mod chain;
 mod checking;
 mod days;
 mod due;
@@ -19,6 +20,7 @@ mod told;
 mod whole;
 
 pub use blocks::map_of;
+pub use chain::held_chain;
 pub use due::{DueDay, due_days};
 pub use fetching::find_released;
 pub use judging::{judge, judge_part};

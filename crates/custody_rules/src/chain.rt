@@ -1,0 +1,113 @@
+//! The deposits that a stated one follows.
+ghost use Rattle.std.specs.Prelude.{◌≡◌, List, ℕ, IfOk};
+ghost use Rattle.std.specs.List.{list_any};
+ghost use Rattle.custody_records.specs.Held.{records_of};
+ghost use Rattle.custody_machine.specs.Machine.{chain_of, has_dropped_part, held_chain, later_than, latest_full, passed_firsts};
+ghost use Rattle.custody_machine.specs.Stored.{state_in};
+ghost use Rattle.custody_rules.specs.Chains.{is_first_of_passed};
+
+use crate::days::has_receipt_on;
+use crate::revision::has_dropped_part;
+use custody_machine::Statement;
+use custody_records::{PartKey, Records};
+use deposit_name::{DepositName, Kind, Tld};
+use schedule::Day;
+use std::alloc::{AllocError, Global};
+
+/// The deposits that a stated one follows, oldest first, each by the name of its first part, where all
+/// their parts are held: of a differential one the latest full one that passed and all of later days, of an
+/// incremental one that full one (the types of RFC 8909, section 2).
+pub fn held_chain(
+    alloc: Global,
+    records: &Records,
+    statement: &Statement,
+) -> Result<Vec<DepositName>, AllocError>
+    ensures { IfOk result (λ chain. (image : List ℕ) → chain.items ≡ held_chain (state_in (records_of records.now) image) statement.now) }
+{
+    let passed = passed_firsts(alloc, records, &statement.tld)?;
+    let chain = chain_of(alloc, statement.kind, &passed)?;
+    if is_any_dropped(records, &chain) {
+        Ok(Vec::new(alloc))
+    } else {
+        Ok(chain)
+    }
+}
+
+/// Whether the bytes of a part of these deposits are dropped.
+fn is_any_dropped(records: &Records, chain: &[DepositName]) -> bool
+    ensures { (image : List ℕ) → result ≡ list_any (has_dropped_part (state_in (records_of records.now) image)) chain.now }
+{
+    chain
+        .iter()
+        .any(|name| has_dropped_part(records, &PartKey::of(name)))
+}
+
+/// The first parts of a registry's deposits that passed, by day.
+fn passed_firsts(
+    alloc: Global,
+    records: &Records,
+    tld: &Tld,
+) -> Result<Vec<DepositName>, AllocError>
+    ensures { IfOk result (λ names. (image : List ℕ) → names.items ≡ passed_firsts (state_in (records_of records.now) image) tld.now) }
+{
+    records
+        .parts_of(tld)
+        .iter()
+        .filter(|part| is_first_of_passed(records, tld, &part.name))
+        .map(|part| part.name)
+        .collect(alloc)
+}
+
+/// Whether a name is that of the first part of a deposit that passed.
+fn is_first_of_passed(records: &Records, tld: &Tld, name: &DepositName) -> bool
+    ensures { result ≡ is_first_of_passed (records_of records.now) tld.now name.now }
+{
+    name.part == 1 && has_receipt_on(records, tld, name.day, name.rev)
+}
+
+/// Of the deposits that passed those that one of a kind follows.
+fn chain_of(
+    alloc: Global,
+    kind: Kind,
+    passed: &[DepositName],
+) -> Result<Vec<DepositName>, AllocError>
+    ensures { IfOk result (λ chain. chain.items ≡ chain_of kind passed.now (latest_full passed.now)) }
+{
+    let mut chain = Vec::new(alloc);
+    let Some(full) = latest_full(passed) else {
+        return Ok(chain);
+    };
+    match kind {
+        Kind::Full => {}
+        Kind::Incr => chain.push(full)?,
+        Kind::Diff => {
+            chain.push(full)?;
+            chain.extend_from_slice(&later_than(alloc, full.day, passed)?)?;
+        }
+    }
+    Ok(chain)
+}
+
+fn latest_full(passed: &[DepositName]) -> Option<DepositName>
+    ensures { result ≡ latest_full passed.now }
+{
+    passed
+        .iter()
+        .filter(|name| name.kind == Kind::Full)
+        .copied()
+        .last()
+}
+
+fn later_than(
+    alloc: Global,
+    day: Day,
+    passed: &[DepositName],
+) -> Result<Vec<DepositName>, AllocError>
+    ensures { IfOk result (λ later. later.items ≡ later_than day passed.now) }
+{
+    passed
+        .iter()
+        .filter(|name| day < name.day)
+        .copied()
+        .collect(alloc)
+}
