@@ -1,4 +1,5 @@
 pub mod NoticeRows
+pub mod PlainChains
 pub mod PlainMaps
 pub mod PlainSteps
 pub mod PlainPurges

@@ -14,6 +14,7 @@ use Rattle.custody_records.specs.Records.{Notice}
 use Rattle.custody_records.specs.Tables.{entries_of, is_rising, table_map}
 use Rattle.custody_records.specs.Typed.{notice_entry, notice_key, notice_value}
 use Rattle.custody_records.specs.Orders.{notice_exact}
+use Rattle.custody_records.proofs.GroupLemmas.{filter_entries}
 use Rattle.custody_records.proofs.TableLemmas.{entries-table_map}
 use Rattle.custody_machine.specs.Names.{is_same_text}
 use Rattle.custody_machine.specs.Machine.{greatest_number, next_key}
@@ -41,15 +42,6 @@ filter_mapped : {X : Type 0} (f : NoticeKey × Notice → Option X) (rows : List
 filter_mapped f [] = refl
 filter_mapped f (n ∷ rows) = ap (cons_option (f (notice_entry n))) (filter_mapped f rows)
 
-tested_mapped : (test : NoticeKey × Notice → Bool) (rows : List desk.Notice) → map notice_entry (filter (λ n. test (notice_entry n)) rows) ≡ filter test (map notice_entry rows)
-tested_mapped test [] = refl
-tested_mapped test (n ∷ rows) = by (test (notice_entry n)) (tested_mapped test rows)
-  where
-    by : (b : Bool) → map notice_entry (filter (λ n. test (notice_entry n)) rows) ≡ filter test (map notice_entry rows)
-        → map notice_entry (cond b (n ∷ filter (λ n. test (notice_entry n)) rows) (filter (λ n. test (notice_entry n)) rows)) ≡ cond b (notice_entry n ∷ filter test (map notice_entry rows)) (filter test (map notice_entry rows))
-    by true rest = ap (λ (l : List (NoticeKey × Notice)). notice_entry n ∷ l) rest
-    by false rest = rest
-
 module _ (rows found : List desk.Notice) (is : found ≡ rows) (rising : is_rising notice_cmp notice_key rows ≡ true) where
   pub entries_are : map notice_entry found ≡ entries (table_map notice_cmp notice_key notice_value rows)
   entries_are = ap (map notice_entry) is ∙ sym (entries_mapped rows) ∙ sym (entries-table_map notice_cmp notice_key notice_value rows rising)
@@ -65,12 +57,13 @@ module _ (rows found : List desk.Notice) (is : found ≡ rows) (rising : is_risi
 
   pub tested_shown : {X : Type 0} (test : NoticeKey × Notice → Bool) (f : NoticeKey × Notice → Option X)
       → filter_map (λ n. f (notice_entry n)) (filter (λ n. test (notice_entry n)) found) ≡ filter_map f (filter test (entries (table_map notice_cmp notice_key notice_value rows)))
-  tested_shown test f = filter_mapped f (filter (λ n. test (notice_entry n)) found) ∙ ap (filter_map f) (tested_mapped test found ∙ ap (filter test) entries_are)
+  tested_shown test f = filter_mapped f (filter (λ n. test (notice_entry n)) found) ∙ ap (filter_map f) (sym (entries_mapped (filter (λ n. test (notice_entry n)) found))
+      ∙ sym (filter_entries notice_key notice_value test found) ∙ ap (filter test) (entries_mapped found ∙ entries_are))
 
 -- ---- a row more
 
-row_more : (rows : List desk.Notice) (i : ℕ) (n : desk.Notice) → i < length rows → n ≡ get_or rows i n → take (i + 1) rows ≡ take i rows ++ n ∷ []
-row_more rows i n lt is = take_more rows i n lt ∙ ap (λ (r : desk.Notice). take i rows ++ r ∷ []) (sym is)
+pub row_more : {Row : Type 0} (rows : List Row) (i : ℕ) (n : Row) → i < length rows → n ≡ get_or rows i n → take (i + 1) rows ≡ take i rows ++ n ∷ []
+row_more {Row} rows i n lt is = take_more rows i n lt ∙ ap (λ (r : Row). take i rows ++ r ∷ []) (sym is)
 
 pub filter_more : {X : Type 0} (f : desk.Notice → Option X) (rows : List desk.Notice) (i : ℕ) (n : desk.Notice) → i < length rows → n ≡ get_or rows i n
     → filter_map f (take (i + 1) rows) ≡ filter_map f (take i rows) ++ filter_map f (n ∷ [])

@@ -94,10 +94,10 @@ place_free p parts rows l once is of_part =
     free None e = refl
     free (Some q) e = let clash : false ≡ true = e in cc
 
--- a list by its first part and the rest
-pub front : (parts : List PlainPart) (p : PlainPart) → 1 ≤ length parts → p ≡ get_or parts 0 p → p ∷ take (length parts - 1) (drop 1 parts) ≡ parts
-front [] p some is = absurd (omega arith)
-front (q ∷ parts) p some is = ap (λ (rest : List PlainPart). p ∷ rest) (take_rest (q ∷ parts) 1) ∙ ap (λ (x : PlainPart). x ∷ parts) is
+-- a list by its first item and the rest
+pub front : {X : Type 0} (items : List X) (x : X) → 1 ≤ length items → x ≡ get_or items 0 x → x ∷ take (length items - 1) (drop 1 items) ≡ items
+front [] x some is = absurd (omega arith)
+front {X} (y ∷ items) x some is = ap (λ (rest : List X). x ∷ rest) (take_rest (y ∷ items) 1) ∙ ap (λ (first : X). first ∷ items) is
 
 pub none_listed : (parts : List PlainPart) → length parts < 1 → rows_shown [] ≡ from_entries (map listed_entry parts)
 none_listed [] none = empty_table part_cmp listed_key listed_value
@@ -124,11 +124,17 @@ names_of_rows : (tld : List ℕ) (rows : List Listed) → filter_map (listed_nam
 names_of_rows tld [] = refl
 names_of_rows tld (l ∷ rows) = ap (cons_option (listed_name tld l)) (names_of_rows tld rows)
 
-pub names_listed : (tld : List ℕ) (parts : List PlainPart) (rows : List Listed) → is_rising part_cmp listed_key rows ≡ true → table_map part_cmp listed_key listed_value rows ≡ from_entries (map listed_entry parts)
+-- the rows of all parts have the entries of these
+pub listed_entries : (parts : List PlainPart) (rows : List Listed) → is_rising part_cmp listed_key rows ≡ true → rows_shown rows ≡ from_entries (map listed_entry parts)
+    → entries_of listed_key listed_value rows ≡ map_entries value_of (entries (from_entries {R = part_cmp} (map part_entry parts)))
+listed_entries parts rows rising is =
+    sym (entries-table_map part_cmp listed_key listed_value rows rising) ∙ ap entries (is ∙ listed_parts parts) ∙ entries-map_values part_cmp value_of (from_entries (map part_entry parts))
+
+pub names_listed : (tld : List ℕ) (parts : List PlainPart) (rows : List Listed) → is_rising part_cmp listed_key rows ≡ true → rows_shown rows ≡ from_entries (map listed_entry parts)
     → filter_map (listed_name tld) rows ≡ filter_map (held_name tld) (entries (from_entries {R = part_cmp} (map part_entry parts)))
 names_listed tld parts rows rising is =
     names_of_rows tld rows
-    ∙ ap (filter_map (name_in tld)) (sym (entries-table_map part_cmp listed_key listed_value rows rising) ∙ ap entries (is ∙ listed_parts parts) ∙ entries-map_values part_cmp value_of (from_entries (map part_entry parts)))
+    ∙ ap (filter_map (name_in tld)) (listed_entries parts rows rising is)
     ∙ names_of_entries tld (entries (from_entries (map part_entry parts)))
 
 -- ---- what is answered

@@ -1,6 +1,7 @@
 //! The machine of a custody as a plain and slow program, with which tests compare every other body.
 #![tactic(auto)]
 
+mod chains;
 mod checks;
 mod kept;
 mod listing;

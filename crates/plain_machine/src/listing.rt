@@ -67,6 +67,13 @@ impl Listing {
         }
     }
 
+    /// The parts.
+    pub(crate) fn parts(&self) -> &[Listed]
+        ensures { result.now ≡ self.now.rows.items }
+    {
+        &self.rows
+    }
+
     /// The names of the parts of a registry whose bytes are held.
     pub(crate) fn held_names(&self, alloc: Global, tld: &Tld) -> Result<Names, AllocError>
         ensures { IfOk result (λ names. names ≡ filter_map (listed_name tld.now) self.now.rows.items) }

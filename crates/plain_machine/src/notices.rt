@@ -8,8 +8,8 @@ ghost use Rattle.custody_records.specs.Tables.{is_rising, table_map};
 ghost use Rattle.custody_records.specs.Typed.{notice_entry, notice_key, notice_value};
 
 use crate::telling::{
-    compare, greatest_of, is_absence_of, is_failure_on, is_receipt_after, is_receipt_of, is_to,
-    is_verdict_of, is_verdict_on, key_of, read_all_passed,
+    compare, greatest_of, is_absence_of, is_failure_on, is_receipt_after, is_receipt_of,
+    is_receipt_on, is_to, is_verdict_of, is_verdict_on, key_of, read_all_passed,
 };
 use custody_records::NoticeKey;
 use deposit_name::{DepositId, Tld};
@@ -26,7 +26,7 @@ pub struct PlainNotices {
 
 impl PlainNotices {
     ghost use Rattle.custody_machine.specs.State.{has_notice, is_notice_of};
-    ghost use Rattle.custody_machine.specs.Machine.{is_absence, is_failure_of, is_receipt, is_verdict, is_verdict_of, next_number, passed_of};
+    ghost use Rattle.custody_machine.specs.Machine.{is_absence, is_failure_of, is_receipt, is_receipt_of, is_verdict, is_verdict_of, next_number, passed_of};
     ghost use Rattle.plain_machine.specs.Plain.{notices_shown, is_later_receipt, is_to};
 
     /// There are none yet.
@@ -83,6 +83,13 @@ impl PlainNotices {
         ensures { result ≡ has_notice (notices_shown self.now) tld.now day is_receipt }
     {
         self.rows.iter().any(|n| is_receipt_of(n, tld, day))
+    }
+
+    /// Whether the revision of the day has a receipt.
+    pub(crate) fn has_receipt_on(&self, tld: &Tld, day: Day, rev: u8) -> bool
+        ensures { result ≡ has_notice (notices_shown self.now) tld.now day (is_receipt_of rev) }
+    {
+        self.rows.iter().any(|n| is_receipt_on(n, tld, day, rev))
     }
 
     /// Whether the revision of the day has a failure.

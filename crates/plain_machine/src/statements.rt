@@ -27,7 +27,7 @@ impl PlainState {
         }
     }
 
-    fn has_dropped_part(&self, name: &Sought) -> bool
+    pub(crate) fn has_dropped_part(&self, name: &Sought) -> bool
         ensures { result ≡ has_dropped_part (shown self.now) name.now }
     {
         self.is_dropped_at(name, 1)
@@ -155,8 +155,8 @@ impl PlainState {
         }
     }
 
-    // The bytes of the revision's parts, in the order of the series.
-    fn join(&self, alloc: Global, name: &Sought) -> Result<Vec<u8>, AllocError>
+    /// The bytes of the revision's parts, in the order of the series.
+    pub(crate) fn join(&self, alloc: Global, name: &Sought) -> Result<Vec<u8>, AllocError>
         ensures { IfOk result (λ bytes. bytes.items ≡ joined (shown self.now) name.now) }
     {
         let mut bytes = Vec::new(alloc);
@@ -250,12 +250,16 @@ impl PlainState {
         let passed = self.notices.passed_of(alloc, &stated.tld)?;
         let full = self.full_of(alloc, &stated.tld)?;
         let ids = ids_of(alloc, &passed)?;
+        let Ok(base) = self.base_of(alloc, stated) else {
+            return Err(AllocError);
+        };
         Ok(About {
             name,
             id: stated.id,
             latest: find_latest(&passed),
             full: find_latest(&full),
             passed: ids,
+            base,
         })
     }
 

@@ -5,7 +5,7 @@ ghost use Rattle.custody_records.specs.Keys.{notice_cmp};
 ghost use Rattle.custody_records.specs.Typed.{notice_entry, notice_key};
 ghost use Rattle.custody_machine.specs.Names.{is_same_text};
 ghost use Rattle.custody_machine.specs.State.{is_notice_of};
-ghost use Rattle.custody_machine.specs.Machine.{has_id, is_absence, is_failure_of, is_receipt, is_verdict, is_verdict_of, latest_of, passed_in};
+ghost use Rattle.custody_machine.specs.Machine.{has_id, is_absence, is_failure_of, is_receipt, is_receipt_of, is_verdict, is_verdict_of, latest_of, passed_in};
 ghost use Rattle.plain_machine.specs.Plain.{greatest_of, is_later_receipt, is_to};
 
 use custody_records::NoticeKey;
@@ -41,6 +41,15 @@ fn tells_receipt(notice: &Notice) -> bool
     ensures { result ≡ is_receipt notice.now.kind }
 {
     matches!(notice.kind, NoticeKind::Receipt { .. })
+}
+
+fn tells_receipt_of(notice: &Notice, of: u8) -> bool
+    ensures { result ≡ is_receipt_of of notice.now.kind }
+{
+    match notice.kind {
+        NoticeKind::Receipt { rev, .. } => rev.number() == of,
+        NoticeKind::Failure { .. } | NoticeKind::Absence => false,
+    }
 }
 
 fn tells_failure(notice: &Notice, of: u8) -> bool
@@ -88,6 +97,12 @@ pub(crate) fn is_receipt_of(notice: &Notice, tld: &Tld, day: Day) -> bool
     ensures { result ≡ is_notice_of tld.now day is_receipt (notice_entry notice.now) }
 {
     is_of(notice, tld) && notice.day == day && tells_receipt(notice)
+}
+
+pub(crate) fn is_receipt_on(notice: &Notice, tld: &Tld, day: Day, rev: u8) -> bool
+    ensures { result ≡ is_notice_of tld.now day (is_receipt_of rev) (notice_entry notice.now) }
+{
+    is_of(notice, tld) && notice.day == day && tells_receipt_of(notice, rev)
 }
 
 pub(crate) fn is_failure_on(notice: &Notice, tld: &Tld, day: Day, rev: u8) -> bool
