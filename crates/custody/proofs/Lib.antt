@@ -1,5 +1,6 @@
 pub mod AuditLemmas
 pub mod Audits
+pub mod ChainLemmas
 pub mod Coming
 pub mod Done
 pub mod Ended

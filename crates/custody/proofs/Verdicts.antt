@@ -17,7 +17,7 @@ use Rattle.custody_records.specs.Written.{IsNoticeKind}
 use Rattle.custody_machine.specs.declared.command.Statement as statement
 use Rattle.custody_machine.specs.declared.answers.Fault.TheVariants.{NoMemory, VolumeFailed, StoreFailed, Closed, Damaged}
 use Rattle.custody_machine.specs.declared.damage.Damage.TheVariants.{Digest}
-use Rattle.custody_machine.specs.Machine.{Statement, OfNotice, Accept, MayFail, first_part, next_key, notice_kind, verdict_notice, part_keys, reads, step}
+use Rattle.custody_machine.specs.Machine.{Statement, OfNotice, Accept, MayFail, first_part, next_key, notice_kind, verdict_keys, verdict_notice, reads, step}
 use Rattle.custody_machine.specs.Rulings.{AddsVerdict, Makes, Decides}
 use Rattle.custody_machine.specs.Stored.{IsVolumeOf, IsGood, HasDigestAt, state_in}
 use Rattle.custody_machine.specs.Custody.{IsInOrder}
@@ -35,7 +35,7 @@ use Rattle.custody.proofs.Done.{GoesOn, reads_done, no_memory_done}
 
 module _ {V S : Type 0} {g : volume.Ghosts V} (database : Ghosts S) (old : Keeper V S g) (order : KeepsOrder old) (stated : statement.Statement) (now : ℕ) (d : Decides (Makes (AddsVerdict stated)) (recorded old) (Statement stated) now) where
   abbrev keys : List PartKey
-  keys = part_keys (state_in (recorded old) (image_of old)) (first_part stated)
+  keys = verdict_keys (state_in (recorded old) (image_of old)) stated
 
   reads_keys : reads (state_in (recorded old) (image_of old)) (Statement stated) now ≡ keys
   reads_keys = reads_stated (recorded old) (image_of old) order.whole stated now d
@@ -80,14 +80,14 @@ module _ {V S : Type 0} {g : volume.Ghosts V} (database : Ghosts S) (old : Keepe
         ))
 
     -- memory or the volume failed, or a part has not its digest
-    pub unverified_done : (e : not_accepted.Refused) → CountsVerified (Err e) (failures_of old) (failures_of new) → (g.tells → IsVerified (Err e) (recorded old) (image_of old) stated) → HasDone database old (Statement stated) now (Err e) new
+    pub unverified_done : (e : not_accepted.Refused) → CountsVerified {T = Verdict} (Err e) (failures_of old) (failures_of new) → (g.tells → IsVerified (Err e) (recorded old) (image_of old) stated) → HasDone database old (Statement stated) now (Err e) new
     unverified_done (refused.Refusal refusal) counts verified = absurd counts
     unverified_done (refused.Fault NoMemory) counts verified = no_memory counts
     unverified_done (refused.Fault VolumeFailed) counts verified = volume_failed counts
     unverified_done (refused.Fault StoreFailed) counts verified = absurd counts
     unverified_done (refused.Fault Closed) counts verified = absurd counts
     unverified_done (refused.Fault (Damaged damage)) counts verified =
-        subst (λ k. HasDone database old (Statement stated) now (Err (refused.Fault (Damaged k))) new) (sym counts.0) (broken counts.1 (λ tells. verified tells (ap (λ k. refused.Fault (Damaged k)) counts.0)))
+        subst (λ k. HasDone database old (Statement stated) now (Err (refused.Fault (Damaged k))) new) (sym counts.0) (broken counts.1 (λ tells. (verified tells).1 (ap (λ k. refused.Fault (Damaged k)) counts.0)))
 
   -- ---- there is one
 

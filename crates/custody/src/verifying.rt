@@ -1,23 +1,26 @@
-//! A deposit that is stated, read and verified.
-ghost use Rattle.std.specs.Prelude.{◌≡◌, ◌-◌, ◌<◌, ◌^◌};
+//! A deposit that is stated, read with those that it follows, and verified.
+ghost use Rattle.std.specs.Prelude.{◌≡◌, ◌-◌, ◌<◌, ◌^◌, IfOk};
+ghost use Rattle.std.specs.Option.{option_and_then};
 ghost use Rattle.vault_volume.specs.Vault.{volume_of};
 ghost use Rattle.custody_records.specs.Held.{records_of};
+ghost use Rattle.deposit_verify.specs.Bases.{base_then};
 ghost use Rattle.custody_machine.specs.Machine as machine;
-ghost use Rattle.custody_machine.specs.Stored.{AreWhole};
+ghost use Rattle.custody_machine.specs.Machine.{base_of, joined, part_keys};
+ghost use Rattle.custody_machine.specs.Stored.{AreInRange, AreWhole, state_in};
 ghost use Rattle.custody.specs.Reading.{IsOnlyRead};
-ghost use Rattle.custody.specs.Verified.{HasFirstPart, IsVerified, CountsVerified};
+ghost use Rattle.custody.specs.Verified.{HasFirstPart, HaveDigests, IsVerified, CountsVerified, chain_keys};
 
 use crate::Refused;
 use crate::reading::{Joined, read_revision};
 use custody_machine::{Damage, Fault, Statement};
 use custody_records::{PartKey, Records};
-use custody_rules::known_about;
+use custody_rules::{held_chain, known_about};
 use deposit_name::DepositName;
-use deposit_verify::{Verdict, verify};
+use deposit_verify::{Base, NoMemory, Verdict, verify};
 use std::alloc::Global;
 use vault_volume::{Vault, Volume};
 
-/// Reads the deposit that is stated, and verifies it.
+/// Reads the deposit that is stated and those that it follows, and verifies it.
 pub(crate) fn verify_stated<V: Volume>(
     alloc: Global,
     vault: &mut Vault<V>,
@@ -32,17 +35,88 @@ pub(crate) fn verify_stated<V: Volume>(
     ensures read { IsOnlyRead vault.old vault.new }
     ensures failures { CountsVerified result (V.failures (volume_of vault.old)) (V.failures (volume_of vault.new)) }
 {
+    let base = read_base(alloc, vault, records, statement)?;
     let name = first_part(records, statement);
-    let Joined::Whole(joined) = read_revision(alloc, vault, records, &name)? else {
-        return Err(Refused::Fault(Fault::Damaged(Damage::Digest)));
-    };
-    let Ok(about) = known_about(alloc, records, statement, &name) else {
+    let joined = read_whole(alloc, vault, records, &name)?;
+    let Ok(about) = known_about(alloc, records, statement, &name, base) else {
         return Err(Refused::Fault(Fault::NoMemory));
     };
     let Ok(verdict) = verify(alloc, &joined, &about) else {
         return Err(Refused::Fault(Fault::NoMemory));
     };
     Ok(verdict)
+}
+
+/// The keys that there are after the deposits that a stated one follows, one deposit in memory at a
+/// time: `None` where it follows none, they are not all held, or one is not read.
+fn read_base<V: Volume>(
+    alloc: Global,
+    vault: &mut Vault<V>,
+    records: &Records,
+    statement: &Statement,
+) -> Result<Option<Base>, Refused>
+    requires range { AreInRange (records_of records.now) }
+    requires blocks { V.size (volume_of vault.old) ≡ (records_of records.now).blocks }
+    requires count { V.failures (volume_of vault.old) < 2 ^ 64 - 1 }
+    ensures base { V.tells → IfOk result (λ base. base ≡ base_of (state_in (records_of records.now) (V.image (volume_of vault.old))) statement.now) }
+    ensures digests { V.tells → HaveDigests result (records_of records.now) (V.image (volume_of vault.old)) (chain_keys (records_of records.now) (V.image (volume_of vault.old)) statement.now) }
+    ensures read { IsOnlyRead vault.old vault.new }
+    ensures failures { CountsVerified result (V.failures (volume_of vault.old)) (V.failures (volume_of vault.new)) }
+{
+    let Ok(chain) = held_chain(alloc, records, statement) else {
+        return Err(Refused::Fault(Fault::NoMemory));
+    };
+    let [first, later @ ..] = chain.as_slice() else {
+        return Ok(None);
+    };
+    let full = read_whole(alloc, vault, records, first)?;
+    let Ok(mut base) = Base::of_full(alloc, &full) else {
+        return Err(Refused::Fault(Fault::NoMemory));
+    };
+    drop(full);
+    for name in later {
+        let joined = read_whole(alloc, vault, records, name)?;
+        let Ok(next) = base_then(alloc, base, &joined) else {
+            return Err(Refused::Fault(Fault::NoMemory));
+        };
+        base = next;
+    }
+    Ok(base)
+}
+
+/// The keys after one deposit more, where it is read and those before it were.
+fn base_then(alloc: Global, base: Option<Base>, joined: &[u8]) -> Result<Option<Base>, NoMemory>
+    ensures { IfOk result (λ next. next ≡ option_and_then (λ base. base_then base joined.now) base) }
+{
+    let Some(mut base) = base else {
+        return Ok(None);
+    };
+    if base.then(alloc, joined)? {
+        Ok(Some(base))
+    } else {
+        Ok(None)
+    }
+}
+
+/// The bytes of a deposit's parts, joined, each part with its digest.
+fn read_whole<V: Volume>(
+    alloc: Global,
+    vault: &mut Vault<V>,
+    records: &Records,
+    name: &DepositName,
+) -> Result<Vec<u8>, Refused>
+    requires range { AreInRange (records_of records.now) }
+    requires blocks { V.size (volume_of vault.old) ≡ (records_of records.now).blocks }
+    requires count { V.failures (volume_of vault.old) < 2 ^ 64 - 1 }
+    ensures bytes { V.tells → IfOk result (λ bytes. bytes.items ≡ joined (state_in (records_of records.now) (V.image (volume_of vault.old))) name.now) }
+    ensures digests { V.tells → HaveDigests result (records_of records.now) (V.image (volume_of vault.old)) (part_keys (state_in (records_of records.now) (V.image (volume_of vault.old))) name.now) }
+    ensures read { IsOnlyRead vault.old vault.new }
+    ensures failures { CountsVerified result (V.failures (volume_of vault.old)) (V.failures (volume_of vault.new)) }
+{
+    match read_revision(alloc, vault, records, name)? {
+        Joined::Whole(joined) => Ok(joined),
+        Joined::Broken(_) => Err(Refused::Fault(Fault::Damaged(Damage::Digest))),
+    }
 }
 
 /// The name of the first part of the deposit that is stated, as it is recorded.
