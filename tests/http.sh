@@ -235,10 +235,11 @@ partial_statement() {
     printf 'POST /statements HTTP/1.1\\r\\nContent-Length: 93\\r\\n\\r\\n'
     printf '{"date":"%s","id":"%s001","kind":"%s","parts":1,"revision":0,"tld":"example"}' "$1" "${1//-/}" "$2"
 }
-# sent DAY KIND [PREVIOUS]: a deposit of that kind is received
+# sent DAY KIND [PREVIOUS [REGISTRARS [TABLE [KEYS]]]]: a deposit of that kind is received
 sent() {
     local deposit part=example_$1_$2_S1_R0.ryde
-    deposit=$(partial_deposit "$2" "$1" "${1//-/}001" "${3-}")
+    deposit=$(partial_deposit "$2" "$1" "${1//-/}001" "${@:3}"; printf .)
+    deposit=${deposit%.}
     answers "a part of $1, $2" "201 Created" "received $part ${#deposit} $later" 69 \
         "PUT /deposits/$part HTTP/1.1\r\nContent-Length: ${#deposit}\r\n\r\n$deposit"
 }
@@ -268,6 +269,19 @@ ended 0 ""
 copied with-full misnamed 2
 sent 2026-08-03 incr X
 told_of "201 Created" 2 FAILURE-06 2026-08-03 incr
+ended 0 ""
+# counts are those of the registry
+copied with-full counting 4
+sent 2026-08-03 diff 20260802001 1 $'R1,Example,292,ok\n'
+told_of "201 Created" 2 "RECEIPT   " 2026-08-03 diff
+sent 2026-08-04 diff 20260803001 0
+told_of "201 Created" 3 FAILURE-11 2026-08-04 diff
+ended 0 ""
+copied with-full counting-deleted 4
+sent 2026-08-03 diff 20260802001 1 $'R1,Example,292,ok\n'
+told_of "201 Created" 2 "RECEIPT   " 2026-08-03 diff
+sent 2026-08-04 diff 20260803001 0 "" $'R1\n'
+told_of "201 Created" 3 "RECEIPT   " 2026-08-04 diff
 ended 0 ""
 new_vault no-full
 "$program" register no-full example --first 2026-08-02 > register.out

@@ -189,10 +189,11 @@ $third" "" report missed example
     fails 11 < <(full_deposit domain "$domains" 2)
     fails 12 < <(full_deposit domain "$domains" 1)
 
-    # judged VAULT NUMBER VERDICT KIND DAY PREVIOUS: a deposit of that kind that is put and stated has this verdict
+    # judged VAULT NUMBER VERDICT KIND DAY PREVIOUS [REGISTRARS [TABLE [KEYS]]]: a deposit of that kind that is put and stated
+    # has this verdict
     judged() {
         local part=example_$5_$4_S1_R0.ryde id=${5//-/}001
-        partial_deposit "$4" "$5" "$id" "$6" > "in/$part"
+        partial_deposit "$4" "$5" "$id" "${@:6}" > "in/$part"
         expect 0 "received $part $(stat -c %s "in/$part") $5T10:00:00Z" "" put "$1" "in/$part" --now "$5T10:00:00Z"
         expect 0 "       $2 $3 $5 R00 $id   $5T10:05:00Z example" "" \
             verify "$1" example --date "$5" --kind "$4" --revision 0 --parts 1 --id "$id" --now "$5T10:05:00Z"
@@ -218,6 +219,42 @@ $third" "" report missed example
     judged behind 3 FAILURE-06 incr 2026-08-04 20260803001
     judged following 3 "RECEIPT   " diff 2026-08-04 20260803001
     judged following 4 "RECEIPT   " incr 2026-08-05 20260802001
+
+    # its counts are those of the registry after it: of the full deposit and, of a differential one, of those between
+    r1=$'R1,Example,292,ok\n' gone=$'R1\n'
+    follows FAILURE-11 diff 2026-08-03 20260802001 0 "$r1"
+    follows "RECEIPT   " diff 2026-08-03 20260802001 1 "$r1"
+    cp -r following with-r1
+    # counts VERDICT KIND PREVIOUS REGISTRARS [TABLE [KEYS]]: the same of the third
+    counts() {
+        rm -rf counted
+        cp -r with-r1 counted
+        judged counted 3 "$1" "$2" 2026-08-04 "${@:3}"
+    }
+    counts "RECEIPT   " diff 20260803001 0 "" "$gone"
+    counts FAILURE-11 diff 20260803001 1 "" "$gone"
+    counts "RECEIPT   " diff 20260803001 1 "$r1" "$gone"
+    counts FAILURE-11 diff 20260803001 0
+    counts "RECEIPT   " diff 20260803001 1
+    counts FAILURE-11 incr 20260802001 1
+    counts "RECEIPT   " incr 20260802001 0
+    # of these a changed bit is told, and nothing recorded; the full one alone is read for an incremental one
+    spoiled=in/example_2026-08-04_diff_S1_R0.ryde
+    for place in 4096 8192; do
+        rm -rf bitten
+        cp -r with-r1 bitten
+        expect 0 "received ${spoiled#in/} $(stat -c %s $spoiled) 2026-08-04T10:00:00Z" "" \
+            put bitten $spoiled --now 2026-08-04T10:00:00Z
+        printf x | dd of=bitten/vault.vol bs=1 seek=$place conv=notrunc 2> /dev/null
+        expect 3 "" "C5 damaged H8" verify bitten example --date 2026-08-04 --kind diff --revision 0 --parts 1 \
+            --id 20260804001 --now 2026-08-04T10:05:00Z
+        "$program" report bitten example > bitten.out
+        check "two notices" test "$(wc -l < bitten.out)" = 2
+    done
+    rm -rf bitten
+    cp -r with-r1 bitten
+    printf x | dd of=bitten/vault.vol bs=1 seek=8192 conv=notrunc 2> /dev/null
+    judged bitten 3 "RECEIPT   " incr 2026-08-04 20260802001 0
 
     # where no deposit has passed, a partial one follows none
     vault none 8
