@@ -1,14 +1,14 @@
 -- The answers of a custody, as those of the machine, and their lines.
 use Rattle.std.specs.Prelude.{ℕ, List, codes, Bool, true, false, not, ◌&&◌, None, Result, Ok, Err}
 use Rattle.custody_records.specs.Records.{key_of}
-use Rattle.custody_records.specs.Typed.{notice_key, notice_value, release_key, release_value}
+use Rattle.custody_records.specs.Typed.{notice_key, notice_value, release_key, release_value, hold_key, hold_value}
 use Rattle.vault_volume.specs.declared.errors.StageError.{StageError}
 use Rattle.vault_volume.specs.declared.errors.StageError.TheVariants as stage
 use Rattle.vault_volume.specs.declared.errors.ReadError.{ReadError}
 use Rattle.vault_volume.specs.declared.errors.ReadError.TheVariants as read
 use Rattle.custody_machine.specs.State.{Held}
 use Rattle.custody_machine.specs.Machine as machine
-use Rattle.custody_machine.specs.Machine.{Command, Register, Receive, Statement, Check, Release, Purge, Answer, Accepted, Refused, Failed, OfRegistry, OfPart, OfNotice, OfRelease, OfPurge}
+use Rattle.custody_machine.specs.Machine.{Command, Register, Receive, Statement, Check, Release, Hold, Lift, Purge, Answer, Accepted, Refused, Failed, OfRegistry, OfPart, OfNotice, OfRelease, OfHold, OfLifting, OfPurge}
 use Rattle.custody_machine.specs.declared.answers.Refusal.TheVariants.{OtherBytes, VolumeFull}
 use Rattle.custody_machine.specs.declared.answers.Fault.TheVariants.{NoMemory, VolumeFailed, StoreFailed, Closed, Damaged}
 use Rattle.custody_machine.specs.Rulings.{bytes_of}
@@ -48,6 +48,8 @@ record_shown bytes (record_of_kind.Registry tld first_day) = OfRegistry tld firs
 record_shown bytes (record_of_kind.Part name received len digest extents) = OfPart (key_of name) (record { kind = name.kind; received = received; content = Held bytes })
 record_shown bytes (record_of_kind.Notice notice) = OfNotice (notice_key notice) (notice_value notice)
 record_shown bytes (record_of_kind.Release release) = OfRelease (release_key release) (release_value release)
+record_shown bytes (record_of_kind.Hold hold) = OfHold (hold_key hold) (hold_value hold)
+record_shown bytes (record_of_kind.Lifting reference at) = OfLifting reference at
 record_shown bytes (record_of_kind.Purge count) = OfPurge count
 
 -- the record that answers a repeat
@@ -55,6 +57,8 @@ abbrev pub told_by : kept.Kept → code.Record
 told_by (found.Registry registry) = record_of_kind.Registry registry.tld registry.first_day
 told_by (found.Notice notice) = record_of_kind.Notice notice
 told_by (found.Release release) = record_of_kind.Release release.now
+told_by (found.Hold hold) = record_of_kind.Hold hold.now
+told_by (found.Lifting reference at) = record_of_kind.Lifting reference at
 
 -- a record with a list of names, which takes memory to answer
 abbrev pub lists_names : machine.Record → Bool
@@ -62,6 +66,8 @@ lists_names (OfRegistry tld first_day) = false
 lists_names (OfPart key part) = false
 lists_names (OfNotice key notice) = false
 lists_names (OfRelease reference release) = true
+lists_names (OfHold reference hold) = false
+lists_names (OfLifting reference at) = false
 lists_names (OfPurge count) = false
 
 -- the answer of the machine
@@ -108,6 +114,8 @@ uses_volume (Receive name bytes) = true
 uses_volume (Statement stated) = true
 uses_volume (Check tld day) = false
 uses_volume (Release reference tld reason) = false
+uses_volume (Hold reference tld day) = false
+uses_volume (Lift reference) = false
 uses_volume Purge = false
 
 -- whether it may write there: a part that is received is, and nothing else
@@ -117,6 +125,8 @@ writes_volume (Receive name bytes) = true
 writes_volume (Statement stated) = false
 writes_volume (Check tld day) = false
 writes_volume (Release reference tld reason) = false
+writes_volume (Hold reference tld day) = false
+writes_volume (Lift reference) = false
 writes_volume Purge = false
 
 -- whether it takes memory after the volume was read
@@ -126,6 +136,8 @@ is_verified (Receive name bytes) = false
 is_verified (Statement stated) = true
 is_verified (Check tld day) = false
 is_verified (Release reference tld reason) = false
+is_verified (Hold reference tld day) = false
+is_verified (Lift reference) = false
 is_verified Purge = false
 
 -- whether the volume may have been called: a part is kept or compared, a deposit is verified, or volume or database failed

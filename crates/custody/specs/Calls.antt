@@ -23,7 +23,7 @@ use Rattle.custody.specs.declared.answers.InitError.TheVariants as init_error
 use Rattle.custody.specs.declared.custody.Custody.{Custody}
 use Rattle.custody.specs.Keeper.{recorded, stored, image_of, failures_of, left_by, KeepsImage, KeepsRows}
 use Rattle.custody.specs.Custody.{keeper_of, is_open}
-use Rattle.custody.specs.Opening.{HasAllOrNone, HasNoRecord, WritesNothing, IsSize, CountsFailures}
+use Rattle.custody.specs.Opening.{HasAll, HasAllOrNone, HasNoRecord, WritesNothing, IsSize, CountsFailures}
 
 module _ {V S : Type 0} (g : volume.Ghosts V) (database : Ghosts S) (volume : V) (db : Held S) where
   -- ---- a beginning
@@ -40,10 +40,10 @@ module _ {V S : Type 0} (g : volume.Ghosts V) (database : Ghosts S) (volume : V)
     pub size : IsSize (g.size volume)
     -- no call of the volume failed
     pub failures : failures_of (keeper_of custody) ≡ g.failures volume
-    -- none of the five tables was there
+    -- none of the six tables was there
     pub tables : has_any (standing database db) ≡ false
-    -- so it was no database with all of them
-    pub not_ready : ¬ (standing database db).IsReady
+    -- so it was no database with those of a schema
+    pub not_all : ¬ HasAll (standing database db)
     -- no transaction is open where none was
     pub mode : (standing database db).in_transaction ≡ false → (stored database (keeper_of custody)).in_transaction ≡ false
     -- a database that is honest was so before
@@ -71,10 +71,10 @@ module _ {V S : Type 0} (g : volume.Ghosts V) (database : Ghosts S) (volume : V)
     pub kind : (why : Fault) → error ≡ init_error.Fault why → (why ≡ fault.NoMemory) ⊎ ((why ≡ fault.VolumeFailed) ⊎ (why ≡ fault.StoreFailed))
     -- the volume is as it was after a refusal and a want of memory
     pub unwritten : WritesNothing error → later ≡ volume
-    -- and where one of the five tables is there
+    -- and where one of the six tables is there
     pub tables : has_any (standing database db) ≡ true → later ≡ volume
-    -- and where all are
-    pub ready : (standing database db).IsReady → later ≡ volume
+    -- and where those of a schema are
+    pub all : HasAll (standing database db) → later ≡ volume
     -- it has its size in any case
     pub same_size : g.size later ≡ g.size volume
     -- where tables are there, and not `meta`: the size is refused, or the database said to have failed, and it was not called
@@ -91,7 +91,7 @@ module _ {V S : Type 0} (g : volume.Ghosts V) (database : Ghosts S) (volume : V)
     pub taken : HasMetaOrNone (standing database db) → error ≡ init_error.AlreadyInitialised → ¬ HasNoRecord (standing database db).rows
     -- and a size only where it has none
     pub not_taken : HasMetaOrNone (standing database db) → error ≡ init_error.Size → HasNoRecord (standing database db).rows
-    -- no row changes where one of the five tables is there, whatever tables there are
+    -- no row changes where one of the six tables is there, whatever tables there are
     pub untouched : has_any (standing database db) ≡ true → (rows : Rows) → (standing database then).may_leave rows → (standing database db).may_leave rows
     -- and after a refusal and a want of memory
     pub unwritten : WritesNothing error → (rows : Rows) → (standing database then).may_leave rows → (standing database db).may_leave rows
@@ -108,14 +108,14 @@ module _ {V S : Type 0} (g : volume.Ghosts V) (database : Ghosts S) (volume : V)
   pub record IsOpened (custody : Custody V S g database) : Type 0 where
     -- it is open
     pub opened : is_open custody ≡ true
-    -- all five tables are there
+    -- all five tables are there that both schemas have
     pub tables : has_all (standing database db) ≡ true
     -- no call of the volume failed
     pub failures : failures_of (keeper_of custody) ≡ g.failures volume
 
   -- What it has of volume and database, each where it tells.
   pub record IsLoaded (custody : Custody V S g database) : Type 0 where
-    -- the records for which the rows stand, whatever tables there are after the five
+    -- the records for which the rows stood, whatever tables there are behind those of the schema
     pub in_form : (standing database db).HasTablesFirst → (stored database (keeper_of custody)).IsHonest → form_of (standing database db).rows ≡ InForm (recorded (keeper_of custody))
     -- they are good with the image
     pub good : g.tells → IsGood (recorded (keeper_of custody)) (g.image volume)
@@ -123,8 +123,8 @@ module _ {V S : Type 0} (g : volume.Ghosts V) (database : Ghosts S) (volume : V)
     pub same_image : g.tells → image_of (keeper_of custody) ≡ g.image volume
     -- the volume is as a command needs it, where a stop left what a read gives
     pub image : g.tells → LeavesOne (g.image volume) (g.left_at volume (g.moment volume)) → KeepsImage (keeper_of custody)
-    -- the database is, too
-    pub rows : (standing database db).IsReady → (stored database (keeper_of custody)).IsHonest → KeepsRows database (keeper_of custody)
+    -- the database is, too, with a table of holds
+    pub rows : HasAll (standing database db) → (stored database (keeper_of custody)).IsHonest → KeepsRows database (keeper_of custody)
 
   -- Why none was opened, whatever volume and database are.
   pub record IsNotOpenedFor (why : Fault) (later : V) (then : Held S) : Type 0 where

@@ -14,7 +14,7 @@ use Rattle.custody_records.specs.Records.{PartRecord, Records}
 use Rattle.custody_records.specs.declared.damage.Damage.TheVariants as rows_damage
 use Rattle.custody_records.specs.Form.{is_known}
 use Rattle.custody_records.specs.Rows.{MetaRow, Rows, first_meta}
-use Rattle.custody_store.specs.Standing.{Standing, standing, Reads}
+use Rattle.custody_store.specs.Standing.{Standing, standing, Reads, Migrates}
 use Rattle.custody_store.specs.declared.faults.StoreFault.{StoreFault}
 use Rattle.custody_store.specs.declared.faults.StoreFault.TheVariants as store
 use Rattle.custody_machine.specs.declared.answers.Fault.{Fault}
@@ -29,9 +29,13 @@ use Rattle.vault_volume.specs.Limits.{fewest_blocks, most_blocks}
 use Rattle.custody.specs.declared.answers.InitError.{InitError}
 use Rattle.custody.specs.declared.answers.InitError.TheVariants as init_error
 
--- a database has the five tables as they are made, or none at all
+-- a database has the tables of one of the two schemas as they are made, and no others
+abbrev pub HasAll : Standing → Type 0
+HasAll s = s.IsReady ⊎ s.IsEarlier
+
+-- or none at all
 abbrev pub HasAllOrNone : Standing → Type 0
-HasAllOrNone s = s.IsReady ⊎ s.IsBare
+HasAllOrNone s = HasAll s ⊎ s.IsBare
 
 -- the database has no record of a vault
 abbrev pub HasNoRecord : Rows → Type 0
@@ -94,6 +98,17 @@ module _ {V S : Type 0} (device : volume.Ghosts V) (database : Ghosts S) where
     pub rows : Reads (standing database db) (standing database then) result
     -- what a stop within it or after it may leave is what the start may leave, whatever the tables are
     pub leaves : device.tells → LeavesOne (device.image volume) (device.left_at volume (device.moment volume)) → (standing database db).IsAtRest → (standing database then).IsHonest
+        → let start = MayLeave (Left (standing database db).rows (device.image volume)) in
+        Leaves (left_by_reading volume db later then) start start
+
+  -- The volume is read, and not written; and the tables of schema 1 are made those of schema 2, or the database is only read, too.
+  pub record OnlyMigrates {A E : Type 0} (volume : V) (db : Held S) (later : V) (then : Held S) (result : Result A E) : Type 0 where
+    -- of the volume
+    pub image : ReadsVolume device volume later
+    -- of the database
+    pub rows : Migrates (standing database db) (standing database then) result
+    -- what a stop within it or after it may leave is what the start may leave: the same state, in one schema or the other
+    pub leaves : device.tells → LeavesOne (device.image volume) (device.left_at volume (device.moment volume)) → (standing database db).IsEarlier → (standing database then).IsHonest
         → let start = MayLeave (Left (standing database db).rows (device.image volume)) in
         Leaves (left_by_reading volume db later then) start start
 

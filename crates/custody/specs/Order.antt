@@ -44,6 +44,7 @@ AreLinked-prop records = λ a b i. record {
   part_registry = (Π_prop λ _. Π_prop λ _. Π_prop λ _. is_true_prop) a.part_registry b.part_registry i;
   notice_registry = (Π_prop λ _. Π_prop λ _. Π_prop λ _. is_true_prop) a.notice_registry b.notice_registry i;
   release_registry = (Π_prop λ _. Π_prop λ _. Π_prop λ _. is_true_prop) a.release_registry b.release_registry i;
+  hold_registry = (Π_prop λ _. Π_prop λ _. Π_prop λ _. is_true_prop) a.hold_registry b.hold_registry i;
   released = (Π_prop λ _. Π_prop λ _. Π_prop λ _. is_true_prop) a.released b.released i;
   series = (Π_prop λ _. Π_prop λ _. Π_prop λ _. Π_prop λ _. Π_prop λ _. is_true_prop) a.series b.series i;
   numbers = (Π_prop λ _. Π_prop λ _. Π_prop λ _. Π_prop λ _. Π_prop λ _. is_true_prop) a.numbers b.numbers i;

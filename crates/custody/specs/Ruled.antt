@@ -1,21 +1,22 @@
 -- What is answered to a ruling, and what is recorded then, whatever volume and database are.
 use Rattle.std.specs.Prelude.{◌≡◌, ◌⊎◌, ℕ, List, [], length, Some, true, false, Result, Ok, Err}
+use Rattle.std.specs.FinMap.{get}
 use Rattle.sha2.specs.Sha256.{sha256}
 use Rattle.deposit_name.specs.Name.{Name}
 use Rattle.desk.specs.declared.grounds.Ground.{Ground}
 use Rattle.extent_map.specs.declared.extent.Extent.{Extent}
 use Rattle.schedule.specs.Schedule.{day_of}
-use Rattle.custody_records.specs.Records.{PartRecord, Records, key_of, with_registry, with_part, with_notice, with_release}
+use Rattle.custody_records.specs.Records.{PartRecord, Hold, Records, key_of, with_registry, with_part, with_notice, with_release, with_hold, new_hold, lifted_at}
 use Rattle.deposit_verify.specs.declared.verdict.Verdict.{Verdict}
 use Rattle.custody_machine.specs.declared.command.Statement as statement
-use Rattle.custody_machine.specs.Machine.{Command, OfNotice, OfRelease, absence_notice, next_key, verdict_notice}
+use Rattle.custody_machine.specs.Machine.{Command, OfNotice, OfRelease, OfHold, absence_notice, next_key, verdict_notice}
 use Rattle.custody_machine.specs.Machine as machine
 use Rattle.custody_machine.specs.Purge.{count_due, without_due}
 use Rattle.custody_machine.specs.Releases.{new_release}
 use Rattle.custody_machine.specs.declared.answers.Refusal.TheVariants.{OtherBytes, VolumeFull}
 use Rattle.custody_machine.specs.declared.answers.Fault.TheVariants.{NoMemory, VolumeFailed, StoreFailed, Damaged}
 use Rattle.custody_machine.specs.declared.damage.Damage.TheVariants.{Digest}
-use Rattle.custody_machine.specs.Rulings.{Change, AddsRegistry, AddsPart, AddsVerdict, AddsAbsence, AddsRelease, DropsBytes, Ruling, Refuses, Repeats, ByBytes, Makes, Decides, bytes_of}
+use Rattle.custody_machine.specs.Rulings.{Change, AddsRegistry, AddsPart, AddsVerdict, AddsAbsence, AddsRelease, AddsHold, LiftsHold, DropsBytes, Ruling, Refuses, Repeats, ByBytes, Makes, Decides, bytes_of}
 use Rattle.custody.specs.declared.answers.Record.TheVariants as of
 use Rattle.custody.specs.declared.answers.Reply.{Reply}
 use Rattle.custody.specs.declared.answers.Refused.{Refused}
@@ -79,7 +80,21 @@ IsHandedOver records reference tld reason now (Ok reply) later =
 IsHandedOver records reference tld reason now (Err (refused.Refusal refusal)) later = ⊥
 IsHandedOver records reference tld reason now (Err (refused.Fault fault)) later = (fault ≡ NoMemory) ⊎ (fault ≡ StoreFailed)
 
--- the bytes that were kept for a year are dropped, and it is answered of how many parts; or memory or the database fails
+-- a hold of the day is recorded, and answered as it is recorded; or memory or the database fails
+abbrev pub IsHeld : Records → List ℕ → List ℕ → ℕ → ℕ → Result Reply Refused → Records → Type 0
+IsHeld records reference tld day now (Ok reply) later =
+    (record_shown [] reply.record ≡ OfHold reference (new_hold tld day now)) × (reply.is_repeat ≡ false) × (later ≡ with_hold records reference (new_hold tld day now))
+IsHeld records reference tld day now (Err (refused.Refusal refusal)) later = ⊥
+IsHeld records reference tld day now (Err (refused.Fault fault)) later = (fault ≡ NoMemory) ⊎ (fault ≡ StoreFailed)
+
+-- the moment of the lifting is recorded, and answered; or the database fails
+abbrev pub IsLifted : Records → List ℕ → ℕ → Result Reply Refused → Records → Type 0
+IsLifted records reference now (Ok reply) later =
+    (reply ≡ record { «record» = of.Lifting reference now; is_repeat = false }) × (hold : Hold) × (get records.holds reference ≡ Some hold) × (later ≡ with_hold records reference (lifted_at now hold))
+IsLifted records reference now (Err (refused.Refusal refusal)) later = ⊥
+IsLifted records reference now (Err (refused.Fault fault)) later = fault ≡ StoreFailed
+
+-- the bytes that were kept for a year, of days that are not on hold, are dropped, and it is answered of how many parts; or memory or the database fails
 abbrev pub IsPurged : Records → ℕ → Result Reply Refused → Records → Type 0
 IsPurged records now (Ok reply) later = (reply ≡ record { «record» = of.Purge (count_due (day_of now) records); is_repeat = false }) × (later ≡ without_due (day_of now) records)
 IsPurged records now (Err (refused.Refusal refusal)) later = ⊥
@@ -91,6 +106,8 @@ IsMade (AddsPart name) records bytes now answer later = IsReceived records name 
 IsMade (AddsVerdict stated) records bytes now answer later = IsNoticed records stated now answer later
 IsMade (AddsAbsence tld day) records bytes now answer later = IsMissed records tld day now answer later
 IsMade (AddsRelease reference tld reason) records bytes now answer later = IsHandedOver records reference tld reason now answer later
+IsMade (AddsHold reference tld day) records bytes now answer later = IsHeld records reference tld day now answer later
+IsMade (LiftsHold reference) records bytes now answer later = IsLifted records reference now answer later
 IsMade DropsBytes records bytes now answer later = IsPurged records now answer later
 
 -- ---- commands

@@ -1,10 +1,11 @@
 -- What a reply shows: a record, as the records have it and as the volume holds it.
-use Rattle.std.specs.Prelude.{◌≡◌, ℕ, List, Some}
+use Rattle.std.specs.Prelude.{◌≡◌, ℕ, List, Option, Some}
+use Rattle.std.specs.Option.{option_and_then}
 use Rattle.std.specs.FinMap.{get}
 use Rattle.deposit_name.specs.Name.{Name}
 use Rattle.vault_volume.specs.Extents.{part_bytes}
-use Rattle.custody_records.specs.Records.{PartRecord, Records, key_of}
-use Rattle.custody_records.specs.Typed.{notice_key, notice_value, release_key, release_value}
+use Rattle.custody_records.specs.Records.{PartRecord, Hold, Records, key_of}
+use Rattle.custody_records.specs.Typed.{notice_key, notice_value, release_key, release_value, hold_key, hold_value}
 use Rattle.custody.specs.declared.answers.Record.{Record}
 use Rattle.custody.specs.declared.answers.Record.TheVariants as of
 
@@ -14,7 +15,13 @@ ShowsPart (of.Registry tld first_day) name part = ⊥
 ShowsPart (of.Part named received len digest extents) name part = (named ≡ name) × (part ≡ record { kind = name.kind; received = received; len = len; digest = digest; extents = Some extents.items })
 ShowsPart (of.Notice notice) name part = ⊥
 ShowsPart (of.Release release) name part = ⊥
+ShowsPart (of.Hold hold) name part = ⊥
+ShowsPart (of.Lifting reference at) name part = ⊥
 ShowsPart (of.Purge count) name part = ⊥
+
+-- when the hold of a reference was lifted
+abbrev pub lifting_in : Records → List ℕ → Option ℕ
+lifting_in records reference = option_and_then (λ (hold : Hold). hold.lifted) (get records.holds reference)
 
 -- one of these records
 abbrev pub IsRecorded : Records → Record → Type 0
@@ -23,6 +30,8 @@ IsRecorded records (of.Part name received len digest extents) =
     get records.parts (key_of name) ≡ Some (record { kind = name.kind; received = received; len = len; digest = digest; extents = Some extents.items })
 IsRecorded records (of.Notice notice) = get records.notices (notice_key notice) ≡ Some (notice_value notice)
 IsRecorded records (of.Release release) = get records.releases (release_key release) ≡ Some (release_value release)
+IsRecorded records (of.Hold hold) = get records.holds (hold_key hold) ≡ Some (hold_value hold)
+IsRecorded records (of.Lifting reference at) = lifting_in records reference ≡ Some at
 IsRecorded records (of.Purge count) = Unit {0}
 
 -- a part whose extents hold these bytes
@@ -31,4 +40,6 @@ HoldsBytes image (of.Registry tld first_day) bytes = Unit {0}
 HoldsBytes image (of.Part name received len digest extents) bytes = part_bytes image extents.items len ≡ bytes
 HoldsBytes image (of.Notice notice) bytes = Unit {0}
 HoldsBytes image (of.Release release) bytes = Unit {0}
+HoldsBytes image (of.Hold hold) bytes = Unit {0}
+HoldsBytes image (of.Lifting reference at) bytes = Unit {0}
 HoldsBytes image (of.Purge count) bytes = Unit {0}

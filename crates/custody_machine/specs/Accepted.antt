@@ -1,5 +1,5 @@
 -- One life of a custody, so that the laws speak of something: a command of each kind is accepted, and what is released is fetched (Specification 2, Part A section 7 and Part B sections 4, 6 and 7).
-use Rattle.std.specs.Prelude.{◌≡◌, ◌≢◌, ℕ, ◌+◌, ◌*◌, List, [], ◌∷◌, ◌++◌, map, true, false, codes, Ok, Err}
+use Rattle.std.specs.Prelude.{◌≡◌, ◌≢◌, ℕ, ◌+◌, ◌*◌, List, [], ◌∷◌, ◌++◌, map, None, true, false, codes, Ok, Err}
 use Rattle.deposit_name.specs.declared.kinds.Kind.TheVariants.{Full}
 use Rattle.desk.specs.declared.checks.Check.TheVariants.{Frame}
 use Rattle.desk.specs.declared.grounds.Ground.TheVariants.{Operator}
@@ -8,7 +8,7 @@ use Rattle.custody_records.specs.Keys.{PartKey, NoticeKey}
 use Rattle.custody_machine.specs.declared.answers.Refusal.TheVariants.{DroppedAfterKeeping}
 use Rattle.custody_machine.specs.declared.command.Statement as statement
 use Rattle.custody_machine.specs.State.{State, Held, empty}
-use Rattle.custody_machine.specs.Machine.{Register, Receive, Statement, Check, Release, Purge, Record, OfRegistry, OfPart, OfNotice, OfRelease, OfPurge, Reply, Accept, Accepted, Entry, step, state_after, after}
+use Rattle.custody_machine.specs.Machine.{Register, Receive, Statement, Check, Release, Hold, Lift, Purge, Record, OfRegistry, OfPart, OfNotice, OfRelease, OfHold, OfLifting, OfPurge, Reply, Accept, Accepted, Entry, step, state_after, after}
 use Rattle.custody_machine.specs.History.{Event, Answered, StoppedAtRest}
 use Rattle.custody_machine.specs.Examples.{HasExamples, Finds, opened_as, pair_of}
 use Rattle.custody_machine.specs.Fetched.{fetched}
@@ -46,9 +46,17 @@ until_release =
     ∷ ((Release (codes "R-1") tld Operator, moment 20_670 3 0), OfRelease (codes "R-1") (record { tld = tld; reason = Operator; at = moment 20_670 3 0; names = file ∷ [] }))
     ∷ []
 
--- 2027-08-02, day 21032, is the last day on which the part is kept.
+-- Before 2027-08-02, day 21032, which is the last day on which the part is kept, its day is held.
+abbrev pub until_hold : List (Entry × Record)
+until_hold = until_release ++ ((Hold (codes "H-1") tld 20_667, moment 21_032 9 0), OfHold (codes "H-1") (record { tld = tld; day = 20_667; at = moment 21_032 9 0; lifted = None })) ∷ []
+
+-- The hold is lifted, and then the part is dropped.
 abbrev pub life : List (Entry × Record)
-life = until_release ++ ((Purge, moment 21_033 0 0), OfPurge 1) ∷ []
+life =
+    until_hold
+    ++ ((Lift (codes "H-1"), moment 21_033 9 0), OfLifting (codes "H-1") (moment 21_033 9 0))
+    ∷ ((Purge, moment 21_033 10 0), OfPurge 1)
+    ∷ []
 
 abbrev pub commands_of : List (Entry × Record) → List Entry
 commands_of = map (λ (one : Entry × Record). one.0)
@@ -80,9 +88,11 @@ abbrev pub events_of : List (Entry × Record) → State → List Event
 events_of ones state = map (λ (one : Entry × Record). Answered one.0.0 one.0.1 (Accepted (new_reply one.1))) ones ++ StoppedAtRest (pair_of state) ∷ opened_as state
 
 pub record CustodyLives : Type 0 where
-  -- each of the six is accepted, and one history has them all
+  -- each of the eight is accepted, and one history has them all
   pub accepted : AreAccepted empty life
   pub found : Finds empty (events_of life (after empty (commands_of life))) (commands_of life)
+  -- while its day is on hold, no purge drops the part
+  pub held : step (after empty (commands_of until_hold)) Purge (moment 21_033 0 0) ≡ Accept (new_reply (OfPurge 0)) (after empty (commands_of until_hold))
   -- what is released is fetched until it is dropped
   pub released : fetched (after empty (commands_of until_release)) (codes "R-1") file ≡ Ok (codes "hello")
   pub dropped : fetched (after empty (commands_of life)) (codes "R-1") file ≡ Err DroppedAfterKeeping

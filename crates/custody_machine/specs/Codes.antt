@@ -1,7 +1,7 @@
 -- What a refusal or a failure is told as: one row each.
 use Rattle.std.specs.Prelude.{ℕ, List, ◌++◌, Option, Some, codes}
 use Rattle.custody_machine.specs.declared.answers.Refusal.{Refusal}
-use Rattle.custody_machine.specs.declared.answers.Refusal.TheVariants.{NameRefused, RegistryUnknown, DateOutOfRange, Size, OtherBytes, DroppedAfterKeeping, RevisionNotDue, AlreadyStated, TypeDiffers, PartOutOfOrder, VolumeFull, PartsDiffer, LaterDayPassed, NotYetDue, DayHasVerdict, GroundDoesNotStand, ReferenceUsed, NotInRelease, ReleaseUnknown}
+use Rattle.custody_machine.specs.declared.answers.Refusal.TheVariants.{NameRefused, RegistryUnknown, DateOutOfRange, Size, OtherBytes, DroppedAfterKeeping, RevisionNotDue, AlreadyStated, TypeDiffers, PartOutOfOrder, VolumeFull, PartsDiffer, LaterDayPassed, NotYetDue, DayHasVerdict, GroundDoesNotStand, ReferenceUsed, NotInRelease, ReleaseUnknown, HoldReferenceUsed, HoldUnknown}
 use Rattle.custody_machine.specs.declared.answers.Fault.{Fault}
 use Rattle.custody_machine.specs.declared.answers.Fault.TheVariants.{NoMemory, VolumeFailed, StoreFailed, Closed, Damaged}
 use Rattle.custody_machine.specs.declared.codes.Code.{Code}
@@ -56,6 +56,8 @@ refusal_row GroundDoesNotStand = (codes "Q16", codes "ground does not stand", Co
 refusal_row ReferenceUsed = (codes "Q17", codes "reference used", Conflict)
 refusal_row NotInRelease = (codes "Q18", codes "not in release", NotFound)
 refusal_row ReleaseUnknown = (codes "Q19", codes "release unknown", NotFound)
+refusal_row HoldReferenceUsed = (codes "Q20", codes "hold reference used", Conflict)
+refusal_row HoldUnknown = (codes "Q21", codes "hold unknown", NotFound)
 
 abbrev pub fault_row : Fault → List ℕ × List ℕ × HttpStatus
 fault_row NoMemory = (codes "C1", codes "no memory", ServiceUnavailable)

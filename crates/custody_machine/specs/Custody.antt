@@ -7,10 +7,10 @@ use Rattle.vault_volume.specs.Extents.{AreChosen, HasAtLeast, Takes, block_count
 use Rattle.vault_volume.specs.Staged.{StagedPart}
 use Rattle.custody_records.specs.Records.{PartRecord, Records}
 use Rattle.custody_records.specs.Rows.{Rows}
-use Rattle.custody_records.specs.Form.{form_of, InForm}
+use Rattle.custody_records.specs.Form.{form_of, InForm, IsCurrent}
 use Rattle.custody_machine.specs.declared.damage.Damage.TheVariants.{NoRecord}
 use Rattle.custody_machine.specs.State.{empty}
-use Rattle.custody_machine.specs.Machine.{Command, Register, Receive, Statement, Check, Release, Purge, Answer}
+use Rattle.custody_machine.specs.Machine.{Command, Register, Receive, Statement, Check, Release, Hold, Lift, Purge, Answer}
 use Rattle.custody_machine.specs.History.{Event, Answered, Rested, ShutDown}
 use Rattle.custody_machine.specs.Stored.{IsNamed, AreWhole, IsVolumeOf}
 use Rattle.custody_machine.specs.Damage.{IsDamaged}
@@ -33,6 +33,8 @@ HasRoomFor records (Receive name bytes) = HasRoom records (length bytes)
 HasRoomFor records (Statement stated) = Unit {0}
 HasRoomFor records (Check tld day) = Unit {0}
 HasRoomFor records (Release reference tld reason) = Unit {0}
+HasRoomFor records (Hold reference tld day) = Unit {0}
+HasRoomFor records (Lift reference) = Unit {0}
 HasRoomFor records Purge = Unit {0}
 
 -- ---- an open custody
@@ -49,10 +51,11 @@ pub record IsOnVolume (records : Records) (image : List ℕ) (free : ℕ → Typ
   pub volume : IsVolumeOf records image
   pub elsewhere : (c : List ℕ) → left c → DiffersOnlyIn free image c
 
--- Where the database is honest: it stands ready, its rows are the records, and a stop leaves these rows.
+-- Where the database is honest: it stands ready, its rows are the records, in the schema that has holds, and a stop leaves these rows.
 pub record IsInStore (records : Records) (rows : Rows) (is_ready : Type 0) (left : Rows → Type 0) : Type 0 where
   pub ready : is_ready
   pub in_form : form_of rows ≡ InForm records
+  pub current : IsCurrent rows
   pub settled : (r : Rows) → left r → r ≡ rows
 
 -- ---- what the calls of volume and database give

@@ -107,7 +107,7 @@ Happens (Halted old doubt) ShutDown next = next ≡ Halted old doubt
 Happens (Halted old doubt) (StoppedAtRest pair) next = OpensSoundly (MayFind old doubt) pair × (next ≡ Stopped pair)
 Happens (Halted old doubt) (StoppedWithin command now pair) next = OpensSoundly (MayFind old doubt) pair × (next ≡ Stopped pair)
 Happens (Halted old doubt) (OpenedWith pair answer) next = ⊥
--- Opening changes nothing, and neither does a stop within it.
+-- Opening changes no record, and neither does a stop within it: tables of the earlier schema may be those of the later one then.
 Happens (Stopped left) (Answered command now answer) next = ⊥
 Happens (Stopped left) Rested next = ⊥
 Happens (Stopped left) ShutDown next = ⊥

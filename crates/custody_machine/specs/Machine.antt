@@ -20,20 +20,21 @@ use Rattle.deposit_verify.specs.declared.verdict.Verdict.TheVariants.{Pass, Fail
 use Rattle.deposit_verify.specs.Bases.{base_at}
 use Rattle.deposit_verify.specs.Known.{Known}
 use Rattle.deposit_verify.specs.Verdict.{verdict}
-use Rattle.custody_records.specs.Keys.{PartKey, NoticeKey, notice_cmp}
+use Rattle.custody_records.specs.Keys.{text_cmp, PartKey, NoticeKey, notice_cmp}
+use Rattle.custody_records.specs.Purge.{is_on_hold}
 use Rattle.custody_records.specs.Records as records
-use Rattle.custody_records.specs.Records.{Notice, key_of, name_of}
+use Rattle.custody_records.specs.Records.{Notice, key_of, lifted_at, name_of, new_hold}
 use Rattle.custody_records.specs.Tables.{is_rising}
 pub use Rattle.custody_machine.specs.declared.damage.Damage.{Damage}
 pub use Rattle.custody_machine.specs.declared.answers.Refusal.{Refusal}
-pub use Rattle.custody_machine.specs.declared.answers.Refusal.TheVariants.{NameRefused, RegistryUnknown, DateOutOfRange, Size, OtherBytes, DroppedAfterKeeping, RevisionNotDue, AlreadyStated, TypeDiffers, PartOutOfOrder, VolumeFull, PartsDiffer, LaterDayPassed, NotYetDue, DayHasVerdict, GroundDoesNotStand, ReferenceUsed, NotInRelease, ReleaseUnknown}
+pub use Rattle.custody_machine.specs.declared.answers.Refusal.TheVariants.{NameRefused, RegistryUnknown, DateOutOfRange, Size, OtherBytes, DroppedAfterKeeping, RevisionNotDue, AlreadyStated, TypeDiffers, PartOutOfOrder, VolumeFull, PartsDiffer, LaterDayPassed, NotYetDue, DayHasVerdict, GroundDoesNotStand, ReferenceUsed, NotInRelease, ReleaseUnknown, HoldReferenceUsed, HoldUnknown}
 pub use Rattle.custody_machine.specs.declared.answers.Fault.{Fault}
 pub use Rattle.custody_machine.specs.declared.answers.Fault.TheVariants.{NoMemory, VolumeFailed, StoreFailed, Closed, Damaged}
 use Rattle.custody_machine.specs.declared.damage.Damage.TheVariants.{Digest}
 pub use Rattle.vault_volume.specs.Limits.{max_part_len}
 use Rattle.custody_machine.specs.Names.{is_same_text, read_name}
 use Rattle.custody_machine.specs.SameValues.{is_same_ground, is_same_kind}
-use Rattle.custody_machine.specs.MapValues.{map_values}
+use Rattle.custody_machine.specs.MapValues.{map_keyed}
 use Rattle.custody_machine.specs.declared.command.Statement as statement
 use Rattle.custody_machine.specs.State.{State, Part, Content, Held, Dropped, places, at_place, is_notice_of, has_notice}
 
@@ -50,6 +51,9 @@ pub data Command : Type 0 where
   Check : (tld : List ℕ) → (day : ℕ) → Command
   -- hands the deposits of a registry over on a ground (Part B section 6)
   Release : (reference : List ℕ) → (tld : List ℕ) → (reason : Ground) → Command
+  -- has no part of a registry's day dropped, until the hold is lifted
+  Hold : (reference : List ℕ) → (tld : List ℕ) → (day : ℕ) → Command
+  Lift : (reference : List ℕ) → Command
   -- drops the bytes that were kept for a year (Part B section 4)
   Purge : Command
 
@@ -59,6 +63,9 @@ pub data Record : Type 0 where
   OfPart : PartKey → Part → Record
   OfNotice : NoticeKey → Notice → Record
   OfRelease : (reference : List ℕ) → records.Release → Record
+  OfHold : (reference : List ℕ) → records.Hold → Record
+  -- that the hold of a reference was lifted, at a moment
+  OfLifting : (reference : List ℕ) → (at : ℕ) → Record
   -- of how many parts the bytes were dropped
   OfPurge : (count : ℕ) → Record
 
@@ -245,6 +252,26 @@ held_name tld entry = if is_same_text entry.0.tld tld && not (is_gone entry.1.co
 abbrev pub held_names : State → List ℕ → List (List ℕ)
 held_names state tld = filter_map (held_name tld) (entries state.parts)
 
+-- ---- what a hold and its lifting speak of
+
+abbrev pub hold_of : State → List ℕ → Option records.Hold
+hold_of state reference = get state.holds reference
+
+-- a hold is of this registry and day
+abbrev pub is_held_day : List ℕ → ℕ → records.Hold → Bool
+is_held_day tld day hold = is_same_text hold.tld tld && hold.day == day
+
+abbrev pub if_held_day : List ℕ → ℕ → records.Hold → Option records.Hold
+if_held_day tld day hold = if is_held_day tld day hold then Some hold else None
+
+-- the hold that was made on the same request, lifted or not
+abbrev pub kept_hold : State → List ℕ → List ℕ → ℕ → Option records.Hold
+kept_hold state reference tld day = option_and_then (if_held_day tld day) (hold_of state reference)
+
+-- when the hold of a reference was lifted
+abbrev pub lifting_of : State → List ℕ → Option ℕ
+lifting_of state reference = option_and_then (λ (hold : records.Hold). hold.lifted) (hold_of state reference)
+
 -- ---- what a purge drops
 
 abbrev pub content_len : Content → ℕ
@@ -255,15 +282,15 @@ content_len (Dropped n) = n
 abbrev pub without_bytes : Part → Part
 without_bytes part = record { kind = part.kind; received = part.received; content = Dropped (content_len part.content) }
 
--- its bytes are held, and the last day of their keeping is before this day
-abbrev pub is_due : ℕ → Part → Bool
-is_due today part = not (is_gone part.content) && nat_lt (year_after (day_of part.received)) today
+-- its bytes are held, the last day of their keeping is before this day, and its day is not on hold
+abbrev pub is_due : FinMap text_cmp records.Hold → ℕ → PartKey → Part → Bool
+is_due holds today key part = not (is_gone part.content) && (nat_lt (year_after (day_of part.received)) today && not (is_on_hold holds key))
 
-abbrev pub dropped_if_due : ℕ → Part → Part
-dropped_if_due today part = if is_due today part then without_bytes part else part
+abbrev pub dropped_if_due : FinMap text_cmp records.Hold → ℕ → PartKey → Part → Part
+dropped_if_due holds today key part = if is_due holds today key part then without_bytes part else part
 
 abbrev pub count_due : State → ℕ → ℕ
-count_due state today = count_by (λ (entry : PartKey × Part). is_due today entry.1) (entries state.parts)
+count_due state today = count_by (λ (entry : PartKey × Part). is_due state.holds today entry.0 entry.1) (entries state.parts)
 
 -- ---- deposits that passed
 
@@ -351,7 +378,7 @@ known_of state stated = record {
 
 -- ---- refusals
 
--- the numbers Q1 to Q17, and of a fetch Q18 and Q19
+-- the numbers Q1 to Q17, of a fetch Q18 and Q19, and of holds Q20 and Q21
 abbrev pub refusal_number : Refusal → ℕ
 refusal_number (NameRefused _) = 1
 refusal_number RegistryUnknown = 2
@@ -372,6 +399,8 @@ refusal_number GroundDoesNotStand = 16
 refusal_number ReferenceUsed = 17
 refusal_number NotInRelease = 18
 refusal_number ReleaseUnknown = 19
+refusal_number HoldReferenceUsed = 20
+refusal_number HoldUnknown = 21
 
 abbrev pub is_unknown : State → List ℕ → Bool
 is_unknown state tld = is_none (first_day_of state tld)
@@ -459,6 +488,17 @@ release_tests state reference tld reason now =
     ∷ (ReferenceUsed, is_some (release_of state reference) && is_none (kept_release state reference tld reason))
     ∷ []
 
+-- The tests of a hold. That of the day is for one that was not made before.
+abbrev pub hold_tests : State → List ℕ → List ℕ → ℕ → ℕ → List Test
+hold_tests state reference tld day now =
+    (RegistryUnknown, is_unknown state tld)
+    ∷ (DateOutOfRange, is_none (kept_hold state reference tld day) && is_beyond state tld day now)
+    ∷ (HoldReferenceUsed, is_some (hold_of state reference) && is_none (kept_hold state reference tld day))
+    ∷ []
+
+abbrev pub lift_tests : State → List ℕ → List Test
+lift_tests state reference = (HoldUnknown, is_none (hold_of state reference)) ∷ []
+
 -- the tests of a command, in the order of their numbers
 abbrev pub tests_of : State → Command → ℕ → List Test
 tests_of state (Register tld first_day) now = []
@@ -466,6 +506,8 @@ tests_of state (Receive text bytes) now = named_tests state (read_name text) byt
 tests_of state (Statement stated) now = statement_tests state stated now
 tests_of state (Check tld day) now = check_tests state tld day now
 tests_of state (Release reference tld reason) now = release_tests state reference tld reason now
+tests_of state (Hold reference tld day) now = hold_tests state reference tld day now
+tests_of state (Lift reference) now = lift_tests state reference
 tests_of state Purge now = []
 
 abbrev pub TestsAreInOrder : Type 0
@@ -492,13 +534,15 @@ kept_under state (Ok name) bytes = option_map (λ (part : Part). OfPart (key_of 
 abbrev pub notice_record : NoticeKey × Notice → Record
 notice_record entry = OfNotice entry.0 entry.1
 
--- The record that answers a command which is a repeat. Of a registration the first day is not compared, of a part each byte is, and of a statement, of a check and of a release all that they say.
+-- The record that answers a command which is a repeat. Of a registration the first day is not compared, of a part each byte is, and of a statement, of a check, of a release and of a hold all that they say. A lifting that comes again is answered by the first one.
 abbrev pub kept : State → Command → Option Record
 kept state (Register tld first_day) = option_map (λ (day : ℕ). OfRegistry tld day) (first_day_of state tld)
 kept state (Receive text bytes) = kept_under state (read_name text) bytes
 kept state (Statement stated) = option_map notice_record (kept_verdict state stated)
 kept state (Check tld day) = option_map notice_record (absence_of state tld day)
 kept state (Release reference tld reason) = option_map (OfRelease reference) (kept_release state reference tld reason)
+kept state (Hold reference tld day) = option_map (OfHold reference) (kept_hold state reference tld day)
+kept state (Lift reference) = option_map (OfLifting reference) (lifting_of state reference)
 kept state Purge = None
 
 -- ---- effects
@@ -566,9 +610,20 @@ new_release state tld reason now = record { tld = tld; reason = reason; at = now
 abbrev pub released : State → List ℕ → records.Release → Outcome
 released state reference release = Accept (record { entry = OfRelease reference release; is_repeat = false }) (with_release state reference release)
 
+abbrev pub with_hold : State → List ℕ → records.Hold → State
+with_hold state reference hold = record state { holds = insert state.holds reference hold }
+
+abbrev pub held : State → List ℕ → records.Hold → Outcome
+held state reference hold = Accept (record { entry = OfHold reference hold; is_repeat = false }) (with_hold state reference hold)
+
+-- the hold stays, with the moment of its lifting
+abbrev pub lifted : State → List ℕ → ℕ → Option records.Hold → Outcome
+lifted state reference now None = Refuse HoldUnknown
+lifted state reference now (Some hold) = Accept (record { entry = OfLifting reference now; is_repeat = false }) (with_hold state reference (lifted_at now hold))
+
 -- each part stays, without its bytes where it is due
 abbrev pub without_due : State → ℕ → State
-without_due state today = record state { parts = map_values (dropped_if_due today) state.parts }
+without_due state today = record state { parts = map_keyed (dropped_if_due state.holds today) state.parts }
 
 abbrev pub purged : State → ℕ → Outcome
 purged state now = Accept (record { entry = OfPurge (count_due state (day_of now)); is_repeat = false }) (without_due state (day_of now))
@@ -580,6 +635,8 @@ effect state (Receive text bytes) now = received state (read_name text) bytes no
 effect state (Statement stated) now = stated_as state stated now
 effect state (Check tld day) now = missed state tld day now
 effect state (Release reference tld reason) now = released state reference (new_release state tld reason now)
+effect state (Hold reference tld day) now = held state reference (new_hold tld day now)
+effect state (Lift reference) now = lifted state reference now (hold_of state reference)
 effect state Purge now = purged state now
 
 abbrev pub unless_kept : State → Option Record → Outcome → Outcome
@@ -632,6 +689,8 @@ takes_room (Receive _ _) = true
 takes_room (Statement _) = false
 takes_room (Check _ _) = false
 takes_room (Release _ _ _) = false
+takes_room (Hold _ _ _) = false
+takes_room (Lift _) = false
 takes_room Purge = false
 
 -- The one free choice: a new part may be refused for want of room.
@@ -669,6 +728,8 @@ reads state (Receive text bytes) now = read_by (refusal_of state (Receive text b
 reads state (Statement stated) now = if_made (refusal_of state (Statement stated) now) (kept state (Statement stated)) (verdict_keys state stated)
 reads state (Check tld day) now = []
 reads state (Release reference tld reason) now = []
+reads state (Hold reference tld day) now = []
+reads state (Lift reference) now = []
 reads state Purge now = []
 
 abbrev pub MayFail : Outcome → List PartKey → Fault → Type 0
@@ -696,4 +757,6 @@ HasRecord state (OfRegistry tld first_day) = get state.registries tld ≡ Some f
 HasRecord state (OfPart key part) = get state.parts key ≡ Some part
 HasRecord state (OfNotice key notice) = get state.notices key ≡ Some notice
 HasRecord state (OfRelease reference release) = get state.releases reference ≡ Some release
+HasRecord state (OfHold reference hold) = get state.holds reference ≡ Some hold
+HasRecord state (OfLifting reference at) = lifting_of state reference ≡ Some at
 HasRecord state (OfPurge count) = Unit {0}

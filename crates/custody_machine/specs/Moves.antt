@@ -24,7 +24,7 @@ pub data Place : Type 0 where
 
 -- ---- what a stop may leave
 
--- between two calls. Over what a restart shows an opening may be stopped, or may have failed: it leaves the same state
+-- between two calls. Over what a restart shows an opening may be stopped, or may have failed: it leaves the same state, in whichever schema
 abbrev pub MayLeave : Place → Rows → List ℕ → Type 0
 MayLeave (Serving records image) rows left = OpensFrom records image (λ found. found ≡ state_in records image) rows left
 MayLeave (Shut records image doubt) rows left = OpensFrom records image (MayFind (state_in records image) doubt) rows left

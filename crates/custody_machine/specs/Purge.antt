@@ -1,19 +1,19 @@
--- The records after the bytes were dropped that were kept for a year.
-use Rattle.std.specs.Prelude.{◌≡◌, ℕ, Bool, true, Some, count_by}
+-- The records after the bytes were dropped that were kept for a year, of days that are not on hold.
+use Rattle.std.specs.Prelude.{◌≡◌, ℕ, true, Some, count_by}
 use Rattle.std.specs.FinMap.{entries, get}
 use Rattle.custody_records.specs.Keys.{PartKey}
 use Rattle.custody_records.specs.Purge.{is_due, dropped_if_due}
 use Rattle.custody_records.specs.Records.{PartRecord, Records}
-use Rattle.custody_machine.specs.MapValues.{map_values}
+use Rattle.custody_machine.specs.MapValues.{map_keyed}
 use Rattle.custody_machine.specs.Stored.{AreNaming}
 
 abbrev pub without_due : ℕ → Records → Records
-without_due today records = record records { parts = map_values (dropped_if_due today) records.parts }
+without_due today records = record records { parts = map_keyed (dropped_if_due records.holds today) records.parts }
 
 -- how many parts are due
 abbrev pub count_due : ℕ → Records → ℕ
-count_due today records = count_by (λ (entry : PartKey × PartRecord). is_due today entry.1) (entries records.parts)
+count_due today records = count_by (λ (entry : PartKey × PartRecord). is_due records.holds today entry.0 entry.1) (entries records.parts)
 
 -- a part that is due names the block
 abbrev pub IsDueBlock : ℕ → Records → ℕ → Type 0
-IsDueBlock today records b = (key : PartKey) × (part : PartRecord) × (get records.parts key ≡ Some part) × (is_due today part ≡ true) × AreNaming part.extents b
+IsDueBlock today records b = (key : PartKey) × (part : PartRecord) × (get records.parts key ≡ Some part) × (is_due records.holds today key part ≡ true) × AreNaming part.extents b

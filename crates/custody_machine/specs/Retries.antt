@@ -4,10 +4,10 @@ use Rattle.std.specs.List.{list_any}
 use Rattle.deposit_name.specs.Name.{Name}
 use Rattle.desk.specs.declared.notices.NoticeKind.TheVariants.{Absence}
 use Rattle.deposit_verify.specs.declared.verdict.Verdict.{Verdict}
-use Rattle.custody_records.specs.Records.{key_of}
+use Rattle.custody_records.specs.Records.{key_of, lifted_at}
 use Rattle.custody_machine.specs.Names.{is_same_text, read_name}
 use Rattle.custody_machine.specs.State.{State, Held}
-use Rattle.custody_machine.specs.Machine.{Command, Register, Receive, Statement, Check, Release, Purge, notice_kind, without_bytes, DroppedAfterKeeping, Record, OfRegistry, OfPart, OfNotice, OfRelease, OfPurge, Reply, Outcome, Refuse, Accept, Entry, step, state_after, after, recorded, is_dropped, Answer, Accepted, Refused, Failed, NoMemory, VolumeFailed, StoreFailed, Closed, Damaged, HasRecord}
+use Rattle.custody_machine.specs.Machine.{Command, Register, Receive, Statement, Check, Release, Hold, Lift, Purge, notice_kind, without_bytes, DroppedAfterKeeping, Record, OfRegistry, OfPart, OfNotice, OfRelease, OfHold, OfLifting, OfPurge, Reply, Outcome, Refuse, Accept, Entry, step, state_after, after, recorded, is_dropped, Answer, Accepted, Refused, Failed, NoMemory, VolumeFailed, StoreFailed, Closed, Damaged, HasRecord}
 use Rattle.custody_machine.specs.History.{Event, Answered, OpenedWith, Pair, Opened, IsHistory, found}
 
 -- ---- keys
@@ -19,14 +19,18 @@ pub data Key : Type 0 where
   OfRevision : (tld : List ℕ) → (day : ℕ) → (rev : ℕ) → Key
   OfDay : (tld : List ℕ) → (day : ℕ) → Key
   OfReference : (reference : List ℕ) → Key
+  OfHolding : (reference : List ℕ) → Key
+  OfLift : (reference : List ℕ) → Key
 
--- The key of a command: of a registration its registry, of a part its name, of a statement its revision, of a check its day, of a release its reference. One that makes no record of its own has none.
+-- The key of a command: of a registration its registry, of a part its name, of a statement its revision, of a check its day, of a release, of a hold and of a lifting its reference. Keys of two kinds of command are never the same. One that makes no record of its own has none.
 abbrev pub key : Command → Option Key
 key (Register tld _) = Some (OfTld tld)
 key (Receive name _) = Some (OfName name)
 key (Statement stated) = Some (OfRevision stated.tld stated.day stated.rev)
 key (Check tld day) = Some (OfDay tld day)
 key (Release reference _ _) = Some (OfReference reference)
+key (Hold reference _ _) = Some (OfHolding reference)
+key (Lift reference) = Some (OfLift reference)
 key Purge = None
 
 -- whether two keys are there, and are the same
@@ -36,6 +40,8 @@ are_same_keys (Some (OfName a)) (Some (OfName b)) = is_same_text a b
 are_same_keys (Some (OfRevision a d r)) (Some (OfRevision b e s)) = is_same_text a b && (d == e && r == s)
 are_same_keys (Some (OfDay a d)) (Some (OfDay b e)) = is_same_text a b && d == e
 are_same_keys (Some (OfReference a)) (Some (OfReference b)) = is_same_text a b
+are_same_keys (Some (OfHolding a)) (Some (OfHolding b)) = is_same_text a b
+are_same_keys (Some (OfLift a)) (Some (OfLift b)) = is_same_text a b
 are_same_keys _ _ = false
 
 abbrev pub has_same_key : Command → Command → Bool
@@ -61,9 +67,10 @@ ActsOnce first = (events : List Event) → IsHistory first events → after firs
 
 -- ---- what is kept for good
 
--- A record is kept as another one: as it is; or of a part without its bytes.
+-- A record is kept as another one: as it is; of a part without its bytes; or of a hold that was not lifted with its lifting.
 abbrev pub IsKeptAs : Record → Record → Type 0
 IsKeptAs (OfPart key part) kept = (kept ≡ OfPart key part) ⊎ (kept ≡ OfPart key (without_bytes part))
+IsKeptAs (OfHold reference hold) kept = (kept ≡ OfHold reference hold) ⊎ ((hold.lifted ≡ None) × (at : ℕ) × (kept ≡ OfHold reference (lifted_at at hold)))
 IsKeptAs entry kept = kept ≡ entry
 
 -- the state still has the record
@@ -82,13 +89,15 @@ NothingIsRemoved = (old : State) (command : Command) (now : ℕ) → KeepsRecord
 abbrev pub RepliesAreRecords : Type 0
 RepliesAreRecords = (old new : State) (command : Command) (now : ℕ) (reply : Reply) → step old command now ≡ Accept reply new → HasRecord new reply.entry
 
--- the record is that of the command: of a registration its registry, of a part its name and its bytes, of a statement its revision and its id, of a check its day, of a release its reference, its registry and its ground, of a purge a count
+-- the record is that of the command: of a registration its registry, of a part its name and its bytes, of a statement its revision and its id, of a check its day, of a release its reference, its registry and its ground, of a hold its reference, its registry and its day, of a lifting its reference, of a purge a count
 abbrev pub IsOfCommand : Command → Record → Type 0
 IsOfCommand (Register tld first_day) (OfRegistry other day) = other ≡ tld
 IsOfCommand (Receive text bytes) (OfPart key part) = (name : Name) × (read_name text ≡ Ok name) × (key ≡ key_of name) × (part.kind ≡ name.kind) × (part.content ≡ Held bytes)
 IsOfCommand (Statement stated) (OfNotice key notice) = (key.tld ≡ stated.tld) × (notice.day ≡ stated.day) × (verdict : Verdict) × (notice.kind ≡ notice_kind stated verdict)
 IsOfCommand (Check tld day) (OfNotice key notice) = (key.tld ≡ tld) × (notice.day ≡ day) × (notice.kind ≡ Absence)
 IsOfCommand (Release reference tld reason) (OfRelease other release) = (other ≡ reference) × (release.tld ≡ tld) × (release.reason ≡ reason)
+IsOfCommand (Hold reference tld day) (OfHold other hold) = (other ≡ reference) × (hold.tld ≡ tld) × (hold.day ≡ day)
+IsOfCommand (Lift reference) (OfLifting other at) = other ≡ reference
 IsOfCommand Purge (OfPurge count) = Unit {0}
 IsOfCommand _ _ = ⊥
 
@@ -137,7 +146,7 @@ RepeatsAreAnswered first = (earlier later : List Event) (before behind : List En
 
 -- ---- what the client sees
 
--- What was acknowledged is there at each later opening: a registry with the day that was told, a part of the name's kind with the moment that was told, and held with the bytes that were sent, or dropped with their number, a notice or a release as it was told.
+-- What was acknowledged is there at each later opening: a registry with the day that was told, a part of the name's kind with the moment that was told, and held with the bytes that were sent, or dropped with their number, a notice, a release or a lifting as it was told, a hold as it was told, or with its lifting.
 abbrev pub AcknowledgedIsKept : State → Type 0
 AcknowledgedIsKept first = (earlier between later : List Event) (command : Command) (now : ℕ) (reply : Reply) (pair : Pair) (state : State) →
     IsHistory first (earlier ++ Answered command now (Accepted reply) ∷ between ++ OpenedWith pair (Opened state) ∷ later) →

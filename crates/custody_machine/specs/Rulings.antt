@@ -5,11 +5,12 @@ use Rattle.deposit_name.specs.Name.{Name}
 use Rattle.desk.specs.declared.grounds.Ground.{Ground}
 use Rattle.extent_map.specs.declared.extent.Extent.{Extent}
 use Rattle.vault_volume.specs.Extents.{part_bytes}
-use Rattle.custody_records.specs.Records.{PartRecord, Records, key_of}
+use Rattle.custody_records.specs.Records as recorded_in
+use Rattle.custody_records.specs.Records.{PartRecord, Records, key_of, new_hold}
 use Rattle.custody_machine.specs.declared.command.Statement as statement
 use Rattle.custody_machine.specs.Names.{read_name}
 use Rattle.custody_machine.specs.State.{State}
-use Rattle.custody_machine.specs.Machine.{Command, Register, Receive, Statement, Check, Release, Purge, Record, OfRegistry, OfPart, Outcome, Refuse, Accept, Refusal, OtherBytes, VolumeFull, step, received_part, with_registry, with_part, stated_as, missed, new_release, purged, released}
+use Rattle.custody_machine.specs.Machine.{Command, Register, Receive, Statement, Check, Release, Hold, Lift, Purge, Record, OfRegistry, OfPart, Outcome, Refuse, Accept, Refusal, OtherBytes, VolumeFull, step, hold_of, held, lifted, received_part, with_registry, with_part, stated_as, missed, new_release, purged, released}
 use Rattle.custody_machine.specs.Stored.{part_of, state_in}
 
 -- ---- what may be decided
@@ -26,6 +27,10 @@ pub data Change : Type 0 where
   AddsAbsence : (tld : List ℕ) → (day : ℕ) → Change
   -- the deposits of a registry are handed over: a release of its parts that are held is kept
   AddsRelease : (reference : List ℕ) → (tld : List ℕ) → (reason : Ground) → Change
+  -- a day of a registry is held under a reference
+  AddsHold : (reference : List ℕ) → (tld : List ℕ) → (day : ℕ) → Change
+  -- the hold of a reference is lifted
+  LiftsHold : (reference : List ℕ) → Change
   -- the bytes that were kept for a year are dropped
   DropsBytes : Change
 
@@ -47,6 +52,8 @@ bytes_of (Receive name bytes) = bytes
 bytes_of (Statement stated) = []
 bytes_of (Check tld day) = []
 bytes_of (Release reference tld reason) = []
+bytes_of (Hold reference tld day) = []
+bytes_of (Lift reference) = []
 bytes_of Purge = []
 
 -- the machine has this outcome for the command in the state of the records, whatever the volume holds
@@ -60,6 +67,8 @@ IsUnder (Receive text bytes) name = read_name text ≡ Ok name
 IsUnder (Statement stated) name = ⊥
 IsUnder (Check tld day) name = ⊥
 IsUnder (Release reference tld reason) name = ⊥
+IsUnder (Hold reference tld day) name = ⊥
+IsUnder (Lift reference) name = ⊥
 IsUnder Purge name = ⊥
 
 -- the part of the command's name is recorded, and held at these extents
@@ -82,6 +91,8 @@ IsNew (AddsPart name) records command = IsUnder command name × (get records.par
 IsNew (AddsVerdict stated) records command = command ≡ Statement stated
 IsNew (AddsAbsence tld day) records command = command ≡ Check tld day
 IsNew (AddsRelease reference tld reason) records command = (command ≡ Release reference tld reason) × (get records.releases reference ≡ None)
+IsNew (AddsHold reference tld day) records command = (command ≡ Hold reference tld day) × (get records.holds reference ≡ None)
+IsNew (LiftsHold reference) records command = (command ≡ Lift reference) × (hold : recorded_in.Hold) × (get records.holds reference ≡ Some hold) × (hold.lifted ≡ None)
 IsNew DropsBytes records command = command ≡ Purge
 
 -- a change is accepted with these bytes at a moment, and made
@@ -91,6 +102,8 @@ made (AddsPart name) bytes now state = Accept (record { entry = OfPart (key_of n
 made (AddsVerdict stated) bytes now state = stated_as state stated now
 made (AddsAbsence tld day) bytes now state = missed state tld day now
 made (AddsRelease reference tld reason) bytes now state = released state reference (new_release state tld reason now)
+made (AddsHold reference tld day) bytes now state = held state reference (new_hold tld day now)
+made (LiftsHold reference) bytes now state = lifted state reference now (hold_of state reference)
 made DropsBytes bytes now state = purged state now
 
 -- The ruling of a command. (That the bytes differ is for the volume to say, and that there is no room for its map.)

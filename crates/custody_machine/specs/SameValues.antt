@@ -1,5 +1,5 @@
 -- Whether two values are the same, as tests.
-use Rattle.std.specs.Prelude.{Bool, true, false, ◌&&◌, nat_eq, ◌==◌}
+use Rattle.std.specs.Prelude.{ℕ, Option, Some, None, Bool, true, false, ◌&&◌, nat_eq, ◌==◌}
 use Rattle.std.specs.Cmp.Lexicographic.{pointwise}
 use Rattle.std.specs.FinMap.{FinMap, entries}
 use Rattle.std.specs.declared.cmp.Ordering.{Ordering}
@@ -11,7 +11,7 @@ use Rattle.desk.specs.declared.grounds.Ground.{Ground}
 use Rattle.desk.specs.declared.notices.NoticeKind.{NoticeKind}
 use Rattle.desk.specs.declared.notices.NoticeKind.TheVariants.{Receipt, Failure, Absence}
 use Rattle.custody_records.specs.Keys.{PartKey, NoticeKey}
-use Rattle.custody_records.specs.Records.{Notice, Release}
+use Rattle.custody_records.specs.Records.{Notice, Release, Hold}
 use Rattle.custody_machine.specs.Names.{is_same_text}
 use Rattle.custody_machine.specs.State.{State, Part, Content, Held, Dropped}
 
@@ -53,9 +53,18 @@ is_same_notice a b = a.day == b.day && (a.at == b.at && is_same_notice_kind a.ki
 abbrev pub is_same_release : Release → Release → Bool
 is_same_release a b = is_same_text a.tld b.tld && (is_same_ground a.reason b.reason && (a.at == b.at && pointwise is_same_text a.names b.names))
 
+abbrev pub is_same_moment : Option ℕ → Option ℕ → Bool
+is_same_moment (Some a) (Some b) = a == b
+is_same_moment None None = true
+is_same_moment (Some a) None = false
+is_same_moment None (Some b) = false
+
+abbrev pub is_same_hold : Hold → Hold → Bool
+is_same_hold a b = is_same_text a.tld b.tld && (a.day == b.day && (a.at == b.at && is_same_moment a.lifted b.lifted))
+
 abbrev pub is_same_map : {K X : Type 0} {R : K → K → Ordering} → (K → K → Bool) → (X → X → Bool) → FinMap R X → FinMap R X → Bool
 is_same_map {K} {X} {R} key value m n = pointwise (λ (p q : K × X). key p.0 q.0 && value p.1 q.1) (entries m) (entries n)
 
 abbrev pub is_same_state : State → State → Bool
 is_same_state a b = is_same_map is_same_text nat_eq a.registries b.registries && (is_same_map is_same_key is_same_part a.parts b.parts
-    && (is_same_map is_same_notice_key is_same_notice a.notices b.notices && is_same_map is_same_text is_same_release a.releases b.releases))
+    && (is_same_map is_same_notice_key is_same_notice a.notices b.notices && (is_same_map is_same_text is_same_release a.releases b.releases && is_same_map is_same_text is_same_hold a.holds b.holds)))

@@ -6,7 +6,7 @@ use Rattle.std.specs.FinMap.{FinMap, entries}
 use Rattle.deposit_name.specs.declared.kinds.Kind.{Kind}
 use Rattle.desk.specs.declared.notices.NoticeKind.{NoticeKind}
 use Rattle.custody_records.specs.Keys.{text_cmp, PartKey, part_cmp, NoticeKey, notice_cmp}
-use Rattle.custody_records.specs.Records.{Notice, Release}
+use Rattle.custody_records.specs.Records.{Notice, Release, Hold}
 use Rattle.custody_machine.specs.Names.{is_same_text}
 
 -- what is kept of a part: its bytes, or after the keeping year its length (Part B section 4)
@@ -28,10 +28,12 @@ pub record State : Type 0 where
   pub notices : FinMap notice_cmp Notice
   -- by reference
   pub releases : FinMap text_cmp Release
+  -- by references of their own
+  pub holds : FinMap text_cmp Hold
 
 -- a new custody keeps nothing
 abbrev pub empty : State
-empty = record { registries = map.empty; parts = map.empty; notices = map.empty; releases = map.empty }
+empty = record { registries = map.empty; parts = map.empty; notices = map.empty; releases = map.empty; holds = map.empty }
 
 -- the places in the series of a revision's parts
 abbrev pub places : List ℕ

@@ -13,7 +13,7 @@ use Rattle.vault_volume.specs.Image.{bytes_at}
 use Rattle.vault_volume.specs.Extents.{IsExtentOf, AreApart, IsInAny, block_count, blocks_of, part_bytes}
 use Rattle.vault_volume.specs.Head.{head_of}
 use Rattle.custody_records.specs.Keys.{PartKey, NoticeKey}
-use Rattle.custody_records.specs.Records.{PartRecord, Notice, Release, Records, key_of}
+use Rattle.custody_records.specs.Records.{PartRecord, Notice, Release, Hold, Records, key_of}
 use Rattle.custody_records.specs.Rows.{Rows}
 use Rattle.custody_records.specs.Form.{form_of, InForm}
 use Rattle.custody_machine.specs.Names.{is_same_text, read_name}
@@ -79,6 +79,7 @@ pub record AreLinked (records : Records) : Type 0 where
   pub part_registry : (key : PartKey) (part : PartRecord) → get records.parts key ≡ Some part → is_some (get records.registries key.tld) ≡ true
   pub notice_registry : (key : NoticeKey) (notice : Notice) → get records.notices key ≡ Some notice → is_some (get records.registries key.tld) ≡ true
   pub release_registry : (reference : List ℕ) (release : Release) → get records.releases reference ≡ Some release → is_some (get records.registries release.tld) ≡ true
+  pub hold_registry : (reference : List ℕ) (hold : Hold) → get records.holds reference ≡ Some hold → is_some (get records.registries hold.tld) ≡ true
   -- each name of a release is that of a recorded part of its registry
   pub released : (reference : List ℕ) (release : Release) → get records.releases reference ≡ Some release → list_all (λ text. names_part records release.tld (read_name text)) release.names ≡ true
   -- the parts of a revision are 1 to k, of one kind: before each other than the first stands one of its kind
@@ -120,7 +121,7 @@ part_of image part = record { kind = part.kind; received = part.received; conten
 
 -- the state of records, with the bytes of an image
 abbrev pub state_in : Records → List ℕ → State
-state_in records image = record { registries = records.registries; parts = map_values (part_of image) records.parts; notices = records.notices; releases = records.releases }
+state_in records image = record { registries = records.registries; parts = map_values (part_of image) records.parts; notices = records.notices; releases = records.releases; holds = records.holds }
 
 -- Rows and image stand for a state: the rows are in form, nothing is damaged, and the bytes of each held part are those of the image at its extents.
 pub record Stands (rows : Rows) (image : List ℕ) (state : State) : Type 0 where

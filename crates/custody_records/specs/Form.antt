@@ -1,5 +1,5 @@
 -- What the rows of the tables stand for: whether they are in form, and the records that they make.
-use Rattle.std.specs.Prelude.{ℕ, ℤ, pos, negsuc, ◌*◌, ◌-◌, List, [], ◌∷◌, ◌++◌, length, Option, Some, None, Bool, true, false, not, ◌&&◌, ◌==◌, nat_lt, if◌then◌else◌, is_some, option_map, find, Result, Ok, Err}
+use Rattle.std.specs.Prelude.{◌≡◌, ℕ, ℤ, pos, negsuc, ◌*◌, ◌-◌, List, [], ◌∷◌, ◌++◌, length, Option, Some, None, Bool, true, false, not, ◌&&◌, ◌||◌, ◌==◌, nat_lt, if◌then◌else◌, is_some, option_map, find, Result, Ok, Err}
 use Rattle.std.specs.Option.{option_and_then}
 use Rattle.std.specs.Str.{bytes_eq}
 use Rattle.std.specs.declared.cmp.Ordering.{Ordering}
@@ -25,8 +25,8 @@ use Rattle.vault_volume.specs.Limits.{fewest_blocks, most_blocks, max_part_len}
 use Rattle.custody_records.specs.declared.damage.Damage.{Damage}
 use Rattle.custody_records.specs.declared.damage.Damage.TheVariants as damage
 use Rattle.custody_records.specs.Keys.{text_cmp, PartKey, part_cmp, NoticeKey, notice_cmp}
-use Rattle.custody_records.specs.Records.{PartRecord, Notice, Release, Records}
-use Rattle.custody_records.specs.Rows.{MetaRow, RegistryRow, PartRow, NoticeRow, HandoverRow, Rows}
+use Rattle.custody_records.specs.Records.{PartRecord, Notice, Release, Hold, Records}
+use Rattle.custody_records.specs.Rows.{MetaRow, RegistryRow, PartRow, NoticeRow, HandoverRow, HoldRow, Rows, first_meta}
 
 -- ---- fields
 
@@ -144,6 +144,22 @@ release_in row = if is_reference row.reference && (is_tld row.tld && is_moment r
     option_and_then (λ (reason : Ground). option_map (λ (names : List (List ℕ)). (row.reference, record { tld = row.tld; reason = reason; at = natural row.at; names = names })) (lines_in row.names)) (ground_in row.reason)
     else None
 
+-- ---- holds
+
+-- a moment, or none where it is not lifted
+abbrev pub is_lifting : Option ℤ → Bool
+is_lifting None = true
+is_lifting (Some at) = is_moment at
+
+abbrev pub is_hold : HoldRow → Bool
+is_hold row = is_reference row.reference && (is_tld row.tld && (is_day row.day && (is_moment row.at && is_lifting row.lifted)))
+
+abbrev pub hold_of : HoldRow → Hold
+hold_of row = record { tld = row.tld; day = natural row.day; at = natural row.at; lifted = option_map natural row.lifted }
+
+abbrev pub hold_in : HoldRow → Option (List ℕ × Hold)
+hold_in row = if is_hold row then Some (row.reference, hold_of row) else None
+
 -- ---- the volume
 
 abbrev pub from_hex : Result (List ℕ) FromHexError → ℕ
@@ -169,23 +185,36 @@ pub data Form : Type 0 where
 abbrev pub gathered : {X K R : Type 0} {order : K → K → Ordering} → (X → Option (K × R)) → Option (List X) → Option (FinMap order R)
 gathered {X} {K} {R} {order} read = option_and_then (gather {X = X} {K = K} {R = R} {order = order} read empty)
 
--- the records of a volume of this number and so many blocks, where each table is in form
-abbrev pub all_records : ℕ → ℕ → Option (FinMap text_cmp ℕ) → Option (FinMap part_cmp PartRecord) → Option (FinMap notice_cmp Notice) → Option (FinMap text_cmp Release) → Option Records
-all_records number blocks (Some registries) (Some parts) (Some notices) (Some releases) =
-    Some (record { number = number; blocks = blocks; registries = registries; parts = parts; notices = notices; releases = releases })
-all_records _ _ _ _ _ _ = None
+-- schema 2 has a table of holds; schema 1 has none, and its rows stand for records without a hold
+abbrev pub holds_in : (has_holds : Bool) → Option (List HoldRow) → Option (FinMap text_cmp Hold)
+holds_in true rows = gathered hold_in rows
+holds_in false None = Some empty
+holds_in false (Some _) = None
 
-abbrev pub records_in : ℕ → ℕ → Rows → Option Records
-records_in number blocks rows =
-    all_records number blocks (gathered registry_in rows.registries) (gathered part_in rows.parts) (gathered notice_in rows.notices) (gathered release_in rows.handovers)
+-- the records of a volume of this number and so many blocks, where each table is in form
+abbrev pub all_records : ℕ → ℕ → Option (FinMap text_cmp ℕ) → Option (FinMap part_cmp PartRecord) → Option (FinMap notice_cmp Notice) → Option (FinMap text_cmp Release) → Option (FinMap text_cmp Hold) → Option Records
+all_records number blocks (Some registries) (Some parts) (Some notices) (Some releases) (Some holds) =
+    Some (record { number = number; blocks = blocks; registries = registries; parts = parts; notices = notices; releases = releases; holds = holds })
+all_records _ _ _ _ _ _ _ = None
+
+abbrev pub records_in : (has_holds : Bool) → ℕ → ℕ → Rows → Option Records
+records_in has_holds number blocks rows =
+    all_records number blocks (gathered registry_in rows.registries) (gathered part_in rows.parts) (gathered notice_in rows.notices) (gathered release_in rows.handovers) (holds_in has_holds rows.holds)
 
 abbrev pub in_form_or : Damage → Option Records → Form
 in_form_or why None = OutOfForm why
 in_form_or why (Some records) = InForm records
 
 -- the schema's number is known
+abbrev pub is_schema : ℤ → Bool
+is_schema number = is_number 1 number || is_number 2 number
+
+-- it is that of a schema with a table of holds
+abbrev pub has_holds : ℤ → Bool
+has_holds number = is_number 2 number
+
 abbrev pub is_known : MetaRow → Bool
-is_known row = is_number 1 row.schema_no
+is_known row = is_schema row.schema_no
 
 abbrev pub are_none : List MetaRow → Bool
 are_none [] = true
@@ -195,7 +224,7 @@ abbrev pub form_after : List MetaRow → Rows → Form
 form_after [] rows = NoVault
 form_after (meta ∷ others) rows =
     if is_known meta then
-    (if is_meta meta && are_none others then in_form_or damage.Form (records_in (number_in meta.number) (natural meta.blocks) rows) else OutOfForm damage.Form)
+    (if is_meta meta && are_none others then in_form_or damage.Form (records_in (has_holds meta.schema_no) (number_in meta.number) (natural meta.blocks) rows) else OutOfForm damage.Form)
     else OutOfForm damage.Schema
 
 abbrev pub form_by : Option (List MetaRow) → Rows → Form
@@ -205,3 +234,11 @@ form_by (Some metas) rows = form_after metas rows
 -- what the rows of the tables stand for
 unfoldable pub form_of : Rows → Form
 form_of rows = form_by rows.meta rows
+
+-- the tables are those of the schema with holds
+abbrev pub IsCurrent : Rows → Type 0
+IsCurrent rows = (meta : MetaRow) → first_meta rows ≡ Some meta → has_holds meta.schema_no ≡ true
+
+-- they are those of the schema without
+abbrev pub IsEarlier : Rows → Type 0
+IsEarlier rows = (meta : MetaRow) → first_meta rows ≡ Some meta → has_holds meta.schema_no ≡ false

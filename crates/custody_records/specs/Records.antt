@@ -1,5 +1,5 @@
--- What a custody records (Specification 2, Part B): registries, parts of deposits, notices, and releases. The bytes of a part are not here, but where they lie.
-use Rattle.std.specs.Prelude.{ℕ, List, Option}
+-- What a custody records (Specification 2, Part B): registries, parts of deposits, notices, releases, and holds. The bytes of a part are not here, but where they lie.
+use Rattle.std.specs.Prelude.{ℕ, List, Option, Some, None}
 use Rattle.std.specs.FinMap as map
 use Rattle.std.specs.FinMap.{FinMap}
 use Rattle.std.specs.List.{filter}
@@ -33,6 +33,14 @@ pub record Release : Type 0 where
   pub at : ℕ
   pub names : List (List ℕ)
 
+-- a registry's day that is on hold, as a court or an authority orders it: no part of it is dropped until the hold is lifted
+pub record Hold : Type 0 where
+  pub tld : List ℕ
+  pub day : ℕ
+  pub at : ℕ
+  -- when it was lifted
+  pub lifted : Option ℕ
+
 -- the records, and the number and the blocks of the volume that they belong to
 pub record Records : Type 0 where
   pub number : ℕ
@@ -43,10 +51,12 @@ pub record Records : Type 0 where
   pub notices : FinMap notice_cmp Notice
   -- by reference
   pub releases : FinMap text_cmp Release
+  -- by references of their own
+  pub holds : FinMap text_cmp Hold
 
 -- where nothing is recorded yet
 abbrev pub new_records : ℕ → ℕ → Records
-new_records number blocks = record { number = number; blocks = blocks; registries = map.empty; parts = map.empty; notices = map.empty; releases = map.empty }
+new_records number blocks = record { number = number; blocks = blocks; registries = map.empty; parts = map.empty; notices = map.empty; releases = map.empty; holds = map.empty }
 
 -- the key of the part of a name
 abbrev pub key_of : Name → PartKey
@@ -81,3 +91,15 @@ with_notice records key notice = record records { notices = map.insert records.n
 
 abbrev pub with_release : Records → List ℕ → Release → Records
 with_release records reference release = record records { releases = map.insert records.releases reference release }
+
+abbrev pub with_hold : Records → List ℕ → Hold → Records
+with_hold records reference hold = record records { holds = map.insert records.holds reference hold }
+
+-- ---- holds
+
+abbrev pub new_hold : List ℕ → ℕ → ℕ → Hold
+new_hold tld day now = record { tld = tld; day = day; at = now; lifted = None }
+
+-- the hold, lifted at a moment
+abbrev pub lifted_at : ℕ → Hold → Hold
+lifted_at now hold = record hold { lifted = Some now }

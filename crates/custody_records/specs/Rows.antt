@@ -1,5 +1,6 @@
 -- The tables of a custody as rows, in the order in which they were added. A table that is not there is None.
-use Rattle.std.specs.Prelude.{ℕ, ℤ, pos, List, [], ◌∷◌, ◌++◌, Option, Some, option_map, slice_get}
+use Rattle.std.specs.Prelude.{ℕ, ℤ, pos, if◌then◌else◌, List, [], ◌∷◌, ◌++◌, Option, Some, map, option_map, slice_get}
+use Rattle.std.specs.Str.{bytes_eq}
 use Rattle.std.specs.Option.{option_and_then}
 
 pub record MetaRow : Type 0 where
@@ -41,12 +42,21 @@ pub record HandoverRow : Type 0 where
   pub at : ℤ
   pub names : List ℕ
 
+pub record HoldRow : Type 0 where
+  pub reference : List ℕ
+  pub tld : List ℕ
+  pub day : ℤ
+  pub at : ℤ
+  -- none where it is not lifted
+  pub lifted : Option ℤ
+
 pub record Rows : Type 0 where
   pub meta : Option (List MetaRow)
   pub registries : Option (List RegistryRow)
   pub parts : Option (List PartRow)
   pub notices : Option (List NoticeRow)
   pub handovers : Option (List HandoverRow)
+  pub holds : Option (List HoldRow)
 
 -- the first row of meta
 abbrev pub first_meta : Rows → Option MetaRow
@@ -68,12 +78,28 @@ with_notice_row row rows = record rows { notices = and_then row rows.notices }
 abbrev pub with_handover_row : HandoverRow → Rows → Rows
 with_handover_row row rows = record rows { handovers = and_then row rows.handovers }
 
--- five new tables, with their one row of meta
+abbrev pub with_hold_row : HoldRow → Rows → Rows
+with_hold_row row rows = record rows { holds = and_then row rows.holds }
+
+-- the hold of this reference with the moment of its lifting, each other as it is
+abbrev pub lifted_row : (reference : List ℕ) → (at : ℕ) → HoldRow → HoldRow
+lifted_row reference at row = if bytes_eq row.reference reference then record row { lifted = Some (pos at) } else row
+
+-- each row at its place, and the hold of this reference lifted
+abbrev pub with_lifting : (reference : List ℕ) → (at : ℕ) → Rows → Rows
+with_lifting reference at rows = record rows { holds = option_map (map (lifted_row reference at)) rows.holds }
+
+-- The tables of schema 1, in which there are no holds, as those of schema 2.
+abbrev pub migrated : Rows → Rows
+migrated rows = record rows { meta = option_map (map (λ (row : MetaRow). record row { schema_no = pos 2 })) rows.meta; holds = Some [] }
+
+-- six new tables, with their one row of meta
 abbrev pub fresh : List ℕ → ℤ → Rows
 fresh number blocks = record {
-  meta = Some ((record { one = pos 1; schema_no = pos 1; number = number; blocks = blocks }) ∷ []);
+  meta = Some ((record { one = pos 1; schema_no = pos 2; number = number; blocks = blocks }) ∷ []);
   registries = Some [];
   parts = Some [];
   notices = Some [];
   handovers = Some [];
+  holds = Some [];
 }

@@ -12,11 +12,13 @@ use Rattle.custody_records.specs.declared.notices.NoticeColumns.{NoticeColumns}
 use Rattle.custody_records.specs.declared.parts.Part.{Part}
 use Rattle.custody_records.specs.declared.parts.PartColumns.{PartColumns}
 use Rattle.custody_records.specs.declared.registries.Registry.{Registry}
+use Rattle.custody_records.specs.declared.holds.Hold as ordered
+use Rattle.custody_records.specs.declared.holds.HoldColumns.{HoldColumns}
 use Rattle.custody_records.specs.declared.releases.Release as given
 use Rattle.custody_records.specs.declared.releases.ReleaseColumns.{ReleaseColumns}
 use Rattle.custody_records.specs.Keys.{PartKey, NoticeKey}
-use Rattle.custody_records.specs.Records.{PartRecord, Notice, Release, key_of}
-use Rattle.custody_records.specs.Rows.{MetaRow, PartRow, NoticeRow, HandoverRow}
+use Rattle.custody_records.specs.Records.{PartRecord, Notice, Release, Hold, key_of}
+use Rattle.custody_records.specs.Rows.{MetaRow, PartRow, NoticeRow, HandoverRow, HoldRow}
 use Rattle.custody_records.specs.Form.{natural, is_within, is_number, is_deposit_day, is_moment, kind_in, number_in}
 use Rattle.custody_records.specs.Written.{digits_of}
 
@@ -93,6 +95,20 @@ release_entry r = (release_key r, release_value r)
 
 abbrev pub handover_row : ReleaseColumns → HandoverRow
 handover_row c = record { reference = c.reference.now; tld = c.tld.now; reason = c.reason.now; at = c.at; names = c.names.now }
+
+-- ---- holds
+
+abbrev pub hold_key : ordered.Hold → List ℕ
+hold_key h = h.reference
+
+abbrev pub hold_value : ordered.Hold → Hold
+hold_value h = record { tld = h.tld; day = h.day; at = h.at; lifted = h.lifted }
+
+abbrev pub hold_entry : ordered.Hold → List ℕ × Hold
+hold_entry h = (hold_key h, hold_value h)
+
+abbrev pub hold_row : HoldColumns → HoldRow
+hold_row c = record { reference = c.reference.now; tld = c.tld.now; day = c.day; at = c.at; lifted = c.lifted }
 
 -- ---- the volume
 

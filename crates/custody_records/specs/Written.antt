@@ -13,8 +13,8 @@ use Rattle.desk.specs.declared.notices.NoticeKind.TheVariants.{Receipt, Failure,
 use Rattle.extent_map.specs.declared.extent.Extent.{Extent}
 use Rattle.vault_volume.specs.Limits.{max_part_len}
 use Rattle.custody_records.specs.Keys.{PartKey, NoticeKey}
-use Rattle.custody_records.specs.Records.{PartRecord, Notice, Release}
-use Rattle.custody_records.specs.Rows.{RegistryRow, PartRow, NoticeRow, HandoverRow}
+use Rattle.custody_records.specs.Records.{PartRecord, Notice, Release, Hold}
+use Rattle.custody_records.specs.Rows.{RegistryRow, PartRow, NoticeRow, HandoverRow, HoldRow}
 
 -- ---- registries
 
@@ -127,6 +127,22 @@ pub record IsRelease (reference : List ℕ) (release : Release) : Type 0 where
   pub tld : IsTld release.tld
   pub at : IsMoment release.at
   pub names : IsTrue (list_all is_line release.names)
+
+-- ---- holds
+
+abbrev pub row_of_hold : List ℕ → Hold → HoldRow
+row_of_hold reference hold = record { reference = reference; tld = hold.tld; day = pos hold.day; at = pos hold.at; lifted = option_map pos hold.lifted }
+
+abbrev pub IsLifting : Option ℕ → Type 0
+IsLifting None = Unit {0}
+IsLifting (Some at) = IsMoment at
+
+pub record IsHold (reference : List ℕ) (hold : Hold) : Type 0 where
+  pub named : IsReference reference
+  pub tld : IsTld hold.tld
+  pub day : IsDay hold.day
+  pub at : IsMoment hold.at
+  pub lifted : IsLifting hold.lifted
 
 -- ---- the volume
 

@@ -3,11 +3,13 @@ use Rattle.std.specs.Prelude.{◌≡◌, ℕ, List, [], Option, None, Some, if�
 use Rattle.std.specs.List.{flat_map}
 use Rattle.extent_map.specs.declared.extent.Extent.{Extent}
 use Rattle.custody_records.specs.declared.parts.Part.{Part}
-use Rattle.custody_records.specs.Typed.{part_value}
+use Rattle.custody_records.specs.Typed.{part_place, part_value}
 use Rattle.extent_map.specs.Map.{IsFree, size_of}
 use Rattle.extent_map.specs.declared.map.ExtentMap.{ExtentMap}
+use Rattle.std.specs.FinMap.{FinMap}
+use Rattle.custody_records.specs.Keys.{text_cmp}
 use Rattle.custody_records.specs.Purge.{is_due}
-use Rattle.custody_records.specs.Records.{Records}
+use Rattle.custody_records.specs.Records.{Hold, Records}
 use Rattle.custody_machine.specs.Stored.{ForExtents, AreExtents}
 use Rattle.custody_machine.specs.Custody.{IsPlaceable}
 
@@ -29,12 +31,12 @@ abbrev pub all_extents : List Part → List Extent
 all_extents parts = flat_map extents_of parts
 
 -- the extents of a part that is due, none of any other
-abbrev pub due_of : ℕ → Part → List Extent
-due_of today part = if is_due today (part_value part) then extents_of part else []
+abbrev pub due_of : FinMap text_cmp Hold → ℕ → Part → List Extent
+due_of holds today part = if is_due holds today (part_place part) (part_value part) then extents_of part else []
 
 -- the extents of all the parts that are due, one after the other
-abbrev pub all_due : ℕ → List Part → List Extent
-all_due today parts = flat_map (due_of today) parts
+abbrev pub all_due : FinMap text_cmp Hold → ℕ → List Part → List Extent
+all_due holds today parts = flat_map (due_of holds today) parts
 
 -- ---- the map of a volume
 

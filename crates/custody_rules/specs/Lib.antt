@@ -10,3 +10,4 @@ pub mod Passed
 pub mod Releases
 pub mod Rulings
 pub mod Told
+pub mod Holds

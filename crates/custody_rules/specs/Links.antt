@@ -5,7 +5,7 @@ use Rattle.std.specs.FinMap.{FinMap, get, entries}
 use Rattle.std.specs.declared.cmp.Ordering.{Ordering}
 use Rattle.deposit_name.specs.declared.kinds.Kind.{Kind}
 use Rattle.custody_records.specs.Keys.{PartKey, NoticeKey}
-use Rattle.custody_records.specs.Records.{PartRecord, Notice, Release, Records}
+use Rattle.custody_records.specs.Records.{PartRecord, Notice, Release, Hold, Records}
 use Rattle.custody_machine.specs.Names.{read_name}
 use Rattle.custody_machine.specs.State.{at_place}
 use Rattle.custody_machine.specs.Stored.{is_part_of, names_part, revision_of}
@@ -53,3 +53,8 @@ are_recorded records tld names = list_all (λ text. names_part records tld (read
 
 abbrev pub is_release_linked : Records → Release → Bool
 is_release_linked records release = is_known records release.tld && are_recorded records release.tld release.names
+
+-- ---- holds
+
+abbrev pub is_hold_linked : Records → Hold → Bool
+is_hold_linked records hold = is_known records hold.tld

@@ -1,6 +1,6 @@
 -- The rulings of the code, as those of the machine.
-use Rattle.custody_records.specs.Typed.{notice_key, notice_value, part_value, release_key, release_value}
-use Rattle.custody_machine.specs.Machine.{Record, OfRegistry, OfNotice, OfRelease}
+use Rattle.custody_records.specs.Typed.{notice_key, notice_value, part_value, release_key, release_value, hold_key, hold_value}
+use Rattle.custody_machine.specs.Machine.{Record, OfRegistry, OfNotice, OfRelease, OfHold, OfLifting}
 use Rattle.custody_machine.specs.Rulings as machine
 use Rattle.custody_rules.specs.declared.ruling.Change as change
 use Rattle.custody_rules.specs.declared.ruling.Change.TheVariants as makes
@@ -15,12 +15,16 @@ change_of (makes.Part name) = machine.AddsPart name
 change_of (makes.Verdict statement) = machine.AddsVerdict statement
 change_of (makes.Absence tld day) = machine.AddsAbsence tld day
 change_of (makes.Release reference tld reason) = machine.AddsRelease reference tld reason
+change_of (makes.Hold reference tld day) = machine.AddsHold reference tld day
+change_of (makes.Lift reference) = machine.LiftsHold reference
 change_of makes.Purge = machine.DropsBytes
 
 abbrev pub record_of : kept.Kept → Record
 record_of (answers.Registry registry) = OfRegistry registry.tld registry.first_day
 record_of (answers.Notice notice) = OfNotice (notice_key notice) (notice_value notice)
 record_of (answers.Release release) = OfRelease (release_key release.now) (release_value release.now)
+record_of (answers.Hold hold) = OfHold (hold_key hold.now) (hold_value hold.now)
+record_of (answers.Lifting reference at) = OfLifting reference at
 
 abbrev pub ruling_of : code.Ruling → machine.Ruling
 ruling_of (Refuse refusal) = machine.Refuses refusal

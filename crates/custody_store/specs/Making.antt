@@ -1,5 +1,5 @@
--- The tables as they are made, inside one transaction.
-use Rattle.std.specs.Prelude.{◌≡◌, false, List, [], ℕ, ℤ, Ok, IsTrue}
+-- Tables as they are made, and rows as they are written, inside one transaction.
+use Rattle.std.specs.Prelude.{◌≡◌, false, List, [], ℕ, Ok, IsTrue}
 use Rattle.std.specs.List.{AllByRecursion}
 use Rattle.sqlite.specs.Table.{Table}
 use Rattle.sqlite.specs.Schema.{Schema}
@@ -9,23 +9,29 @@ use Rattle.sqlite.specs.Command.TheVariants.{CreateTable}
 use Rattle.sqlite.specs.Listing.{understood}
 use Rattle.sqlite.specs.Does.{lacks_sequence}
 use Rattle.sqlite.specs.Given.{IsPlain}
+use Rattle.sqlite.specs.Tree.{Trees}
 use Rattle.sqlite.specs.Effect.{Database, IsDatabase}
 use Rattle.sqlite.specs.State.{State, text_of}
-use Rattle.custody_records.specs.Rows.{fresh}
+use Rattle.custody_records.specs.Rows.{Rows}
 use Rattle.custody_store.specs.Reading.{rows_in}
+use Rattle.custody_store.specs.Schema.{record_schema}
 use Rattle.custody_store.specs.Standing.{HasTables}
 use Rattle.sqlite_resolve.specs.declared.compiled.Compiled.{Compiled}
 use Rattle.sqlite_resolve.specs.declared.error.CompileError.{CompileError}
 use Rattle.std.specs.Prelude.{Result, Err}
 
--- a transaction over `first` has made the tables of this schema, and they are empty
-pub record IsMaking (schema : Schema) (first : Database) (s : State) : Type 0 where
+-- a transaction over `first` has made the tables of this schema, as far as they were not there, and each has these rows
+pub record IsMaking (schema : Schema) (first : Database) (rows : Trees) (s : State) : Type 0 where
   pub is_open : IsTrue s.is_open
   pub inside : IsTrue s.in_transaction
   pub committed : s.committed ≡ first
   pub schema_is : s.now.schema ≡ schema
   pub sound : IsDatabase s.now
-  pub empty : AllByRecursion (λ t. s.now.trees t.tree ≡ []) schema.tables
+  pub rows_are : AllByRecursion (λ t. s.now.trees t.tree ≡ rows t.tree) schema.tables
+
+-- no row in any table
+abbrev pub none_in : Trees
+none_in tree = []
 
 -- the whole text makes this table
 abbrev pub MakesOf : List ℕ → Table → Result Compiled CompileError → Type 0
@@ -37,10 +43,10 @@ pub record IsTextOf (schema : Schema) (sql : List ℕ) (table : Table) : Type 0 
   pub plain : IsPlain (understood schema sql)
   pub uncounted : lacks_sequence (created schema table) ≡ false
 
--- a transaction over `first` has made the tables and the row of meta
-pub record IsMade (number : List ℕ) (blocks : ℤ) (first : Database) (s : State) : Type 0 where
+-- a transaction over `first` has made the tables of schema 2, and they have these rows
+pub record IsMade (rows : Rows) (first : Database) (s : State) : Type 0 where
   pub is_open : IsTrue s.is_open
   pub inside : IsTrue s.in_transaction
   pub committed : s.committed ≡ first
-  pub tables : HasTables s.now
-  pub rows : rows_in s.now.trees ≡ fresh number blocks
+  pub tables : HasTables record_schema s.now
+  pub rows_are : rows_in s.now.trees ≡ rows

@@ -1,5 +1,5 @@
 -- The rows that a database holds, by the list of its tables.
-use Rattle.std.specs.Prelude.{ℕ, ◌-◌, ◌&&◌, Bool, List, map, find, codes, bytes_eq, Option, Some, None, option_map}
+use Rattle.std.specs.Prelude.{ℕ, ℤ, ◌-◌, ◌&&◌, Bool, List, map, find, codes, bytes_eq, Option, Some, None, option_map}
 use Rattle.sqlite.specs.declared.types.Value.{Value}
 use Rattle.sqlite.specs.declared.types.Value.TheVariants.{Null, Int, Real, Text, Blob}
 use Rattle.sqlite.specs.Order.{Row, column, bytes}
@@ -10,7 +10,7 @@ use Rattle.sqlite_catalog.specs.Listing.{is_table_row}
 use Rattle.std.specs.List.{list_any}
 use Rattle.sqlite.specs.Schema.{Schema}
 use Rattle.sqlite_schema.specs.Names.{same_name}
-use Rattle.custody_records.specs.Rows.{MetaRow, RegistryRow, PartRow, NoticeRow, HandoverRow, Rows}
+use Rattle.custody_records.specs.Rows.{MetaRow, RegistryRow, PartRow, NoticeRow, HandoverRow, HoldRow, Rows}
 
 abbrev pub bytes_unless_null : Value → Option (List ℕ)
 bytes_unless_null Null = None
@@ -18,6 +18,18 @@ bytes_unless_null (Int n) = Some (bytes (Int n))
 bytes_unless_null (Real x) = Some (bytes (Real x))
 bytes_unless_null (Text t) = Some t
 bytes_unless_null (Blob b) = Some b
+
+abbrev pub integer_unless_null : Value → Option ℤ
+integer_unless_null Null = None
+integer_unless_null (Int n) = Some n
+integer_unless_null (Real x) = Some (id_in (Real x))
+integer_unless_null (Text t) = Some (id_in (Text t))
+integer_unless_null (Blob b) = Some (id_in (Blob b))
+
+-- a number, or NULL for none
+abbrev pub integer_or_null : Option ℤ → Value
+integer_or_null None = Null
+integer_or_null (Some n) = Int n
 
 -- a row of a table is its rowid and then its columns; the key of meta is the rowid
 abbrev pub meta_row : Row → MetaRow
@@ -54,6 +66,9 @@ notice_row row = record {
 abbrev pub handover_row : Row → HandoverRow
 handover_row row = record { reference = bytes (column row 1); tld = bytes (column row 2); reason = bytes (column row 3); at = id_in (column row 4); names = bytes (column row 5) }
 
+abbrev pub hold_row : Row → HoldRow
+hold_row row = record { reference = bytes (column row 1); tld = bytes (column row 2); day = id_in (column row 3); at = id_in (column row 4); lifted = integer_unless_null (column row 5) }
+
 abbrev pub lists_table : List ℕ → Row → Bool
 lists_table name object = is_table_row object && bytes_eq (bytes (column object 2)) name
 
@@ -71,11 +86,12 @@ rows_in trees = record {
   parts = rows_named part_row (codes "part") trees;
   notices = rows_named notice_row (codes "notice") trees;
   handovers = rows_named handover_row (codes "handover") trees;
+  holds = rows_named hold_row (codes "hold") trees;
 }
 
 -- the rows of a database without tables
 abbrev pub no_rows : Rows
-no_rows = record { meta = None; registries = None; parts = None; notices = None; handovers = None }
+no_rows = record { meta = None; registries = None; parts = None; notices = None; handovers = None; holds = None }
 
 -- a row that is answered has the columns alone
 abbrev pub answered_registry : Row → RegistryRow
@@ -108,6 +124,9 @@ answered_notice row = record {
 
 abbrev pub answered_handover : Row → HandoverRow
 answered_handover row = record { reference = bytes (column row 0); tld = bytes (column row 1); reason = bytes (column row 2); at = id_in (column row 3); names = bytes (column row 4) }
+
+abbrev pub answered_hold : Row → HoldRow
+answered_hold row = record { reference = bytes (column row 0); tld = bytes (column row 1); day = id_in (column row 2); at = id_in (column row 3); lifted = integer_unless_null (column row 4) }
 
 abbrev pub answered_meta : Row → MetaRow
 answered_meta row = record { one = id_in (column row 0); schema_no = id_in (column row 1); number = bytes (column row 2); blocks = id_in (column row 3) }

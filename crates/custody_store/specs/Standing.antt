@@ -1,5 +1,5 @@
 -- What a store shows of its records, and what a call does to them.
-use Rattle.std.specs.Prelude.{◌≡◌, ◌⊎◌, ◌||◌, ◌&&◌, ◌++◌, ℕ, List, Bool, true, false, codes, Result, IsTrue, OnOk, OnErr}
+use Rattle.std.specs.Prelude.{◌≡◌, ◌⊎◌, ◌||◌, ◌&&◌, ◌++◌, ℕ, List, Bool, true, false, not, codes, Result, IsTrue, OnOk, OnErr}
 use Rattle.std.specs.List.{AllByRecursion}
 use Rattle.sqlite_trees.specs.declared.store.Shape.TheVariants as shape
 use Rattle.sqlite.specs.Store.{Ghosts}
@@ -10,8 +10,8 @@ use Rattle.sqlite.specs.State.{State, HasCleanDisk}
 use Rattle.sqlite.specs.Held.{Held, state}
 use Rattle.sqlite.specs.Table.{Table}
 use Rattle.sqlite.specs.Schema.{Schema}
-use Rattle.custody_store.specs.Schema.{no_schema, meta_schema, record_schema}
-use Rattle.custody_records.specs.Rows.{Rows}
+use Rattle.custody_store.specs.Schema.{no_schema, meta_schema, first_schema, record_schema}
+use Rattle.custody_records.specs.Rows.{Rows, migrated}
 use Rattle.custody_store.specs.Reading.{rows_in, has_table}
 
 -- the rows that a stop may leave
@@ -30,20 +30,20 @@ pub record IsAtRest (s : State) : Type 0 where
 abbrev pub AreOrdered : List Table → Trees → Type 0
 AreOrdered tables trees = AllByRecursion (λ t. IsShaped shape.Table (trees t.tree)) tables
 
--- the tables are as `create` makes them, and there are no others
-pub record HasTables (db : Database) : Type 0 where
-  pub schema : db.schema ≡ record_schema
+-- the tables are those of a schema, as they are made, and there are no others
+pub record HasTables (schema : Schema) (db : Database) : Type 0 where
+  pub schema_is : db.schema ≡ schema
   pub sound : IsDatabase db
-  pub ordered : AreOrdered record_schema.tables db.trees
+  pub ordered : AreOrdered schema.tables db.trees
 
 -- the first tables are these; after them, and as indexes and views, there may be any
 abbrev pub BeginsWith : List Table → Schema → Type 0
 BeginsWith first schema = (others : List Table) × (schema.tables ≡ first ++ others)
 
--- A database at rest, with the tables of `create` and no others.
-pub record IsReady (s : State) : Type 0 where
+-- A database at rest, with the tables of a schema and no others.
+pub record IsReady (schema : Schema) (s : State) : Type 0 where
   pub rest : IsAtRest s
-  pub tables : HasTables s.now
+  pub tables : HasTables schema s.now
 
 -- A database at rest that has no table yet.
 pub record IsBare (s : State) : Type 0 where
@@ -58,6 +58,10 @@ pub record HasFirst (first : List Table) (s : State) : Type 0 where
   pub sound : IsDatabase s.now
   pub ordered : AreOrdered first s.now.trees
 
+-- Its first tables are the five that both schemas have, as `create` makes them; a table of holds, where there is one, is the sixth.
+abbrev pub HasTablesFirst : State → Type 0
+HasTablesFirst s = HasFirst first_schema.tables s × (has_table (codes "hold") s.now.schema ≡ true → HasFirst record_schema.tables s)
+
 pub record Standing : Type 1 where
   pub rows : Rows
   -- the rows that a stop at this moment may leave
@@ -66,9 +70,11 @@ pub record Standing : Type 1 where
   pub IsHonest : Type 0
   -- it is open, no transaction is, and a stop leaves its rows
   pub IsAtRest : Type 0
-  -- it is at rest, and has the tables that `create` makes and no others
+  -- it is at rest, and has the tables that `create` makes, which are those of schema 2, and no others
   pub IsReady : Type 0
-  -- it is at rest, and its first tables are the five that `create` makes
+  -- it is at rest, and has the tables of schema 1 and no others
+  pub IsEarlier : Type 0
+  -- it is at rest, and its first tables are the five that both schemas have, and then that of holds, if there is one
   pub HasTablesFirst : Type 0
   -- it is at rest, and its first table is meta, as `create` makes it
   pub HasMetaFirst : Type 0
@@ -86,8 +92,9 @@ shown s = record {
   may_leave = leaves s;
   IsHonest = HasCleanDisk s;
   IsAtRest = IsAtRest s;
-  IsReady = IsReady s;
-  HasTablesFirst = HasFirst record_schema.tables s;
+  IsReady = IsReady record_schema s;
+  IsEarlier = IsReady first_schema s;
+  HasTablesFirst = HasTablesFirst s;
   HasMetaFirst = HasFirst meta_schema.tables s;
   IsBare = IsBare s;
   is_open = s.is_open;
@@ -98,13 +105,17 @@ shown s = record {
 abbrev pub standing : {S : Type 0} → Ghosts S → Held S → Standing
 standing g h = shown (state g h)
 
--- one of the five tables is there
+-- one of the six tables is there
 abbrev pub has_any : Standing → Bool
-has_any s = s.has_table (codes "meta") || s.has_table (codes "registry") || s.has_table (codes "part") || s.has_table (codes "notice") || s.has_table (codes "handover")
+has_any s = s.has_table (codes "meta") || s.has_table (codes "registry") || s.has_table (codes "part") || s.has_table (codes "notice") || s.has_table (codes "handover") || s.has_table (codes "hold")
 
--- all five tables are there
+-- all five tables are there that both schemas have
 abbrev pub has_all : Standing → Bool
 has_all s = s.has_table (codes "meta") && s.has_table (codes "registry") && s.has_table (codes "part") && s.has_table (codes "notice") && s.has_table (codes "handover")
+
+-- all tables of schema 1 are there, and that of holds is not
+abbrev pub is_earlier : Standing → Bool
+is_earlier s = has_all s && not (s.has_table (codes "hold"))
 
 -- its first table is meta, or it has none
 abbrev pub HasMetaOrNone : Standing → Type 0
@@ -140,11 +151,25 @@ pub record Founds {A E : Type 0} (old new : Standing) (after : Rows) (result : R
   pub mode : old.in_transaction ≡ false → new.in_transaction ≡ false
   pub effect : new.IsHonest → old.IsBare → IsOneFounding old new after result
 
+-- The tables of schema 1 are those of schema 2 at once, or they and the rows are those that were there.
+pub record IsOneMigration {A E : Type 0} (old new : Standing) (result : Result A E) : Type 0 where
+  pub done : OnOk result (new.IsReady × (new.rows ≡ migrated old.rows))
+  pub kept : OnErr result (IsTrue new.is_open → new.IsEarlier × (new.rows ≡ old.rows))
+  -- a stop leaves what it left before, or the rows of schema 2
+  pub left : (rows : Rows) → new.may_leave rows → old.may_leave rows ⊎ (rows ≡ migrated old.rows)
+
+-- The call that makes tables of schema 1 those of schema 2.
+pub record Migrates {A E : Type 0} (old new : Standing) (result : Result A E) : Type 0 where
+  pub trust : new.IsHonest → old.IsHonest
+  pub mode : old.in_transaction ≡ false → new.in_transaction ≡ false
+  pub effect : new.IsHonest → old.IsEarlier → IsOneMigration old new result
+
 -- The tables and the rows are those that were there.
 pub record StandsAs (old new : Standing) : Type 0 where
   pub rows : new.rows ≡ old.rows
   pub rest : new.IsAtRest
   pub ready : old.IsReady → new.IsReady
+  pub earlier : old.IsEarlier → new.IsEarlier
   pub first_tables : old.HasTablesFirst → new.HasTablesFirst
   pub first_meta : old.HasMetaFirst → new.HasMetaFirst
   pub bare : old.IsBare → new.IsBare

@@ -3,12 +3,13 @@ use Rattle.std.specs.Prelude.{◌≡◌, ◌&&◌, ◌==◌, ℕ, List, length, 
 use Rattle.std.specs.FinMap.{FinMap, from_entries}
 use Rattle.std.specs.List.{filter}
 use Rattle.deposit_name.specs.Name.{Name}
-use Rattle.custody_records.specs.Keys.{PartKey, NoticeKey, notice_cmp}
-use Rattle.custody_records.specs.Records.{Notice, key_of}
+use Rattle.custody_records.specs.Keys.{PartKey, NoticeKey, notice_cmp, text_cmp}
+use Rattle.custody_records.specs.Records.{Hold, Notice, key_of}
 use Rattle.custody_records.specs.declared.releases.Release.{Release}
 use Rattle.desk.specs.declared.notices.Notice as desk
 use Rattle.custody_records.specs.Tables.{table_map}
-use Rattle.custody_records.specs.Typed.{notice_key, notice_value, release_entry}
+use Rattle.custody_records.specs.Typed.{hold_key, hold_value, notice_key, notice_value, release_entry}
+use Rattle.plain_machine.specs.declared.holds.PlainHolds.{PlainHolds}
 use Rattle.plain_machine.specs.declared.notices.PlainNotices.{PlainNotices}
 use Rattle.plain_machine.specs.declared.kept.PlainRegistry.{PlainRegistry}
 use Rattle.plain_machine.specs.declared.kept.PlainContent.{PlainContent}
@@ -19,7 +20,7 @@ use Rattle.plain_machine.specs.declared.kept.PlainAnswer.{PlainAnswer}
 use Rattle.plain_machine.specs.declared.kept.PlainAnswer.TheVariants as answer
 use Rattle.custody_machine.specs.Names.{is_same_text}
 use Rattle.custody_machine.specs.State.{State, Part, Content, Held, Dropped}
-use Rattle.custody_machine.specs.Machine.{OfRegistry, OfPart, OfNotice, OfRelease, OfPurge, Outcome, Refuse, Accept, content_len, dropped_if_due, greatest_number, is_receipt}
+use Rattle.custody_machine.specs.Machine.{OfRegistry, OfPart, OfNotice, OfRelease, OfHold, OfLifting, OfPurge, Outcome, Refuse, Accept, content_len, dropped_if_due, greatest_number, is_receipt}
 
 abbrev pub registry_entry : PlainRegistry → List ℕ × ℕ
 registry_entry r = (r.tld, r.first_day)
@@ -37,12 +38,16 @@ part_entry p = (key_of p.name, part_shown p)
 abbrev pub notices_shown : PlainNotices → FinMap notice_cmp Notice
 notices_shown notices = table_map notice_cmp notice_key notice_value notices.rows.items
 
+abbrev pub holds_shown : PlainHolds → FinMap text_cmp Hold
+holds_shown holds = table_map text_cmp hold_key hold_value holds.rows.items
+
 abbrev pub shown : PlainState → State
 shown state = record {
   registries = from_entries (map registry_entry state.registries.items);
   parts = from_entries (map part_entry state.parts.items);
   notices = notices_shown state.notices;
   releases = from_entries (map release_entry state.releases.items);
+  holds = holds_shown state.holds;
 }
 
 -- The answer and the new state are those of a outcome in the old state. A part is shown without its bytes, and a release without its names.
@@ -53,12 +58,14 @@ IsOutcome (answer.Received name received len is_repeat) old new outcome =
 IsOutcome (answer.Noticed notice is_repeat) old new outcome = outcome ≡ Accept (record { entry = OfNotice (notice_key notice) (notice_value notice); is_repeat = is_repeat }) new
 IsOutcome (answer.Released reference tld reason at count is_repeat) old new outcome =
     (names : List (List ℕ)) × (outcome ≡ Accept (record { entry = OfRelease reference (record { tld = tld; reason = reason; at = at; names = names }); is_repeat = is_repeat }) new) × (length names ≡ count)
+IsOutcome (answer.Held reference tld day at lifted is_repeat) old new outcome = outcome ≡ Accept (record { entry = OfHold reference (record { tld = tld; day = day; at = at; lifted = lifted }); is_repeat = is_repeat }) new
+IsOutcome (answer.Lifted reference at is_repeat) old new outcome = outcome ≡ Accept (record { entry = OfLifting reference at; is_repeat = is_repeat }) new
 IsOutcome (answer.Purged count) old new outcome = outcome ≡ Accept (record { entry = OfPurge count; is_repeat = false }) new
 IsOutcome (answer.Refused refusal) old new outcome = (outcome ≡ Refuse refusal) × (new ≡ old)
 
 -- a part after a purge
-abbrev pub dropped_entry : ℕ → PartKey × Part → PartKey × Part
-dropped_entry today entry = (entry.0, dropped_if_due today entry.1)
+abbrev pub dropped_entry : FinMap text_cmp Hold → ℕ → PartKey × Part → PartKey × Part
+dropped_entry holds today entry = (entry.0, dropped_if_due holds today entry.0 entry.1)
 
 -- ---- what the loops look for
 
