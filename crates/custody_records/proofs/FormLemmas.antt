@@ -1,6 +1,8 @@
 -- What rows in form have, and how one row more stands for one record more.
 use Rattle.std.proofs.Common.{◌≡◌, ℕ, pos, ◌≤◌, ◌<◌, ◌^◌, List, [], ◌∷◌, Option, Some, None, Bool, true, false, ◌&&◌, cond, refl, sym, ◌∙◌, ap}
-use Rattle.std.specs.FinMap.{FinMap, get}
+use Rattle.std.specs.Prelude.{map, option_map, slice_get}
+use Rattle.std.specs.Option.{option_and_then}
+use Rattle.std.specs.FinMap.{FinMap, empty, get}
 use Rattle.std.specs.Int.{w64, to_be_bytes}
 use Rattle.std.proofs.lemmas.Nat.{from_be_bytes-to_be_bytes_8}
 use Rattle.std.proofs.lemmas.Slice.Eq.{bytes_eq-Decides}
@@ -9,9 +11,9 @@ use Rattle.hex.proofs.HexLemmas.{decode_sized-encode_lower}
 use Rattle.vault_volume.proofs.HeadLemmas.{IsBytes-to_be_bytes}
 use Rattle.custody_records.specs.declared.damage.Damage.TheVariants as damage
 use Rattle.custody_records.specs.Keys.{text_cmp, PartKey, part_cmp, NoticeKey, notice_cmp}
-use Rattle.custody_records.specs.Records.{PartRecord, Notice, Release, Records, new_records, with_registry, with_part, with_notice, with_release}
-use Rattle.custody_records.specs.Rows.{MetaRow, RegistryRow, PartRow, NoticeRow, HandoverRow, Rows, with_registry_row, with_part_row, with_notice_row, with_handover_row, fresh}
-use Rattle.custody_records.specs.Form.{natural, gathered, registry_in, part_in, notice_in, release_in, from_hex, number_in, is_meta, OutOfForm, InForm, all_records, records_in, in_form_or, is_known, form_by, form_of}
+use Rattle.custody_records.specs.Records.{PartRecord, Notice, Release, Hold, Records, new_records, with_registry, with_part, with_notice, with_release, with_hold}
+use Rattle.custody_records.specs.Rows.{MetaRow, RegistryRow, PartRow, NoticeRow, HandoverRow, HoldRow, Rows, with_registry_row, with_part_row, with_notice_row, with_handover_row, with_hold_row, migrated, first_meta, fresh}
+use Rattle.custody_records.specs.Form.{natural, gathered, registry_in, part_in, notice_in, release_in, hold_in, holds_in, has_holds, from_hex, number_in, is_meta, OutOfForm, InForm, all_records, records_in, in_form_or, is_known, form_by, form_of, IsCurrent, IsEarlier}
 use Rattle.std.specs.Str.{bytes_eq}
 use Rattle.custody_records.proofs.FieldLemmas.{within_passes}
 use Rattle.custody_records.proofs.Gathered.{gathered_push}
@@ -28,6 +30,7 @@ pub record AreRecords (rows : Rows) (records : Records) : Type 0 where
   pub parts : gathered part_in rows.parts ≡ Some records.parts
   pub notices : gathered notice_in rows.notices ≡ Some records.notices
   pub releases : gathered release_in rows.handovers ≡ Some records.releases
+  pub holds : holds_in (has_holds meta.schema_no) rows.holds ≡ Some records.holds
 
 -- rows in form stand for one set of records
 pub InForm-injective : (a b : Records) → InForm a ≡ InForm b → a ≡ b
@@ -37,14 +40,15 @@ InForm-injective a b e = cc
 
 module _ (number blocks : ℕ) (rows : Rows) (records : Records) (meta : MetaRow) where
   tables : rows.meta ≡ Some (meta ∷ []) → is_known meta ≡ true → is_meta meta ≡ true → number_in meta.number ≡ number → natural meta.blocks ≡ blocks
-      → (registries : Option (FinMap text_cmp ℕ)) (parts : Option (FinMap part_cmp PartRecord)) (notices : Option (FinMap notice_cmp Notice)) (releases : Option (FinMap text_cmp Release))
-      → gathered registry_in rows.registries ≡ registries → gathered part_in rows.parts ≡ parts → gathered notice_in rows.notices ≡ notices → gathered release_in rows.handovers ≡ releases
-      → in_form_or damage.Form (all_records number blocks registries parts notices releases) ≡ InForm records → AreRecords rows records
-  tables alone known form n b None parts notices releases r p o h e = cc
-  tables alone known form n b (Some registries) None notices releases r p o h e = cc
-  tables alone known form n b (Some registries) (Some parts) None releases r p o h e = cc
-  tables alone known form n b (Some registries) (Some parts) (Some notices) None r p o h e = cc
-  tables alone known form n b (Some registries) (Some parts) (Some notices) (Some releases) r p o h e =
+      → (registries : Option (FinMap text_cmp ℕ)) (parts : Option (FinMap part_cmp PartRecord)) (notices : Option (FinMap notice_cmp Notice)) (releases : Option (FinMap text_cmp Release)) (holds : Option (FinMap text_cmp Hold))
+      → gathered registry_in rows.registries ≡ registries → gathered part_in rows.parts ≡ parts → gathered notice_in rows.notices ≡ notices → gathered release_in rows.handovers ≡ releases → holds_in (has_holds meta.schema_no) rows.holds ≡ holds
+      → in_form_or damage.Form (all_records number blocks registries parts notices releases holds) ≡ InForm records → AreRecords rows records
+  tables alone known form n b None parts notices releases holds r p o h t e = cc
+  tables alone known form n b (Some registries) None notices releases holds r p o h t e = cc
+  tables alone known form n b (Some registries) (Some parts) None releases holds r p o h t e = cc
+  tables alone known form n b (Some registries) (Some parts) (Some notices) None holds r p o h t e = cc
+  tables alone known form n b (Some registries) (Some parts) (Some notices) (Some releases) None r p o h t e = cc
+  tables alone known form n b (Some registries) (Some parts) (Some notices) (Some releases) (Some holds) r p o h t e =
       let same = InForm-injective _ records e in
       record {
         meta = meta;
@@ -57,6 +61,7 @@ module _ (number blocks : ℕ) (rows : Rows) (records : Records) (meta : MetaRow
         parts = p ∙ ap (λ (x : Records). Some x.parts) same;
         notices = o ∙ ap (λ (x : Records). Some x.notices) same;
         releases = h ∙ ap (λ (x : Records). Some x.releases) same;
+        holds = t ∙ ap (λ (x : Records). Some x.holds) same;
       }
 
 pub in_form_has : (rows : Rows) (records : Records) → form_of rows ≡ InForm records → AreRecords rows records
@@ -69,13 +74,13 @@ in_form_has rows records e = by_meta rows.meta refl e
     by_meta (Some (meta ∷ [])) is e = by (is_known meta) (is_meta meta) refl refl e
       where
         by : (known form : Bool) → is_known meta ≡ known → is_meta meta ≡ form
-            → cond known (cond (form && true) (in_form_or damage.Form (records_in (number_in meta.number) (natural meta.blocks) rows)) (OutOfForm damage.Form)) (OutOfForm damage.Schema) ≡ InForm records → AreRecords rows records
-        by true true known form e = tables (number_in meta.number) (natural meta.blocks) rows records meta is known form refl refl _ _ _ _ refl refl refl refl e
+            → cond known (cond (form && true) (in_form_or damage.Form (records_in (has_holds meta.schema_no) (number_in meta.number) (natural meta.blocks) rows)) (OutOfForm damage.Form)) (OutOfForm damage.Schema) ≡ InForm records → AreRecords rows records
+        by true true known form e = tables (number_in meta.number) (natural meta.blocks) rows records meta is known form refl refl _ _ _ _ _ refl refl refl refl refl e
         by true false known form e = cc
         by false form known is_form e = cc
     by_meta (Some (meta ∷ (other ∷ others))) is e = by (is_known meta) (is_meta meta) e
       where
-        by : (known form : Bool) → cond known (cond (form && false) (in_form_or damage.Form (records_in (number_in meta.number) (natural meta.blocks) rows)) (OutOfForm damage.Form)) (OutOfForm damage.Schema) ≡ InForm records → AreRecords rows records
+        by : (known form : Bool) → cond known (cond (form && false) (in_form_or damage.Form (records_in (has_holds meta.schema_no) (number_in meta.number) (natural meta.blocks) rows)) (OutOfForm damage.Form)) (OutOfForm damage.Schema) ≡ InForm records → AreRecords rows records
         by true true e = cc
         by true false e = cc
         by false form e = cc
@@ -86,15 +91,18 @@ pub in_form_from : (rows : Rows) (records : Records) → AreRecords rows records
 unfolding form_of
 in_form_from rows records h =
     ap (λ (metas : Option (List MetaRow)). form_by metas rows) h.alone
-    ∙ ap (λ b. cond b (cond (is_meta h.meta && true) (in_form_or damage.Form (records_in (number_in h.meta.number) (natural h.meta.blocks) rows)) (OutOfForm damage.Form)) (OutOfForm damage.Schema)) h.known
-    ∙ ap (λ b. cond (b && true) (in_form_or damage.Form (records_in (number_in h.meta.number) (natural h.meta.blocks) rows)) (OutOfForm damage.Form)) h.in_form
-    ∙ (λ i. in_form_or damage.Form (all_records (h.number i) (h.blocks i) (h.registries i) (h.parts i) (h.notices i) (h.releases i)))
+    ∙ ap (λ b. cond b (cond (is_meta h.meta && true) (in_form_or damage.Form (records_in (has_holds h.meta.schema_no) (number_in h.meta.number) (natural h.meta.blocks) rows)) (OutOfForm damage.Form)) (OutOfForm damage.Schema)) h.known
+    ∙ ap (λ b. cond (b && true) (in_form_or damage.Form (records_in (has_holds h.meta.schema_no) (number_in h.meta.number) (natural h.meta.blocks) rows)) (OutOfForm damage.Form)) h.in_form
+    ∙ (λ i. in_form_or damage.Form (all_records (h.number i) (h.blocks i) (h.registries i) (h.parts i) (h.notices i) (h.releases i) (h.holds i)))
 
 -- ---- one row more is one record more
 
 module _ (rows : Rows) (records : Records) (was : form_of rows ≡ InForm records) where
   old : AreRecords rows records
   old = in_form_has rows records was
+
+  first_is : first_meta rows ≡ Some old.meta
+  first_is = ap (option_and_then (λ (metas : List MetaRow). slice_get metas 0)) old.alone
 
   pub registry_inserted : (row : RegistryRow) (tld : List ℕ) (day : ℕ) → registry_in row ≡ Some (tld, day) → get records.registries tld ≡ None
       → form_of (with_registry_row row rows) ≡ InForm (with_registry records tld day)
@@ -109,6 +117,7 @@ module _ (rows : Rows) (records : Records) (was : form_of rows ≡ InForm record
     parts = old.parts;
     notices = old.notices;
     releases = old.releases;
+    holds = old.holds;
   })
 
   pub part_inserted : (row : PartRow) (key : PartKey) (part : PartRecord) → part_in row ≡ Some (key, part) → get records.parts key ≡ None
@@ -124,6 +133,7 @@ module _ (rows : Rows) (records : Records) (was : form_of rows ≡ InForm record
     parts = gathered_push part_in rows.parts records.parts row key part old.parts reads new;
     notices = old.notices;
     releases = old.releases;
+    holds = old.holds;
   })
 
   pub notice_inserted : (row : NoticeRow) (key : NoticeKey) (notice : Notice) → notice_in row ≡ Some (key, notice) → get records.notices key ≡ None
@@ -139,6 +149,7 @@ module _ (rows : Rows) (records : Records) (was : form_of rows ≡ InForm record
     parts = old.parts;
     notices = gathered_push notice_in rows.notices records.notices row key notice old.notices reads new;
     releases = old.releases;
+    holds = old.holds;
   })
 
   pub release_inserted : (row : HandoverRow) (reference : List ℕ) (release : Release) → release_in row ≡ Some (reference, release) → get records.releases reference ≡ None
@@ -154,9 +165,49 @@ module _ (rows : Rows) (records : Records) (was : form_of rows ≡ InForm record
     parts = old.parts;
     notices = old.notices;
     releases = gathered_push release_in rows.handovers records.releases row reference release old.releases reads new;
+    holds = old.holds;
   })
 
--- ---- five new tables
+  pub hold_inserted : (row : HoldRow) (reference : List ℕ) (hold : Hold) → IsCurrent rows → hold_in row ≡ Some (reference, hold) → get records.holds reference ≡ None
+      → form_of (with_hold_row row rows) ≡ InForm (with_hold records reference hold)
+  hold_inserted row reference hold current reads new = in_form_from _ _ (record {
+    meta = old.meta;
+    alone = old.alone;
+    known = old.known;
+    in_form = old.in_form;
+    number = old.number;
+    blocks = old.blocks;
+    registries = old.registries;
+    parts = old.parts;
+    notices = old.notices;
+    releases = old.releases;
+    holds =
+        let is = current old.meta first_is in
+        ap (λ b. holds_in b (with_hold_row row rows).holds) is
+        ∙ gathered_push hold_in rows.holds records.holds row reference hold (ap (λ b. holds_in b rows.holds) (sym is) ∙ old.holds) reads new;
+  })
+
+  -- The rows of schema 1, as those of schema 2, stand for the same records.
+  pub migrated_in_form : IsEarlier rows → form_of (migrated rows) ≡ InForm records
+  migrated_in_form earlier = in_form_from _ _ (record {
+    meta = record old.meta { schema_no = pos 2 };
+    alone = ap (option_map (map (λ (row : MetaRow). record row { schema_no = pos 2 }))) old.alone;
+    known = refl;
+    in_form = old.in_form;
+    number = old.number;
+    blocks = old.blocks;
+    registries = old.registries;
+    parts = old.parts;
+    notices = old.notices;
+    releases = old.releases;
+    holds = none rows.holds (ap (λ b. holds_in b rows.holds) (sym (earlier old.meta first_is)) ∙ old.holds);
+  })
+    where
+      none : (holds : Option (List HoldRow)) → holds_in false holds ≡ Some records.holds → Some empty ≡ Some records.holds
+      none None e = e
+      none (Some held) e = cc
+
+-- ---- six new tables
 
 -- the digits of a number are read back
 pub number_in-digits : (number : ℕ) → number < 2 ^ 64 → number_in (encode_lower (to_be_bytes w64 number)) ≡ number
@@ -169,7 +220,7 @@ fresh_in_form number blocks lt low high =
     let again : encode_lower (to_be_bytes w64 (number_in digits)) ≡ digits = ap (λ (n : ℕ). encode_lower (to_be_bytes w64 n)) (number_in-digits number lt) in
     let same : bytes_eq digits (encode_lower (to_be_bytes w64 (number_in digits))) ≡ true = (bytes_eq-Decides digits (encode_lower (to_be_bytes w64 (number_in digits)))).1 (sym again) in
     in_form_from _ _ (record {
-      meta = record { one = pos 1; schema_no = pos 1; number = digits; blocks = pos blocks };
+      meta = record { one = pos 1; schema_no = pos 2; number = digits; blocks = pos blocks };
       alone = refl;
       known = refl;
       in_form = λ i. same i && within_passes 2 262_144 blocks low high i;
@@ -179,4 +230,5 @@ fresh_in_form number blocks lt low high =
       parts = refl;
       notices = refl;
       releases = refl;
+      holds = refl;
     })

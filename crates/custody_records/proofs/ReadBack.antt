@@ -18,9 +18,9 @@ use Rattle.desk.specs.declared.notices.NoticeKind.TheVariants.{Receipt, Failure,
 use Rattle.schedule.specs.Schedule.{IsDay, day_of, year_after}
 use Rattle.extent_map.specs.declared.extent.Extent.{Extent}
 use Rattle.custody_records.specs.Keys.{PartKey, NoticeKey}
-use Rattle.custody_records.specs.Records.{PartRecord, Notice, Release}
-use Rattle.custody_records.specs.Form.{is_number, extents_of, extents_in, registry_in, is_part, part_in, notice_kind_in, notice_in, lines_from, lines_in, release_in}
-use Rattle.custody_records.specs.Written.{row_of_registry, blob_of, HasWords, AreWritable, row_of_part, IsPart, row_of_notice, IsNoticeKind, IsNotice, is_line, text_of, row_of_release, IsRelease}
+use Rattle.custody_records.specs.Records.{PartRecord, Notice, Release, Hold}
+use Rattle.custody_records.specs.Form.{is_number, extents_of, extents_in, registry_in, is_part, part_in, notice_kind_in, notice_in, lines_from, lines_in, release_in, natural, is_lifting, hold_in}
+use Rattle.custody_records.specs.Written.{row_of_registry, blob_of, HasWords, AreWritable, row_of_part, IsPart, row_of_notice, IsNoticeKind, IsNotice, is_line, text_of, row_of_release, IsRelease, row_of_hold, IsLifting, IsHold}
 use Rattle.custody_records.proofs.FieldLemmas.{within_passes, number_passes, day_passes, deposit_day_passes, moment_passes, kind_in-kind_text, ground_in-ground_text, check_in-check_number, check_apart}
 
 -- ---- registries
@@ -99,3 +99,18 @@ pub release_read_back : (reference : List ℕ) (release : Release) → IsRelease
 release_read_back reference release h =
     λ i. cond ((is_reference-IsReference reference).1 h.named i && ((is_tld-IsTld release.tld).1 h.tld i && moment_passes release.at h.at i))
     (option_and_then (λ (reason : Ground). option_map (λ (names : List (List ℕ)). (reference, record { tld = release.tld; reason = reason; at = release.at; names = names })) (lines_in-text_of release.names h.names i)) (ground_in-ground_text release.reason i)) None
+
+-- ---- holds
+
+lifting_passes : (lifted : Option ℕ) → IsLifting lifted → is_lifting (option_map pos lifted) ≡ true
+lifting_passes None h = refl
+lifting_passes (Some at) h = moment_passes at h
+
+lifting_back : (lifted : Option ℕ) → option_map natural (option_map pos lifted) ≡ lifted
+lifting_back None = refl
+lifting_back (Some at) = refl
+
+pub hold_read_back : (reference : List ℕ) (hold : Hold) → IsHold reference hold → hold_in (row_of_hold reference hold) ≡ Some (reference, hold)
+hold_read_back reference hold h =
+    λ i. cond ((is_reference-IsReference reference).1 h.named i && ((is_tld-IsTld hold.tld).1 h.tld i && (day_passes hold.day h.day i && (moment_passes hold.at h.at i && lifting_passes hold.lifted h.lifted i))))
+    (Some (reference, record { tld = hold.tld; day = hold.day; at = hold.at; lifted = lifting_back hold.lifted i })) None

@@ -1,5 +1,5 @@
 -- A table in the order of its keys is a finite map: what is found in it, and what a row more adds.
-use Rattle.std.proofs.Common.{◌≡◌, ◌⊎◌, inl, inr, ℕ, zero, suc, ◌<◌, ◌≤◌, List, [], ◌∷◌, length, get_or, Bool, true, false, ◌&&◌, cond, Option, Some, None, Err, refl, sym, ◌∙◌, ap, subst, arith, add-one}
+use Rattle.std.proofs.Common.{◌≡◌, ◌⊎◌, inl, inr, ℕ, zero, suc, ◌<◌, ◌≤◌, List, [], ◌∷◌, length, get_or, set, Bool, true, false, ◌&&◌, ◌||◌, cond, Option, Some, None, Err, refl, sym, ◌∙◌, ap, subst, arith, add-one}
 use Rattle.std.specs.Prelude.{T, option_map, is_some}
 use Rattle.std.specs.List as list
 use Rattle.std.specs.List.Sorted.{IsBinarySearchResult, IsNonDecreasingBy}
@@ -25,6 +25,11 @@ pub record IsAdded {T K : Type 0} (order : K → K → Ordering) (key : T → K)
   pub is : new ≡ list.insert old place row
   pub below : (i : ℕ) (d : T) → i < place → i < length old → order (key (get_or old i d)) (key row) ≡ Less
   pub above : (i : ℕ) (d : T) → place ≤ i → i < length old → order (key (get_or old i d)) (key row) ≡ Greater
+
+-- whether any entry passes a test is whether any row does
+pub any_entries : {Row K X : Type 0} (key : Row → K) (value : Row → X) (test : K × X → Bool) (rows : List Row) → list.list_any test (entries_of key value rows) ≡ list.list_any (λ row. test (key row, value row)) rows
+any_entries key value test [] = refl
+any_entries key value test (row ∷ rows) = ap (λ b. test (key row, value row) || b) (any_entries key value test rows)
 
 less_is : (o : Ordering) → is_lt o ≡ true → o ≡ Less
 less_is Less e = refl
@@ -144,6 +149,36 @@ module _ {Row K : Type 0} (order : K → K → Ordering) (key : Row → K) where
       map_added value = same_entries_map _ _ (
           entries-from_sorted order (entries_of key value new) (sorted_entries value new rising_added)
           ∙ sym (entries_added value)
+          ∙ sym (entries-insert o (from_sorted (entries_of key value old)) (key row) (value row) ∙ ap (put order (key row) (value row)) (entries-from_sorted order (entries_of key value old) (sorted_entries value old rising))))
+
+    -- ---- a row in the place of another
+
+    put_replaced : {X : Type 0} (value : Row → X) (rows : List Row) (i : ℕ) (row : Row) → IsAntisymmetric order → is_rising order key rows ≡ true → i < length rows → ((d : Row) → order (key (get_or rows i d)) (key row) ≡ Equal)
+        → put order (key row) (value row) (entries_of key value rows) ≡ entries_of key value (set rows i row)
+    put_replaced value [] i row exact rising lt same = absurd (omega arith)
+    put_replaced value (r ∷ rows) zero row exact rising lt same =
+        ap (λ x. by_order x ((key row, value row) ∷ (key r, value r) ∷ entries_of key value rows) ((key r, value row) ∷ entries_of key value rows) ((key r, value r) ∷ put order (key row) (value row) (entries_of key value rows))) (turned _ _ Equal (same r))
+        ∙ ap (λ k. (k, value row) ∷ entries_of key value rows) (exact (key r) (key row) (same r))
+    put_replaced value (r ∷ rows) (suc i) row exact rising lt same =
+        let split = and_parts (is_below_all order key (key r) rows) (is_rising order key rows) rising in
+        let less : order (key r) (key row) ≡ Less = sym (alike_right o (key (get_or rows i r)) (key row) (key r) (same r)) ∙ below_at (key r) rows i r split.0 (omega arith) in
+        ap (λ x. by_order x ((key row, value row) ∷ (key r, value r) ∷ entries_of key value rows) ((key r, value row) ∷ entries_of key value rows) ((key r, value r) ∷ put order (key row) (value row) (entries_of key value rows))) (turned _ _ Less less)
+        ∙ ap (λ l. (key r, value r) ∷ l) (put_replaced value rows i row exact split.1 (omega arith) same)
+
+    module _ (exact : IsAntisymmetric order) (old new : List Row) (row : Row) (i : ℕ) (is : new ≡ set old i row) (lt : i < length old) (same : (d : Row) → order (key (get_or old i d)) (key row) ≡ Equal) (rising : is_rising order key old ≡ true) where
+      entries_replaced : {X : Type 0} (value : Row → X) → put order (key row) (value row) (entries_of key value old) ≡ entries_of key value new
+      entries_replaced value = put_replaced value old i row exact rising lt same ∙ ap (entries_of key value) (sym is)
+
+      -- the keys still rise
+      pub rising_replaced : is_rising order key new ≡ true
+      rising_replaced = sym (rising_entries (λ r. r) new) ∙ T_true _ (subst (λ es. T (is_sorted order es)) (entries_replaced (λ r. r)) (is_sorted-put order o (key row) row (entries_of key (λ r. r) old) (sorted_entries (λ r. r) old rising)))
+
+      -- and the map has the row's value at its key
+      pub map_replaced : {X : Type 0} (value : Row → X) → table_map order key value new ≡ insert (table_map order key value old) (key row) (value row)
+      unfolding table_map
+      map_replaced value = same_entries_map _ _ (
+          entries-from_sorted order (entries_of key value new) (sorted_entries value new rising_replaced)
+          ∙ sym (entries_replaced value)
           ∙ sym (entries-insert o (from_sorted (entries_of key value old)) (key row) (value row) ∙ ap (put order (key row) (value row)) (entries-from_sorted order (entries_of key value old) (sorted_entries value old rising))))
 
 -- ---- a map, as the table of its entries

@@ -1,11 +1,12 @@
-//! What a custody records: registries, parts, notices and releases, as typed values and as the rows
-//! of their tables.
+//! What a custody records: registries, parts, notices, releases and holds, as typed values and as the
+//! rows of their tables.
 #![tactic(auto)]
 
 mod damage;
 mod errors;
 mod extents;
 mod fields;
+mod holds;
 mod keys;
 mod lines;
 mod meta;
@@ -21,13 +22,13 @@ mod tables;
 pub use damage::Damage;
 pub use errors::RowError;
 pub use extents::write_blob;
+pub use holds::{Hold, HoldColumns};
 pub use keys::{NoticeKey, PartKey};
 pub use lines::Lines;
 pub use meta::{Meta, read_number, write_number};
 pub use names::Names;
 pub use notices::NoticeColumns;
 pub use parts::{Part, PartColumns};
-pub use purge::is_due;
 pub use records::Records;
 pub use registries::{Registry, read_registry};
 pub use releases::{Release, ReleaseColumns};

@@ -1,7 +1,7 @@
 //! The row of the volume that the records belong to.
 ghost use Rattle.std.specs.Prelude.{◌≡◌, if◌then◌else◌};
 ghost use Rattle.std.specs.Str.{bytes_eq};
-ghost use Rattle.custody_records.specs.Form.{is_number, number_in};
+ghost use Rattle.custody_records.specs.Form.{has_holds, is_schema, number_in};
 ghost use Rattle.custody_records.specs.Written.{digits_of};
 ghost use Rattle.custody_records.specs.Typed.{meta_of, volume_of};
 
@@ -33,9 +33,16 @@ impl Meta {
 
     /// Whether the schema is known.
     pub fn is_known(&self) -> bool
-        ensures { result ≡ is_number 1 self.now.schema_no }
+        ensures { result ≡ is_schema self.now.schema_no }
     {
-        self.schema_no == 1
+        self.schema_no == 1 || self.schema_no == 2
+    }
+
+    /// Whether the schema has a table of holds.
+    pub fn has_holds(&self) -> bool
+        ensures { result ≡ has_holds self.now.schema_no }
+    {
+        self.schema_no == 2
     }
 
     /// The number and the blocks of the volume, where the row is in form.

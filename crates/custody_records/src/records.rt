@@ -1,16 +1,16 @@
 //! The records of a custody in memory.
 ghost use Rattle.std.specs.Prelude.{◌≡◌, true, None, IsSome, IfSome, OnOk, OnErr, IsErrOf, option_map, option_copied};
 ghost use Rattle.std.specs.FinMap.{get, entries};
-ghost use Rattle.custody_records.specs.Purge.{entries_without_due};
+ghost use Rattle.custody_records.specs.Purge.{entries_without_due, is_due};
 ghost use Rattle.custody_records.specs.Keys.{text_cmp, part_cmp, notice_cmp};
 ghost use Rattle.custody_records.specs.Tables.{entries_of, is_rising, table_map};
-ghost use Rattle.custody_records.specs.Typed.{registry_key, registry_value, part_place, part_value, notice_key, notice_value, release_key, release_value};
+ghost use Rattle.custody_records.specs.Typed.{registry_key, registry_value, part_place, part_value, notice_key, notice_value, release_key, release_value, hold_key, hold_value};
 
 use crate::tables::Table;
-use crate::{NoticeKey, Part, PartKey, Registry, Release, RowError};
+use crate::{Hold, NoticeKey, Part, PartKey, Registry, Release, RowError, purge};
 use deposit_name::{DepositName, Reference, Tld};
 use desk::{Notice, NoticeKind};
-use schedule::Day;
+use schedule::{Day, Sec};
 use std::alloc::{AllocError, Global};
 
 /// The records of a custody, and the number and the blocks of the volume that they belong to.
@@ -22,11 +22,12 @@ pub struct Records {
     parts: Table<Part>,
     notices: Table<Notice>,
     releases: Table<Release>,
+    holds: Table<Hold>,
 }
 
 impl Records {
-    ghost use Rattle.custody_records.specs.Records.{new_records, notices_of, parts_of, parts_of_revision, with_registry, with_part, with_notice, with_release};
-    ghost use Rattle.custody_records.specs.Held.{records_of, HasRegistryRoom, HasPartRoom, HasNoticeRoom, HasReleaseRoom};
+    ghost use Rattle.custody_records.specs.Records.{new_records, notices_of, parts_of, parts_of_revision, with_registry, with_part, with_notice, with_release, with_hold, lifted_at};
+    ghost use Rattle.custody_records.specs.Held.{records_of, HasRegistryRoom, HasPartRoom, HasNoticeRoom, HasReleaseRoom, HasHoldRoom};
     ghost use Rattle.custody_records.specs.declared.errors.RowError.TheVariants.{OutOfForm, NoMemory};
 
     /// No records yet, for a volume of this number and so many blocks.
@@ -40,6 +41,7 @@ impl Records {
             parts: Table::new(alloc),
             notices: Table::new(alloc),
             releases: Table::new(alloc),
+            holds: Table::new(alloc),
         }
     }
 
@@ -87,6 +89,14 @@ impl Records {
         ensures key { IfSome result (λ release. release_key release.now ≡ reference.now) }
     {
         self.releases.find(reference)
+    }
+
+    /// The hold of that reference.
+    pub fn hold(&self, reference: &Reference) -> Option<&Hold>
+        ensures found { option_map hold_value (option_copied result) ≡ get (records_of self.now).holds reference.now }
+        ensures key { IfSome result (λ hold. hold_key hold.now ≡ reference.now) }
+    {
+        self.holds.find(reference)
     }
 
     /// The registries, by their names.
@@ -166,12 +176,20 @@ impl Records {
         self.parts.add(part);
     }
 
-    /// Drops the bytes of the parts whose last day of keeping is before today, without taking memory.
+    /// Whether the bytes of a part are held, the last day of their keeping is before today, and its day
+    /// is not on hold.
+    pub fn is_due(&self, part: &Part, today: Day) -> bool
+        ensures { result ≡ is_due (records_of self.now).holds today (part_place part.now) (part_value part.now) }
+    {
+        purge::is_due(part, &self.holds, today)
+    }
+
+    /// Drops the bytes of the parts that are due, without taking memory.
     pub fn drop_due(&mut self, today: Day)
-        ensures parts { entries (records_of self.new).parts ≡ entries_without_due today (entries (records_of self.old).parts) }
+        ensures parts { entries (records_of self.new).parts ≡ entries_without_due (records_of self.old).holds today (entries (records_of self.old).parts) }
         ensures others { records_of self.new ≡ record (records_of self.old) { parts = (records_of self.new).parts } }
     {
-        self.parts.drop_due(today);
+        self.parts.drop_due(&self.holds, today);
     }
 
     /// Adds a part, or refuses one that is there.
@@ -266,5 +284,54 @@ impl Records {
         ensures same { OnErr result (records_of self.new ≡ records_of self.old) }
     {
         self.releases.try_add(release)
+    }
+    /// The holds, by their references.
+    pub fn holds(&self) -> &[Hold]
+        ensures all { (records_of self.now).holds ≡ table_map text_cmp hold_key hold_value result.now }
+        ensures rising { is_rising text_cmp hold_key result.now ≡ true }
+    {
+        self.holds.rows()
+    }
+
+    /// Makes room for one more hold.
+    pub fn reserve_hold(&mut self) -> Result<(), AllocError>
+        ensures same { records_of self.new ≡ records_of self.old }
+        ensures room { OnOk result (HasHoldRoom self.new) }
+        ensures no_memory { OnErr result (¬ HasHoldRoom self.old) }
+    {
+        self.holds.try_reserve()
+    }
+
+    /// Adds a hold that is not there, without taking memory.
+    pub fn add_hold(&mut self, hold: &Hold)
+        requires room { HasHoldRoom self.old }
+        requires new { get (records_of self.old).holds (hold_key hold.now) ≡ None }
+        ensures { records_of self.new ≡ with_hold (records_of self.old) (hold_key hold.now) (hold_value hold.now) }
+    {
+        let lifted: Option<Sec> = hold.lifted;
+        self.holds.add(Hold { lifted, ..*hold });
+    }
+
+    /// Adds a hold, or refuses one that is there.
+    pub fn try_add_hold(&mut self, hold: &Hold) -> Result<(), RowError>
+        ensures added { OnOk result (records_of self.new ≡ with_hold (records_of self.old) (hold_key hold.now) (hold_value hold.now)) }
+        ensures new { OnOk result (get (records_of self.old).holds (hold_key hold.now) ≡ None) }
+        ensures taken { IsErrOf result OutOfForm → IsSome (get (records_of self.old).holds (hold_key hold.now)) }
+        ensures no_memory { IsErrOf result NoMemory → (get (records_of self.old).holds (hold_key hold.now) ≡ None) × ¬ HasHoldRoom self.old }
+        ensures same { OnErr result (records_of self.new ≡ records_of self.old) }
+    {
+        let lifted: Option<Sec> = hold.lifted;
+        self.holds.try_add(Hold { lifted, ..*hold })
+    }
+
+    /// Lifts a hold that is there, without taking memory.
+    pub fn lift_hold(&mut self, hold: &Hold, at: Sec)
+        requires there { IsSome (get (records_of self.old).holds (hold_key hold.now)) }
+        ensures { records_of self.new ≡ with_hold (records_of self.old) (hold_key hold.now) (lifted_at at (hold_value hold.now)) }
+    {
+        self.holds.replace(Hold {
+            lifted: Some(at),
+            ..*hold
+        });
     }
 }

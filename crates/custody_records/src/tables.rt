@@ -129,6 +129,17 @@ impl<T: Keyed> Table<T> {
         }
     }
 
+    /// Puts a row in the place of the one that has its key.
+    pub(crate) fn replace(&mut self, row: T)
+        requires there { IsSome (get (table_map T.order T.key_of T.value_of self.old.rows.items) (T.key_of row)) }
+        ensures { table_map T.order T.key_of T.value_of self.new.rows.items ≡ insert (table_map T.order T.key_of T.value_of self.old.rows.items) (T.key_of row) (T.value_of row) }
+    {
+        match self.place_of(&row.key()) {
+            Ok(place) => self.rows[place] = row,
+            Err(_) => unreachable!(),
+        }
+    }
+
     /// Adds a row, or refuses one whose key is there.
     pub(crate) fn try_add(&mut self, row: T) -> Result<(), RowError>
         ensures added { OnOk result (table_map T.order T.key_of T.value_of self.new.rows.items ≡ insert (table_map T.order T.key_of T.value_of self.old.rows.items) (T.key_of row) (T.value_of row)) }

@@ -1,11 +1,12 @@
 use Rattle.std.proofs.Common.{◌≡◌, ℕ, ◌+◌, ◌<◌, List, [], ◌∷◌, ◌++◌, length, take, drop, set, get_or, refl, sym, ◌∙◌, ap, ap₂, arith}
 use Rattle.std.proofs.lemmas.List.{map-append, take_more, take_more_set, drop-set-lt, drop_more}
 use Rattle.custody_records.specs.declared.parts.Part.{Part}
-use Rattle.custody_records.specs.Keys.{PartKey}
-use Rattle.custody_records.specs.Records.{PartRecord}
+use Rattle.std.specs.FinMap.{FinMap}
+use Rattle.custody_records.specs.Keys.{PartKey, text_cmp}
+use Rattle.custody_records.specs.Records.{Hold, PartRecord}
 use Rattle.custody_records.specs.Purge.{dropped_if_due, entries_without_due}
-use Rattle.custody_records.specs.Tables.{entries_of}
-use Rattle.custody_records.specs.Typed.{part_place, part_value}
+use Rattle.custody_records.specs.Tables.{entries_of, table_map}
+use Rattle.custody_records.specs.Typed.{hold_key, hold_value, part_place, part_value}
 use Rattle.custody_records.proofs.purge.drop_due.Goals as goal
 
 entries_append : (xs ys : List Part) → entries_of part_place part_value (xs ++ ys) ≡ entries_of part_place part_value xs ++ entries_of part_place part_value ys
@@ -20,7 +21,7 @@ tail_of : List Part → List Part
 tail_of [] = []
 tail_of (x ∷ xs) = xs
 
-module _ (today : ℕ) (old items : List Part) (i : ℕ) (new d : Part) (lt : i < length items) (same : length items ≡ length old) (rest : drop i items ≡ drop i old) where
+module _ (holds : FinMap text_cmp Hold) (today : ℕ) (old items : List Part) (i : ℕ) (new d : Part) (lt : i < length items) (same : length items ≡ length old) (rest : drop i items ≡ drop i old) where
   abbrev paired : PartKey → PartRecord → PartKey × PartRecord
   paired key part = (key, part)
 
@@ -28,7 +29,7 @@ module _ (today : ℕ) (old items : List Part) (i : ℕ) (new d : Part) (lt : i 
   entry_of x = (part_place x, part_value x)
 
   abbrev after : PartKey × PartRecord → PartKey × PartRecord
-  after e = (e.0, dropped_if_due today e.1)
+  after e = (e.0, dropped_if_due holds today e.0 e.1)
 
   within : i < length old
   within = omega (arith, lt, same)
@@ -44,16 +45,16 @@ module _ (today : ℕ) (old items : List Part) (i : ℕ) (new d : Part) (lt : i 
   unfolding tail_of
   rest_next = drop-set-lt (i + 1) items i new (omega arith) ∙ ap tail_of unfolded
 
-  done_next : entries_of part_place part_value (take i items) ≡ entries_without_due today (entries_of part_place part_value (take i old))
-      → part_place new ≡ part_place (get_or items i d) → part_value new ≡ dropped_if_due today (part_value (get_or items i d))
-      → entries_of part_place part_value (take (i + 1) (set items i new)) ≡ entries_without_due today (entries_of part_place part_value (take (i + 1) old))
+  done_next : entries_of part_place part_value (take i items) ≡ entries_without_due holds today (entries_of part_place part_value (take i old))
+      → part_place new ≡ part_place (get_or items i d) → part_value new ≡ dropped_if_due holds today (part_place (get_or items i d)) (part_value (get_or items i d))
+      → entries_of part_place part_value (take (i + 1) (set items i new)) ≡ entries_without_due holds today (entries_of part_place part_value (take (i + 1) old))
   done_next done place value =
       let here : entry_of new ≡ after (entry_of (get_or old i d)) =
-      ap₂ paired place value ∙ ap (λ (x : Part). paired (part_place x) (dropped_if_due today (part_value x))) item_same in
+      ap₂ paired place value ∙ ap (λ (x : Part). paired (part_place x) (dropped_if_due holds today (part_place x) (part_value x))) item_same in
       ap (entries_of part_place part_value) (take_more_set items i new lt) ∙ entries_append (take i items) (new ∷ [])
       ∙ ap₂ (λ (xs : List (PartKey × PartRecord)) (e : PartKey × PartRecord). xs ++ e ∷ []) done here
       ∙ sym (map-append after (entries_of part_place part_value (take i old)) (entry_of (get_or old i d) ∷ []))
-      ∙ ap (entries_without_due today) (sym (entries_append (take i old) (get_or old i d ∷ [])) ∙ ap (entries_of part_place part_value) (sym (take_more old i d within)))
+      ∙ ap (entries_without_due holds today) (sym (entries_append (take i old) (get_or old i d ∷ [])) ∙ ap (entries_of part_place part_value) (sym (take_more old i d within)))
 
 pub loop-part-preserved : goal.loop-part-preserved
 loop-part-preserved c =
@@ -66,7 +67,7 @@ loop-part-preserved c =
     let same : length items ≡ length old = c.loop-part.auto.part-items in
     let low : i < length items = omega (arith, lt, same) in
     record {
-      done = done_next c.args.today old items i new item low same c.loop-part.invariant.rest c.loop-part.invariant.done
+      done = done_next (table_map text_cmp hold_key hold_value c.args.holds.now.rows.items) c.args.today old items i new item low same c.loop-part.invariant.rest c.loop-part.invariant.done
           c.drop_if_due.ensures.place c.drop_if_due.ensures.value;
-      rest = rest_next c.args.today old items i new item low same c.loop-part.invariant.rest;
+      rest = rest_next (table_map text_cmp hold_key hold_value c.args.holds.now.rows.items) c.args.today old items i new item low same c.loop-part.invariant.rest;
     }

@@ -1,10 +1,11 @@
 use Rattle.std.proofs.Common.{◌≡◌, ℕ, List, [], ◌∷◌, ◌&&◌, true, is_lt, refl, sym, ◌∙◌, ap, ap₂}
 use Rattle.custody_records.specs.declared.parts.Part.{Part}
-use Rattle.custody_records.specs.Keys.{PartKey, part_cmp}
-use Rattle.custody_records.specs.Records.{PartRecord}
+use Rattle.std.specs.FinMap.{FinMap}
+use Rattle.custody_records.specs.Keys.{PartKey, part_cmp, text_cmp}
+use Rattle.custody_records.specs.Records.{Hold, PartRecord}
 use Rattle.custody_records.specs.Purge.{entries_without_due}
-use Rattle.custody_records.specs.Tables.{entries_of, is_below_all, is_rising}
-use Rattle.custody_records.specs.Typed.{part_place, part_value}
+use Rattle.custody_records.specs.Tables.{entries_of, is_below_all, is_rising, table_map}
+use Rattle.custody_records.specs.Typed.{hold_key, hold_value, part_place, part_value}
 use Rattle.custody_records.proofs.TableLemmas.{entries-table_map}
 use Rattle.custody_records.proofs.purge.Table+Part.drop_due.Goals as goal
 
@@ -22,23 +23,23 @@ rising_entries : (rows : List Part) → is_rising part_cmp key_in (entries_of pa
 rising_entries [] = refl
 rising_entries (row ∷ rows) = ap₂ (λ a b. a && b) (below_entries (part_place row) rows) (rising_entries rows)
 
-below_without : (today : ℕ) (low : PartKey) (es : List Entry) → is_below_all part_cmp key_in low (entries_without_due today es) ≡ is_below_all part_cmp key_in low es
-below_without today low [] = refl
-below_without today low (e ∷ es) = ap (λ b. is_lt (part_cmp low e.0) && b) (below_without today low es)
+below_without : (holds : FinMap text_cmp Hold) (today : ℕ) (low : PartKey) (es : List Entry) → is_below_all part_cmp key_in low (entries_without_due holds today es) ≡ is_below_all part_cmp key_in low es
+below_without holds today low [] = refl
+below_without holds today low (e ∷ es) = ap (λ b. is_lt (part_cmp low e.0) && b) (below_without holds today low es)
 
-rising_without : (today : ℕ) (es : List Entry) → is_rising part_cmp key_in (entries_without_due today es) ≡ is_rising part_cmp key_in es
-rising_without today [] = refl
-rising_without today (e ∷ es) = ap₂ (λ a b. a && b) (below_without today e.0 es) (rising_without today es)
+rising_without : (holds : FinMap text_cmp Hold) (today : ℕ) (es : List Entry) → is_rising part_cmp key_in (entries_without_due holds today es) ≡ is_rising part_cmp key_in es
+rising_without holds today [] = refl
+rising_without holds today (e ∷ es) = ap₂ (λ a b. a && b) (below_without holds today e.0 es) (rising_without holds today es)
 
 -- the keys still rise
-rises : (today : ℕ) (old new : List Part) → entries_of part_place part_value new ≡ entries_without_due today (entries_of part_place part_value old) → is_rising part_cmp part_place old ≡ true → is_rising part_cmp part_place new ≡ true
-rises today old new is up = sym (rising_entries new) ∙ ap (is_rising part_cmp key_in) is ∙ rising_without today (entries_of part_place part_value old) ∙ rising_entries old ∙ up
+rises : (holds : FinMap text_cmp Hold) (today : ℕ) (old new : List Part) → entries_of part_place part_value new ≡ entries_without_due holds today (entries_of part_place part_value old) → is_rising part_cmp part_place old ≡ true → is_rising part_cmp part_place new ≡ true
+rises holds today old new is up = sym (rising_entries new) ∙ ap (is_rising part_cmp key_in) is ∙ rising_without holds today (entries_of part_place part_value old) ∙ rising_entries old ∙ up
 
 pub invariant_of-self : goal.invariant_of-self
-invariant_of-self c = record { rising = rises c.args.today c.args.self.now.rows.items c.drop_due.new.parts.items c.drop_due.ensures c.args.self.now.rising }
+invariant_of-self c = record { rising = rises (table_map text_cmp hold_key hold_value c.args.holds.now.rows.items) c.args.today c.args.self.now.rows.items c.drop_due.new.parts.items c.drop_due.ensures c.args.self.now.rising }
 
 pub returns : goal.returns
 returns c =
     let old = c.args.self.now in
-    entries-table_map part_cmp part_place part_value c.drop_due.new.parts.items (rises c.args.today old.rows.items c.drop_due.new.parts.items c.drop_due.ensures old.rising)
-    ∙ c.drop_due.ensures ∙ ap (entries_without_due c.args.today) (sym (entries-table_map part_cmp part_place part_value old.rows.items old.rising))
+    entries-table_map part_cmp part_place part_value c.drop_due.new.parts.items (rises (table_map text_cmp hold_key hold_value c.args.holds.now.rows.items) c.args.today old.rows.items c.drop_due.new.parts.items c.drop_due.ensures old.rising)
+    ∙ c.drop_due.ensures ∙ ap (entries_without_due (table_map text_cmp hold_key hold_value c.args.holds.now.rows.items) c.args.today) (sym (entries-table_map part_cmp part_place part_value old.rows.items old.rising))

@@ -8,4 +8,5 @@ returns c = λ i. record {
   parts = c.new-2.ensures i;
   notices = c.new-3.ensures i;
   releases = c.new-4.ensures i;
+  holds = c.new-5.ensures i;
 }
