@@ -25,13 +25,13 @@ use Rattle.custody_records.specs.Records.{Notice}
 use Rattle.custody_machine.specs.declared.answers.Refusal.TheVariants.{DroppedAfterKeeping}
 use Rattle.custody_machine.specs.Names.{read_name}
 use Rattle.custody_machine.specs.State.{State, Part, empty}
-use Rattle.custody_machine.specs.MapValues.{map_values}
-use Rattle.custody_machine.specs.Machine.{Command, Register, Receive, Statement, Check, Release, Purge, Record, OfRegistry, OfPart, OfNotice, OfRelease, OfPurge, Accept, Entry, refusal_of, kept, effect, unless_kept, step, state_of, state_after, after, with_registry, with_part, received_part, with_notice, with_release, without_bytes, is_dropped, dropped_if_due, count_due}
+use Rattle.custody_machine.specs.MapValues.{map_keyed}
+use Rattle.custody_machine.specs.Machine.{Command, Register, Receive, Statement, Check, Release, Hold, Lift, Purge, Record, OfRegistry, OfPart, OfNotice, OfRelease, OfHold, OfLifting, OfPurge, Accept, Entry, refusal_of, kept, effect, unless_kept, step, state_of, state_after, after, with_registry, with_part, received_part, with_notice, with_release, with_hold, lifting_of, without_bytes, is_dropped, dropped_if_due, count_due}
 use Rattle.custody_machine.specs.History.{Running, Stopped, Run, found}
 use Rattle.custody_machine.specs.Examples.{pair_of}
 use Rattle.custody_machine.specs.Fetched.{fetched}
-use Rattle.custody_machine.specs.Accepted.{moment, tld, file, place, deposit, notice, until_release, life, commands_of, new_reply, reply_again, IsAccepted, AreAccepted, events_of, CustodyLives}
-use Rattle.custody_machine.proofs.MapValues.{map_values-empty, map_values-insert}
+use Rattle.custody_machine.specs.Accepted.{moment, tld, file, place, deposit, notice, until_release, until_hold, life, commands_of, new_reply, reply_again, IsAccepted, AreAccepted, events_of, CustodyLives}
+use Rattle.custody_machine.proofs.MapValues.{map_keyed-empty, map_keyed-insert}
 use Rattle.custody_machine.proofs.Accepting.{read_of, step_none, insert_here}
 use Rattle.custody_machine.proofs.Examples.{has_examples}
 
@@ -101,8 +101,17 @@ release = record { tld = tld; reason = Operator; at = moment 20_670 3 0; names =
 abbrev released : State
 released = with_release checked (codes "R-1") release
 
+abbrev standing : records.Hold
+standing = records.new_hold tld 20_667 (moment 21_032 9 0)
+
+abbrev held : State
+held = with_hold released (codes "H-1") standing
+
+abbrev lifted : State
+lifted = with_hold held (codes "H-1") (records.lifted_at (moment 21_033 9 0) standing)
+
 abbrev purged : State
-purged = record released { parts = insert fin.empty place (without_bytes part) }
+purged = record lifted { parts = insert fin.empty place (without_bytes part) }
 
 -- ---- what the maps have
 
@@ -126,6 +135,18 @@ two_notices = entries-insert notice_total _ (notice 2) absence ∙ ap (fin.put n
 
 released_under : get released.releases (codes "R-1") ≡ Some release
 released_under = insert_here text_total fin.empty (codes "R-1") release
+
+held_under : get held.holds (codes "H-1") ≡ Some standing
+held_under = insert_here text_total fin.empty (codes "H-1") standing
+
+held_entries : entries held.holds ≡ (codes "H-1", standing) ∷ []
+held_entries = entries-insert text_total fin.empty (codes "H-1") standing ∙ ap (fin.put text_cmp (codes "H-1") standing) (nothing text_cmp)
+
+lifted_under : get lifted.holds (codes "H-1") ≡ Some (records.lifted_at (moment 21_033 9 0) standing)
+lifted_under = insert_here text_total held.holds (codes "H-1") (records.lifted_at (moment 21_033 9 0) standing)
+
+lifted_entries : entries lifted.holds ≡ (codes "H-1", records.lifted_at (moment 21_033 9 0) standing) ∷ []
+lifted_entries = entries-insert text_total held.holds (codes "H-1") (records.lifted_at (moment 21_033 9 0) standing) ∙ ap (fin.put text_cmp (codes "H-1") (records.lifted_at (moment 21_033 9 0) standing)) held_entries
 
 -- ---- the commands
 
@@ -168,25 +189,45 @@ releasing = accepted _ _ _ _ _
     (made _ _ _ _ _ (simp (first_day, get-empty {X = records.Release} text_cmp)) (simp (get-empty {X = records.Release} text_cmp)) (simp (one_entry, sym file_of_name)))
     (apart (λ state. is_some (get state.releases (codes "R-1"))) _ _ (ap is_some released_under) (ap is_some (get-empty text_cmp (codes "R-1")))) (repeated _ _ _ _ (simp (first_day, released_under)) (simp released_under))
 
--- a purge of one part
-dropping : (old new : Part) → dropped_if_due 21_033 old ≡ new → map_values (dropped_if_due 21_033) (insert (fin.empty {R = part_cmp}) place old) ≡ insert fin.empty place new
-dropping old new is = map_values-insert part_cmp (dropped_if_due 21_033) part_total part_exact fin.empty place old
-    ∙ (λ i. insert (map_values-empty part_cmp (dropped_if_due 21_033) part_total part_exact i) place (is i))
+holding : IsAccepted released held (Hold (codes "H-1") tld 20_667, moment 21_032 9 0) (OfHold (codes "H-1") standing)
+holding = accepted _ _ _ _ _
+    (made _ _ _ _ _ (simp (first_day, get-empty {X = records.Hold} text_cmp)) (simp (get-empty {X = records.Hold} text_cmp)) refl)
+    (apart (λ state. is_some (get state.holds (codes "H-1"))) _ _ (ap is_some held_under) (ap is_some (get-empty text_cmp (codes "H-1")))) (repeated _ _ _ _ (simp (first_day, held_under)) (simp held_under))
 
-purging : IsAccepted released purged (Purge, moment 21_033 0 0) (OfPurge 1)
+lifting : IsAccepted held lifted (Lift (codes "H-1"), moment 21_033 9 0) (OfLifting (codes "H-1") (moment 21_033 9 0))
+lifting = accepted _ _ _ _ _
+    (made _ _ _ _ _ (simp held_under) (simp held_under) (simp held_under))
+    (apart (λ state. is_some (lifting_of state (codes "H-1"))) _ _ (simp lifted_under) (simp held_under)) (repeated _ _ _ _ (simp lifted_under) (simp lifted_under))
+
+-- a purge of one part, with these holds
+dropping : (holds : fin.FinMap text_cmp records.Hold) (old new : Part) → dropped_if_due holds 21_033 place old ≡ new → map_keyed (dropped_if_due holds 21_033) (insert (fin.empty {R = part_cmp}) place old) ≡ insert fin.empty place new
+dropping holds old new is = map_keyed-insert part_cmp part_exact (dropped_if_due holds 21_033) part_total fin.empty place old
+    ∙ (λ i. insert (map_keyed-empty part_cmp part_exact (dropped_if_due holds 21_033) part_total i) place (is i))
+
+purging : IsAccepted lifted purged (Purge, moment 21_033 10 0) (OfPurge 1)
 purging = accepted _ _ _ _ _
-    (made _ _ _ _ _ refl refl (λ i. Accept (new_reply (OfPurge (one_due i))) (record released { parts = dropping part (without_bytes part) due i })))
+    (made _ _ _ _ _ refl refl (λ i. Accept (new_reply (OfPurge (one_due i))) (record lifted { parts = dropping lifted.holds part (without_bytes part) due i })))
     (apart (λ state. is_dropped (get state.parts place)) _ _ (ap is_dropped (one_part (without_bytes part) place)) (ap is_dropped (one_part part place)))
-    (made _ _ _ _ _ refl refl (λ i. Accept (new_reply (OfPurge (none_due i))) (record released { parts = dropping (without_bytes part) (without_bytes part) refl i })))
+    (made _ _ _ _ _ refl refl (λ i. Accept (new_reply (OfPurge (none_due i))) (record lifted { parts = dropping lifted.holds (without_bytes part) (without_bytes part) refl i })))
   where
-    due : dropped_if_due 21_033 part ≡ without_bytes part
-    due = simp kept_until
+    due : dropped_if_due lifted.holds 21_033 place part ≡ without_bytes part
+    due = simp (kept_until, lifted_entries)
 
-    one_due : count_due released 21_033 ≡ 1
-    one_due = simp (one_entry, kept_until)
+    one_due : count_due lifted 21_033 ≡ 1
+    one_due = simp (one_entry, kept_until, lifted_entries)
 
     none_due : count_due purged 21_033 ≡ 0
     none_due = simp one_entry
+
+-- while its day is on hold the part stays
+spared : step held Purge (moment 21_033 0 0) ≡ Accept (new_reply (OfPurge 0)) held
+spared = made _ _ _ _ _ refl refl (λ i. Accept (new_reply (OfPurge (none_due i))) (record held { parts = dropping held.holds part part stays i }))
+  where
+    stays : dropped_if_due held.holds 21_033 place part ≡ part
+    stays = simp (kept_until, held_entries)
+
+    none_due : count_due held 21_033 ≡ 0
+    none_due = simp (one_entry, kept_until, held_entries)
 
 -- ---- what is fetched
 
@@ -207,9 +248,14 @@ until_released : IsLawful → LeadTo empty until_release released
 unfolding LeadTo
 until_released lawful = (registered, registering, (received, receiving, (stated, stating lawful, (checked, checking, (released, releasing, refl)))))
 
+until_held : IsLawful → LeadTo empty until_hold held
+unfolding LeadTo
+until_held lawful = (registered, registering, (received, receiving, (stated, stating lawful, (checked, checking, (released, releasing, (held, holding, refl))))))
+
 until_purged : IsLawful → LeadTo empty life purged
 unfolding LeadTo
-until_purged lawful = (registered, registering, (received, receiving, (stated, stating lawful, (checked, checking, (released, releasing, (purged, purging, refl))))))
+until_purged lawful =
+    (registered, registering, (received, receiving, (stated, stating lawful, (checked, checking, (released, releasing, (held, holding, (lifted, lifting, (purged, purging, refl))))))))
 
 goes : (old new : State) (one : Entry × Record) → IsAccepted old new one.0 one.1 → new ≡ state_after old one.0.0 one.0.1
 goes old new one is = sym (ap (state_of old) is.accepts)
@@ -241,6 +287,7 @@ pub custody_lives : IsLawful → CustodyLives
 custody_lives lawful = record {
   accepted = all_accepted lawful;
   found = ((Running empty, Running (after empty (commands_of life)), refl, ran empty life (all_accepted lawful)), all_found (after empty (commands_of life)));
+  held = subst (λ state. step state Purge (moment 21_033 0 0) ≡ Accept (new_reply (OfPurge 0)) state) (sym (is_after empty until_hold held (until_held lawful))) spared;
   released = ap (λ state. fetched state (codes "R-1") file) (is_after empty until_release released (until_released lawful)) ∙ hello_is_fetched;
   dropped = ap (λ state. fetched state (codes "R-1") file) (is_after empty life purged (until_purged lawful)) ∙ hello_is_dropped;
 }

@@ -19,7 +19,7 @@ use Rattle.custody_records.specs.Tables.{is_rising}
 use Rattle.custody_machine.specs.Names.{is_same_text, read_name}
 use Rattle.custody_machine.specs.SameValues.{is_same_kind}
 use Rattle.custody_machine.specs.State.{State, Part, Content, Held, Dropped, places}
-use Rattle.custody_machine.specs.Machine.{Command, Test, refusal_number, TestsAreInOrder, Register, Receive, Statement, Check, Release, Purge, Refusal, NameRefused, RegistryUnknown, DateOutOfRange, Size, OtherBytes, DroppedAfterKeeping, RevisionNotDue, AlreadyStated, TypeDiffers, PartOutOfOrder, OfRegistry, OfPart, Reply, Outcome, Refuse, Accept, part_at, of_kind, recorded, has_other_kind, is_held_with, is_held_with_other, holds_other, is_dropped, is_gone, part_in, refusal_of, with_part, received_part, held_with, kept_under, kept, effect, received, unless_kept, unless_refused, step, is_unregistered, is_out_of_range, is_out_of_size, is_not_due, is_stated, differs_in_kind, is_out_of_order, receive_tests, named_tests, first_standing}
+use Rattle.custody_machine.specs.Machine.{Command, Test, refusal_number, TestsAreInOrder, Register, Receive, Statement, Check, Release, Hold, Lift, Purge, Refusal, NameRefused, RegistryUnknown, DateOutOfRange, Size, OtherBytes, DroppedAfterKeeping, RevisionNotDue, AlreadyStated, TypeDiffers, PartOutOfOrder, OfRegistry, OfPart, Reply, Outcome, Refuse, Accept, part_at, of_kind, recorded, has_other_kind, is_held_with, is_held_with_other, holds_other, is_dropped, is_gone, part_in, refusal_of, with_part, received_part, held_with, kept_under, kept, effect, received, unless_kept, unless_refused, step, is_unregistered, is_out_of_range, is_out_of_size, is_not_due, is_stated, differs_in_kind, is_out_of_order, receive_tests, named_tests, first_standing}
 use Rattle.custody_machine.proofs.NameReading.{read_is, is_reading}
 use Rattle.custody_machine.proofs.SameValues.{text_decides}
 use Rattle.custody_machine.proofs.Series.{is_place}
@@ -104,6 +104,8 @@ tests_are_in_order s (Receive text bytes) now = by (read_name text)
 tests_are_in_order s (Statement stated) now = refl
 tests_are_in_order s (Check tld day) now = refl
 tests_are_in_order s (Release reference tld reason) now = refl
+tests_are_in_order s (Hold reference tld day) now = refl
+tests_are_in_order s (Lift reference) now = refl
 tests_are_in_order s Purge now = refl
 
 -- accepted: no refusal stands, and the outcome is that of a repeat or of the effect

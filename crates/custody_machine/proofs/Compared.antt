@@ -10,7 +10,7 @@ use Rattle.custody_records.specs.Keys.{PartKey}
 use Rattle.custody_records.specs.Records.{PartRecord, Records, key_of}
 use Rattle.custody_machine.specs.Names.{is_same_text}
 use Rattle.custody_machine.specs.State.{State}
-use Rattle.custody_machine.specs.Machine.{Command, Register, Receive, Statement, Check, Release, Purge, OfPart, Reply, Outcome, Refuse, Accept, OtherBytes, refusal_of, step, reads, Accepted, Refused, Failed, Fault, NoMemory, VolumeFailed, Damaged, MayFail}
+use Rattle.custody_machine.specs.Machine.{Command, Register, Receive, Statement, Check, Release, Hold, Lift, Purge, OfPart, Reply, Outcome, Refuse, Accept, OtherBytes, refusal_of, step, reads, Accepted, Refused, Failed, Fault, NoMemory, VolumeFailed, Damaged, MayFail}
 use Rattle.custody_machine.specs.declared.damage.Damage.TheVariants.{Digest}
 use Rattle.custody_machine.specs.Stored.{part_of, state_in, HasDigestAt}
 use Rattle.custody_machine.specs.Moves.{DependsOnBytes}
@@ -39,6 +39,8 @@ module _ (records : Records) (i : List ℕ) (command : Command) (now : ℕ) (nam
       by (Statement stated) refused under = absurd under
       by (Check tld day) refused under = absurd under
       by (Release reference tld reason) refused under = absurd under
+      by (Hold reference tld day) refused under = absurd under
+      by (Lift reference) refused under = absurd under
       by Purge refused under = absurd under
 
   reads_none : refusal_of (state_in records i) command now ≡ None → reads (state_in records i) command now ≡ []
@@ -50,6 +52,8 @@ module _ (records : Records) (i : List ℕ) (command : Command) (now : ℕ) (nam
       by (Statement stated) none under = absurd under
       by (Check tld day) none under = absurd under
       by (Release reference tld reason) none under = absurd under
+      by (Hold reference tld day) none under = absurd under
+      by (Lift reference) none under = absurd under
       by Purge none under = absurd under
 
   pub same_rests : Compares Same (part_bytes i extents part.len) bytes part.digest → (reply : Reply) → DependsOnBytes records i command now (Accepted reply)

@@ -21,7 +21,7 @@ use Rattle.custody_records.specs.Form.{form_of, InForm}
 use Rattle.custody_machine.specs.Names.{read_name}
 use Rattle.custody_machine.specs.SameValues.{is_same_kind}
 use Rattle.custody_machine.specs.State.{State, Held, places, at_place, has_notice}
-use Rattle.custody_machine.specs.Machine.{Statement, Check, Release, Purge, if_made, Command, Register, Receive, Refusal, NameRefused, RegistryUnknown, DateOutOfRange, Size, OtherBytes, DroppedAfterKeeping, RevisionNotDue, AlreadyStated, TypeDiffers, PartOutOfOrder, VolumeFull, PartsDiffer, LaterDayPassed, NotYetDue, DayHasVerdict, GroundDoesNotStand, ReferenceUsed, NotInRelease, ReleaseUnknown, Record, OfRegistry, OfPart, Reply, Refuse, Accept, max_part_len, of_kind, recorded, part_in, has_other_kind, is_failure_of, refusal_of, kept, effect, received, unless_kept, unless_refused, step, state_of, state_after, received_part, with_part, Entry, read_by, reads, Answer, Accepted, Failed, StoreFailed, MayFail, Answers, named_tests, first_standing, verdict_keys}
+use Rattle.custody_machine.specs.Machine.{Statement, Check, Release, Hold, Lift, Purge, if_made, Command, Register, Receive, Refusal, NameRefused, RegistryUnknown, DateOutOfRange, Size, OtherBytes, DroppedAfterKeeping, RevisionNotDue, AlreadyStated, TypeDiffers, PartOutOfOrder, VolumeFull, PartsDiffer, LaterDayPassed, NotYetDue, DayHasVerdict, GroundDoesNotStand, ReferenceUsed, NotInRelease, ReleaseUnknown, HoldReferenceUsed, HoldUnknown, Record, OfRegistry, OfPart, Reply, Refuse, Accept, max_part_len, of_kind, recorded, part_in, has_other_kind, is_failure_of, refusal_of, kept, effect, received, unless_kept, unless_refused, step, state_of, state_after, received_part, with_part, Entry, read_by, reads, Answer, Accepted, Failed, StoreFailed, MayFail, Answers, named_tests, first_standing, verdict_keys}
 use Rattle.custody_machine.specs.History.{IsFoundWithin, doubt_of, MayFind, is_open_after}
 use Rattle.custody_machine.specs.Stored.{AreNaming, IsNamed, AreWhole, IsVolumeOf, is_part_of, IsGood, part_of, state_in, KeepsParts, OpensFrom}
 use Rattle.custody_machine.specs.Moves.{Place, Serving, Shut, MayLeave, MayLeaveWithin, DependsOnBytes, place_after}
@@ -89,6 +89,8 @@ read_none GroundDoesNotStand other (Ok name) = refl
 read_none ReferenceUsed other (Ok name) = refl
 read_none NotInRelease other (Ok name) = refl
 read_none ReleaseUnknown other (Ok name) = refl
+read_none HoldReferenceUsed other (Ok name) = refl
+read_none HoldUnknown other (Ok name) = refl
 
 part_refused : (s : State) (text bytes : List ℕ) (now : ℕ) (q : Refusal) → step s (Receive text bytes) now ≡ Refuse q → q ≢ OtherBytes → reads s (Receive text bytes) now ≡ []
 part_refused s text bytes now q e other = ap (λ o. read_by o (read_name text)) (refusal_is s text bytes now q e) ∙ read_none q other (read_name text)
@@ -106,6 +108,8 @@ reads_refused s (Statement stated) now q e other = by (refusal_of s (Statement s
     by (Some r) k e = refl
 reads_refused s (Check tld day) now q e other = refl
 reads_refused s (Release reference tld reason) now q e other = refl
+reads_refused s (Hold reference tld day) now q e other = refl
+reads_refused s (Lift reference) now q e other = refl
 reads_refused s Purge now q e other = refl
 
 -- of a repeat
@@ -121,6 +125,8 @@ reads_repeated s (Statement stated) now reply new e again = by (refusal_of s (St
     by (Some r) k e = refl
 reads_repeated s (Check tld day) now reply new e again = refl
 reads_repeated s (Release reference tld reason) now reply new e again = refl
+reads_repeated s (Hold reference tld day) now reply new e again = refl
+reads_repeated s (Lift reference) now reply new e again = refl
 reads_repeated s Purge now reply new e again = refl
 
 pub reads_other : (s : State) (text bytes : List ℕ) (now : ℕ) (name : Name) → step s (Receive text bytes) now ≡ Refuse OtherBytes → read_name text ≡ Ok name → reads s (Receive text bytes) now ≡ key_of name ∷ []

@@ -83,6 +83,7 @@ stable_linked records denied = record {
   part_registry = λ key part at. stable_test _ (λ out. denied (λ h. out (h.part_registry key part at)));
   notice_registry = λ key notice at. stable_test _ (λ out. denied (λ h. out (h.notice_registry key notice at)));
   release_registry = λ reference release at. stable_test _ (λ out. denied (λ h. out (h.release_registry reference release at)));
+  hold_registry = λ reference hold at. stable_test _ (λ out. denied (λ h. out (h.hold_registry reference hold at)));
   released = λ reference release at. stable_test _ (λ out. denied (λ h. out (h.released reference release at)));
   series = λ key part at n e. stable_test _ (λ out. denied (λ h. out (h.series key part at n e)));
   numbers = λ key notice at n e. stable_test _ (λ out. denied (λ h. out (h.numbers key notice at n e)));

@@ -6,7 +6,7 @@ use Rattle.std.proofs.lemmas.Slice.Eq.{bytes_eq-Decides}
 use Rattle.custody_records.specs.declared.damage.Damage.TheVariants as damage
 use Rattle.custody_records.specs.Records.{Records}
 use Rattle.custody_records.specs.Rows.{MetaRow, Rows, first_meta}
-use Rattle.custody_records.specs.Form.{NoVault, OutOfForm, InForm, form_of, form_after, records_in, in_form_or, is_meta, is_number, number_in, natural, is_within}
+use Rattle.custody_records.specs.Form.{NoVault, OutOfForm, InForm, form_of, form_after, records_in, in_form_or, is_meta, is_number, number_in, natural, is_within, has_holds, is_schema}
 use Rattle.custody_records.specs.Written.{digits_of}
 use Rattle.custody_records.proofs.FormLemmas.{in_form_has}
 
@@ -38,7 +38,7 @@ row_in_form rows meta is e = by_meta rows.meta is e
     by_option None e = cc
     by_option (Some records) e = cc
 
-    by_known : (row : MetaRow) (a b c : Bool) → (if a then (if b && c then in_form_or damage.Form (records_in (number_in row.number) (natural row.blocks) rows) else OutOfForm damage.Form) else OutOfForm damage.Schema) ≡ NoVault → ⊥
+    by_known : (row : MetaRow) (a b c : Bool) → (if a then (if b && c then in_form_or damage.Form (records_in (has_holds row.schema_no) (number_in row.number) (natural row.blocks) rows) else OutOfForm damage.Form) else OutOfForm damage.Schema) ≡ NoVault → ⊥
     by_known row true true true e = by_option _ e
     by_known row true true false e = cc
     by_known row true false c e = cc
@@ -46,8 +46,8 @@ row_in_form rows meta is e = by_meta rows.meta is e
 
     by_row : (others : List MetaRow) → slice_get others 0 ≡ Some meta → form_after others (record rows { meta = Some others }) ≡ NoVault → ⊥
     by_row [] is e = cc
-    by_row (row ∷ []) is e = by_known row (is_number 1 row.schema_no) (is_meta row) true e
-    by_row (row ∷ other ∷ others) is e = by_known row (is_number 1 row.schema_no) (is_meta row) false e
+    by_row (row ∷ []) is e = by_known row (is_schema row.schema_no) (is_meta row) true e
+    by_row (row ∷ other ∷ others) is e = by_known row (is_schema row.schema_no) (is_meta row) false e
 
     by_meta : (o : Option (List MetaRow)) → first_meta (record rows { meta = o }) ≡ Some meta → form_of (record rows { meta = o }) ≡ NoVault → ⊥
     by_meta None is e = cc

@@ -15,7 +15,7 @@ use Rattle.custody_machine.specs.MapValues.{map_entries}
 use Rattle.custody_machine.specs.Names.{is_same_text}
 use Rattle.custody_machine.specs.Machine as machine
 use Rattle.custody_machine.specs.Machine.{Release, OfRelease, Accept, step, is_gone}
-use Rattle.custody_machine.specs.Releases.{AreRecorded, held_name, held_names, new_release}
+use Rattle.custody_machine.specs.Releases.{AreRecorded, held_name, new_release}
 use Rattle.custody_machine.specs.Stored.{AreWhole, IsGood, content_of, part_of, state_in}
 use Rattle.custody_machine.specs.Rulings.{AddsRelease, Makes, Decides}
 use Rattle.custody_machine.specs.Custody.{IsInOrder}
@@ -63,6 +63,7 @@ module _ (records : Records) (whole : AreWhole records) (reference : List ℕ) (
       part_registry = l.part_registry;
       notice_registry = l.notice_registry;
       release_registry = inserted_release records.releases reference release (λ r. is_some (get records.registries r.tld) ≡ true) known l.release_registry;
+      hold_registry = l.hold_registry;
       released = inserted_release records.releases reference release (λ r. AreRecorded records r.tld r.names) names l.released;
       series = l.series;
       numbers = l.numbers;

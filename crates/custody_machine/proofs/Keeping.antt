@@ -1,382 +1,34 @@
 -- What the machine keeps of an accepted command for good.
-use Rattle.std.proofs.Common.{◌≡◌, ℕ, List, [], ◌∷◌, Option, Some, None, Bool, true, false, not, ◌&&◌, ◌||◌, ◌⊎◌, inl, inr, refl, sym, ◌∙◌, ap, subst, cond, ◌==◌, is_none, length, Ok}
-use Rattle.std.specs.Prelude.{option_map, if◌then◌else◌}
-use Rattle.std.specs.Prelude.{is_some, count_by}
+use Rattle.std.proofs.Common.{◌≡◌, ℕ, List, [], Option, Some, None, Bool, true, false, not, ◌&&◌, ◌⊎◌, inl, inr, refl, sym, ◌∙◌, ap, subst, cond, ◌==◌, is_none, Ok}
+use Rattle.std.specs.Prelude.{option_map}
+use Rattle.std.specs.Prelude.{is_some}
 use Rattle.std.specs.List as list
-use Rattle.std.specs.List.{list_any}
-use Rattle.std.specs.Ordering.{eq_by_cmp}
-use Rattle.std.specs.FinMap.{entries, get, get-insert}
-use Rattle.std.specs.Cmp.{Equal-is}
-use Rattle.std.specs.Option.{option_and_then}
+use Rattle.std.specs.FinMap.{entries, get}
 use Rattle.std.proofs.lemmas.Bool.Decides.{Decides-eqb}
-use Rattle.std.proofs.lemmas.Option.{cond_some}
 use Rattle.schedule.specs.Schedule.{day_of}
 use Rattle.deposit_name.specs.declared.kinds.Kind.{Kind}
 use Rattle.deposit_name.specs.Name.{Name}
 use Rattle.deposit_verify.specs.declared.verdict.Verdict.{Verdict}
-use Rattle.desk.specs.declared.grounds.Ground.{Ground}
 use Rattle.deposit_verify.specs.declared.verdict.Verdict.TheVariants.{Pass, Fail}
 use Rattle.desk.specs.declared.notices.NoticeKind.{NoticeKind}
 use Rattle.desk.specs.declared.notices.NoticeKind.TheVariants.{Receipt, Failure, Absence}
-use Rattle.custody_records.specs.Keys.{PartKey, part_cmp, NoticeKey}
+use Rattle.custody_records.specs.Keys.{NoticeKey}
 use Rattle.custody_records.specs.Records as kept_in
-use Rattle.custody_records.specs.Records.{Notice, key_of}
-use Rattle.custody_machine.specs.declared.command.Statement as statement
+use Rattle.custody_records.specs.Records.{Notice, key_of, lifted_at, new_hold}
 use Rattle.custody_machine.specs.Names.{read_name}
 use Rattle.custody_machine.specs.SameValues.{is_same_kind}
-use Rattle.custody_machine.specs.State.{State, Part, Held, places, at_place, is_notice_of, has_notice}
-use Rattle.custody_machine.specs.Machine.{Check, Release, Purge, OfRelease, OfPurge, is_on, kept_release, new_release, release_of, has_ground, without_bytes, is_due, dropped_if_due, count_due, without_due, absence_of, absence_notice, is_absence, is_beyond, is_unknown, is_verdict, OfNotice, is_outside, has_part_of_other_kind, differ_in_number, has_later_receipt, first_part, if_made, if_of_id, has_id, is_verdict_of, verdict_told, has_verdict, has_dropped_part, are_as_stated, kept_verdict, with_notice, next_key, verdict_notice, notice_kind, verdict_on, Command, Register, Receive, Statement, Refusal, DroppedAfterKeeping, Record, OfRegistry, OfPart, Reply, Outcome, Refuse, Accept, first_day_of, part_at, recorded, has_other_kind, is_held_with_other, holds_other, is_dropped, is_gone, part_in, refusal_of, with_registry, with_part, with_release, received_part, kept, step, state_of, reads, read_by, HasRecord, is_unregistered, is_out_of_size, receive_tests, named_tests, first_standing, verdict_keys}
-use Rattle.custody_machine.specs.Retries.{Key, OfTld, OfName, OfRevision, OfDay, OfReference, key, are_same_keys, has_same_key, asked, IsDroppedSince, IsKeptAs, StillHas, KeepsRecords, NothingIsRemoved, RepliesAreRecords, IsOfCommand}
-use Rattle.custody_machine.proofs.MapValues.{get-map_values}
+use Rattle.custody_machine.specs.State.{State, Part, Held, is_notice_of, has_notice}
+use Rattle.custody_machine.specs.Machine.{HoldUnknown, unless_kept, lifted, Check, Release, Hold, Lift, Purge, OfRelease, OfHold, OfLifting, OfPurge, hold_of, is_held_day, kept_hold, lifting_of, with_hold, is_on, kept_release, new_release, has_ground, without_bytes, count_due, absence_of, absence_notice, is_absence, is_beyond, is_verdict, OfNotice, is_outside, has_part_of_other_kind, differ_in_number, has_later_receipt, first_part, if_made, has_id, is_verdict_of, verdict_told, has_verdict, has_dropped_part, are_as_stated, kept_verdict, with_notice, next_key, verdict_notice, notice_kind, verdict_on, Command, Register, Receive, Statement, Refusal, DroppedAfterKeeping, Record, OfRegistry, OfPart, Reply, Refuse, Accept, first_day_of, part_at, recorded, is_held_with_other, holds_other, is_dropped, is_gone, refusal_of, with_release, received_part, kept, step, reads, read_by, HasRecord, receive_tests, named_tests, first_standing, verdict_keys}
+use Rattle.custody_machine.specs.Retries.{Key, OfTld, OfName, OfRevision, OfDay, OfReference, OfHolding, OfLift, key, are_same_keys, has_same_key, asked, IsDroppedSince, IsKeptAs, StillHas, KeepsRecords, RepliesAreRecords, IsOfCommand}
 use Rattle.custody_machine.proofs.SameValues.{text_decides, kind_decides, ground_decides}
-use Rattle.custody_records.specs.Orders.{text_total, part_total, part_exact, notice_total}
-use Rattle.custody_machine.proofs.Entries.{passes_found, any_of_found, found_where_any, none_found, get_found, find_insert, find_new, next_is_new}
-use Rattle.custody_machine.proofs.Stated.{NoneStandsOf, find_none_of, stated_by, IsStated, accepts_statement}
-use Rattle.custody_machine.proofs.Checked.{NoneStandsOn, find_none_on, missed_by, IsChecked, accepts_check}
+use Rattle.custody_records.specs.Orders.{text_total, part_total, notice_total}
+use Rattle.custody_machine.proofs.Entries.{passes_found, none_found, find_new, next_is_new}
+use Rattle.custody_machine.proofs.Stated.{find_none_of, stated_by, IsStated, accepts_statement}
+use Rattle.custody_machine.proofs.Checked.{find_none_on, missed_by, IsChecked, accepts_check}
 use Rattle.custody_machine.proofs.Released.{find_none_for, released_by, IsReleased, accepts_release, kept_release_is, kept_release_of, unused_of}
-use Rattle.custody_machine.proofs.Accepting.{NoneStands, find_none, find_dropped, step_accepts, step_none, step_refuses, accept_inj, insert_here, insert_new, place_is_empty, held_bytes, answered, rules_part, Receives, receives, registered, recorded_is, recorded_of}
-
--- ---- nothing is removed
-
-pub kept_itself : (entry : Record) → IsKeptAs entry entry
-kept_itself (OfPart key part) = inl refl
-kept_itself entry = refl
-
--- a record of the state is one that it still has
-still : (s : State) (entry : Record) → HasRecord s entry → StillHas s entry
-still s entry has = (entry, has, kept_itself entry)
-
-keeps_itself : (s : State) → KeepsRecords s s
-keeps_itself = still
-
-keeps_registering : (s : State) (tld : List ℕ) (day : ℕ) → first_day_of s tld ≡ None → KeepsRecords s (with_registry s tld day)
-keeps_registering s tld day none (OfRegistry q x) e = still (with_registry s tld day) (OfRegistry q x) (insert_new text_total s.registries tld day q x none e)
-keeps_registering s tld day none entry e = still (with_registry s tld day) entry e
-
-keeps_adding : (s : State) (key : PartKey) (part : Part) → part_at s key ≡ None → KeepsRecords s (with_part s key part)
-keeps_adding s key part none (OfPart q x) e = still (with_part s key part) (OfPart q x) (insert_new part_total s.parts key part q x none e)
-keeps_adding s key part none entry e = still (with_part s key part) entry e
-
-keeps_noticing : (s : State) (key : NoticeKey) (notice : Notice) → get s.notices key ≡ None → KeepsRecords s (with_notice s key notice)
-keeps_noticing s key notice none (OfNotice q x) e = still (with_notice s key notice) (OfNotice q x) (insert_new notice_total s.notices key notice q x none e)
-keeps_noticing s key notice none entry e = still (with_notice s key notice) entry e
-
-keeps_releasing : (s : State) (reference : List ℕ) (release : kept_in.Release) → get s.releases reference ≡ None → KeepsRecords s (with_release s reference release)
-keeps_releasing s reference release none (OfRelease q x) e = still (with_release s reference release) (OfRelease q x) (insert_new text_total s.releases reference release q x none e)
-keeps_releasing s reference release none entry e = still (with_release s reference release) entry e
-
--- of each part its bytes may be dropped, and nothing else
-keeps_dropping : (s : State) (today : ℕ) → KeepsRecords s (without_due s today)
-keeps_dropping s today (OfPart key part) e = (OfPart key (dropped_if_due today part), get-map_values part_cmp (dropped_if_due today) s.parts key ∙ ap (option_map (dropped_if_due today)) e, by (is_due today part))
-  where
-    by : (b : Bool) → IsKeptAs (OfPart key part) (OfPart key (cond b (without_bytes part) part))
-    by true = inr refl
-    by false = inl refl
-keeps_dropping s today entry e = still (without_due s today) entry e
-
--- what a purge does
-purges : (s : State) (now : ℕ) (reply : Reply) (new : State) → step s Purge now ≡ Accept reply new → (record { entry = OfPurge (count_due s (day_of now)); is_repeat = false } ≡ reply) × (without_due s (day_of now) ≡ new)
-purges s now reply new e = accept_inj _ _ _ _ (step_accepts s Purge now reply new e).1
-
-pub step_keeps : (s : State) (c : Command) (now : ℕ) (reply : Reply) (new : State) → step s c now ≡ Accept reply new → KeepsRecords s new
-step_keeps s (Register tld day) now reply new e = by (first_day_of s tld) refl (step_accepts s (Register tld day) now reply new e).1
-  where
-    by : (o : Option ℕ) → first_day_of s tld ≡ o → registered s tld day now o ≡ Accept reply new → KeepsRecords s new
-    by (Some kept) at e = subst (KeepsRecords s) (accept_inj _ _ _ _ e).1 (keeps_itself s)
-    by None at e = subst (KeepsRecords s) (accept_inj _ _ _ _ e).1 (keeps_registering s tld day at)
-step_keeps s (Receive text bytes) now reply new e = let r = receives s text bytes now reply new e in by r (recorded s r.name) refl r.outcome
-  where
-    by : (r : Receives s text bytes now reply new) (o : Option Part) → recorded s r.name ≡ o → answered s r.name bytes now o ≡ Accept reply new → KeepsRecords s new
-    by r (Some kept) at e = subst (KeepsRecords s) (accept_inj _ _ _ _ e).1 (keeps_itself s)
-    by r None at e = subst (KeepsRecords s) (accept_inj _ _ _ _ e).1 (keeps_adding s (key_of r.name) _
-        (place_is_empty s text r.name r.named at (ap (λ o. is_none o && list_any (λ place. has_other_kind r.name.kind (part_in s r.name place)) places) (sym at) ∙ r.none.kind)))
-step_keeps s (Statement stated) now reply new e = let r = accepts_statement s stated now reply new e in by (kept_verdict s stated) r.outcome
-  where
-    by : (o : Option (NoticeKey × Notice)) → stated_by s stated now o ≡ Accept reply new → KeepsRecords s new
-    by (Some kept) e = subst (KeepsRecords s) (accept_inj _ _ _ _ e).1 (keeps_itself s)
-    by None e = subst (KeepsRecords s) (accept_inj _ _ _ _ e).1 (keeps_noticing s (next_key s.notices stated.tld) _ (next_is_new s.notices stated.tld))
-step_keeps s (Check tld day) now reply new e = by (absence_of s tld day) (accepts_check s tld day now reply new e).outcome
-  where
-    by : (o : Option (NoticeKey × Notice)) → missed_by s tld day now o ≡ Accept reply new → KeepsRecords s new
-    by (Some kept) e = subst (KeepsRecords s) (accept_inj _ _ _ _ e).1 (keeps_itself s)
-    by None e = subst (KeepsRecords s) (accept_inj _ _ _ _ e).1 (keeps_noticing s (next_key s.notices tld) _ (next_is_new s.notices tld))
-step_keeps s (Release reference tld reason) now reply new e = let r = accepts_release s reference tld reason now reply new e in by r (kept_release s reference tld reason) refl r.outcome
-  where
-    by : (r : IsReleased s reference tld reason now reply new) (o : Option kept_in.Release) → kept_release s reference tld reason ≡ o → released_by s reference tld reason now o ≡ Accept reply new → KeepsRecords s new
-    by r (Some kept) at e = subst (KeepsRecords s) (accept_inj _ _ _ _ e).1 (keeps_itself s)
-    by r None at e = subst (KeepsRecords s) (accept_inj _ _ _ _ e).1 (keeps_releasing s reference _ (unused_of s reference tld reason now r.none at))
-step_keeps s Purge now reply new e = subst (KeepsRecords s) (purges s now reply new e).1 (keeps_dropping s (day_of now))
-
-pub nothing_is_removed : NothingIsRemoved
-nothing_is_removed old command now = by (step old command now) refl
-  where
-    by : (r : Outcome) → step old command now ≡ r → KeepsRecords old (state_of old r)
-    by (Refuse q) e = keeps_itself old
-    by (Accept reply new) e = step_keeps old command now reply new e
-
--- ---- a command that comes again
-
--- a part is as it was, or its bytes are dropped
-abbrev IsKeptPart : Part → Part → Type 0
-IsKeptPart old new = (new ≡ old) ⊎ (new ≡ without_bytes old)
-
-registry_is_kept : (s new : State) (tld : List ℕ) (day : ℕ) → KeepsRecords s new → first_day_of s tld ≡ Some day → first_day_of new tld ≡ Some day
-registry_is_kept s new tld day k at = let h = k (OfRegistry tld day) at in subst (HasRecord new) h.2 h.1
-
-part_is_kept : (s new : State) (key : PartKey) (part : Part) → KeepsRecords s new → part_at s key ≡ Some part → (kept : Part) × (part_at new key ≡ Some kept) × IsKeptPart part kept
-part_is_kept s new key part k at = let h = k (OfPart key part) at in by h.0 h.1 h.2
-  where
-    by : (kept : Record) → HasRecord new kept → IsKeptAs (OfPart key part) kept → (kept : Part) × (part_at new key ≡ Some kept) × IsKeptPart part kept
-    by kept has (inl p) = (part, subst (HasRecord new) p has, inl refl)
-    by kept has (inr p) = (without_bytes part, subst (HasRecord new) p has, inr refl)
-
-release_is_kept : (s new : State) (reference : List ℕ) (release : kept_in.Release) → KeepsRecords s new → get s.releases reference ≡ Some release → get new.releases reference ≡ Some release
-release_is_kept s new reference release k at = let h = k (OfRelease reference release) at in subst (HasRecord new) h.2 h.1
-
--- what is kept of an accepted part
-pub record KeepsPart (s : State) (text bytes : List ℕ) (entry : Record) : Type 0 where
-  pub name : Name
-  pub part : Part
-  pub kept : Part
-  pub named : read_name text ≡ Ok name
-  pub made : entry ≡ OfPart (key_of name) part
-  pub content : part.content ≡ Held bytes
-  pub kind : is_same_kind part.kind name.kind ≡ true
-  pub registry : is_unregistered s name ≡ false
-  pub size : is_out_of_size (length bytes) ≡ false
-  pub at : part_at s (key_of name) ≡ Some kept
-  pub same : IsKeptPart part kept
-
--- ---- a revision that has a verdict
-
-and_both : (a b : Bool) → (a && b) ≡ true → (a ≡ true) × (b ≡ true)
-and_both true b h = (refl, h)
-and_both false b h = cc
-
--- an entry is a verdict on the revision
-abbrev is_verdict_on : statement.Statement → NoticeKey × Notice → Bool
-is_verdict_on st = is_notice_of st.tld st.day (is_verdict_of st.rev)
-
--- what is kept of a statement that was accepted
-pub record KeepsVerdict (s : State) (st : statement.Statement) (entry : Record) : Type 0 where
-  pub kept : NoticeKey × Notice
-  pub found : kept_verdict s st ≡ Some kept
-  pub made : entry ≡ OfNotice kept.0 kept.1
-  pub registry : is_unregistered s (first_part st) ≡ false
-
--- what is kept of a check that was accepted
-pub record KeepsAbsence (s : State) (tld : List ℕ) (day : ℕ) (entry : Record) : Type 0 where
-  pub kept : NoticeKey × Notice
-  pub found : absence_of s tld day ≡ Some kept
-  pub made : entry ≡ OfNotice kept.0 kept.1
-  pub registry : is_unknown s tld ≡ false
-
--- what is kept of a release that was accepted
-pub record KeepsRelease (s : State) (reference tld : List ℕ) (reason : Ground) (entry : Record) : Type 0 where
-  pub kept : kept_in.Release
-  pub found : kept_release s reference tld reason ≡ Some kept
-  pub made : entry ≡ OfRelease reference kept
-  pub registry : is_unknown s tld ≡ false
-
--- what a verdict that is kept tells: the parts are as stated, it is the one of the revision, and it has the id
-pub kept_tells : (s : State) (st : statement.Statement) (kept : NoticeKey × Notice) → kept_verdict s st ≡ Some kept → (are_as_stated s st ≡ true) × (verdict_told s st ≡ Some kept) × (has_id st.id kept.1.kind ≡ true)
-kept_tells s st kept e = by (are_as_stated s st) refl e
-  where
-    by_id : (o : Option (NoticeKey × Notice)) → option_and_then (if_of_id st.id) o ≡ Some kept → (o ≡ Some kept) × (has_id st.id kept.1.kind ≡ true)
-    by_id None e = cc
-    by_id (Some found) e = let h = cond_some (has_id st.id found.1.kind) found kept e in (ap Some h.1, ap (λ (x : NoticeKey × Notice). has_id st.id x.1.kind) (sym h.1) ∙ h.0)
-
-    by : (b : Bool) → are_as_stated s st ≡ b → (if b then option_and_then (if_of_id st.id) (verdict_told s st) else None) ≡ Some kept → (are_as_stated s st ≡ true) × (verdict_told s st ≡ Some kept) × (has_id st.id kept.1.kind ≡ true)
-    by true t e = let h = by_id (verdict_told s st) e in (t, h.0, h.1)
-    by false t e = cc
-
-pub kept_of : (s : State) (st : statement.Statement) (kept : NoticeKey × Notice) → are_as_stated s st ≡ true → verdict_told s st ≡ Some kept → has_id st.id kept.1.kind ≡ true → kept_verdict s st ≡ Some kept
-kept_of s st kept as_stated told has = ap (λ b. if b then option_and_then (if_of_id st.id) (verdict_told s st) else None) as_stated ∙ ap (option_and_then (if_of_id st.id)) told ∙ ap (λ b. if b then Some kept else None) has
-
--- the first notice of a day that passes a test is one of the day's
-pub first_is_there : (s : State) (tld : List ℕ) (day : ℕ) (test : NoticeKind → Bool) (found : NoticeKey × Notice) → list.find (is_notice_of tld day test) (entries s.notices) ≡ Some found
-    → (get s.notices found.0 ≡ Some found.1) × (has_notice s.notices tld day test ≡ true)
-first_is_there s tld day test found e = (
-  get_found notice_total s.notices (is_notice_of tld day test) found e,
-  any_of_found (is_notice_of tld day test) (is_notice_of tld day test) (entries s.notices) found e (passes_found (is_notice_of tld day test) (entries s.notices) found e),
-)
-
-pub told_is_there : (s : State) (st : statement.Statement) (kept : NoticeKey × Notice) → verdict_told s st ≡ Some kept → (get s.notices kept.0 ≡ Some kept.1) × (has_verdict s st ≡ true)
-told_is_there s st kept e = first_is_there s st.tld st.day (is_verdict_of st.rev) kept e
-
--- parts at the same places, of the same kinds, are as stated alike
-pub as_stated_alike : (s t : State) (st : statement.Statement) → ((place : ℕ) → is_some (part_in t (first_part st) place) ≡ is_some (part_in s (first_part st) place))
-    → ((place : ℕ) → has_other_kind st.kind (part_in t (first_part st) place) ≡ has_other_kind st.kind (part_in s (first_part st) place)) → are_as_stated t st ≡ are_as_stated s st
-as_stated_alike s t st there kinds = λ i. not (list_any (λ place. kinds place i) places)
-    && not ((count_by (λ place. there place i) places == 0) || not (count_by (λ place. there place i) places == st.parts))
-
-same_as_stated : (s t : State) (st : statement.Statement) → ((place : ℕ) → part_in t (first_part st) place ≡ part_in s (first_part st) place) → are_as_stated t st ≡ are_as_stated s st
-same_as_stated s t st e = as_stated_alike s t st (λ place. ap is_some (e place)) (λ place. ap (has_other_kind st.kind) (e place))
-
--- a part of another revision is no part of this one
-part_elsewhere : (s : State) (key : PartKey) (part : Part) (st : statement.Statement) → ((key.tld ≡ st.tld) → (key.day ≡ st.day) → (key.rev ≡ st.rev) → ⊥) → (place : ℕ) → part_in (with_part s key part) (first_part st) place ≡ part_in s (first_part st) place
-part_elsewhere s key part st other place = get-insert part_total s.parts key part (at_place (key_of (first_part st)) place) ∙ by (at_place (key_of (first_part st)) place) (λ e. e) (eq_by_cmp part_cmp (at_place (key_of (first_part st)) place) key) refl
-  where
-    by : (q : PartKey) → (q ≡ key → at_place (key_of (first_part st)) place ≡ key) → (b : Bool) → eq_by_cmp part_cmp q key ≡ b → cond b (Some part) (get s.parts q) ≡ get s.parts q
-    by q is true t =
-        let same : at_place (key_of (first_part st)) place ≡ key = is (part_exact q key ((Equal-is (part_cmp q key)).0 t)) in
-        absurd (other (ap (λ (k : PartKey). k.tld) (sym same)) (ap (λ (k : PartKey). k.day) (sym same)) (ap (λ (k : PartKey). k.rev) (sym same)))
-    by q is false t = refl
-
-verdict_rev : (st : statement.Statement) (v : Verdict) (rev : ℕ) → is_verdict_of rev (notice_kind st v) ≡ (st.rev == rev)
-verdict_rev st Pass rev = refl
-verdict_rev st (Fail check) rev = refl
-
-verdict_id : (st : statement.Statement) (v : Verdict) → has_id st.id (notice_kind st v) ≡ true
-verdict_id st Pass = (text_decides st.id st.id).1 refl
-verdict_id st (Fail check) = (text_decides st.id st.id).1 refl
-
--- a state that goes on from another: it has its records, and what was stated is stated still, and what was missed is
-pub record Continues (s new : State) : Type 0 where
-  pub records : KeepsRecords s new
-  pub verdicts : (st : statement.Statement) (kept : NoticeKey × Notice) → kept_verdict s st ≡ Some kept → kept_verdict new st ≡ Some kept
-  pub absences : (tld : List ℕ) (day : ℕ) (kept : NoticeKey × Notice) → absence_of s tld day ≡ Some kept → absence_of new tld day ≡ Some kept
-
-continues_itself : (s : State) → Continues s s
-continues_itself s = record { records = keeps_itself s; verdicts = λ st kept e. e; absences = λ tld day kept e. e }
-
-continues_adding : (s : State) (text bytes : List ℕ) (now : ℕ) (name : Name) → NoneStands s name bytes now → recorded s name ≡ None → KeepsRecords s (with_part s (key_of name) (received_part name bytes now)) → Continues s (with_part s (key_of name) (received_part name bytes now))
-continues_adding s text bytes now name none at records = record {
-  records = records;
-  verdicts = λ st kept e.
-      let h = kept_tells s st kept e in
-      kept_of (with_part s (key_of name) (received_part name bytes now)) st kept
-      (same_as_stated s (with_part s (key_of name) (received_part name bytes now)) st (part_elsewhere s (key_of name) (received_part name bytes now) st (elsewhere st (told_is_there s st kept h.1).1)) ∙ h.0) h.1 h.2;
-  absences = λ tld day kept e. e;
-}
-  where
-    unstated : has_notice s.notices name.tld name.day (is_verdict_of name.rev) ≡ false
-    unstated = ap (λ o. is_none o && has_notice s.notices name.tld name.day (is_verdict_of name.rev)) (sym at) ∙ none.stated
-
-    elsewhere : (st : statement.Statement) → has_verdict s st ≡ true → (name.tld ≡ st.tld) → (name.day ≡ st.day) → (name.rev ≡ st.rev) → ⊥
-    elsewhere st has a b c = let same : has_notice s.notices name.tld name.day (is_verdict_of name.rev) ≡ has_verdict s st = (λ i. has_notice s.notices (a i) (b i) (is_verdict_of (c i))) in
-        let clash : true ≡ false = sym has ∙ sym same ∙ unstated in cc
-
-continues_releasing : (s : State) (reference : List ℕ) (release : kept_in.Release) → get s.releases reference ≡ None → Continues s (with_release s reference release)
-continues_releasing s reference release none = record { records = keeps_releasing s reference release none; verdicts = λ st kept e. e; absences = λ tld day kept e. e }
-
--- a part without its bytes is of its kind
-kind_stays : (today : ℕ) (part : Part) → (dropped_if_due today part).kind ≡ part.kind
-kind_stays today part = by (is_due today part)
-  where
-    by : (b : Bool) → (cond b (without_bytes part) part).kind ≡ part.kind
-    by true = refl
-    by false = refl
-
-continues_dropping : (s : State) (today : ℕ) → Continues s (without_due s today)
-continues_dropping s today = record {
-  records = keeps_dropping s today;
-  verdicts = λ st kept e.
-      let h = kept_tells s st kept e in
-      kept_of (without_due s today) st kept (as_stated_alike s (without_due s today) st
-      (λ place. ap is_some (after st place) ∙ there (part_in s (first_part st) place))
-      (λ place. ap (has_other_kind st.kind) (after st place) ∙ of_kind st.kind (part_in s (first_part st) place)) ∙ h.0) h.1 h.2;
-  absences = λ tld day kept e. e;
-}
-  where
-    after : (st : statement.Statement) (place : ℕ) → part_in (without_due s today) (first_part st) place ≡ option_map (dropped_if_due today) (part_in s (first_part st) place)
-    after st place = get-map_values part_cmp (dropped_if_due today) s.parts (at_place (key_of (first_part st)) place)
-
-    there : (o : Option Part) → is_some (option_map (dropped_if_due today) o) ≡ is_some o
-    there None = refl
-    there (Some part) = refl
-
-    of_kind : (kind : Kind) (o : Option Part) → has_other_kind kind (option_map (dropped_if_due today) o) ≡ has_other_kind kind o
-    of_kind kind None = refl
-    of_kind kind (Some part) = ap (λ k. not (is_same_kind k kind)) (kind_stays today part)
-
--- no notice of its day tells the same as a new one
-pub record IsFirst (s : State) (tld : List ℕ) (notice : Notice) : Type 0 where
-  pub verdict : (rev : ℕ) → is_verdict_of rev notice.kind ≡ true → has_notice s.notices tld notice.day (is_verdict_of rev) ≡ false
-  pub absence : is_absence notice.kind ≡ true → has_notice s.notices tld notice.day is_absence ≡ false
-
--- what was found before is found still, where a new notice is the first that tells the same
-found_still : (s : State) (tld : List ℕ) (notice : Notice) (test : NoticeKind → Bool) → (test notice.kind ≡ true → has_notice s.notices tld notice.day test ≡ false)
-    → (other : List ℕ) (day : ℕ) (found : NoticeKey × Notice) → list.find (is_notice_of other day test) (entries s.notices) ≡ Some found
-    → list.find (is_notice_of other day test) (entries (with_notice s (next_key s.notices tld) notice).notices) ≡ Some found
-found_still s tld notice test first other day found e =
-    find_insert notice_total s.notices (next_key s.notices tld) notice (next_is_new s.notices tld) (is_notice_of other day test) (miss (is_notice_of other day test (next_key s.notices tld, notice)) refl) ∙ e
-  where
-    miss : (b : Bool) → is_notice_of other day test (next_key s.notices tld, notice) ≡ b → is_notice_of other day test (next_key s.notices tld, notice) ≡ false
-    miss false t = t
-    miss true t =
-        let x = and_both _ _ t in let y = and_both _ _ x.1 in
-        let a : tld ≡ other = (text_decides tld other).0 x.0 in
-        let b : notice.day ≡ day = (Decides-eqb notice.day day).0 y.0 in
-        let there : has_notice s.notices tld notice.day test ≡ true = (λ i. has_notice s.notices (a i) (b i) test) ∙ (first_is_there s other day test found e).1 in
-        let clash : true ≡ false = sym there ∙ first y.1 in cc
-
-continues_noticing : (s : State) (tld : List ℕ) (notice : Notice) → IsFirst s tld notice → Continues s (with_notice s (next_key s.notices tld) notice)
-continues_noticing s tld notice first = record {
-  records = keeps_noticing s (next_key s.notices tld) notice (next_is_new s.notices tld);
-  verdicts = λ st kept e.
-      let h = kept_tells s st kept e in
-      kept_of (with_notice s (next_key s.notices tld) notice) st kept h.0 (found_still s tld notice (is_verdict_of st.rev) (first.verdict st.rev) st.tld st.day kept h.1) h.2;
-  absences = λ other day kept e. found_still s tld notice is_absence first.absence other day kept e;
-}
-
--- a verdict is the first on its revision, where there is none
-verdict_is_first : (s : State) (st : statement.Statement) (v : Verdict) (now : ℕ) → has_verdict s st ≡ false → IsFirst s st.tld (verdict_notice st v now)
-verdict_is_first s st v now unstated = record {
-  verdict = λ rev is.
-      let same : st.rev ≡ rev = (Decides-eqb st.rev rev).0 (sym (verdict_rev st v rev) ∙ is) in
-      ap (λ r. has_notice s.notices st.tld st.day (is_verdict_of r)) (sym same) ∙ unstated;
-  absence = λ is. absurd (no_absence v is);
-}
-  where
-    no_absence : (v : Verdict) → is_absence (notice_kind st v) ≡ true → ⊥
-    no_absence Pass is = cc
-    no_absence (Fail check) is = cc
-
--- an absence is the first of its day, where there is none
-absence_is_first : (s : State) (tld : List ℕ) (day now : ℕ) → absence_of s tld day ≡ None → IsFirst s tld (absence_notice day now)
-absence_is_first s tld day now at = record { verdict = λ rev is. cc; absence = λ is. by (has_notice s.notices tld day is_absence) refl }
-  where
-    by : (b : Bool) → has_notice s.notices tld day is_absence ≡ b → b ≡ false
-    by false h = refl
-    by true h = let found = found_where_any (is_notice_of tld day is_absence) (entries s.notices) h in let clash : Some found.0 ≡ None = sym found.1 ∙ at in cc
-
--- where no verdict is kept and none of the refusals stands, the revision has none
-pub unstated_of : (s : State) (st : statement.Statement) (now : ℕ) → NoneStandsOf s st now → kept_verdict s st ≡ None → has_verdict s st ≡ false
-unstated_of s st now none e = ap (λ o. is_none o && has_verdict s st) (sym e) ∙ none.stated
-
-pub step_continues : (s : State) (c : Command) (now : ℕ) (reply : Reply) (new : State) → step s c now ≡ Accept reply new → Continues s new
-step_continues s (Register tld day) now reply new e = record { records = step_keeps s (Register tld day) now reply new e; verdicts = λ st kept h. by st kept h (first_day_of s tld) (step_accepts s (Register tld day) now reply new e).1; absences = λ other at kept h. absent other at kept h (first_day_of s tld) (step_accepts s (Register tld day) now reply new e).1 }
-  where
-    by : (st : statement.Statement) (kept : NoticeKey × Notice) → kept_verdict s st ≡ Some kept → (o : Option ℕ) → registered s tld day now o ≡ Accept reply new → kept_verdict new st ≡ Some kept
-    by st kept h (Some first) e = subst (λ t. kept_verdict t st ≡ Some kept) (accept_inj _ _ _ _ e).1 h
-    by st kept h None e = subst (λ t. kept_verdict t st ≡ Some kept) (accept_inj _ _ _ _ e).1 h
-
-    absent : (other : List ℕ) (at : ℕ) (kept : NoticeKey × Notice) → absence_of s other at ≡ Some kept → (o : Option ℕ) → registered s tld day now o ≡ Accept reply new → absence_of new other at ≡ Some kept
-    absent other at kept h (Some first) e = subst (λ t. absence_of t other at ≡ Some kept) (accept_inj _ _ _ _ e).1 h
-    absent other at kept h None e = subst (λ t. absence_of t other at ≡ Some kept) (accept_inj _ _ _ _ e).1 h
-step_continues s (Receive text bytes) now reply new e = let r = receives s text bytes now reply new e in by r (recorded s r.name) refl r.outcome
-  where
-    by : (r : Receives s text bytes now reply new) (o : Option Part) → recorded s r.name ≡ o → answered s r.name bytes now o ≡ Accept reply new → Continues s new
-    by r (Some kept) at e = subst (Continues s) (accept_inj _ _ _ _ e).1 (continues_itself s)
-    by r None at e = subst (Continues s) (accept_inj _ _ _ _ e).1 (continues_adding s text bytes now r.name r.none at (keeps_adding s (key_of r.name) _
-        (place_is_empty s text r.name r.named at (ap (λ o. is_none o && list_any (λ place. has_other_kind r.name.kind (part_in s r.name place)) places) (sym at) ∙ r.none.kind))))
-step_continues s (Statement st) now reply new e = let r = accepts_statement s st now reply new e in by r (kept_verdict s st) refl r.outcome
-  where
-    by : (r : IsStated s st now reply new) (o : Option (NoticeKey × Notice)) → kept_verdict s st ≡ o → stated_by s st now o ≡ Accept reply new → Continues s new
-    by r (Some kept) at e = subst (Continues s) (accept_inj _ _ _ _ e).1 (continues_itself s)
-    by r None at e = subst (Continues s) (accept_inj _ _ _ _ e).1 (continues_noticing s st.tld (verdict_notice st (verdict_on s st) now) (verdict_is_first s st (verdict_on s st) now (unstated_of s st now r.none at)))
-step_continues s (Check tld day) now reply new e = let r = accepts_check s tld day now reply new e in by (absence_of s tld day) refl r.outcome
-  where
-    by : (o : Option (NoticeKey × Notice)) → absence_of s tld day ≡ o → missed_by s tld day now o ≡ Accept reply new → Continues s new
-    by (Some kept) at e = subst (Continues s) (accept_inj _ _ _ _ e).1 (continues_itself s)
-    by None at e = subst (Continues s) (accept_inj _ _ _ _ e).1 (continues_noticing s tld (absence_notice day now) (absence_is_first s tld day now at))
-step_continues s (Release reference tld reason) now reply new e = let r = accepts_release s reference tld reason now reply new e in by r (kept_release s reference tld reason) refl r.outcome
-  where
-    by : (r : IsReleased s reference tld reason now reply new) (o : Option kept_in.Release) → kept_release s reference tld reason ≡ o → released_by s reference tld reason now o ≡ Accept reply new → Continues s new
-    by r (Some kept) at e = subst (Continues s) (accept_inj _ _ _ _ e).1 (continues_itself s)
-    by r None at e = subst (Continues s) (accept_inj _ _ _ _ e).1 (continues_releasing s reference _ (unused_of s reference tld reason now r.none at))
-step_continues s Purge now reply new e = subst (Continues s) (purges s now reply new e).1 (continues_dropping s (day_of now))
+use Rattle.custody_machine.proofs.Accepting.{NoneStands, find_none, find_dropped, step_accepts, step_none, step_refuses, accept_inj, insert_here, held_bytes, answered, rules_part, Receives, receives, registered, recorded_is, recorded_of}
+use Rattle.custody_machine.proofs.Holding.{IsHeld, IsLifted, accepts_hold, accepts_lift, as_hold, find_none_to, held_by, held_day_stays, kept_hold_is, kept_hold_of, lifted_by, lifted_here, lifting_has, lifting_is, still_on_hold, unheld_of}
+use Rattle.custody_machine.proofs.Continuing.{Continues, IsKeptPart, KeepsAbsence, KeepsHold, KeepsPart, KeepsRelease, KeepsVerdict, and_both, first_is_there, hold_is_kept, is_verdict_on, kept_of, kept_tells, lifting_is_kept, part_is_kept, purges, registry_is_kept, release_is_kept, still, told_is_there, unstated_of, verdict_id, verdict_rev}
 
 -- The state keeps what a command made.
 abbrev pub Keeps : State → Command → Record → Type 0
@@ -385,6 +37,8 @@ Keeps s (Receive text bytes) entry = KeepsPart s text bytes entry
 Keeps s (Statement stated) entry = KeepsVerdict s stated entry
 Keeps s (Check tld day) entry = KeepsAbsence s tld day entry
 Keeps s (Release reference tld reason) entry = KeepsRelease s reference tld reason entry
+Keeps s (Hold reference tld day) entry = KeepsHold s reference tld day entry
+Keeps s (Lift reference) entry = (at : ℕ) × (lifting_of s reference ≡ Some at) × (entry ≡ OfLifting reference at)
 Keeps s Purge entry = (count : ℕ) × (entry ≡ OfPurge count)
 
 -- what was kept of a part, and is still
@@ -407,6 +61,18 @@ keeps_on s new (Check tld day) entry k h = record { kept = h.kept; found = k.abs
 keeps_on s new (Release reference tld reason) entry k h =
     let is = kept_release_is s reference tld reason h.kept h.found in
     record { kept = h.kept; found = kept_release_of new reference tld reason h.kept (release_is_kept s new reference h.kept k.records is.0) is.1; made = h.made; registry = is_known s new tld k.records h.registry }
+keeps_on s new (Hold reference tld day) entry k h =
+    let is = kept_hold_is s reference tld day h.kept h.found in
+    let on = hold_is_kept s new reference h.kept k.records is.0 in
+    record {
+      told = h.told;
+      kept = on.0;
+      found = kept_hold_of new reference tld day on.0 on.1 (held_day_stays tld day h.kept on.0 on.2 ∙ is.1);
+      made = h.made;
+      same = still_on_hold h.told h.kept on.0 h.same on.2;
+      registry = is_known s new tld k.records h.registry;
+    }
+keeps_on s new (Lift reference) entry k h = (h.0, lifting_is_kept s new reference h.0 k.records h.1, h.2)
 keeps_on s new Purge entry k h = h
 keeps_on s new (Register tld day) entry k h = (h.0, registry_is_kept s new tld h.0 k.records h.1, h.2)
 keeps_on s new (Receive text bytes) entry k h =
@@ -514,6 +180,30 @@ accepted_is_kept s (Release reference tld reason) now reply new e = let r = acce
           made = ap (λ (q : Reply). q.entry) (sym h.0);
           registry = r.none.registry;
         })
+accepted_is_kept s (Hold reference tld day) now reply new e = let r = accepts_hold s reference tld day now reply new e in by r (kept_hold s reference tld day) refl r.outcome
+  where
+    on : is_held_day tld day (new_hold tld day now) ≡ true
+    on = λ i. (text_decides tld tld).1 refl i && (Decides-eqb day day).1 refl i
+
+    by : (r : IsHeld s reference tld day now reply new) (o : Option kept_in.Hold) → kept_hold s reference tld day ≡ o → held_by s reference tld day now o ≡ Accept reply new → KeepsHold new reference tld day reply.entry
+    by r (Some kept) at e = let h = accept_inj _ _ _ _ e in
+        subst (λ (n : State). KeepsHold n reference tld day reply.entry) h.1 (record { told = kept; kept = kept; found = at; made = ap (λ (q : Reply). q.entry) (sym h.0); same = inl refl; registry = r.none.registry })
+    by r None at e = let h = accept_inj _ _ _ _ e in
+        subst (λ (n : State). KeepsHold n reference tld day reply.entry) h.1 (record {
+          told = new_hold tld day now;
+          kept = new_hold tld day now;
+          found = kept_hold_of (with_hold s reference (new_hold tld day now)) reference tld day (new_hold tld day now) (insert_here text_total s.holds reference (new_hold tld day now)) on;
+          made = ap (λ (q : Reply). q.entry) (sym h.0);
+          same = inl refl;
+          registry = r.none.registry;
+        })
+accepted_is_kept s (Lift reference) now reply new e = let r = accepts_lift s reference now reply new e in by r r.hold.lifted refl r.outcome
+  where
+    by : (r : IsLifted s reference now reply new) (o : Option ℕ) → r.hold.lifted ≡ o → lifted_by s reference now r.hold o ≡ Accept reply new → Keeps new (Lift reference) reply.entry
+    by r (Some moment) at e = let h = accept_inj _ _ _ _ e in
+        (moment, ap (λ (n : State). lifting_of n reference) (sym h.1) ∙ lifting_is s reference r.hold r.at ∙ at, ap (λ (q : Reply). q.entry) (sym h.0))
+    by r None at e = let h = accept_inj _ _ _ _ e in
+        (now, ap (λ (n : State). lifting_of n reference) (sym h.1) ∙ lifting_is (with_hold s reference (lifted_at now r.hold)) reference (lifted_at now r.hold) (lifted_here s reference r.hold now r.at at), ap (λ (q : Reply). q.entry) (sym h.0))
 accepted_is_kept s Purge now reply new e = (count_due s (day_of now), ap (λ (q : Reply). q.entry) (sym (purges s now reply new e).0))
 
 -- the record that a reply shows is that of the state
@@ -549,6 +239,15 @@ replies_are_records old new (Release reference tld reason) now reply e = by (kep
         subst (λ (q : Reply). HasRecord new q.entry) h.0 (ap (λ (n : State). get n.releases reference) (sym h.1) ∙ (kept_release_is old reference tld reason kept at).0)
     by None at e = let h = accept_inj _ _ _ _ e in
         subst (λ (q : Reply). HasRecord new q.entry) h.0 (ap (λ (n : State). get n.releases reference) (sym h.1) ∙ insert_here text_total old.releases reference (new_release old tld reason now))
+replies_are_records old new (Hold reference tld day) now reply e = by (kept_hold old reference tld day) refl (accepts_hold old reference tld day now reply new e).outcome
+  where
+    by : (o : Option kept_in.Hold) → kept_hold old reference tld day ≡ o → held_by old reference tld day now o ≡ Accept reply new → HasRecord new reply.entry
+    by (Some kept) at e = let h = accept_inj _ _ _ _ e in
+        subst (λ (q : Reply). HasRecord new q.entry) h.0 (ap (λ (n : State). get n.holds reference) (sym h.1) ∙ (kept_hold_is old reference tld day kept at).0)
+    by None at e = let h = accept_inj _ _ _ _ e in
+        subst (λ (q : Reply). HasRecord new q.entry) h.0 (ap (λ (n : State). get n.holds reference) (sym h.1) ∙ insert_here text_total old.holds reference (new_hold tld day now))
+replies_are_records old new (Lift reference) now reply e =
+    let h = accepted_is_kept old (Lift reference) now reply new e in subst (HasRecord new) (sym h.2) h.1
 replies_are_records old new Purge now reply e = subst (λ (q : Reply). HasRecord new q.entry) (purges old now reply new e).0 tt
 
 -- what is kept is of its command, and is there
@@ -587,6 +286,12 @@ kept_is_there s (Release reference tld reason) entry h =
     let on = and_both _ _ is.1 in
     subst (λ e. IsOfCommand (Release reference tld reason) e × StillHas s e) (sym h.made)
     ((refl, (text_decides h.kept.tld tld).0 on.0, (ground_decides h.kept.reason reason).0 on.1), still s (OfRelease reference h.kept) is.0)
+kept_is_there s (Hold reference tld day) entry h =
+    let is = kept_hold_is s reference tld day h.kept h.found in
+    let on = and_both _ _ (sym (held_day_stays tld day h.told h.kept h.same) ∙ is.1) in
+    subst (λ e. IsOfCommand (Hold reference tld day) e × StillHas s e) (sym h.made)
+    ((refl, (text_decides h.told.tld tld).0 on.0, (Decides-eqb h.told.day day).0 on.1), (OfHold reference h.kept, is.0, as_hold reference h.told h.kept h.same))
+kept_is_there s (Lift reference) entry h = subst (λ e. IsOfCommand (Lift reference) e × StillHas s e) (sym h.2) (refl, still s (OfLifting reference h.0) h.1)
 kept_is_there s Purge entry h = subst (λ e. IsOfCommand Purge e × StillHas s e) (sym h.1) (tt, still s (OfPurge h.0) tt)
 
 -- the kind of what is kept
@@ -602,6 +307,8 @@ other_than_none (Some (OfName a)) = refl
 other_than_none (Some (OfRevision a d r)) = refl
 other_than_none (Some (OfDay a d)) = refl
 other_than_none (Some (OfReference a)) = refl
+other_than_none (Some (OfHolding a)) = refl
+other_than_none (Some (OfLift a)) = refl
 
 -- A command with the key of one that was accepted changes nothing, and makes nothing else, where it is accepted.
 pub same_key_is_kept : (s : State) (c d : Command) (entry : Record) (now : ℕ) (reply : Reply) (new : State) → Keeps s c entry → has_same_key d c ≡ true → step s d now ≡ Accept reply new → Keeps s d entry × (new ≡ s)
@@ -677,6 +384,25 @@ same_key_is_kept s (Release reference tld reason) (Release other of on) entry no
         let same : kept ≡ h.kept = one kept h.kept (get s.releases other) (kept_release_is s other of on kept at).0 there in
         (record { kept = h.kept; found = at ∙ ap Some same; made = h.made ∙ ap (λ t. OfRelease t h.kept) (sym is); registry = r.none.registry }, sym (accept_inj _ _ _ _ e).1)
     by is there r None at e = let clash : Some h.kept ≡ None = sym there ∙ unused_of s other of on now r.none at in cc
+same_key_is_kept s (Hold reference tld day) (Hold other of on) entry now reply new h same e =
+    let is : other ≡ reference = (text_decides other reference).0 same in
+    let there : get s.holds other ≡ Some h.kept = ap (get s.holds) is ∙ (kept_hold_is s reference tld day h.kept h.found).0 in
+    let r = accepts_hold s other of on now reply new e in by is there r (kept_hold s other of on) refl r.outcome
+  where
+    one : (p q : kept_in.Hold) (o : Option kept_in.Hold) → o ≡ Some p → o ≡ Some q → p ≡ q
+    one p q o x y = cc
+
+    by : other ≡ reference → get s.holds other ≡ Some h.kept → (r : IsHeld s other of on now reply new) (o : Option kept_in.Hold) → kept_hold s other of on ≡ o → held_by s other of on now o ≡ Accept reply new → KeepsHold s other of on entry × (new ≡ s)
+    by is there r (Some kept) at e =
+        let same : kept ≡ h.kept = one kept h.kept (get s.holds other) (kept_hold_is s other of on kept at).0 there in
+        (record { told = h.told; kept = h.kept; found = at ∙ ap Some same; made = h.made ∙ ap (λ t. OfHold t h.told) (sym is); same = h.same; registry = r.none.registry }, sym (accept_inj _ _ _ _ e).1)
+    by is there r None at e = let clash : Some h.kept ≡ None = sym there ∙ unheld_of s other of on now r.none at in cc
+same_key_is_kept s (Lift reference) (Lift other) entry now reply new h same e =
+    let is : other ≡ reference = (text_decides other reference).0 same in
+    let at : lifting_of s other ≡ Some h.0 = ap (lifting_of s) is ∙ h.1 in
+    let r = accepts_lift s other now reply new e in
+    let outcome : lifted_by s other now r.hold (Some h.0) ≡ Accept reply new = ap (lifted_by s other now r.hold) (sym (sym (lifting_is s other r.hold r.at) ∙ at)) ∙ r.outcome in
+    ((h.0, at, h.2 ∙ ap (λ t. OfLifting t h.0) (sym is)), sym (accept_inj _ _ _ _ outcome).1)
 same_key_is_kept s Purge d entry now reply new h same e = let clash : true ≡ false = sym same ∙ other_than_none (key d) in cc
 same_key_is_kept s c d entry now reply new h same e = cc
 
@@ -701,12 +427,33 @@ pub key_of_asked : (c : Command) → key (asked c) ≡ key c
 key_of_asked (Register tld day) = refl
 key_of_asked c = refl
 
--- A command with a key of which a record is kept is answered by it, or that its bytes are dropped; and no bytes decide it.
-pub asked_again : (s : State) (d : Command) (entry : Record) (now : ℕ) → is_some (key d) ≡ true → Keeps s d entry → Again s d entry now × (reads s d now ≡ [])
-asked_again s Purge entry now keyed h = cc
-asked_again s (Register tld day) entry now keyed h =
+-- a record is as the state has it: a hold may have been lifted since it was told
+abbrev pub IsAsNow : State → Record → Type 0
+IsAsNow s (OfHold reference hold) = get s.holds reference ≡ Some hold
+IsAsNow s entry = Unit {0}
+
+-- what is kept, as the state has it
+pub as_now : (s : State) (c : Command) (entry : Record) → Keeps s c entry → (kept : Record) × IsKeptAs entry kept × Keeps s c kept × IsAsNow s kept
+as_now s (Register tld day) entry h = (OfRegistry tld h.0, subst (λ e. IsKeptAs e (OfRegistry tld h.0)) (sym h.2) refl, (h.0, h.1, refl), tt)
+as_now s (Receive text bytes) entry h = (OfPart (key_of h.name) h.part, subst (λ e. IsKeptAs e (OfPart (key_of h.name) h.part)) (sym h.made) (inl refl), subst (KeepsPart s text bytes) h.made h, tt)
+as_now s (Statement st) entry h = (OfNotice h.kept.0 h.kept.1, subst (λ e. IsKeptAs e (OfNotice h.kept.0 h.kept.1)) (sym h.made) refl, subst (KeepsVerdict s st) h.made h, tt)
+as_now s (Check tld day) entry h = (OfNotice h.kept.0 h.kept.1, subst (λ e. IsKeptAs e (OfNotice h.kept.0 h.kept.1)) (sym h.made) refl, subst (KeepsAbsence s tld day) h.made h, tt)
+as_now s (Release reference tld reason) entry h = (OfRelease reference h.kept, subst (λ e. IsKeptAs e (OfRelease reference h.kept)) (sym h.made) refl, subst (KeepsRelease s reference tld reason) h.made h, tt)
+as_now s (Hold reference tld day) entry h = (
+  OfHold reference h.kept,
+  subst (λ e. IsKeptAs e (OfHold reference h.kept)) (sym h.made) (as_hold reference h.told h.kept h.same),
+  record { told = h.kept; kept = h.kept; found = h.found; made = refl; same = inl refl; registry = h.registry },
+  (kept_hold_is s reference tld day h.kept h.found).0,
+)
+as_now s (Lift reference) entry h = (OfLifting reference h.0, subst (λ e. IsKeptAs e (OfLifting reference h.0)) (sym h.2) refl, (h.0, h.1, refl), tt)
+as_now s Purge entry h = (OfPurge h.0, subst (λ e. IsKeptAs e (OfPurge h.0)) (sym h.1) refl, (h.0, refl), tt)
+
+-- A command with a key of which a record is kept is answered by it, as the state has it, or that its bytes are dropped; and no bytes decide it.
+pub asked_again : (s : State) (d : Command) (entry : Record) (now : ℕ) → is_some (key d) ≡ true → Keeps s d entry → IsAsNow s entry → Again s d entry now × (reads s d now ≡ [])
+asked_again s Purge entry now keyed h as_is = cc
+asked_again s (Register tld day) entry now keyed h as_is =
     (inl (step_none s (Register tld day) now refl ∙ ap (registered s tld day now) h.1 ∙ ap (λ e. Accept (record { entry = e; is_repeat = true }) s) (sym h.2)), refl)
-asked_again s (Receive text bytes) entry now keyed h = by h.same
+asked_again s (Receive text bytes) entry now keyed h as_is = by h.same
   where
     at : recorded s h.name ≡ Some h.kept
     at = recorded_of s h.name h.kept h.at (kept_kind h.part h.kept h.name.kind h.same h.kind)
@@ -750,7 +497,7 @@ asked_again s (Receive text bytes) entry now keyed h = by h.same
         let dropped : is_dropped (recorded s h.name) ≡ true = ap is_dropped at ∙ content in
         let stands = find_dropped s h.name bytes now h.registry (not_new _) h.size other_bytes dropped in
         (inr (step_refuses s (Receive text bytes) now DroppedAfterKeeping (refusal_by (Some DroppedAfterKeeping) stands), (h.name, h.named, dropped)), reads_by (Some DroppedAfterKeeping) stands refl)
-asked_again s (Statement st) entry now keyed h = (
+asked_again s (Statement st) entry now keyed h as_is = (
   inl (step_none s (Statement st) now none ∙ ap (stated_by s st now) h.found ∙ ap (λ e. Accept (record { entry = e; is_repeat = true }) s) (sym h.made)),
   (λ i. if_made (none i) (option_map (λ (e : NoticeKey × Notice). OfNotice e.0 e.1) (h.found i)) (verdict_keys s st)),
 )
@@ -775,7 +522,7 @@ asked_again s (Statement st) entry now keyed h = (
       number = false_of (differ_in_number s st) (and_both (not (has_part_of_other_kind s (first_part st))) (not (differ_in_number s st)) tells.0).1;
       later = not_new (has_later_receipt s st);
     })
-asked_again s (Check tld day) entry now keyed h =
+asked_again s (Check tld day) entry now keyed h as_is =
     (inl (step_none s (Check tld day) now none ∙ ap (missed_by s tld day now) h.found ∙ ap (λ e. Accept (record { entry = e; is_repeat = true }) s) (sym h.made)), refl)
   where
     not_new : (b : Bool) → (is_none (absence_of s tld day) && b) ≡ false
@@ -788,7 +535,7 @@ asked_again s (Check tld day) entry now keyed h =
       due = not_new (day == day_of now);
       verdict = not_new (has_notice s.notices tld day is_verdict);
     })
-asked_again s (Release reference tld reason) entry now keyed h =
+asked_again s (Release reference tld reason) entry now keyed h as_is =
     (inl (step_none s (Release reference tld reason) now none ∙ ap (released_by s reference tld reason now) h.found ∙ ap (λ e. Accept (record { entry = e; is_repeat = true }) s) (sym h.made)), refl)
   where
     none : refusal_of s (Release reference tld reason) now ≡ None
@@ -797,3 +544,26 @@ asked_again s (Release reference tld reason) entry now keyed h =
       stands = ap (λ o. is_none o && not (has_ground s tld reason now)) (kept_release_is s reference tld reason h.kept h.found).0;
       used = (λ i. is_some ((kept_release_is s reference tld reason h.kept h.found).0 i) && is_none (h.found i));
     })
+asked_again s (Hold reference tld day) entry now keyed h as_is =
+    (inl (step_none s (Hold reference tld day) now none ∙ ap (held_by s reference tld day now) h.found ∙ ap (λ e. Accept (record { entry = e; is_repeat = true }) s) (ap (OfHold reference) same ∙ sym h.made)), refl)
+  where
+    there : get s.holds reference ≡ Some h.kept
+    there = (kept_hold_is s reference tld day h.kept h.found).0
+
+    same : h.kept ≡ h.told
+    same = by (sym there ∙ subst (IsAsNow s) h.made as_is)
+      where
+        by : Some h.kept ≡ Some h.told → h.kept ≡ h.told
+        by e = cc
+
+    none : refusal_of s (Hold reference tld day) now ≡ None
+    none = find_none_to s reference tld day now (record {
+      registry = h.registry;
+      date = ap (λ o. is_none o && is_beyond s tld day now) h.found;
+      used = (λ i. is_some (there i) && is_none (h.found i));
+    })
+asked_again s (Lift reference) entry now keyed h as_is =
+    (inl (step_none s (Lift reference) now none ∙ ap (λ o. unless_kept s (option_map (OfLifting reference) o) (lifted s reference now (hold_of s reference))) h.1 ∙ ap (λ e. Accept (record { entry = e; is_repeat = true }) s) (sym h.2)), refl)
+  where
+    none : refusal_of s (Lift reference) now ≡ None
+    none = ap (λ o. cond (is_none o) (Some HoldUnknown) None) (lifting_has s reference h.0 h.1).1

@@ -7,6 +7,8 @@ pub mod Accepting
 pub mod Stated
 pub mod Checked
 pub mod Released
+pub mod Holding
+pub mod Continuing
 pub mod Keeping
 pub mod Histories
 pub mod Retries
@@ -21,6 +23,7 @@ pub mod Composed
 pub mod Rested
 pub mod Noticed
 pub mod HandedOver
+pub mod HeldDays
 pub mod Purged
 pub mod Compared
 pub mod Room

@@ -28,7 +28,7 @@ use Rattle.custody_machine.proofs.Accepting.{accept_inj, insert_new, step_accept
 use Rattle.custody_machine.proofs.Entries.{any_of_get, any_insert_grows, next_is_new, number_before, found_where_any, passes_found, get_found}
 use Rattle.custody_machine.proofs.Stated.{NoneStandsOf, accepts_statement, stated_by, IsStated}
 use Rattle.custody_machine.proofs.Checked.{IsChecked, accepts_check, missed_by}
-use Rattle.custody_machine.proofs.Keeping.{unstated_of}
+use Rattle.custody_machine.proofs.Continuing.{unstated_of}
 use Rattle.custody_machine.proofs.Composed.{IsChange, named_used, head_used, place_is, closed}
 use Rattle.custody_machine.proofs.Series.{first_taken}
 
@@ -212,6 +212,7 @@ module _ (records : Records) (whole : AreWhole records) (tld : List ℕ) (notice
       part_registry = l.part_registry;
       notice_registry = inserted_notice records.notices key notice (λ q n. is_some (get records.registries q.tld) ≡ true) belongs.registry l.notice_registry;
       release_registry = l.release_registry;
+      hold_registry = l.hold_registry;
       released = l.released;
       series = l.series;
       numbers = inserted_notice records.notices key notice (λ q n. (m : ℕ) → q.number ≡ suc (suc m) → is_some (get (insert records.notices key notice) (record { tld = q.tld; number = suc m })) ≡ true)

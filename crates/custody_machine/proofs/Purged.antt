@@ -1,7 +1,7 @@
 -- What holds of an open custody after the bytes of parts were dropped and their blocks given back.
 use Rattle.std.proofs.Common.{◌≡◌, ◌⊎◌, inl, inr, ⊎_elim, ℕ, suc, ◌+◌, ◌<◌, ◌≤◌, ◌&&◌, List, [], ◌∷◌, Option, Some, None, is_some, Bool, true, false, cond, Result, Ok, Err, refl, sym, ◌∙◌, ap, subst, arith}
 use Rattle.std.specs.Prelude.{All, ◌*◌, length, nat_lt, not, count_by}
-use Rattle.std.specs.FinMap.{entries, same_map}
+use Rattle.std.specs.FinMap.{FinMap, entries, same_map}
 use Rattle.std.proofs.lemmas.List.{length-take-le}
 use Rattle.std.specs.List.{fold, list_all}
 use Rattle.std.specs.Option.{option_map}
@@ -17,21 +17,21 @@ use Rattle.vault_volume.proofs.ExtentLemmas.{length-bytes_of}
 use Rattle.custody_records.specs.Orders.{part_total, part_exact}
 use Rattle.vault_volume.specs.Image.{DiffersOnlyIn}
 use Rattle.vault_volume.specs.Extents.{IsExtentOf, IsIn, IsInAny, AreApart, GivesBack, bytes_of, part_bytes}
-use Rattle.custody_records.specs.Keys.{PartKey, part_cmp}
-use Rattle.custody_records.specs.Records.{PartRecord, Records, key_of}
+use Rattle.custody_records.specs.Keys.{text_cmp, PartKey, part_cmp}
+use Rattle.custody_records.specs.Records.{Hold, PartRecord, Records, key_of}
 use Rattle.custody_records.specs.Rows.{Rows}
 use Rattle.custody_records.specs.Form.{form_of, InForm}
 use Rattle.custody_machine.specs.Names.{is_same_text, read_name}
 use Rattle.custody_machine.specs.State.{State, Part, Dropped}
 use Rattle.custody_machine.specs.Stored.{ForExtents, AreNaming, IsNamed, AreExtents, AreWhole, content_of, part_of, is_part_of, names_part, IsGood, IsKeptRecord, KeepsParts, OpensFrom, state_in}
 use Rattle.custody_machine.specs.Custody.{IsPlaceable, IsInOrder, IsOnVolume}
-use Rattle.custody_records.specs.Purge.{is_due, dropped_if_due}
+use Rattle.custody_records.specs.Purge.{is_on_hold, is_due, dropped_if_due}
 use Rattle.custody_machine.specs.Machine as machine
 use Rattle.custody_machine.specs.Machine.{Purge, OfPurge, Accept, step}
 use Rattle.custody_machine.specs.Rulings.{DropsBytes, Makes, Decides}
 use Rattle.custody_machine.specs.Purge.{without_due, count_due, IsDueBlock}
-use Rattle.custody_machine.specs.MapValues.{map_entries, map_values}
-use Rattle.custody_machine.proofs.MapValues.{get-map_values, entries-map_values}
+use Rattle.custody_machine.specs.MapValues.{map_entries, map_keyed}
+use Rattle.custody_machine.proofs.MapValues.{get-map_values, entries-map_values, get-map_keyed}
 use Rattle.vault_volume.proofs.ImageLemmas.{same_in}
 use Rattle.custody_machine.proofs.Composed.{IsChange, opens_later, named_used, head_used}
 
@@ -73,25 +73,25 @@ in_volume blocks (e ∷ es) b each (inr there) = in_volume blocks es b (λ k d l
 some_same : {X : Type 0} (x y : X) → Some x ≡ Some y → x ≡ y
 some_same x y e = cc
 
-kind_kept : (today : ℕ) (part : PartRecord) → (dropped_if_due today part).kind ≡ part.kind
-kind_kept today part = elim (is_due today part) as (λ b. (cond b (record part { extents = None }) part).kind ≡ part.kind) [ true ↦ refl | false ↦ refl ]
+kind_kept : (holds : FinMap text_cmp Hold) (today : ℕ) (key : PartKey) (part : PartRecord) → (dropped_if_due holds today key part).kind ≡ part.kind
+kind_kept holds today key part = elim (is_due holds today key part) as (λ b. (cond b (record part { extents = None }) part).kind ≡ part.kind) [ true ↦ refl | false ↦ refl ]
 
 -- what a part names then it named before, and is not due
-still_names : (today : ℕ) (part : PartRecord) (b : ℕ) → AreNaming (dropped_if_due today part).extents b → (is_due today part ≡ false) × AreNaming part.extents b
-still_names today part b names = by (is_due today part) refl names
+still_names : (holds : FinMap text_cmp Hold) (today : ℕ) (key : PartKey) (part : PartRecord) (b : ℕ) → AreNaming (dropped_if_due holds today key part).extents b → (is_due holds today key part ≡ false) × AreNaming part.extents b
+still_names holds today key part b names = by (is_due holds today key part) refl names
   where
-    by : (d : Bool) → is_due today part ≡ d → AreNaming (cond d (record part { extents = None }) part).extents b → (is_due today part ≡ false) × AreNaming part.extents b
+    by : (d : Bool) → is_due holds today key part ≡ d → AreNaming (cond d (record part { extents = None }) part).extents b → (is_due holds today key part ≡ false) × AreNaming part.extents b
     by true is none = absurd none
     by false is names = (is, names)
 
-names_still : (today : ℕ) (part : PartRecord) (b : ℕ) → is_due today part ≡ false → AreNaming part.extents b → AreNaming (dropped_if_due today part).extents b
-names_still today part b not_due names = subst (λ d. AreNaming (cond d (record part { extents = None }) part).extents b) (sym not_due) names
+names_still : (holds : FinMap text_cmp Hold) (today : ℕ) (key : PartKey) (part : PartRecord) (b : ℕ) → is_due holds today key part ≡ false → AreNaming part.extents b → AreNaming (dropped_if_due holds today key part).extents b
+names_still holds today key part b not_due names = subst (λ d. AreNaming (cond d (record part { extents = None }) part).extents b) (sym not_due) names
 
-for_kept : (today : ℕ) (part : PartRecord) (P : List Extent → Type 0) → ForExtents part.extents P → ForExtents (dropped_if_due today part).extents P
-for_kept today part P h = elim (is_due today part) as (λ d. ForExtents (cond d (record part { extents = None }) part).extents P) [ true ↦ tt | false ↦ h ]
+for_kept : (holds : FinMap text_cmp Hold) (today : ℕ) (key : PartKey) (part : PartRecord) (P : List Extent → Type 0) → ForExtents part.extents P → ForExtents (dropped_if_due holds today key part).extents P
+for_kept holds today key part P h = elim (is_due holds today key part) as (λ d. ForExtents (cond d (record part { extents = None }) part).extents P) [ true ↦ tt | false ↦ h ]
 
-len_kept : (today : ℕ) (part : PartRecord) → (dropped_if_due today part).len ≡ part.len
-len_kept today part = elim (is_due today part) as (λ b. (cond b (record part { extents = None }) part).len ≡ part.len) [ true ↦ refl | false ↦ refl ]
+len_kept : (holds : FinMap text_cmp Hold) (today : ℕ) (key : PartKey) (part : PartRecord) → (dropped_if_due holds today key part).len ≡ part.len
+len_kept holds today key part = elim (is_due holds today key part) as (λ b. (cond b (record part { extents = None }) part).len ≡ part.len) [ true ↦ refl | false ↦ refl ]
 
 -- ---- all parts
 
@@ -99,31 +99,31 @@ module _ (today : ℕ) (records : Records) where
   abbrev then : Records
   then = without_due today records
 
-  got : (key : PartKey) → get then.parts key ≡ option_map (dropped_if_due today) (get records.parts key)
-  got key = get-map_values part_cmp (dropped_if_due today) records.parts key
+  got : (key : PartKey) → get then.parts key ≡ option_map (dropped_if_due records.holds today key) (get records.parts key)
+  got key = get-map_keyed part_cmp part_exact (dropped_if_due records.holds today) records.parts key
 
   -- each part then is one from before
-  was : (key : PartKey) (part : PartRecord) → get then.parts key ≡ Some part → (old : PartRecord) × (get records.parts key ≡ Some old) × (part ≡ dropped_if_due today old)
+  was : (key : PartKey) (part : PartRecord) → get then.parts key ≡ Some part → (old : PartRecord) × (get records.parts key ≡ Some old) × (part ≡ dropped_if_due records.holds today key old)
   was key part has = by (get records.parts key) refl (sym (got key) ∙ has)
     where
-      by : (o : Option PartRecord) → get records.parts key ≡ o → option_map (dropped_if_due today) o ≡ Some part → (old : PartRecord) × (get records.parts key ≡ Some old) × (part ≡ dropped_if_due today old)
+      by : (o : Option PartRecord) → get records.parts key ≡ o → option_map (dropped_if_due records.holds today key) o ≡ Some part → (old : PartRecord) × (get records.parts key ≡ Some old) × (part ≡ dropped_if_due records.holds today key old)
       by None is e = absurd (let clash = e in cc)
-      by (Some old) is e = (old, is, sym (some_same (dropped_if_due today old) part e))
+      by (Some old) is e = (old, is, sym (some_same (dropped_if_due records.holds today key old) part e))
 
-  now : (key : PartKey) (old : PartRecord) → get records.parts key ≡ Some old → get then.parts key ≡ Some (dropped_if_due today old)
-  now key old has = got key ∙ ap (option_map (dropped_if_due today)) has
+  now : (key : PartKey) (old : PartRecord) → get records.parts key ≡ Some old → get then.parts key ≡ Some (dropped_if_due records.holds today key old)
+  now key old has = got key ∙ ap (option_map (dropped_if_due records.holds today key)) has
 
   kind_same : (kind : Kind) (key : PartKey) → is_part_of kind (get then.parts key) ≡ is_part_of kind (get records.parts key)
   kind_same kind key = ap (is_part_of kind) (got key) ∙ by (get records.parts key)
     where
-      by : (o : Option PartRecord) → is_part_of kind (option_map (dropped_if_due today) o) ≡ is_part_of kind o
+      by : (o : Option PartRecord) → is_part_of kind (option_map (dropped_if_due records.holds today key) o) ≡ is_part_of kind o
       by None = refl
-      by (Some part) = ap (λ k. Rattle.custody_machine.specs.SameValues.is_same_kind k kind) (kind_kept today part)
+      by (Some part) = ap (λ k. Rattle.custody_machine.specs.SameValues.is_same_kind k kind) (kind_kept records.holds today key part)
 
   some_still : (key : PartKey) → is_some (get then.parts key) ≡ is_some (get records.parts key)
   some_still key = ap is_some (got key) ∙ by (get records.parts key)
     where
-      by : (o : Option PartRecord) → is_some (option_map (dropped_if_due today) o) ≡ is_some o
+      by : (o : Option PartRecord) → is_some (option_map (dropped_if_due records.holds today key) o) ≡ is_some o
       by None = refl
       by (Some part) = refl
 
@@ -137,26 +137,27 @@ module _ (today : ℕ) (records : Records) where
     extents = λ key part has.
         let old = was key part has in
         subst (λ (p : PartRecord). ForExtents p.extents (AreExtents records.blocks p.len)) (sym old.2)
-        (subst (λ n. ForExtents (dropped_if_due today old.0).extents (AreExtents records.blocks n)) (sym (len_kept today old.0))
-        (for_kept today old.0 (AreExtents records.blocks old.0.len) (whole.extents key old.0 old.1)));
+        (subst (λ n. ForExtents (dropped_if_due records.holds today key old.0).extents (AreExtents records.blocks n)) (sym (len_kept records.holds today key old.0))
+        (for_kept records.holds today key old.0 (AreExtents records.blocks old.0.len) (whole.extents key old.0 old.1)));
     once = record {
-      within = λ key part has. let old = was key part has in subst (λ (p : PartRecord). ForExtents p.extents AreApart) (sym old.2) (for_kept today old.0 AreApart (whole.once.within key old.0 old.1));
+      within = λ key part has. let old = was key part has in subst (λ (p : PartRecord). ForExtents p.extents AreApart) (sym old.2) (for_kept records.holds today key old.0 AreApart (whole.once.within key old.0 old.1));
       between = λ j k p q b has has_too here there.
           let first = was j p has in
           let second = was k q has_too in
           whole.once.between j k first.0 second.0 b first.1 second.1
-          (still_names today first.0 b (subst (λ (r : PartRecord). AreNaming r.extents b) first.2 here)).1
-          (still_names today second.0 b (subst (λ (r : PartRecord). AreNaming r.extents b) second.2 there)).1;
+          (still_names records.holds today j first.0 b (subst (λ (r : PartRecord). AreNaming r.extents b) first.2 here)).1
+          (still_names records.holds today k second.0 b (subst (λ (r : PartRecord). AreNaming r.extents b) second.2 there)).1;
     };
     linked = record {
       part_registry = λ key part has. let old = was key part has in whole.linked.part_registry key old.0 old.1;
       notice_registry = whole.linked.notice_registry;
       release_registry = whole.linked.release_registry;
+      hold_registry = whole.linked.hold_registry;
       released = λ reference release has. (λ i. list_all (λ text. names_same release.tld (read_name text) i) release.names) ∙ whole.linked.released reference release has;
       series = λ key part has n is.
           let old = was key part has in
           kind_same part.kind _ ∙ ap (λ (p : PartRecord). is_part_of p.kind (get records.parts (Rattle.custody_machine.specs.State.at_place key (suc n)))) old.2
-          ∙ ap (λ k. is_part_of k (get records.parts (Rattle.custody_machine.specs.State.at_place key (suc n)))) (kind_kept today old.0) ∙ whole.linked.series key old.0 old.1 n is;
+          ∙ ap (λ k. is_part_of k (get records.parts (Rattle.custody_machine.specs.State.at_place key (suc n)))) (kind_kept records.holds today key old.0) ∙ whole.linked.series key old.0 old.1 n is;
       numbers = whole.linked.numbers;
       verdict_parts = λ key notice rev has is. some_still _ ∙ whole.linked.verdict_parts key notice rev has is;
       one_verdict = whole.linked.one_verdict;
@@ -171,16 +172,16 @@ module _ (today : ℕ) (records : Records) where
   named_before : (b : ℕ) → IsNamed then b → IsNamed records b
   named_before b named =
       let old = was named.0 named.1 named.2 in
-      (named.0, old.0, old.1, (still_names today old.0 b (subst (λ (p : PartRecord). AreNaming p.extents b) old.2 named.3)).1)
+      (named.0, old.0, old.1, (still_names records.holds today named.0 old.0 b (subst (λ (p : PartRecord). AreNaming p.extents b) old.2 named.3)).1)
 
   -- a block of a part that is due is named by no part then
   due_unnamed : AreWhole records → (b : ℕ) → IsDueBlock today records b → ¬ IsNamed then b
   due_unnamed whole b due named =
       let old = was named.0 named.1 named.2 in
-      let kept = still_names today old.0 b (subst (λ (p : PartRecord). AreNaming p.extents b) old.2 named.3) in
+      let kept = still_names records.holds today named.0 old.0 b (subst (λ (p : PartRecord). AreNaming p.extents b) old.2 named.3) in
       let one = whole.once.between due.0 named.0 due.1 old.0 b due.2 old.1 due.4 kept.1 in
       let same : due.1 ≡ old.0 = some_same due.1 old.0 (sym due.2 ∙ ap (get records.parts) one ∙ old.1) in
-      let clash : true ≡ false = sym due.3 ∙ ap (is_due today) same ∙ kept.0 in
+      let clash : true ≡ false = sym due.3 ∙ (λ i. is_due records.holds today (one i) (same i)) ∙ kept.0 in
       cc
 
   due_in_volume : AreWhole records → (b : ℕ) → IsDueBlock today records b → (1 ≤ b) × (b < records.blocks)
@@ -213,36 +214,36 @@ module _ (today : ℕ) (records : Records) where
             (in_range.0, in_range.1, due_unnamed order.whole b due))
             ((gives b).0 is)
 
-        unnamed : (b : ℕ) → IsPlaceable then b → (IsInAny es b → ⊥) → (named : IsNamed records b) (d : Bool) → is_due today named.1 ≡ d → ⊥
+        unnamed : (b : ℕ) → IsPlaceable then b → (IsInAny es b → ⊥) → (named : IsNamed records b) (d : Bool) → is_due records.holds today named.0 named.1 ≡ d → ⊥
         unnamed b p out named true is = out ((exact b).1 (named.0, named.1, named.2, is, named.3))
-        unnamed b p out named false is = p.2 (named.0, dropped_if_due today named.1, now named.0 named.1 named.2, names_still today named.1 b is named.3)
+        unnamed b p out named false is = p.2 (named.0, dropped_if_due records.holds today named.0 named.1, now named.0 named.1 named.2, names_still records.holds today named.0 named.1 b is named.3)
 
         from : (b : ℕ) → IsPlaceable then b → later b
         from b p = ⊎_elim
             (λ (there : IsInAny es b). (gives b).1 (inr there))
-            (λ (out : IsInAny es b → ⊥). (gives b).1 (inl ((order.placeable b).1 (p.0, p.1, λ named. unnamed b p out named (is_due today named.1) refl))))
+            (λ (out : IsInAny es b → ⊥). (gives b).1 (inl ((order.placeable b).1 (p.0, p.1, λ named. unnamed b p out named (is_due records.holds today named.0 named.1) refl))))
             (in_any_or_not es b)
 
 -- ---- what a stop leaves of it
 
-is_kept : (today : ℕ) (part : PartRecord) → IsKeptRecord part (dropped_if_due today part)
-is_kept today part = elim (is_due today part) as (λ d. IsKeptRecord part (cond d (record part { extents = None }) part)) [ true ↦ inr refl | false ↦ inl refl ]
+is_kept : (holds : FinMap text_cmp Hold) (today : ℕ) (key : PartKey) (part : PartRecord) → IsKeptRecord part (dropped_if_due holds today key part)
+is_kept holds today key part = elim (is_due holds today key part) as (λ d. IsKeptRecord part (cond d (record part { extents = None }) part)) [ true ↦ inr refl | false ↦ inl refl ]
 
 -- a part that is held then was held before, as it is
-still_held : (today : ℕ) (part : PartRecord) (extents : List Extent) → (dropped_if_due today part).extents ≡ Some extents → dropped_if_due today part ≡ part
-still_held today part extents held = by (is_due today part) refl held
+still_held : (holds : FinMap text_cmp Hold) (today : ℕ) (key : PartKey) (part : PartRecord) (extents : List Extent) → (dropped_if_due holds today key part).extents ≡ Some extents → dropped_if_due holds today key part ≡ part
+still_held holds today key part extents held = by (is_due holds today key part) refl held
   where
-    by : (d : Bool) → is_due today part ≡ d → (cond d (record part { extents = None }) part).extents ≡ Some extents → dropped_if_due today part ≡ part
+    by : (d : Bool) → is_due holds today key part ≡ d → (cond d (record part { extents = None }) part).extents ≡ Some extents → dropped_if_due holds today key part ≡ part
     by true is e = absurd (let clash = e in cc)
     by false is e = ap (λ d. cond d (record part { extents = None }) part) is
 
 -- no part's record is lost or changed but by dropping its bytes
 pub keeps-without_due : (today : ℕ) (records : Records) (image : List ℕ) → KeepsParts records image (without_due today records) image
 keeps-without_due today records image = record {
-  kept = λ key part at. (dropped_if_due today part, now today records key part at, is_kept today part);
+  kept = λ key part at. (dropped_if_due records.holds today key part, now today records key part at, is_kept records.holds today key part);
   digests = λ key has part extents at held.
       let old = was today records key part at in
-      let same : part ≡ old.0 = old.2 ∙ still_held today old.0 extents (ap (λ (p : PartRecord). p.extents) (sym old.2) ∙ held) in
+      let same : part ≡ old.0 = old.2 ∙ still_held records.holds today key old.0 extents (ap (λ (p : PartRecord). p.extents) (sym old.2) ∙ held) in
       subst (λ (p : PartRecord). sha256 (part_bytes image extents p.len) ≡ p.digest) (sym same) (has old.0 extents old.1 (ap (λ (p : PartRecord). p.extents) (sym same) ∙ held));
 }
 
@@ -275,41 +276,41 @@ length-content blocks i long len (Some es) range =
     let counts = range.counts in
     length-take-le len (bytes_of i es) (omega (arith, whole, counts))
 
-due_same : (i : List ℕ) (today : ℕ) (part : PartRecord) → machine.is_due today (part_of i part) ≡ is_due today part
-due_same i today part = by part.extents
+due_same : (i : List ℕ) (holds : FinMap text_cmp Hold) (today : ℕ) (key : PartKey) (part : PartRecord) → machine.is_due holds today key (part_of i part) ≡ is_due holds today key part
+due_same i holds today key part = by part.extents
   where
-    by : (o : Option (List Extent)) → (not (machine.is_gone (content_of i part.len o)) && nat_lt (year_after (day_of part.received)) today) ≡ (is_some o && nat_lt (year_after (day_of part.received)) today)
+    by : (o : Option (List Extent)) → (not (machine.is_gone (content_of i part.len o)) && (nat_lt (year_after (day_of part.received)) today && not (is_on_hold holds key))) ≡ (is_some o && (nat_lt (year_after (day_of part.received)) today && not (is_on_hold holds key)))
     by None = refl
     by (Some es) = refl
 
-dropped_same : (i : List ℕ) (today : ℕ) (part : PartRecord) → machine.content_len (content_of i part.len part.extents) ≡ part.len → machine.dropped_if_due today (part_of i part) ≡ part_of i (dropped_if_due today part)
-dropped_same i today part long = ap (λ b. cond b (machine.without_bytes (part_of i part)) (part_of i part)) (due_same i today part) ∙ by (is_due today part)
+dropped_same : (i : List ℕ) (holds : FinMap text_cmp Hold) (today : ℕ) (key : PartKey) (part : PartRecord) → machine.content_len (content_of i part.len part.extents) ≡ part.len → machine.dropped_if_due holds today key (part_of i part) ≡ part_of i (dropped_if_due holds today key part)
+dropped_same i holds today key part long = ap (λ b. cond b (machine.without_bytes (part_of i part)) (part_of i part)) (due_same i holds today key part) ∙ by (is_due holds today key part)
   where
     by : (b : Bool) → cond b (machine.without_bytes (part_of i part)) (part_of i part) ≡ part_of i (cond b (record part { extents = None }) part)
     by true = ap (λ n. record { kind = part.kind; received = part.received; content = Dropped n }) long
     by false = refl
 
 module _ (records : Records) (i : List ℕ) (good : IsGood records i) (today : ℕ) where
-  parts_then : map_values (machine.dropped_if_due today) (state_in records i).parts ≡ (state_in (without_due today records) i).parts
+  parts_then : map_keyed (machine.dropped_if_due records.holds today) (state_in records i).parts ≡ (state_in (without_due today records) i).parts
   parts_then = same_map part_total part_exact _ _ (λ key.
-      get-map_values part_cmp (machine.dropped_if_due today) (state_in records i).parts key
-      ∙ ap (option_map (machine.dropped_if_due today)) (get-map_values part_cmp (part_of i) records.parts key)
+      get-map_keyed part_cmp part_exact (machine.dropped_if_due records.holds today) (state_in records i).parts key
+      ∙ ap (option_map (machine.dropped_if_due records.holds today key)) (get-map_values part_cmp (part_of i) records.parts key)
       ∙ by key (get records.parts key) refl
       ∙ sym (get-map_values part_cmp (part_of i) (without_due today records).parts key ∙ ap (option_map (part_of i)) (got today records key)))
     where
-      by : (key : PartKey) (o : Option PartRecord) → get records.parts key ≡ o → option_map (machine.dropped_if_due today) (option_map (part_of i) o) ≡ option_map (part_of i) (option_map (dropped_if_due today) o)
+      by : (key : PartKey) (o : Option PartRecord) → get records.parts key ≡ o → option_map (machine.dropped_if_due records.holds today key) (option_map (part_of i) o) ≡ option_map (part_of i) (option_map (dropped_if_due records.holds today key) o)
       by key None at = refl
-      by key (Some part) at = ap Some (dropped_same i today part (length-content records.blocks i good.volume.size part.len part.extents (good.whole.extents key part at)))
+      by key (Some part) at = ap Some (dropped_same i records.holds today key part (length-content records.blocks i good.volume.size part.len part.extents (good.whole.extents key part at)))
 
   pub state_then : machine.without_due (state_in records i) today ≡ state_in (without_due today records) i
   state_then = ap (λ parts. record (state_in records i) { parts = parts }) parts_then
 
   pub count_then : machine.count_due (state_in records i) today ≡ count_due today records
-  count_then = ap (count_by (λ (e : PartKey × Part). machine.is_due today e.1)) (entries-map_values part_cmp (part_of i) records.parts) ∙ by 0 (entries records.parts)
+  count_then = ap (count_by (λ (e : PartKey × Part). machine.is_due records.holds today e.0 e.1)) (entries-map_values part_cmp (part_of i) records.parts) ∙ by 0 (entries records.parts)
     where
-      by : (n : ℕ) (es : List (PartKey × PartRecord)) → fold (λ k (e : PartKey × Part). k + cond (machine.is_due today e.1) 1 0) n (map_entries (part_of i) es) ≡ fold (λ k (e : PartKey × PartRecord). k + cond (is_due today e.1) 1 0) n es
+      by : (n : ℕ) (es : List (PartKey × PartRecord)) → fold (λ k (e : PartKey × Part). k + cond (machine.is_due records.holds today e.0 e.1) 1 0) n (map_entries (part_of i) es) ≡ fold (λ k (e : PartKey × PartRecord). k + cond (is_due records.holds today e.0 e.1) 1 0) n es
       by n [] = refl
-      by n (e ∷ es) = ap (λ b. fold (λ k (x : PartKey × Part). k + cond (machine.is_due today x.1) 1 0) (n + cond b 1 0) (map_entries (part_of i) es)) (due_same i today e.1) ∙ by (n + cond (is_due today e.1) 1 0) es
+      by n (e ∷ es) = ap (λ b. fold (λ k (x : PartKey × Part). k + cond (machine.is_due records.holds today x.0 x.1) 1 0) (n + cond b 1 0) (map_entries (part_of i) es)) (due_same i records.holds today e.0 e.1) ∙ by (n + cond (is_due records.holds today e.0 e.1) 1 0) es
 
 module _ (records : Records) (i : List ℕ) (good : IsGood records i) (now : ℕ) (d : Decides (Makes DropsBytes) records Purge now) where
   abbrev after : Records

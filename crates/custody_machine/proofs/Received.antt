@@ -10,14 +10,15 @@ use Rattle.custody_records.specs.Records.{Notice, key_of}
 use Rattle.custody_machine.proofs.Stated.{accepts_statement, stated_by}
 use Rattle.custody_machine.proofs.Checked.{accepts_check, missed_by}
 use Rattle.custody_machine.proofs.Released.{accepts_release, released_by}
+use Rattle.custody_machine.proofs.Holding.{IsLifted, accepts_hold, accepts_lift, held_by, lifted_by}
 use Rattle.custody_records.specs.Records as kept_in
 use Rattle.custody_machine.specs.Names.{read_name}
 use Rattle.schedule.specs.Schedule.{day_of}
 use Rattle.custody_machine.specs.State.{State, Part, Held, Dropped}
-use Rattle.custody_machine.specs.Machine.{Command, Register, Receive, Statement, Check, Release, Purge, content_len, dropped_if_due, is_due, without_bytes, without_due, kept_verdict, absence_of, kept_release, Entry, Outcome, Refuse, Accept, Reply, step, state_of, state_after, recorded, received_part, with_part, first_day_of}
+use Rattle.custody_machine.specs.Machine.{Command, Register, Receive, Statement, Check, Release, Hold, Lift, Purge, kept_hold, content_len, dropped_if_due, is_due, without_bytes, without_due, kept_verdict, absence_of, kept_release, Entry, Outcome, Refuse, Accept, Reply, step, state_of, state_after, recorded, received_part, with_part, first_day_of}
 use Rattle.custody_machine.specs.History.{WasReceived, HeldAsReceived}
 use Rattle.custody_records.specs.Orders.{part_total, part_exact}
-use Rattle.custody_machine.proofs.MapValues.{get-map_values}
+use Rattle.custody_machine.proofs.MapValues.{get-map_keyed}
 use Rattle.custody_machine.proofs.Accepting.{Receives, receives, answered, registered, step_accepts, accept_inj}
 
 -- a new part is the one received, or another that was kept
@@ -40,11 +41,11 @@ by_key s entries key part bytes text others name now held named there =
 
 -- a part that is held after bytes were dropped was held before
 held_before : (s : State) (today : ℕ) (key : PartKey) (part : Part) (bytes : List ℕ) → part.content ≡ Held bytes → get (without_due s today).parts key ≡ Some part → get s.parts key ≡ Some part
-held_before s today key part bytes held at = by (get s.parts key) refl (sym (get-map_values part_cmp (dropped_if_due today) s.parts key) ∙ at)
+held_before s today key part bytes held at = by (get s.parts key) refl (sym (get-map_keyed part_cmp part_exact (dropped_if_due s.holds today) s.parts key) ∙ at)
   where
-    by : (o : Option Part) → get s.parts key ≡ o → option_map (dropped_if_due today) o ≡ Some part → get s.parts key ≡ Some part
+    by : (o : Option Part) → get s.parts key ≡ o → option_map (dropped_if_due s.holds today key) o ≡ Some part → get s.parts key ≡ Some part
     by None is e = cc
-    by (Some old) is e = is ∙ kept (is_due today old) e
+    by (Some old) is e = is ∙ kept (is_due s.holds today key old) e
       where
         kept : (b : Bool) → Some (cond b (without_bytes old) old) ≡ Some part → Some old ≡ Some part
         kept true e =
@@ -80,6 +81,16 @@ by_step s (Release reference tld reason) now rest key part bytes reply new held 
     by : (o : Option kept_in.Release) → released_by s reference tld reason now o ≡ Accept reply new → (get s.parts key ≡ Some part) ⊎ WasReceived ((Release reference tld reason, now) ∷ rest) key part bytes
     by (Some kept) r = inl (ap (λ (t : State). get t.parts key) (accept_inj _ _ _ _ r).1 ∙ at)
     by None r = inl (ap (λ (t : State). get t.parts key) (accept_inj _ _ _ _ r).1 ∙ at)
+by_step s (Hold reference tld day) now rest key part bytes reply new held is at = by (kept_hold s reference tld day) (accepts_hold s reference tld day now reply new is).outcome
+  where
+    by : (o : Option kept_in.Hold) → held_by s reference tld day now o ≡ Accept reply new → (get s.parts key ≡ Some part) ⊎ WasReceived ((Hold reference tld day, now) ∷ rest) key part bytes
+    by (Some kept) r = inl (ap (λ (t : State). get t.parts key) (accept_inj _ _ _ _ r).1 ∙ at)
+    by None r = inl (ap (λ (t : State). get t.parts key) (accept_inj _ _ _ _ r).1 ∙ at)
+by_step s (Lift reference) now rest key part bytes reply new held is at = let h = accepts_lift s reference now reply new is in by h h.hold.lifted h.outcome
+  where
+    by : (h : IsLifted s reference now reply new) (o : Option ℕ) → lifted_by s reference now h.hold o ≡ Accept reply new → (get s.parts key ≡ Some part) ⊎ WasReceived ((Lift reference, now) ∷ rest) key part bytes
+    by h (Some moment) r = inl (ap (λ (t : State). get t.parts key) (accept_inj _ _ _ _ r).1 ∙ at)
+    by h None r = inl (ap (λ (t : State). get t.parts key) (accept_inj _ _ _ _ r).1 ∙ at)
 by_step s Purge now rest key part bytes reply new held is at = inl (held_before s (day_of now) key part bytes held (ap (λ (t : State). get t.parts key) (accept_inj _ _ _ _ (step_accepts s Purge now reply new is).1).1 ∙ at))
 
 by_outcome : (s : State) (entry : Entry) (rest : List Entry) (key : PartKey) (part : Part) (bytes : List ℕ) → part.content ≡ Held bytes → (r : Outcome) → step s entry.0 entry.1 ≡ r → get (state_of s r).parts key ≡ Some part → (get s.parts key ≡ Some part) ⊎ WasReceived (entry ∷ rest) key part bytes

@@ -6,11 +6,12 @@ use Rattle.custody_machine.specs.State.{State}
 use Rattle.custody_machine.specs.Machine.{Command, Entry, Record, Reply, Outcome, Refuse, Accept, step, state_of, state_after, after, reads, Answer, Accepted, Refused, Failed, NoMemory, VolumeFailed, StoreFailed, Closed, Damaged, Answers, MayRefuse, MayFail}
 use Rattle.custody_machine.specs.SameValues.{is_same_state}
 use Rattle.custody_machine.specs.History.{Pair, Opened, Event, Answered, Rested, ShutDown, StoppedAtRest, StoppedWithin, OpenedWith, Condition, Running, Halted, Stopped, Happens, Run, Found, leads_to, settled, or_else, found_then, found_after, found, none_found}
-use Rattle.custody_machine.specs.Retries.{Key, OfTld, OfName, OfRevision, OfDay, OfReference, key, are_same_keys, has_same_key, KeysAreCompared, once_after, ActsOnce, AsksAgain, record_of, first_record, IsAnsweredAgain, RepeatsAreAnswered, IsOfCommand, StillHas, AcknowledgedIsKept}
+use Rattle.custody_machine.specs.Retries.{Key, OfTld, OfName, OfRevision, OfDay, OfReference, OfHolding, OfLift, IsKeptAs, key, are_same_keys, has_same_key, KeysAreCompared, once_after, ActsOnce, AsksAgain, record_of, first_record, IsAnsweredAgain, RepeatsAreAnswered, IsOfCommand, StillHas, AcknowledgedIsKept}
 use Rattle.custody_machine.proofs.SameValues.{text_decides}
 use Rattle.custody_machine.proofs.Histories.{after-append, Fits, fits_then, fits_after, fits_first, run_split, found_after-append, all_more, openings_are_right}
 use Rattle.custody_machine.proofs.Accepting.{accept_inj}
-use Rattle.custody_machine.proofs.Keeping.{kept_itself, Keeps, keeps_on, step_continues, accepted_is_kept, same_key_is_kept, kept_again, key_of_asked, asked_again, Again, kept_is_there}
+use Rattle.custody_machine.proofs.Continuing.{step_continues}
+use Rattle.custody_machine.proofs.Keeping.{Keeps, keeps_on, as_now, accepted_is_kept, same_key_is_kept, kept_again, key_of_asked, asked_again, Again, kept_is_there}
 
 -- ---- the commands found were accepted, one after the other
 
@@ -156,6 +157,8 @@ own_key (Some (OfName a)) h = (text_decides a a).1 refl
 own_key (Some (OfRevision a d r)) h = and_true _ _ ((text_decides a a).1 refl) (and_true _ _ ((Decides-eqb d d).1 refl) ((Decides-eqb r r).1 refl))
 own_key (Some (OfDay a d)) h = and_true _ _ ((text_decides a a).1 refl) ((Decides-eqb d d).1 refl)
 own_key (Some (OfReference a)) h = (text_decides a a).1 refl
+own_key (Some (OfHolding a)) h = (text_decides a a).1 refl
+own_key (Some (OfLift a)) h = (text_decides a a).1 refl
 own_key None h = h
 
 one_key : (a b : Option Key) → are_same_keys a b ≡ true → (is_some a ≡ true) × (a ≡ b)
@@ -169,26 +172,28 @@ one_key (Some (OfDay a d)) (Some (OfDay b e)) is =
     let x = and_split _ _ is in
     (refl, λ i. Some (OfDay ((text_decides a b).0 x.0 i) ((Decides-eqb d e).0 x.1 i)))
 one_key (Some (OfReference a)) (Some (OfReference b)) e = (refl, ap (λ t. Some (OfReference t)) ((text_decides a b).0 e))
+one_key (Some (OfHolding a)) (Some (OfHolding b)) e = (refl, ap (λ t. Some (OfHolding t)) ((text_decides a b).0 e))
+one_key (Some (OfLift a)) (Some (OfLift b)) e = (refl, ap (λ t. Some (OfLift t)) ((text_decides a b).0 e))
 one_key a b e = cc
 
 pub keys_are_compared : KeysAreCompared
 keys_are_compared a b = (one_key (key a) (key b), λ h. subst (λ k. are_same_keys (key a) k ≡ true) h.1 (own_key (key a) h.0))
 
 -- by what the machine decides of it
-answered_by : (old new : State) (command : Command) (now : ℕ) (entry : Record) (answer : Answer) → IsOfCommand command entry → Again old command entry now → reads old command now ≡ [] → Answers old command now answer new → IsAnsweredAgain old command (Some entry) answer
-answered_by old new command now entry (Accepted reply) own (inl h) none a =
+answered_by : (old new : State) (command : Command) (now : ℕ) (made entry : Record) (answer : Answer) → IsKeptAs made entry → IsOfCommand command entry → Again old command entry now → reads old command now ≡ [] → Answers old command now answer new → IsAnsweredAgain old command (Some made) answer
+answered_by old new command now made entry (Accepted reply) as_kept own (inl h) none a =
     let e = (accept_inj _ _ _ _ (sym h ∙ a)).0 in
-    subst (λ (r : Reply). IsAnsweredAgain old command (Some entry) (Accepted r)) e (entry, refl, kept_itself entry, own, refl)
-answered_by old new command now entry (Accepted reply) own (inr h) none a = let e = sym h.0 ∙ a in cc
-answered_by old new command now entry (Refused q) own (inl h) none a = let e = subst (λ r. MayRefuse command r q) h a.0 in let no = e.2 in cc
-answered_by old new command now entry (Refused q) own (inr h) none a = (subst (λ r. MayRefuse command r q) h.0 a.0, h.1)
-answered_by old new command now entry (Failed NoMemory) own h none a = tt
-answered_by old new command now entry (Failed VolumeFailed) own h none a = tt
-answered_by old new command now entry (Failed StoreFailed) own (inl h) none a = let no = subst (λ r. MayFail r (reads old command now) StoreFailed) h a.0 in cc
-answered_by old new command now entry (Failed StoreFailed) own (inr h) none a = subst (λ r. MayFail r (reads old command now) StoreFailed) h.0 a.0
-answered_by old new command now entry (Failed Closed) own h none a = tt
-answered_by old new command now entry (Failed (Damaged damage)) own (inl h) none a = (subst (λ r. MayFail r (reads old command now) (Damaged damage)) h a.0).1 none
-answered_by old new command now entry (Failed (Damaged damage)) own (inr h) none a = (subst (λ r. MayFail r (reads old command now) (Damaged damage)) h.0 a.0).1 none
+    subst (λ (r : Reply). IsAnsweredAgain old command (Some made) (Accepted r)) e (made, refl, as_kept, own, refl)
+answered_by old new command now made entry (Accepted reply) as_kept own (inr h) none a = let e = sym h.0 ∙ a in cc
+answered_by old new command now made entry (Refused q) as_kept own (inl h) none a = let e = subst (λ r. MayRefuse command r q) h a.0 in let no = e.2 in cc
+answered_by old new command now made entry (Refused q) as_kept own (inr h) none a = (subst (λ r. MayRefuse command r q) h.0 a.0, h.1)
+answered_by old new command now made entry (Failed NoMemory) as_kept own h none a = tt
+answered_by old new command now made entry (Failed VolumeFailed) as_kept own h none a = tt
+answered_by old new command now made entry (Failed StoreFailed) as_kept own (inl h) none a = let no = subst (λ r. MayFail r (reads old command now) StoreFailed) h a.0 in cc
+answered_by old new command now made entry (Failed StoreFailed) as_kept own (inr h) none a = subst (λ r. MayFail r (reads old command now) StoreFailed) h.0 a.0
+answered_by old new command now made entry (Failed Closed) as_kept own h none a = tt
+answered_by old new command now made entry (Failed (Damaged damage)) as_kept own (inl h) none a = (subst (λ r. MayFail r (reads old command now) (Damaged damage)) h a.0).1 none
+answered_by old new command now made entry (Failed (Damaged damage)) as_kept own (inr h) none a = (subst (λ r. MayFail r (reads old command now) (Damaged damage)) h.0 a.0).1 none
 
 same_after : (old : State) (command : Command) (now : ℕ) (entry : Record) → Again old command entry now → state_after old command now ≡ old
 same_after old command now entry (inl e) = ap (state_of old) e
@@ -206,8 +211,11 @@ repeated : (first : State) (c next : Condition) (f : Found) (entry : Entry) (kep
     IsAnsweredAgain (after first f.commands) command (Some kept) answer × (after first (found_then first f (Answered command now answer)).commands ≡ after first f.commands)
 repeated first (Running old) next f entry kept command now answer fits h keeps again =
     let here = kept_again old entry.0 command kept (subst (λ s. Keeps s entry.0 kept) fits.0 keeps) again.1 in
-    let outcome = asked_again old command kept now (sym (ap is_some (sym (key_of_asked entry.0) ∙ ap key again.1 ∙ key_of_asked command)) ∙ again.0) here in
-    (subst (λ s. IsAnsweredAgain s command (Some kept) answer) (sym fits.0) (answered_by old h.0 command now kept answer (kept_is_there old command kept here).0 outcome.0 outcome.1 h.1), unchanged_by first f old command now kept answer fits.0 outcome.0)
+    let as_is = as_now old command kept here in
+    let outcome = asked_again old command as_is.0 now (sym (ap is_some (sym (key_of_asked entry.0) ∙ ap key again.1 ∙ key_of_asked command)) ∙ again.0) as_is.2 as_is.3 in (
+      subst (λ s. IsAnsweredAgain s command (Some kept) answer) (sym fits.0) (answered_by old h.0 command now kept as_is.0 answer as_is.1 (kept_is_there old command as_is.0 as_is.2).0 outcome.0 outcome.1 h.1),
+      unchanged_by first f old command now as_is.0 answer fits.0 outcome.0,
+    )
 repeated first (Halted old doubt) next f entry kept command now answer fits h keeps again =
     subst (λ a. IsAnsweredAgain (after first f.commands) command (Some kept) a × (after first (found_then first f (Answered command now a)).commands ≡ after first f.commands)) (sym h.0) (tt, refl)
 repeated first (Stopped pair) next f entry kept command now answer fits h keeps again = absurd h

@@ -1,5 +1,5 @@
 -- The tests of sameness decide whether two values are equal.
-use Rattle.std.proofs.Common.{◌≡◌, ℕ, List, Bool, refl, sym, ◌∙◌, ap, nat_eq, ◌==◌, Some, Option}
+use Rattle.std.proofs.Common.{◌≡◌, ℕ, List, Bool, refl, sym, ◌∙◌, ap, nat_eq, ◌==◌, Some, None, Option}
 use Rattle.std.specs.Bool.{Decides}
 use Rattle.std.specs.Cmp.Lexicographic.{pointwise_decides, bytes_decides}
 use Rattle.std.specs.FinMap.{FinMap, entries, same_entries_map}
@@ -14,11 +14,11 @@ use Rattle.desk.specs.declared.grounds.Ground.{Ground}
 use Rattle.desk.specs.declared.notices.NoticeKind.{NoticeKind}
 use Rattle.desk.specs.declared.notices.NoticeKind.TheVariants.{Receipt, Failure, Absence}
 use Rattle.custody_records.specs.Keys.{PartKey, NoticeKey}
-use Rattle.custody_records.specs.Records.{Notice, Release}
+use Rattle.custody_records.specs.Records.{Notice, Release, Hold}
 use Rattle.custody_records.specs.Form.{kind_in, check_in, ground_in}
 use Rattle.custody_machine.specs.Names.{is_same_text}
 use Rattle.custody_machine.specs.State.{State, Part, Content, Held, Dropped}
-use Rattle.custody_machine.specs.SameValues.{is_same_ground, is_same_kind, is_same_key, is_same_notice_key, is_same_content, is_same_part, is_same_notice_kind, is_same_notice, is_same_release, is_same_map, is_same_state}
+use Rattle.custody_machine.specs.SameValues.{is_same_ground, is_same_kind, is_same_key, is_same_notice_key, is_same_content, is_same_part, is_same_notice_kind, is_same_notice, is_same_release, is_same_moment, is_same_hold, is_same_map, is_same_state}
 use Rattle.custody_records.proofs.FieldLemmas.{kind_in-kind_text, ground_in-ground_text, check_in-check_number}
 
 pub text_decides : (a b : List ℕ) → Decides (is_same_text a b) (a ≡ b)
@@ -79,15 +79,27 @@ release_decides a b = Decides-like _ (λ p i. record { tld = p.0 i; reason = p.1
     (λ e. (ap (λ (k : Release). k.tld) e, (ap (λ (k : Release). k.reason) e, (ap (λ (k : Release). k.at) e, ap (λ (k : Release). k.names) e))))
     (Decides-and _ _ (text_decides a.tld b.tld) (Decides-and _ _ (ground_decides a.reason b.reason) (Decides-and _ _ (Decides-eqb a.at b.at) (pointwise_decides text_decides a.names b.names))))
 
+moment_decides : (a b : Option ℕ) → Decides (is_same_moment a b) (a ≡ b)
+moment_decides (Some a) (Some b) = Decides-like _ (ap Some) (λ e. cc) (Decides-eqb a b)
+moment_decides None None = (λ _. refl, λ _. refl)
+moment_decides (Some a) None = (λ e. cc, λ e. cc)
+moment_decides None (Some b) = (λ e. cc, λ e. cc)
+
+pub hold_decides : (a b : Hold) → Decides (is_same_hold a b) (a ≡ b)
+hold_decides a b = Decides-like _ (λ p i. record { tld = p.0 i; day = p.1.0 i; at = p.1.1.0 i; lifted = p.1.1.1 i })
+    (λ e. (ap (λ (k : Hold). k.tld) e, (ap (λ (k : Hold). k.day) e, (ap (λ (k : Hold). k.at) e, ap (λ (k : Hold). k.lifted) e))))
+    (Decides-and _ _ (text_decides a.tld b.tld) (Decides-and _ _ (Decides-eqb a.day b.day) (Decides-and _ _ (Decides-eqb a.at b.at) (moment_decides a.lifted b.lifted))))
+
 pub map_decides : {K X : Type 0} {R : K → K → Ordering} (key : K → K → Bool) (value : X → X → Bool) → ((a b : K) → Decides (key a b) (a ≡ b)) → ((a b : X) → Decides (value a b) (a ≡ b))
     → (m n : FinMap R X) → Decides (is_same_map key value m n) (m ≡ n)
 map_decides {K} {X} {R} key value k v m n = Decides-like _ (same_entries_map m n) (ap entries)
     (pointwise_decides (λ (p q : K × X). Decides-like _ (λ e i. (e.0 i, e.1 i)) (λ e. (ap (λ (z : K × X). z.0) e, ap (λ (z : K × X). z.1) e)) (Decides-and _ _ (k p.0 q.0) (v p.1 q.1))) (entries m) (entries n))
 
 pub state_decides : (a b : State) → Decides (is_same_state a b) (a ≡ b)
-state_decides a b = Decides-like _ (λ p i. record { registries = p.0 i; parts = p.1.0 i; notices = p.1.1.0 i; releases = p.1.1.1 i })
-    (λ e. (ap (λ (k : State). k.registries) e, (ap (λ (k : State). k.parts) e, (ap (λ (k : State). k.notices) e, ap (λ (k : State). k.releases) e))))
+state_decides a b = Decides-like _ (λ p i. record { registries = p.0 i; parts = p.1.0 i; notices = p.1.1.0 i; releases = p.1.1.1.0 i; holds = p.1.1.1.1 i })
+    (λ e. (ap (λ (k : State). k.registries) e, (ap (λ (k : State). k.parts) e, (ap (λ (k : State). k.notices) e, (ap (λ (k : State). k.releases) e, ap (λ (k : State). k.holds) e)))))
     (Decides-and _ _ (map_decides is_same_text nat_eq text_decides Decides-eqb a.registries b.registries)
     (Decides-and _ _ (map_decides is_same_key is_same_part key_decides part_decides a.parts b.parts)
     (Decides-and _ _ (map_decides is_same_notice_key is_same_notice notice_key_decides notice_decides a.notices b.notices)
-    (map_decides is_same_text is_same_release text_decides release_decides a.releases b.releases))))
+    (Decides-and _ _ (map_decides is_same_text is_same_release text_decides release_decides a.releases b.releases)
+    (map_decides is_same_text is_same_hold text_decides hold_decides a.holds b.holds)))))

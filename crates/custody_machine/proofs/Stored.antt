@@ -45,7 +45,7 @@ module _ (free : ℕ → Type 0) (records : Records) (old new : List ℕ) (diffe
 
   pub state_in-elsewhere : state_in records new ≡ state_in records old
   state_in-elsewhere =
-      ap (λ ps. record { registries = records.registries; parts = ps; notices = records.notices; releases = records.releases })
+      ap (λ ps. record { registries = records.registries; parts = ps; notices = records.notices; releases = records.releases; holds = records.holds })
       (same_map part_total part_exact _ _ (λ q. get-map_values part_cmp (part_of new) records.parts q ∙ by q (get records.parts q) refl ∙ sym (get-map_values part_cmp (part_of old) records.parts q)))
     where
       by : (q : PartKey) (o : Option PartRecord) → get records.parts q ≡ o → option_map (part_of new) o ≡ option_map (part_of old) o
@@ -111,6 +111,7 @@ whole-with_registry records tld day whole = let l = whole.linked in record {
     part_registry = λ key part at. known_still records.registries tld day key.tld (l.part_registry key part at);
     notice_registry = λ key notice at. known_still records.registries tld day key.tld (l.notice_registry key notice at);
     release_registry = λ reference release at. known_still records.registries tld day release.tld (l.release_registry reference release at);
+    hold_registry = λ reference hold at. known_still records.registries tld day hold.tld (l.hold_registry reference hold at);
     released = l.released;
     series = l.series;
     numbers = l.numbers;
@@ -132,7 +133,7 @@ keeps-with_registry records image tld day = record { kept = λ key part at. (par
 
 pub state_in-with_part : (records : Records) (image : List ℕ) (key : PartKey) (part : PartRecord) → state_in (recorded.with_part records key part) image ≡ with_part (state_in records image) key (part_of image part)
 state_in-with_part records image key part =
-    ap (λ ps. record { registries = records.registries; parts = ps; notices = records.notices; releases = records.releases })
+    ap (λ ps. record { registries = records.registries; parts = ps; notices = records.notices; releases = records.releases; holds = records.holds })
     (map_values-insert part_cmp (part_of image) part_total part_exact records.parts key part)
 
 -- the parts after an insertion: the new one, and those before
@@ -203,6 +204,7 @@ whole-with_part records key part extents p whole = let l = whole.linked in recor
     part_registry = inserted records.parts key part (λ q r. is_some (get records.registries q.tld) ≡ true) p.registry l.part_registry;
     notice_registry = l.notice_registry;
     release_registry = l.release_registry;
+    hold_registry = l.hold_registry;
     released = λ reference release at. all_still (λ text. names_part records release.tld (read_name text)) (λ text. names_part (recorded.with_part records key part) release.tld (read_name text))
         (λ text. names_still records key part p.fresh release.tld (read_name text)) release.names (l.released reference release at);
     series = inserted records.parts key part (λ q r. (n : ℕ) → q.part ≡ suc (suc n) → is_part_of r.kind (get (insert records.parts key part) (at_place q (suc n))) ≡ true)

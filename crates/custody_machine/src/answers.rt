@@ -44,6 +44,10 @@ pub enum Refusal {
     NotInRelease,
     /// No release has this reference.
     ReleaseUnknown,
+    /// The reference is that of a hold of another registry or day.
+    HoldReferenceUsed,
+    /// No hold has this reference.
+    HoldUnknown,
 }
 
 /// Why a command failed.

@@ -103,6 +103,8 @@ impl Refusal {
             Refusal::ReferenceUsed => ("Q17", "reference used", HttpStatus::Conflict),
             Refusal::NotInRelease => ("Q18", "not in release", HttpStatus::NotFound),
             Refusal::ReleaseUnknown => ("Q19", "release unknown", HttpStatus::NotFound),
+            Refusal::HoldReferenceUsed => ("Q20", "hold reference used", HttpStatus::Conflict),
+            Refusal::HoldUnknown => ("Q21", "hold unknown", HttpStatus::NotFound),
         };
         Code {
             number,

@@ -37,6 +37,10 @@ pub enum Command<'a> {
     /// Under a reference the deposits of a registry are handed over on a ground: the parts that are held
     /// are listed (Specification 2, Part B, section 6).
     Release(Reference, Tld, Ground),
+    /// Under a reference no part of a registry's day is to be dropped, until the hold is lifted.
+    Hold(Reference, Tld, Day),
+    /// The hold of a reference is to be lifted.
+    Lift(Reference),
     /// The bytes of each part that was kept for a year are to be dropped; its record stays
     /// (Specification 2, Part B, section 4).
     Purge,
@@ -53,6 +57,8 @@ impl<'a> Command<'a> {
             | Command::Statement(_)
             | Command::Check(..)
             | Command::Release(..)
+            | Command::Hold(..)
+            | Command::Lift(_)
             | Command::Purge => &[],
         }
     }

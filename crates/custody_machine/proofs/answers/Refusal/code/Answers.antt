@@ -1,7 +1,7 @@
 use Rattle.std.proofs.Common.{rules, ◌≡◌, ◌∙◌, ◌++◌, codes, refl, ap}
 use Rattle.deposit_name.specs.Name.{decimal}
 use Rattle.custody_machine.specs.Codes.{Row, refusal_row}
-use Rattle.custody_machine.specs.Machine.{Refusal, NameRefused, RegistryUnknown, DateOutOfRange, Size, OtherBytes, DroppedAfterKeeping, RevisionNotDue, AlreadyStated, TypeDiffers, PartOutOfOrder, VolumeFull, PartsDiffer, LaterDayPassed, NotYetDue, DayHasVerdict, GroundDoesNotStand, ReferenceUsed, NotInRelease, ReleaseUnknown, refusal_number}
+use Rattle.custody_machine.specs.Machine.{Refusal, NameRefused, RegistryUnknown, DateOutOfRange, Size, OtherBytes, DroppedAfterKeeping, RevisionNotDue, AlreadyStated, TypeDiffers, PartOutOfOrder, VolumeFull, PartsDiffer, LaterDayPassed, NotYetDue, DayHasVerdict, GroundDoesNotStand, ReferenceUsed, NotInRelease, ReleaseUnknown, HoldReferenceUsed, HoldUnknown, refusal_number}
 use Rattle.custody_machine.proofs.answers.Refusal.code.Goals as goal
 
 numbers_agree : (refusal : Refusal) → (refusal_row refusal).0 ≡ codes "Q" ++ decimal (refusal_number refusal)
@@ -24,6 +24,8 @@ numbers_agree GroundDoesNotStand = refl
 numbers_agree ReferenceUsed = refl
 numbers_agree NotInRelease = refl
 numbers_agree ReleaseUnknown = refl
+numbers_agree HoldReferenceUsed = refl
+numbers_agree HoldUnknown = refl
 
 pub returns-clause-row : goal.returns-clause-row
 returns-clause-row c = search rules
