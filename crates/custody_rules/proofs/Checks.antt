@@ -37,7 +37,7 @@ module _ (records : Records) (tld : List ℕ) (day now : ℕ) where
   refuses_check q other full first = (other, full, λ image. step_refuses (state_in records image) (Check tld day) now q (first image))
 
   pub repeats_check : (first : ℕ) (kept : NoticeKey × Notice) → get records.registries tld ≡ Some first → absence_in records tld day ≡ Some kept → Decides (Repeats (OfNotice kept.0 kept.1)) records (Check tld day) now
-  repeats_check first kept known is = λ image. by (asked_again (state_in records image) (Check tld day) (OfNotice kept.0 kept.1) now refl (record { kept = kept; found = is; made = refl; registry = ap is_none known })).0
+  repeats_check first kept known is = λ image. by (asked_again (state_in records image) (Check tld day) (OfNotice kept.0 kept.1) now refl (record { kept = kept; found = is; made = refl; registry = ap is_none known }) tt).0
     where
       by : {s : State} → Again s (Check tld day) (OfNotice kept.0 kept.1) now → step s (Check tld day) now ≡ Accept (record { entry = OfNotice kept.0 kept.1; is_repeat = true }) s
       by (inl h) = h

@@ -1,5 +1,5 @@
 -- The days of a registry that have no notice, one day after the other.
-use Rattle.std.proofs.Common.{◌≡◌, ◌≤◌, ◌-◌, ◌+◌, ℕ, List, [], ◌∷◌, ◌++◌, map, not, Bool, true, false, ◌&&◌, ◌||◌, ◌==◌, ◌<◌, length, take, get_or, append-nil, append_assoc, cond, refl, sym, ◌∙◌, ap, arith}
+use Rattle.std.proofs.Common.{◌≡◌, ◌≤◌, ◌-◌, ◌+◌, ℕ, List, [], ◌∷◌, ◌++◌, map, Bool, true, false, ◌&&◌, ◌||◌, ◌==◌, ◌<◌, length, take, get_or, append-nil, append_assoc, cond, refl, sym, ◌∙◌, ap, arith}
 use Rattle.std.specs.List.{filter, flat_map, list_any, range_with_len}
 use Rattle.std.proofs.lemmas.List.{take_more}
 use Rattle.std.specs.FinMap.{entries}
@@ -11,7 +11,6 @@ use Rattle.custody_records.specs.Keys.{NoticeKey, notice_cmp, text_cmp}
 use Rattle.custody_records.specs.Records.{Notice, Records, notices_of}
 use Rattle.custody_records.specs.Tables.{entries_of}
 use Rattle.custody_records.specs.Typed.{notice_key, notice_value}
-use Rattle.custody_machine.specs.Names.{is_same_text}
 use Rattle.custody_machine.specs.State.{has_notice}
 use Rattle.custody_rules.specs.Due.{is_unnoticed}
 use Rattle.custody_rules.proofs.Tables.{any_entries}

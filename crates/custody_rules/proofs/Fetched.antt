@@ -1,5 +1,5 @@
 -- What is fetched of records, whatever the volume holds.
-use Rattle.std.proofs.Common.{◌≡◌, ℕ, List, [], ◌∷◌, map, Some, None, Bool, true, false, ◌||◌, if◌then◌else◌, refl, sym, ◌∙◌, ap, Ok, Err, Vec, Global}
+use Rattle.std.proofs.Common.{◌≡◌, ℕ, List, Some, None, Bool, true, false, if◌then◌else◌, sym, ◌∙◌, ap, Ok, Err}
 use Rattle.std.specs.FinMap.{get}
 use Rattle.std.specs.List.{list_any}
 use Rattle.std.specs.Option.{option_and_then}

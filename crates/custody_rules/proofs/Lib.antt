@@ -15,3 +15,4 @@ pub mod Rivals
 pub mod Tables
 pub mod Releases
 pub mod Telling
+pub mod Holds

@@ -7,18 +7,19 @@ use Rattle.std.specs.FinMap.{get}
 use Rattle.std.proofs.lemmas.Bool.Decides.{Decides-eqb, Decides-and, not_from_Decides, nat_tests}
 use Rattle.desk.specs.declared.notices.Notice as desk
 use Rattle.custody_records.specs.declared.parts.Part.{Part}
+use Rattle.custody_records.specs.declared.holds.Hold as ordered
 use Rattle.custody_records.specs.declared.releases.Release as given
 use Rattle.custody_records.specs.Keys.{PartKey, NoticeKey, text_cmp, part_cmp, notice_cmp}
 use Rattle.custody_records.specs.Orders.{text_total, text_exact, part_total, part_exact, notice_total, notice_exact}
-use Rattle.custody_records.specs.Records.{PartRecord, Notice, Release, Records}
+use Rattle.custody_records.specs.Records.{PartRecord, Notice, Release, Hold, Records}
 use Rattle.custody_records.specs.Tables.{is_rising, table_map}
-use Rattle.custody_records.specs.Typed.{part_place, part_value, notice_key, notice_value, release_key, release_value}
+use Rattle.custody_records.specs.Typed.{part_place, part_value, notice_key, notice_value, release_key, release_value, hold_key, hold_value}
 use Rattle.custody_machine.specs.Names.{read_name}
 use Rattle.custody_machine.specs.State.{at_place, has_notice}
 use Rattle.custody_machine.specs.Machine.{is_failure_of}
 use Rattle.custody_machine.specs.Stored.{AreLinked, is_part_of, names_part, revision_of}
 use Rattle.custody_rules.specs.declared.told.FailedRevision.{FailedRevision}
-use Rattle.custody_rules.specs.Links.{is_part_linked, has_parts, is_notice_linked, is_release_linked, each_passes}
+use Rattle.custody_rules.specs.Links.{is_part_linked, has_parts, is_notice_linked, is_release_linked, is_hold_linked, each_passes}
 use Rattle.custody_rules.specs.Told.{HaveNoRivals}
 use Rattle.custody_rules.proofs.Rivals.{one_verdict, one_receipt, one_absence}
 use Rattle.custody_rules.proofs.Tables.{each_decides, all_rows}
@@ -108,19 +109,23 @@ module _ (records : Records) where
   release_decides : (reference : List ℕ) (release : Release) → Decides (is_release_linked records release) (ReleaseLinks reference release)
   release_decides reference release = Decides-and _ _ (itself _) (itself _)
 
+  abbrev HoldLinks : List ℕ → Hold → Type 0
+  HoldLinks reference hold = is_some (get records.registries hold.tld) ≡ true
+
   -- ---- all of them
 
   abbrev Links : Type 0
   Links = ((key : PartKey) (part : PartRecord) → get records.parts key ≡ Some part → PartLinks key part)
       × (((key : NoticeKey) (notice : Notice) → get records.notices key ≡ Some notice → NoticeLinks key notice)
-      × ((reference : List ℕ) (release : Release) → get records.releases reference ≡ Some release → ReleaseLinks reference release))
+      × (((reference : List ℕ) (release : Release) → get records.releases reference ≡ Some release → ReleaseLinks reference release)
+      × ((reference : List ℕ) (hold : Hold) → get records.holds reference ≡ Some hold → HoldLinks reference hold)))
 
   are_links : AreLinked records → Links
   are_links l = (
     λ key part at. (l.part_registry key part at, (l.series key part at, l.due key part at)),
     (
       λ key notice at. (l.notice_registry key notice at, (l.numbers key notice at, λ rev. l.verdict_parts key notice rev at)),
-      λ reference release at. (l.release_registry reference release at, l.released reference release at),
+      (λ reference release at. (l.release_registry reference release at, l.released reference release at), l.hold_registry),
     ),
   )
 
@@ -135,15 +140,22 @@ module _ (records : Records) where
   abbrev pub releases_test : Bool
   releases_test = each_passes (λ (_ : List ℕ). is_release_linked records) records.releases
 
+  abbrev pub holds_test : Bool
+  holds_test = each_passes (λ (_ : List ℕ). is_hold_linked records) records.holds
+
+  abbrev pub references_test : Bool
+  references_test = releases_test && holds_test
+
   abbrev pub passes : Bool
-  passes = parts_test && (notices_test && releases_test)
+  passes = parts_test && (notices_test && references_test)
 
   -- each record finds among the others what it has to
   each_linked : Decides passes Links
   each_linked =
       Decides-and _ _ (each_decides part_total part_exact (is_part_linked records (has_failed records)) PartLinks part_decides records.parts)
       (Decides-and _ _ (each_decides notice_total notice_exact (is_notice_linked records) NoticeLinks notice_decides records.notices)
-      (each_decides text_total text_exact (λ (_ : List ℕ). is_release_linked records) ReleaseLinks release_decides records.releases))
+      (Decides-and _ _ (each_decides text_total text_exact (λ (_ : List ℕ). is_release_linked records) ReleaseLinks release_decides records.releases)
+      (each_decides text_total text_exact (λ (_ : List ℕ). is_hold_linked records) HoldLinks (λ reference hold. itself _) records.holds)))
 
   pub some_broken : passes ≡ false → ¬ AreLinked records
   some_broken some linked = let all = each_linked.1 (are_links linked) in cc
@@ -161,6 +173,11 @@ module _ (records : Records) where
   releases_pass releases are_releases releases_rise =
       all_rows text_cmp release_key release_value releases records.releases are_releases releases_rise (λ (e : List ℕ × Release). is_release_linked records e.1)
 
+  pub holds_pass : (holds : List ordered.Hold) → records.holds ≡ table_map text_cmp hold_key hold_value holds → is_rising text_cmp hold_key holds ≡ true
+      → list_all (λ (h : ordered.Hold). is_hold_linked records (hold_value h)) holds ≡ holds_test
+  holds_pass holds are_holds holds_rise =
+      all_rows text_cmp hold_key hold_value holds records.holds are_holds holds_rise (λ (e : List ℕ × Hold). is_hold_linked records e.1)
+
 module _ (records : Records) (rows : List desk.Notice) (is : records.notices ≡ table_map notice_cmp notice_key notice_value rows) (rising : is_rising notice_cmp notice_key rows ≡ true) where
   pub notices_pass : list_all (λ (n : desk.Notice). is_notice_linked records (notice_key n) (notice_value n)) rows ≡ notices_test records
   notices_pass = all_rows notice_cmp notice_key notice_value rows records.notices is rising (λ (e : NoticeKey × Notice). is_notice_linked records e.0 e.1)
@@ -170,8 +187,9 @@ module _ (records : Records) (rows : List desk.Notice) (is : records.notices ≡
   links_are only h = record {
     part_registry = λ key part at. (h.0 key part at).0;
     notice_registry = λ key notice at. (h.1.0 key notice at).0;
-    release_registry = λ reference release at. (h.1.1 reference release at).0;
-    released = λ reference release at. (h.1.1 reference release at).1;
+    release_registry = λ reference release at. (h.1.1.0 reference release at).0;
+    hold_registry = h.1.1.1;
+    released = λ reference release at. (h.1.1.0 reference release at).1;
     series = λ key part at. (h.0 key part at).1.0;
     numbers = λ key notice at. (h.1.0 key notice at).1.0;
     verdict_parts = λ key notice rev at. (h.1.0 key notice at).1.1 rev;

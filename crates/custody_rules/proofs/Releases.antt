@@ -54,7 +54,7 @@ module _ (records : Records) (reference tld : List ℕ) (reason : Ground) (now :
 
     pub repeats_release : (kept : recorded_in.Release) → get records.releases reference ≡ Some kept → is_on tld reason kept ≡ true → Decides (Repeats (OfRelease reference kept)) records (Release reference tld reason) now
     repeats_release kept at on = λ image. by (asked_again (state_in records image) (Release reference tld reason) (OfRelease reference kept) now refl
-        (record { kept = kept; found = kept_release_of (state_in records image) reference tld reason kept at on; made = refl; registry = ap is_none known })).0
+        (record { kept = kept; found = kept_release_of (state_in records image) reference tld reason kept at on; made = refl; registry = ap is_none known }) tt).0
       where
         by : {s : State} → Again s (Release reference tld reason) (OfRelease reference kept) now → step s (Release reference tld reason) now ≡ Accept (record { entry = OfRelease reference kept; is_repeat = true }) s
         by (inl h) = h

@@ -78,7 +78,7 @@ module _ (records : Records) (st : statement.Statement) (now : ℕ) where
   refuses_statement q other full first = (other, full, λ image. step_refuses (state_in records image) (Statement st) now q (first image))
 
   pub repeats_statement : (first : ℕ) (kept : NoticeKey × Notice) → get records.registries st.tld ≡ Some first → kept_in records st ≡ Some kept → Decides (Repeats (OfNotice kept.0 kept.1)) records (Statement st) now
-  repeats_statement first kept known is = λ image. by (asked_again (state_in records image) (Statement st) (OfNotice kept.0 kept.1) now refl (record { kept = kept; found = kept_in_state records st image ∙ is; made = refl; registry = ap is_none known })).0
+  repeats_statement first kept known is = λ image. by (asked_again (state_in records image) (Statement st) (OfNotice kept.0 kept.1) now refl (record { kept = kept; found = kept_in_state records st image ∙ is; made = refl; registry = ap is_none known }) tt).0
     where
       by : {s : State} → Again s (Statement st) (OfNotice kept.0 kept.1) now → step s (Statement st) now ≡ Accept (record { entry = OfNotice kept.0 kept.1; is_repeat = true }) s
       by (inl h) = h

@@ -19,6 +19,7 @@ ghost use Rattle.custody_rules.specs.Judged.{recorded_under, is_of_other_kind, R
 
 use crate::checking::judge_check;
 use crate::days::{has_failed, has_receipt, has_verdict_on};
+use crate::holding::{judge_hold, judge_lift};
 use crate::releasing::judge_release;
 use crate::revision::{count_parts, has_other_kind, is_of_kind, part_in};
 use crate::stating::judge_statement;
@@ -43,6 +44,8 @@ pub fn judge<'a>(records: &'a Records, command: &Command<'_>, now: Sec) -> Rulin
         Command::Release(reference, tld, reason) => {
             judge_release(records, *reference, *tld, *reason, now)
         }
+        Command::Hold(reference, tld, day) => judge_hold(records, *reference, *tld, *day, now),
+        Command::Lift(reference) => judge_lift(records, *reference),
         Command::Purge => Ruling::Make(Change::Purge),
     }
 }

@@ -8,6 +8,7 @@ mod days;
 mod due;
 mod extents;
 mod fetching;
+mod holding;
 mod judging;
 mod known;
 mod linked;

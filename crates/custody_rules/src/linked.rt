@@ -1,5 +1,5 @@
 //! Whether the records belong together: each record is looked up among the others.
-ghost use Rattle.std.specs.Prelude.{◌≡◌, ◌&&◌, ◌==◌, true, false, Ok, IfOk};
+ghost use Rattle.std.specs.Prelude.{◌≡◌, ℕ, List, ◌&&◌, ◌==◌, true, false, Ok, IfOk};
 ghost use Rattle.std.specs.BTreeSet.{contains};
 ghost use Rattle.std.specs.FinMap.{get};
 ghost use Rattle.std.specs.List.{list_all, list_any};
@@ -8,13 +8,13 @@ ghost use Rattle.custody_machine.specs.Names.{is_same_text, read_name};
 ghost use Rattle.custody_machine.specs.State.{has_notice};
 ghost use Rattle.custody_machine.specs.Stored.{AreLinked, is_part_of, names_part, revision_of};
 ghost use Rattle.custody_records.specs.Held.{records_of};
-ghost use Rattle.custody_records.specs.Typed.{notice_key, notice_value, part_place, part_value, release_value};
+ghost use Rattle.custody_records.specs.Typed.{notice_key, notice_value, part_place, part_value, release_value, hold_value};
 ghost use Rattle.custody_rules.specs.Orders.{failed_revision_cmp};
-ghost use Rattle.custody_rules.specs.Links.{has_parts, is_due, is_in_series, is_known, is_notice_linked, is_numbered, is_part_linked, is_release_linked};
+ghost use Rattle.custody_rules.specs.Links.{has_parts, is_due, is_in_series, is_known, is_notice_linked, is_numbered, is_part_linked, is_release_linked, is_hold_linked, each_passes};
 
 use crate::revision::has_part_of;
 use crate::told::{FailedRevision, failed_revisions, revision_of};
-use custody_records::{Names, NoticeKey, Part, PartKey, Records, Release};
+use custody_records::{Hold, Names, NoticeKey, Part, PartKey, Records, Release};
 use deposit_name::{DepositName, Kind, Tld};
 use desk::{Notice, NoticeKind};
 use schedule::Day;
@@ -32,7 +32,7 @@ pub(crate) fn are_linked(alloc: Global, records: &Records) -> Result<bool, Alloc
     Ok(
         parts_are_linked(records, &failed, records.parts())
             && notices_are_linked(records, records.notices())
-            && releases_are_linked(records, records.releases()),
+            && references_are_linked(records),
     )
 }
 
@@ -58,6 +58,20 @@ fn releases_are_linked(records: &Records, releases: &[Release]) -> bool
     releases
         .iter()
         .all(|release| release_is_linked(records, release))
+}
+
+/// Whether the releases and the holds belong to the other records.
+fn references_are_linked(records: &Records) -> bool
+    ensures { result ≡ (each_passes (λ (_ : List ℕ). is_release_linked (records_of records.now)) (records_of records.now).releases
+        && each_passes (λ (_ : List ℕ). is_hold_linked (records_of records.now)) (records_of records.now).holds) }
+{
+    releases_are_linked(records, records.releases()) && holds_are_linked(records, records.holds())
+}
+
+fn holds_are_linked(records: &Records, holds: &[Hold]) -> bool
+    ensures { result ≡ list_all (λ h. is_hold_linked (records_of records.now) (hold_value h)) holds.now }
+{
+    holds.iter().all(|hold| is_known(records, &hold.tld))
 }
 
 /// Whether a registry is recorded.

@@ -3,29 +3,33 @@ ghost use Rattle.std.specs.Prelude.{◌≡◌, ℕ, All, IfOk, count_by};
 ghost use Rattle.vault_volume.specs.Extents.{IsExtentOf, IsInAny, AreApart};
 ghost use Rattle.custody_records.specs.Held.{records_of};
 ghost use Rattle.custody_records.specs.Purge.{is_due};
-ghost use Rattle.custody_records.specs.Typed.{part_value};
+ghost use Rattle.custody_records.specs.Typed.{part_place, part_value};
 ghost use Rattle.custody_records.specs.declared.parts.Part.{Part};
 ghost use Rattle.custody_machine.specs.Purge.{IsDueBlock, count_due};
 ghost use Rattle.custody_machine.specs.Stored.{AreInRange, AreOnce};
 ghost use Rattle.custody_rules.specs.Blocks.{all_due, due_of};
 
 use crate::extents::extents_of;
-use custody_records::{Part, Records, is_due};
+use custody_records::{Part, Records};
 use schedule::Day;
 use std::alloc::{AllocError, Global};
 use vault_volume::Extent;
 
-/// How many parts are due: their bytes are held, and the last day of their keeping is before today.
+/// How many parts are due: their bytes are held, the last day of their keeping is before today, and
+/// their day is not on hold.
 pub fn count_due(records: &Records, today: Day) -> usize
     ensures { result ≡ count_due today (records_of records.now) }
 {
-    count_in(records.parts(), today)
+    count_in(records, records.parts(), today)
 }
 
-fn count_in(parts: &[Part], today: Day) -> usize
-    ensures { result ≡ count_by (λ (part : Part). is_due today (part_value part)) parts.now }
+fn count_in(records: &Records, parts: &[Part], today: Day) -> usize
+    ensures { result ≡ count_by (λ (part : Part). is_due (records_of records.now).holds today (part_place part) (part_value part)) parts.now }
 {
-    parts.iter().filter(|part| is_due(part, today)).count()
+    parts
+        .iter()
+        .filter(|part| records.is_due(part, today))
+        .count()
 }
 
 /// The extents of the parts that are due, one after the other.
@@ -36,24 +40,29 @@ pub fn due_extents(alloc: Global, records: &Records, today: Day) -> Result<Vec<E
     ensures in_range { IfOk result (λ due. All (IsExtentOf (records_of records.now).blocks) due.items) }
     ensures apart { IfOk result (λ due. AreApart due.items) }
 {
-    extents_of_due(alloc, records.parts(), today)
+    extents_of_due(alloc, records, records.parts(), today)
 }
 
-fn extents_of_due(alloc: Global, parts: &[Part], today: Day) -> Result<Vec<Extent>, AllocError>
-    ensures { IfOk result (λ due. due.items ≡ all_due today parts.now) }
+fn extents_of_due(
+    alloc: Global,
+    records: &Records,
+    parts: &[Part],
+    today: Day,
+) -> Result<Vec<Extent>, AllocError>
+    ensures { IfOk result (λ due. due.items ≡ all_due (records_of records.now).holds today parts.now) }
 {
     let mut due = Vec::new(alloc);
     for part in parts {
-        due.extend_from_slice(due_of(part, today))?;
+        due.extend_from_slice(due_of(records, part, today))?;
     }
     Ok(due)
 }
 
 /// The extents of the part if it is due, and none if it is not.
-fn due_of(part: &Part, today: Day) -> &[Extent]
-    ensures { result.now ≡ due_of today part.now }
+fn due_of<'a>(records: &Records, part: &'a Part, today: Day) -> &'a [Extent]
+    ensures { result.now ≡ due_of (records_of records.now).holds today part.now }
 {
-    if is_due(part, today) {
+    if records.is_due(part, today) {
         extents_of(part)
     } else {
         &[]

@@ -1,9 +1,9 @@
 //! What records decide of a command.
 use custody_machine::{Refusal, Statement};
-use custody_records::{Part, Registry, Release};
+use custody_records::{Hold, Part, Registry, Release};
 use deposit_name::{DepositName, Reference, Tld};
 use desk::{Ground, Notice};
-use schedule::Day;
+use schedule::{Day, Sec};
 use vault_volume::Extent;
 
 /// What the records decide of a command, whatever the volume holds.
@@ -25,6 +25,9 @@ pub enum Kept<'a> {
     Registry(Registry),
     Notice(Notice),
     Release(&'a Release),
+    Hold(&'a Hold),
+    /// The hold of this reference was lifted at this moment.
+    Lifting(Reference, Sec),
 }
 
 /// The one change of the records that a command makes.
@@ -40,6 +43,10 @@ pub enum Change {
     Absence(Tld, Day),
     /// The deposits of a registry are handed over: a release of its parts that are held is kept.
     Release(Reference, Tld, Ground),
+    /// A day of a registry is held under a reference.
+    Hold(Reference, Tld, Day),
+    /// The hold of a reference is lifted.
+    Lift(Reference),
     /// The bytes that were kept for a year are dropped.
     Purge,
 }

@@ -1,7 +1,6 @@
-use Rattle.std.proofs.Common.{◌≡◌, ◌<◌, ◌≤◌, ◌-◌, ◌++◌, ◌∷◌, [], ◌⊎◌, ℕ, List, Bool, map, not, true, false, cond, is_lt, nat_cmp, refl, sym, ◌∙◌, ap, inl, inr, arith}
+use Rattle.std.proofs.Common.{◌≡◌, ◌<◌, ◌≤◌, ◌-◌, ◌++◌, ◌∷◌, [], ◌⊎◌, ℕ, List, map, not, true, false, cond, is_lt, nat_cmp, refl, sym, ◌∙◌, ap, inl, inr, arith}
 use Rattle.std.proofs.lemmas.Grind.{common_steps}
 use Rattle.std.specs.List.{filter, range_with_len}
-use Rattle.std.specs.BTreeSet.{contains}
 use Rattle.std.proofs.lemmas.List.{append_assoc, map-append}
 use Rattle.custody_records.specs.Held.{records_of}
 use Rattle.custody_machine.specs.State.{has_notice}

@@ -5,7 +5,7 @@ use Rattle.custody_records.specs.Held.{records_of}
 use Rattle.custody_rules.specs.declared.told.FailedRevision.{FailedRevision}
 use Rattle.custody_rules.specs.Orders.{failed_revision_cmp}
 use Rattle.custody_rules.specs.Told.{HaveNoRivals, IsTold, failed_revision_of}
-use Rattle.custody_rules.proofs.LinkLemmas.{all_linked, some_broken, passes, parts_pass, notices_pass, releases_pass, parts_test, notices_test, releases_test}
+use Rattle.custody_rules.proofs.LinkLemmas.{all_linked, some_broken, passes, parts_pass, notices_pass, parts_test, notices_test, references_test}
 use Rattle.custody_rules.proofs.Rivals.{failures_are, linked_only}
 use Rattle.custody_rules.proofs.linked.are_linked.Goals as goal
 use Rattle.custody_rules.proofs.linked.are_linked.Goals.{then-parts_are_linked, else-parts_are_linked, then-notices_are_linked, else-notices_are_linked}
@@ -29,14 +29,12 @@ answer_is c =
           w.value-is ∙ (notices ∙ ap (λ b. b && notices_test all) (sym (sym parts ∙ w.if-parts_are_linked.true)))
       | else-parts_are_linked w ↦ w.value-is ∙ (w.if-parts_are_linked.false ∙ ap (λ b. b && notices_test all) (sym (sym parts ∙ w.if-parts_are_linked.false)))
     ] in
-    let result : c.if-notices_are_linked.result ≡ (c.if-parts_are_linked.value && releases_test all) = elim c.if-notices_are_linked.branch [
+    let result : c.if-notices_are_linked.result ≡ (c.if-parts_are_linked.value && references_test all) = elim c.if-notices_are_linked.branch [
       | then-notices_are_linked w ↦
-          let releases : w.releases_are_linked.result ≡ releases_test all =
-          w.releases_are_linked.ensures ∙ releases_pass all w.releases.result.now w.releases.ensures.all w.releases.ensures.rising in
-          w.result-is ∙ (releases ∙ ap (λ b. b && releases_test all) (sym w.if-notices_are_linked.true))
-      | else-notices_are_linked w ↦ w.result-is ∙ (w.if-notices_are_linked.false ∙ ap (λ b. b && releases_test all) (sym w.if-notices_are_linked.false))
+          w.result-is ∙ (w.references_are_linked.ensures ∙ ap (λ b. b && references_test all) (sym w.if-notices_are_linked.true))
+      | else-notices_are_linked w ↦ w.result-is ∙ (w.if-notices_are_linked.false ∙ ap (λ b. b && references_test all) (sym w.if-notices_are_linked.false))
     ] in
-    both c.if-parts_are_linked.value c.if-notices_are_linked.result (parts_test all) (notices_test all) (releases_test all) value result
+    both c.if-parts_are_linked.value c.if-notices_are_linked.result (parts_test all) (notices_test all) (references_test all) value result
 
 pub returns-in_default-clause-broken : goal.returns-in_default-clause-broken
 returns-in_default-clause-broken c = λ _ linked.
