@@ -1,21 +1,15 @@
 -- A database without tables.
-use Rattle.std.proofs.Common.{◌≡◌, false, codes, ℕ, List, [], ◌∷◌, None, IsTrue, refl, sym, subst, ◌∙◌}
+use Rattle.std.proofs.Common.{◌≡◌, codes, ℕ, List, [], ◌∷◌, None, refl, subst, ◌∙◌}
 use Rattle.std.specs.List.{AllZip}
 use Rattle.sqlite.specs.Order.{Row}
 use Rattle.sqlite.specs.Tree.{Trees}
-use Rattle.sqlite.specs.Effect.{Database, IsDatabase}
+use Rattle.sqlite.specs.Effect.{IsDatabase}
 use Rattle.sqlite.specs.State.{State}
 use Rattle.sqlite_catalog.specs.Listing.{IsTableRow}
 use Rattle.custody_store.specs.Schema.{no_schema}
 use Rattle.custody_store.specs.Reading.{rows_in, no_rows}
 use Rattle.custody_store.specs.Standing.{IsBare}
-use Rattle.custody_store.specs.Calls.{IsSettled}
-use Rattle.custody_store.proofs.CommitLemmas.{at_rest, stands_at}
 use Rattle.custody_store.proofs.TableLemmas.{named, named_in}
-
-pub bare_at : (old new : State) → IsBare old → IsSettled new → (d : Database) → d ≡ old.committed → IsTrue new.is_open → new.in_transaction ≡ false → (new.now ≡ d) × (new.committed ≡ d) → IsBare new × (rows_in new.now.trees ≡ rows_in old.now.trees)
-bare_at old new bare settled d is is_open autocommit both =
-    let still = stands_at old new (at_rest new is_open autocommit (both.1 ∙ sym both.0) settled) (both.0 ∙ is ∙ bare.rest.committed) in (still.bare bare, still.rows)
 
 -- no table is listed
 unlisted : (trees : Trees) (name : List ℕ) → (objects : List Row) → AllZip IsTableRow objects no_schema.tables → named_in name objects ≡ None
@@ -27,4 +21,4 @@ pub rows_bare : (s : State) → IsBare s → rows_in s.now.trees ≡ no_rows
 rows_bare s bare =
     let sound = subst (λ t. IsDatabase (record s.now { schema = t })) bare.schema bare.sound in
     let none = λ (name : List ℕ). named name s.now.trees ∙ unlisted s.now.trees name _ sound.lists.listed.tables in
-    rw (none (codes "meta"), none (codes "registry"), none (codes "part"), none (codes "notice"), none (codes "handover"))
+    rw (none (codes "meta"), none (codes "registry"), none (codes "part"), none (codes "notice"), none (codes "handover"), none (codes "hold"))

@@ -1,5 +1,5 @@
 -- A statement that writes rows, alone and outside a transaction, as one change of the rows.
-use Rattle.std.proofs.Common.{◌≡◌, ◌⊎◌, inl, inr, ℕ, List, None, false, Ok, Err, Result, IsTrue, refl, sym, ap, subst, subst₂, ◌∙◌, append-nil, arith}
+use Rattle.std.proofs.Common.{◌≡◌, ◌⊎◌, inl, inr, ℕ, codes, List, None, false, Ok, Err, Result, IsTrue, refl, sym, ap, subst, subst₂, ◌∙◌, append-nil, arith}
 use Rattle.std.specs.Result.{IsErr}
 use Rattle.sqlite.specs.Order.{Row}
 use Rattle.sqlite.specs.Command.{Command}
@@ -15,10 +15,11 @@ use Rattle.sqlite.specs.State.{State, HasCleanDisk, Survives, Executes, CommitsB
 use Rattle.sqlite.proofs.Callers.{IsPlain, command_of, statement_of, runs_as}
 use Rattle.sqlite.proofs.InsideLemmas.{fails_whole}
 use Rattle.sqlite.specs.Table.{Table}
-use Rattle.custody_store.specs.Schema.{meta_schema, record_schema}
+use Rattle.sqlite.specs.Schema.{Schema}
+use Rattle.custody_store.specs.Schema.{meta_schema, first_schema, record_schema}
 use Rattle.custody_records.specs.Rows.{Rows}
-use Rattle.custody_store.specs.Reading.{rows_in}
-use Rattle.custody_store.specs.Standing.{Standing, HasTables, IsAtRest, IsReady, HasFirst, BeginsWith, AreOrdered, StandsAs, shown, IsOneCommit, Commits}
+use Rattle.custody_store.specs.Reading.{rows_in, has_table}
+use Rattle.custody_store.specs.Standing.{Standing, HasTables, IsAtRest, IsReady, HasFirst, HasTablesFirst, BeginsWith, AreOrdered, StandsAs, shown, IsOneCommit, Commits}
 use Rattle.custody_store.specs.Calls.{IsSettled, Runs}
 use Rattle.custody_store.proofs.ModeLemmas.{ended, runs_mode}
 use Rattle.custody_store.proofs.StatementLemmas.{IsMeaning}
@@ -31,8 +32,8 @@ at_rest s is_open autocommit committed settled = record {
   only = λ rows h. h.2 ∙ ap rows_in (settled h.0 is_open h.1 ∙ ap (λ (d : Database). d.trees) committed);
 }
 
-pub ready_at : (s : State) → IsTrue s.is_open → s.in_transaction ≡ false → s.committed ≡ s.now → IsSettled s → HasTables s.now → IsReady s
-ready_at s is_open autocommit committed settled tables = record { rest = at_rest s is_open autocommit committed settled; tables = tables }
+pub ready_at : (schema : Schema) (s : State) → IsTrue s.is_open → s.in_transaction ≡ false → s.committed ≡ s.now → IsSettled s → HasTables schema s.now → IsReady schema s
+ready_at schema s is_open autocommit committed settled tables = record { rest = at_rest s is_open autocommit committed settled; tables = tables }
 
 first_still : (first : List Table) (old new : State) → IsAtRest new → new.now ≡ old.now → HasFirst first old → HasFirst first new
 first_still first old new rest now h = record {
@@ -42,13 +43,23 @@ first_still first old new rest now h = record {
   ordered = subst (λ (d : Database). AreOrdered first d.trees) (sym now) h.ordered;
 }
 
+tables_still : (old new : State) → IsAtRest new → new.now ≡ old.now → HasTablesFirst old → HasTablesFirst new
+tables_still old new rest now h = (
+  first_still first_schema.tables old new rest now h.0,
+  λ there. first_still record_schema.tables old new rest now (h.1 (sym (ap (λ (d : Database). has_table (codes "hold") d.schema) now) ∙ there)),
+)
+
+ready_still : (schema : Schema) (old new : State) → IsAtRest new → new.now ≡ old.now → IsReady schema old → IsReady schema new
+ready_still schema old new rest now ready = record { rest = rest; tables = subst (HasTables schema) (sym now) ready.tables }
+
 -- the same database, at rest
 pub stands_at : (old new : State) → IsAtRest new → new.now ≡ old.now → StandsAs (shown old) (shown new)
 stands_at old new rest now = record {
   rows = ap (λ (d : Database). rows_in d.trees) now;
   rest = rest;
-  ready = λ ready. record { rest = rest; tables = subst HasTables (sym now) ready.tables };
-  first_tables = first_still record_schema.tables old new rest now;
+  ready = ready_still record_schema old new rest now;
+  earlier = ready_still first_schema old new rest now;
+  first_tables = tables_still old new rest now;
   first_meta = first_still meta_schema.tables old new rest now;
   bare = λ bare. record { rest = rest; schema = ap (λ (d : Database). d.schema) now ∙ bare.schema; sound = subst IsDatabase (sym now) bare.sound };
 }
@@ -62,7 +73,7 @@ stands old new was settled (inr undone) is_open =
     let both = undone.undone is_open in
     stands_at old new (at_rest new is_open undone.autocommit (both.1 ∙ sym both.0) settled) (both.0 ∙ was.committed)
 
-kept : (old new : State) → IsReady old → IsSettled new → IsUnchanged old new ⊎ IsRolledBack old new → IsTrue new.is_open → IsReady new × (rows_in new.now.trees ≡ rows_in old.now.trees)
+kept : (old new : State) → IsReady record_schema old → IsSettled new → IsUnchanged old new ⊎ IsRolledBack old new → IsTrue new.is_open → IsReady record_schema new × (rows_in new.now.trees ≡ rows_in old.now.trees)
 kept old new ready settled either is_open = let still = stands old new ready.rest settled either is_open in (still.ready ready, still.rows)
 
 -- honesty goes backwards
@@ -90,7 +101,7 @@ Makes s sql params command db =
 abbrev pub Changes : State → List ℕ → Row → Command → (Rows → Rows) → Type 0
 Changes s sql params command change =
     (tally : Tally) (after : Database) → Does s.step_limit (mode_of s) params s.now (statement_of sql (understood record_schema sql)) None command (Ok (tally, after)) → IsDatabase after
-    → HasTables after × (rows_in after.trees ≡ change (rows_in s.now.trees))
+    → HasTables record_schema after × (rows_in after.trees ≡ change (rows_in s.now.trees))
 
 module _ (sql : List ℕ) (params : Row) (command : Command) (means : IsMeaning sql command) (writes : WritesRows command) where
   commits_as : (s : State) (db : Trees) → s.now.schema ≡ record_schema → CommitsBy sql params s db → Makes s sql params command db
@@ -104,31 +115,31 @@ module _ (sql : List ℕ) (params : Row) (command : Command) (means : IsMeaning 
         | inr wrote ↦ (wrote.1, wrote.2, wrote.3, wrote.4, wrote.5)
       ]
 
-  pub written : (old new : State) (count : ℕ) → Executes sql params old new (Ok count) → IsReady old → Writes old new None command (statement_of sql (understood record_schema sql)) params count
-  written old new count h ready = writes.runs old new _ params count (runs_as sql params old new record_schema ready.tables.schema command means.is means.plain count h)
+  pub written : (old new : State) (count : ℕ) → Executes sql params old new (Ok count) → IsReady record_schema old → Writes old new None command (statement_of sql (understood record_schema sql)) params count
+  written old new count h ready = writes.runs old new _ params count (runs_as sql params old new record_schema ready.tables.schema_is command means.is means.plain count h)
 
-  module _ (old new : State) (change : Rows → Rows) (effect : IsReady old → Changes old sql params command change) (settled : IsSettled new) (survives : Survives old new (CommitsBy sql params old)) where
-    left : IsReady old → HasCleanDisk new → (rows : Rows) → (shown new).may_leave rows → (shown old).may_leave rows ⊎ (rows ≡ change (rows_in old.now.trees))
+  module _ (old new : State) (change : Rows → Rows) (effect : IsReady record_schema old → Changes old sql params command change) (settled : IsSettled new) (survives : Survives old new (CommitsBy sql params old)) where
+    left : IsReady record_schema old → HasCleanDisk new → (rows : Rows) → (shown new).may_leave rows → (shown old).may_leave rows ⊎ (rows ≡ change (rows_in old.now.trees))
     left ready clean rows h = elim (survives.crash clean h.0 h.1) [
       | inl before ↦ inl (h.0, before, h.2)
-      | inr made ↦ let it = commits_as old h.0 ready.tables.schema made in inr (h.2 ∙ ap rows_in it.4 ∙ (effect ready it.0 it.1 it.2 it.3).1)
+      | inr made ↦ let it = commits_as old h.0 ready.tables.schema_is made in inr (h.2 ∙ ap rows_in it.4 ∙ (effect ready it.0 it.1 it.2 it.3).1)
     ]
 
-    wrote : {A E : Type 0} (x : A) (count : ℕ) → Executes sql params old new (Ok count) → HasCleanDisk new → IsReady old → IsOneCommit {E = E} (shown old) (shown new) (change (rows_in old.now.trees)) (Ok x)
+    wrote : {A E : Type 0} (x : A) (count : ℕ) → Executes sql params old new (Ok count) → HasCleanDisk new → IsReady record_schema old → IsOneCommit {E = E} (shown old) (shown new) (change (rows_in old.now.trees)) (Ok x)
     wrote x count h clean ready =
         let w = written old new count h ready in
         let made = effect ready w.tally new.now w.changed w.sound in
         let committed : new.committed ≡ new.now = rw ready.rest.autocommit at w.shown.committed_is in
         let autocommit = w.shown.mode ∙ ready.rest.autocommit in
-        record { done = (ready_at new w.shown.is_open autocommit committed settled made.0, made.1); kept = tt; left = left ready clean; ended = autocommit }
+        record { done = (ready_at record_schema new w.shown.is_open autocommit committed settled made.0, made.1); kept = tt; left = left ready clean; ended = autocommit }
 
-    failed : {A E : Type 0} (x : E) (e : Error) → Executes sql params old new (Err e) → HasCleanDisk new → IsReady old → IsOneCommit {A = A} (shown old) (shown new) (change (rows_in old.now.trees)) (Err x)
+    failed : {A E : Type 0} (x : E) (e : Error) → Executes sql params old new (Err e) → HasCleanDisk new → IsReady record_schema old → IsOneCommit {A = A} (shown old) (shown new) (change (rows_in old.now.trees)) (Err x)
     failed x e h clean ready =
         let whole = fails_whole old new false sql params e h in
         record { done = tt; kept = kept old new ready settled whole; left = left ready clean; ended = ended old new ready.rest.autocommit whole }
 
   -- One statement that writes rows is one commit.
-  pub commits_change : {A E : Type 0} (old new : State) (change : Rows → Rows) (r : Result A E) → (IsReady old → Changes old sql params command change) → Runs sql params old new r → Commits (shown old) (shown new) (change (rows_in old.now.trees)) r
+  pub commits_change : {A E : Type 0} (old new : State) (change : Rows → Rows) (r : Result A E) → (IsReady record_schema old → Changes old sql params command change) → Runs sql params old new r → Commits (shown old) (shown new) (change (rows_in old.now.trees)) r
   commits_change old new change (Ok x) effect runs = record {
     trust = trusts old new _ runs.survives;
     mode = runs_mode sql params old new (Ok x) means.changes runs;

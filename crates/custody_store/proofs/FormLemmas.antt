@@ -1,16 +1,24 @@
 -- What the rows of meta say, and the rows of a table as records of new keys.
-use Rattle.std.proofs.Common.{◌≡◌, ℕ, ◌+◌, ◌<◌, ◌≤◌, Bool, true, false, cond, List, [], ◌∷◌, length, map, drop, get_or, Option, Some, None, refl, sym, ap, ◌∙◌, arith}
-use Rattle.std.specs.Prelude.{option_map, slice_get}
+use Rattle.std.proofs.Common.{◌≡◌, inl, inr, ℕ, ◌+◌, ◌<◌, ◌≤◌, Bool, true, false, cond, List, [], ◌∷◌, length, map, drop, get_or, Option, Some, None, refl, sym, ap, ◌∙◌, arith}
+use Rattle.std.specs.Prelude.{option_map, slice_get, is_some, not, ◌&&◌, Result, Ok, Err, MatchResult}
 use Rattle.std.specs.Option.{option_and_then}
 use Rattle.std.specs.declared.cmp.Ordering.{Ordering}
 use Rattle.std.specs.FinMap.{FinMap}
 use Rattle.std.proofs.Math.Bool.{and-false}
+use Rattle.std.proofs.lemmas.Bool.{false≢true, cases_Bool}
 use Rattle.std.proofs.lemmas.List.{drop_more}
+use Rattle.custody_records.specs.declared.damage.Damage.{Damage}
 use Rattle.custody_records.specs.declared.damage.Damage.TheVariants as damage
 use Rattle.custody_records.specs.declared.meta.Meta.{Meta}
-use Rattle.custody_records.specs.Rows.{MetaRow, Rows}
+use Rattle.custody_records.specs.declared.records.Records.{Records as Held}
+use Rattle.custody_records.specs.Held.{records_of}
+use Rattle.custody_records.specs.Keys.{text_cmp, part_cmp, notice_cmp}
+use Rattle.custody_records.specs.Records.{PartRecord, Notice, Release}
+use Rattle.custody_records.specs.Rows.{MetaRow, HoldRow, Rows}
 use Rattle.custody_records.specs.Typed.{meta_of, volume_of}
-use Rattle.custody_records.specs.Form.{natural, number_in, is_number, is_meta, is_known, gather, records_in, in_form_or, OutOfForm, form_after, form_of}
+use Rattle.custody_records.specs.Form.{natural, number_in, is_schema, has_holds, holds_in, is_meta, is_known, are_none, gather, gathered, all_records, registry_in, part_in, notice_in, release_in, records_in, in_form_or, Form, InForm, OutOfForm, form_after, form_of}
+use Rattle.custody_store.specs.declared.faults.StoreFault.{StoreFault}
+use Rattle.custody_store.specs.declared.faults.StoreFault.TheVariants.{Damaged}
 use Rattle.custody_records.proofs.Gathered.{gather_append}
 use Rattle.custody_records.proofs.ReadLemmas.{some_same}
 use Rattle.custody_records.proofs.MetaLemmas.{volume_of-meta_of}
@@ -21,25 +29,57 @@ value : {X : Type 0} (b : Bool) (x y : X) → cond b (Some x) None ≡ Some y �
 value true x y e = (refl, (let same = e in cc))
 value false x y e = absurd (let clash = e in cc)
 
-pub many : (metas : List MetaRow) (m : Meta) (rest : Rows) → option_map meta_of (slice_get metas 0) ≡ Some m → is_number 1 m.schema_no ≡ true → 1 < length metas → form_after metas rest ≡ OutOfForm damage.Form
+pub many : (metas : List MetaRow) (m : Meta) (rest : Rows) → option_map meta_of (slice_get metas 0) ≡ Some m → is_schema m.schema_no ≡ true → 1 < length metas → form_after metas rest ≡ OutOfForm damage.Form
 many [] m rest first good more = absurd (let clash = first in cc)
 many (meta ∷ []) m rest first good more = absurd (omega arith)
 many (meta ∷ (other ∷ others)) m rest first good more =
-    let known : is_known meta ≡ true = ap (λ (x : Meta). is_number 1 x.schema_no) (some_same (meta_of meta) m first) ∙ good in rw (known, and-false (is_meta meta)) refl
+    let known : is_known meta ≡ true = ap (λ (x : Meta). is_schema x.schema_no) (some_same (meta_of meta) m first) ∙ good in rw (known, and-false (is_meta meta)) refl
 
-pub volume : (metas : List MetaRow) (m : Meta) (v : ℕ × ℕ) (rest : Rows) → option_map meta_of (slice_get metas 0) ≡ Some m → is_number 1 m.schema_no ≡ true → length metas ≤ 1 → volume_of m ≡ Some v
-    → form_after metas rest ≡ in_form_or damage.Form (records_in v.0 v.1 rest)
+no_holds : (number blocks : ℕ) (r : Option (FinMap text_cmp ℕ)) (p : Option (FinMap part_cmp PartRecord)) (n : Option (FinMap notice_cmp Notice)) (o : Option (FinMap text_cmp Release)) → all_records number blocks r p n o None ≡ None
+no_holds number blocks None p n o = refl
+no_holds number blocks (Some r) None n o = refl
+no_holds number blocks (Some r) (Some p) None o = refl
+no_holds number blocks (Some r) (Some p) (Some n) None = refl
+no_holds number blocks (Some r) (Some p) (Some n) (Some o) = refl
+
+disagree : (with_holds : Bool) (rows : Option (List HoldRow)) → is_some rows ≡ not with_holds → holds_in with_holds rows ≡ None
+disagree true None apart = refl
+disagree true (Some rows) apart = absurd (false≢true (sym apart))
+disagree false None apart = absurd (false≢true apart)
+disagree false (Some rows) apart = refl
+
+-- a table of holds in schema 1, or none in schema 2
+pub mismatch : (metas : List MetaRow) (m : Meta) (rest : Rows) → option_map meta_of (slice_get metas 0) ≡ Some m → is_schema m.schema_no ≡ true → is_some rest.holds ≡ not (has_holds m.schema_no) → form_after metas rest ≡ OutOfForm damage.Form
+mismatch [] m rest first good apart = absurd (let clash = first in cc)
+mismatch (meta ∷ others) m rest first good apart =
+    let same = some_same (meta_of meta) m first in
+    let known : is_known meta ≡ true = ap (λ (x : Meta). is_schema x.schema_no) same ∙ good in
+    let none : holds_in (has_holds meta.schema_no) rest.holds ≡ None = disagree (has_holds meta.schema_no) rest.holds (apart ∙ sym (ap (λ (x : Meta). not (has_holds x.schema_no)) same)) in
+    elim (cases_Bool (is_meta meta && are_none others)) [
+      | inl good ↦ rw (known, good, none, no_holds (number_in meta.number) (natural meta.blocks) (gathered registry_in rest.registries) (gathered part_in rest.parts) (gathered notice_in rest.notices) (gathered release_in rest.handovers)) refl
+      | inr bad ↦ rw (known, bad) refl
+    ]
+
+pub volume : (metas : List MetaRow) (m : Meta) (v : ℕ × ℕ) (rest : Rows) → option_map meta_of (slice_get metas 0) ≡ Some m → is_schema m.schema_no ≡ true → length metas ≤ 1 → volume_of m ≡ Some v
+    → form_after metas rest ≡ in_form_or damage.Form (records_in (has_holds m.schema_no) v.0 v.1 rest)
 volume [] m v rest first good few some = absurd (let clash = first in cc)
 volume (meta ∷ (other ∷ others)) m v rest first good few some = absurd (omega arith)
 volume (meta ∷ []) m v rest first good few some =
     let same = some_same (meta_of meta) m first in
-    let known : is_known meta ≡ true = ap (λ (x : Meta). is_number 1 x.schema_no) same ∙ good in
+    let known : is_known meta ≡ true = ap (λ (x : Meta). is_schema x.schema_no) same ∙ good in
     let in_form = value (is_meta meta) (number_in meta.number, natural meta.blocks) v (sym (volume_of-meta_of meta) ∙ ap volume_of same ∙ some) in
-    rw (known, in_form.0) (ap (λ (p : ℕ × ℕ). in_form_or damage.Form (records_in p.0 p.1 rest)) in_form.1)
+    rw (known, in_form.0) (ap (λ (p : ℕ × ℕ). in_form_or damage.Form (records_in (has_holds meta.schema_no) p.0 p.1 rest)) in_form.1 ∙ ap (λ (x : Meta). in_form_or damage.Form (records_in (has_holds x.schema_no) v.0 v.1 rest)) same)
 
 pub form_is : (metas : List MetaRow) (rows : Rows) → rows.meta ≡ Some metas → form_of rows ≡ form_after metas rows
 unfolding form_of
 form_is metas rows is = rw is refl
+
+-- what all rows stand for, where the rows but meta were read
+pub read_form : (form : Form) (read : Rows → Form) (rows : Rows) (r : Result Held StoreFault) → form ≡ read rows
+    → MatchResult r (λ records. (rest : Rows) → read rest ≡ InForm (records_of records)) (λ e. (why : Damage) → e ≡ Damaged why → (rest : Rows) → read rest ≡ OutOfForm why)
+    → MatchResult r (λ records. form ≡ InForm (records_of records)) (λ e. (why : Damage) → e ≡ Damaged why → form ≡ OutOfForm why)
+read_form form read rows (Ok records) is h = is ∙ h rows
+read_form form read rows (Err e) is h = λ why same. is ∙ h why same rows
 
 -- ---- the rows in turn
 

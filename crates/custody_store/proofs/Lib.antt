@@ -4,9 +4,13 @@ pub mod TableLemmas
 pub mod InsertLemmas
 pub mod EditLemmas
 pub mod UpdateLemmas
+pub mod ColumnLemmas
+pub mod TestLemmas
 pub mod CommitLemmas
 pub mod RowLemmas
+pub mod HoldLemmas
 pub mod DropLemmas
+pub mod LiftLemmas
 pub mod BareLemmas
 pub mod QueryLemmas
 pub mod SelectLemmas
@@ -14,6 +18,7 @@ pub mod FindLemmas
 pub mod ReadLemmas
 pub mod MakingLemmas
 pub mod ModeLemmas
-pub mod FoundLemmas
+pub mod EndLemmas
 pub mod FormLemmas
 pub mod MissingLemmas
+pub mod MigrationLemmas

@@ -20,7 +20,6 @@ use Rattle.sqlite.specs.Command.TheVariants.{Insert}
 use Rattle.sqlite.specs.Edit.{edit_of}
 use Rattle.sqlite.specs.Rowids.TheVariants.{Chosen}
 use Rattle.sqlite.specs.Tree.{put_row}
-use Rattle.sqlite.specs.Effect.{IsDatabase}
 use Rattle.sqlite.specs.Does.{Does}
 use Rattle.sqlite.specs.State.{mode_of}
 use Rattle.sqlite.proofs.Callers.{one_step}
@@ -29,9 +28,9 @@ use Rattle.sqlite_rules.specs.Edit.{with_rowid}
 use Rattle.custody_store.specs.Schema.{record_schema, meta_table}
 use Rattle.custody_records.specs.Rows.{fresh}
 use Rattle.custody_store.specs.Reading.{rows_in}
-use Rattle.custody_store.specs.Making.{IsMade}
+use Rattle.custody_store.specs.Making.{IsMade, none_in}
 use Rattle.custody_store.proofs.StatementLemmas.{insert_meta_text, meta_source, insert_meta_is}
-use Rattle.custody_store.proofs.TableLemmas.{rows_held, held_rows}
+use Rattle.custody_store.proofs.TableLemmas.{rows_held, held_rows, sound_as}
 use Rattle.custody_store.proofs.InsertLemmas.{went, same_value, puts}
 use Rattle.custody_store.proofs.RowLemmas.{cast_null, cast_int, at_tree}
 use Rattle.sqlite_resolve.specs.declared.compiled.Compiled.{Compiled}
@@ -42,17 +41,17 @@ all_push : {X : Type 0} (P : X → Type 0) (xs : List X) (x : X) → AllByRecurs
 all_push P [] x all h = (h, tt)
 all_push P (y ∷ xs) x all h = (all.0, all_push P xs x all.1 h)
 
-still_empty : (old new : Trees) (tables : List Table) → KeepsRows tables old new → AllByRecursion (λ t. old t.tree ≡ []) tables → AllByRecursion (λ t. new t.tree ≡ []) tables
-still_empty old new [] kept none = tt
-still_empty old new (t ∷ tables) kept none = (kept.0 ∙ none.0, still_empty old new tables kept.1 none.1)
+still_are : (rows old new : Trees) (tables : List Table) → KeepsRows tables old new → AllByRecursion (λ t. old t.tree ≡ rows t.tree) tables → AllByRecursion (λ t. new t.tree ≡ rows t.tree) tables
+still_are rows old new [] kept are = tt
+still_are rows old new (t ∷ tables) kept are = (kept.0 ∙ are.0, still_are rows old new tables kept.1 are.1)
 
 meant : (sql : List ℕ) (table : Table) (r : Result Compiled CompileError) → MakesOf sql table r → (command_of r ≡ CreateTable) × (table_defined_by (statement_of sql r) ≡ Ok table)
 meant sql table (Ok c) h = h
 meant sql table (Err e) h = absurd h
 
-pub makes : (sql : List ℕ) (old new : State) (count : ℕ) → ExecutesInside 0 sql [] old new (Ok count) → (schema : Schema) (table : Table) (first : Database) → IsTextOf schema sql table → IsMaking schema first old
-    → IsMaking (created schema table) first new
-makes sql old new count h schema table first text making =
+pub makes : (sql : List ℕ) (old new : State) (count : ℕ) → ExecutesInside 0 sql [] old new (Ok count) → (schema : Schema) (table : Table) (first : Database) (rows : Trees) → rows (next_tree schema) ≡ [] → IsTextOf schema sql table → IsMaking schema first rows old
+    → IsMaking (created schema table) first rows new
+makes sql old new count h schema table first rows none text making =
     let means = meant sql table (understood schema sql) text.means in
     let w = subst (λ t. Writes old new None CreateTable t [] count) refl (runs_as sql [] old new schema making.schema_is CreateTable means.0 text.plain count h.0) in
     let all = went w.changed in
@@ -72,19 +71,19 @@ makes sql old new count h schema table first text making =
       committed = h.1.committed_is ∙ making.committed;
       schema_is = ap (λ (d : Database). d.schema) now ∙ after;
       sound = w.sound;
-      empty = subst (λ (t : Trees). AllByRecursion (λ u. t u.tree ≡ []) (created schema table).tables) (sym trees) (all_push (λ t. one.0.trees t.tree ≡ []) schema.tables _ (still_empty old.now.trees one.0.trees schema.tables others making.empty) fresh);
+      rows_are = subst (λ (t : Trees). AllByRecursion (λ u. t u.tree ≡ rows u.tree) (created schema table).tables) (sym trees) (all_push (λ t. one.0.trees t.tree ≡ rows t.tree) schema.tables _ (still_are rows old.now.trees one.0.trees schema.tables others making.rows_are) (fresh ∙ sym none));
     }
 
 -- ---- the row of meta
 
 module _ (number : List ℕ) (blocks : ℤ) where
   abbrev source : Row
-  source = Int (pos 1) ∷ Null ∷ Int (pos 1) ∷ Text number ∷ Int blocks ∷ []
+  source = Int (pos 1) ∷ Null ∷ Int (pos 2) ∷ Text number ∷ Int blocks ∷ []
 
   typed : cast_row (at_tree 0 meta_table) source ≡ source
-  typed = rw (cast_int (pos 1), cast_null, cast_int blocks) refl
+  typed = rw (cast_int (pos 1), cast_int (pos 2), cast_null, cast_int blocks) refl
 
-  pub puts_meta : (first : Database) (old new : State) (count : ℕ) → IsMaking record_schema first old → ExecutesInside 0 insert_meta_text (Text number ∷ Int blocks ∷ []) old new (Ok count) → IsMade number blocks first new
+  pub puts_meta : (first : Database) (old new : State) (count : ℕ) → IsMaking record_schema first none_in old → ExecutesInside 0 insert_meta_text (Text number ∷ Int blocks ∷ []) old new (Ok count) → IsMade (fresh number blocks) first new
   puts_meta first old new count making h =
       let params = Text number ∷ Int blocks ∷ [] in
       let trees = old.now.trees in
@@ -96,19 +95,20 @@ module _ (number : List ℕ) (blocks : ℤ) where
       let edit = edit_of trees (at_tree 0 meta_table) [] Chosen 0 (source ∷ []) in
       let wrote = subst (λ rows. EditWrites record_schema (mode_of old).keys trees (edit_of trees (at_tree 0 meta_table) [] Chosen 0 rows) (Ok new.now.trees)) it.source.1 it.applied in
       let put = one_step record_schema (mode_of old).keys trees new.now.trees edit refl wrote in
-      let empty = making.empty in
+      let empty = making.rows_are in
       let rows : new.now.trees 0 ≡ source ∷ [] = put.rows ∙ ap (λ row. put_row (with_rowid Chosen (trees 0) row) (trees 0)) typed ∙ ap (put_row source) empty.0 in
       let registries : new.now.trees 1 ≡ [] = put.tables.1.0 (λ e. omega (arith, e)) ∙ empty.1.0 in
       let parts : new.now.trees 3 ≡ [] = put.tables.1.1.0 (λ e. omega (arith, e)) ∙ empty.1.1.0 in
       let notices : new.now.trees 5 ≡ [] = put.tables.1.1.1.0 (λ e. omega (arith, e)) ∙ empty.1.1.1.0 in
       let handovers : new.now.trees 7 ≡ [] = put.tables.1.1.1.1.0 (λ e. omega (arith, e)) ∙ empty.1.1.1.1.0 in
+      let holds : new.now.trees 9 ≡ [] = put.tables.1.1.1.1.1.0 (λ e. omega (arith, e)) ∙ empty.1.1.1.1.1.0 in
       let schema : new.now.schema ≡ record_schema = it.schema in
-      let now : rows_in new.now.trees ≡ held_rows new.now.trees = rows_held new.now.trees (subst (λ t. IsDatabase (record new.now { schema = t })) schema w.sound) in
-      let same : held_rows new.now.trees ≡ fresh number blocks = rw (rows, registries, parts, notices, handovers) refl in
+      let now : rows_in new.now.trees ≡ held_rows new.now.trees = rows_held new.now.trees (sound_as record_schema new.now schema w.sound) in
+      let same : held_rows new.now.trees ≡ fresh number blocks = rw (rows, registries, parts, notices, handovers, holds) refl in
       record {
         is_open = w.shown.is_open;
         inside = h.1.mode;
         committed = h.1.committed_is ∙ making.committed;
-        tables = record { schema = schema; sound = w.sound; ordered = rw (rows, registries, parts, notices, handovers) (((tt, tt), (refl, tt)), ((tt, tt), ((tt, tt), ((tt, tt), ((tt, tt), tt))))) };
-        rows = now ∙ same;
+        tables = record { schema_is = schema; sound = w.sound; ordered = rw (rows, registries, parts, notices, handovers, holds) (((tt, tt), (refl, tt)), ((tt, tt), ((tt, tt), ((tt, tt), ((tt, tt), ((tt, tt), tt)))))) };
+        rows_are = now ∙ same;
       }

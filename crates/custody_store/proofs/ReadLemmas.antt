@@ -1,14 +1,15 @@
 -- Calls that only read, one after another; and which tables are there.
-use Rattle.std.proofs.Common.{◌≡◌, ◌&&◌, ◌++◌, ℕ, List, [], Bool, true, codes, drop, Ok, Err, Result, OnOk, refl, ap, ◌∙◌}
+use Rattle.std.proofs.Common.{◌≡◌, ◌&&◌, ◌++◌, ℕ, List, [], Bool, true, false, codes, drop, Ok, Err, Result, OnOk, refl, sym, ap, ◌∙◌, append-nil}
 use Rattle.std.specs.List.{list_any}
 use Rattle.std.specs.Result.{IsErr}
+use Rattle.std.proofs.lemmas.Bool.{false≢true}
 use Rattle.sqlite.specs.Schema.{Schema}
 use Rattle.sqlite.specs.State.{State}
 use Rattle.sqlite.specs.Table.{Table}
 use Rattle.sqlite_schema.specs.Names.{same_name}
-use Rattle.custody_store.specs.Schema.{meta_schema, record_schema}
+use Rattle.custody_store.specs.Schema.{meta_schema, first_schema, record_schema}
 use Rattle.custody_store.specs.Reading.{has_table}
-use Rattle.custody_store.specs.Standing.{Standing, IsReady, HasFirst, StandsAs, shown, has_all, Reads}
+use Rattle.custody_store.specs.Standing.{Standing, IsReady, HasFirst, HasTablesFirst, StandsAs, shown, has_all, Reads}
 use Rattle.custody_store.proofs.CommitLemmas.{stands_at}
 
 pub on_ok : {A E : Type 0} (r : Result A E) {P : Type 0} → P → OnOk r P
@@ -31,6 +32,7 @@ stands_then a b c p q = record {
   rows = q.rows ∙ p.rows;
   rest = q.rest;
   ready = λ h. q.ready (p.ready h);
+  earlier = λ h. q.earlier (p.earlier h);
   first_tables = λ h. q.first_tables (p.first_tables h);
   first_meta = λ h. q.first_meta (p.first_meta h);
   bare = λ h. q.bare (p.bare h);
@@ -64,21 +66,44 @@ reads_answers old new x r p = record { trust = p.trust; mode = p.mode; commits_n
 
 -- ---- the tables
 
--- the five are the first where there are no others
-pub first_of_ready : (s : State) → IsReady s → HasFirst record_schema.tables s
-first_of_ready s ready = record {
+abbrev pub any_named : List ℕ → List Table → Bool
+any_named name = list_any (λ t. same_name t.name name)
+
+pub holds_apart : any_named (codes "hold") first_schema.tables ≡ false
+unfolding same_name
+holds_apart = refl
+
+-- the tables of a schema are the first where there are no others
+first_of : (schema : Schema) (s : State) → IsReady schema s → HasFirst schema.tables s
+first_of schema s ready = record {
   rest = ready.rest;
-  begins = ([], ap (λ (t : Schema). t.tables) ready.tables.schema);
+  begins = ([], ap (λ (t : Schema). t.tables) ready.tables.schema_is ∙ sym (append-nil schema.tables));
   sound = ready.tables.sound;
   ordered = ready.tables.ordered;
 }
 
--- and meta is the first of the five
-pub meta_of_first : (s : State) → HasFirst record_schema.tables s → HasFirst meta_schema.tables s
-meta_of_first s at = record { rest = at.rest; begins = (drop 1 record_schema.tables ++ at.begins.0, at.begins.1); sound = at.sound; ordered = (at.ordered.0, tt) }
+-- the five are the first of the six
+five_of_six : (s : State) → HasFirst record_schema.tables s → HasFirst first_schema.tables s
+five_of_six s at = record {
+  rest = at.rest;
+  begins = (drop 5 record_schema.tables ++ at.begins.0, at.begins.1);
+  sound = at.sound;
+  ordered = let up = at.ordered in (up.0, (up.1.0, (up.1.1.0, (up.1.1.1.0, (up.1.1.1.1.0, tt)))));
+}
 
-abbrev any_named : List ℕ → List Table → Bool
-any_named name = list_any (λ t. same_name t.name name)
+pub first_of_ready : (s : State) → IsReady record_schema s → HasTablesFirst s
+first_of_ready s ready = let six = first_of record_schema s ready in (five_of_six s six, λ _. six)
+
+-- where there is no table of holds, nothing is said of it
+pub first_of_earlier : (s : State) → IsReady first_schema s → HasTablesFirst s
+first_of_earlier s ready = (
+  first_of first_schema s ready,
+  λ there. absurd (false≢true (sym (ap (λ (t : Schema). any_named (codes "hold") t.tables) ready.tables.schema_is ∙ holds_apart) ∙ there)),
+)
+
+-- and meta is the first of the five
+pub meta_of_first : (s : State) → HasTablesFirst s → HasFirst meta_schema.tables s
+meta_of_first s h = let at = h.0 in record { rest = at.rest; begins = (drop 1 first_schema.tables ++ at.begins.0, at.begins.1); sound = at.sound; ordered = (at.ordered.0, tt) }
 
 has_meta : (others : List Table) → any_named (codes "meta") (meta_schema.tables ++ others) ≡ true
 unfolding same_name
@@ -90,9 +115,9 @@ meta_there s at = ap (any_named (codes "meta")) at.begins.1 ∙ has_meta at.begi
 abbrev all_named : List Table → Bool
 all_named tables = any_named (codes "meta") tables && any_named (codes "registry") tables && any_named (codes "part") tables && any_named (codes "notice") tables && any_named (codes "handover") tables
 
-has_all_five : (others : List Table) → all_named (record_schema.tables ++ others) ≡ true
+has_all_five : (others : List Table) → all_named (first_schema.tables ++ others) ≡ true
 unfolding same_name
 has_all_five others = refl
 
-pub all_there : (s : State) → HasFirst record_schema.tables s → has_all (shown s) ≡ true
-all_there s at = ap all_named at.begins.1 ∙ has_all_five at.begins.0
+pub all_there : (s : State) → HasTablesFirst s → has_all (shown s) ≡ true
+all_there s at = ap all_named at.0.begins.1 ∙ has_all_five at.0.begins.0

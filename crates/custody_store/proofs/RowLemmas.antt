@@ -1,9 +1,10 @@
 -- Each INSERT adds one row at the end of its table.
-use Rattle.std.proofs.Common.{◌≡◌, ℕ, ℤ, List, [], ◌∷◌, Bool, true, false, cond, Some, None, Ok, Result, slice_get, refl, sym, ap, subst, ◌∙◌, arith}
+use Rattle.std.proofs.Common.{◌≡◌, ℕ, ℤ, List, [], ◌∷◌, Bool, true, false, cond, Option, Some, None, Ok, Result, slice_get, refl, sym, ap, subst, ◌∙◌, arith}
 use Rattle.std.proofs.lemmas.List.{map-append}
 use Rattle.sqlite.specs.declared.types.Value.{Value}
 use Rattle.sqlite.specs.declared.types.Value.TheVariants.{Null, Int, Text, Blob}
 use Rattle.sqlite.specs.Order.{Row}
+use Rattle.sqlite.specs.Values.{bound_value}
 use Rattle.sqlite.specs.Ops.{unary}
 use Rattle.sqlite.specs.Cast.{cast, cast_row}
 use Rattle.sqlite.specs.Kind.TheVariants.{Integer}
@@ -20,13 +21,13 @@ use Rattle.sqlite_trees.specs.View.{IsShaped}
 use Rattle.sqlite_rules.specs.Action.{works, Writes}
 use Rattle.sqlite.specs.Listing.{understood}
 use Rattle.sqlite.proofs.Callers.{statement_of}
-use Rattle.custody_store.specs.Schema.{record_schema, registry_table, part_table, notice_table, handover_table}
-use Rattle.custody_records.specs.Rows.{RegistryRow, PartRow, NoticeRow, HandoverRow, with_registry_row, with_part_row, with_notice_row, with_handover_row}
-use Rattle.custody_store.specs.Reading.{rows_in}
+use Rattle.custody_store.specs.Schema.{record_schema, registry_table, part_table, notice_table, handover_table, hold_table}
+use Rattle.custody_records.specs.Rows.{RegistryRow, PartRow, NoticeRow, HandoverRow, HoldRow, with_registry_row, with_part_row, with_notice_row, with_handover_row, with_hold_row}
+use Rattle.custody_store.specs.Reading.{rows_in, integer_unless_null, integer_or_null}
 use Rattle.custody_store.specs.Standing.{HasTables, shown, Commits}
 use Rattle.custody_store.specs.Calls.{Runs}
-use Rattle.custody_store.proofs.StatementLemmas.{insert_registry_text, registry_source, insert_registry_is, insert_part_text, part_source, insert_part_is, insert_notice_text, notice_source, insert_notice_is, insert_handover_text, handover_source, insert_handover_is}
-use Rattle.custody_store.proofs.TableLemmas.{rows_held, held_rows}
+use Rattle.custody_store.proofs.StatementLemmas.{insert_registry_text, registry_source, insert_registry_is, insert_part_text, part_source, insert_part_is, insert_notice_text, notice_source, insert_notice_is, insert_handover_text, handover_source, insert_handover_is, insert_hold_text, hold_source, insert_hold_is}
+use Rattle.custody_store.proofs.TableLemmas.{rows_held, held_rows, sound_as}
 use Rattle.custody_store.proofs.InsertLemmas.{puts, put_one, PutsLast, plain_table}
 use Rattle.custody_store.proofs.CommitLemmas.{Changes, commits_change, insert_writes}
 
@@ -53,7 +54,7 @@ record PutsRow (old : State) (tree : ℕ) (columns : Row) (after : Database) : T
   is : rows_in after.trees ≡ held_rows after.trees
   put : PutsLast old.now.trees after.trees tree columns
 
-module _ (s : State) (tables : HasTables s.now) (at tree : ℕ) (t : Table) (from : Source) (columns : Row) (text : List ℕ) where
+module _ (s : State) (tables : HasTables record_schema s.now) (at tree : ℕ) (t : Table) (from : Source) (columns : Row) (text : List ℕ) where
   abbrev table : Table
   table = plain_table (at_tree tree t)
 
@@ -64,13 +65,13 @@ module _ (s : State) (tables : HasTables s.now) (at tree : ℕ) (t : Table) (fro
       → cast_row table (Null ∷ columns) ≡ Null ∷ columns → works record_schema (mode_of s).keys 0 tree [] (edit_of s.now.trees table [] Chosen 0 ((Null ∷ columns) ∷ [])).news ≡ []
       → (tally : Tally) (after : Database) → Does s.step_limit (mode_of s) columns s.now text None (Insert at from) (Ok (tally, after)) → IsDatabase after → PutsRow s tree columns after
   puts_row found source shaped typed alone tally after does sound =
-      let over = subst (λ d. Does s.step_limit (mode_of s) columns (record s.now { schema = d }) text None (Insert at from) (Ok (tally, after))) tables.schema does in
+      let over = subst (λ d. Does s.step_limit (mode_of s) columns (record s.now { schema = d }) text None (Insert at from) (Ok (tally, after))) tables.schema_is does in
       let it = puts s.step_limit (mode_of s) here after (at_tree tree t) columns text at from tally found over in
       let wrote = subst (λ rows. Writes record_schema (mode_of s).keys s.now.trees (edit_of s.now.trees table [] Chosen 0 rows) (Ok after.trees)) (source it.rows it.source) it.applied in
       record {
         schema = it.schema;
-        was = rows_held s.now.trees (subst (λ d. IsDatabase (record s.now { schema = d })) tables.schema tables.sound);
-        is = rows_held after.trees (subst (λ d. IsDatabase (record after { schema = d })) it.schema sound);
+        was = rows_held s.now.trees (sound_as record_schema s.now tables.schema_is tables.sound);
+        is = rows_held after.trees (sound_as record_schema after it.schema sound);
         put = put_one s.now.trees after.trees table (mode_of s).keys (Null ∷ columns) columns shaped typed alone wrote;
       }
 
@@ -79,7 +80,7 @@ module _ (s : State) (tables : HasTables s.now) (at tree : ℕ) (t : Table) (fro
 abbrev pub registry_columns : RegistryRow → Row
 registry_columns row = Text row.tld ∷ Int row.first_day ∷ []
 
-adds_registry : (s : State) (row : RegistryRow) → HasTables s.now → Changes s insert_registry_text (registry_columns row) (Insert 1 registry_source) (with_registry_row row)
+adds_registry : (s : State) (row : RegistryRow) → HasTables record_schema s.now → Changes s insert_registry_text (registry_columns row) (Insert 1 registry_source) (with_registry_row row)
 adds_registry s row tables tally after does sound =
     let typed : cast_row (at_tree 1 registry_table) (Null ∷ registry_columns row) ≡ Null ∷ registry_columns row = rw (cast_null, cast_int row.first_day) refl in
     let it = puts_row s tables 1 1 registry_table registry_source (registry_columns row) (statement_of insert_registry_text (understood record_schema insert_registry_text)) refl (λ rows is. is.1) tables.ordered.1.0 typed refl tally after does sound in
@@ -87,9 +88,10 @@ adds_registry s row tables tally after does sound =
     let parts : after.trees 3 ≡ s.now.trees 3 = it.put.others.1.1.0 (λ e. omega (arith, e)) in
     let notices : after.trees 5 ≡ s.now.trees 5 = it.put.others.1.1.1.0 (λ e. omega (arith, e)) in
     let handovers : after.trees 7 ≡ s.now.trees 7 = it.put.others.1.1.1.1.0 (λ e. omega (arith, e)) in
-    let more : held_rows after.trees ≡ with_registry_row row (held_rows s.now.trees) = rw (meta, parts, notices, handovers, it.put.here, map-append) refl in
+    let holds : after.trees 9 ≡ s.now.trees 9 = it.put.others.1.1.1.1.1.0 (λ e. omega (arith, e)) in
+    let more : held_rows after.trees ≡ with_registry_row row (held_rows s.now.trees) = rw (meta, parts, notices, handovers, holds, it.put.here, map-append) refl in
     let kept = tables.ordered in (
-      record { schema = it.schema; sound = sound; ordered = rw (meta, parts, notices, handovers) (kept.0, (it.put.shaped, (kept.1.1.0, (kept.1.1.1.0, (kept.1.1.1.1.0, tt))))) },
+      record { schema_is = it.schema; sound = sound; ordered = rw (meta, parts, notices, handovers, holds) (kept.0, (it.put.shaped, (kept.1.1.0, (kept.1.1.1.0, (kept.1.1.1.1.0, (kept.1.1.1.1.1.0, tt)))))) },
       it.is ∙ more ∙ sym (ap (with_registry_row row) it.was),
     )
 
@@ -101,7 +103,7 @@ inserts_registry old new row r = commits_change insert_registry_text (registry_c
 abbrev pub part_columns : PartRow → List ℕ → Row
 part_columns row extents = Text row.tld ∷ Int row.day ∷ Int row.rev ∷ Int row.part ∷ Text row.kind ∷ Int row.received ∷ Int row.keep_day ∷ Int row.len ∷ Blob row.sha ∷ Blob extents ∷ []
 
-adds_part : (s : State) (row : PartRow) (extents : List ℕ) → HasTables s.now → row.extents ≡ Some extents → Changes s insert_part_text (part_columns row extents) (Insert 2 part_source) (with_part_row row)
+adds_part : (s : State) (row : PartRow) (extents : List ℕ) → HasTables record_schema s.now → row.extents ≡ Some extents → Changes s insert_part_text (part_columns row extents) (Insert 2 part_source) (with_part_row row)
 adds_part s row extents tables held tally after does sound =
     let typed : cast_row (at_tree 3 part_table) (Null ∷ part_columns row extents) ≡ Null ∷ part_columns row extents = rw (cast_null, cast_int row.day, cast_int row.rev, cast_int row.part, cast_int row.received, cast_int row.keep_day, cast_int row.len) refl in
     let it = puts_row s tables 2 3 part_table part_source (part_columns row extents) (statement_of insert_part_text (understood record_schema insert_part_text)) refl (λ rows is. is.1) tables.ordered.1.1.0 typed refl tally after does sound in
@@ -109,9 +111,10 @@ adds_part s row extents tables held tally after does sound =
     let registries : after.trees 1 ≡ s.now.trees 1 = it.put.others.1.0 (λ e. omega (arith, e)) in
     let notices : after.trees 5 ≡ s.now.trees 5 = it.put.others.1.1.1.0 (λ e. omega (arith, e)) in
     let handovers : after.trees 7 ≡ s.now.trees 7 = it.put.others.1.1.1.1.0 (λ e. omega (arith, e)) in
-    let more : held_rows after.trees ≡ with_part_row row (held_rows s.now.trees) = rw (meta, registries, notices, handovers, it.put.here, map-append, held) refl in
+    let holds : after.trees 9 ≡ s.now.trees 9 = it.put.others.1.1.1.1.1.0 (λ e. omega (arith, e)) in
+    let more : held_rows after.trees ≡ with_part_row row (held_rows s.now.trees) = rw (meta, registries, notices, handovers, holds, it.put.here, map-append, held) refl in
     let kept = tables.ordered in (
-      record { schema = it.schema; sound = sound; ordered = rw (meta, registries, notices, handovers) (kept.0, (kept.1.0, (it.put.shaped, (kept.1.1.1.0, (kept.1.1.1.1.0, tt))))) },
+      record { schema_is = it.schema; sound = sound; ordered = rw (meta, registries, notices, handovers, holds) (kept.0, (kept.1.0, (it.put.shaped, (kept.1.1.1.0, (kept.1.1.1.1.0, (kept.1.1.1.1.1.0, tt)))))) },
       it.is ∙ more ∙ sym (ap (with_part_row row) it.was),
     )
 
@@ -123,7 +126,7 @@ inserts_part old new row extents r held = commits_change insert_part_text (part_
 abbrev pub notice_columns : NoticeRow → Row
 notice_columns row = Text row.tld ∷ Int row.number ∷ Int row.kind ∷ Int row.day ∷ Int row.rev ∷ Text row.id ∷ Int row.at ∷ []
 
-adds_notice : (s : State) (row : NoticeRow) → HasTables s.now → Changes s insert_notice_text (notice_columns row) (Insert 3 notice_source) (with_notice_row row)
+adds_notice : (s : State) (row : NoticeRow) → HasTables record_schema s.now → Changes s insert_notice_text (notice_columns row) (Insert 3 notice_source) (with_notice_row row)
 adds_notice s row tables tally after does sound =
     let typed : cast_row (at_tree 5 notice_table) (Null ∷ notice_columns row) ≡ Null ∷ notice_columns row = rw (cast_null, cast_int row.number, cast_int row.kind, cast_int row.day, cast_int row.rev, cast_int row.at) refl in
     let it = puts_row s tables 3 5 notice_table notice_source (notice_columns row) (statement_of insert_notice_text (understood record_schema insert_notice_text)) refl (λ rows is. is.1) tables.ordered.1.1.1.0 typed refl tally after does sound in
@@ -131,9 +134,10 @@ adds_notice s row tables tally after does sound =
     let registries : after.trees 1 ≡ s.now.trees 1 = it.put.others.1.0 (λ e. omega (arith, e)) in
     let parts : after.trees 3 ≡ s.now.trees 3 = it.put.others.1.1.0 (λ e. omega (arith, e)) in
     let handovers : after.trees 7 ≡ s.now.trees 7 = it.put.others.1.1.1.1.0 (λ e. omega (arith, e)) in
-    let more : held_rows after.trees ≡ with_notice_row row (held_rows s.now.trees) = rw (meta, registries, parts, handovers, it.put.here, map-append) refl in
+    let holds : after.trees 9 ≡ s.now.trees 9 = it.put.others.1.1.1.1.1.0 (λ e. omega (arith, e)) in
+    let more : held_rows after.trees ≡ with_notice_row row (held_rows s.now.trees) = rw (meta, registries, parts, handovers, holds, it.put.here, map-append) refl in
     let kept = tables.ordered in (
-      record { schema = it.schema; sound = sound; ordered = rw (meta, registries, parts, handovers) (kept.0, (kept.1.0, (kept.1.1.0, (it.put.shaped, (kept.1.1.1.1.0, tt))))) },
+      record { schema_is = it.schema; sound = sound; ordered = rw (meta, registries, parts, handovers, holds) (kept.0, (kept.1.0, (kept.1.1.0, (it.put.shaped, (kept.1.1.1.1.0, (kept.1.1.1.1.1.0, tt)))))) },
       it.is ∙ more ∙ sym (ap (with_notice_row row) it.was),
     )
 
@@ -145,7 +149,7 @@ inserts_notice old new row r = commits_change insert_notice_text (notice_columns
 abbrev pub handover_columns : HandoverRow → Row
 handover_columns row = Text row.reference ∷ Text row.tld ∷ Text row.reason ∷ Int row.at ∷ Text row.names ∷ []
 
-adds_handover : (s : State) (row : HandoverRow) → HasTables s.now → Changes s insert_handover_text (handover_columns row) (Insert 4 handover_source) (with_handover_row row)
+adds_handover : (s : State) (row : HandoverRow) → HasTables record_schema s.now → Changes s insert_handover_text (handover_columns row) (Insert 4 handover_source) (with_handover_row row)
 adds_handover s row tables tally after does sound =
     let typed : cast_row (at_tree 7 handover_table) (Null ∷ handover_columns row) ≡ Null ∷ handover_columns row = rw (cast_null, cast_int row.at) refl in
     let it = puts_row s tables 4 7 handover_table handover_source (handover_columns row) (statement_of insert_handover_text (understood record_schema insert_handover_text)) refl (λ rows is. is.1) tables.ordered.1.1.1.1.0 typed refl tally after does sound in
@@ -153,11 +157,47 @@ adds_handover s row tables tally after does sound =
     let registries : after.trees 1 ≡ s.now.trees 1 = it.put.others.1.0 (λ e. omega (arith, e)) in
     let parts : after.trees 3 ≡ s.now.trees 3 = it.put.others.1.1.0 (λ e. omega (arith, e)) in
     let notices : after.trees 5 ≡ s.now.trees 5 = it.put.others.1.1.1.0 (λ e. omega (arith, e)) in
-    let more : held_rows after.trees ≡ with_handover_row row (held_rows s.now.trees) = rw (meta, registries, parts, notices, it.put.here, map-append) refl in
+    let holds : after.trees 9 ≡ s.now.trees 9 = it.put.others.1.1.1.1.1.0 (λ e. omega (arith, e)) in
+    let more : held_rows after.trees ≡ with_handover_row row (held_rows s.now.trees) = rw (meta, registries, parts, notices, holds, it.put.here, map-append) refl in
     let kept = tables.ordered in (
-      record { schema = it.schema; sound = sound; ordered = rw (meta, registries, parts, notices) (kept.0, (kept.1.0, (kept.1.1.0, (kept.1.1.1.0, (it.put.shaped, tt))))) },
+      record { schema_is = it.schema; sound = sound; ordered = rw (meta, registries, parts, notices, holds) (kept.0, (kept.1.0, (kept.1.1.0, (kept.1.1.1.0, (it.put.shaped, (kept.1.1.1.1.1.0, tt)))))) },
       it.is ∙ more ∙ sym (ap (with_handover_row row) it.was),
     )
 
 pub inserts_handover : {A E : Type 0} (old new : State) (row : HandoverRow) (r : Result A E) → Runs insert_handover_text (handover_columns row) old new r → Commits (shown old) (shown new) (with_handover_row row (rows_in old.now.trees)) r
 inserts_handover old new row r = commits_change insert_handover_text (handover_columns row) (Insert 4 handover_source) insert_handover_is (insert_writes 4 handover_source) old new (with_handover_row row) r (λ ready. adds_handover old row ready.tables)
+
+-- ---- hold
+
+abbrev pub hold_columns : HoldRow → Row
+hold_columns row = Text row.reference ∷ Text row.tld ∷ Int row.day ∷ Int row.at ∷ integer_or_null row.lifted ∷ []
+
+cast_moment : (lifted : Option ℤ) → cast Integer (integer_or_null lifted) ≡ integer_or_null lifted
+cast_moment None = cast_null
+cast_moment (Some at) = cast_int at
+
+pub bound_moment : (lifted : Option ℤ) → bound_value (integer_or_null lifted) ≡ integer_or_null lifted
+bound_moment None = refl
+bound_moment (Some at) = refl
+
+read_moment : (lifted : Option ℤ) → integer_unless_null (integer_or_null lifted) ≡ lifted
+read_moment None = refl
+read_moment (Some at) = refl
+
+adds_hold : (s : State) (row : HoldRow) → HasTables record_schema s.now → Changes s insert_hold_text (hold_columns row) (Insert 5 hold_source) (with_hold_row row)
+adds_hold s row tables tally after does sound =
+    let typed : cast_row (at_tree 9 hold_table) (Null ∷ hold_columns row) ≡ Null ∷ hold_columns row = rw (cast_null, cast_int row.day, cast_int row.at, cast_moment row.lifted) refl in
+    let it = puts_row s tables 5 9 hold_table hold_source (hold_columns row) (statement_of insert_hold_text (understood record_schema insert_hold_text)) refl (λ rows is. is.1) tables.ordered.1.1.1.1.1.0 typed refl tally after does sound in
+    let meta : after.trees 0 ≡ s.now.trees 0 = it.put.others.0 (λ e. omega (arith, e)) in
+    let registries : after.trees 1 ≡ s.now.trees 1 = it.put.others.1.0 (λ e. omega (arith, e)) in
+    let parts : after.trees 3 ≡ s.now.trees 3 = it.put.others.1.1.0 (λ e. omega (arith, e)) in
+    let notices : after.trees 5 ≡ s.now.trees 5 = it.put.others.1.1.1.0 (λ e. omega (arith, e)) in
+    let handovers : after.trees 7 ≡ s.now.trees 7 = it.put.others.1.1.1.1.0 (λ e. omega (arith, e)) in
+    let more : held_rows after.trees ≡ with_hold_row row (held_rows s.now.trees) = rw (meta, registries, parts, notices, handovers, it.put.here, map-append, read_moment row.lifted) refl in
+    let kept = tables.ordered in (
+      record { schema_is = it.schema; sound = sound; ordered = rw (meta, registries, parts, notices, handovers) (kept.0, (kept.1.0, (kept.1.1.0, (kept.1.1.1.0, (kept.1.1.1.1.0, (it.put.shaped, tt)))))) },
+      it.is ∙ more ∙ sym (ap (with_hold_row row) it.was),
+    )
+
+pub inserts_hold : {A E : Type 0} (old new : State) (row : HoldRow) (r : Result A E) → Runs insert_hold_text (hold_columns row) old new r → Commits (shown old) (shown new) (with_hold_row row (rows_in old.now.trees)) r
+inserts_hold old new row r = commits_change insert_hold_text (hold_columns row) (Insert 5 hold_source) insert_hold_is (insert_writes 5 hold_source) old new (with_hold_row row) r (λ ready. adds_hold old row ready.tables)

@@ -1,8 +1,8 @@
--- What the texts of the statements mean: those that write over the schema that `create` makes, and those that read over each whose first tables are these.
+-- What the texts of the statements mean: those that write over schema 2, and those that read over each schema whose first tables are these.
 use Rattle.std.proofs.Common.{◌≡◌, List, [], ◌∷◌, ◌++◌, ℕ, pos, negsuc, codes, true, false, None, refl}
 use Rattle.sqlite.specs.declared.types.Value.TheVariants.{Null, Int}
 use Rattle.sqlite.specs.Term.{Term, lit, col, op1, op2}
-use Rattle.sqlite.specs.Query.{Query, inner, end}
+use Rattle.sqlite.specs.Query.{Query, Join, inner, counted, end}
 use Rattle.sqlite.specs.Source.{Source}
 use Rattle.sqlite.specs.Source.TheVariants.{Values}
 use Rattle.sqlite.specs.Command.{Command}
@@ -10,7 +10,7 @@ use Rattle.sqlite.specs.Command.TheVariants.{Insert, Select, Update}
 use Rattle.sqlite_schema.specs.declared.program.Program.{Program}
 use Rattle.sqlite_sql.specs.declared.ops.UnaryOp.TheVariants.{Not}
 use Rattle.sqlite_sql.specs.declared.ops.BinaryOp.TheVariants.{Is, Compare}
-use Rattle.sqlite_sql.specs.declared.ops.CompareOp.TheVariants.{Lt}
+use Rattle.sqlite_sql.specs.declared.ops.CompareOp.TheVariants.{Lt, Eq}
 use Rattle.sqlite.specs.Listing.{understood, reads_listing}
 use Rattle.sqlite.specs.Collation.TheVariants.{Binary}
 use Rattle.sqlite_value.specs.Keys.{ascending}
@@ -20,7 +20,7 @@ use Rattle.sqlite.specs.Table.{Table}
 use Rattle.sqlite.specs.Schema.{Schema}
 use Rattle.sqlite_schema.specs.declared.schema.Index.{Index}
 use Rattle.sqlite_schema.specs.declared.schema.View.{View}
-use Rattle.custody_store.specs.Schema.{meta_schema, record_schema}
+use Rattle.custody_store.specs.Schema.{meta_schema, first_schema, record_schema}
 use Rattle.custody_store.proofs.ModeLemmas.{is_change_text}
 use Rattle.custody_store.proofs.QueryLemmas.{is_query_text}
 
@@ -65,10 +65,10 @@ IsSelection first sql tree project names = (others : List Table) (indexes : List
 -- ---- the statements
 
 abbrev pub insert_meta_text : List ℕ
-insert_meta_text = codes "INSERT INTO meta (one, schema_no, number, blocks) VALUES (1, 1, ?1, ?2)"
+insert_meta_text = codes "INSERT INTO meta (one, schema_no, number, blocks) VALUES (1, 2, ?1, ?2)"
 
 abbrev pub meta_source : Source
-meta_source = Values (lit (Int (pos 1)) ∷ lit Null ∷ lit (Int (pos 1)) ∷ col 0 0 ∷ col 0 1 ∷ []) 5
+meta_source = Values (lit (Int (pos 1)) ∷ lit Null ∷ lit (Int (pos 2)) ∷ col 0 0 ∷ col 0 1 ∷ []) 5
 
 pub insert_meta_is : IsInsertion insert_meta_text 0 meta_source
 unfolding understood everything
@@ -114,6 +114,16 @@ pub insert_handover_is : IsInsertion insert_handover_text 4 handover_source
 unfolding understood everything
 insert_handover_is = record { is = refl; plain = (refl, refl); changes = refl }
 
+abbrev pub insert_hold_text : List ℕ
+insert_hold_text = codes "INSERT INTO hold (reference, tld, day, at, lifted) VALUES (?1, ?2, ?3, ?4, ?5)"
+
+abbrev pub hold_source : Source
+hold_source = Values (lit Null ∷ col 0 0 ∷ col 0 1 ∷ col 0 2 ∷ col 0 3 ∷ col 0 4 ∷ []) 6
+
+pub insert_hold_is : IsInsertion insert_hold_text 5 hold_source
+unfolding understood everything
+insert_hold_is = record { is = refl; plain = (refl, refl); changes = refl }
+
 abbrev pub select_meta_text : List ℕ
 select_meta_text = codes "SELECT one, schema_no, number, blocks FROM meta ORDER BY rowid"
 
@@ -140,7 +150,7 @@ registry_places = col 1 1 ∷ col 1 2 ∷ []
 abbrev pub registry_names : List (List ℕ)
 registry_names = codes "tld" ∷ codes "first_day" ∷ []
 
-pub select_registry_is : IsSelection record_schema.tables select_registry_text 1 registry_places registry_names
+pub select_registry_is : IsSelection first_schema.tables select_registry_text 1 registry_places registry_names
 unfolding understood everything
 select_registry_is others indexes views = record { is = refl; plain = (refl, refl); unlisted = refl }
 
@@ -157,7 +167,7 @@ part_places = col 1 1 ∷ col 1 2 ∷ col 1 3 ∷ col 1 4 ∷ col 1 5 ∷ col 1 
 abbrev pub part_names : List (List ℕ)
 part_names = codes "tld" ∷ codes "day" ∷ codes "rev" ∷ codes "part" ∷ codes "kind" ∷ codes "received" ∷ codes "keep_day" ∷ codes "len" ∷ codes "sha" ∷ codes "extents" ∷ []
 
-pub select_part_is : IsSelection record_schema.tables select_part_text 3 part_places part_names
+pub select_part_is : IsSelection first_schema.tables select_part_text 3 part_places part_names
 unfolding understood everything
 select_part_is others indexes views = record { is = refl; plain = (refl, refl); unlisted = refl }
 
@@ -174,7 +184,7 @@ notice_places = col 1 1 ∷ col 1 2 ∷ col 1 3 ∷ col 1 4 ∷ col 1 5 ∷ col 
 abbrev pub notice_names : List (List ℕ)
 notice_names = codes "tld" ∷ codes "number" ∷ codes "kind" ∷ codes "day" ∷ codes "rev" ∷ codes "id" ∷ codes "at" ∷ []
 
-pub select_notice_is : IsSelection record_schema.tables select_notice_text 5 notice_places notice_names
+pub select_notice_is : IsSelection first_schema.tables select_notice_text 5 notice_places notice_names
 unfolding understood everything
 select_notice_is others indexes views = record { is = refl; plain = (refl, refl); unlisted = refl }
 
@@ -191,7 +201,7 @@ handover_places = col 1 1 ∷ col 1 2 ∷ col 1 3 ∷ col 1 4 ∷ col 1 5 ∷ []
 abbrev pub handover_names : List (List ℕ)
 handover_names = codes "reference" ∷ codes "tld" ∷ codes "ground" ∷ codes "at" ∷ codes "names" ∷ []
 
-pub select_handover_is : IsSelection record_schema.tables select_handover_text 7 handover_places handover_names
+pub select_handover_is : IsSelection first_schema.tables select_handover_text 7 handover_places handover_names
 unfolding understood everything
 select_handover_is others indexes views = record { is = refl; plain = (refl, refl); unlisted = refl }
 
@@ -199,20 +209,29 @@ pub select_handover_query : is_query_text select_handover_text ≡ true
 unfolding understood everything
 select_handover_query = refl
 
-abbrev pub drop_due_text : List ℕ
-drop_due_text = codes "UPDATE part SET extents = NULL WHERE extents IS NOT NULL AND keep_day < ?1"
+abbrev pub select_hold_text : List ℕ
+select_hold_text = codes "SELECT reference, tld, day, at, lifted FROM hold ORDER BY rowid"
 
-abbrev pub due_tests : List Term
-due_tests = op1 Not (op2 (Is Binary) (col 1 10) (lit Null)) ∷ op2 (Compare Lt Binary) (col 1 7) (col 0 0) ∷ []
+abbrev pub hold_places : List Term
+hold_places = col 1 1 ∷ col 1 2 ∷ col 1 3 ∷ col 1 4 ∷ col 1 5 ∷ []
 
--- the rowid of the row that goes, and then the row that comes
-abbrev pub dropped_places : List Term
-dropped_places = col 1 0 ∷ col 1 0 ∷ col 1 1 ∷ col 1 2 ∷ col 1 3 ∷ col 1 4 ∷ col 1 5 ∷ col 1 6 ∷ col 1 7 ∷ col 1 8 ∷ col 1 9 ∷ lit Null ∷ []
+abbrev pub hold_names : List (List ℕ)
+hold_names = codes "reference" ∷ codes "tld" ∷ codes "day" ∷ codes "at" ∷ codes "lifted" ∷ []
 
--- what each row of one table that passes the tests shows
-abbrev pub picked : ℕ → List Term → List Term → Query
-picked tree tests project = record {
-  from = inner tree end;
+pub select_hold_is : IsSelection record_schema.tables select_hold_text 9 hold_places hold_names
+unfolding understood everything
+select_hold_is others indexes views = record { is = refl; plain = (refl, refl); unlisted = refl }
+
+pub select_hold_query : is_query_text select_hold_text ≡ true
+unfolding understood everything
+select_hold_query = refl
+
+-- ---- those that change rows
+
+-- what each row of one table that passes the tests shows, where other tables may be counted beside it
+abbrev pub picked : Join → List Term → List Term → Query
+picked from tests project = record {
+  from = from;
   filter = tests;
   group = None;
   project = project;
@@ -223,9 +242,59 @@ picked tree tests project = record {
   offset = lit (Int (pos 0));
 }
 
-abbrev pub due_program : Program
-due_program = record { lets = []; body = picked 3 due_tests dropped_places }
+-- the program of an UPDATE, which shows the rowid of the row that goes, and then the row that comes
+abbrev pub updating : Join → List Term → List Term → Program
+updating from tests project = record { lets = []; body = picked from tests project }
 
-pub drop_due_is : IsMeaning drop_due_text (Update 2 due_program)
+abbrev pub drop_due_text : List ℕ
+drop_due_text = codes "UPDATE part SET extents = NULL WHERE extents IS NOT NULL AND keep_day < ?1 AND NOT EXISTS (SELECT 1 FROM hold WHERE hold.tld = part.tld AND hold.day = part.day AND hold.lifted IS NULL)"
+
+-- a hold of the part's registry and day that is not lifted
+abbrev pub hold_tests : List Term
+hold_tests = op2 (Compare Eq Binary) (col 2 2) (col 1 1) ∷ op2 (Compare Eq Binary) (col 2 3) (col 1 2) ∷ op2 (Is Binary) (col 2 5) (lit Null) ∷ []
+
+abbrev pub parts_and_holds : Join
+parts_and_holds = inner 3 (counted 1 (inner 9 end) hold_tests end)
+
+abbrev pub due_tests : List Term
+due_tests = op1 Not (op2 (Is Binary) (col 1 10) (lit Null)) ∷ op2 (Compare Lt Binary) (col 1 7) (col 0 0) ∷ op1 Not (col 2 0) ∷ []
+
+abbrev pub dropped_places : List Term
+dropped_places = col 1 0 ∷ col 1 0 ∷ col 1 1 ∷ col 1 2 ∷ col 1 3 ∷ col 1 4 ∷ col 1 5 ∷ col 1 6 ∷ col 1 7 ∷ col 1 8 ∷ col 1 9 ∷ lit Null ∷ []
+
+abbrev pub drop_due_program : Program
+drop_due_program = updating parts_and_holds due_tests dropped_places
+
+pub drop_due_is : IsMeaning drop_due_text (Update 2 drop_due_program)
 unfolding understood everything
 drop_due_is = record { is = refl; plain = (refl, refl); changes = refl }
+
+abbrev pub lift_text : List ℕ
+lift_text = codes "UPDATE hold SET lifted = ?2 WHERE reference = ?1"
+
+abbrev pub lift_tests : List Term
+lift_tests = op2 (Compare Eq Binary) (col 1 1) (col 0 0) ∷ []
+
+abbrev pub lifted_places : List Term
+lifted_places = col 1 0 ∷ col 1 0 ∷ col 1 1 ∷ col 1 2 ∷ col 1 3 ∷ col 1 4 ∷ col 0 1 ∷ []
+
+abbrev pub lift_program : Program
+lift_program = updating (inner 9 end) lift_tests lifted_places
+
+pub lift_is : IsMeaning lift_text (Update 5 lift_program)
+unfolding understood everything
+lift_is = record { is = refl; plain = (refl, refl); changes = refl }
+
+abbrev pub set_schema_text : List ℕ
+set_schema_text = codes "UPDATE meta SET schema_no = 2"
+
+-- the column that is the rowid stands as NULL among the others
+abbrev pub set_schema_places : List Term
+set_schema_places = col 1 0 ∷ col 1 0 ∷ lit Null ∷ lit (Int (pos 2)) ∷ col 1 3 ∷ col 1 4 ∷ []
+
+abbrev pub set_schema_program : Program
+set_schema_program = updating (inner 0 end) [] set_schema_places
+
+pub set_schema_is : IsMeaning set_schema_text (Update 0 set_schema_program)
+unfolding understood everything
+set_schema_is = record { is = refl; plain = (refl, refl); changes = refl }

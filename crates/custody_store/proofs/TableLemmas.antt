@@ -1,5 +1,5 @@
 -- The rows of a database that has the tables, or begins with them.
-use Rattle.std.proofs.Common.{◌≡◌, inl, inr, ℕ, ◌-◌, ℤ, pos, ◌+ℤ◌, ◌<ℤ◌, ◌&&◌, Bool, List, [], ◌∷◌, ◌++◌, map, filter, find, fold, codes, bytes_eq, option_map, Option, Some, refl, ap, subst, ◌∙◌, IsTrue, Less, int_cmp, arith}
+use Rattle.std.proofs.Common.{◌≡◌, inl, inr, ℕ, ◌-◌, ℤ, pos, ◌+ℤ◌, ◌<ℤ◌, ◌&&◌, Bool, List, [], ◌∷◌, ◌++◌, map, filter, find, fold, codes, bytes_eq, option_map, Option, Some, drop, refl, ap, subst, ◌∙◌, IsTrue, Less, int_cmp, arith}
 use Rattle.std.specs.List.{AllByRecursion, AllZip}
 use Rattle.std.proofs.lemmas.Int.{ints}
 use Rattle.std.proofs.lemmas.Bool.{cases_Bool}
@@ -15,10 +15,15 @@ use Rattle.sqlite_rules.proofs.TableLemmas.{int_is}
 use Rattle.sqlite_catalog.specs.Listing.{is_table_row, IsTableRow, IsSound}
 use Rattle.sqlite.specs.Table.{Table}
 use Rattle.sqlite.specs.Schema.{Schema}
-use Rattle.custody_store.specs.Schema.{meta_schema, record_schema}
-use Rattle.custody_records.specs.Rows.{Rows}
+use Rattle.sqlite.specs.Effect.{Database, IsDatabase}
+use Rattle.custody_store.specs.Schema.{meta_schema, first_schema, record_schema}
+use Rattle.custody_records.specs.Rows.{HoldRow, Rows}
 use Rattle.custody_store.specs.Standing.{BeginsWith}
-use Rattle.custody_store.specs.Reading.{meta_row, registry_row, part_row, notice_row, handover_row, tree_named, rows_in}
+use Rattle.custody_store.specs.Reading.{meta_row, registry_row, part_row, notice_row, handover_row, hold_row, tree_named, rows_in}
+
+-- a database whose schema is known
+pub sound_as : (schema : Schema) (d : Database) → d.schema ≡ schema → IsDatabase d → IsSound schema d.trees
+sound_as schema d is sound = subst (λ (t : Schema). IsSound t d.trees) is sound
 
 -- ---- the table of a name
 
@@ -26,14 +31,19 @@ find_filtered : {X : Type 0} (p q : X → Bool) (xs : List X) → find (λ x. p 
 find_filtered p q [] = refl
 find_filtered p q (x ∷ xs) = elim (cases_Bool (p x)) [ inl is ↦ elim (cases_Bool (q x)) [ inl also ↦ rw (is, also) | inr other ↦ rw (is, other, find_filtered p q xs) ] | inr other ↦ rw (other, find_filtered p q xs) ]
 
-abbrev pub held_rows : Trees → Rows
-held_rows trees = record {
+-- the rows of the five tables that both schemas have, and these of holds
+abbrev pub held_beside : Option (List HoldRow) → Trees → Rows
+held_beside holds trees = record {
   meta = Some (map meta_row (trees 0));
   registries = Some (map registry_row (trees 1));
   parts = Some (map part_row (trees 3));
   notices = Some (map notice_row (trees 5));
   handovers = Some (map handover_row (trees 7));
+  holds = holds;
 }
+
+abbrev pub held_rows : Trees → Rows
+held_rows trees = held_beside (Some (map hold_row (trees 9))) trees
 
 abbrev pub named_in : List ℕ → List Row → Option ℕ
 named_in name objects = option_map (λ object. number_in (rowid object) - 1) (find (λ object. bytes_eq (bytes (column object 2)) name) objects)
@@ -41,7 +51,7 @@ named_in name objects = option_map (λ object. number_in (rowid object) - 1) (fi
 abbrev AreNamed : List Row → Type 0
 AreNamed objects = (named_in (codes "meta") objects ≡ Some 0) × (named_in (codes "registry") objects ≡ Some 1) × (named_in (codes "part") objects ≡ Some 3) × (named_in (codes "notice") objects ≡ Some 5) × (named_in (codes "handover") objects ≡ Some 7)
 
-are_named : (others : List Table) (objects : List Row) → AllZip IsTableRow objects (record_schema.tables ++ others) → AreNamed objects
+are_named : (others : List Table) (objects : List Row) → AllZip IsTableRow objects (first_schema.tables ++ others) → AreNamed objects
 are_named others (a ∷ b ∷ c ∷ d ∷ e ∷ more) h =
     let m = h.0.described in
     let r = h.1.0.described in
@@ -55,6 +65,22 @@ are_named others (a ∷ b ∷ []) h = absurd h.1.1
 are_named others (a ∷ b ∷ c ∷ []) h = absurd h.1.1.1
 are_named others (a ∷ b ∷ c ∷ d ∷ []) h = absurd h.1.1.1.1
 
+hold_named : (others : List Table) (objects : List Row) → AllZip IsTableRow objects (record_schema.tables ++ others) → named_in (codes "hold") objects ≡ Some 9
+hold_named others (a ∷ b ∷ c ∷ d ∷ e ∷ f ∷ more) h =
+    let m = h.0.described in
+    let r = h.1.0.described in
+    let p = h.1.1.0.described in
+    let n = h.1.1.1.0.described in
+    let o = h.1.1.1.1.0.described in
+    let held = h.1.1.1.1.1.0.described in
+    rw (m.name_is, r.name_is, p.name_is, n.name_is, o.name_is, held.name_is, held.id)
+hold_named others [] h = absurd h
+hold_named others (a ∷ []) h = absurd h.1
+hold_named others (a ∷ b ∷ []) h = absurd h.1.1
+hold_named others (a ∷ b ∷ c ∷ []) h = absurd h.1.1.1
+hold_named others (a ∷ b ∷ c ∷ d ∷ []) h = absurd h.1.1.1.1
+hold_named others (a ∷ b ∷ c ∷ d ∷ e ∷ []) h = absurd h.1.1.1.1.1
+
 meta_named : (others : List Table) (objects : List Row) → AllZip IsTableRow objects (meta_schema.tables ++ others) → named_in (codes "meta") objects ≡ Some 0
 meta_named others (a ∷ more) h = let m = h.0.described in rw (m.name_is, m.id)
 meta_named others [] h = absurd h
@@ -63,7 +89,7 @@ pub named : (name : List ℕ) (trees : Trees) → tree_named name trees ≡ name
 named name trees = ap (option_map (λ object. number_in (rowid object) - 1)) (find_filtered is_table_row (λ object. bytes_eq (bytes (column object 2)) name) (trees catalog_tree))
 
 -- where the first tables are the five, whatever comes after
-pub rows_first : (trees : Trees) (schema : Schema) → BeginsWith record_schema.tables schema → IsSound schema trees → rows_in trees ≡ held_rows trees
+pub rows_first : (trees : Trees) (schema : Schema) → BeginsWith first_schema.tables schema → IsSound schema trees → rows_in trees ≡ held_beside (rows_in trees).holds trees
 rows_first trees schema begins sound =
     let all = are_named begins.0 _ (subst (AllZip IsTableRow (filter is_table_row (trees catalog_tree))) begins.1 sound.lists.listed.tables) in
     let m = named (codes "meta") trees ∙ all.0 in
@@ -73,8 +99,16 @@ rows_first trees schema begins sound =
     let o = named (codes "handover") trees ∙ all.4 in
     rw (m, r, p, n, o)
 
+-- and where that of holds is the sixth
+pub holds_first : (trees : Trees) (schema : Schema) → BeginsWith record_schema.tables schema → IsSound schema trees → (rows_in trees).holds ≡ Some (map hold_row (trees 9))
+holds_first trees schema begins sound =
+    let held = named (codes "hold") trees ∙ hold_named begins.0 _ (subst (AllZip IsTableRow (filter is_table_row (trees catalog_tree))) begins.1 sound.lists.listed.tables) in
+    rw held refl
+
 pub rows_held : (trees : Trees) → IsSound record_schema trees → rows_in trees ≡ held_rows trees
-rows_held trees sound = rows_first trees record_schema ([], refl) sound
+rows_held trees sound =
+    rows_first trees record_schema (drop 5 record_schema.tables, refl) sound
+    ∙ ap (λ holds. held_beside holds trees) (holds_first trees record_schema ([], refl) sound)
 
 -- where the first is meta
 pub meta_first : (trees : Trees) (schema : Schema) → BeginsWith meta_schema.tables schema → IsSound schema trees → (rows_in trees).meta ≡ Some (map meta_row (trees 0))

@@ -1,34 +1,52 @@
--- What an UPDATE of the rows of one table does.
-use Rattle.std.proofs.Common.{◌≡◌, ℕ, Bool, true, false, cond, List, [], ◌∷◌, ◌++◌, length, map, filter, Option, None, Some, Ok, refl, sym, ap, subst, ◌∙◌, IsPermutation}
+-- What an UPDATE of the rows of one table does: each row that passes WHERE is changed where it stands.
+use Rattle.std.proofs.Common.{◌≡◌, ◌≢◌, ℕ, ℤ, Bool, true, false, cond, List, [], ◌∷◌, ◌++◌, length, map, filter, Option, None, Some, Ok, refl, sym, ap, subst, ◌∙◌, IsPermutation}
 use Rattle.std.proofs.Common.{slice_get}
-use Rattle.std.specs.List.{list_all}
-use Rattle.std.specs.Prelude.{drop}
-use Rattle.std.proofs.lemmas.List.Sorted.{IsPermutation-map, IsPermutation-sym}
+use Rattle.std.specs.List.{list_all, AllByRecursion}
+use Rattle.std.specs.Prelude.{drop, flat_map}
+use Rattle.std.proofs.lemmas.List.{length-map}
+use Rattle.std.proofs.lemmas.List.Sorted.{IsPermutation-map, IsPermutation-sym, length_permutation}
 use Rattle.sqlite.specs.Order.{Row}
-use Rattle.sqlite.specs.Term.{Term, eval_all, holds}
-use Rattle.sqlite.specs.Query.{output, Output, IsAnswer}
+use Rattle.sqlite.specs.declared.types.Value.TheVariants.{Null, Int}
+use Rattle.sqlite.specs.Term.{Term, Env, eval_all, holds}
+use Rattle.sqlite.specs.Query.{Join, matches, output, Output, IsAnswer}
 use Rattle.sqlite_schema.specs.declared.program.Program.{Program}
 use Rattle.sqlite.specs.Command.TheVariants.{Update}
 use Rattle.sqlite.specs.Table.{Table}
-use Rattle.sqlite.specs.Tree.{Trees}
-use Rattle.sqlite.specs.Edit.{edit_of}
+use Rattle.sqlite.specs.Tree.{Trees, rowid}
+use Rattle.sqlite.specs.Cast.{cast, cast_row}
+use Rattle.sqlite.specs.Kind.TheVariants.{Integer}
+use Rattle.sqlite.specs.Edit.{edit_of, id_in}
+use Rattle.sqlite.specs.Program.{overlay}
 use Rattle.sqlite.specs.Effect.{Database, Answers}
 use Rattle.sqlite.specs.Does.{Tally, Does, AtPlace, OnRows}
 use Rattle.sqlite.specs.Rows.{Written, Task}
 use Rattle.sqlite.specs.declared.run.Mode.{Mode}
 use Rattle.sqlite_rules.specs.declared.error.Rowids.TheVariants.{Given}
 use Rattle.sqlite_rules.specs.Calls.{ids_of}
-use Rattle.sqlite_rules.specs.Action.{Writes}
+use Rattle.sqlite.specs.State.{State, mode_of}
+use Rattle.sqlite.proofs.Callers.{one_step}
+use Rattle.sqlite_schema.specs.declared.schema.Action.TheVariants.{NoAction}
+use Rattle.sqlite_schema.specs.declared.schema.Keys.{Keys}
+use Rattle.sqlite_schema.specs.declared.schema.Keys.TheVariants.{Enforced, Deferred, Off}
+use Rattle.sqlite_trees.specs.declared.store.Shape.TheVariants as shape
+use Rattle.sqlite_trees.specs.View.{IsShaped}
+use Rattle.sqlite_rules.specs.Action.{works, Writes}
+use Rattle.sqlite_rules.specs.Edit.{taken_by, without_all}
 use Rattle.sqlite_rules.specs.Lists.{Has}
 use Rattle.sqlite_rules.proofs.ListLemmas.{has_filtered, has_kept, all_has, all_from}
 use Rattle.sqlite_rules.proofs.ProbeLemmas.{has_mapped, mapped_has}
+use Rattle.sqlite_rules.proofs.PlaceLemmas.{given}
+use Rattle.sqlite_rules.proofs.TableLemmas.{int_is}
 use Rattle.sqlite_trees.proofs.ListLemmas.{all-permutation}
 use Rattle.sqlite_keyed.proofs.ListLemmas.{map-map}
 use Rattle.custody_store.proofs.InsertLemmas.{went, same_value}
-use Rattle.custody_store.proofs.StatementLemmas.{picked}
+use Rattle.custody_store.proofs.RowLemmas.{cast_int}
+use Rattle.custody_store.specs.Schema.{record_schema}
+use Rattle.custody_store.proofs.EditLemmas.{changed_where, changed_shaped, edited_is}
+use Rattle.custody_store.proofs.StatementLemmas.{picked, updating}
 
 -- the rows of the query were changed in the table, and nothing else was written
-pub record Changed (db after : Database) (mode : Mode) (table : Table) (q : Program) (params : Row) (tally : Tally) : Type 0 where
+record Changed (db after : Database) (mode : Mode) (table : Table) (q : Program) (params : Row) (tally : Tally) : Type 0 where
   pub rows : List Row
   pub answer : Answers db q params rows
   pub schema : after.schema ≡ db.schema
@@ -58,7 +76,7 @@ concluded limit mode db after t params at q tally h =
       counted = ap (λ (p : Tally × Database). p.0.rows) both ∙ ap (λ (it : Written). Some (length it.rows)) w;
     }
 
-pub changes : (limit : Option ℕ) (mode : Mode) (db after : Database) (t : Table) (params : Row) (text : List ℕ) (at : ℕ) (q : Program) (tally : Tally) → slice_get db.schema.tables at ≡ Some t
+changes : (limit : Option ℕ) (mode : Mode) (db after : Database) (t : Table) (params : Row) (text : List ℕ) (at : ℕ) (q : Program) (tally : Tally) → slice_get db.schema.tables at ≡ Some t
     → Does limit mode params db text None (Update at q) (Ok (tally, after)) → Changed db after mode t q params tally
 changes limit mode db after t params text at q tally found does =
     concluded limit mode db after t params at q tally
@@ -66,41 +84,114 @@ changes limit mode db after t params text at q tally found does =
 
 -- ---- the rows that pass WHERE, in any order
 
-abbrev pub passes : List Term → Row → Row → Bool
-passes filter params r = list_all (holds (params ∷ r ∷ [])) filter
+-- a row is tested among the parameters and what was counted of other tables for it
+abbrev pub passes : List Term → (Row → Env) → Row → Bool
+passes tests env r = list_all (holds (env r)) tests
 
-abbrev pub shows : List Term → Row → Row → Row
-shows project params r = eval_all project (params ∷ r ∷ [])
+abbrev pub shows : List Term → (Row → Env) → Row → Row
+shows project env r = eval_all project (env r)
 
-each_match : {X Y : Type 0} (p : X → Bool) (f : X → Y) (xs : List X) → Rattle.std.specs.Prelude.flat_map (λ x. cond (p x) (f x ∷ []) []) xs ≡ map f (filter p xs)
+-- the rows of this table, each in its environment
+abbrev pub IsEach : Join → List Term → Trees → Row → List Row → (Row → Env) → Type 0
+IsEach from tests trees params table env = matches trees tests from (params ∷ []) ≡ flat_map (λ r. cond (passes tests env r) (env r ∷ []) []) table
+
+each_match : {X Y : Type 0} (p : X → Bool) (f : X → Y) (xs : List X) → flat_map (λ x. cond (p x) (f x ∷ []) []) xs ≡ map f (filter p xs)
 each_match p f [] = refl
 each_match p f (x ∷ xs) =
-    elim (p x) as (λ b. cond b (f x ∷ []) [] ++ Rattle.std.specs.Prelude.flat_map (λ z. cond (p z) (f z ∷ []) []) xs ≡ map f (cond b (x ∷ filter p xs) (filter p xs)))
+    elim (p x) as (λ b. cond b (f x ∷ []) [] ++ flat_map (λ z. cond (p z) (f z ∷ []) []) xs ≡ map f (cond b (x ∷ filter p xs) (filter p xs)))
     [ true ↦ ap (λ l. f x ∷ l) (each_match p f xs) | false ↦ each_match p f xs ]
 
 -- the answer is that of the rows that pass, in some order
-pub picks : (tree : ℕ) (tests project : List Term) (trees : Trees) (params : Row) (rows : List Row) → IsAnswer (picked tree tests project) trees params rows
-    → IsPermutation (map (shows project params) (filter (passes tests params) (trees tree))) rows
-picks tree tests project trees params rows a =
-    let q = picked tree tests project in
-    let env = λ (r : Row). params ∷ r ∷ [] in
-    let all : a.kept ≡ map (output q) (map env (filter (passes tests params) (trees tree))) =
-    a.distinct ∙ ap (map (output q)) (a.grouped ∙ each_match (passes tests params) env (trees tree)) in
+picks : (from : Join) (tests project : List Term) (trees : Trees) (params : Row) (table : List Row) (env : Row → Env) (rows : List Row) → IsEach from tests trees params table env → IsAnswer (picked from tests project) trees params rows
+    → IsPermutation (map (shows project env) (filter (passes tests env) table)) rows
+picks from tests project trees params table env rows each a =
+    let q = picked from tests project in
+    let all : a.kept ≡ map (output q) (map env (filter (passes tests env) table)) =
+    a.distinct ∙ ap (map (output q)) (a.grouped ∙ each ∙ each_match (passes tests env) env table) in
     let shown : rows ≡ map (λ (o : Output). o.1) a.ordered = a.shown in
     let same = IsPermutation-map (λ (o : Output). o.1) _ _ (subst (λ l. IsPermutation l a.ordered) all a.same) in
     subst (IsPermutation _) (sym shown) (subst (λ l. IsPermutation l (map (λ (o : Output). o.1) a.ordered))
-    (ap (map (λ (o : Output). o.1)) (map-map (output q) env (filter (passes tests params) (trees tree))) ∙ map-map (λ (o : Output). o.1) (λ r. output q (env r)) _) same)
+    (ap (map (λ (o : Output). o.1)) (map-map (output q) env (filter (passes tests env) table)) ∙ map-map (λ (o : Output). o.1) (λ r. output q (env r)) _) same)
 
 has_permuted : {X : Type 0} (xs ys : List X) (x : X) → IsPermutation xs ys → Has ys x → Has xs x
 has_permuted xs ys x same = all_has (Has xs) ys x (all-permutation (Has xs) xs ys same (all_from (Has xs) xs (λ e h. h)))
 
-module _ (tests project : List Term) (params : Row) (table answer : List Row) (picked_are : IsPermutation (map (shows project params) (filter (passes tests params) table)) answer) where
+module _ (tests project : List Term) (env : Row → Env) (table answer : List Row) (picked_are : IsPermutation (map (shows project env) (filter (passes tests env) table)) answer) where
   -- each row of the answer is that of a row that passes
-  pub row_of : (a : Row) → Has answer a → (s : Row) × Has table s × (passes tests params s ≡ true) × (a ≡ shows project params s)
+  row_of : (a : Row) → Has answer a → (s : Row) × Has table s × (passes tests env s ≡ true) × (a ≡ shows project env s)
   row_of a h =
-      let s = has_mapped (shows project params) _ a (has_permuted _ answer a picked_are h) in
-      let was = has_filtered (passes tests params) table s.0 s.1 in
+      let s = has_mapped (shows project env) _ a (has_permuted _ answer a picked_are h) in
+      let was = has_filtered (passes tests env) table s.0 s.1 in
       (s.0, was.0, was.1, s.2)
 
-  pub row_for : (s : Row) → Has table s → passes tests params s ≡ true → Has answer (shows project params s)
-  row_for s h is = has_permuted answer _ _ (IsPermutation-sym _ _ picked_are) (mapped_has (shows project params) _ s (has_kept (passes tests params) table s h is))
+  row_for : (s : Row) → Has table s → passes tests env s ≡ true → Has answer (shows project env s)
+  row_for s h is = has_permuted answer _ _ (IsPermutation-sym _ _ picked_are) (mapped_has (shows project env) _ s (has_kept (passes tests env) table s h is))
+
+-- ---- no foreign key acts
+
+no_action : (b : Bool) → cond b NoAction NoAction ≡ NoAction
+no_action true = refl
+no_action false = refl
+
+nothing_acts : (keys : Keys) (tree : ℕ) (olds news : List Row) → works record_schema keys 0 tree olds news ≡ []
+nothing_acts Enforced tree olds news = rw (no_action _) refl
+nothing_acts Deferred tree olds news = rw (no_action _) refl
+nothing_acts Off tree olds news = refl
+
+-- ---- the whole table
+
+-- the rows that pass were changed where they stand, and those of the other tables are as they were
+pub record Rewrites (tree : ℕ) (p : Row → Bool) (f : Row → Row) (trees : Trees) (tally : Tally) (after : Database) : Type 0 where
+  pub schema : after.schema ≡ record_schema
+  pub here : after.trees tree ≡ changed_where p f (trees tree)
+  pub shaped : IsShaped shape.Table (after.trees tree)
+  pub others : AllByRecursion (λ t. t.tree ≢ tree → after.trees t.tree ≡ trees t.tree) record_schema.tables
+  pub counted : tally.rows ≡ Some (length (filter p (trees tree)))
+
+-- what comes in the place of a row
+abbrev pub heir : Table → List Term → (Row → Env) → Row → Row
+heir t project env r = cast_row t (drop 1 (shows project env r))
+
+-- it keeps the rowid
+pub heir_rowid : (t : Table) (project : List Term) (env : Row → Env) (table : List Row) → IsShaped shape.Table table → ((r : Row) → rowid (drop 1 (shows project env r)) ≡ rowid r) → (r : Row) → Has table r → rowid (heir t project env r) ≡ rowid r
+heir_rowid t project env table shaped comes r h =
+    let int : rowid r ≡ Int (id_in (rowid r)) = int_is (rowid r) (all_has _ table r shaped.1 h) in
+    ap (cast Integer) (comes r ∙ int) ∙ cast_int (id_in (rowid r)) ∙ sym int
+
+pub rewrites : (s : State) (at : ℕ) (t : Table) (from : Join) (tests project : List Term) (params : Row) (env : Row → Env) (text : List ℕ) → s.now.schema ≡ record_schema → slice_get record_schema.tables at ≡ Some t
+    → IsEach from tests (overlay s.now.trees []) params (s.now.trees t.tree) env → IsShaped shape.Table (s.now.trees t.tree)
+    → ((r : Row) → rowid (shows project env r) ≡ rowid r) → ((r : Row) → rowid (drop 1 (shows project env r)) ≡ rowid r)
+    → (tally : Tally) (after : Database) → Does s.step_limit (mode_of s) params s.now text None (Update at (updating from tests project)) (Ok (tally, after))
+    → Rewrites t.tree (passes tests env) (heir t project env) s.now.trees tally after
+rewrites s at t from tests project params env text schema_is found each shaped goes comes tally after does =
+    let table = s.now.trees t.tree in
+    let same_rowid = heir_rowid t project env table shaped comes in
+    let over : Database = record { schema = record_schema; trees = s.now.trees } in
+    let q = updating from tests project in
+    let cast_of = λ (a : Row). cast_row t (drop 1 a) in
+    let it : Changed over after (mode_of s) t q params tally = changes s.step_limit (mode_of s) over after t params text at q tally found
+    (subst (λ d. Does s.step_limit (mode_of s) params (record s.now { schema = d }) text None (Update at q) (Ok (tally, after))) schema_is does) in
+    let same = picks from tests project (overlay s.now.trees []) params table env it.rows each (it.answer.answer Null) in
+    let edit = edit_of s.now.trees t (ids_of it.rows) Given 1 it.rows in
+    let news : edit.news ≡ map cast_of it.rows = given (without_all table (ids_of it.rows)) (map cast_of it.rows) in
+    let applied = one_step record_schema (mode_of s).keys s.now.trees after.trees edit (nothing_acts (mode_of s).keys t.tree (taken_by s.now.trees edit) edit.news) it.applied in
+    let ids_from : (id : ℤ) → Has (ids_of it.rows) id → (r : Row) × Has table r × (passes tests env r ≡ true) × (id ≡ id_in (rowid r)) = λ (id : ℤ) (h : Has (ids_of it.rows) id).
+    let a = has_mapped (λ r. id_in (rowid r)) it.rows id h in
+    let r = row_of tests project env table it.rows same a.0 a.1 in
+    (r.0, r.1, r.2, a.2 ∙ ap (λ x. id_in (rowid x)) r.3 ∙ ap id_in (goes r.0)) in
+    let news_from : (n : Row) → Has edit.news n → (r : Row) × Has table r × (passes tests env r ≡ true) × (n ≡ heir t project env r) = λ (n : Row) (h : Has edit.news n).
+    let a = has_mapped cast_of it.rows n (subst (λ l. Has l n) news h) in
+    let r = row_of tests project env table it.rows same a.0 a.1 in
+    (r.0, r.1, r.2, a.2 ∙ ap cast_of r.3) in
+    let news_has : (r : Row) → Has table r → passes tests env r ≡ true → Has edit.news (heir t project env r) = λ (r : Row) (h : Has table r) (is : passes tests env r ≡ true).
+    subst (λ l. Has l (heir t project env r)) (sym news) (mapped_has cast_of it.rows _ (row_for tests project env table it.rows same r h is)) in
+    let edited = edited_is table (passes tests env) (heir t project env) shaped same_rowid (ids_of it.rows) edit.news ids_from news_from news_has applied.keyed applied.fresh in
+    let here = applied.rows ∙ edited in
+    record {
+      schema = it.schema;
+      here = here;
+      shaped = subst (IsShaped shape.Table) (sym here) (changed_shaped table (passes tests env) (heir t project env) shaped same_rowid);
+      others = applied.tables;
+      counted = it.counted ∙ ap (λ l. Some (length l)) news
+          ∙ ap Some (length-map it.rows cast_of ∙ length_permutation (map (shows project env) (filter (passes tests env) table)) it.rows same ∙ length-map (filter (passes tests env) table) (shows project env));
+    }

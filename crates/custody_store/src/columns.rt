@@ -2,7 +2,7 @@
 ghost use Rattle.std.specs.Prelude.{◌≡◌, option_map};
 ghost use Rattle.sqlite.specs.Order.{column, bytes};
 ghost use Rattle.sqlite.specs.Edit.{id_in};
-ghost use Rattle.custody_store.specs.Reading.{bytes_unless_null};
+ghost use Rattle.custody_store.specs.Reading.{bytes_unless_null, integer_unless_null};
 
 use sqlite::Row;
 use sqlite::types::ValueRef;
@@ -35,5 +35,15 @@ pub fn bytes_or_null_at(row: &Row, at: usize) -> Option<&[u8]>
     match row.get_ref(at) {
         Ok(ValueRef::Null) | Err(_) => None,
         _ => Some(bytes_at(row, at)),
+    }
+}
+
+/// The number in a column, and none for NULL.
+pub fn integer_or_null_at(row: &Row, at: usize) -> Option<i64>
+    ensures { result ≡ integer_unless_null (column row.now at) }
+{
+    match row.get_ref(at) {
+        Ok(ValueRef::Null) | Err(_) => None,
+        _ => Some(integer_at(row, at)),
     }
 }

@@ -2,8 +2,9 @@
 ghost use Rattle.std.specs.Prelude.{◌≡◌, pos, [], IsTrue, OnOk, Ok, IfErr};
 ghost use Rattle.sqlite.specs.State.{HasCleanDisk, Survives, ExecutesInside, KeepsCommit};
 ghost use Rattle.sqlite.specs.Held.{state};
-ghost use Rattle.custody_store.specs.Schema.{no_schema, record_schema};
-ghost use Rattle.custody_store.specs.Making.{IsMaking, IsMade};
+ghost use Rattle.sqlite.specs.Change.{next_tree};
+ghost use Rattle.custody_store.specs.Schema.{no_schema, first_schema, record_schema};
+ghost use Rattle.custody_store.specs.Making.{IsMaking, IsMade, none_in};
 ghost use Rattle.custody_records.specs.Rows.{fresh};
 ghost use Rattle.custody_store.specs.Standing.{standing, Founds};
 
@@ -14,14 +15,30 @@ use sqlite::{Alter, Connection, Transaction};
 /// Makes one table.
 fn make<S: Alter>(tx: &mut Transaction<'_, S>, sql: &str) -> Result<(), StoreFault>
     ensures same_reference { tx.new.conn.ghost_name ≡ tx.old.conn.ghost_name }
-    ensures made { HasCleanDisk (state S.Store tx.new.conn.now) → IsTrue tx.old.conn.now.in_transaction
-        → OnOk result ((count : _) × ExecutesInside 0 sql.now [] (state S.Store tx.old.conn.now) (state S.Store tx.new.conn.now) (Ok count)) }
+    ensures made { HasCleanDisk (state S.Store tx.new.conn.now)
+        → OnOk result (IsTrue tx.old.conn.now.in_transaction → (count : _) × ExecutesInside 0 sql.now [] (state S.Store tx.old.conn.now) (state S.Store tx.new.conn.now) (Ok count)) }
     ensures keeps { HasCleanDisk (state S.Store tx.new.conn.now) → KeepsCommit (state S.Store tx.old.conn.now) (state S.Store tx.new.conn.now) }
     ensures survives { Survives (state S.Store tx.old.conn.now) (state S.Store tx.new.conn.now) (λ _. ⊥) }
     ensures kind { IfErr result (λ e. e ≡ StoreFault.Failed) }
 {
     tx.execute(sql, &[])?;
     Ok(())
+}
+
+/// Makes the table of holds, beside those of schema 1.
+pub fn make_holds<S: Alter>(tx: &mut Transaction<'_, S>) -> Result<(), StoreFault>
+    ensures same_reference { tx.new.conn.ghost_name ≡ tx.old.conn.ghost_name }
+    ensures made { HasCleanDisk (state S.Store tx.new.conn.now)
+        → OnOk result ((first : _) (rows : _) → rows (next_tree first_schema) ≡ []
+        → IsMaking first_schema first rows (state S.Store tx.old.conn.now) → IsMaking record_schema first rows (state S.Store tx.new.conn.now)) }
+    ensures keeps { HasCleanDisk (state S.Store tx.new.conn.now) → KeepsCommit (state S.Store tx.old.conn.now) (state S.Store tx.new.conn.now) }
+    ensures survives { Survives (state S.Store tx.old.conn.now) (state S.Store tx.new.conn.now) (λ _. ⊥) }
+    ensures kind { IfErr result (λ e. e ≡ StoreFault.Failed) }
+{
+    make(
+        tx,
+        "CREATE TABLE hold (reference TEXT PRIMARY KEY NOT NULL, tld TEXT NOT NULL REFERENCES registry (tld), day INTEGER NOT NULL, at INTEGER NOT NULL, lifted INTEGER) STRICT",
+    )
 }
 
 /// Writes the row of meta.
@@ -32,23 +49,23 @@ fn put_meta<S: Alter>(
 ) -> Result<(), StoreFault>
     ensures same_reference { tx.new.conn.ghost_name ≡ tx.old.conn.ghost_name }
     ensures made { HasCleanDisk (state S.Store tx.new.conn.now)
-        → OnOk result ((first : _) → IsMaking record_schema first (state S.Store tx.old.conn.now) → IsMade digits.now (pos blocks) first (state S.Store tx.new.conn.now)) }
+        → OnOk result ((first : _) → IsMaking record_schema first none_in (state S.Store tx.old.conn.now) → IsMade (fresh digits.now (pos blocks)) first (state S.Store tx.new.conn.now)) }
     ensures keeps { HasCleanDisk (state S.Store tx.new.conn.now) → KeepsCommit (state S.Store tx.old.conn.now) (state S.Store tx.new.conn.now) }
     ensures survives { Survives (state S.Store tx.old.conn.now) (state S.Store tx.new.conn.now) (λ _. ⊥) }
     ensures kind { IfErr result (λ e. e ≡ StoreFault.Failed) }
 {
     tx.execute(
-        "INSERT INTO meta (one, schema_no, number, blocks) VALUES (1, 1, ?1, ?2)",
+        "INSERT INTO meta (one, schema_no, number, blocks) VALUES (1, 2, ?1, ?2)",
         &[text(digits), number(blocks)],
     )?;
     Ok(())
 }
 
-/// Makes the five tables.
+/// Makes the six tables.
 fn make_tables<S: Alter>(tx: &mut Transaction<'_, S>) -> Result<(), StoreFault>
     ensures same_reference { tx.new.conn.ghost_name ≡ tx.old.conn.ghost_name }
     ensures made { HasCleanDisk (state S.Store tx.new.conn.now)
-        → OnOk result ((first : _) → IsMaking no_schema first (state S.Store tx.old.conn.now) → IsMaking record_schema first (state S.Store tx.new.conn.now)) }
+        → OnOk result ((first : _) → IsMaking no_schema first none_in (state S.Store tx.old.conn.now) → IsMaking record_schema first none_in (state S.Store tx.new.conn.now)) }
     ensures keeps { HasCleanDisk (state S.Store tx.new.conn.now) → KeepsCommit (state S.Store tx.old.conn.now) (state S.Store tx.new.conn.now) }
     ensures survives { Survives (state S.Store tx.old.conn.now) (state S.Store tx.new.conn.now) (λ _. ⊥) }
     ensures kind { IfErr result (λ e. e ≡ StoreFault.Failed) }
@@ -73,7 +90,7 @@ fn make_tables<S: Alter>(tx: &mut Transaction<'_, S>) -> Result<(), StoreFault>
         tx,
         "CREATE TABLE handover (reference TEXT PRIMARY KEY NOT NULL, tld TEXT NOT NULL REFERENCES registry (tld), ground TEXT NOT NULL, at INTEGER NOT NULL, names TEXT NOT NULL) STRICT",
     )?;
-    Ok(())
+    make_holds(tx)
 }
 
 /// Makes the tables and the row of meta in one transaction.

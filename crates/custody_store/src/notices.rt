@@ -71,6 +71,8 @@ impl Stored for Notice {
 
     ghost order = { notice_cmp };
 
+    ghost IsThere = { λ s. s.HasTablesFirst };
+
     ghost rows_of = { λ rows. rows.notices };
 
     ghost answered = { answered_notice };

@@ -41,6 +41,8 @@ impl Stored for Part {
 
     ghost order = { part_cmp };
 
+    ghost IsThere = { λ s. s.HasTablesFirst };
+
     ghost rows_of = { λ rows. rows.parts };
 
     ghost answered = { answered_part };

@@ -22,6 +22,8 @@ impl Stored for Registry {
 
     ghost order = { text_cmp };
 
+    ghost IsThere = { λ s. s.HasTablesFirst };
+
     ghost rows_of = { λ rows. rows.registries };
 
     ghost answered = { answered_registry };

@@ -45,6 +45,8 @@ impl Stored for Release {
 
     ghost order = { text_cmp };
 
+    ghost IsThere = { λ s. s.HasTablesFirst };
+
     ghost rows_of = { λ rows. rows.handovers };
 
     ghost answered = { answered_handover };

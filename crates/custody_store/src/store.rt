@@ -1,25 +1,27 @@
 //! The store: a connection with the tables of the records.
 ghost use Rattle.std.specs.Prelude.{◌≡◌, ◌≤◌, length, true, false, pos, Err, IfOk, IfErr, MatchResult};
-ghost use Rattle.custody_records.specs.Rows.{fresh, with_registry_row, with_part_row, with_notice_row, with_handover_row};
+ghost use Rattle.custody_records.specs.Rows.{fresh, with_registry_row, with_part_row, with_notice_row, with_handover_row, with_hold_row, with_lifting};
 ghost use Rattle.custody_records.specs.Form.{form_of, InForm, OutOfForm};
 ghost use Rattle.custody_records.specs.Held.{records_of};
 ghost use Rattle.custody_records.specs.declared.damage.Damage.{Damage};
 ghost use Rattle.custody_records.specs.declared.damage.Damage.TheVariants as damage;
 ghost use Rattle.custody_records.specs.Written.{digits_of, row_of_registry};
 ghost use Rattle.custody_store.specs.Dropping.{without_due, count_due};
-ghost use Rattle.custody_store.specs.Records.{staged_row, notice_row_of, release_row_of};
-ghost use Rattle.custody_store.specs.Standing.{standing, Commits, Founds, Reads, has_any, has_all};
+ghost use Rattle.custody_store.specs.Records.{staged_row, notice_row_of, release_row_of, hold_row_of};
+ghost use Rattle.custody_store.specs.Standing.{standing, Commits, Founds, Migrates, Reads, has_any, has_all};
 
 use crate::calls::{change, run};
 use crate::create::found;
 use crate::faults::StoreFault;
-use crate::loading::{read_all, select_all};
+use crate::loading::{read_all, select_all, volume_in};
+use crate::meta::select_meta;
+use crate::migrating::go_over;
 use crate::notices::{id_of, number_of, rev_of};
 use crate::releases::ground_of;
-use crate::tables::{has_all, has_any};
-use crate::values::{blob, day, kept_until, large, moment, number, small, text};
-use custody_records::{Damage, Records, Registry, Release, write_blob, write_number};
-use deposit_name::DepositName;
+use crate::tables::{has_all, has_any, has_table};
+use crate::values::{blob, day, kept_until, large, moment, moment_or_null, number, small, text};
+use custody_records::{Damage, Hold, Records, Registry, Release, write_blob, write_number};
+use deposit_name::{DepositName, Reference};
 use desk::Notice;
 use schedule::{Day, Sec};
 use sqlite::{Alter, Connection};
@@ -59,7 +61,7 @@ impl<S: Alter> Store<S> {
         db
     }
 
-    /// Makes the tables, with the number and the blocks of the volume.
+    /// Makes the tables of schema 2, with the number and the blocks of the volume.
     pub fn create(&mut self, number: u64, blocks: u32) -> Result<(), StoreFault>
         ensures founds { Founds (standing S.Store self.old) (standing S.Store self.new) (fresh (digits_of number) (pos blocks)) result }
         // Where one of the tables is there, it fails, and nothing is done.
@@ -70,6 +72,14 @@ impl<S: Alter> Store<S> {
             return Err(StoreFault::Failed);
         }
         found(&mut self.db, &write_number(number), blocks)
+    }
+
+    /// Makes tables of schema 1 those of schema 2, and commits it: the table of holds is there then.
+    pub fn migrate(&mut self) -> Result<(), StoreFault>
+        ensures migrates { Migrates (standing S.Store self.old) (standing S.Store self.new) result }
+        ensures kind { IfErr result (λ e. e ≡ StoreFault.Failed) }
+    {
+        go_over(&mut self.db)
     }
 
     /// Adds a registry, and commits it.
@@ -164,8 +174,40 @@ impl<S: Alter> Store<S> {
         )
     }
 
-    /// Drops the bytes of the parts whose last day of keeping is before today, and commits it. It answers
-    /// how many they were. Their records stay.
+    /// Adds a hold, and commits it.
+    pub fn insert_hold(&mut self, hold: &Hold) -> Result<(), StoreFault>
+        ensures commits { Commits (standing S.Store self.old) (standing S.Store self.new)
+            (with_hold_row (hold_row_of hold.now) (standing S.Store self.old).rows) result }
+        ensures kind { IfErr result (λ e. e ≡ StoreFault.Failed) }
+    {
+        run(
+            &mut self.db,
+            "INSERT INTO hold (reference, tld, day, at, lifted) VALUES (?1, ?2, ?3, ?4, ?5)",
+            &[
+                text(hold.reference.as_bytes()),
+                text(hold.tld.as_bytes()),
+                day(hold.day),
+                moment(hold.at),
+                moment_or_null(hold.lifted),
+            ],
+        )
+    }
+
+    /// Writes when the hold of a reference was lifted, and commits it.
+    pub fn lift_hold(&mut self, reference: &Reference, at: Sec) -> Result<(), StoreFault>
+        ensures commits { Commits (standing S.Store self.old) (standing S.Store self.new)
+            (with_lifting reference.now at (standing S.Store self.old).rows) result }
+        ensures kind { IfErr result (λ e. e ≡ StoreFault.Failed) }
+    {
+        run(
+            &mut self.db,
+            "UPDATE hold SET lifted = ?2 WHERE reference = ?1",
+            &[text(reference.as_bytes()), moment(at)],
+        )
+    }
+
+    /// Drops the bytes of the parts whose last day of keeping is before today and whose day is not on
+    /// hold, and commits it. It answers how many they were. Their records stay.
     pub fn drop_bytes(&mut self, today: Day) -> Result<u64, StoreFault>
         ensures commits { Commits (standing S.Store self.old) (standing S.Store self.new) (without_due today (standing S.Store self.old).rows) result }
         ensures count { (standing S.Store self.new).IsHonest → (standing S.Store self.old).IsReady → IfOk result (λ count. count ≡ count_due today (standing S.Store self.old).rows) }
@@ -173,7 +215,7 @@ impl<S: Alter> Store<S> {
     {
         change(
             &mut self.db,
-            "UPDATE part SET extents = NULL WHERE extents IS NOT NULL AND keep_day < ?1",
+            "UPDATE part SET extents = NULL WHERE extents IS NOT NULL AND keep_day < ?1 AND NOT EXISTS (SELECT 1 FROM hold WHERE hold.tld = part.tld AND hold.day = part.day AND hold.lifted IS NULL)",
             &[day(today)],
         )
     }
@@ -190,7 +232,10 @@ impl<S: Alter> Store<S> {
         if !has_all(&self.db) {
             return Err(StoreFault::Damaged(Damage::Form));
         }
-        let rows = select_all(&mut self.db)?;
-        read_all(alloc, &rows)
+        let meta = select_meta(&mut self.db)?;
+        let has_holds = has_table(self.db.schema(), "hold");
+        let volume = volume_in(&meta, has_holds)?;
+        let rows = select_all(&mut self.db, has_holds)?;
+        read_all(alloc, volume, &rows)
     }
 }

@@ -8,7 +8,7 @@ ghost use Rattle.custody_records.specs.Held.{records_of};
 ghost use Rattle.custody_records.specs.Records as specs;
 ghost use Rattle.custody_records.specs.Rows.{Rows};
 ghost use Rattle.custody_records.specs.declared.errors.RowError.TheVariants.{OutOfForm};
-ghost use Rattle.custody_store.specs.Standing.{standing, Reads};
+ghost use Rattle.custody_store.specs.Standing.{Standing, standing, Reads};
 
 use crate::faults::StoreFault;
 use custody_records::{Records, RowError};
@@ -26,6 +26,9 @@ pub trait Stored {
 
     ghost order: { Key → Key → Ordering };
 
+    // The table is there, as it is made, and first are those that are made before it.
+    ghost IsThere: { Standing → Type 0 };
+
     // The table among all rows, and a row of it as a query answers it.
     ghost rows_of: { Rows → Option (List Columns) };
 
@@ -41,7 +44,7 @@ pub trait Stored {
 
     /// The rows of the table, in the order in which they were added.
     fn select<S: Alter>(db: &mut Connection<S>) -> Result<Vec<Row>, StoreFault>
-        ensures found { (standing S.Store db.new).IsHonest → (standing S.Store db.old).HasTablesFirst
+        ensures found { (standing S.Store db.new).IsHonest → IsThere (standing S.Store db.old)
             → IfOk result (λ rows. rows_of (standing S.Store db.old).rows ≡ Some (map answered rows.items)) }
         ensures reads { Reads (standing S.Store db.old) (standing S.Store db.new) result }
         ensures kind { IfErr result (λ e. e ≡ StoreFault.Failed) };

@@ -1,7 +1,7 @@
 //! Which tables a database has.
 ghost use Rattle.std.specs.Prelude.{◌≡◌, ◌||◌, ◌&&◌, codes};
 ghost use Rattle.custody_store.specs.Reading.{has_table};
-ghost use Rattle.custody_store.specs.Standing.{standing, has_any, has_all};
+ghost use Rattle.custody_store.specs.Standing.{standing, has_any, has_all, is_earlier};
 
 use sqlite::{Alter, Connection};
 use sqlite_schema::names::same_name;
@@ -18,7 +18,7 @@ pub fn has_table(schema: &Schema, name: &str) -> bool
         .any(|table| same_name(table.name.as_slice(), name.as_bytes()))
 }
 
-/// Whether one of the five tables is there.
+/// Whether one of the six tables is there.
 pub fn has_any<S: Alter>(db: &Connection<S>) -> bool
     ensures { result ≡ has_any (standing S.Store db.now) }
 {
@@ -28,9 +28,10 @@ pub fn has_any<S: Alter>(db: &Connection<S>) -> bool
         || has_table(schema, "part")
         || has_table(schema, "notice")
         || has_table(schema, "handover")
+        || has_table(schema, "hold")
 }
 
-/// Whether all five tables are there.
+/// Whether all five tables are there that both schemas have.
 pub fn has_all<S: Alter>(db: &Connection<S>) -> bool
     ensures { result ≡ has_all (standing S.Store db.now) }
 {
@@ -40,4 +41,11 @@ pub fn has_all<S: Alter>(db: &Connection<S>) -> bool
         && has_table(schema, "part")
         && has_table(schema, "notice")
         && has_table(schema, "handover")
+}
+
+/// Whether all tables of schema 1 are there, and that of holds is not.
+pub fn is_earlier<S: Alter>(db: &Connection<S>) -> bool
+    ensures { result ≡ is_earlier (standing S.Store db.now) }
+{
+    has_all(db) && !has_table(db.schema(), "hold")
 }

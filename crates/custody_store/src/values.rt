@@ -1,8 +1,9 @@
 //! The parameters of statements.
-ghost use Rattle.std.specs.Prelude.{◌≡◌, ◌^◌, ◌≤◌, pos, IfSome, IfNone};
+ghost use Rattle.std.specs.Prelude.{◌≡◌, ◌^◌, ◌≤◌, pos, option_map, IfSome, IfNone};
 ghost use Rattle.schedule.specs.Schedule.{year_after};
 ghost use Rattle.sqlite.specs.declared.types.Value.TheVariants.{Int, Text, Blob};
 ghost use Rattle.sqlite_value.specs.Value.{owned};
+ghost use Rattle.custody_store.specs.Reading.{integer_or_null};
 
 use schedule::{Day, Sec, keep_until};
 use sqlite::types::ValueRef;
@@ -52,6 +53,16 @@ pub fn moment<'v>(s: Sec) -> ValueRef<'v>
     ensures { owned result ≡ Int (pos s) }
 {
     ValueRef::Int(s.seconds())
+}
+
+/// A moment, and NULL for none.
+pub fn moment_or_null<'v>(s: Option<Sec>) -> ValueRef<'v>
+    ensures { owned result ≡ integer_or_null (option_map pos s) }
+{
+    match s {
+        Some(s) => moment(s),
+        None => ValueRef::Null,
+    }
 }
 
 /// The day until which a part is kept that was received on this day.

@@ -5,7 +5,7 @@ use Rattle.sqlite.specs.Tree.{Trees}
 use Rattle.sqlite.proofs.StateLemmas.{survives_then}
 use Rattle.sqlite.proofs.InsideLemmas.{keeps_then}
 use Rattle.custody_records.specs.Rows.{fresh}
-use Rattle.custody_store.proofs.FoundLemmas.{founds_at, founds_by, starts_at, keeps_at, survives_at, founded, founded_not, uncommitted}
+use Rattle.custody_store.proofs.EndLemmas.{founds, starts_at, keeps_at, survives_at, committed, undone, uncommitted}
 use Rattle.custody_store.proofs.create.found.Goals as goal
 
 pub returns-in-Ok-clause-founds : goal.returns-in-Ok-clause-founds
@@ -17,16 +17,16 @@ returns-in-Ok-clause-founds g c =
     let end = c.commit.new.self.0 in
     let is = c.transaction-tx.ensures.begun in
     let same : end ≡ c.db-2-1.given.0 = search rules in
+    let after = fresh c.args.digits.now (pos c.args.blocks) in
     let P = λ (db : Trees). db ≡ (state g.S.Store mid).now.trees in
     let inside = survives_then (state g.S.Store begun) (state g.S.Store one) (state g.S.Store mid) _ _ (λ _. ⊥) (λ _ db none. none) (λ _ db none. none) c.make_tables.ensures.survives c.put_meta.ensures.survives in
     let whole = survives_then (state g.S.Store begun) (state g.S.Store mid) (state g.S.Store end) _ _ P (λ _ db none. absurd none) (λ _ db h. h) inside c.commit.ensures.survives in
     let all = survives_at g.S.Store old begun is (state g.S.Store end) P whole in
-    founds_at g.S.Store old end _ (fresh c.args.digits.now (pos c.args.blocks)) _ same
-    (founds_by (state g.S.Store old) (state g.S.Store end) P (fresh c.args.digits.now (pos c.args.blocks)) _ all c.commit.ensures.ended (λ late bare.
+    founds g.S.Store old end _ same P _ all c.commit.ensures.ended after (λ late bare.
     let clean2 : HasCleanDisk (state g.S.Store mid) = omega (arith, late, c.commit.ensures.survives.clean) in
     let clean1 : HasCleanDisk (state g.S.Store one) = omega (arith, clean2, c.put_meta.ensures.survives.clean) in
     let made = c.in_ok-put_meta.ensures.made clean2 _ (c.in_ok-make_tables.ensures.made clean1 _ (starts_at g.S.Store old begun is bare)) in
-    founded (state g.S.Store old) (state g.S.Store end) bare (g.met.S.Store.settled end.store) late c.args.digits.now (pos c.args.blocks) (state g.S.Store mid) made all _ (c.in-Ok.ensures.ok late).1))
+    committed (state g.S.Store old) (state g.S.Store end) bare.rest (g.met.S.Store.settled end.store) late after (state g.S.Store mid) made all _ (c.in-Ok.ensures.ok late).1)
 
 pub returns-in-Err-clause-founds : goal.returns-in-Err-clause-founds
 returns-in-Err-clause-founds g c =
@@ -37,16 +37,16 @@ returns-in-Err-clause-founds g c =
     let end = c.commit.new.self.0 in
     let is = c.transaction-tx.ensures.begun in
     let same : end ≡ c.db-2-1.given.0 = search rules in
+    let after = fresh c.args.digits.now (pos c.args.blocks) in
     let P = λ (db : Trees). db ≡ (state g.S.Store mid).now.trees in
     let inside = survives_then (state g.S.Store begun) (state g.S.Store one) (state g.S.Store mid) _ _ (λ _. ⊥) (λ _ db none. none) (λ _ db none. none) c.make_tables.ensures.survives c.put_meta.ensures.survives in
     let whole = survives_then (state g.S.Store begun) (state g.S.Store mid) (state g.S.Store end) _ _ P (λ _ db none. absurd none) (λ _ db h. h) inside c.commit.ensures.survives in
     let all = survives_at g.S.Store old begun is (state g.S.Store end) P whole in
-    founds_at g.S.Store old end _ (fresh c.args.digits.now (pos c.args.blocks)) _ same
-    (founds_by (state g.S.Store old) (state g.S.Store end) P (fresh c.args.digits.now (pos c.args.blocks)) _ all c.commit.ensures.ended (λ late bare.
+    founds g.S.Store old end _ same P _ all c.commit.ensures.ended after (λ late bare.
     let clean2 : HasCleanDisk (state g.S.Store mid) = omega (arith, late, c.commit.ensures.survives.clean) in
     let clean1 : HasCleanDisk (state g.S.Store one) = omega (arith, clean2, c.put_meta.ensures.survives.clean) in
     let made = c.in_ok-put_meta.ensures.made clean2 _ (c.in_ok-make_tables.ensures.made clean1 _ (starts_at g.S.Store old begun is bare)) in
-    uncommitted (state g.S.Store old) (state g.S.Store end) bare (g.met.S.Store.settled end.store) late c.args.digits.now (pos c.args.blocks) (state g.S.Store mid) made all _ _ (c.in-Err.ensures.err late)))
+    uncommitted (state g.S.Store old) (state g.S.Store end) bare.rest (g.met.S.Store.settled end.store) late after (state g.S.Store mid) made all _ _ (c.in-Err.ensures.err late))
 
 pub returns-in_err-put_meta-clause-founds : goal.returns-in_err-put_meta-clause-founds
 returns-in_err-put_meta-clause-founds g c =
@@ -57,17 +57,17 @@ returns-in_err-put_meta-clause-founds g c =
     let end = c.drop-tx-in_err-put_meta.new.self.0 in
     let is = c.transaction-tx.ensures.begun in
     let same : end ≡ c.db-in_err-put_meta-1.given.0 = search rules in
+    let after = fresh c.args.digits.now (pos c.args.blocks) in
     let P = λ (db : Trees). ⊥ in
     let inside = survives_then (state g.S.Store begun) (state g.S.Store one) (state g.S.Store mid) _ _ (λ _. ⊥) (λ _ db none. none) (λ _ db none. none) c.make_tables.ensures.survives c.put_meta.ensures.survives in
     let whole = survives_then (state g.S.Store begun) (state g.S.Store mid) (state g.S.Store end) _ _ P (λ _ db none. none) (λ _ db none. none) inside c.drop-tx-in_err-put_meta.ensures.survives in
     let all = survives_at g.S.Store old begun is (state g.S.Store end) P whole in
-    founds_at g.S.Store old end _ (fresh c.args.digits.now (pos c.args.blocks)) _ same
-    (founds_by (state g.S.Store old) (state g.S.Store end) P (fresh c.args.digits.now (pos c.args.blocks)) _ all c.drop-tx-in_err-put_meta.ensures.ended (λ late bare.
+    founds g.S.Store old end _ same P _ all c.drop-tx-in_err-put_meta.ensures.ended after (λ late bare.
     let clean2 : HasCleanDisk (state g.S.Store mid) = omega (arith, late, c.drop-tx-in_err-put_meta.ensures.survives.clean) in
     let clean1 : HasCleanDisk (state g.S.Store one) = omega (arith, clean2, c.put_meta.ensures.survives.clean) in
     let keeps = keeps_then (state g.S.Store begun) (state g.S.Store one) (state g.S.Store mid) (c.make_tables.ensures.keeps clean1) (c.put_meta.ensures.keeps clean2) in
-    founded_not (state g.S.Store old) (state g.S.Store end) bare (g.met.S.Store.settled end.store) late c.args.digits.now (pos c.args.blocks) (state g.S.Store mid) _ c.from_residual-in_err-put_meta.ensures.0 (keeps_at g.S.Store old begun is (state g.S.Store mid) keeps)
-    (c.drop-tx-in_err-put_meta.ensures.undone late) all))
+    undone (state g.S.Store old) (state g.S.Store end) bare.rest (g.met.S.Store.settled end.store) late after (state g.S.Store mid) _ c.from_residual-in_err-put_meta.ensures.0 (keeps_at g.S.Store old begun is (state g.S.Store mid) keeps)
+    (c.drop-tx-in_err-put_meta.ensures.undone late) all)
 
 pub returns-in_err-make_tables-clause-founds : goal.returns-in_err-make_tables-clause-founds
 returns-in_err-make_tables-clause-founds g c =
@@ -77,11 +77,11 @@ returns-in_err-make_tables-clause-founds g c =
     let end = c.drop-tx.new.self.0 in
     let is = c.transaction-tx.ensures.begun in
     let same : end ≡ c.db-1.given.0 = search rules in
+    let after = fresh c.args.digits.now (pos c.args.blocks) in
     let P = λ (db : Trees). ⊥ in
     let whole = survives_then (state g.S.Store begun) (state g.S.Store one) (state g.S.Store end) _ _ P (λ _ db none. none) (λ _ db none. none) c.make_tables.ensures.survives c.drop-tx.ensures.survives in
     let all = survives_at g.S.Store old begun is (state g.S.Store end) P whole in
-    founds_at g.S.Store old end _ (fresh c.args.digits.now (pos c.args.blocks)) _ same
-    (founds_by (state g.S.Store old) (state g.S.Store end) P (fresh c.args.digits.now (pos c.args.blocks)) _ all c.drop-tx.ensures.ended (λ late bare.
+    founds g.S.Store old end _ same P _ all c.drop-tx.ensures.ended after (λ late bare.
     let clean1 : HasCleanDisk (state g.S.Store one) = omega (arith, late, c.drop-tx.ensures.survives.clean) in
-    founded_not (state g.S.Store old) (state g.S.Store end) bare (g.met.S.Store.settled end.store) late c.args.digits.now (pos c.args.blocks) (state g.S.Store one) _ c.from_residual.ensures.0 (keeps_at g.S.Store old begun is (state g.S.Store one) (c.make_tables.ensures.keeps clean1))
-    (c.drop-tx.ensures.undone late) all))
+    undone (state g.S.Store old) (state g.S.Store end) bare.rest (g.met.S.Store.settled end.store) late after (state g.S.Store one) _ c.from_residual.ensures.0 (keeps_at g.S.Store old begun is (state g.S.Store one) (c.make_tables.ensures.keeps clean1))
+    (c.drop-tx.ensures.undone late) all)

@@ -1,30 +1,35 @@
-use Rattle.std.proofs.Common.{arith}
+use Rattle.std.proofs.Common.{refl, arith}
+use Rattle.std.proofs.lemmas.Result.{on_ok_weaker}
 use Rattle.sqlite.specs.State.{HasCleanDisk}
 use Rattle.sqlite.specs.Held.{state}
 use Rattle.custody_store.specs.Schema.{no_schema, meta_schema, meta_table, registry_table, part_table, notice_table, handover_table}
+use Rattle.custody_store.specs.Making.{none_in}
 use Rattle.custody_store.proofs.SchemaLemmas.{meta_text, registry_text, part_text, notice_text, handover_text, with_registry, with_part, with_notice, makes_meta, makes_registry, makes_part, makes_notice, makes_handover}
 use Rattle.custody_store.proofs.MakingLemmas.{makes}
 use Rattle.custody_store.proofs.create.make_tables.Goals as goal
 
 pub returns-clause-made : goal.returns-clause-made
-returns-clause-made g c clean first start =
+returns-clause-made g c clean =
     let s0 = state g.S.Store c.args.tx.now.conn.now in
     let s1 = state g.S.Store c.make.new.tx.conn.now in
     let s2 = state g.S.Store c.make-2.new.tx.conn.now in
     let s3 = state g.S.Store c.make-3.new.tx.conn.now in
     let s4 = state g.S.Store c.make-4.new.tx.conn.now in
     let s5 = state g.S.Store c.make-5.new.tx.conn.now in
-    let clean4 : HasCleanDisk s4 = omega (arith, c.make-5.ensures.survives.clean) in
+    let clean5 : HasCleanDisk s5 = omega (arith, c.make_holds.ensures.survives.clean) in
+    let clean4 : HasCleanDisk s4 = omega (arith, clean5, c.make-5.ensures.survives.clean) in
     let clean3 : HasCleanDisk s3 = omega (arith, clean4, c.make-4.ensures.survives.clean) in
     let clean2 : HasCleanDisk s2 = omega (arith, clean3, c.make-3.ensures.survives.clean) in
     let clean1 : HasCleanDisk s1 = omega (arith, clean2, c.make-2.ensures.survives.clean) in
+    on_ok_weaker c.make_holds.result (λ last first start.
     let ran1 = c.in_ok-make.ensures.made clean1 start.inside in
-    let one = makes meta_text s0 s1 ran1.0 ran1.1 no_schema meta_table first makes_meta start in
+    let one = makes meta_text s0 s1 ran1.0 ran1.1 no_schema meta_table first none_in refl makes_meta start in
     let ran2 = c.in_ok-make-2.ensures.made clean2 one.inside in
-    let two = makes registry_text s1 s2 ran2.0 ran2.1 meta_schema registry_table first makes_registry one in
+    let two = makes registry_text s1 s2 ran2.0 ran2.1 meta_schema registry_table first none_in refl makes_registry one in
     let ran3 = c.in_ok-make-3.ensures.made clean3 two.inside in
-    let three = makes part_text s2 s3 ran3.0 ran3.1 with_registry part_table first makes_part two in
+    let three = makes part_text s2 s3 ran3.0 ran3.1 with_registry part_table first none_in refl makes_part two in
     let ran4 = c.in_ok-make-4.ensures.made clean4 three.inside in
-    let four = makes notice_text s3 s4 ran4.0 ran4.1 with_part notice_table first makes_notice three in
-    let ran5 = c.in_ok-make-5.ensures.made clean four.inside in
-    makes handover_text s4 s5 ran5.0 ran5.1 with_notice handover_table first makes_handover four
+    let four = makes notice_text s3 s4 ran4.0 ran4.1 with_part notice_table first none_in refl makes_notice three in
+    let ran5 = c.in_ok-make-5.ensures.made clean5 four.inside in
+    let five = makes handover_text s4 s5 ran5.0 ran5.1 with_notice handover_table first none_in refl makes_handover four in
+    last first none_in refl five) (c.make_holds.ensures.made clean)

@@ -6,7 +6,7 @@ use Rattle.custody_store.proofs.FindLemmas.{finds_notice}
 use Rattle.custody_store.proofs.notices.NoticeStored.select.Goals as goal
 
 pub returns-clause-found : goal.returns-clause-found
-returns-clause-found g c clean at = finds_notice (state g.S.Store c.args.db.now) (state g.S.Store c.ask.new.db) _ clean at c.ask.ensures.asks
+returns-clause-found g c clean at = finds_notice (state g.S.Store c.args.db.now) (state g.S.Store c.ask.new.db) _ clean at.0 c.ask.ensures.asks
 
 pub returns-clause-reads : goal.returns-clause-reads
 returns-clause-reads g c = reads select_notice_text select_notice_query items_of (state g.S.Store c.args.db.now) (state g.S.Store c.ask.new.db) _ c.ask.ensures.asks

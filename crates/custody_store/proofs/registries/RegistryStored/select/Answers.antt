@@ -6,7 +6,7 @@ use Rattle.custody_store.proofs.FindLemmas.{finds_registry}
 use Rattle.custody_store.proofs.registries.RegistryStored.select.Goals as goal
 
 pub returns-clause-found : goal.returns-clause-found
-returns-clause-found g c clean at = finds_registry (state g.S.Store c.args.db.now) (state g.S.Store c.ask.new.db) _ clean at c.ask.ensures.asks
+returns-clause-found g c clean at = finds_registry (state g.S.Store c.args.db.now) (state g.S.Store c.ask.new.db) _ clean at.0 c.ask.ensures.asks
 
 pub returns-clause-reads : goal.returns-clause-reads
 returns-clause-reads g c = reads select_registry_text select_registry_query items_of (state g.S.Store c.args.db.now) (state g.S.Store c.ask.new.db) _ c.ask.ensures.asks

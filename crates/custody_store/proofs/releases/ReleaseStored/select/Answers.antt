@@ -6,7 +6,7 @@ use Rattle.custody_store.proofs.FindLemmas.{finds_handover}
 use Rattle.custody_store.proofs.releases.ReleaseStored.select.Goals as goal
 
 pub returns-clause-found : goal.returns-clause-found
-returns-clause-found g c clean at = finds_handover (state g.S.Store c.args.db.now) (state g.S.Store c.ask.new.db) _ clean at c.ask.ensures.asks
+returns-clause-found g c clean at = finds_handover (state g.S.Store c.args.db.now) (state g.S.Store c.ask.new.db) _ clean at.0 c.ask.ensures.asks
 
 pub returns-clause-reads : goal.returns-clause-reads
 returns-clause-reads g c = reads select_handover_text select_handover_query items_of (state g.S.Store c.args.db.now) (state g.S.Store c.ask.new.db) _ c.ask.ensures.asks

@@ -1,12 +1,15 @@
-use Rattle.std.proofs.Common.{◌≡◌, sym, subst, rules}
-use Rattle.std.specs.Prelude.{MatchResult}
+use Rattle.std.proofs.Common.{◌≡◌, map, codes, Err, sym, ap, ◌∙◌, rules}
+use Rattle.std.specs.Prelude.{is_some}
 use Rattle.sqlite.specs.Held.{state}
-use Rattle.custody_records.specs.declared.damage.Damage.{Damage}
-use Rattle.custody_records.specs.Form.{form_of, InForm, OutOfForm}
-use Rattle.custody_records.specs.Held.{records_of}
+use Rattle.custody_records.specs.declared.damage.Damage.TheVariants as damage
+use Rattle.custody_records.specs.Form.{in_form_or, records_in}
 use Rattle.custody_records.specs.Rows.{Rows}
-use Rattle.custody_store.specs.declared.faults.StoreFault.TheVariants.{Damaged}
-use Rattle.custody_store.proofs.ReadLemmas.{reads_none, reads_err, reads_answers, all_there}
+use Rattle.custody_store.specs.Loaded.{answered_rows}
+use Rattle.custody_store.specs.Reading.{answered_meta, rows_in, has_table}
+use Rattle.custody_store.specs.Standing.{shown}
+use Rattle.custody_store.proofs.FormLemmas.{form_is, read_form}
+use Rattle.custody_store.proofs.MissingLemmas.{holds_there}
+use Rattle.custody_store.proofs.ReadLemmas.{reads_none, reads_err, reads_answers, reads_then, still, all_there, meta_of_first}
 use Rattle.custody_store.proofs.store.Store.load.Goals as goal
 
 pub returns-then-not-has_all-clause-found : goal.returns-then-not-has_all-clause-found
@@ -16,15 +19,47 @@ returns-then-not-has_all-clause-found g c clean first =
 pub returns-then-not-has_all-clause-reads : goal.returns-then-not-has_all-clause-reads
 returns-then-not-has_all-clause-reads g c = reads_none (state g.S.Store c.args.self.now) _
 
+pub returns-in_err-meta-clause-reads : goal.returns-in_err-meta-clause-reads
+returns-in_err-meta-clause-reads g c = rw (← c.self.view_is) (reads_err _ _ _ _ c.from_residual.ensures.0 c.in_err-meta.ensures.reads)
+
+pub returns-in_err-volume-clause-reads : goal.returns-in_err-volume-clause-reads
+returns-in_err-volume-clause-reads g c = rw (← c.self.view_is) (reads_answers _ _ _ _ c.in_ok-meta.ensures.reads)
+
+pub returns-in_err-volume-clause-found : goal.returns-in_err-volume-clause-found
+returns-in_err-volume-clause-found g c =
+    let s0 = state g.S.Store c.self.inside.db in
+    let s1 = state g.S.Store c.select_meta.new.db in
+    let rows = rows_in s0.now.trees in
+    let is : c.from_residual-in_err-volume.result ≡ Err c.in_err-volume.field-0.0 = search rules in
+    let same : has_table (codes "hold") s1.now.schema ≡ c.has_table-has_holds.result = search rules in
+    rw (← c.self.view_is) (λ clean first.
+    let stands = still (shown s0) (shown s1) _ c.in_ok-meta.ensures.reads clean first.0.rest in
+    let there = ap (λ (r : Rows). is_some r.holds) (sym stands.rows) ∙ holds_there s1 (stands.first_tables first) ∙ same in
+    rw is (λ why told.
+    form_is (map answered_meta c.in_ok-meta.meta.items) rows (c.in_ok-meta.ensures.found clean (meta_of_first s0 first))
+    ∙ (rw c.deref.ensures.value at c.in_err-volume.ensures) why told rows there))
+
 pub returns-in_err-rows-clause-reads : goal.returns-in_err-rows-clause-reads
-returns-in_err-rows-clause-reads g c = rw (← c.self.view_is) (reads_err _ _ _ c.from_residual.result c.from_residual.ensures.0 c.in_err-rows.ensures.reads)
+returns-in_err-rows-clause-reads g c = rw (← c.self.view_is) (reads_err _ _ _ _ c.from_residual-in_err-rows.ensures.0 (reads_then _ _ _ _ _ c.in_ok-meta.ensures.reads c.in_err-rows.ensures.reads))
 
 pub returns-clause-found : goal.returns-clause-found
 returns-clause-found g c =
-    rw (← c.self.view_is)
-    (λ clean first.
-    subst (λ (rows : Rows). MatchResult c.read_all.result (λ records. form_of rows ≡ InForm (records_of records)) (λ e. (why : Damage) → e ≡ Damaged why → form_of rows ≡ OutOfForm why))
-    (sym (c.in_ok-rows.ensures.found clean first)) c.read_all.ensures)
+    let s0 = state g.S.Store c.self.inside.db in
+    let s1 = state g.S.Store c.select_meta.new.db in
+    let rows = rows_in s0.now.trees in
+    let t = c.in_ok-rows.rows in
+    let v = c.in_ok-volume.volume in
+    let same : has_table (codes "hold") s1.now.schema ≡ c.has_table-has_holds.result = search rules in
+    let read = λ (rest : Rows). in_form_or damage.Form (records_in (is_some t.holds) v.0 v.1 (answered_rows t rest)) in
+    rw (← c.self.view_is) (λ clean first.
+    let early = c.in_ok-rows.ensures.reads.trust clean in
+    let stands = still (shown s0) (shown s1) _ c.in_ok-meta.ensures.reads early first.0.rest in
+    let answered = sym stands.rows ∙ c.in_ok-rows.ensures.found clean (stands.first_tables first) same ∙ ap (answered_rows t) stands.rows in
+    let is = form_is (map answered_meta c.in_ok-meta.meta.items) rows (c.in_ok-meta.ensures.found early (meta_of_first s0 first))
+    ∙ (rw c.deref.ensures.value at c.in_ok-volume.ensures) rows
+    ∙ ap (λ h. in_form_or damage.Form (records_in h v.0 v.1 rows)) (sym c.in_ok-rows.ensures.asked)
+    ∙ ap (λ r. in_form_or damage.Form (records_in (is_some t.holds) v.0 v.1 r)) answered in
+    read_form _ read rows c.read_all.result is c.read_all.ensures)
 
 pub returns-clause-reads : goal.returns-clause-reads
-returns-clause-reads g c = rw (← c.self.view_is) (reads_answers _ _ _ _ c.in_ok-rows.ensures.reads)
+returns-clause-reads g c = rw (← c.self.view_is) (reads_answers _ _ _ _ (reads_then _ _ _ _ _ c.in_ok-meta.ensures.reads c.in_ok-rows.ensures.reads))

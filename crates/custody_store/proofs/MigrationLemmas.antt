@@ -1,0 +1,104 @@
+-- The UPDATE that writes the number of schema 2 into meta, in the transaction that has made the table of holds.
+use Rattle.std.proofs.Common.{◌≡◌, ℕ, pos, [], ◌∷◌, map, codes, None, Ok, refl, sym, ap, subst, ◌∙◌, arith}
+use Rattle.std.proofs.lemmas.Bool.{and_parts}
+use Rattle.sqlite.specs.Order.{Row}
+use Rattle.sqlite.specs.Term.{Env}
+use Rattle.sqlite.specs.Query.{inner, end}
+use Rattle.sqlite.specs.Table.{Table}
+use Rattle.sqlite.specs.Tree.{Trees, rowid, with_tree}
+use Rattle.sqlite.specs.Change.{next_tree}
+use Rattle.sqlite.specs.Command.TheVariants.{Update}
+use Rattle.sqlite.specs.Effect.{Database}
+use Rattle.sqlite.specs.Listing.{understood}
+use Rattle.sqlite.specs.State.{State, Writes, ExecutesInside}
+use Rattle.sqlite.proofs.Callers.{statement_of, runs_as}
+use Rattle.sqlite_schema.specs.declared.schema.Constraint.TheVariants.{Datatype}
+use Rattle.sqlite_catalog.specs.Listing.{IsSound}
+use Rattle.sqlite_trees.specs.declared.store.Shape.TheVariants as shape
+use Rattle.sqlite_trees.specs.View.{IsShaped}
+use Rattle.sqlite_rules.specs.Lists.{Has}
+use Rattle.sqlite_rules.proofs.ListLemmas.{all_has}
+use Rattle.sqlite_keyed.proofs.ListLemmas.{map-map}
+use Rattle.custody_records.specs.Rows.{MetaRow, migrated}
+use Rattle.custody_store.specs.Schema.{first_schema, record_schema, meta_table}
+use Rattle.custody_store.specs.Reading.{rows_in, meta_row}
+use Rattle.custody_store.specs.Making.{IsMaking, IsMade}
+use Rattle.custody_store.specs.Standing.{HasTables}
+use Rattle.custody_store.proofs.StatementLemmas.{set_schema_text, set_schema_places, set_schema_program, set_schema_is}
+use Rattle.custody_store.proofs.TableLemmas.{rows_first, rows_held, held_beside, held_rows, sound_as}
+use Rattle.custody_store.proofs.UpdateLemmas.{rewrites, heir, heir_rowid}
+use Rattle.custody_store.proofs.TestLemmas.{map_has}
+use Rattle.custody_store.proofs.ColumnLemmas.{cast_at}
+use Rattle.custody_store.proofs.MissingLemmas.{not_there}
+use Rattle.custody_store.proofs.ReadLemmas.{holds_apart}
+use Rattle.custody_store.proofs.RowLemmas.{at_tree, cast_int}
+
+-- the rows of a database of schema 1, of which the tree that the table of holds gets has none
+abbrev pub without_holds : Trees → Trees
+without_holds trees = with_tree trees (next_tree first_schema) []
+
+-- a transaction over schema 1 that has made nothing yet
+pub before_holds : (first : Database) (s : State) → IsMaking first_schema first first.trees s → IsMaking first_schema first (without_holds first.trees) s
+before_holds first s making = record {
+  is_open = making.is_open;
+  inside = making.inside;
+  committed = making.committed;
+  schema_is = making.schema_is;
+  sound = making.sound;
+  rows_are = making.rows_are;
+}
+
+abbrev meta_at : Table
+meta_at = at_tree 0 meta_table
+
+abbrev alone : Row → Env
+alone r = [] ∷ r ∷ []
+
+-- the row that comes in the place of a row
+abbrev set : Row → Row
+set = heir meta_at set_schema_places alone
+
+abbrev in_schema_2 : MetaRow → MetaRow
+in_schema_2 row = record row { schema_no = pos 2 }
+
+module _ (trees : Trees) (sound : IsSound record_schema trees) (shaped : IsShaped shape.Table (trees 0)) (r : Row) (has : Has (trees 0) r) where
+  set_is : meta_row (set r) ≡ in_schema_2 (meta_row r)
+  set_is =
+      let typed = (and_parts _ _ (all_has _ (trees 0) r (sound.obeys.rules Datatype).0 has)).0 in
+      let same_rowid : rowid (set r) ≡ rowid r = heir_rowid meta_at set_schema_places alone (trees 0) shaped (λ r. refl) r has in
+      rw (same_rowid, cast_int (pos 2), cast_at meta_at r typed 2 _ refl refl refl refl, cast_at meta_at r typed 3 _ refl refl refl refl) refl
+
+-- schema 1 has no rows of holds
+earlier_rows : (first : Database) → HasTables first_schema first → rows_in first.trees ≡ held_beside None first.trees
+earlier_rows first tables =
+    let sound = sound_as first_schema first tables.schema_is tables.sound in
+    let none : (rows_in first.trees).holds ≡ None = rw (not_there first.trees first_schema (codes "hold") sound holds_apart) refl in
+    rows_first first.trees first_schema ([], refl) sound ∙ ap (λ holds. held_beside holds first.trees) none
+
+pub sets_schema : (first : Database) (old new : State) (count : ℕ) → HasTables first_schema first → IsMaking record_schema first (without_holds first.trees) old → ExecutesInside 0 set_schema_text [] old new (Ok count)
+    → IsMade (migrated (rows_in first.trees)) first new
+sets_schema first old new count tables making h =
+    let text = statement_of set_schema_text (understood record_schema set_schema_text) in
+    let w : Writes old new None (Update 0 set_schema_program) text [] count = runs_as set_schema_text [] old new record_schema making.schema_is (Update 0 set_schema_program) set_schema_is.is set_schema_is.plain count h.0 in
+    let before = sound_as record_schema old.now making.schema_is making.sound in
+    let was = making.rows_are in
+    let trees = old.now.trees in
+    let after = new.now.trees in
+    let up = tables.ordered in
+    let shaped : IsShaped shape.Table (trees 0) = subst (IsShaped shape.Table) (sym was.0) up.0 in
+    let it = rewrites old 0 meta_at (inner 0 end) [] set_schema_places [] alone text making.schema_is refl refl shaped (λ r. refl) (λ r. refl) w.tally new.now w.changed in
+    let registries : after 1 ≡ first.trees 1 = it.others.1.0 (λ e. omega (arith, e)) ∙ was.1.0 in
+    let parts : after 3 ≡ first.trees 3 = it.others.1.1.0 (λ e. omega (arith, e)) ∙ was.1.1.0 in
+    let notices : after 5 ≡ first.trees 5 = it.others.1.1.1.0 (λ e. omega (arith, e)) ∙ was.1.1.1.0 in
+    let handovers : after 7 ≡ first.trees 7 = it.others.1.1.1.1.0 (λ e. omega (arith, e)) ∙ was.1.1.1.1.0 in
+    let holds : after 9 ≡ [] = it.others.1.1.1.1.1.0 (λ e. omega (arith, e)) ∙ was.1.1.1.1.1.0 in
+    let read : map meta_row (after 0) ≡ map in_schema_2 (map meta_row (first.trees 0)) =
+    ap (map meta_row) it.here ∙ map-map meta_row set (trees 0) ∙ map_has _ _ (trees 0) (set_is trees before shaped) ∙ sym (map-map in_schema_2 meta_row (trees 0)) ∙ ap (λ rows. map in_schema_2 (map meta_row rows)) was.0 in
+    let same : held_rows after ≡ migrated (held_beside None first.trees) = rw (registries, parts, notices, handovers, holds, read) refl in
+    record {
+      is_open = w.shown.is_open;
+      inside = h.1.mode;
+      committed = h.1.committed_is ∙ making.committed;
+      tables = record { schema_is = it.schema; sound = w.sound; ordered = rw (registries, parts, notices, handovers, holds) (it.shaped, (up.1.0, (up.1.1.0, (up.1.1.1.0, (up.1.1.1.1.0, ((tt, tt), tt)))))) };
+      rows_are = rows_held after (sound_as record_schema new.now it.schema w.sound) ∙ same ∙ sym (ap migrated (earlier_rows first tables));
+    }

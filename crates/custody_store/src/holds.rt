@@ -1,0 +1,68 @@
+//! The rows of holds.
+ghost use Rattle.std.specs.Prelude.{◌≡◌, ℕ, true, codes, List, refl};
+ghost use Rattle.custody_records.specs.Form.{hold_in};
+ghost use Rattle.custody_records.specs.Keys.{text_cmp};
+ghost use Rattle.custody_records.specs.Records as specs;
+ghost use Rattle.custody_records.specs.Rows.{HoldRow};
+ghost use Rattle.custody_records.specs.Typed.{hold_row};
+ghost use Rattle.custody_store.specs.Reading.{answered_hold};
+
+use crate::calls::ask;
+use crate::columns::{bytes_at, integer_at, integer_or_null_at};
+use crate::faults::StoreFault;
+use crate::stored::Stored;
+use custody_records::{Hold, HoldColumns, Records, RowError};
+use sqlite::{Alter, Connection, Row};
+use std::alloc::Global;
+
+fn hold_columns(row: &Row) -> HoldColumns<'_>
+    ensures { hold_row result ≡ answered_hold row.now }
+{
+    HoldColumns {
+        reference: bytes_at(row, 0),
+        tld: bytes_at(row, 1),
+        day: integer_at(row, 2),
+        at: integer_at(row, 3),
+        lifted: integer_or_null_at(row, 4),
+    }
+}
+
+impl Stored for Hold {
+    ghost Columns = { HoldRow };
+
+    ghost Key = { List ℕ };
+
+    ghost Value = { specs.Hold };
+
+    ghost order = { text_cmp };
+
+    ghost IsThere = { λ s. s.HasTablesFirst × (s.has_table (codes "hold") ≡ true) };
+
+    ghost rows_of = { λ rows. rows.holds };
+
+    ghost answered = { answered_hold };
+
+    ghost read = { hold_in };
+
+    ghost map_of = { λ records. records.holds };
+
+    ghost with_map = { λ records holds. record records { holds = holds } };
+
+    fn select<S: Alter>(db: &mut Connection<S>) -> Result<Vec<Row>, StoreFault> {
+        ask(
+            db,
+            "SELECT reference, tld, day, at, lifted FROM hold ORDER BY rowid",
+        )
+    }
+
+    fn add_row(records: &mut Records, _: Global, row: &Row) -> Result<(), RowError> {
+        match hold_columns(row).read() {
+            Some(hold) => records.try_add_hold(&hold),
+            None => Err(RowError::OutOfForm),
+        }
+    }
+
+    ghost kept = { λ _ _ _. refl };
+
+    ghost same = { λ _. refl };
+}

@@ -1,0 +1,44 @@
+//! Tables of schema 1 made those of schema 2, in one transaction.
+ghost use Rattle.std.specs.Prelude.{◌≡◌, OnOk, IfErr};
+ghost use Rattle.sqlite.specs.State.{HasCleanDisk, Survives, KeepsCommit};
+ghost use Rattle.sqlite.specs.Held.{state};
+ghost use Rattle.custody_records.specs.Rows.{migrated};
+ghost use Rattle.custody_store.specs.Schema.{first_schema};
+ghost use Rattle.custody_store.specs.Reading.{rows_in};
+ghost use Rattle.custody_store.specs.Making.{IsMaking, IsMade};
+ghost use Rattle.custody_store.specs.Standing.{standing, HasTables, Migrates};
+
+use crate::create::make_holds;
+use crate::faults::StoreFault;
+use sqlite::{Alter, Connection, Transaction};
+
+/// Adds the table of holds, and writes the number of the schema.
+fn add_holds<S: Alter>(tx: &mut Transaction<'_, S>) -> Result<(), StoreFault>
+    ensures same_reference { tx.new.conn.ghost_name ≡ tx.old.conn.ghost_name }
+    ensures made { HasCleanDisk (state S.Store tx.new.conn.now)
+        → OnOk result ((first : _) → HasTables first_schema first → IsMaking first_schema first first.trees (state S.Store tx.old.conn.now)
+        → IsMade (migrated (rows_in first.trees)) first (state S.Store tx.new.conn.now)) }
+    ensures keeps { HasCleanDisk (state S.Store tx.new.conn.now) → KeepsCommit (state S.Store tx.old.conn.now) (state S.Store tx.new.conn.now) }
+    ensures survives { Survives (state S.Store tx.old.conn.now) (state S.Store tx.new.conn.now) (λ _. ⊥) }
+    ensures kind { IfErr result (λ e. e ≡ StoreFault.Failed) }
+{
+    make_holds(tx)?;
+    tx.execute("UPDATE meta SET schema_no = 2", &[])?;
+    Ok(())
+}
+
+/// Makes tables of schema 1 those of schema 2 in one transaction.
+pub fn go_over<S: Alter>(db: &mut Connection<S>) -> Result<(), StoreFault>
+    ensures migrates { Migrates (standing S.Store db.old) (standing S.Store db.new) result }
+    ensures kind { IfErr result (λ e. e ≡ StoreFault.Failed) }
+{
+    if !db.is_autocommit() {
+        return Err(StoreFault::Failed);
+    }
+    let mut tx = db.transaction();
+    add_holds(&mut tx)?;
+    match tx.commit() {
+        Ok(()) => Ok(()),
+        Err(_) => Err(StoreFault::Failed),
+    }
+}
