@@ -1,5 +1,7 @@
+pub mod HoldRows
 pub mod NoticeRows
 pub mod PlainChains
+pub mod PlainHolding
 pub mod PlainMaps
 pub mod PlainSteps
 pub mod PlainPurges

@@ -5,21 +5,21 @@ use Rattle.std.specs.Ordering.{is_eq}
 use Rattle.std.specs.declared.cmp.Ordering.{Ordering}
 use Rattle.std.specs.declared.cmp.Ordering.TheVariants.{Less, Equal, Greater}
 use Rattle.std.specs.FinMap as fin
-use Rattle.std.specs.FinMap.{entries, entries-insert, from_entries, get, get-entries, insert, put}
+use Rattle.std.specs.FinMap.{FinMap, entries, entries-insert, from_entries, get, get-entries, insert, put}
 use Rattle.std.specs.FinMap.Entries.{by_order}
 use Rattle.std.proofs.lemmas.Bool.{and_parts}
 use Rattle.std.proofs.lemmas.List.{map-append, take_more, take_more_set, drop-set-lt, drop_more}
 use Rattle.std.proofs.lemmas.List.Sums.{sum_by-cons}
 use Rattle.schedule.specs.Schedule.{day_of}
-use Rattle.custody_records.specs.Keys.{PartKey, part_cmp}
+use Rattle.custody_records.specs.Keys.{PartKey, part_cmp, text_cmp}
 use Rattle.custody_records.specs.Orders.{part_total, part_exact}
-use Rattle.custody_records.specs.Records.{key_of}
-use Rattle.custody_machine.specs.MapValues.{map_values}
+use Rattle.custody_records.specs.Records.{Hold, key_of}
+use Rattle.custody_machine.specs.MapValues.{map_keyed}
 use Rattle.custody_machine.specs.SameValues.{is_same_key}
 use Rattle.custody_machine.specs.State.{State, Part}
-use Rattle.custody_machine.specs.Machine.{Purge, OfPurge, Accept, count_due, dropped_if_due, is_due, step, without_due}
+use Rattle.custody_machine.specs.Machine.{Purge, OfPurge, Accept, count_due, dropped_if_due, step, without_due}
 use Rattle.custody_machine.proofs.Accepting.{step_none}
-use Rattle.custody_machine.proofs.MapValues.{map_values-insert, map_values-empty}
+use Rattle.custody_machine.proofs.MapValues.{map_keyed-insert, map_keyed-empty}
 use Rattle.custody_machine.proofs.SameValues.{key_decides}
 use Rattle.plain_machine.specs.declared.kept.PlainPart.{PlainPart}
 use Rattle.plain_machine.specs.declared.kept.PlainAnswer.TheVariants as answer
@@ -60,27 +60,28 @@ no_entries = of (entries (fin.empty {K = PartKey} {X = Part} {R = part_cmp})) (s
     of [] e = refl
     of (x ∷ es) e = absurd (omega (arith, e))
 
-pub count_entries : (today : ℕ) (parts : List PlainPart) → are_once parts ≡ true
-    → count_by (λ (e : PartKey × Part). is_due today e.1) (entries (from_entries {R = part_cmp} (map part_entry parts))) ≡ count_by (λ (p : PlainPart). is_due today (part_shown p)) parts
-count_entries today [] once = ap (count_by (λ (e : PartKey × Part). is_due today e.1)) no_entries
-count_entries today (p ∷ parts) once =
+pub count_entries : (test : PartKey × Part → Bool) (parts : List PlainPart) → are_once parts ≡ true
+    → count_by test (entries (from_entries {R = part_cmp} (map part_entry parts))) ≡ count_by (λ (p : PlainPart). test (part_entry p)) parts
+count_entries test [] once = ap (count_by test) no_entries
+count_entries test (p ∷ parts) once =
     let both = and_parts (is_none (find (is_at (key_of p.name)) parts)) (are_once parts) once in
     let m = from_entries {R = part_cmp} (map part_entry parts) in
     let none : get m (key_of p.name) ≡ None = part_shows (key_of p.name) parts ∙ missing (find (is_at (key_of p.name)) parts) both.0 in
-    ap (count_by (λ (e : PartKey × Part). is_due today e.1)) (entries-insert part_total m (key_of p.name) (part_shown p))
-    ∙ count_put part_cmp (λ (e : PartKey × Part). is_due today e.1) (key_of p.name) (part_shown p) (entries m) (sym (get-entries m (key_of p.name)) ∙ none)
-    ∙ ap (λ n. cond (is_due today (part_shown p)) 1 0 + n) (count_entries today parts both.1)
-    ∙ sym (sum_by-cons (λ (q : PlainPart). cond (is_due today (part_shown q)) 1 0) p parts)
+    ap (count_by test) (entries-insert part_total m (key_of p.name) (part_shown p))
+    ∙ count_put part_cmp test (key_of p.name) (part_shown p) (entries m) (sym (get-entries m (key_of p.name)) ∙ none)
+    ∙ ap (λ n. cond (test (part_entry p)) 1 0 + n) (count_entries test parts both.1)
+    ∙ sym (sum_by-cons (λ (q : PlainPart). cond (test (part_entry q)) 1 0) p parts)
   where
     missing : (o : Option PlainPart) → is_none o ≡ true → option_map part_shown o ≡ None
     missing None e = refl
     missing (Some q) e = cc
 
-pub dropped_entries : (today : ℕ) (parts : List PlainPart) → from_entries {R = part_cmp} (map (dropped_entry today) (map part_entry parts)) ≡ map_values (dropped_if_due today) (from_entries {R = part_cmp} (map part_entry parts))
-dropped_entries today [] = sym (map_values-empty part_cmp (dropped_if_due today) part_total part_exact)
-dropped_entries today (p ∷ parts) =
-    ap (λ m. insert m (key_of p.name) (dropped_if_due today (part_shown p))) (dropped_entries today parts)
-    ∙ sym (map_values-insert part_cmp (dropped_if_due today) part_total part_exact (from_entries (map part_entry parts)) (key_of p.name) (part_shown p))
+pub dropped_entries : (holds : FinMap text_cmp Hold) (today : ℕ) (parts : List PlainPart)
+    → from_entries {R = part_cmp} (map (dropped_entry holds today) (map part_entry parts)) ≡ map_keyed (dropped_if_due holds today) (from_entries {R = part_cmp} (map part_entry parts))
+dropped_entries holds today [] = sym (map_keyed-empty part_cmp part_exact (dropped_if_due holds today) part_total)
+dropped_entries holds today (p ∷ parts) =
+    ap (λ m. insert m (key_of p.name) (dropped_if_due holds today (key_of p.name) (part_shown p))) (dropped_entries holds today parts)
+    ∙ sym (map_keyed-insert part_cmp part_exact (dropped_if_due holds today) part_total (from_entries (map part_entry parts)) (key_of p.name) (part_shown p))
 
 -- whether each place is there once is told by the places alone
 abbrev keys_of : List PlainPart → List PartKey
@@ -110,14 +111,14 @@ abbrev firsts : List (PartKey × Part) → List PartKey
 firsts es = map (λ (e : PartKey × Part). e.0) es
 
 -- the same places are there once
-pub once_same : (today : ℕ) (parts later : List PlainPart) → map part_entry later ≡ map (dropped_entry today) (map part_entry parts) → are_once parts ≡ true → are_once later ≡ true
-once_same today parts later is once = once_is later ∙ ap are_distinct (keys later ∙ ap firsts is ∙ sym (after parts) ∙ sym (keys parts)) ∙ sym (once_is parts) ∙ once
+pub once_same : (holds : FinMap text_cmp Hold) (today : ℕ) (parts later : List PlainPart) → map part_entry later ≡ map (dropped_entry holds today) (map part_entry parts) → are_once parts ≡ true → are_once later ≡ true
+once_same holds today parts later is once = once_is later ∙ ap are_distinct (keys later ∙ ap firsts is ∙ sym (after parts) ∙ sym (keys parts)) ∙ sym (once_is parts) ∙ once
   where
     keys : (ps : List PlainPart) → keys_of ps ≡ firsts (map part_entry ps)
     keys [] = refl
     keys (p ∷ ps) = ap (λ l. key_of p.name ∷ l) (keys ps)
 
-    after : (ps : List PlainPart) → firsts (map part_entry ps) ≡ firsts (map (dropped_entry today) (map part_entry ps))
+    after : (ps : List PlainPart) → firsts (map part_entry ps) ≡ firsts (map (dropped_entry holds today) (map part_entry ps))
     after [] = refl
     after (p ∷ ps) = ap (λ l. key_of p.name ∷ l) (after ps)
 
@@ -176,7 +177,7 @@ tail_of : List PlainPart → List PlainPart
 tail_of [] = []
 tail_of (x ∷ xs) = xs
 
-module _ (today : ℕ) (old items : List PlainPart) (i : ℕ) (new d : PlainPart) (lt : i < length items) (same : length items ≡ length old) (rest : drop i items ≡ drop i old) where
+module _ (holds : FinMap text_cmp Hold) (today : ℕ) (old items : List PlainPart) (i : ℕ) (new d : PlainPart) (lt : i < length items) (same : length items ≡ length old) (rest : drop i items ≡ drop i old) where
   within : i < length old
   within = omega (arith, lt, same)
 
@@ -191,10 +192,10 @@ module _ (today : ℕ) (old items : List PlainPart) (i : ℕ) (new d : PlainPart
   unfolding tail_of
   rest_next = drop-set-lt (i + 1) items i new (omega arith) ∙ ap tail_of unfolded
 
-  pub done_next : map part_entry (take i items) ≡ map (dropped_entry today) (map part_entry (take i old)) → part_entry new ≡ dropped_entry today (part_entry (get_or items i d))
-      → map part_entry (take (i + 1) (set items i new)) ≡ map (dropped_entry today) (map part_entry (take (i + 1) old))
+  pub done_next : map part_entry (take i items) ≡ map (dropped_entry holds today) (map part_entry (take i old)) → part_entry new ≡ dropped_entry holds today (part_entry (get_or items i d))
+      → map part_entry (take (i + 1) (set items i new)) ≡ map (dropped_entry holds today) (map part_entry (take (i + 1) old))
   done_next done value =
       ap (map part_entry) (take_more_set items i new lt) ∙ map-append part_entry (take i items) (new ∷ [])
-      ∙ ap₂ (λ (xs : List (PartKey × Part)) (e : PartKey × Part). xs ++ e ∷ []) done (value ∙ ap (λ (x : PlainPart). dropped_entry today (part_entry x)) item_same)
-      ∙ sym (map-append (dropped_entry today) (map part_entry (take i old)) (part_entry (get_or old i d) ∷ []))
-      ∙ ap (map (dropped_entry today)) (sym (map-append part_entry (take i old) (get_or old i d ∷ [])) ∙ ap (map part_entry) (sym (take_more old i d within)))
+      ∙ ap₂ (λ (xs : List (PartKey × Part)) (e : PartKey × Part). xs ++ e ∷ []) done (value ∙ ap (λ (x : PlainPart). dropped_entry holds today (part_entry x)) item_same)
+      ∙ sym (map-append (dropped_entry holds today) (map part_entry (take i old)) (part_entry (get_or old i d) ∷ []))
+      ∙ ap (map (dropped_entry holds today)) (sym (map-append part_entry (take i old) (get_or old i d ∷ [])) ∙ ap (map part_entry) (sym (take_more old i d within)))

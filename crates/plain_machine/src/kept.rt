@@ -2,6 +2,7 @@
 ghost use Rattle.std.specs.Prelude.{◌≡◌, true};
 ghost use Rattle.plain_machine.specs.Once.{are_once};
 
+use crate::holds::PlainHolds;
 use crate::notices::PlainNotices;
 use custody_machine::Refusal;
 use custody_records::Release;
@@ -41,6 +42,7 @@ pub struct PlainState {
     pub parts: Vec<PlainPart>,
     pub notices: PlainNotices,
     pub releases: Vec<Release>,
+    pub holds: PlainHolds,
     ghost once: { are_once parts.items ≡ true },
 }
 
@@ -69,6 +71,21 @@ pub enum PlainAnswer {
         reason: Ground,
         at: Sec,
         count: usize,
+        is_repeat: bool,
+    },
+    /// A hold as it is kept: lifted, where it comes again after its lifting.
+    Held {
+        reference: Reference,
+        tld: Tld,
+        day: Day,
+        at: Sec,
+        lifted: Option<Sec>,
+        is_repeat: bool,
+    },
+    /// The lifting of the hold of a reference.
+    Lifted {
+        reference: Reference,
+        at: Sec,
         is_repeat: bool,
     },
     /// Of how many parts the bytes were dropped.

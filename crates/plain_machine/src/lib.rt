@@ -3,6 +3,8 @@
 
 mod chains;
 mod checks;
+mod holding;
+mod holds;
 mod kept;
 mod listing;
 mod notices;
@@ -13,6 +15,7 @@ mod sought;
 mod statements;
 mod telling;
 
+pub use holds::PlainHolds;
 pub use kept::{PlainAnswer, PlainContent, PlainPart, PlainRegistry, PlainState};
 pub use notices::PlainNotices;
 pub use plain::step_plain;

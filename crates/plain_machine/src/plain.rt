@@ -10,6 +10,7 @@ ghost use Rattle.custody_machine.specs.SameValues.{is_same_kind};
 ghost use Rattle.custody_machine.specs.State.{empty, at_place, has_notice, places};
 ghost use Rattle.custody_machine.specs.Machine.{Register, Receive, step, first_day_of, recorded, part_in, has_other_kind, is_gone, is_held_with_other, holds_other, is_dropped, max_part_len, is_beyond, is_outside, is_unknown, is_unregistered, is_out_of_range, is_receipt, is_failure_of, is_not_due, is_stated, differs_in_kind, is_out_of_order, receive_tests, first_standing};
 
+use crate::holds::PlainHolds;
 use crate::kept::{PlainAnswer, PlainContent, PlainPart, PlainRegistry, PlainState};
 use crate::notices::PlainNotices;
 use crate::sought::Sought;
@@ -65,6 +66,7 @@ impl PlainState {
             parts: Vec::new(alloc),
             notices: PlainNotices::new(alloc),
             releases: Vec::new(alloc),
+            holds: PlainHolds::new(alloc),
         }
     }
 
@@ -365,6 +367,8 @@ pub fn step_plain(
         Command::Release(reference, tld, reason) => {
             state.release(alloc, *reference, *tld, *reason, now)
         }
+        Command::Hold(reference, tld, day) => state.hold(*reference, *tld, *day, now),
+        Command::Lift(reference) => Ok(state.lift(*reference, now)),
         Command::Purge => Ok(state.purge(now)),
     }
 }

@@ -1,10 +1,10 @@
 use Rattle.std.proofs.Common.{◌≡◌, take, drop, map}
-use Rattle.plain_machine.specs.Plain.{dropped_entry, part_entry}
+use Rattle.plain_machine.specs.Plain.{dropped_entry, holds_shown, part_entry}
 use Rattle.plain_machine.proofs.purges.drop_due.Given as goal
 
 -- the parts so far are without their bytes, and the others as they were
 abbrev pub invariant-loop-part : goal.invariant-loop-part
 invariant-loop-part l = record {
-  done : map part_entry (take l.part-index l.part-items) ≡ map (dropped_entry l.today) (map part_entry (take l.part-index l.initial.part-items));
+  done : map part_entry (take l.part-index l.part-items) ≡ map (dropped_entry (holds_shown l.holds) l.today) (map part_entry (take l.part-index l.initial.part-items));
   rest : drop l.part-index l.part-items ≡ drop l.part-index l.initial.part-items;
 }
