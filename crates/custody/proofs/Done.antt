@@ -13,7 +13,6 @@ use Rattle.custody_records.specs.declared.records.Records as held
 use Rattle.custody_records.specs.Held.{records_of}
 use Rattle.custody_records.specs.Records.{Records}
 use Rattle.custody_records.specs.Rows.{Rows}
-use Rattle.custody_records.specs.Form.{form_of, InForm}
 use Rattle.custody_store.specs.Standing.{Commits, standing}
 use Rattle.custody_machine.specs.Machine as machine
 use Rattle.custody_machine.specs.Machine.{Command, Refuse, Accept, step, reads, Accepted, Answers, MayRefuse, MayFail}
@@ -37,7 +36,7 @@ use Rattle.custody.specs.Answers.{answer_of, stays_open, uses_volume, writes_vol
 use Rattle.custody.specs.Ruled.{IsRuled}
 use Rattle.custody.specs.Shown.{IsRecorded, HoldsBytes}
 use Rattle.custody.specs.Keeper.{recorded, stored, image_of, failures_of, left_by, left_since, KeepsOrder, KeepsImage, KeepsRows, IsSafe, IsUnwritten, HasDone}
-use Rattle.custody.proofs.KeeperLemmas.{on_ok, stays_still, leaves_more, either_form, form_then, rows_then, safe_done, safe_undone, image_same, order_same, good_before, does_nothing, does_change, is_in_doubt}
+use Rattle.custody.proofs.KeeperLemmas.{on_ok, stays_still, leaves_more, StandFor, either_form, form_then, rows_then, safe_done, safe_undone, image_same, order_same, good_before, does_nothing, does_change, is_in_doubt}
 
 -- the machine closes where the code does
 pub opens_alike : (command : Command) (answer : Result Reply not_accepted.Refused) → stays_open answer ≡ is_open_after (answer_of command answer)
@@ -174,7 +173,7 @@ module _ {V S : Type 0} {g : volume.Ghosts V} (database : Ghosts S) (old : Keepe
   }
 
   module _ (new : Keeper V S g) (changed : Records) (reply : machine.Reply) {unsettled : ℕ → Type 0} (is : IsOneChange new changed reply unsettled) {A E : Type 0} (result : Result A E) (after : Rows)
-      (commits : Commits (stored database old) (stored database new) after result) (means : form_of (stored database old).rows ≡ InForm (recorded old) → form_of after ≡ InForm changed) where
+      (commits : Commits (stored database old) (stored database new) after result) (means : StandFor (stored database old).rows (recorded old) → StandFor after changed) where
     during : g.tells → KeepsImage old → (j : List ℕ) → left_since old new j → DiffersOnlyIn (IsFree old.vault) (image_of old) j
     during tells volume = each_of g.moment g.left_at (volume_of old.vault) (volume_of new.vault) _ (is.any_moment tells volume)
 
@@ -196,14 +195,14 @@ module _ {V S : Type 0} {g : volume.Ghosts V} (database : Ghosts S) (old : Keepe
       trust = commits.trust;
       serves = λ tells honest volume store.
           is_in_doubt database old new order volume store command now changed unsettled (is.change tells volume (good_before database old new order volume store command now)) reply (is.accepted tells volume) is.first
-          (during tells volume) (either_form _ _ (recorded old) changed _ store (means store.in_form) result (commits.effect honest store.ready)) (is.after tells volume);
+          (during tells volume) (either_form _ _ (recorded old) changed _ store (means (store.in_form, store.current)) result (commits.effect honest store.ready)) (is.after tells volume);
       image = λ e. cc;
       rows = λ e. cc;
     }
 
   -- it is committed, and answered
   module _ (new : Keeper V S g) (changed : Records) (reply : machine.Reply) {unsettled : ℕ → Type 0} (goes : GoesOn new changed reply unsettled) {A E : Type 0} (result : Result A E) (after : Rows)
-      (commits : Commits (stored database old) (stored database new) after result) (means : form_of (stored database old).rows ≡ InForm (recorded old) → form_of after ≡ InForm changed) where
+      (commits : Commits (stored database old) (stored database new) after result) (means : StandFor (stored database old).rows (recorded old) → StandFor after changed) where
     abbrev is : IsOneChange new changed reply unsettled
     is = goes.change
 
@@ -222,9 +221,9 @@ module _ {V S : Type 0} {g : volume.Ghosts V} (database : Ghosts S) (old : Keepe
       trust = commits.trust;
       serves = λ tells honest volume store. let done = on_ok _ result _ refl good (commits.effect honest store.ready).done in
           does_change database old new order volume store command now changed unsettled (is.change tells volume (good_before database old new order volume store command now)) answer reply told (is.accepted tells volume) (is.rests tells volume) same
-          (during new changed reply is result after commits means tells volume) (form_then _ _ (recorded old) changed _ store (means store.in_form) done.0 done.1) (is.after tells volume);
+          (during new changed reply is result after commits means tells volume) (form_then _ _ (recorded old) changed _ store (means (store.in_form, store.current)) done.0 done.1) (is.after tells volume);
       image = λ _ tells volume. record { volume = subst (λ r. IsVolumeOf r (image_of new)) (sym same) (is.volume tells volume); elsewhere = λ c w. in_more unsettled (IsFree new.vault) (image_of new) c goes.fewer (is.after tells volume c w) };
-      rows = λ _ honest store. let done = on_ok _ result _ refl good (commits.effect honest store.ready).done in rows_then _ _ (recorded old) changed _ store (means store.in_form) done.0 done.1 _ same;
+      rows = λ _ honest store. let done = on_ok _ result _ refl good (commits.effect honest store.ready).done in rows_then _ _ (recorded old) changed _ store (means (store.in_form, store.current)) done.0 done.1 _ same;
     }
       where
         repeated : {P : Type 0} (b : Bool) → b ≡ false → not b ≡ false → P

@@ -9,7 +9,7 @@ use Rattle.custody_records.specs.declared.meta.Meta.{Meta}
 use Rattle.custody_records.specs.Rows.{MetaRow, Rows, first_meta}
 use Rattle.custody_records.specs.declared.damage.Damage as rows_damage
 use Rattle.custody_records.specs.declared.damage.Damage.TheVariants as form
-use Rattle.custody_records.specs.Form.{natural, number_in, is_number, is_known, OutOfForm, InForm, form_by, form_of}
+use Rattle.custody_records.specs.Form.{natural, number_in, is_schema, is_known, OutOfForm, InForm, form_by, form_of}
 use Rattle.custody_records.specs.Written.{digits_of}
 use Rattle.custody_records.specs.Typed as typed
 use Rattle.custody_machine.specs.declared.damage.Damage.TheVariants as wrong
@@ -58,7 +58,7 @@ is_there rows found is = ap is_some is ∙ by rows.meta
     by (Some (row ∷ others)) = refl
 
 -- a schema that is not known is told, whatever the tables are
-pub unknown_schema : (rows : Rows) (found : Meta) (image : List ℕ) → Some found ≡ option_map typed.meta_of (first_meta rows) → is_number 1 found.schema_no ≡ false → IsDamaged wrong.Schema rows image
+pub unknown_schema : (rows : Rows) (found : Meta) (image : List ℕ) → Some found ≡ option_map typed.meta_of (first_meta rows) → is_schema found.schema_no ≡ false → IsDamaged wrong.Schema rows image
 unfolding form_of
 unknown_schema rows found image is schema = by rows.meta refl is
   where
@@ -67,13 +67,13 @@ unknown_schema rows found image is schema = by rows.meta refl is
     by (Some []) at is = cc
     by (Some (row ∷ others)) at is =
         let same : found ≡ typed.meta_of row = cc in
-        let known : is_known row ≡ false = ap (λ (m : Meta). is_number 1 m.schema_no) (sym same) ∙ schema in rw known refl
+        let known : is_known row ≡ false = ap (λ (m : Meta). is_schema m.schema_no) (sym same) ∙ schema in rw known refl
 
 -- and one that is known is that of the first row
-pub known_schema : (rows : Rows) (found : Meta) → Some found ≡ option_map typed.meta_of (first_meta rows) → is_number 1 found.schema_no ≡ true → (meta : MetaRow) → first_meta rows ≡ Some meta → is_known meta ≡ true
+pub known_schema : (rows : Rows) (found : Meta) → Some found ≡ option_map typed.meta_of (first_meta rows) → is_schema found.schema_no ≡ true → (meta : MetaRow) → first_meta rows ≡ Some meta → is_known meta ≡ true
 known_schema rows found is schema meta first =
     let same : found ≡ typed.meta_of meta = some_same found (typed.meta_of meta) (is ∙ ap (option_map typed.meta_of) first) in
-    ap (λ (m : Meta). is_number 1 m.schema_no) (sym same) ∙ schema
+    ap (λ (m : Meta). is_schema m.schema_no) (sym same) ∙ schema
 
 -- a table that is not there is told where none of H0 to H3 is true
 module _ (rows : Rows) (out : form_of rows ≡ OutOfForm form.Form) where

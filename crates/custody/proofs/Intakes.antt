@@ -296,6 +296,8 @@ only_a_part change none records text len now decides = by change refl (decides (
     by (of.Verdict statement) is new = cc
     by (of.Absence tld day) is new = cc
     by (of.Release reference tld reason) is new = cc
+    by (of.Hold reference tld day) is new = cc
+    by (of.Lift reference) is new = let clash = new.0 in cc
     by of.Purge is new = cc
 
 -- why a part is not staged changes nothing

@@ -14,11 +14,11 @@ use Rattle.vault_volume.specs.Extents.{SameFree}
 use Rattle.vault_volume.proofs.ImageLemmas.{in_more}
 use Rattle.custody_records.specs.Records.{Records, with_registry}
 use Rattle.custody_records.specs.Rows.{Rows, with_registry_row}
-use Rattle.custody_records.specs.Form.{form_of, InForm}
+use Rattle.custody_records.specs.Form.{form_of, InForm, IsCurrent}
 use Rattle.custody_records.specs.Written.{row_of_registry}
 use Rattle.custody_records.proofs.FormLemmas.{registry_inserted}
 use Rattle.custody_records.proofs.ReadBack.{registry_read_back}
-use Rattle.custody_store.specs.Standing.{shown, IsReady, IsOneCommit}
+use Rattle.custody_store.specs.Standing.{shown, IsOneCommit}
 use Rattle.sqlite.specs.Store.{Ghosts}
 use Rattle.custody_machine.specs.Machine as machine
 use Rattle.custody_machine.specs.Machine.{Command, Accept, step, Accepted, Answers}
@@ -64,18 +64,22 @@ leaves_more moment left_at old new P Q more l = record { later = l.later; past =
 
 -- ---- rows
 
+-- the rows stand for the records, in the schema that has holds
+abbrev pub StandFor : Rows → Records → Type 0
+StandFor rows records = (form_of rows ≡ InForm records) × IsCurrent rows
+
 -- what a commit leaves, as records
-module _ (old new : State) (records changed : Records) (after : Rows) (was : IsInStore records (shown old).rows (shown old).IsReady (shown old).may_leave) (means : form_of after ≡ InForm changed) where
+module _ (old new : State) (records changed : Records) (after : Rows) (was : IsInStore records (shown old).rows (shown old).IsReady (shown old).may_leave) (means : StandFor after changed) where
   -- a stop leaves the records from before or the changed ones
   pub either_form : {A E : Type 0} (r : Result A E) → IsOneCommit (shown old) (shown new) after r → (rows : Rows) → (shown new).may_leave rows → (form_of rows ≡ InForm records) ⊎ (form_of rows ≡ InForm changed)
-  either_form r commit rows left = ⊎_elim (λ (w : (shown old).may_leave rows). inl (ap form_of (was.settled rows w) ∙ was.in_form)) (λ (e : rows ≡ after). inr (ap form_of e ∙ means)) (commit.left rows left)
+  either_form r commit rows left = ⊎_elim (λ (w : (shown old).may_leave rows). inl (ap form_of (was.settled rows w) ∙ was.in_form)) (λ (e : rows ≡ after). inr (ap form_of e ∙ means.0)) (commit.left rows left)
 
-  module _ (ready : IsReady new) (is : (shown new).rows ≡ after) where
+  module _ (ready : (shown new).IsReady) (is : (shown new).rows ≡ after) where
     pub form_then : (rows : Rows) → (shown new).may_leave rows → form_of rows ≡ InForm changed
-    form_then rows left = ap form_of (ready.rest.only rows left ∙ is) ∙ means
+    form_then rows left = ap form_of (ready.rest.only rows left ∙ is) ∙ means.0
 
     pub rows_then : (records_then : Records) → records_then ≡ changed → IsInStore records_then (shown new).rows (shown new).IsReady (shown new).may_leave
-    rows_then records_then same = record { ready = ready; in_form = ap form_of is ∙ means ∙ ap InForm (sym same); settled = λ rows left. ready.rest.only rows left }
+    rows_then records_then same = record { ready = ready; in_form = ap form_of is ∙ means.0 ∙ ap InForm (sym same); current = subst IsCurrent (sym is) means.1; settled = λ rows left. ready.rest.only rows left }
 
 -- the row of a new registry
 pub registry_means : (rows : Rows) (records : Records) (tld : List ℕ) (day : ℕ) → form_of rows ≡ InForm records → IsTld tld → IsDay day → get records.registries tld ≡ None → form_of (with_registry_row (row_of_registry tld day) rows) ≡ InForm (with_registry records tld day)

@@ -6,6 +6,9 @@ pub mod Done
 pub mod Ended
 pub mod FetchLemmas
 pub mod FirstDamage
+pub mod Gathered
+pub mod HoldRows
+pub mod Holds
 pub mod Intakes
 pub mod KeeperLemmas
 pub mod KeptPart
@@ -29,3 +32,4 @@ pub mod Verdicts
 pub mod Absences
 pub mod Releases
 pub mod Purges
+pub mod Migrated

@@ -8,9 +8,10 @@ use Rattle.vault_volume.specs.Head.{head_of}
 use Rattle.custody_records.specs.declared.meta.Meta.{Meta}
 use Rattle.custody_records.specs.Records.{Records}
 use Rattle.custody_records.specs.Rows.{MetaRow, Rows, first_meta}
-use Rattle.custody_records.specs.Form.{form_of, InForm, natural}
+use Rattle.custody_records.specs.Form.{form_of, InForm, natural, has_holds, IsCurrent}
 use Rattle.custody_records.specs.Typed as typed
 use Rattle.custody_records.proofs.MetaLemmas.{number_reads}
+use Rattle.custody_records.proofs.ReadLemmas.{some_same}
 use Rattle.custody_machine.specs.declared.damage.Damage.{Damage}
 use Rattle.custody_machine.specs.declared.damage.Damage.TheVariants as wrong
 use Rattle.custody_machine.specs.Damage.{IsDamaged}
@@ -24,10 +25,10 @@ use Rattle.custody_records.specs.Rows.{fresh}
 use Rattle.custody_records.specs.Written.{digits_of}
 use Rattle.custody_records.proofs.FormLemmas.{fresh_in_form}
 use Rattle.custody_store.specs.Reading.{rows_in, has_table}
-use Rattle.custody_store.specs.Schema.{meta_schema}
-use Rattle.custody_store.specs.Standing.{Standing, standing, shown, IsAtRest, IsReady, IsBare, HasFirst, HasMetaOrNone, HasKnownTables, leaves, has_any, Founds, Reads, StandsAs}
+use Rattle.custody_store.specs.Schema.{meta_schema, record_schema}
+use Rattle.custody_store.specs.Standing.{Standing, standing, shown, IsAtRest, IsReady, IsBare, HasFirst, HasTablesFirst, HasMetaOrNone, HasKnownTables, leaves, has_any, Founds, Reads, StandsAs}
 use Rattle.custody_store.proofs.BareLemmas.{rows_bare}
-use Rattle.custody_store.proofs.ReadLemmas.{still, reads_then, meta_there, meta_of_first, first_of_ready}
+use Rattle.custody_store.proofs.ReadLemmas.{still, reads_then, meta_there, meta_of_first, first_of_ready, first_of_earlier}
 use Rattle.custody_machine.specs.State.{empty as nothing}
 use Rattle.custody_machine.specs.Stored.{AreWhole, IsGood, KeepsParts, part_of, state_in, HasDigests}
 use Rattle.custody_machine.specs.Moves.{Serving, Left, MayLeave, IsBegun}
@@ -43,7 +44,7 @@ use Rattle.custody_machine.specs.declared.answers.Fault.{Fault}
 use Rattle.custody_machine.specs.declared.answers.Fault.TheVariants as fault
 use Rattle.custody.specs.declared.answers.InitError.{InitError}
 use Rattle.custody.specs.declared.answers.InitError.TheVariants as init_error
-use Rattle.custody.specs.Opening.{HasNoRecord, WritesNothing, IsSize, ReadsVolume, OnlyReads}
+use Rattle.custody.specs.Opening.{HasAll, HasAllOrNone, HasNoRecord, WritesNothing, IsSize, ReadsVolume, OnlyReads}
 use Rattle.custody.specs.Calls.{LeavesNone}
 
 pub some_is : {T : Type 0} (P : T → Type 0) (o : Option T) (x : T) → o ≡ Some x → IfSome o P → P x
@@ -111,22 +112,27 @@ still_none s rest none rows left = ap first_meta (rest.only rows left) ∙ none
 
 -- where meta is there, one is
 any_there : (s : State) → HasFirst meta_schema.tables s → has_any (shown s) ≡ true
-any_there s first = ap (λ b. b || has_table (codes "registry") s.now.schema || has_table (codes "part") s.now.schema || has_table (codes "notice") s.now.schema || has_table (codes "handover") s.now.schema) (meta_there s first)
+any_there s first = ap (λ b. b || has_table (codes "registry") s.now.schema || has_table (codes "part") s.now.schema || has_table (codes "notice") s.now.schema || has_table (codes "handover") s.now.schema || has_table (codes "hold") s.now.schema) (meta_there s first)
 
--- a database with its tables begins with meta
-pub meta_of_ready : (s : State) → IsReady s → HasFirst meta_schema.tables s
-meta_of_ready s ready = meta_of_first s (first_of_ready s ready)
+-- a database with the tables of a schema has the five first that both have
+pub first_of_all : (s : State) → HasAll (shown s) → HasTablesFirst s
+first_of_all s (inl ready) = first_of_ready s ready
+first_of_all s (inr earlier) = first_of_earlier s earlier
 
-pub none_ready : (s : State) → false ≡ has_any (shown s) → IsReady s → ⊥
-none_ready s none ready = let some : false ≡ true = none ∙ any_there s (meta_of_ready s ready) in cc
+-- so it begins with meta
+pub meta_of_all : (s : State) → HasAll (shown s) → HasFirst meta_schema.tables s
+meta_of_all s all = meta_of_first s (first_of_all s all)
+
+pub none_all : (s : State) → false ≡ has_any (shown s) → HasAll (shown s) → ⊥
+none_all s none all = let some : false ≡ true = none ∙ any_there s (meta_of_all s all) in cc
 
 -- and its tables are known
-pub known_of_ready : (s : State) → IsReady s → HasKnownTables (shown s)
-known_of_ready s ready = inr (meta_of_ready s ready, λ _. first_of_ready s ready)
+pub known_of_all : (s : State) → HasAll (shown s) → HasKnownTables (shown s)
+known_of_all s all = inr (meta_of_all s all, λ _. first_of_all s all)
 
 -- where none is there, there is no table at all
-pub bare_where_none : (s : State) → false ≡ has_any (shown s) → IsReady s ⊎ IsBare s → IsBare s
-bare_where_none s none (inl ready) = absurd (none_ready s none ready)
+pub bare_where_none : (s : State) → false ≡ has_any (shown s) → HasAllOrNone (shown s) → IsBare s
+bare_where_none s none (inl all) = absurd (none_all s none all)
 bare_where_none s none (inr bare) = bare
 
 -- where its tables are known, it begins with meta, or has none
@@ -134,14 +140,19 @@ pub meta_where_known : (s : Standing) → HasKnownTables s → HasMetaOrNone s
 meta_where_known s (inl bare) = inr bare
 meta_where_known s (inr known) = inl known.0
 
--- either is at rest
-pub either_rests : (s : State) → IsReady s ⊎ IsBare s → IsAtRest s
-either_rests s (inl ready) = ready.rest
+-- with the tables of a schema it is at rest
+pub all_rests : (s : State) → HasAll (shown s) → IsAtRest s
+all_rests s (inl ready) = ready.rest
+all_rests s (inr earlier) = earlier.rest
+
+-- and so is one without tables
+pub either_rests : (s : State) → HasAllOrNone (shown s) → IsAtRest s
+either_rests s (inl all) = all_rests s all
 either_rests s (inr bare) = bare.rest
 
--- and is known to begin with meta, or to have no table
-pub meta_or_none : (s : State) → IsReady s ⊎ IsBare s → HasMetaOrNone (shown s)
-meta_or_none s (inl ready) = inl (meta_of_ready s ready)
+-- either is known to begin with meta, or to have no table
+pub meta_or_none : (s : State) → HasAllOrNone (shown s) → HasMetaOrNone (shown s)
+meta_or_none s (inl all) = inl (meta_of_all s all)
 meta_or_none s (inr bare) = inr bare
 
 -- the same with another fault
@@ -168,6 +179,7 @@ module _ (number blocks : ℕ) where
       part_registry = λ key part at. absurd (none_at part_cmp key part at);
       notice_registry = λ key notice at. absurd (none_at notice_cmp key notice at);
       release_registry = λ reference release at. absurd (none_at text_cmp reference release at);
+      hold_registry = λ reference hold at. absurd (none_at text_cmp reference hold at);
       released = λ reference release at. absurd (none_at text_cmp reference release at);
       series = λ key part at n e. absurd (none_at part_cmp key part at);
       numbers = λ key notice at n e. absurd (none_at notice_cmp key notice at);
@@ -217,21 +229,28 @@ module _ {A E : Type 0} (old mid new : Standing) (x : A) (reads : Reads {E = E} 
   pub stands_still : new.IsHonest → old.IsAtRest → StandsAs old new
   stands_still honest rest = subst (StandsAs old) (sym is) (still old mid x reads (subst (λ s. s.IsHonest) is honest) rest)
 
-  -- and then another such call
-  pub reads_on : {B F : Type 0} (later end : Standing) (r : Result B F) → Reads new later r → end ≡ later → Reads old end r
-  reads_on later end r then at = subst (λ s. Reads old s r) (sym at) (reads_then old mid later x r reads (subst (λ s. Reads s later r) is then))
+-- two such calls, where the database is handed on
+pub reads_both : {S A B E F : Type 0} (database : Ghosts S) (db end : Held S) {mid over later : Held S} {x : A} {r : Result B F} → Reads {E = E} (standing database db) (standing database mid) (Ok x) → over ≡ mid
+    → Reads (standing database over) (standing database later) r → end ≡ later → Reads (standing database db) (standing database end) r
+reads_both database db end {mid} {over} {later} {x} {r} reads is then at =
+    subst (λ h. Reads (standing database db) (standing database h) r) (sym at)
+    (reads_then (standing database db) (standing database mid) (standing database later) x r reads (subst (λ h. Reads (standing database h) (standing database later) r) is then))
 
 -- ---- what an opening leaves
 
--- the same rows and image
-pub left_same : (rows : Rows) (image : List ℕ) (r : Rows) (j : List ℕ) → r ≡ rows → j ≡ image → MayLeave (Left rows image) r j
-left_same rows image r j same_rows same_image records is good = record {
+-- rows that stand for the same records, and the same image
+pub left_alike : (rows : Rows) (image : List ℕ) (r : Rows) (j : List ℕ) → ((records : Records) → form_of rows ≡ InForm records → form_of r ≡ InForm records) → j ≡ image → MayLeave (Left rows image) r j
+left_alike rows image r j alike same_image records is good = record {
   records = records;
-  in_form = ap form_of same_rows ∙ is;
+  in_form = alike records is;
   good = subst (IsGood records) (sym same_image) good;
   keeps = subst (KeepsParts records image records) (sym same_image) (keeps_itself records image);
   state = ap (state_in records) same_image;
 }
+
+-- the same rows and image
+pub left_same : (rows : Rows) (image : List ℕ) (r : Rows) (j : List ℕ) → r ≡ rows → j ≡ image → MayLeave (Left rows image) r j
+left_same rows image r j same_rows = left_alike rows image r j (λ records is. ap form_of same_rows ∙ is)
 
 -- a stop within it, or after it
 pub leaves_start : {A E V : Type 0} (s : State) (new : Standing) (r : Result A E) (moment : V → ℕ) (left_at : V → ℕ → List ℕ → Type 0) (old later : V) (image : List ℕ) → IsAtRest s → Reads (shown s) new r → new.IsHonest
@@ -274,7 +293,7 @@ none_made device database volume db number error later then r reads honest taken
   fails = λ tells either none rows image left _. inl (none_then either none rows left);
 }
   where
-    none_then : (standing database db).IsReady ⊎ (standing database db).IsBare → HasNoRecord (standing database db).rows → (rows : Rows) → (standing database then).may_leave rows → HasNoRecord rows
+    none_then : HasAllOrNone (standing database db) → HasNoRecord (standing database db).rows → (rows : Rows) → (standing database then).may_leave rows → HasNoRecord rows
     none_then either none rows left = still_none (state database db) (either_rests (state database db) either) none rows (reads.commits_nothing honest rows left)
 
 -- ---- what is kept of the volume and the rows
@@ -291,9 +310,18 @@ on_volume image_in moment left_at v w is records free head long one = subst (λ 
   elsewhere = λ c left. subst (DiffersOnlyIn free (image_in w)) (sym (one c left)) (same_in free (image_in w));
 })
 
+-- new rows are of schema 2
+fresh_current : (number : List ℕ) (blocks : ℤ) → IsCurrent (fresh number blocks)
+fresh_current number blocks meta is = ap (λ (row : MetaRow). has_holds row.schema_no) (sym (some_same _ meta is))
+
 -- the tables with the row of meta, which were made at once
 pub fresh_in_store : {A E : Type 0} (old : Standing) (new : State) (x : A) (number blocks : ℕ) → number < 2 ^ 64 → IsSize blocks → Founds {E = E} old (shown new) (fresh (digits_of number) (pos blocks)) (Ok x)
-    → HasCleanDisk new → old.IsBare → (records : Records) → records ≡ new_records number blocks → IsInStore records (shown new).rows (IsReady new) (leaves new)
+    → HasCleanDisk new → old.IsBare → (records : Records) → records ≡ new_records number blocks → IsInStore records (shown new).rows (IsReady record_schema new) (leaves new)
 fresh_in_store old new x number blocks lt fits founds honest bare records is =
     let done = (founds.effect honest bare).done in
-    record { ready = done.0; in_form = ap form_of done.1 ∙ fresh_in_form number blocks lt fits.0 fits.1 ∙ ap InForm (sym is); settled = done.0.rest.only }
+    record {
+      ready = done.0;
+      in_form = ap form_of done.1 ∙ fresh_in_form number blocks lt fits.0 fits.1 ∙ ap InForm (sym is);
+      current = subst IsCurrent (sym done.1) (fresh_current (digits_of number) (pos blocks));
+      settled = done.0.rest.only;
+    }

@@ -1,26 +1,27 @@
 -- The rows after the bytes of parts were dropped stand for the records after it.
-use Rattle.std.proofs.Common.{◌≡◌, ℕ, ℤ, pos, negsuc, ◌&&◌, List, [], ◌∷◌, map, Option, Some, None, is_some, Bool, true, false, cond, refl, sym, ◌∙◌, ap, subst, arith}
-use Rattle.std.specs.Prelude.{int_lt, nat_lt}
+use Rattle.std.proofs.Common.{◌≡◌, ℕ, ℤ, pos, negsuc, ◌&&◌, ◌==◌, not, List, [], ◌∷◌, Option, Some, None, is_some, is_none, Bool, true, false, cond, refl, sym, ◌∙◌, ap, subst, arith}
+use Rattle.std.specs.Prelude.{int_lt, nat_lt, unwrap_or}
 use Rattle.std.specs.Option.{option_map, option_and_then}
-use Rattle.std.specs.FinMap.{FinMap, get, insert, empty, get-empty, same_map}
+use Rattle.std.specs.Str.{bytes_eq}
+use Rattle.std.specs.FinMap.{FinMap}
 use Rattle.std.proofs.lemmas.Bool.{and_parts}
 use Rattle.std.proofs.lemmas.Bool.Decides.{nat_tests}
 use Rattle.std.proofs.lemmas.Int.{ints}
 use Rattle.schedule.specs.Schedule.{day_of, year_after}
 use Rattle.deposit_name.specs.declared.kinds.Kind.{Kind}
-use Rattle.deposit_name.specs.Identifiers.{is_tld}
+use Rattle.deposit_name.specs.Identifiers.{is_reference, is_tld}
 use Rattle.extent_map.specs.declared.extent.Extent.{Extent}
-use Rattle.custody_records.specs.Keys.{PartKey, part_cmp}
-use Rattle.custody_records.specs.Orders.{part_total, part_exact}
-use Rattle.custody_records.specs.Records.{PartRecord, Records}
-use Rattle.custody_records.specs.Rows.{PartRow, Rows}
-use Rattle.custody_records.specs.Form.{natural, is_number, is_within, is_deposit_day, is_moment, is_part, kind_in, extents_in, part_key, part_in, gather, gathered, form_of, InForm}
+use Rattle.custody_records.specs.Keys.{text_cmp, PartKey}
+use Rattle.custody_records.specs.Orders.{part_total, part_exact, text_total, text_exact}
+use Rattle.custody_records.specs.Records.{Hold, PartRecord, Records}
+use Rattle.custody_records.specs.Rows.{HoldRow, PartRow, Rows}
+use Rattle.custody_records.specs.Form.{natural, is_number, is_within, is_day, is_deposit_day, is_moment, is_part, kind_in, extents_in, part_key, part_in, hold_in, is_hold, gathered, form_of, InForm, IsCurrent}
 use Rattle.custody_records.proofs.FormLemmas.{in_form_has, in_form_from}
 use Rattle.custody_store.specs.Dropping as row
-use Rattle.custody_machine.specs.MapValues.{map_values}
 use Rattle.custody_records.specs.Purge as part
 use Rattle.custody_machine.specs.Purge as kept
-use Rattle.custody_machine.proofs.MapValues.{get-map_values, map_values-insert}
+use Rattle.custody.proofs.Gathered.{gathered_any, gathered_changed}
+use Rattle.custody.proofs.HoldRows.{holds_gathered, row_holds}
 
 -- ---- one row
 
@@ -35,9 +36,6 @@ some_same x y e = cc
 -- what a row in form stands for
 abbrev stands_for : PartRow → Kind → Option (List Extent) → PartKey × PartRecord
 stands_for r kind extents = (part_key r, record { kind = kind; received = natural r.received; len = natural r.len; digest = r.sha; extents = extents })
-
-abbrev after : ℕ → PartKey × PartRecord → PartKey × PartRecord
-after today entry = (entry.0, part.dropped_if_due today entry.1)
 
 -- a row in form, and the record that it stands for
 record IsRead (r : PartRow) (entry : PartKey × PartRecord) : Type 0 where
@@ -80,78 +78,66 @@ day_kept r form =
     let past_moment = (and_parts (is_moment r.received) _ past_part).1 in
     (and_parts (is_number (year_after (day_of (natural r.received))) r.keep_day) _ past_moment).0
 
--- a row is due exactly where its record is
-due_both : (today : ℕ) (r : PartRow) (entry : PartKey × PartRecord) → IsRead r entry → row.is_due today r ≡ part.is_due today entry.1
-due_both today r entry h =
-    ap (λ b. b && int_lt r.keep_day (pos today)) (sym (held_both r.extents h.extents h.extents_are))
-    ∙ ap (λ b. is_some h.extents && b) (kept_to (year_after (day_of (natural r.received))) r.keep_day today (day_kept r h.form))
-    ∙ sym (ap (λ (e : PartKey × PartRecord). part.is_due today e.1) h.is)
+-- ---- the holds
 
--- the row without its bytes stands for the record without its extents
-pub row_means : (today : ℕ) (r : PartRow) (entry : PartKey × PartRecord) → part_in r ≡ Some entry → part_in (row.dropped_if_due today r) ≡ Some (after today entry)
-row_means today r entry e = by (part.is_due today entry.1) refl
+same_number : (a b : ℤ) → is_day a ≡ true → is_deposit_day b ≡ true → row.is_same_number a b ≡ (natural a == natural b)
+same_number (pos m) (pos n) p q = grind (arith, ints, nat_tests)
+same_number (pos m) (negsuc n) p q = cc
+same_number (negsuc m) b p q = cc
+
+-- a row of a hold is of the part's day exactly where the hold is
+holds_both : (r : PartRow) → is_deposit_day r.day ≡ true → (h : HoldRow) (entry : List ℕ × Hold) → hold_in h ≡ Some entry → row.holds_row r h ≡ part.holds_part (part_key r) entry
+holds_both r of_deposit h entry e =
+    let read = row_holds h entry e in
+    let past_tld = (and_parts (is_tld h.tld) _ (and_parts (is_reference h.reference) _ read.0).1).1 in
+    let day = same_number h.day r.day (and_parts (is_day h.day) _ past_tld).0 of_deposit in
+    (λ i. open_both h.lifted i && (bytes_eq h.tld r.tld && day i)) ∙ ap (part.holds_part (part_key r)) read.1
   where
-    h : IsRead r entry
-    h = read_is r entry e
+    open_both : (lifted : Option ℤ) → is_none lifted ≡ is_none (option_map natural lifted)
+    open_both None = refl
+    open_both (Some at) = refl
 
-    by : (d : Bool) → part.is_due today entry.1 ≡ d → part_in (row.dropped_if_due today r) ≡ Some (after today entry)
-    by true is =
-        let due = due_both today r entry h ∙ is in
-        ap (λ d. part_in (cond d (row.dropped_row r) r)) due
-        ∙ is_read (row.dropped_row r) h.kind None h.form h.kind_is refl
-        ∙ ap (λ (x : PartKey × PartRecord). Some (x.0, record x.1 { extents = None })) (sym h.is)
-        ∙ ap (λ d. Some (entry.0, cond d (record entry.1 { extents = None }) entry.1)) (sym is)
-    by false is =
-        let not_due = due_both today r entry h ∙ is in
-        ap (λ d. part_in (cond d (row.dropped_row r) r)) not_due ∙ e ∙ ap (λ d. Some (entry.0, cond d (record entry.1 { extents = None }) entry.1)) (sym is)
+module _ (hold_rows : Option (List HoldRow)) (holds : FinMap text_cmp Hold) (gathers : gathered hold_in hold_rows ≡ Some holds) (today : ℕ) where
+  abbrev rows_of_holds : List HoldRow
+  rows_of_holds = unwrap_or hold_rows []
 
--- ---- all rows
+  abbrev after : PartKey × PartRecord → PartKey × PartRecord
+  after entry = (entry.0, part.dropped_if_due holds today entry.0 entry.1)
 
-gather_means : (today : ℕ) (rows : List PartRow) (so_far all : FinMap part_cmp PartRecord) → gather part_in so_far rows ≡ Some all
-    → gather part_in (map_values (part.dropped_if_due today) so_far) (map (row.dropped_if_due today) rows) ≡ Some (map_values (part.dropped_if_due today) all)
-gather_means today [] so_far all e = ap (λ m. Some (map_values (part.dropped_if_due today) m)) (some_same so_far all e)
-gather_means today (r ∷ rows) so_far all e = by (part_in r) refl e (λ m h. gather_means today rows m all h)
-  where
-    by : (o : Option (PartKey × PartRecord)) → part_in r ≡ o → option_and_then (λ (entry : PartKey × PartRecord). cond (is_some (get so_far entry.0)) None (gather part_in (insert so_far entry.0 entry.1) rows)) o ≡ Some all
-        → ((m : FinMap part_cmp PartRecord) → gather part_in m rows ≡ Some all → gather part_in (map_values (part.dropped_if_due today) m) (map (row.dropped_if_due today) rows) ≡ Some (map_values (part.dropped_if_due today) all))
-        → gather part_in (map_values (part.dropped_if_due today) so_far) (map (row.dropped_if_due today) (r ∷ rows)) ≡ Some (map_values (part.dropped_if_due today) all)
-    by None is e rest = cc
-    by (Some entry) is e rest = at (is_some (get so_far entry.0)) refl e rest
-      where
-        there : is_some (get (map_values (part.dropped_if_due today) so_far) entry.0) ≡ is_some (get so_far entry.0)
-        there = ap is_some (get-map_values part_cmp (part.dropped_if_due today) so_far entry.0) ∙ same (get so_far entry.0)
-          where
-            same : (o : Option PartRecord) → is_some (option_map (part.dropped_if_due today) o) ≡ is_some o
-            same None = refl
-            same (Some p) = refl
+  -- the day of a row is on hold exactly where that of its record is
+  on_hold_both : (r : PartRow) → is_part r ≡ true → row.is_on_hold rows_of_holds r ≡ part.is_on_hold holds (part_key r)
+  on_hold_both r form =
+      let of_deposit = (and_parts (is_deposit_day r.day) _ (and_parts (is_tld r.tld) _ form).1).0 in
+      gathered_any hold_in text_total text_exact (row.holds_row r) (part.holds_part (part_key r)) (holds_both r of_deposit) hold_rows holds gathers
 
-        at : (b : Bool) → is_some (get so_far entry.0) ≡ b → cond b None (gather part_in (insert so_far entry.0 entry.1) rows) ≡ Some all
-            → ((m : FinMap part_cmp PartRecord) → gather part_in m rows ≡ Some all → gather part_in (map_values (part.dropped_if_due today) m) (map (row.dropped_if_due today) rows) ≡ Some (map_values (part.dropped_if_due today) all))
-            → gather part_in (map_values (part.dropped_if_due today) so_far) (map (row.dropped_if_due today) (r ∷ rows)) ≡ Some (map_values (part.dropped_if_due today) all)
-        at true taken e rest = cc
-        at false new e rest =
-            ap (option_and_then (λ (x : PartKey × PartRecord). cond (is_some (get (map_values (part.dropped_if_due today) so_far) x.0)) None
-            (gather part_in (insert (map_values (part.dropped_if_due today) so_far) x.0 x.1) (map (row.dropped_if_due today) rows)))) (row_means today r entry is)
-            ∙ ap (λ b. cond b None (gather part_in (insert (map_values (part.dropped_if_due today) so_far) entry.0 (part.dropped_if_due today entry.1)) (map (row.dropped_if_due today) rows))) (there ∙ new)
-            ∙ ap (λ m. gather part_in m (map (row.dropped_if_due today) rows)) (sym (map_values-insert part_cmp (part.dropped_if_due today) part_total part_exact so_far entry.0 entry.1))
-            ∙ rest (insert so_far entry.0 entry.1) e
+  -- a row is due exactly where its record is
+  due_both : (r : PartRow) (entry : PartKey × PartRecord) → IsRead r entry → row.is_due rows_of_holds today r ≡ part.is_due holds today entry.0 entry.1
+  due_both r entry h =
+      let kept_to_day = kept_to (year_after (day_of (natural r.received))) r.keep_day today (day_kept r h.form) in
+      (λ i. sym (held_both r.extents h.extents h.extents_are) i && (kept_to_day i && not (on_hold_both r h.form i)))
+      ∙ sym (ap (λ (e : PartKey × PartRecord). part.is_due holds today e.0 e.1) h.is)
 
-abbrev none_yet : FinMap part_cmp PartRecord
-none_yet = empty
+  -- the row without its bytes stands for the record without its extents
+  row_means : (r : PartRow) (entry : PartKey × PartRecord) → part_in r ≡ Some entry → part_in (row.dropped_if_due rows_of_holds today r) ≡ Some (after entry)
+  row_means r entry e = by (part.is_due holds today entry.0 entry.1) refl
+    where
+      h : IsRead r entry
+      h = read_is r entry e
 
-nothing_yet : (today : ℕ) → map_values (part.dropped_if_due today) none_yet ≡ none_yet
-nothing_yet today = same_map part_total part_exact _ _ (λ key.
-    get-map_values part_cmp (part.dropped_if_due today) none_yet key ∙ ap (option_map (part.dropped_if_due today)) (get-empty part_cmp key) ∙ sym (get-empty part_cmp key))
-
-gathered_means : (today : ℕ) (o : Option (List PartRow)) (all : FinMap part_cmp PartRecord) → gathered part_in o ≡ Some all
-    → gathered part_in (option_map (map (row.dropped_if_due today)) o) ≡ Some (map_values (part.dropped_if_due today) all)
-gathered_means today None all e = cc
-gathered_means today (Some rows) all e =
-    ap (λ m. gather part_in m (map (row.dropped_if_due today) rows)) (sym (nothing_yet today)) ∙ gather_means today rows none_yet all e
+      by : (d : Bool) → part.is_due holds today entry.0 entry.1 ≡ d → part_in (row.dropped_if_due rows_of_holds today r) ≡ Some (after entry)
+      by true is =
+          let due = due_both r entry h ∙ is in
+          ap (λ d. part_in (cond d (row.dropped_row r) r)) due
+          ∙ is_read (row.dropped_row r) h.kind None h.form h.kind_is refl
+          ∙ ap (λ (x : PartKey × PartRecord). Some (x.0, record x.1 { extents = None })) (sym h.is)
+          ∙ ap (λ d. Some (entry.0, cond d (record entry.1 { extents = None }) entry.1)) (sym is)
+      by false is =
+          let not_due = due_both r entry h ∙ is in
+          ap (λ d. part_in (cond d (row.dropped_row r) r)) not_due ∙ e ∙ ap (λ d. Some (entry.0, cond d (record entry.1 { extents = None }) entry.1)) (sym is)
 
 -- What the rows stand for after it is what they stood for, without the bytes that were due.
-pub purge_means : (today : ℕ) (rows : Rows) (records : Records) → form_of rows ≡ InForm records → form_of (row.without_due today rows) ≡ InForm (kept.without_due today records)
-purge_means today rows records was =
+pub purge_means : (today : ℕ) (rows : Rows) (records : Records) → IsCurrent rows → form_of rows ≡ InForm records → form_of (row.without_due today rows) ≡ InForm (kept.without_due today records)
+purge_means today rows records current was =
     let old = in_form_has rows records was in
     in_form_from _ _ (record {
       meta = old.meta;
@@ -161,7 +147,10 @@ purge_means today rows records was =
       number = old.number;
       blocks = old.blocks;
       registries = old.registries;
-      parts = gathered_means today rows.parts records.parts old.parts;
+      parts =
+          gathered_changed part_in part_total part_exact (row.dropped_if_due (row.holds_of rows) today) (part.dropped_if_due records.holds today)
+          (row_means rows.holds records.holds (holds_gathered rows records current was) today) rows.parts records.parts old.parts;
       notices = old.notices;
       releases = old.releases;
+      holds = old.holds;
     })

@@ -16,17 +16,18 @@ use Rattle.vault_volume.specs.Image.{DiffersOnlyIn}
 use Rattle.vault_volume.proofs.ImageLemmas.{same_in}
 use Rattle.custody_records.specs.declared.records.Records as held
 use Rattle.custody_records.specs.Keys.{part_cmp}
+use Rattle.custody_records.specs.Orders.{part_exact}
 use Rattle.custody_records.specs.Purge.{dropped_if_due, entries_without_due}
 use Rattle.custody_records.specs.Records.{Records}
 use Rattle.custody_machine.specs.declared.answers.Fault.TheVariants.{NoMemory}
 use Rattle.custody_machine.specs.Machine as machine
 use Rattle.custody_machine.specs.Machine.{Purge, OfPurge, Accept, step}
 use Rattle.custody_machine.specs.Stored.{IsGood, IsVolumeOf, state_in}
-use Rattle.custody_machine.specs.MapValues.{map_values}
+use Rattle.custody_machine.specs.MapValues.{map_keyed}
 use Rattle.custody_machine.specs.Purge.{IsDueBlock, count_due, without_due}
 use Rattle.custody_machine.specs.Custody.{IsInOrder}
 use Rattle.custody_machine.specs.Rulings.{DropsBytes, Makes, Decides}
-use Rattle.custody_machine.proofs.MapValues.{entries-map_values}
+use Rattle.custody_machine.proofs.MapValues.{entries-map_keyed}
 use Rattle.custody_machine.proofs.Composed.{IsChange, nothing_in}
 use Rattle.custody_machine.proofs.Purged.{due_used, purged_in_order, purge_accepted, purge_changes}
 use Rattle.custody.specs.declared.answers.Refused.TheVariants as refused
@@ -36,9 +37,9 @@ use Rattle.custody.proofs.KeeperLemmas.{leaves_more, stays_still}
 use Rattle.custody.proofs.Done.{IsOneChange, GoesOn, no_memory_done}
 
 -- the records, after the bytes were dropped in memory
-pub dropped_records : (today : ℕ) (old new : Records) → entries new.parts ≡ entries_without_due today (entries old.parts) → new ≡ record old { parts = new.parts } → new ≡ without_due today old
+pub dropped_records : (today : ℕ) (old new : Records) → entries new.parts ≡ entries_without_due old.holds today (entries old.parts) → new ≡ record old { parts = new.parts } → new ≡ without_due today old
 dropped_records today old new parts others =
-    others ∙ ap (λ m. record old { parts = m }) (same_entries_map new.parts (map_values (dropped_if_due today) old.parts) (parts ∙ sym (entries-map_values part_cmp (dropped_if_due today) old.parts)))
+    others ∙ ap (λ m. record old { parts = m }) (same_entries_map new.parts (map_keyed (dropped_if_due old.holds today) old.parts) (parts ∙ sym (entries-map_keyed part_cmp part_exact (dropped_if_due old.holds today) old.parts)))
 
 module _ {V S : Type 0} {g : volume.Ghosts V} (database : Ghosts S) (old : Keeper V S g) (order : KeepsOrder old) (now : ℕ) (d : Decides (Makes DropsBytes) (recorded old) Purge now) where
   abbrev pub records_then : Records

@@ -13,7 +13,7 @@ use Rattle.custody_records.specs.declared.parts.Part.{Part}
 use Rattle.custody_records.specs.Records.{Records}
 use Rattle.custody_records.specs.Typed.{part_place, part_value}
 use Rattle.custody_machine.specs.State.{Held}
-use Rattle.custody_machine.specs.Machine.{Command, Register, Receive, Statement, Check, Release, Purge, OfPart, Accept, Answer, Accepted, Answers, MayRefuse}
+use Rattle.custody_machine.specs.Machine.{Command, Register, Receive, Statement, Check, Release, Hold, Lift, Purge, OfPart, Accept, Answer, Accepted, Answers, MayRefuse}
 use Rattle.custody_machine.specs.Moves.{DependsOnBytes}
 use Rattle.custody_machine.specs.Stored.{ForExtents, AreExtents, content_of, state_in}
 use Rattle.custody_machine.specs.Rulings.{ByBytes, Decides, IsUnder, bytes_of}
@@ -48,6 +48,8 @@ module _ {V S : Type 0} {g : volume.Ghosts V} (old : Keeper V S g) (order : Keep
       by (Statement stated) under = absurd under
       by (Check tld day) under = absurd under
       by (Release reference tld reason) under = absurd under
+      by (Hold reference tld day) under = absurd under
+      by (Lift reference) under = absurd under
       by Purge under = absurd under
 
   never_idle : {P : Type 0} → uses_volume command ≡ false → P

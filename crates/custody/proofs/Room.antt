@@ -18,9 +18,9 @@ use Rattle.custody_records.specs.Records.{PartRecord, Records, key_of}
 use Rattle.custody_records.specs.Tables.{entries_of, is_rising, table_map}
 use Rattle.custody_records.specs.Typed.{part_place, part_value}
 use Rattle.custody_records.proofs.TableLemmas.{entries-table_map}
-use Rattle.custody_machine.specs.Machine.{Command, Register, Receive, Statement, Check, Release, Purge}
+use Rattle.custody_machine.specs.Machine.{Command, Register, Receive, Statement, Check, Release, Hold, Lift, Purge}
 use Rattle.custody_machine.specs.Stored.{ForExtents, AreExtents, AreWhole}
-use Rattle.custody_machine.specs.Rulings.{AddsRegistry, AddsPart, AddsVerdict, AddsAbsence, AddsRelease, DropsBytes, Ruling, Refuses, Repeats, ByBytes, Makes, Decides}
+use Rattle.custody_machine.specs.Rulings.{AddsRegistry, AddsPart, AddsVerdict, AddsAbsence, AddsRelease, AddsHold, LiftsHold, DropsBytes, Ruling, Refuses, Repeats, ByBytes, Makes, Decides}
 use Rattle.custody_machine.specs.Custody.{IsInOrder, HasRoomFor}
 use Rattle.custody_machine.proofs.Room.{room_for_part}
 use Rattle.custody_rules.specs.Blocks.{IsInRange, all_extents, extents_of}
@@ -83,6 +83,8 @@ had_room database old new order (Register tld first_day) now (Ok reply) done = �
 had_room database old new order (Statement stated) now (Ok reply) done = λ _. tt
 had_room database old new order (Check tld day) now (Ok reply) done = λ _. tt
 had_room database old new order (Release reference tld reason) now (Ok reply) done = λ _. tt
+had_room database old new order (Hold reference tld day) now (Ok reply) done = λ _. tt
+had_room database old new order (Lift reference) now (Ok reply) done = λ _. tt
 had_room database old new order Purge now (Ok reply) done = λ _. tt
 had_room {V} {S} {g} database old new order (Receive text bytes) now (Ok reply) done = by done.ruled.0 done.ruled.1 done.ruled.2
   where
@@ -94,6 +96,8 @@ had_room {V} {S} {g} database old new order (Receive text bytes) now (Ok reply) 
     by (Makes (AddsVerdict stated)) decides ruled first = let other = decides.0 in cc
     by (Makes (AddsAbsence tld day)) decides ruled first = let other = decides.0 in cc
     by (Makes (AddsRelease reference tld reason)) decides ruled first = let other = decides.0.0 in cc
+    by (Makes (AddsHold reference tld day)) decides ruled first = let other = decides.0.0 in cc
+    by (Makes (LiftsHold reference)) decides ruled first = let other = decides.0.0 in cc
     by (Makes DropsBytes) decides ruled first = let other = decides.0 in cc
     by (Makes (AddsPart name)) decides ruled first =
         let counted = counted_in old.vault in

@@ -4,7 +4,7 @@ use Rattle.sqlite.specs.Store.{Ghosts}
 use Rattle.vault_volume.specs.declared.volume.Volume as volume
 use Rattle.deposit_name.specs.Name.{Name}
 use Rattle.custody_records.specs.Records.{Records}
-use Rattle.custody_machine.specs.Machine.{Command, Register, Receive, Statement, Check, Release, Purge}
+use Rattle.custody_machine.specs.Machine.{Command, Register, Receive, Statement, Check, Release, Hold, Lift, Purge}
 use Rattle.custody_machine.specs.declared.answers.Fault.TheVariants.{NoMemory}
 use Rattle.custody_machine.specs.declared.answers.Refusal.{Refusal}
 use Rattle.custody_machine.specs.Stored.{state_in}
@@ -52,6 +52,20 @@ module _ {V S : Type 0} {g : volume.Ghosts V} (database : Ghosts S) (old : Keepe
       (repeats_done database old order command now old.records refl (record { «record» = of.Release release.now; is_repeat = true }) (record { entry = record_of (answers.Release release); is_repeat = true }) refl is
       (reads_repeated state command now _ _ is refl) (Repeats (record_of (answers.Release release)), decides, (refl, refl))
       (replies_are_records state state command now _ is) (λ _. tt))
+  repeated_done (answers.Hold hold) decides told at =
+      let is = decides (image_of old) in
+      let state = state_in (recorded old) (image_of old) in
+      subst (λ told. HasDone database old command now (Ok (record { «record» = told; is_repeat = true })) old) (sym at)
+      (repeats_done database old order command now old.records refl (record { «record» = of.Hold hold.now; is_repeat = true }) (record { entry = record_of (answers.Hold hold); is_repeat = true }) refl is
+      (reads_repeated state command now _ _ is refl) (Repeats (record_of (answers.Hold hold)), decides, (refl, refl))
+      (replies_are_records state state command now _ is) (λ _. tt))
+  repeated_done (answers.Lifting reference lifted) decides told at =
+      let is = decides (image_of old) in
+      let state = state_in (recorded old) (image_of old) in
+      subst (λ told. HasDone database old command now (Ok (record { «record» = told; is_repeat = true })) old) (sym at)
+      (repeats_done database old order command now old.records refl (record { «record» = of.Lifting reference lifted; is_repeat = true }) (record { entry = record_of (answers.Lifting reference lifted); is_repeat = true }) refl is
+      (reads_repeated state command now _ _ is refl) (Repeats (record_of (answers.Lifting reference lifted)), decides, (refl, refl))
+      (replies_are_records state state command now _ is) (λ _. tt))
 
   -- there is no memory for the names that it lists
   pub unlisted_done : (kept : Kept) → Decides (Repeats (record_of kept)) (recorded old) command now → lists_names (record_of kept) ≡ true → HasDone database old command now (Err (refused.Fault NoMemory)) old
@@ -65,6 +79,8 @@ part_is_sent records (Register tld first_day) name bytes now brought decides = a
 part_is_sent records (Statement stated) name bytes now brought decides = absurd decides.0.0
 part_is_sent records (Check tld day) name bytes now brought decides = absurd decides.0.0
 part_is_sent records (Release reference tld reason) name bytes now brought decides = absurd decides.0.0
+part_is_sent records (Hold reference tld day) name bytes now brought decides = absurd decides.0.0
+part_is_sent records (Lift reference) name bytes now brought decides = absurd decides.0.0
 part_is_sent records Purge name bytes now brought decides = absurd decides.0.0
 part_is_sent records (Receive text sent) name bytes now brought decides = (text, subst (λ b. Decides (Makes (AddsPart name)) records (Receive text b) now) (sym brought) decides)
 
@@ -76,6 +92,8 @@ part_is_made database old new (Register tld first_day) name bytes now answer bro
 part_is_made database old new (Statement stated) name bytes now answer brought decides kept = absurd decides.0.0
 part_is_made database old new (Check tld day) name bytes now answer brought decides kept = absurd decides.0.0
 part_is_made database old new (Release reference tld reason) name bytes now answer brought decides kept = absurd decides.0.0
+part_is_made database old new (Hold reference tld day) name bytes now answer brought decides kept = absurd decides.0.0
+part_is_made database old new (Lift reference) name bytes now answer brought decides kept = absurd decides.0.0
 part_is_made database old new Purge name bytes now answer brought decides kept = absurd decides.0.0
 part_is_made database old new (Receive text sent) name bytes now answer brought decides kept =
     subst (λ b. HasDone database old (Receive text b) now answer new) brought (kept text (subst (λ b. Decides (Makes (AddsPart name)) (recorded old) (Receive text b) now) (sym brought) decides))

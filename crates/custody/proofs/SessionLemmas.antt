@@ -1,15 +1,13 @@
 -- Sessions of a custody, and one after another, as moves of the machine.
 use Rattle.std.proofs.Common.{◌≡◌, ◌≢◌, ℕ, suc, length, ap, List, [], ◌∷◌, refl, sym, ◌∙◌, subst, Result}
 use Rattle.vault_volume.specs.declared.volume.Volume as volume
-use Rattle.vault_volume.specs.Disk.{LeavesOne}
 use Rattle.vault_volume.specs.Vault.{volume_of}
 use Rattle.sqlite.specs.Store.{Ghosts}
 use Rattle.sqlite.specs.Held.{Held}
-use Rattle.sqlite.specs.State as database_state
 use Rattle.custody_records.specs.Records.{Records}
 use Rattle.custody_records.specs.Rows.{Rows}
 use Rattle.custody_records.specs.Form.{form_of, InForm}
-use Rattle.custody_store.specs.Standing.{Standing, standing, shown, IsReady, Reads}
+use Rattle.custody_store.specs.Standing.{standing}
 use Rattle.custody_machine.specs.declared.damage.Damage.{Damage}
 use Rattle.custody_machine.specs.declared.answers.Fault.{Fault}
 use Rattle.custody_machine.specs.declared.answers.Fault.TheVariants.{NoMemory, VolumeFailed, StoreFailed, Closed, Damaged}
@@ -27,8 +25,7 @@ use Rattle.custody.specs.declared.answers.Refused as not_accepted
 use Rattle.custody.specs.declared.custody.Custody.{Custody}
 use Rattle.custody.specs.Keeper.{recorded, stored, image_of, left_by}
 use Rattle.custody.specs.Custody.{keeper_of, HasRun}
-use Rattle.custody.specs.Sessions.{answers_of, IsAfter, IsServing, place_of, state_of, IsSession, IsNotOpened, IsReopened, IsResumed, RestsMayStop, SessionsGoOn, OpeningsMayFail}
-use Rattle.custody.proofs.Opened.{left_same}
+use Rattle.custody.specs.Sessions.{answers_of, IsAfter, IsServing, place_of, state_of, IsSession, IsReopened, IsResumed, RestsMayStop, SessionsGoOn, OpeningsMayFail}
 use Rattle.custody.proofs.RunMoves.{along_join, runs_move}
 
 -- what a stop leaves of a place where each held part has its digest has them too
@@ -54,14 +51,6 @@ may_not_open rows image VolumeFailed open_not damaged = tt
 may_not_open rows image StoreFailed open_not damaged = tt
 may_not_open rows image Closed open_not damaged = open_not refl
 may_not_open rows image (Damaged damage) open_not damaged = damaged damage refl
-
--- and what it read is left as it was
-pub not_opened : {A E : Type 0} (s : database_state.State) (new : Standing) (image : List ℕ) (fault : Fault) (result : Result A E) (images_left was_left : List ℕ → Type 0) → MayNotOpen (shown s).rows image fault → IsReady s → Reads (shown s) new result → new.IsHonest
-    → LeavesOne image was_left → ((j : List ℕ) → images_left j → was_left j) → IsNotOpened (shown s).rows image fault new.may_leave images_left
-not_opened s new image fault result images_left was_left cause ready reads honest one left = record {
-  cause = cause;
-  leaves = λ r j h w. left_same (shown s).rows image r j (ready.rest.only r (reads.commits_nothing honest r h)) ((one j).0 (left j w));
-}
 
 -- a stop at rest
 stops : (place : Place) (rows : Rows) (left : List ℕ) (pair : Pair) → MayLeave place rows left → Finds rows left pair → Moves place (StoppedAtRest pair) (Left rows left)

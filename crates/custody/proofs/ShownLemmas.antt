@@ -18,6 +18,8 @@ module _ (name : Name) (part : PartRecord) where
   shown_of records (of.Registry tld day) shows at = absurd shows
   shown_of records (of.Notice notice) shows at = absurd shows
   shown_of records (of.Release release) shows at = absurd shows
+  shown_of records (of.Hold hold) shows at = absurd shows
+  shown_of records (of.Lifting reference lifted) shows at = absurd shows
   shown_of records (of.Purge count) shows at = absurd shows
   shown_of records (of.Part named received len digest extents) shows at =
       subst (λ n. get records.parts (key_of n) ≡ Some (record { kind = n.kind; received = received; len = len; digest = digest; extents = Some extents.items })) (sym shows.0) (at ∙ ap Some shows.1)
@@ -27,6 +29,8 @@ module _ (name : Name) (part : PartRecord) where
   holds_of image bytes extents (of.Registry tld day) shows held is = absurd shows
   holds_of image bytes extents (of.Notice notice) shows held is = absurd shows
   holds_of image bytes extents (of.Release release) shows held is = absurd shows
+  holds_of image bytes extents (of.Hold hold) shows held is = absurd shows
+  holds_of image bytes extents (of.Lifting reference at) shows held is = absurd shows
   holds_of image bytes extents (of.Purge count) shows held is = absurd shows
   holds_of image bytes extents (of.Part named received len digest there) shows held is =
       let same : extents ≡ there.items = some_same _ _ (sym held ∙ ap (λ (p : PartRecord). p.extents) shows.1) in
@@ -40,6 +44,8 @@ module _ (name : Name) (part : PartRecord) where
   entry_of bytes (of.Registry tld day) shows = absurd shows
   entry_of bytes (of.Notice notice) shows = absurd shows
   entry_of bytes (of.Release release) shows = absurd shows
+  entry_of bytes (of.Hold hold) shows = absurd shows
+  entry_of bytes (of.Lifting reference at) shows = absurd shows
   entry_of bytes (of.Purge count) shows = absurd shows
   entry_of bytes (of.Part named received len digest extents) shows =
       λ i. OfPart (key_of (shows.0 i)) (record { kind = (shows.0 i).kind; received = ap (λ (p : PartRecord). p.received) (sym shows.1) i; content = Held bytes })

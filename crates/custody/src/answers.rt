@@ -6,9 +6,9 @@ ghost use Rattle.custody.specs.Answers.{lists_names, told_by};
 ghost use Rattle.custody.specs.Shown.{ShowsPart};
 
 use custody_machine::{Code, Fault, Refusal, Status};
-use custody_records::{Part, Registry, Release};
+use custody_records::{Hold, Part, Registry, Release};
 use custody_rules::Kept;
-use deposit_name::{DepositName, Tld};
+use deposit_name::{DepositName, Reference, Tld};
 use desk::Notice;
 use schedule::{Day, Sec};
 use std::alloc::{AllocError, Global};
@@ -33,6 +33,12 @@ pub enum Record {
     },
     Notice(Notice),
     Release(Release),
+    Hold(Hold),
+    /// When the hold of a reference was lifted.
+    Lifting {
+        reference: Reference,
+        at: Sec,
+    },
     /// Of how many parts a purge dropped the bytes. It is no record of its own.
     Purge {
         count: usize,
@@ -66,6 +72,11 @@ impl Record {
             Kept::Registry(registry) => Ok(Record::from(*registry)),
             Kept::Notice(notice) => Ok(Record::Notice(*notice)),
             Kept::Release(release) => Ok(Record::Release(release.try_clone(alloc)?)),
+            Kept::Hold(hold) => Ok(Record::Hold(**hold)),
+            Kept::Lifting(reference, at) => Ok(Record::Lifting {
+                reference: *reference,
+                at: *at,
+            }),
         }
     }
 }

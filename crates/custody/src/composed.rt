@@ -6,6 +6,7 @@ ghost use Rattle.sqlite.specs.Steps.{over_memory};
 ghost use Rattle.custody_store.specs.Standing.{standing};
 ghost use Rattle.custody.specs.Custody.{entries_of, keeper_of};
 ghost use Rattle.custody.specs.Keeper.{recorded, stored, image_of};
+ghost use Rattle.custody.specs.Opening.{HasAll};
 ghost use Rattle.custody.specs.Sessions.{answers_of, IsSession, IsNotOpened, IsReopened, IsResumed};
 
 use crate::{Custody, InitError, Refused, Reply};
@@ -48,10 +49,10 @@ pub fn serve_session<V: Volume, S: Alter + Drop>(
     commands: &[(Command<'_>, Sec)],
 ) -> Result<Session<V, S>, (Fault, V, Connection<S>)>
     requires { V.failures volume < 2 ^ 64 - 1 }
-    ensures served { V.tells → LeavesOne (V.image volume) (V.left_at volume (V.moment volume)) → (standing S.Store db).IsReady
+    ensures served { V.tells → LeavesOne (V.image volume) (V.left_at volume (V.moment volume)) → HasAll (standing S.Store db)
         → IfOk result (λ s. (standing S.Store s.db).IsHonest → IsSession (standing S.Store db).rows (V.image volume) (entries_of commands.now) (answers_of (entries_of commands.now) s.answers.items)
         (standing S.Store s.db).may_leave (V.left_at s.volume (V.moment s.volume))) }
-    ensures failed { V.tells → LeavesOne (V.image volume) (V.left_at volume (V.moment volume)) → (standing S.Store db).IsReady
+    ensures failed { V.tells → LeavesOne (V.image volume) (V.left_at volume (V.moment volume)) → HasAll (standing S.Store db)
         → IfErr result (λ e. (standing S.Store e.2).IsHonest → IsNotOpened (standing S.Store db).rows (V.image volume) e.0 (standing S.Store e.2).may_leave (V.left_at e.1 (V.moment e.1))) }
 {
     let mut custody = match Custody::open(alloc, volume, db) {
@@ -83,7 +84,7 @@ pub fn open_run_and_reopen<S: Alter + Drop>(
 ) -> Result<Reopened<S>, Fault>
     requires { ⟦<MemVolume as Volume>⟧.failures volume < 2 ^ 64 - 1 }
     ensures { LeavesOne (⟦<MemVolume as Volume>⟧.image volume) (⟦<MemVolume as Volume>⟧.left_at volume (⟦<MemVolume as Volume>⟧.moment volume))
-        → (standing S.Store db).IsReady → (standing S.Store left).IsReady
+        → HasAll (standing S.Store db) → HasAll (standing S.Store left)
         → IfOk result (λ r. (standing S.Store r.stopped).IsHonest → (stored S.Store (keeper_of r.custody)).IsHonest
         → (standing S.Store r.stopped).may_leave (standing S.Store left).rows
         → IsReopened (standing S.Store db).rows (⟦<MemVolume as Volume>⟧.image volume) (entries_of commands.now) (answers_of (entries_of commands.now) r.answers.items)

@@ -1,27 +1,27 @@
 //! The custody.
-ghost use Rattle.std.specs.Prelude.{◌≡◌, ℕ, List, [], ◌-◌, ◌<◌, ◌≤◌, ◌^◌, length, true, false, IfOk, IfErr, OnErr, MatchResult};
+ghost use Rattle.std.specs.Prelude.{◌≡◌, ◌≢◌, ℕ, List, [], ◌-◌, ◌<◌, ◌≤◌, ◌^◌, length, true, false, IfOk, IfErr, OnErr, MatchResult};
 ghost use Rattle.std.specs.Coded.{Π_prop};
 ghost use Rattle.vault_volume.specs.Vault.{volume_of};
 ghost use Rattle.custody_records.specs.Held.{records_of};
 ghost use Rattle.custody_records.specs.Rows.{Rows};
-ghost use Rattle.custody_store.specs.Standing.{standing, HasKnownTables};
+ghost use Rattle.custody_store.specs.Standing.{standing, is_earlier, HasKnownTables};
 ghost use Rattle.custody_machine.specs.declared.damage.Damage.TheVariants as damage;
 ghost use Rattle.custody_machine.specs.Commands.{command_of};
 ghost use Rattle.custody_machine.specs.Damage.{IsDamaged};
 ghost use Rattle.custody.specs.Answers.{stays_open};
 ghost use Rattle.custody.specs.Keeper.{recorded, stored, KeepsOrder, KeepsOrder-prop};
-ghost use Rattle.custody.specs.Opening.{HasNoRecord, TellsDamage, OnlyReads, free_blocks};
+ghost use Rattle.custody.specs.Opening.{HasNoRecord, TellsDamage, OnlyReads, OnlyMigrates, free_blocks};
 
 use crate::auditing::audit_parts;
 use crate::fetching::fetch_part;
 use crate::keeper::Keeper;
-use crate::opening::{identify, keeper_over, load_whole, make_records, may_begin};
+use crate::opening::{identify, keeper_over, load_whole, make_records, may_begin, migrate_earlier};
 use crate::receiving::drop_body;
 use crate::{InitError, Progress, ReceiveError, Refused, Reply};
 use custody_machine::{Command, Damage, Fault};
 use custody_records::Records;
 use custody_rules::map_of;
-use custody_store::{Store, has_all, has_any};
+use custody_store::{Store, has_all, has_any, is_earlier};
 use deposit_name::{DepositName, Reference};
 use schedule::Sec;
 use sqlite::{Alter, Connection};
@@ -88,8 +88,9 @@ impl<V: Volume, S: Alter> Custody<V, S> {
         })
     }
 
-    /// Opens what a restart left: it reads the records and block 0, and writes nothing. Where it fails, volume
-    /// and database are handed back.
+    /// Opens what a restart left: it reads the records and block 0, and changes no record. A database of
+    /// schema 1 in which nothing is damaged is made one of schema 2, by one commit; else nothing is
+    /// written. Where it fails, volume and database are handed back.
     pub fn open(
         alloc: Global,
         volume: V,
@@ -101,13 +102,21 @@ impl<V: Volume, S: Alter> Custody<V, S> {
         ensures cause { IfErr result (λ e. IsNotOpenedFor V.Volume S.Store volume db e.0 e.1 e.2) }
         ensures damaged { HasKnownTables (standing S.Store db)
             → IfErr result (λ e. (standing S.Store e.2).IsHonest → TellsDamage V.tells (standing S.Store db).rows (V.image volume) e.0) }
-        ensures reads { MatchResult result
+        // Where a table is missing, or that of holds is there, volume and database are only read.
+        ensures reads { is_earlier (standing S.Store db) ≡ false → MatchResult result
             (λ c. OnlyReads V.Volume S.Store volume db (volume_of (keeper_of c).vault) (keeper_of c).store result)
             (λ e. OnlyReads V.Volume S.Store volume db e.1 e.2 result) }
+        // Else tables of schema 1 are made those of schema 2, where it opens.
+        ensures migrates { is_earlier (standing S.Store db) ≡ true → MatchResult result
+            (λ c. OnlyMigrates V.Volume S.Store volume db (volume_of (keeper_of c).vault) (keeper_of c).store result)
+            (λ e. OnlyMigrates V.Volume S.Store volume db e.1 e.2 result) }
+        // And where it does not, they are only read, unless the database failed.
+        ensures unchanged { IfErr result (λ e. e.0 ≢ Fault.StoreFailed → OnlyReads V.Volume S.Store volume db e.1 e.2 result) }
     {
         let mut volume = volume;
         let mut db = db;
         let has_tables = has_all(&db);
+        let is_earlier = is_earlier(&db);
         let (number, blocks) = match identify(&mut volume, &mut db) {
             Ok(found) => found,
             Err(fault) => return Err((fault, volume, db)),
@@ -116,16 +125,20 @@ impl<V: Volume, S: Alter> Custody<V, S> {
             return Err((Fault::Damaged(Damage::Form), volume, db));
         }
         let mut store = Store::over(db);
-        match load_whole(alloc, &mut store, number, blocks) {
-            Ok(records) => match map_of(alloc, &records) {
-                Ok(map) => Ok(Custody {
-                    keeper: keeper_over(volume, store, records, map),
-                    is_open: true,
-                }),
-                Err(_) => Err((Fault::NoMemory, volume, store.into_inner())),
-            },
-            Err(fault) => Err((fault, volume, store.into_inner())),
+        let records = match load_whole(alloc, &mut store, number, blocks) {
+            Ok(records) => records,
+            Err(fault) => return Err((fault, volume, store.into_inner())),
+        };
+        let Ok(map) = map_of(alloc, &records) else {
+            return Err((Fault::NoMemory, volume, store.into_inner()));
+        };
+        if let Err(fault) = migrate_earlier(&mut store, is_earlier) {
+            return Err((fault, volume, store.into_inner()));
         }
+        Ok(Custody {
+            keeper: keeper_over(volume, store, records, map),
+            is_open: true,
+        })
     }
 
     /// Hands the volume and the database back. It writes nothing.

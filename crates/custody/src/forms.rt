@@ -1,12 +1,12 @@
 //! What the types of fields promise, for proofs: each of these does nothing.
 ghost use Rattle.schedule.specs.Schedule.{IsDay, IsMoment};
 ghost use Rattle.deposit_name.specs.Identifiers.{IsTld, IsDepositId};
-ghost use Rattle.custody_records.specs.Typed.{release_key, release_value};
-ghost use Rattle.custody_records.specs.Written.{IsRelease};
-ghost use Rattle.std.specs.Prelude.{◌≤◌};
+ghost use Rattle.custody_records.specs.Typed.{release_key, release_value, hold_key, hold_value};
+ghost use Rattle.custody_records.specs.Written.{IsRelease, IsHold};
+ghost use Rattle.std.specs.Prelude.{◌≡◌, ◌≤◌, None};
 
 use custody_machine::Statement;
-use custody_records::{Registry, Release};
+use custody_records::{Hold, Registry, Release};
 use deposit_name::Tld;
 use schedule::{Day, Sec};
 
@@ -49,6 +49,17 @@ pub fn show_form_of_release(release: &Release)
     let _tld = release.tld.as_bytes();
     let _at = release.at.seconds();
     let _names = release.names.as_text();
+}
+
+/// The fields of a hold that is not lifted are in form.
+pub fn show_form_of_hold(hold: &Hold)
+    requires { hold.now.lifted ≡ None }
+    ensures { IsHold (hold_key hold.now) (hold_value hold.now) }
+{
+    let _reference = hold.reference.as_bytes();
+    let _tld = hold.tld.as_bytes();
+    let _day = hold.day.number();
+    let _at = hold.at.seconds();
 }
 
 /// A moment is in range.

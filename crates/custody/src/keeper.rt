@@ -8,20 +8,20 @@ ghost use Rattle.custody_machine.specs.Machine as machine;
 ghost use Rattle.custody_machine.specs.Machine.{next_number, verdict_notice};
 ghost use Rattle.custody_machine.specs.Commands.{command_of};
 ghost use Rattle.custody_machine.specs.Releases.{AreRecorded, new_release};
-ghost use Rattle.custody_machine.specs.Rulings.{AddsAbsence, AddsPart, AddsRelease, AddsVerdict, DropsBytes, Makes, Decides};
+ghost use Rattle.custody_machine.specs.Rulings.{AddsAbsence, AddsHold, AddsPart, AddsRelease, AddsVerdict, DropsBytes, LiftsHold, Makes, Decides};
 ghost use Rattle.custody_rules.specs.Rulings.{change_of};
 ghost use Rattle.custody.specs.Intake.{KeepsStaged};
 ghost use Rattle.custody.specs.Keeper.{recorded, KeepsOrder, HasDone};
 
 use crate::compare::{Comparison, compare};
 use crate::forms::{
-    show_form_of_day, show_form_of_registry, show_form_of_release, show_form_of_statement,
-    show_range_of_moment,
+    show_form_of_day, show_form_of_hold, show_form_of_registry, show_form_of_release,
+    show_form_of_statement, show_range_of_moment,
 };
 use crate::verifying::verify_stated;
 use crate::{Record, Refused, Reply};
 use custody_machine::{Command, Damage, Fault, Refusal, Statement};
-use custody_records::{Part, Records, Registry, Release};
+use custody_records::{Hold, Part, Records, Registry, Release};
 use custody_rules::{Change, Ruling, count_due, due_extents, held_names, judge, next_number};
 use custody_store::Store;
 use deposit_name::{DepositName, Reference, Tld};
@@ -101,6 +101,8 @@ impl<V: Volume, S: Alter> Keeper<V, S> {
             Change::Release(reference, tld, reason) => {
                 self.keep_release(alloc, reference, tld, reason, now)
             }
+            Change::Hold(reference, tld, day) => self.keep_hold(reference, tld, day, now),
+            Change::Lift(reference) => self.lift(&reference, now),
             Change::Purge => self.drop_bytes(alloc, now),
         }
     }
@@ -271,8 +273,62 @@ impl<V: Volume, S: Alter> Keeper<V, S> {
         })
     }
 
-    /// Drops the bytes that were kept for a year. Their blocks are given back when that is committed, and
-    /// not before.
+    /// Records that a day of a registry is on hold.
+    fn keep_hold(
+        &mut self,
+        reference: Reference,
+        tld: Tld,
+        day: Day,
+        now: Sec,
+    ) -> Result<Reply, Refused>
+        requires order { KeepsOrder self.old }
+        requires ruled { Decides (Makes (AddsHold reference tld day)) (recorded self.old) (machine.Hold reference tld day) now }
+        ensures { HasDone S.Store self.old (machine.Hold reference tld day) now result self.new }
+    {
+        let hold = Hold {
+            reference,
+            tld,
+            day,
+            at: now,
+            lifted: None,
+        };
+        show_form_of_hold(&hold);
+        if self.records.reserve_hold().is_err() {
+            return Err(Refused::Fault(Fault::NoMemory));
+        }
+        if self.store.insert_hold(&hold).is_err() {
+            return Err(Refused::Fault(Fault::StoreFailed));
+        }
+        self.records.add_hold(&hold);
+        Ok(Reply {
+            record: Record::Hold(hold),
+            is_repeat: false,
+        })
+    }
+
+    /// Records that the hold of a reference is lifted.
+    fn lift(&mut self, reference: &Reference, now: Sec) -> Result<Reply, Refused>
+        requires order { KeepsOrder self.old }
+        requires ruled { Decides (Makes (LiftsHold reference.now)) (recorded self.old) (machine.Lift reference.now) now }
+        ensures { HasDone S.Store self.old (machine.Lift reference.now) now result self.new }
+    {
+        show_range_of_moment(now);
+        let hold = *self.records.hold(reference).unwrap();
+        if self.store.lift_hold(reference, now).is_err() {
+            return Err(Refused::Fault(Fault::StoreFailed));
+        }
+        self.records.lift_hold(&hold, now);
+        Ok(Reply {
+            record: Record::Lifting {
+                reference: *reference,
+                at: now,
+            },
+            is_repeat: false,
+        })
+    }
+
+    /// Drops the bytes that were kept for a year, of days that are not on hold. Their blocks are given
+    /// back when that is committed, and not before.
     fn drop_bytes(&mut self, alloc: Global, now: Sec) -> Result<Reply, Refused>
         requires order { KeepsOrder self.old }
         requires ruled { Decides (Makes DropsBytes) (recorded self.old) machine.Purge now }

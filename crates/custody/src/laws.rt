@@ -2,6 +2,7 @@
 ghost use Rattle.custody_store.specs.Standing.{standing};
 ghost use Rattle.custody_machine.specs.Stored.{Stands};
 ghost use Rattle.custody_machine.specs.Moves.{MayLeave};
+ghost use Rattle.custody.specs.Opening.{HasAll};
 ghost use Rattle.custody.specs.Sessions.{IsServing, place_of, state_of, Leaves, SparesFree, RunsMove, StopsMove, RestsMayStop, SessionsGoOn, OpeningsMayFail};
 ghost use Rattle.custody.specs.Resting.{RestsMove, RestsStop};
 
@@ -46,5 +47,5 @@ pub fn law_sessions<V: Volume, S: Alter>(volume: &V, db: &Connection<S>)
 
 /// What a database shows at rest is what a stop may leave of it.
 pub fn law_shown<S: Alter>(db: &Connection<S>)
-    ensures { (standing S.Store db.now).IsReady → (standing S.Store db.now).may_leave (standing S.Store db.now).rows }
+    ensures { HasAll (standing S.Store db.now) → (standing S.Store db.now).may_leave (standing S.Store db.now).rows }
 {}

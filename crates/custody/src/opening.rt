@@ -1,5 +1,5 @@
-//! What an opening and a beginning look at.
-ghost use Rattle.std.specs.Prelude.{◌≡◌, ◌≢◌, ◌⊎◌, ◌↔◌, ℕ, pos, codes, false, IsTrue, List, ◌-◌, ◌<◌, ◌≤◌, ◌^◌, is_some, option_map, IfOk, IfErr, OnOk, MatchResult};
+//! The steps of an opening and of a beginning.
+ghost use Rattle.std.specs.Prelude.{◌≡◌, ◌≢◌, ◌⊎◌, ◌↔◌, ℕ, pos, codes, true, false, IsTrue, List, ◌-◌, ◌<◌, ◌≤◌, ◌^◌, is_some, option_map, IfOk, IfErr, OnOk, MatchResult};
 ghost use Rattle.vault_volume.specs.Disk.{LeavesOne};
 ghost use Rattle.vault_volume.specs.Head.{head_of};
 ghost use Rattle.vault_volume.specs.Image.{bytes_at};
@@ -9,7 +9,7 @@ ghost use Rattle.custody_records.specs.Held.{records_of};
 ghost use Rattle.custody_records.specs.Rows.{Rows, fresh, first_meta};
 ghost use Rattle.custody_records.specs.Written.{digits_of};
 ghost use Rattle.custody_records.specs.Typed as typed;
-ghost use Rattle.custody_store.specs.Standing.{standing, HasMetaOrNone, Reads, Founds};
+ghost use Rattle.custody_store.specs.Standing.{standing, HasMetaOrNone, Reads, Founds, Migrates};
 ghost use Rattle.custody_machine.specs.declared.damage.Damage as wrong;
 ghost use Rattle.custody_machine.specs.Damage.{IsDamaged};
 ghost use Rattle.custody_machine.specs.Stored.{AreWhole};
@@ -161,6 +161,23 @@ pub fn load_whole<S: Alter>(
         Ok(None) => Ok(records),
         Ok(Some(damage)) => Err(Fault::Damaged(damage)),
         Err(_) => Err(Fault::NoMemory),
+    }
+}
+
+/// Makes tables of schema 1 those of schema 2, where they are.
+pub fn migrate_earlier<S: Alter>(store: &mut Store<S>, is_earlier: bool) -> Result<(), Fault>
+    ensures migrates { is_earlier ≡ true → Migrates (standing S.Store store.old) (standing S.Store store.new) result }
+    // Else the database is not called.
+    ensures kept { is_earlier ≡ false → (result ≡ Ok tt) × (store.new ≡ store.old) }
+    ensures trust { (standing S.Store store.new).IsHonest → (standing S.Store store.old).IsHonest }
+    ensures kind { IfErr result (λ fault. fault ≡ Fault.StoreFailed) }
+{
+    if !is_earlier {
+        return Ok(());
+    }
+    match store.migrate() {
+        Ok(()) => Ok(()),
+        Err(_) => Err(Fault::StoreFailed),
     }
 }
 

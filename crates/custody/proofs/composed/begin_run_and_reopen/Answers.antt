@@ -1,4 +1,4 @@
-use Rattle.std.proofs.Common.{inr, refl, sym, ap, subst}
+use Rattle.std.proofs.Common.{inl, inr, refl, sym, ap, subst}
 use Rattle.sqlite.specs.Effect.{Database}
 use Rattle.sqlite.specs.Held.{state}
 use Rattle.sqlite.specs.Steps.{over_memory}
@@ -30,4 +30,4 @@ returns-in-Ok-open c =
     let loaded = c.in-Ok-open.ensures.loaded in
     resumed tt old new later entries answers serving c.in-Ok-init.ensures.new.begun run honest c.close-stopped.result.0 db c.close-stopped.ensures.volume c.close-stopped.ensures.store
     (standing over_memory db).rows c.restart.new.self.image.items shown c.restart.ensures.restarted.found (loaded.in_form (first_of_ready (state over_memory db) ready) honest_later) (loaded.good tt) (loaded.same_image tt)
-    (record { opened = c.in-Ok-open.ensures.opened.opened; image = loaded.image tt c.restart.ensures.restarted.settled; rows = loaded.rows ready honest_later })
+    (record { opened = c.in-Ok-open.ensures.opened.opened; image = loaded.image tt c.restart.ensures.restarted.settled; rows = loaded.rows (inl ready) honest_later })

@@ -12,7 +12,7 @@ use Rattle.custody_machine.specs.Custody.{IsInStore}
 use Rattle.custody.specs.declared.answers.InitError.TheVariants as init_error
 use Rattle.custody.specs.Keeper.{recorded, image_of}
 use Rattle.custody.specs.Opening.{IsSize}
-use Rattle.custody.proofs.Opened.{none_left, still_none, none_ready, bare_where_none, stands_still, meta_or_none, new_whole, new_begun, begun_left, on_volume, fresh_in_store, is_written, none_made}
+use Rattle.custody.proofs.Opened.{none_left, still_none, none_all, bare_where_none, stands_still, meta_or_none, new_whole, new_begun, begun_left, on_volume, fresh_in_store, is_written, none_made}
 use Rattle.custody.proofs.custody.Custody.init.Goals as goal
 
 -- ---- it is refused, or the database was not read
@@ -24,7 +24,7 @@ returns-in-Err-clause-not_begun g c = record {
   kind = λ why same. inr (inr (c.in-Err.ensures.kind why same));
   unwritten = λ _. refl;
   tables = λ _. refl;
-  ready = λ _. refl;
+  all = λ _. refl;
   same_size = refl;
   missing = λ some none. let is = c.in-Err.ensures.missing none in (inl is.0, is.1);
   mode = c.in-Err.ensures.reads.mode;
@@ -48,7 +48,7 @@ returns-then-has_tables-clause-not_begun g c = record {
   kind = λ why same. inr (inr (cc));
   unwritten = λ _. refl;
   tables = λ _. refl;
-  ready = λ _. refl;
+  all = λ _. refl;
   same_size = refl;
   missing = λ some none. (inr refl, (c.in_default.ensures.missing none).1);
   mode = c.in_default.ensures.reads.mode;
@@ -77,7 +77,7 @@ returns-in_default-map_of-clause-not_begun g c = record {
   kind = λ why same. inl (cc);
   unwritten = λ _. refl;
   tables = λ _. refl;
-  ready = λ _. refl;
+  all = λ _. refl;
   same_size = refl;
   missing = λ some none. let clash : false ≡ true = c.if-has_tables.ensures ∙ some in cc;
   mode = c.in_default.ensures.reads.mode;
@@ -104,7 +104,7 @@ returns-in-Err-make_records-clause-not_begun g c =
       kind = λ why same. let is : c.in-Err-make_records.fault ≡ why = cc in inr (subst (λ f. (f ≡ fault.VolumeFailed) ⊎ (f ≡ fault.StoreFailed)) is made.kind);
       unwritten = λ un. absurd (is_written _ made.kind un);
       tables = λ some. let clash : false ≡ true = c.if-has_tables.ensures ∙ some in cc;
-      ready = λ ready. absurd (none_ready (state g.S.Store c.args.db) c.if-has_tables.ensures ready);
+      all = λ all. absurd (none_all (state g.S.Store c.args.db) c.if-has_tables.ensures all);
       same_size = made.size;
       missing = λ some none. let clash : false ≡ true = c.if-has_tables.ensures ∙ some in cc;
       mode = λ closed. ap (λ s. s.in_transaction) at ∙ made.founds.mode (ap (λ s. s.in_transaction) over ∙ c.in_default.ensures.reads.mode closed);
@@ -155,7 +155,7 @@ returns-clause-new g c =
       size = subst IsSize c.size-blocks.ensures c.in_default.ensures.size;
       failures = ap g.V.Volume.failures c.keeper_over.ensures.volume ∙ made.failures;
       tables = sym c.if-has_tables.ensures;
-      not_ready = none_ready (state g.S.Store c.args.db) c.if-has_tables.ensures;
+      not_all = none_all (state g.S.Store c.args.db) c.if-has_tables.ensures;
       mode = λ closed. ap (λ s. s.in_transaction) at ∙ made.founds.mode (ap (λ s. s.in_transaction) over ∙ c.in_default.ensures.reads.mode closed);
       trust = λ honest. c.in_default.ensures.reads.trust (subst (λ s. s.IsHonest) over (made.founds.trust (subst (λ s. s.IsHonest) at honest)));
     }

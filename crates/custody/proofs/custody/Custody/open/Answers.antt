@@ -6,14 +6,15 @@ use Rattle.sqlite.specs.Held.{state}
 use Rattle.custody_records.specs.Form.{form_of, InForm}
 use Rattle.custody_records.specs.Records.{Records}
 use Rattle.custody_store.specs.Standing.{standing}
-use Rattle.custody_store.proofs.ReadLemmas.{first_of_ready, reads_fails, reads_answers}
+use Rattle.custody_store.proofs.ReadLemmas.{reads_fails, reads_answers}
 use Rattle.custody_machine.specs.declared.damage.Damage.TheVariants.{Schema, Form, Digest}
 use Rattle.custody_machine.specs.Damage.{NoneBefore, IsDamaged}
 use Rattle.custody_machine.specs.Stored.{AreWhole}
 use Rattle.custody.specs.Keeper.{recorded}
 use Rattle.custody.specs.Opening.{IsDamageTold, ReadsVolume}
-use Rattle.custody.proofs.Opened.{bare_has_none, meta_where_known, stands_still, left_now, reads_on, only_reads, on_volume}
+use Rattle.custody.proofs.Opened.{bare_has_none, meta_where_known, stands_still, left_now, reads_both, only_reads, on_volume, first_of_all}
 use Rattle.custody.proofs.FirstDamage.{missing_told, row_missing}
+use Rattle.custody.proofs.Migrated.{migrates_both, migrates_answers, migrates_fails, migrates_nothing, only_migrates, rows_of_all}
 use Rattle.custody.proofs.custody.Custody.open.Goals as goal
 
 -- ---- the volume was not found, or not that of the record
@@ -31,7 +32,15 @@ pub returns-in-Err-clause-damaged : goal.returns-in-Err-clause-damaged
 returns-in-Err-clause-damaged g c known honest = c.in-Err.ensures.rows honest (meta_where_known (standing g.S.Store c.args.db) known)
 
 pub returns-in-Err-clause-reads : goal.returns-in-Err-clause-reads
-returns-in-Err-clause-reads g c =
+returns-in-Err-clause-reads g c _ =
+    only_reads g.V.Volume g.S.Store c.args.volume c.args.db c.identify.new.volume c.identify.new.db _ c.in-Err.ensures.volume (reads_fails _ _ _ _ c.in-Err.ensures.reads)
+
+pub returns-in-Err-clause-migrates : goal.returns-in-Err-clause-migrates
+returns-in-Err-clause-migrates g c _ =
+    only_migrates g.V.Volume g.S.Store c.args.volume c.args.db c.identify.new.volume c.identify.new.db _ c.in-Err.ensures.volume (migrates_nothing (state g.S.Store c.args.db) _ _ _ c.in-Err.ensures.reads)
+
+pub returns-in-Err-clause-unchanged : goal.returns-in-Err-clause-unchanged
+returns-in-Err-clause-unchanged g c _ =
     only_reads g.V.Volume g.S.Store c.args.volume c.args.db c.identify.new.volume c.identify.new.db _ c.in-Err.ensures.volume (reads_fails _ _ _ _ c.in-Err.ensures.reads)
 
 -- ---- a table is missing
@@ -50,14 +59,18 @@ returns-then-not-has_tables-clause-damaged g c known honest damage same =
     ]
 
 pub returns-then-not-has_tables-clause-reads : goal.returns-then-not-has_tables-clause-reads
-returns-then-not-has_tables-clause-reads g c =
+returns-then-not-has_tables-clause-reads g c _ =
+    only_reads g.V.Volume g.S.Store c.args.volume c.args.db c.identify.new.volume c.identify.new.db _ c.in-Ok.ensures.volume (reads_fails _ _ _ _ c.in-Ok.ensures.reads)
+
+pub returns-then-not-has_tables-clause-unchanged : goal.returns-then-not-has_tables-clause-unchanged
+returns-then-not-has_tables-clause-unchanged g c _ =
     only_reads g.V.Volume g.S.Store c.args.volume c.args.db c.identify.new.volume c.identify.new.db _ c.in-Ok.ensures.volume (reads_fails _ _ _ _ c.in-Ok.ensures.reads)
 
 -- ---- the rows are not whole
 
 pub returns-in-Err-load_whole-clause-damaged : goal.returns-in-Err-load_whole-clause-damaged
 returns-in-Err-load_whole-clause-damaged g c known honest damage same =
-    let clean = subst (λ db. (standing g.S.Store db).IsHonest) c.into_inner-in-Err-load_whole.ensures honest in
+    let clean = subst (λ db. (standing g.S.Store db).IsHonest) c.into_inner.ensures honest in
     let over = ap (standing g.S.Store) c.over-store.ensures in
     let then = c.in-Err-load_whole.ensures.reads.trust clean in
     let found = c.in-Ok.ensures.rows (subst (λ s. s.IsHonest) over then) (meta_where_known (standing g.S.Store c.args.db) known) in
@@ -66,7 +79,7 @@ returns-in-Err-load_whole-clause-damaged g c known honest damage same =
       | inl bare ↦ absurd (found.row (bare_has_none (state g.S.Store c.args.db) bare))
       | inr meta ↦
           let first = meta.1 (sym c.if-not-has_tables.ensures) in
-          let same_tables = stands_still (standing g.S.Store c.args.db) (standing g.S.Store c.identify.new.db) (standing g.S.Store c.over-store.result) _ c.in-Ok.ensures.reads over then first.rest in
+          let same_tables = stands_still (standing g.S.Store c.args.db) (standing g.S.Store c.identify.new.db) (standing g.S.Store c.over-store.result) _ c.in-Ok.ensures.reads over then first.0.rest in
           let of = c.in-Err-load_whole.ensures.rows clean (same_tables.first_tables first) damage same in
           record {
             is_first = λ tells. record {
@@ -79,63 +92,91 @@ returns-in-Err-load_whole-clause-damaged g c known honest damage same =
     ]
 
 pub returns-in-Err-load_whole-clause-reads : goal.returns-in-Err-load_whole-clause-reads
-returns-in-Err-load_whole-clause-reads g c =
-    only_reads g.V.Volume g.S.Store c.args.volume c.args.db c.identify.new.volume c.into_inner-in-Err-load_whole.result _ c.in-Ok.ensures.volume (reads_fails _ _ _ _
-    (reads_on (standing g.S.Store c.args.db) (standing g.S.Store c.identify.new.db) (standing g.S.Store c.over-store.result) _ c.in-Ok.ensures.reads (ap (standing g.S.Store) c.over-store.ensures)
-    (standing g.S.Store c.load_whole.new.store) (standing g.S.Store c.into_inner-in-Err-load_whole.result) _ c.in-Err-load_whole.ensures.reads (ap (standing g.S.Store) c.into_inner-in-Err-load_whole.ensures)))
+returns-in-Err-load_whole-clause-reads g c _ =
+    only_reads g.V.Volume g.S.Store c.args.volume c.args.db c.identify.new.volume c.into_inner.result _ c.in-Ok.ensures.volume
+    (reads_fails _ _ _ _ (reads_both g.S.Store c.args.db c.into_inner.result c.in-Ok.ensures.reads c.over-store.ensures c.in-Err-load_whole.ensures.reads c.into_inner.ensures))
+
+pub returns-in-Err-load_whole-clause-migrates : goal.returns-in-Err-load_whole-clause-migrates
+returns-in-Err-load_whole-clause-migrates g c _ =
+    only_migrates g.V.Volume g.S.Store c.args.volume c.args.db c.identify.new.volume c.into_inner.result _ c.in-Ok.ensures.volume
+    (migrates_nothing (state g.S.Store c.args.db) _ _ _ (reads_both g.S.Store c.args.db c.into_inner.result c.in-Ok.ensures.reads c.over-store.ensures c.in-Err-load_whole.ensures.reads c.into_inner.ensures))
+
+pub returns-in-Err-load_whole-clause-unchanged : goal.returns-in-Err-load_whole-clause-unchanged
+returns-in-Err-load_whole-clause-unchanged g c _ =
+    only_reads g.V.Volume g.S.Store c.args.volume c.args.db c.identify.new.volume c.into_inner.result _ c.in-Ok.ensures.volume
+    (reads_fails _ _ _ _ (reads_both g.S.Store c.args.db c.into_inner.result c.in-Ok.ensures.reads c.over-store.ensures c.in-Err-load_whole.ensures.reads c.into_inner.ensures))
 
 -- ---- no memory for the map
 
-pub returns-in-Err-map_of-clause-reads : goal.returns-in-Err-map_of-clause-reads
-returns-in-Err-map_of-clause-reads g c =
-    only_reads g.V.Volume g.S.Store c.args.volume c.args.db c.identify.new.volume c.into_inner.result _ c.in-Ok.ensures.volume (reads_fails _ _ _ _
-    (reads_on (standing g.S.Store c.args.db) (standing g.S.Store c.identify.new.db) (standing g.S.Store c.over-store.result) _ c.in-Ok.ensures.reads (ap (standing g.S.Store) c.over-store.ensures)
-    (standing g.S.Store c.load_whole.new.store) (standing g.S.Store c.into_inner.result) _ c.in-Ok-load_whole.ensures.reads (ap (standing g.S.Store) c.into_inner.ensures)))
+pub returns-in_default-clause-reads : goal.returns-in_default-clause-reads
+returns-in_default-clause-reads g c _ =
+    only_reads g.V.Volume g.S.Store c.args.volume c.args.db c.identify.new.volume c.into_inner-in_default.result _ c.in-Ok.ensures.volume
+    (reads_fails _ _ _ _ (reads_both g.S.Store c.args.db c.into_inner-in_default.result c.in-Ok.ensures.reads c.over-store.ensures c.in-Ok-load_whole.ensures.reads c.into_inner-in_default.ensures))
+
+pub returns-in_default-clause-migrates : goal.returns-in_default-clause-migrates
+returns-in_default-clause-migrates g c _ =
+    only_migrates g.V.Volume g.S.Store c.args.volume c.args.db c.identify.new.volume c.into_inner-in_default.result _ c.in-Ok.ensures.volume
+    (migrates_nothing (state g.S.Store c.args.db) _ _ _ (reads_both g.S.Store c.args.db c.into_inner-in_default.result c.in-Ok.ensures.reads c.over-store.ensures c.in-Ok-load_whole.ensures.reads c.into_inner-in_default.ensures))
+
+pub returns-in_default-clause-unchanged : goal.returns-in_default-clause-unchanged
+returns-in_default-clause-unchanged g c _ =
+    only_reads g.V.Volume g.S.Store c.args.volume c.args.db c.identify.new.volume c.into_inner-in_default.result _ c.in-Ok.ensures.volume
+    (reads_fails _ _ _ _ (reads_both g.S.Store c.args.db c.into_inner-in_default.result c.in-Ok.ensures.reads c.over-store.ensures c.in-Ok-load_whole.ensures.reads c.into_inner-in_default.ensures))
+
+-- ---- the tables were not made those of schema 2
+
+pub returns-in-Err-migrate_earlier-clause-migrates : goal.returns-in-Err-migrate_earlier-clause-migrates
+returns-in-Err-migrate_earlier-clause-migrates g c earlier =
+    let after = c.in-Err-migrate_earlier.ensures.migrates (c.is_earlier-is_earlier.ensures ∙ earlier) in
+    only_migrates g.V.Volume g.S.Store c.args.volume c.args.db c.identify.new.volume c.into_inner-in-Err-migrate_earlier.result _ c.in-Ok.ensures.volume
+    (migrates_fails _ _ _ _ (migrates_both g.S.Store c.args.db c.load_whole.new.store c.into_inner-in-Err-migrate_earlier.result c.in-Ok.ensures.reads c.over-store.ensures c.in-Ok-load_whole.ensures.reads after c.into_inner-in-Err-migrate_earlier.ensures))
 
 -- ---- it is opened
 
-pub returns-in-Ok-map_of-clause-loaded : goal.returns-in-Ok-map_of-clause-loaded
-returns-in-Ok-map_of-clause-loaded g c =
+pub returns-clause-reads : goal.returns-clause-reads
+returns-clause-reads g c current =
+    let kept = c.in_default-migrate_earlier.ensures.kept (c.is_earlier-is_earlier.ensures ∙ current) in
+    only_reads g.V.Volume g.S.Store c.args.volume c.args.db (volume_of c.keeper_over.result.vault) c.keeper_over.result.store _
+    (subst (ReadsVolume g.V.Volume c.args.volume) (sym c.keeper_over.ensures.volume) c.in-Ok.ensures.volume)
+    (reads_answers _ _ _ _ (reads_both g.S.Store c.args.db c.keeper_over.result.store c.in-Ok.ensures.reads c.over-store.ensures c.in-Ok-load_whole.ensures.reads (c.keeper_over.ensures.store ∙ kept.1)))
+
+pub returns-clause-migrates : goal.returns-clause-migrates
+returns-clause-migrates g c earlier =
+    let after = c.in_default-migrate_earlier.ensures.migrates (c.is_earlier-is_earlier.ensures ∙ earlier) in
+    only_migrates g.V.Volume g.S.Store c.args.volume c.args.db (volume_of c.keeper_over.result.vault) c.keeper_over.result.store _
+    (subst (ReadsVolume g.V.Volume c.args.volume) (sym c.keeper_over.ensures.volume) c.in-Ok.ensures.volume)
+    (migrates_answers _ _ _ _ (migrates_both g.S.Store c.args.db c.load_whole.new.store c.keeper_over.result.store c.in-Ok.ensures.reads c.over-store.ensures c.in-Ok-load_whole.ensures.reads after c.keeper_over.ensures.store))
+
+pub returns-clause-loaded : goal.returns-clause-loaded
+returns-clause-loaded g c =
     let volume = c.args.volume in
     let later = c.identify.new.volume in
-    let at = c.keeper_over.ensures.store in
+    let records = recorded c.keeper_over.result in
     let is = sym c.keeper_over.ensures.records in
     let of = c.in-Ok-load_whole.ensures.whole in
     let found = c.in-Ok.ensures.found in
     let same = c.in-Ok.ensures.volume.image in
-    let over = ap (standing g.S.Store) c.over-store.ensures in
     let number = sym of.number_is ∙ ap (λ (r : Records). r.number) is in
     let blocks = sym found.blocks ∙ sym of.blocks_is ∙ ap (λ (r : Records). r.blocks) is in
+    let in_form : (standing g.S.Store c.args.db).HasTablesFirst → (standing g.S.Store c.keeper_over.result.store).IsHonest → form_of (standing g.S.Store c.args.db).rows ≡ InForm records =
+    λ first honest.
+    let clean = c.in_default-migrate_earlier.ensures.trust (subst (λ db. (standing g.S.Store db).IsHonest) c.keeper_over.ensures.store honest) in
+    let still = stands_still (standing g.S.Store c.args.db) (standing g.S.Store c.identify.new.db) (standing g.S.Store c.over-store.result) _ c.in-Ok.ensures.reads (ap (standing g.S.Store) c.over-store.ensures)
+    (c.in-Ok-load_whole.ensures.reads.trust clean) first.0.rest in
+    ap form_of (sym still.rows) ∙ c.in-Ok-load_whole.ensures.rows clean (still.first_tables first) ∙ ap InForm is in
     record {
-      in_form = λ first honest.
-          let clean = subst (λ db. (standing g.S.Store db).IsHonest) at honest in
-          let still = stands_still (standing g.S.Store c.args.db) (standing g.S.Store c.identify.new.db) (standing g.S.Store c.over-store.result) _ c.in-Ok.ensures.reads over (c.in-Ok-load_whole.ensures.reads.trust clean) first.rest in
-          ap form_of (sym still.rows) ∙ c.in-Ok-load_whole.ensures.rows clean (still.first_tables first) ∙ ap InForm is;
+      in_form = in_form;
       good = λ tells. record {
         whole = subst AreWhole is of.whole;
         volume = record { head = found.head tells ∙ ap head_of number; size = g.met.V.Volume.image_length volume tells ∙ ap (λ n. 4096 * n) blocks };
       };
       same_image = λ tells. ap g.V.Volume.image c.keeper_over.ensures.volume ∙ same tells;
       image = λ tells one.
-          on_volume g.V.Volume.image g.V.Volume.moment g.V.Volume.left_at (volume_of c.keeper_over.result.vault) later c.keeper_over.ensures.volume (recorded c.keeper_over.result) (IsFree c.keeper_over.result.vault)
+          on_volume g.V.Volume.image g.V.Volume.moment g.V.Volume.left_at (volume_of c.keeper_over.result.vault) later c.keeper_over.ensures.volume records (IsFree c.keeper_over.result.vault)
           (ap (λ (i : List ℕ). bytes_at i 0 4096) (same tells) ∙ found.head tells ∙ ap head_of number)
           (g.met.V.Volume.image_length later tells ∙ ap (λ n. 4096 * n) (c.in-Ok.ensures.volume.size ∙ blocks))
           (λ i left. (one i).0 (left_now g.V.Volume.moment g.V.Volume.left_at volume later _ (c.in-Ok.ensures.volume.any_moment tells) i left) ∙ sym (same tells));
-      rows = λ ready honest.
-          let clean = subst (λ db. (standing g.S.Store db).IsHonest) at honest in
-          let still = stands_still (standing g.S.Store c.args.db) (standing g.S.Store c.identify.new.db) (standing g.S.Store c.over-store.result) _ c.in-Ok.ensures.reads over (c.in-Ok-load_whole.ensures.reads.trust clean) ready.rest in
-          let on = stands_still (standing g.S.Store c.over-store.result) (standing g.S.Store c.load_whole.new.store) (standing g.S.Store c.keeper_over.result.store) _ c.in-Ok-load_whole.ensures.reads (ap (standing g.S.Store) at) honest still.rest in
-          record {
-            ready = on.ready (still.ready ready);
-            in_form = ap form_of on.rows ∙ c.in-Ok-load_whole.ensures.rows clean (still.first_tables (first_of_ready (state g.S.Store c.args.db) ready)) ∙ ap InForm is;
-            settled = on.rest.only;
-          };
+      rows = λ all honest.
+          rows_of_all g.V.Volume g.S.Store volume c.args.db (volume_of c.keeper_over.result.vault) c.keeper_over.result.store _ (returns-clause-reads g c) (returns-clause-migrates g c) all honest records
+          (in_form (first_of_all (state g.S.Store c.args.db) all) honest);
     }
-
-pub returns-in-Ok-map_of-clause-reads : goal.returns-in-Ok-map_of-clause-reads
-returns-in-Ok-map_of-clause-reads g c =
-    only_reads g.V.Volume g.S.Store c.args.volume c.args.db (volume_of c.keeper_over.result.vault) c.keeper_over.result.store _
-    (subst (ReadsVolume g.V.Volume c.args.volume) (sym c.keeper_over.ensures.volume) c.in-Ok.ensures.volume)
-    (reads_answers _ _ _ _
-    (reads_on (standing g.S.Store c.args.db) (standing g.S.Store c.identify.new.db) (standing g.S.Store c.over-store.result) _ c.in-Ok.ensures.reads (ap (standing g.S.Store) c.over-store.ensures)
-    (standing g.S.Store c.load_whole.new.store) (standing g.S.Store c.keeper_over.result.store) _ c.in-Ok-load_whole.ensures.reads (ap (standing g.S.Store) c.keeper_over.ensures.store)))

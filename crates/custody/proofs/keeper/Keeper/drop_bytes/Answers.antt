@@ -27,7 +27,7 @@ returns-then-is_err g c =
     (records_then database old c.requires.order c.args.now c.requires.ruled) (reply_then database old c.requires.order c.args.now c.requires.ruled)
     (purge_change database old c.requires.order c.args.now c.requires.ruled old.vault refl c.drop_bytes.new.self old.records)
     c.drop_bytes.result _ c.drop_bytes.ensures.commits
-    (λ is. ap (λ today. form_of (row.without_due today (stored database old).rows)) c.day-today.ensures.value ∙ purge_means (day_of c.args.now) (stored database old).rows (recorded old) is)
+    (λ is. (ap (λ today. form_of (row.without_due today (stored database old).rows)) c.day-today.ensures.value ∙ purge_means (day_of c.args.now) (stored database old).rows (recorded old) is.1 is.0, is.1))
     (Makes DropsBytes, c.requires.ruled, inr refl)
 
 pub give_back-requires-clause-used : goal.give_back-requires-clause-used
@@ -55,7 +55,7 @@ returns g c =
     c.give_back.new.self c.give_back.ensures.volume c.drop_bytes.new.self c.drop_due.new.self
     (subst (λ es. GivesBack (IsFree old.vault) es (IsFree c.give_back.new.self)) c.deref.ensures.value c.give_back.ensures.given_back))
     c.drop_bytes.result _ c.drop_bytes.ensures.commits
-    (λ is. ap (λ day. form_of (row.without_due day (stored database old).rows)) today ∙ purge_means (day_of c.args.now) (stored database old).rows (recorded old) is)
+    (λ is. (ap (λ day. form_of (row.without_due day (stored database old).rows)) today ∙ purge_means (day_of c.args.now) (stored database old).rows (recorded old) is.1 is.0, is.1))
     (sym c.is_err.ensures.value ∙ c.if-is_err.false) same (record { «record» = of.Purge c.count_due-count.result; is_repeat = false }) refl
     (λ i. Accepted (record { entry = OfPurge (count i); is_repeat = false }))
     (Makes DropsBytes, c.requires.ruled, ((λ i. record { «record» = of.Purge (count i); is_repeat = false }), same))

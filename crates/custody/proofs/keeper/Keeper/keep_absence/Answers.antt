@@ -32,9 +32,12 @@ returns-then-is_err g c =
     (with_notice (recorded old) (next_key (recorded old).notices tld) (absence_notice c.args.day c.args.now)) (record { entry = OfNotice (next_key (recorded old).notices tld) (absence_notice c.args.day c.args.now); is_repeat = false })
     (absence_change g.S.Store old c.requires.order tld c.args.day c.args.now c.requires.ruled c.insert_notice.new.self c.reserve_number.new.records).change
     c.insert_notice.result _ c.insert_notice.ensures.commits
-    (λ is. ap (λ n. form_of (with_notice_row (row_of_notice (record { tld = tld; number = n }) (absence_notice c.args.day c.args.now)) (stored g.S.Store old).rows)) number
-    ∙ notice_means (recorded old) tld (absence_notice c.args.day c.args.now) c.show_form_of_day.ensures.tld c.show_form_of_day.ensures.day c.show_range_of_moment.ensures tt
-    (subst (λ n. n ≤ 9_223_372_036_854_775_807) number c.in-Some.ensures.small) (stored g.S.Store old).rows is)
+    (λ is. (
+      ap (λ n. form_of (with_notice_row (row_of_notice (record { tld = tld; number = n }) (absence_notice c.args.day c.args.now)) (stored g.S.Store old).rows)) number
+          ∙ notice_means (recorded old) tld (absence_notice c.args.day c.args.now) c.show_form_of_day.ensures.tld c.show_form_of_day.ensures.day c.show_range_of_moment.ensures tt
+          (subst (λ n. n ≤ 9_223_372_036_854_775_807) number c.in-Some.ensures.small) (stored g.S.Store old).rows is.0,
+      is.1,
+    ))
     (Makes (AddsAbsence tld c.args.day), c.requires.ruled, inr refl)
 
 pub add_notice-requires-clause-new : goal.add_notice-requires-clause-new
@@ -55,9 +58,12 @@ returns g c =
     (with_notice (recorded old) (next_key (recorded old).notices tld) notice) (record { entry = OfNotice (next_key (recorded old).notices tld) notice; is_repeat = false })
     (absence_change g.S.Store old c.requires.order tld c.args.day c.args.now c.requires.ruled c.insert_notice.new.self c.add_notice.new.self)
     c.insert_notice.result _ c.insert_notice.ensures.commits
-    (λ is. ap (λ n. form_of (with_notice_row (row_of_notice (record { tld = tld; number = n }) notice) (stored g.S.Store old).rows)) number
-    ∙ notice_means (recorded old) tld notice c.show_form_of_day.ensures.tld c.show_form_of_day.ensures.day c.show_range_of_moment.ensures tt
-    (subst (λ n. n ≤ 9_223_372_036_854_775_807) number c.in-Some.ensures.small) (stored g.S.Store old).rows is)
+    (λ is. (
+      ap (λ n. form_of (with_notice_row (row_of_notice (record { tld = tld; number = n }) notice) (stored g.S.Store old).rows)) number
+          ∙ notice_means (recorded old) tld notice c.show_form_of_day.ensures.tld c.show_form_of_day.ensures.day c.show_range_of_moment.ensures tt
+          (subst (λ n. n ≤ 9_223_372_036_854_775_807) number c.in-Some.ensures.small) (stored g.S.Store old).rows is.0,
+      is.1,
+    ))
     (sym c.is_err.ensures.value ∙ c.if-is_err.false) same (record { «record» = of.Notice (record { number = c.in-Some.number; tld = tld; day = c.args.day; at = c.args.now; kind = Absence }); is_repeat = false }) refl
     (λ i. Accepted (record { entry = OfNotice (key i) notice; is_repeat = false }))
     (Makes (AddsAbsence tld c.args.day), c.requires.ruled, ((λ i. OfNotice (key i) notice), refl, same))

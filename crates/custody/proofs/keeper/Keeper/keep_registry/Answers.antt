@@ -29,7 +29,7 @@ returns-then-is_err-2 g c = λ now.
     (with_registry (recorded old) c.args.registry.tld c.args.registry.first_day) (record { entry = OfRegistry c.args.registry.tld c.args.registry.first_day; is_repeat = false })
     (registry_change g.S.Store old c.requires.order c.args.registry.tld c.args.registry.first_day now c.requires.new c.insert_registry.new.self c.reserve_registry.new.self).change
     c.insert_registry.result _ c.insert_registry.ensures.commits
-    (λ is. registry_means (stored g.S.Store old).rows (recorded old) c.args.registry.tld c.args.registry.first_day is c.show_form_of_registry.ensures.tld c.show_form_of_registry.ensures.first_day c.requires.new)
+    (λ is. (registry_means (stored g.S.Store old).rows (recorded old) c.args.registry.tld c.args.registry.first_day is.0 c.show_form_of_registry.ensures.tld c.show_form_of_registry.ensures.first_day c.requires.new, is.1))
     (Makes (AddsRegistry c.args.registry.tld c.args.registry.first_day), registry_is_new (recorded old) c.args.registry.tld c.args.registry.first_day now c.requires.new, inr refl)
 
 pub returns : goal.returns
@@ -42,6 +42,6 @@ returns g c = λ now.
     (with_registry (recorded old) c.args.registry.tld c.args.registry.first_day) (record { entry = OfRegistry c.args.registry.tld c.args.registry.first_day; is_repeat = false })
     (registry_change g.S.Store old c.requires.order c.args.registry.tld c.args.registry.first_day now c.requires.new c.insert_registry.new.self c.add_registry.new.self)
     c.insert_registry.result _ c.insert_registry.ensures.commits
-    (λ is. registry_means (stored g.S.Store old).rows (recorded old) c.args.registry.tld c.args.registry.first_day is c.show_form_of_registry.ensures.tld c.show_form_of_registry.ensures.first_day c.requires.new)
+    (λ is. (registry_means (stored g.S.Store old).rows (recorded old) c.args.registry.tld c.args.registry.first_day is.0 c.show_form_of_registry.ensures.tld c.show_form_of_registry.ensures.first_day c.requires.new, is.1))
     (sym c.is_err-2.ensures.value ∙ c.if-is_err-2.false) same answer refl refl
     (Makes (AddsRegistry c.args.registry.tld c.args.registry.first_day), registry_is_new (recorded old) c.args.registry.tld c.args.registry.first_day now c.requires.new, (refl, same)) (ap (λ r. get r.registries c.args.registry.tld) same ∙ insert_here text_total (recorded old).registries c.args.registry.tld c.args.registry.first_day) (λ _. tt))

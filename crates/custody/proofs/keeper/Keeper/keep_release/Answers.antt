@@ -33,8 +33,11 @@ returns-then-is_err g c =
     (with_release (recorded old) c.args.reference release) (record { entry = OfRelease c.args.reference release; is_repeat = false })
     (release_change g.S.Store old c.requires.order c.args.reference c.args.tld c.args.reason c.args.now c.requires.ruled names c.insert_release.new.self c.list_release-listed.new.records).change
     c.insert_release.result _ c.insert_release.ensures.commits
-    (λ is. (λ i. form_of (with_handover_row (row_of_release (h.ensures.key i) (h.ensures.value i)) (stored g.S.Store old).rows))
-    ∙ release_means (recorded old) c.args.reference release in_form c.requires.ruled.0.1 (stored g.S.Store old).rows is)
+    (λ is. (
+      (λ i. form_of (with_handover_row (row_of_release (h.ensures.key i) (h.ensures.value i)) (stored g.S.Store old).rows))
+          ∙ release_means (recorded old) c.args.reference release in_form c.requires.ruled.0.1 (stored g.S.Store old).rows is.0,
+      is.1,
+    ))
     (Makes (AddsRelease c.args.reference c.args.tld c.args.reason), c.requires.ruled, inr refl)
 
 pub add_release-requires-clause-new : goal.add_release-requires-clause-new
@@ -56,8 +59,11 @@ returns g c =
     (with_release (recorded old) c.args.reference release) (record { entry = OfRelease c.args.reference release; is_repeat = false })
     (release_change g.S.Store old c.requires.order c.args.reference c.args.tld c.args.reason c.args.now c.requires.ruled names c.insert_release.new.self c.add_release.new.self)
     c.insert_release.result _ c.insert_release.ensures.commits
-    (λ is. (λ i. form_of (with_handover_row (row_of_release (h.ensures.key i) (h.ensures.value i)) (stored g.S.Store old).rows))
-    ∙ release_means (recorded old) c.args.reference release in_form c.requires.ruled.0.1 (stored g.S.Store old).rows is)
+    (λ is. (
+      (λ i. form_of (with_handover_row (row_of_release (h.ensures.key i) (h.ensures.value i)) (stored g.S.Store old).rows))
+          ∙ release_means (recorded old) c.args.reference release in_form c.requires.ruled.0.1 (stored g.S.Store old).rows is.0,
+      is.1,
+    ))
     (sym c.is_err.ensures.value ∙ c.if-is_err.false) same (record { «record» = of.Release h.told; is_repeat = false }) refl
     (λ i. Accepted (record { entry = told i; is_repeat = false }))
     (Makes (AddsRelease c.args.reference c.args.tld c.args.reason), c.requires.ruled, (told, refl, same))

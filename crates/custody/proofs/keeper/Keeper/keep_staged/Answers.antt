@@ -30,7 +30,7 @@ returns-in_default g c = λ old text bytes order ruled staged.
     (record { entry = OfPart (key_of c.args.name.now) (received_part c.args.name.now bytes c.args.now); is_repeat = false })
     (kept_change old new text bytes c.args.now c.args.name.now order ruled c.args.staged staged.placed g.S.Store staged.size staged.failures staged.settled staged.any_moment).change
     c.insert_part.result _ (over_same g.S.Store c.args.self.now.store old.store c.insert_part.new.self (with_part_row (row_of_part (key_of c.args.name.now) (staged_record c.args.name.now c.args.now c.args.staged))) c.insert_part.result staged.store c.insert_part.ensures.commits)
-    (kept_means old new text bytes c.args.now c.args.name.now order ruled c.args.staged staged.placed c.show_range_of_moment.ensures (stored g.S.Store old).rows)
+    (λ is. (kept_means old new text bytes c.args.now c.args.name.now order ruled c.args.staged staged.placed c.show_range_of_moment.ensures (stored g.S.Store old).rows is.0, is.1))
     (Makes (AddsPart c.args.name.now), ruled, inr (inr refl))
 
 pub returns : goal.returns
@@ -47,7 +47,7 @@ returns g c = λ old text bytes order ruled staged.
     (record { entry = OfPart (key_of c.args.name.now) (received_part c.args.name.now bytes c.args.now); is_repeat = false })
     (kept_change old new text bytes c.args.now c.args.name.now order ruled c.args.staged staged.placed g.S.Store staged.size staged.failures staged.settled staged.any_moment)
     (Ok c.in-Ok.kept) _ (over_same g.S.Store c.args.self.now.store old.store c.insert_part.new.self (with_part_row (row_of_part (key_of c.args.name.now) (staged_record c.args.name.now c.args.now c.args.staged))) (Ok c.in-Ok.kept) staged.store c.in-Ok.ensures.commits)
-    (kept_means old new text bytes c.args.now c.args.name.now order ruled c.args.staged staged.placed c.show_range_of_moment.ensures (stored g.S.Store old).rows)
+    (λ is. (kept_means old new text bytes c.args.now c.args.name.now order ruled c.args.staged staged.placed c.show_range_of_moment.ensures (stored g.S.Store old).rows is.0, is.1))
     refl same (record { «record» = told; is_repeat = false }) refl
     (kept_entry old new text bytes c.args.now c.args.name.now order ruled c.args.staged staged.placed same told shows)
     (kept_ruled old new text bytes c.args.now c.args.name.now order ruled c.args.staged staged.placed same told shows)

@@ -50,10 +50,13 @@ returns-then-is_err g c =
     (with_notice (recorded old) (next_key (recorded old).notices stated.tld) (verdict_notice stated found c.args.now)) (record { entry = OfNotice (next_key (recorded old).notices stated.tld) (verdict_notice stated found c.args.now); is_repeat = false })
     (verdict_change g.S.Store old c.requires.order stated c.args.now c.requires.ruled found new h.read h.failures (λ tells. subst (λ r. IsVerified (Ok found) r (image_of old) stated) c.reserve_number.ensures.same (h.verified tells))).change
     c.insert_notice.result _ c.insert_notice.ensures.commits
-    (λ is. ap (λ row. form_of (with_notice_row row (stored g.S.Store old).rows)) (λ i. row_of_notice (key i) (c.notice_of-notice.ensures.value i))
-    ∙ notice_means (recorded old) stated.tld (verdict_notice stated found c.args.now) c.show_form_of_statement.ensures.tld c.show_form_of_statement.ensures.day c.show_range_of_moment.ensures
-    (kind_in_form g.S.Store old c.requires.order stated c.args.now c.requires.ruled found c.show_form_of_statement.ensures.rev c.show_form_of_statement.ensures.id)
-    (subst (λ n. n ≤ 9_223_372_036_854_775_807) number c.in-Some.ensures.small) (stored g.S.Store old).rows is)
+    (λ is. (
+      ap (λ row. form_of (with_notice_row row (stored g.S.Store old).rows)) (λ i. row_of_notice (key i) (c.notice_of-notice.ensures.value i))
+          ∙ notice_means (recorded old) stated.tld (verdict_notice stated found c.args.now) c.show_form_of_statement.ensures.tld c.show_form_of_statement.ensures.day c.show_range_of_moment.ensures
+          (kind_in_form g.S.Store old c.requires.order stated c.args.now c.requires.ruled found c.show_form_of_statement.ensures.rev c.show_form_of_statement.ensures.id)
+          (subst (λ n. n ≤ 9_223_372_036_854_775_807) number c.in-Some.ensures.small) (stored g.S.Store old).rows is.0,
+      is.1,
+    ))
     (Makes (AddsVerdict stated), c.requires.ruled, inr (inr (inl refl)))
 
 pub add_notice-requires-clause-new : goal.add_notice-requires-clause-new
@@ -79,10 +82,13 @@ returns g c =
     (with_notice (recorded old) (next_key (recorded old).notices stated.tld) (verdict_notice stated found c.args.now)) (record { entry = OfNotice (next_key (recorded old).notices stated.tld) (verdict_notice stated found c.args.now); is_repeat = false })
     (verdict_change g.S.Store old c.requires.order stated c.args.now c.requires.ruled found new h.read h.failures (λ tells. subst (λ r. IsVerified (Ok found) r (image_of old) stated) c.reserve_number.ensures.same (h.verified tells)))
     c.insert_notice.result _ c.insert_notice.ensures.commits
-    (λ is. ap (λ row. form_of (with_notice_row row (stored g.S.Store old).rows)) (λ i. row_of_notice (key i) (value i))
-    ∙ notice_means (recorded old) stated.tld (verdict_notice stated found c.args.now) c.show_form_of_statement.ensures.tld c.show_form_of_statement.ensures.day c.show_range_of_moment.ensures
-    (kind_in_form g.S.Store old c.requires.order stated c.args.now c.requires.ruled found c.show_form_of_statement.ensures.rev c.show_form_of_statement.ensures.id)
-    (subst (λ n. n ≤ 9_223_372_036_854_775_807) number c.in-Some.ensures.small) (stored g.S.Store old).rows is)
+    (λ is. (
+      ap (λ row. form_of (with_notice_row row (stored g.S.Store old).rows)) (λ i. row_of_notice (key i) (value i))
+          ∙ notice_means (recorded old) stated.tld (verdict_notice stated found c.args.now) c.show_form_of_statement.ensures.tld c.show_form_of_statement.ensures.day c.show_range_of_moment.ensures
+          (kind_in_form g.S.Store old c.requires.order stated c.args.now c.requires.ruled found c.show_form_of_statement.ensures.rev c.show_form_of_statement.ensures.id)
+          (subst (λ n. n ≤ 9_223_372_036_854_775_807) number c.in-Some.ensures.small) (stored g.S.Store old).rows is.0,
+      is.1,
+    ))
     (sym c.is_err.ensures.value ∙ c.if-is_err.false) same (record { «record» = of.Notice c.notice_of-notice.result; is_repeat = false }) refl
     (λ i. Accepted (record { entry = OfNotice (key i) (value i); is_repeat = false }))
     (Makes (AddsVerdict stated), c.requires.ruled, (found, (λ i. OfNotice (key i) (value i)), refl, same))

@@ -1,0 +1,182 @@
+-- What an opening does with tables of schema 1: they are those of schema 2 then, and stand for the same state.
+use Rattle.std.proofs.Common.{◌≡◌, inl, inr, ℕ, length, ◌++◌, List, [], ◌∷◌, Option, Some, None, Result, Ok, Err, Bool, true, false, codes, IsTrue, OnOk, OnErr, refl, sym, ◌∙◌, ap, subst, arith}
+use Rattle.std.specs.Option.{option_and_then}
+use Rattle.std.specs.Prelude.{slice_get, is_some}
+use Rattle.std.proofs.lemmas.Bool.{cases_Bool}
+use Rattle.vault_volume.specs.declared.volume.Volume as volume
+use Rattle.vault_volume.specs.Disk.{LeavesOne}
+use Rattle.sqlite.specs.Effect.{IsDatabase}
+use Rattle.sqlite.specs.Held.{Held, state}
+use Rattle.sqlite.specs.Schema.{Schema}
+use Rattle.sqlite.specs.State.{State}
+use Rattle.sqlite.specs.Store.{Ghosts}
+use Rattle.custody_records.specs.Form.{form_of, InForm, has_holds, holds_in, IsCurrent, IsEarlier}
+use Rattle.custody_records.specs.Records.{Records}
+use Rattle.custody_records.specs.Rows.{MetaRow, HoldRow, Rows, first_meta, migrated}
+use Rattle.custody_records.proofs.FormLemmas.{in_form_has, migrated_in_form}
+use Rattle.custody_records.proofs.ReadLemmas.{some_same}
+use Rattle.custody_store.specs.Reading.{has_table, rows_in}
+use Rattle.custody_store.specs.Schema.{first_schema, record_schema}
+use Rattle.custody_store.specs.Standing.{Standing, standing, shown, is_earlier, IsReady, Reads, Migrates}
+use Rattle.custody_store.proofs.MissingLemmas.{holds_missing, holds_there}
+use Rattle.custody_store.proofs.ReadLemmas.{still, all_there, first_of_ready, first_of_earlier}
+use Rattle.custody_store.proofs.TableLemmas.{holds_first, rows_held}
+use Rattle.custody_machine.specs.Custody.{IsInStore}
+use Rattle.custody_machine.specs.Moves.{Left, MayLeave}
+use Rattle.custody.specs.Opening.{HasAll, ReadsVolume, OnlyReads, OnlyMigrates}
+use Rattle.custody.proofs.Opened.{reads_both, left_alike, left_same}
+
+-- ---- which schema rows are of
+
+-- the holds of rows in form, by the number of their schema
+holds_by_schema : (rows : Rows) (records : Records) → form_of rows ≡ InForm records → (meta : MetaRow) → first_meta rows ≡ Some meta → holds_in (has_holds meta.schema_no) rows.holds ≡ Some records.holds
+holds_by_schema rows records is meta first =
+    let of = in_form_has rows records is in
+    let same = some_same of.meta meta (sym (ap (option_and_then (λ (metas : List MetaRow). slice_get metas 0)) of.alone) ∙ first) in
+    ap (λ (row : MetaRow). holds_in (has_holds row.schema_no) rows.holds) (sym same) ∙ of.holds
+
+-- with a table of holds they are of schema 2
+are_current : (rows : Rows) (records : Records) (holds : List HoldRow) → rows.holds ≡ Some holds → form_of rows ≡ InForm records → IsCurrent rows
+are_current rows records holds there is meta first = by (has_holds meta.schema_no) (ap (holds_in (has_holds meta.schema_no)) (sym there) ∙ holds_by_schema rows records is meta first)
+  where
+    by : (b : Bool) → holds_in b (Some holds) ≡ Some records.holds → b ≡ true
+    by true found = refl
+    by false found = cc
+
+-- and without one of schema 1
+are_earlier : (rows : Rows) (records : Records) → rows.holds ≡ None → form_of rows ≡ InForm records → IsEarlier rows
+are_earlier rows records none is meta first = by (has_holds meta.schema_no) (ap (holds_in (has_holds meta.schema_no)) (sym none) ∙ holds_by_schema rows records is meta first)
+  where
+    by : (b : Bool) → holds_in b None ≡ Some records.holds → b ≡ false
+    by true found = cc
+    by false found = refl
+
+-- rows of schema 1 that were made those of schema 2 are of it
+migrated_current : (rows : Rows) → IsCurrent (migrated rows)
+migrated_current rows meta first = by rows.meta first
+  where
+    by : (metas : Option (List MetaRow)) → first_meta (migrated (record rows { meta = metas })) ≡ Some meta → has_holds meta.schema_no ≡ true
+    by None is = cc
+    by (Some []) is = cc
+    by (Some (row ∷ others)) is = ap (λ (row : MetaRow). has_holds row.schema_no) (sym (some_same _ meta is))
+
+-- ---- which tables a database has
+
+-- that of holds is one of schema 2
+hold_there : (s : State) → IsReady record_schema s → has_table (codes "hold") s.now.schema ≡ true
+hold_there s ready =
+    let sound = subst (λ t. IsDatabase (record s.now { schema = t })) ready.tables.schema_is ready.tables.sound in
+    sym (holds_there s (first_of_ready s ready)) ∙ ap (λ (rows : Rows). is_some rows.holds) (rows_held s.now.trees sound)
+
+-- and of schema 1 it is not: with it there would be six
+hold_missing : (s : State) → IsReady first_schema s → has_table (codes "hold") s.now.schema ≡ false
+hold_missing s earlier = elim (cases_Bool (has_table (codes "hold") s.now.schema)) [
+  | inl there ↦
+      let six = ((first_of_earlier s earlier).1 there).begins in
+      let long : length first_schema.tables ≡ length (record_schema.tables ++ six.0) = ap (λ (t : Schema). length t.tables) (sym earlier.tables.schema_is) ∙ ap length six.1 in
+      absurd (omega arith)
+  | inr none ↦ none
+]
+
+-- the tables of schema 2 are not the earlier ones, and those of schema 1 are
+not_earlier : (s : State) → IsReady record_schema s → is_earlier (shown s) ≡ false
+not_earlier s ready = rw (all_there s (first_of_ready s ready), hold_there s ready) refl
+
+has_earlier : (s : State) → IsReady first_schema s → is_earlier (shown s) ≡ true
+has_earlier s earlier = rw (all_there s (first_of_earlier s earlier), hold_missing s earlier) refl
+
+-- rows in form in tables of schema 2 are of it
+ready_current : (s : State) (records : Records) → IsReady record_schema s → form_of (rows_in s.now.trees) ≡ InForm records → IsCurrent (rows_in s.now.trees)
+ready_current s records ready is =
+    let first = (first_of_ready s ready).1 (hold_there s ready) in
+    are_current (rows_in s.now.trees) records _ (holds_first s.now.trees s.now.schema first.begins first.sound) is
+
+-- and rows in form in those of schema 1 stand for the same records when they are those of schema 2
+migrated_alike : (s : State) (records : Records) → IsReady first_schema s → form_of (rows_in s.now.trees) ≡ InForm records → form_of (migrated (rows_in s.now.trees)) ≡ InForm records
+migrated_alike s records earlier is =
+    let rows = rows_in s.now.trees in
+    migrated_in_form rows records is (are_earlier rows records (holds_missing s (first_of_earlier s earlier) (hold_missing s earlier)) is)
+
+-- ---- a migration, and calls that only read
+
+-- what a call did that read, and then another that migrated
+migrates_then : {A B E F : Type 0} (s : State) (mid new : Standing) (x : A) (r : Result B F) → Reads {E = E} (shown s) mid (Ok x) → Migrates mid new r → Migrates (shown s) new r
+migrates_then s mid new x r reads after = record {
+  trust = λ honest. reads.trust (after.trust honest);
+  mode = λ closed. after.mode (reads.mode closed);
+  effect = λ honest ready.
+      let read = after.trust honest in
+      let same = still (shown s) mid x reads read ready.rest in
+      let one = after.effect honest (same.earlier ready) in
+      record {
+        done = subst (λ rows. OnOk r (new.IsReady × (new.rows ≡ migrated rows))) same.rows one.done;
+        kept = subst (λ rows. OnErr r (IsTrue new.is_open → new.IsEarlier × (new.rows ≡ rows))) same.rows one.kept;
+        left = λ rows h. elim (one.left rows h) [ inl before ↦ inl (reads.commits_nothing read rows before) | inr made ↦ inr (made ∙ ap migrated same.rows) ];
+      };
+}
+
+-- the same of a database that is handed on
+pub migrates_both : {S A B C D E F : Type 0} (database : Ghosts S) (db later end : Held S) {mid over then : Held S} {x : A} {y : B} {r : Result C D} → Reads {E = E} (standing database db) (standing database mid) (Ok x) → over ≡ mid
+    → Reads {E = F} (standing database over) (standing database later) (Ok y) → Migrates (standing database later) (standing database then) r → end ≡ then → Migrates (standing database db) (standing database end) r
+migrates_both database db later end {mid} {over} {then} {x} {y} {r} reads is then_reads migrates at =
+    let before = reads_both database db later reads is then_reads refl in
+    subst (λ h. Migrates (standing database db) (standing database h) r) (sym at) (migrates_then (state database db) (standing database later) (standing database then) y r before migrates)
+
+-- the same with another answer
+pub migrates_answers : {A B E F : Type 0} (old new : Standing) (x : A) (y : B) → Migrates {E = E} old new (Ok x) → Migrates {E = F} old new (Ok y)
+migrates_answers old new x y p = record { trust = p.trust; mode = p.mode; effect = λ honest ready. let did = p.effect honest ready in record { done = did.done; kept = tt; left = did.left } }
+
+-- or another error
+pub migrates_fails : {A B E F : Type 0} (old new : Standing) (e : E) (f : F) → Migrates {A = A} old new (Err e) → Migrates {A = B} old new (Err f)
+migrates_fails old new e f p = record { trust = p.trust; mode = p.mode; effect = λ honest ready. let did = p.effect honest ready in record { done = tt; kept = did.kept; left = did.left } }
+
+-- a call that failed after it had only read
+pub migrates_nothing : {A B E F : Type 0} (s : State) (new : Standing) (r : Result A E) (f : F) → Reads (shown s) new r → Migrates {A = B} (shown s) new (Err f)
+migrates_nothing s new r f reads = record {
+  trust = reads.trust;
+  mode = reads.mode;
+  effect = λ honest ready. record {
+    done = tt;
+    kept = λ is_open. let same = reads.same honest ready.rest is_open in (same.earlier ready, same.rows);
+    left = λ rows h. inl (reads.commits_nothing honest rows h);
+  };
+}
+
+-- ---- what an opening leaves
+
+module _ {V S : Type 0} (device : volume.Ghosts V) (database : Ghosts S) (volume : V) (db : Held S) (later : V) (then : Held S) where
+  -- the volume is read, and the database goes over to schema 2
+  pub only_migrates : {A E : Type 0} (r : Result A E) → ReadsVolume device volume later → Migrates (standing database db) (standing database then) r → OnlyMigrates device database volume db later then r
+  only_migrates r image rows = record {
+    image = image;
+    rows = rows;
+    leaves = λ tells one ready honest. let only = image.any_moment tells in record {
+      within = λ r j h since. left_same (standing database db).rows (device.image volume) r j (ready.rest.only r h) ((one j).0 (only.since since.0 j since.1 since.2 since.3));
+      at_exit = λ r j h left.
+          let same = (one j).0 (only.since (device.moment later) j only.later (omega arith) left) in
+          elim ((rows.effect honest ready).left r h) [
+            | inl before ↦ left_same (standing database db).rows (device.image volume) r j (ready.rest.only r before) same
+            | inr made ↦ left_alike (standing database db).rows (device.image volume) r j (λ records is. ap form_of made ∙ migrated_alike (state database db) records ready is) same
+          ];
+    };
+  }
+
+  -- over the tables of either schema: what a stop leaves after it
+  pub left_of_all : {A E : Type 0} (r : Result A E) → (is_earlier (standing database db) ≡ false → OnlyReads device database volume db later then r) → (is_earlier (standing database db) ≡ true → OnlyMigrates device database volume db later then r)
+      → device.tells → LeavesOne (device.image volume) (device.left_at volume (device.moment volume)) → HasAll (standing database db) → (standing database then).IsHonest
+      → (rows : Rows) (image : List ℕ) → (standing database then).may_leave rows → device.left_at later (device.moment later) image → MayLeave (Left (standing database db).rows (device.image volume)) rows image
+  left_of_all r reads migrates tells one (inl ready) honest rows image h w = ((reads (not_earlier (state database db) ready)).leaves tells one ready.rest honest).at_exit rows image h w
+  left_of_all r reads migrates tells one (inr earlier) honest rows image h w = ((migrates (has_earlier (state database db) earlier)).leaves tells one earlier honest).at_exit rows image h w
+
+  -- and what an open custody keeps of the rows
+  pub rows_of_all : {A E : Type 0} (x : A) → (is_earlier (standing database db) ≡ false → OnlyReads device database {E = E} volume db later then (Ok x)) → (is_earlier (standing database db) ≡ true → OnlyMigrates device database {E = E} volume db later then (Ok x))
+      → HasAll (standing database db) → (standing database then).IsHonest → (records : Records) → form_of (standing database db).rows ≡ InForm records
+      → IsInStore records (standing database then).rows (standing database then).IsReady (standing database then).may_leave
+  rows_of_all x reads migrates (inl ready) honest records is =
+      let s = state database db in
+      let same = still (shown s) (standing database then) x (reads (not_earlier s ready)).rows honest ready.rest in
+      record { ready = same.ready ready; in_form = ap form_of same.rows ∙ is; current = subst IsCurrent (sym same.rows) (ready_current s records ready is); settled = same.rest.only }
+  rows_of_all x reads migrates (inr earlier) honest records is =
+      let s = state database db in
+      let done = ((migrates (has_earlier s earlier)).rows.effect honest earlier).done in
+      record { ready = done.0; in_form = ap form_of done.1 ∙ migrated_alike s records earlier is; current = subst IsCurrent (sym done.1) (migrated_current (shown s).rows); settled = done.0.rest.only }
