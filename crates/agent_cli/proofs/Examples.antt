@@ -20,6 +20,9 @@ x_is_id = (is_deposit_id-IsDepositId (codes "X")).0 refl
 r_1_is_reference : IsReference (codes "R-1")
 r_1_is_reference = (is_reference-IsReference (codes "R-1")).0 refl
 
+h_1_is_reference : IsReference (codes "H-1")
+h_1_is_reference = (is_reference-IsReference (codes "H-1")).0 refl
+
 pub words_give_orders : WordsGiveOrders
 unfolding Asks date_of flags_fault walk_fault defaults_fault bundle_met walked
 words_give_orders = record {
@@ -34,6 +37,10 @@ words_give_orders = record {
   of_sweep_now = inl (None, refl, refl);
   of_purge = inl (Some 1_785_664_800, (omega arith, refl), refl);
   of_purge_now = inl (None, refl, refl);
+  of_hold = inl (codes "example", (refl, example_is_tld), inl (20_667, (omega arith, refl), inl (codes "H-1", (refl, h_1_is_reference), inl (Some 1_785_664_800, (omega arith, refl), refl))));
+  of_hold_now = inl (codes "example", (refl, example_is_tld), inl (20_667, (omega arith, refl), inl (codes "H-1", (refl, h_1_is_reference), inl (None, refl, refl))));
+  of_lift = inl (codes "H-1", (refl, h_1_is_reference), inl (Some 1_785_664_800, (omega arith, refl), refl));
+  of_lift_now = inl (codes "H-1", (refl, h_1_is_reference), inl (None, refl, refl));
   of_release = inl (codes "example", (refl, example_is_tld), inl (codes "R-1", (refl, r_1_is_reference), inl (Operator, refl, inl (Some 1_785_664_800, (omega arith, refl), refl))));
   of_release_now = inl (codes "example", (refl, example_is_tld), inl (codes "R-1", (refl, r_1_is_reference), inl (Operator, refl, inl (None, refl, refl))));
   of_fetch = inl (codes "R-1", (refl, r_1_is_reference), refl);

@@ -10,7 +10,7 @@ use Rattle.clap.specs.Walk.{is_empty}
 use Rattle.deposit_name.proofs.NameLemmas.{kind_text-injective}
 use Rattle.agent_cli.specs.Grammar.{escrow_app}
 use Rattle.agent_cli.specs.Forms.{ShowsMoment}
-use Rattle.agent_cli.specs.Order.{Asks, AuditReading, FetchReading, InitReading, IsOneReading, MetReading, NamedReading, PurgeReading, PutReading, ReadsValue, Reading, RegisterReading, ReleaseReading, ReportReading, ServeReading, StateReading, SweepReading, VerifyReading, named, refused}
+use Rattle.agent_cli.specs.Order.{Asks, AuditReading, FetchReading, HoldReading, InitReading, IsOneReading, LiftReading, MetReading, NamedReading, PurgeReading, PutReading, ReadsValue, Reading, RegisterReading, ReleaseReading, ReportReading, ServeReading, StateReading, SweepReading, VerifyReading, named, refused}
 use Rattle.agent_cli.specs.declared.table.Subcommand.{Subcommand}
 use Rattle.agent_cli.specs.declared.table.Subcommand.TheVariants as subcommand
 use Rattle.agent_cli.specs.declared.order.Argument.{Argument}
@@ -57,6 +57,18 @@ purge_one : (rows : List Row) → IsOne (PurgeReading rows)
 purge_one rows =
     value_one _ _ _ (if_given_one ShowsMoment (λ t x y h k. moment_text-injective x y h.0 k.0 (sym h.1 ∙ k.1)) _) (λ x r s h k. h ∙ sym k)
 
+hold_one : (rows : List Row) → IsOne (HoldReading rows)
+hold_one rows =
+    value_one _ _ _ (λ x y h k. h.0 ∙ sym k.0) (λ tld.
+    value_one _ _ _ (λ x y h k. day_text-injective x y h.0 k.0 (sym h.1 ∙ k.1)) (λ day.
+    value_one _ _ _ (λ x y h k. h.0 ∙ sym k.0) (λ reference.
+    value_one _ _ _ (if_given_one ShowsMoment (λ t x y h k. moment_text-injective x y h.0 k.0 (sym h.1 ∙ k.1)) _) (λ x r s h k. h ∙ sym k))))
+
+lift_one : (rows : List Row) → IsOne (LiftReading rows)
+lift_one rows =
+    value_one _ _ _ (λ x y h k. h.0 ∙ sym k.0) (λ reference.
+    value_one _ _ _ (if_given_one ShowsMoment (λ t x y h k. moment_text-injective x y h.0 k.0 (sym h.1 ∙ k.1)) _) (λ x r s h k. h ∙ sym k))
+
 ground_text-injective : (a b : Ground) → ground_text a ≡ ground_text b → a ≡ b
 ground_text-injective a b e = let both : Some a ≡ Some b = sym (ground_in-ground_text a) ∙ ap ground_in e ∙ ground_in-ground_text b in cc
 
@@ -98,6 +110,8 @@ named_one (Some subcommand.Put) rows = put_one rows
 named_one (Some subcommand.Verify) rows = verify_one rows
 named_one (Some subcommand.Sweep) rows = sweep_one rows
 named_one (Some subcommand.Purge) rows = purge_one rows
+named_one (Some subcommand.Hold) rows = hold_one rows
+named_one (Some subcommand.Lift) rows = lift_one rows
 named_one (Some subcommand.Release) rows = release_one rows
 named_one (Some subcommand.Fetch) rows = fetch_one rows
 named_one (Some subcommand.Report) rows = report_one rows

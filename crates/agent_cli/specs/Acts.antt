@@ -7,7 +7,7 @@ use Rattle.vault_volume.specs.declared.volume.Volume as volume
 use Rattle.deposit_name.specs.Name.{Name}
 use Rattle.sqlite.specs.Store.{Ghosts}
 use Rattle.custody_records.specs.Records.{Records}
-use Rattle.custody_machine.specs.Machine.{Command, Register, Receive, Statement, Check, Release, Purge}
+use Rattle.custody_machine.specs.Machine.{Command, Register, Receive, Statement, Check, Release, Hold, Lift, Purge}
 use Rattle.custody_machine.specs.declared.answers.Fault.{Fault}
 use Rattle.custody_machine.specs.declared.answers.Refusal.TheVariants.{RegistryUnknown}
 use Rattle.custody_machine.specs.Texts.{fault_text, refusal_text}
@@ -96,7 +96,7 @@ module _ {V S : Type 0} {g : volume.Ghosts V} {database : Ghosts S} where
     pub swept : is_open old ≡ true → IsSwept (due_in (recorded (keeper_of old)) now) old now new status output errors ⊎ ((new ≡ old) × (status ≡ 3) × IsUnused output)
     pub while_closed : is_open old ≡ false → (new ≡ old) × (status ≡ 3) × IsUnused output
 
-  -- `register`, `put`, `verify`, `purge` and `release` give it their command, `sweep` its checks, `fetch` and `audit` read, and no other order changes it
+  -- `register`, `put`, `verify`, `purge`, `hold`, `lift` and `release` give it their command, `sweep` its checks, `fetch` and `audit` read, and no other order changes it
   abbrev pub Acts : Order → List ℕ → ℕ → Custody V S g database → Custody V S g database → ℕ → Writer → Writer → Type 0
   Acts (order.Init folder blocks number) bytes now old new status output errors =
       (new ≡ old) × IsStatusAfter 1 status × Takes errors (as_line (init_error_text AlreadyInitialised)) 1 status × IsUnused output
@@ -105,6 +105,8 @@ module _ {V S : Type 0} {g : volume.Ghosts V} {database : Ghosts S} where
   Acts (order.Verify folder statement at) bytes now old new status output errors = Applies old (Statement statement) now new status output errors
   Acts (order.Sweep folder at) bytes now old new status output errors = IsStatus status × Sweeps old now new status output errors
   Acts (order.Purge folder at) bytes now old new status output errors = Applies old Purge now new status output errors
+  Acts (order.Hold folder reference tld day at) bytes now old new status output errors = Applies old (Hold reference tld day) now new status output errors
+  Acts (order.Lift folder reference at) bytes now old new status output errors = Applies old (Lift reference) now new status output errors
   Acts (order.Release folder reference tld reason at) bytes now old new status output errors = Applies old (Release reference tld reason) now new status output errors
   Acts (order.Fetch folder reference name) bytes now old new status output errors = IsStatus status × Fetches old reference name.now new status output errors
   Acts (order.Report folder tld) bytes now old new status output errors = (new ≡ old) × IsStatus status × Reports old tld status output errors

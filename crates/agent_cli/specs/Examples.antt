@@ -3,7 +3,7 @@ use Rattle.std.specs.Prelude.{List, [], ◌∷◌, None, Some, codes}
 use Rattle.clap.specs.Words.{Text}
 use Rattle.deposit_name.specs.declared.kinds.Kind.TheVariants.{Full, Incr}
 use Rattle.desk.specs.declared.grounds.Ground.TheVariants.{Operator}
-use Rattle.agent_cli.specs.Order.{Asks, Wanted, init, register, put, verify, sweep, purge, release, fetch, report, state, audit, serve, wanted}
+use Rattle.agent_cli.specs.Order.{Asks, Wanted, init, register, put, verify, sweep, purge, hold, lift, release, fetch, report, state, audit, serve, wanted}
 
 -- these words, behind the name of the program, give this order
 abbrev pub Gives : List Text → Wanted → Type 0
@@ -25,6 +25,10 @@ pub record WordsGiveOrders : Type 0 where
   pub of_sweep_now : Gives (codes "sweep" ∷ codes "vault" ∷ []) (sweep (codes "vault") None)
   pub of_purge : Gives (codes "purge" ∷ codes "vault" ∷ codes "--now" ∷ codes "2026-08-02T10:00:00Z" ∷ []) (purge (codes "vault") (Some 1_785_664_800))
   pub of_purge_now : Gives (codes "purge" ∷ codes "vault" ∷ []) (purge (codes "vault") None)
+  pub of_hold : Gives (codes "hold" ∷ codes "vault" ∷ codes "H-1" ∷ codes "example" ∷ codes "--date" ∷ codes "2026-08-02" ∷ codes "--now" ∷ codes "2026-08-02T10:00:00Z" ∷ []) (hold (codes "vault") (codes "H-1") (codes "example") 20_667 (Some 1_785_664_800))
+  pub of_hold_now : Gives (codes "hold" ∷ codes "vault" ∷ codes "H-1" ∷ codes "example" ∷ codes "--date" ∷ codes "2026-08-02" ∷ []) (hold (codes "vault") (codes "H-1") (codes "example") 20_667 None)
+  pub of_lift : Gives (codes "lift" ∷ codes "vault" ∷ codes "H-1" ∷ codes "--now" ∷ codes "2026-08-02T10:00:00Z" ∷ []) (lift (codes "vault") (codes "H-1") (Some 1_785_664_800))
+  pub of_lift_now : Gives (codes "lift" ∷ codes "vault" ∷ codes "H-1" ∷ []) (lift (codes "vault") (codes "H-1") None)
   pub of_release : Gives (codes "release" ∷ codes "vault" ∷ codes "R-1" ∷ codes "example" ∷ codes "operator" ∷ codes "--now" ∷ codes "2026-08-02T10:00:00Z" ∷ []) (release (codes "vault") (codes "R-1") (codes "example") Operator (Some 1_785_664_800))
   pub of_release_now : Gives (codes "release" ∷ codes "vault" ∷ codes "R-1" ∷ codes "example" ∷ codes "operator" ∷ []) (release (codes "vault") (codes "R-1") (codes "example") Operator None)
   pub of_fetch : Gives (codes "fetch" ∷ codes "vault" ∷ codes "R-1" ∷ codes "part.ryde" ∷ []) (fetch (codes "vault") (codes "R-1") (codes "part.ryde"))

@@ -6,7 +6,7 @@ use Rattle.clap.specs.declared.builder.ValueParser.TheVariants.{Signed}
 use Rattle.agent_cli.specs.declared.table.Form.{Form}
 use Rattle.agent_cli.specs.declared.table.Form.TheVariants.{Place, Option, Count}
 use Rattle.agent_cli.specs.declared.table.Subcommand.{Subcommand}
-use Rattle.agent_cli.specs.declared.table.Subcommand.TheVariants.{Init, Register, Put, Verify, Sweep, Purge, Release, Fetch, Report, State, Audit, Serve}
+use Rattle.agent_cli.specs.declared.table.Subcommand.TheVariants.{Init, Register, Put, Verify, Sweep, Purge, Hold, Lift, Release, Fetch, Report, State, Audit, Serve}
 use Rattle.agent_cli.specs.declared.table.Word.{Word}
 use Rattle.vault_volume.specs.Limits.{fewest_blocks, most_blocks}
 
@@ -58,6 +58,10 @@ words_of Verify = (
 words_of Sweep = (codes "sweep", folder_rule ∷ now_rule ∷ [])
 -- `purge DIR [--now MOMENT]`
 words_of Purge = (codes "purge", folder_rule ∷ now_rule ∷ [])
+-- `hold DIR REF TLD --date DATE [--now MOMENT]`
+words_of Hold = (codes "hold", folder_rule ∷ positional_rule (codes "REF") ∷ tld_rule ∷ option_rule (codes "date") true ∷ now_rule ∷ [])
+-- `lift DIR REF [--now MOMENT]`
+words_of Lift = (codes "lift", folder_rule ∷ positional_rule (codes "REF") ∷ now_rule ∷ [])
 -- `release DIR REF TLD GROUND [--now MOMENT]`
 words_of Release = (codes "release", folder_rule ∷ positional_rule (codes "REF") ∷ tld_rule ∷ positional_rule (codes "GROUND") ∷ now_rule ∷ [])
 -- `fetch DIR REF NAME`
@@ -72,7 +76,7 @@ words_of Audit = (codes "audit", folder_rule ∷ [])
 words_of Serve = (codes "serve", folder_rule ∷ count_rule (codes "port") 1 65_535 ∷ count_rule (codes "requests") 1 1_000_000 ∷ now_rule ∷ [])
 
 abbrev pub subcommands : List Subcommand
-subcommands = Init ∷ Register ∷ Put ∷ Verify ∷ Sweep ∷ Purge ∷ Release ∷ Fetch ∷ Report ∷ State ∷ Audit ∷ Serve ∷ []
+subcommands = Init ∷ Register ∷ Put ∷ Verify ∷ Sweep ∷ Purge ∷ Hold ∷ Lift ∷ Release ∷ Fetch ∷ Report ∷ State ∷ Audit ∷ Serve ∷ []
 
 abbrev pub is_named : Text → Subcommand → Bool
 is_named name subcommand = bytes_eq (words_of subcommand).0 name

@@ -28,6 +28,8 @@ pub data Wanted : Type 0 where
   verify : Text → statement.Statement → Option ℕ → Wanted
   sweep : Text → Option ℕ → Wanted
   purge : Text → Option ℕ → Wanted
+  hold : Text → (reference : List ℕ) → (tld : List ℕ) → (day : ℕ) → Option ℕ → Wanted
+  lift : Text → (reference : List ℕ) → Option ℕ → Wanted
   release : Text → (reference : List ℕ) → (tld : List ℕ) → Ground → Option ℕ → Wanted
   fetch : Text → List ℕ → Text → Wanted
   report : Text → List ℕ → Wanted
@@ -92,6 +94,20 @@ PurgeReading rows =
     ReadsValue argument.Now (ShowsIfGiven ShowsMoment (first_of (codes "now") rows)) (λ now r.
     r ≡ wanted (purge (text_of (codes "DIR") rows) now))
 
+abbrev pub HoldReading : List Row → Reading → Type 0
+HoldReading rows =
+    ReadsValue argument.Tld (ShowsTld (text_of (codes "TLD") rows)) (λ tld.
+    ReadsValue argument.Date (ShowsDay (text_of (codes "date") rows)) (λ day.
+    ReadsValue argument.Reference (ShowsReference (text_of (codes "REF") rows)) (λ reference.
+    ReadsValue argument.Now (ShowsIfGiven ShowsMoment (first_of (codes "now") rows)) (λ now r.
+    r ≡ wanted (hold (text_of (codes "DIR") rows) reference tld day now)))))
+
+abbrev pub LiftReading : List Row → Reading → Type 0
+LiftReading rows =
+    ReadsValue argument.Reference (ShowsReference (text_of (codes "REF") rows)) (λ reference.
+    ReadsValue argument.Now (ShowsIfGiven ShowsMoment (first_of (codes "now") rows)) (λ now r.
+    r ≡ wanted (lift (text_of (codes "DIR") rows) reference now)))
+
 abbrev pub ReleaseReading : List Row → Reading → Type 0
 ReleaseReading rows =
     ReadsValue argument.Tld (ShowsTld (text_of (codes "TLD") rows)) (λ tld.
@@ -130,6 +146,8 @@ NamedReading (Some subcommand.Put) rows r = PutReading rows r
 NamedReading (Some subcommand.Verify) rows r = VerifyReading rows r
 NamedReading (Some subcommand.Sweep) rows r = SweepReading rows r
 NamedReading (Some subcommand.Purge) rows r = PurgeReading rows r
+NamedReading (Some subcommand.Hold) rows r = HoldReading rows r
+NamedReading (Some subcommand.Lift) rows r = LiftReading rows r
 NamedReading (Some subcommand.Release) rows r = ReleaseReading rows r
 NamedReading (Some subcommand.Fetch) rows r = FetchReading rows r
 NamedReading (Some subcommand.Report) rows r = ReportReading rows r
@@ -163,6 +181,8 @@ meaning (order.Put folder file now) = put folder.now file.now now
 meaning (order.Verify folder statement now) = verify folder.now statement now
 meaning (order.Sweep folder now) = sweep folder.now now
 meaning (order.Purge folder now) = purge folder.now now
+meaning (order.Hold folder reference tld day now) = hold folder.now reference tld day now
+meaning (order.Lift folder reference now) = lift folder.now reference now
 meaning (order.Release folder reference tld reason now) = release folder.now reference tld reason now
 meaning (order.Fetch folder reference name) = fetch folder.now reference name.now
 meaning (order.Report folder tld) = report folder.now tld
@@ -176,6 +196,8 @@ named_moment (put folder file now) = now
 named_moment (verify folder statement now) = now
 named_moment (sweep folder now) = now
 named_moment (purge folder now) = now
+named_moment (hold folder reference tld day now) = now
+named_moment (lift folder reference now) = now
 named_moment (release folder reference tld reason now) = now
 named_moment (serve folder port requests now) = now
 named_moment _ = None

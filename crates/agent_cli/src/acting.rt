@@ -53,6 +53,19 @@ pub fn act<V: Volume, S: Alter, W: Write, E: Write, P: Progress>(
             let answer = custody.apply(alloc, &Command::Purge, now);
             tell_answer(&answer, out, err)
         }
+        Order::Hold {
+            reference,
+            tld,
+            day,
+            ..
+        } => {
+            let answer = custody.apply(alloc, &Command::Hold(*reference, *tld, *day), now);
+            tell_answer(&answer, out, err)
+        }
+        Order::Lift { reference, .. } => {
+            let answer = custody.apply(alloc, &Command::Lift(*reference), now);
+            tell_answer(&answer, out, err)
+        }
         Order::Release {
             reference,
             tld,

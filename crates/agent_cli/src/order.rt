@@ -47,6 +47,20 @@ pub enum Order<'a> {
         /// The moment of the call, where the words name it.
         now: Option<Sec>,
     },
+    Hold {
+        folder: &'a str,
+        reference: Reference,
+        tld: Tld,
+        day: Day,
+        /// The moment of the call, where the words name it.
+        now: Option<Sec>,
+    },
+    Lift {
+        folder: &'a str,
+        reference: Reference,
+        /// The moment of the call, where the words name it.
+        now: Option<Sec>,
+    },
     Release {
         folder: &'a str,
         reference: Reference,
@@ -93,6 +107,8 @@ impl<'a> Order<'a> {
             | Order::Verify { now, .. }
             | Order::Sweep { now, .. }
             | Order::Purge { now, .. }
+            | Order::Hold { now, .. }
+            | Order::Lift { now, .. }
             | Order::Release { now, .. }
             | Order::Serve { now, .. } => *now,
             Order::Init { .. }

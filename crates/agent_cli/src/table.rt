@@ -14,6 +14,8 @@ pub(crate) enum Subcommand {
     Verify,
     Sweep,
     Purge,
+    Hold,
+    Lift,
     Release,
     Fetch,
     Report,
@@ -23,13 +25,15 @@ pub(crate) enum Subcommand {
 }
 
 /// All of them, in the order in which help shows them.
-pub(crate) const SUBCOMMANDS: [Subcommand; 12] = [
+pub(crate) const SUBCOMMANDS: [Subcommand; 14] = [
     Subcommand::Init,
     Subcommand::Register,
     Subcommand::Put,
     Subcommand::Verify,
     Subcommand::Sweep,
     Subcommand::Purge,
+    Subcommand::Hold,
+    Subcommand::Lift,
     Subcommand::Release,
     Subcommand::Fetch,
     Subcommand::Report,
@@ -227,7 +231,7 @@ static SWEEP: Row<'static> = Row {
 
 static PURGE: Row<'static> = Row {
     name: "purge",
-    about: "Drops the bytes of each part that was kept for a year; its record stays",
+    about: "Drops the bytes of each part kept for a year whose day is not on hold; its record stays",
     after: "Prints: dropped N, the number of these parts\n\
             Example: escrow purge vault --now 2027-08-04T00:00:00Z",
     words: &[
@@ -239,6 +243,65 @@ static PURGE: Row<'static> = Row {
                 required: false,
             },
             help: "Moment of the purge, as 2027-08-04T00:00:00Z; else the clock is read",
+        },
+    ],
+};
+
+static HOLD: Row<'static> = Row {
+    name: "hold",
+    about: "Puts a registry's day on hold: while the hold stands, a purge drops no part of that day",
+    after: "For deposits of a day that a court or an authority orders to be kept: the year's purge\n\
+            passes the day by until lift ends the hold, and no command removes a hold\n\
+            The same words again are answered as before; a hold that was lifted stays so\n\
+            Prints: held REF TLD DATE MOMENT\n\
+            Example: escrow hold vault H-1 example --date 2026-08-02 --now 2027-07-30T12:00:00Z",
+    words: &[
+        DIR,
+        Word {
+            id: "REF",
+            form: Form::Place,
+            help: "Reference of the hold: 1 to 32 of A-Z a-z 0-9 -",
+        },
+        TLD,
+        Word {
+            id: "date",
+            form: Form::Option {
+                value: "DATE",
+                required: true,
+            },
+            help: "Day of the deposits, as 2026-08-02",
+        },
+        Word {
+            id: "now",
+            form: Form::Option {
+                value: "MOMENT",
+                required: false,
+            },
+            help: "Moment of the hold, as 2027-07-30T12:00:00Z; else the clock is read",
+        },
+    ],
+};
+
+static LIFT: Row<'static> = Row {
+    name: "lift",
+    about: "Lifts a hold, which keeps its day from the purge no longer; its record stays",
+    after: "A purge passes the day by as long as another hold of it stands\n\
+            Prints: lifted REF MOMENT; of a hold that was lifted before, that MOMENT\n\
+            Example: escrow lift vault H-1 --now 2028-02-01T12:00:00Z",
+    words: &[
+        DIR,
+        Word {
+            id: "REF",
+            form: Form::Place,
+            help: "Reference of the hold: 1 to 32 letters, digits and hyphens",
+        },
+        Word {
+            id: "now",
+            form: Form::Option {
+                value: "MOMENT",
+                required: false,
+            },
+            help: "Moment of the lifting, as 2028-02-01T12:00:00Z; else the clock is read",
         },
     ],
 };
@@ -304,11 +367,12 @@ static REPORT: Row<'static> = Row {
 
 static STATE: Row<'static> = Row {
     name: "state",
-    about: "Prints the records: each registry with its parts and notices, releases, free blocks",
+    about: "Prints the records: each registry with its parts and notices, releases, holds, free blocks",
     after: "Prints: registry TLD DATE\n        \
             part NAME LENGTH held MOMENT\n        \
             NUMBER RECEIPT DATE RNN ID MOMENT TLD, as verify prints a notice\n        \
             release REF TLD GROUND MOMENT N\n        \
+            hold REF TLD DATE MOMENT [lifted MOMENT]\n        \
             free F of T\n\
             Example: escrow state vault",
     words: &[DIR],
@@ -370,6 +434,8 @@ impl Subcommand {
             Subcommand::Verify => &VERIFY,
             Subcommand::Sweep => &SWEEP,
             Subcommand::Purge => &PURGE,
+            Subcommand::Hold => &HOLD,
+            Subcommand::Lift => &LIFT,
             Subcommand::Release => &RELEASE,
             Subcommand::Fetch => &FETCH,
             Subcommand::Report => &REPORT,

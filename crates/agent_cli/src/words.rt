@@ -2,7 +2,7 @@
 ghost use Rattle.std.specs.Prelude.{◌≡◌, Some, map};
 ghost use Rattle.std.specs.String.{string_bytes};
 ghost use Rattle.clap.specs.Words.{found_of, rows_of};
-ghost use Rattle.agent_cli.specs.Order.{Answers, Asks, AuditReading, FetchReading, InitReading, IsFaultFrom, NamedReading, PurgeReading, PutReading, RegisterReading, ReleaseReading, ReportReading, ServeReading, StateReading, SweepReading, VerifyReading};
+ghost use Rattle.agent_cli.specs.Order.{Answers, Asks, AuditReading, FetchReading, HoldReading, InitReading, IsFaultFrom, LiftReading, NamedReading, PurgeReading, PutReading, RegisterReading, ReleaseReading, ReportReading, ServeReading, StateReading, SweepReading, VerifyReading};
 
 use crate::grammar::escrow_command;
 use crate::table::Subcommand;
@@ -93,6 +93,34 @@ fn purge_order<'a>(matches: &ArgMatches<'a>) -> Result<Order<'a>, WordFault>
     })
 }
 
+fn hold_order<'a>(matches: &ArgMatches<'a>) -> Result<Order<'a>, WordFault>
+    ensures { Answers (HoldReading (rows_of (found_of matches.now))) result }
+{
+    let tld = tld_in(matches)?;
+    let day = date_in(matches)?;
+    let reference = reference_in(matches)?;
+    let now = now_in(matches)?;
+    Ok(Order::Hold {
+        folder: text_in(matches, "DIR"),
+        reference,
+        tld,
+        day,
+        now,
+    })
+}
+
+fn lift_order<'a>(matches: &ArgMatches<'a>) -> Result<Order<'a>, WordFault>
+    ensures { Answers (LiftReading (rows_of (found_of matches.now))) result }
+{
+    let reference = reference_in(matches)?;
+    let now = now_in(matches)?;
+    Ok(Order::Lift {
+        folder: text_in(matches, "DIR"),
+        reference,
+        now,
+    })
+}
+
 fn release_order<'a>(matches: &ArgMatches<'a>) -> Result<Order<'a>, WordFault>
     ensures { Answers (ReleaseReading (rows_of (found_of matches.now))) result }
 {
@@ -169,6 +197,8 @@ fn order_in<'a>(subcommand: Subcommand, matches: &ArgMatches<'a>) -> Result<Orde
         Subcommand::Verify => verify_order(matches),
         Subcommand::Sweep => sweep_order(matches),
         Subcommand::Purge => purge_order(matches),
+        Subcommand::Hold => hold_order(matches),
+        Subcommand::Lift => lift_order(matches),
         Subcommand::Release => release_order(matches),
         Subcommand::Fetch => fetch_order(matches),
         Subcommand::Report => report_order(matches),

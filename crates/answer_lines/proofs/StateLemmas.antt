@@ -38,25 +38,33 @@ registry_is_whole old mid then new head parts notices first second third =
     subst (λ (t : List ℕ). Appends old new (head ++ t)) (sym (lines_text-append parts notices))
     (Appends-trans old mid new head (lines_text parts ++ lines_text notices) first (Appends-trans mid then new (lines_text parts) (lines_text notices) second third))
 
--- ---- the registries, the releases, and the line of the free blocks
+-- ---- the registries, the releases, the holds, and the line of the free blocks
 
-pub registries_begin : (old new : Option (List ℕ)) (registries releases room : List ℕ) → AppendsBeginning old new registries → AppendsBeginning old new (as_line (registries ++ releases ++ room))
-registries_begin old new registries releases room begun =
-    begins_first old new (registries ++ releases ++ room) (10 ∷ []) (begins_first old new (registries ++ releases) room (begins_first old new registries releases begun))
+pub registries_begin : (old new : Option (List ℕ)) (registries releases holds room : List ℕ) → AppendsBeginning old new registries → AppendsBeginning old new (as_line (registries ++ releases ++ holds ++ room))
+registries_begin old new registries releases holds room begun =
+    begins_first old new (registries ++ releases ++ holds ++ room) (10 ∷ [])
+    (begins_first old new (registries ++ releases ++ holds) room (begins_first old new (registries ++ releases) holds (begins_first old new registries releases begun)))
 
-pub releases_begin : (old mid new : Option (List ℕ)) (registries releases room : List ℕ) → Appends old mid registries → AppendsBeginning mid new releases
-    → AppendsBeginning old new (as_line (registries ++ releases ++ room))
-releases_begin old mid new registries releases room first begun =
-    begins_first old new (registries ++ releases ++ room) (10 ∷ []) (begins_first old new (registries ++ releases) room (begins_second old mid new registries releases first begun))
+pub releases_begin : (old mid new : Option (List ℕ)) (registries releases holds room : List ℕ) → Appends old mid registries → AppendsBeginning mid new releases
+    → AppendsBeginning old new (as_line (registries ++ releases ++ holds ++ room))
+releases_begin old mid new registries releases holds room first begun =
+    begins_first old new (registries ++ releases ++ holds ++ room) (10 ∷ [])
+    (begins_first old new (registries ++ releases ++ holds) room (begins_first old new (registries ++ releases) holds (begins_second old mid new registries releases first begun)))
 
-pub room_begins : (old mid then new : Option (List ℕ)) (registries releases room : List ℕ) → Appends old mid registries → Appends mid then releases → AppendsBeginning then new (as_line room)
-    → AppendsBeginning old new (as_line (registries ++ releases ++ room))
-room_begins old mid then new registries releases room first second begun =
-    subst (λ (t : List ℕ). AppendsBeginning old new t) (sym (append_assoc (registries ++ releases) room (10 ∷ [])))
-    (begins_second old then new (registries ++ releases) (as_line room) (Appends-trans old mid then registries releases first second) begun)
+pub holds_begin : (old mid then new : Option (List ℕ)) (registries releases holds room : List ℕ) → Appends old mid registries → Appends mid then releases → AppendsBeginning then new holds
+    → AppendsBeginning old new (as_line (registries ++ releases ++ holds ++ room))
+holds_begin old mid then new registries releases holds room first second begun =
+    begins_first old new (registries ++ releases ++ holds ++ room) (10 ∷ [])
+    (begins_first old new (registries ++ releases ++ holds) room (begins_second old then new (registries ++ releases) holds (Appends-trans old mid then registries releases first second) begun))
 
-pub state_is_whole : (old mid then new : Option (List ℕ)) (registries releases room : List ℕ) → Appends old mid registries → Appends mid then releases → Appends then new (as_line room)
-    → Appends old new (as_line (registries ++ releases ++ room))
-state_is_whole old mid then new registries releases room first second third =
-    subst (λ (t : List ℕ). Appends old new t) (sym (append_assoc (registries ++ releases) room (10 ∷ [])))
-    (Appends-trans old then new (registries ++ releases) (as_line room) (Appends-trans old mid then registries releases first second) third)
+pub room_begins : (old mid then last new : Option (List ℕ)) (registries releases holds room : List ℕ) → Appends old mid registries → Appends mid then releases → Appends then last holds → AppendsBeginning last new (as_line room)
+    → AppendsBeginning old new (as_line (registries ++ releases ++ holds ++ room))
+room_begins old mid then last new registries releases holds room first second third begun =
+    subst (λ (t : List ℕ). AppendsBeginning old new t) (sym (append_assoc (registries ++ releases ++ holds) room (10 ∷ [])))
+    (begins_second old last new (registries ++ releases ++ holds) (as_line room) (Appends-trans old then last (registries ++ releases) holds (Appends-trans old mid then registries releases first second) third) begun)
+
+pub state_is_whole : (old mid then last new : Option (List ℕ)) (registries releases holds room : List ℕ) → Appends old mid registries → Appends mid then releases → Appends then last holds → Appends last new (as_line room)
+    → Appends old new (as_line (registries ++ releases ++ holds ++ room))
+state_is_whole old mid then last new registries releases holds room first second third fourth =
+    subst (λ (t : List ℕ). Appends old new t) (sym (append_assoc (registries ++ releases ++ holds) room (10 ∷ [])))
+    (Appends-trans old last new (registries ++ releases ++ holds) (as_line room) (Appends-trans old then last (registries ++ releases) holds (Appends-trans old mid then registries releases first second) third) fourth)

@@ -9,7 +9,7 @@ use Rattle.desk.specs.declared.grounds.Ground.{Ground}
 use Rattle.desk.specs.declared.notices.Notice as desk
 use Rattle.custody_records.specs.Written.{digits_of}
 use Rattle.answer_lines.specs.declared.lines.Line.{Line}
-use Rattle.answer_lines.specs.declared.lines.Line.TheVariants.{Ready, Registered, Received, Notice, Released, Purged, Registry, Part, Dropped, Release, Damaged, Sound, Room, Listening}
+use Rattle.answer_lines.specs.declared.lines.Line.TheVariants.{Ready, Registered, Received, Notice, Released, Held, Lifted, Purged, Registry, Part, Dropped, Release, Hold, LiftedHold, Damaged, Sound, Room, Listening}
 
 abbrev pub room_text : ℕ → ℕ → List ℕ
 room_text free total = codes "free " ++ decimal free ++ codes " of " ++ decimal total
@@ -23,6 +23,14 @@ abbrev pub release_text : List ℕ → List ℕ → Ground → ℕ → ℕ → L
 release_text reference tld reason at count =
     reference ++ codes " " ++ tld ++ codes " " ++ ground_text reason ++ codes " " ++ moment_text at ++ codes " " ++ decimal count
 
+-- a hold of a registry's day
+abbrev pub hold_text : List ℕ → List ℕ → ℕ → ℕ → List ℕ
+hold_text reference tld day at = reference ++ codes " " ++ tld ++ codes " " ++ day_text day ++ codes " " ++ moment_text at
+
+-- and when it was lifted
+abbrev pub lifted_hold_text : List ℕ → List ℕ → ℕ → ℕ → ℕ → List ℕ
+lifted_hold_text reference tld day at lifted = hold_text reference tld day at ++ codes " lifted " ++ moment_text lifted
+
 abbrev pub line_text : Line → List ℕ
 line_text (Ready blocks number) = codes "ready " ++ decimal blocks ++ codes " " ++ digits_of number
 line_text (Registered tld first) = codes "registered " ++ tld ++ codes " " ++ day_text first
@@ -30,6 +38,8 @@ line_text (Received name length at) =
     codes "received " ++ name_text name ++ codes " " ++ decimal length ++ codes " " ++ moment_text at
 line_text (Notice notice) = notice_text notice
 line_text (Released reference tld reason at count) = codes "released " ++ release_text reference tld reason at count
+line_text (Held reference tld day at) = codes "held " ++ hold_text reference tld day at
+line_text (Lifted reference at) = codes "lifted " ++ reference ++ codes " " ++ moment_text at
 line_text (Purged count) = codes "dropped " ++ decimal count
 line_text (Registry tld first) = codes "registry " ++ tld ++ codes " " ++ day_text first
 line_text (Part name length at) =
@@ -37,6 +47,8 @@ line_text (Part name length at) =
 line_text (Dropped name length at) =
     codes "part " ++ name_text name ++ codes " " ++ decimal length ++ codes " dropped " ++ moment_text at
 line_text (Release reference tld reason at count) = codes "release " ++ release_text reference tld reason at count
+line_text (Hold reference tld day at) = codes "hold " ++ hold_text reference tld day at
+line_text (LiftedHold reference tld day at lifted) = codes "hold " ++ lifted_hold_text reference tld day at lifted
 line_text (Damaged name) = codes "damaged " ++ name_text name
 line_text (Sound count) = codes "sound " ++ decimal count
 line_text (Room free total) = room_text free total

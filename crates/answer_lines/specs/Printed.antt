@@ -21,11 +21,14 @@ as_line text = text ++ 10 ∷ []
 abbrev pub Prints : Option (List ℕ) → Option (List ℕ) → List ℕ → Type 0
 Prints before after text = Appends before after (as_line text)
 
+-- the line of a record; that of a hold has no lifting in it, so that it is the same before the lifting and after it
 abbrev pub line_of : Record → Line
 line_of (record_of.Registry tld first_day) = line.Registered tld first_day
 line_of (record_of.Part name received len digest extents) = line.Received name len received
 line_of (record_of.Notice notice) = line.Notice notice
 line_of (record_of.Release release) = line.Released release.reference release.tld release.reason release.at (length release.names)
+line_of (record_of.Hold hold) = line.Held hold.reference hold.tld hold.day hold.at
+line_of (record_of.Lifting reference at) = line.Lifted reference at
 line_of (record_of.Purge count) = line.Purged count
 
 -- the names that a record lists, one a line

@@ -9,7 +9,7 @@ ghost use Rattle.custody_records.specs.Written.{digits_of};
 ghost use Rattle.custody.specs.Answers.{init_error_text};
 ghost use Rattle.custody_machine.specs.Codes.{row_of, row_text};
 ghost use Rattle.custody_machine.specs.Texts.{damage_text, fault_text, refusal_text};
-ghost use Rattle.answer_lines.specs.Lines.{line_text, release_text};
+ghost use Rattle.answer_lines.specs.Lines.{hold_text, line_text, lifted_hold_text, release_text};
 
 use crate::{Line, VolumeNumber};
 use arrayvec::ArrayVec;
@@ -151,14 +151,51 @@ fn release_words(reference: &Reference, tld: &Tld, reason: Ground, at: Sec, coun
     line
 }
 
-/// A word with its space, and a release.
-fn release_line(word: &[u8], release: &LineBytes) -> LineBytes
-    requires { (length word.now ≤ 20) × (array_vec_len release.now ≤ 200) }
-    ensures { result.items ≡ (word.now ++ release.now.items) ++ 10 ∷ [] }
+fn hold_words(reference: &Reference, tld: &Tld, day: Day, at: Sec) -> LineBytes
+    ensures text { result.items ≡ hold_text reference.now tld.now day at }
+    ensures most { array_vec_len result ≤ 150 }
+{
+    let mut line = LineBytes::new();
+    append(&mut line, reference.as_bytes());
+    append(&mut line, b" ");
+    append(&mut line, tld.as_bytes());
+    append(&mut line, b" ");
+    append(&mut line, &write_day(day));
+    append(&mut line, b" ");
+    append(&mut line, &write_moment(at));
+    line
+}
+
+fn lifted_hold_words(reference: &Reference, tld: &Tld, day: Day, at: Sec, lifted: Sec) -> LineBytes
+    ensures text { result.items ≡ lifted_hold_text reference.now tld.now day at lifted }
+    ensures most { array_vec_len result ≤ 200 }
+{
+    let mut line = hold_words(reference, tld, day, at);
+    append(&mut line, b" lifted ");
+    append(&mut line, &write_moment(lifted));
+    line
+}
+
+/// A word with its space, and a release or a hold.
+fn words_line(word: &[u8], words: &LineBytes) -> LineBytes
+    requires { (length word.now ≤ 20) × (array_vec_len words.now ≤ 200) }
+    ensures { result.items ≡ (word.now ++ words.now.items) ++ 10 ∷ [] }
 {
     let mut line = LineBytes::new();
     append(&mut line, word);
-    append(&mut line, release);
+    append(&mut line, words);
+    append(&mut line, b"\n");
+    line
+}
+
+fn lifted_line(reference: &Reference, at: Sec) -> LineBytes
+    ensures { result.items ≡ (codes "lifted " ++ reference.now ++ codes " " ++ moment_text at) ++ 10 ∷ [] }
+{
+    let mut line = LineBytes::new();
+    append(&mut line, b"lifted ");
+    append(&mut line, reference.as_bytes());
+    append(&mut line, b" ");
+    append(&mut line, &write_moment(at));
     append(&mut line, b"\n");
     line
 }
@@ -197,8 +234,15 @@ impl Line {
                 count,
             } => {
                 let release = release_words(reference, tld, *reason, *at, *count as u64);
-                release_line(b"released ", &release)
+                words_line(b"released ", &release)
             }
+            Line::Held {
+                reference,
+                tld,
+                day,
+                at,
+            } => words_line(b"held ", &hold_words(reference, tld, *day, *at)),
+            Line::Lifted { reference, at } => lifted_line(reference, *at),
             Line::Purged { count } => count_line(b"dropped ", *count as u64),
             Line::Registry { tld, first } => registry_line(b"registry ", tld, *first),
             Line::Part { name, length, at } => part_line(b"part ", name, *length, b" held ", *at),
@@ -213,8 +257,24 @@ impl Line {
                 count,
             } => {
                 let release = release_words(reference, tld, *reason, *at, *count as u64);
-                release_line(b"release ", &release)
+                words_line(b"release ", &release)
             }
+            Line::Hold {
+                reference,
+                tld,
+                day,
+                at,
+            } => words_line(b"hold ", &hold_words(reference, tld, *day, *at)),
+            Line::LiftedHold {
+                reference,
+                tld,
+                day,
+                at,
+                lifted,
+            } => words_line(
+                b"hold ",
+                &lifted_hold_words(reference, tld, *day, *at, *lifted),
+            ),
             Line::Damaged { name } => name_line(b"damaged ", name),
             Line::Sound { count } => count_line(b"sound ", *count as u64),
             Line::Room { free, total } => room_line(*free, *total),

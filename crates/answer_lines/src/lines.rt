@@ -40,6 +40,18 @@ pub enum Line {
         at: Sec,
         count: usize,
     },
+    /// A day of the registry is put on hold.
+    Held {
+        reference: Reference,
+        tld: Tld,
+        day: Day,
+        at: Sec,
+    },
+    /// The hold of the reference is lifted.
+    Lifted {
+        reference: Reference,
+        at: Sec,
+    },
     /// Of how many parts a purge dropped the bytes.
     Purged {
         count: usize,
@@ -68,6 +80,21 @@ pub enum Line {
         reason: Ground,
         at: Sec,
         count: usize,
+    },
+    /// A hold of the records that stands.
+    Hold {
+        reference: Reference,
+        tld: Tld,
+        day: Day,
+        at: Sec,
+    },
+    /// A hold of the records that was lifted.
+    LiftedHold {
+        reference: Reference,
+        tld: Tld,
+        day: Day,
+        at: Sec,
+        lifted: Sec,
     },
     /// A part whose bytes have not its digest.
     Damaged {
@@ -119,6 +146,16 @@ impl Line {
                 at: release.at,
                 count: release.names.count(),
             },
+            Record::Hold(hold) => Line::Held {
+                reference: hold.reference,
+                tld: hold.tld,
+                day: hold.day,
+                at: hold.at,
+            },
+            Record::Lifting { reference, at } => Line::Lifted {
+                reference: *reference,
+                at: *at,
+            },
             Record::Purge { count } => Line::Purged { count: *count },
         }
     }
@@ -130,8 +167,12 @@ pub fn names_behind(told: &Record) -> &[u8]
 {
     match told {
         Record::Release(release) => release.names.as_text(),
-        Record::Registry { .. } | Record::Part { .. } | Record::Notice(_) | Record::Purge { .. } =>
-            &[],
+        Record::Registry { .. }
+        | Record::Part { .. }
+        | Record::Notice(_)
+        | Record::Hold(_)
+        | Record::Lifting { .. }
+        | Record::Purge { .. } => &[],
     }
 }
 
@@ -163,6 +204,13 @@ impl fmt::Display for Line {
                 at,
                 count,
             } => write!(f, "released {reference} {tld} {reason} {at} {count}"),
+            Line::Held {
+                reference,
+                tld,
+                day,
+                at,
+            } => write!(f, "held {reference} {tld} {day} {at}"),
+            Line::Lifted { reference, at } => write!(f, "lifted {reference} {at}"),
             Line::Purged { count } => write!(f, "dropped {count}"),
             Line::Registry { tld, first } => write!(f, "registry {tld} {first}"),
             Line::Part { name, length, at } => write!(f, "part {name} {length} held {at}"),
@@ -174,6 +222,19 @@ impl fmt::Display for Line {
                 at,
                 count,
             } => write!(f, "release {reference} {tld} {reason} {at} {count}"),
+            Line::Hold {
+                reference,
+                tld,
+                day,
+                at,
+            } => write!(f, "hold {reference} {tld} {day} {at}"),
+            Line::LiftedHold {
+                reference,
+                tld,
+                day,
+                at,
+                lifted,
+            } => write!(f, "hold {reference} {tld} {day} {at} lifted {lifted}"),
             Line::Damaged { name } => write!(f, "damaged {name}"),
             Line::Sound { count } => write!(f, "sound {count}"),
             Line::Room { free, total } => write!(f, "free {free} of {total}"),

@@ -1,20 +1,21 @@
 //! The records, as they are printed. What a writer took before it failed is a beginning of the lines.
 ghost use Rattle.std.specs.Prelude.{◌≡◌, OnOk, map};
+ghost use Rattle.std.specs.FinMap.{entries};
 ghost use Rattle.std.specs.Io.KnownBytes.{Appends};
 ghost use Rattle.desk.specs.Lines.{AppendsBeginning};
 ghost use Rattle.custody_records.specs.Held.{records_of};
 ghost use Rattle.custody_records.specs.Tables.{entries_of};
-ghost use Rattle.custody_records.specs.Typed.{notice_key, notice_value, part_entry, part_place, part_value, registry_key, registry_value, release_entry, release_key, release_value};
+ghost use Rattle.custody_records.specs.Typed.{hold_entry, notice_key, notice_value, part_entry, part_place, part_value, registry_key, registry_value, release_entry};
 ghost use Rattle.answer_lines.specs.Printed.{Prints, as_line};
-ghost use Rattle.answer_lines.specs.State.{lines_text, notice_line, part_line, registry_lines, release_line, state_text};
+ghost use Rattle.answer_lines.specs.State.{hold_line, lines_text, notice_line, part_line, registries_text, registry_lines, release_line, state_text};
 
 use crate::writing::{flush, write_line};
 use crate::{Line, WriteFailed};
-use custody_records::{Part, Records, Registry, Release};
+use custody_records::{Hold, Part, Records, Registry, Release};
 use desk::Notice;
 use std::io::Write;
 
-/// Writes each registry with its parts and its notices, the releases, and the free blocks.
+/// Writes each registry with its parts and its notices, the releases, the holds, and the free blocks.
 pub(crate) fn write_state<W: Write>(
     records: &Records,
     free: u32,
@@ -24,12 +25,21 @@ pub(crate) fn write_state<W: Write>(
     ensures whole { OnOk result (Prints (W.contents out.old) (W.contents out.new) (state_text (records_of records.now) free total)) }
     ensures begun { AppendsBeginning (W.contents out.old) (W.contents out.new) (as_line (state_text (records_of records.now) free total)) }
 {
+    write_registries(records, out)?;
+    write_releases(records, out)?;
+    write_holds(records, out)?;
+    write_line(&Line::Room { free, total }, out)?;
+    flush(out)
+}
+
+fn write_registries<W: Write>(records: &Records, out: &mut W) -> Result<(), WriteFailed>
+    ensures whole { OnOk result (Appends (W.contents out.old) (W.contents out.new) (registries_text (records_of records.now))) }
+    ensures begun { AppendsBeginning (W.contents out.old) (W.contents out.new) (registries_text (records_of records.now)) }
+{
     for registry in records.registries() {
         write_registry(registry, records, out)?;
     }
-    write_releases(records.releases(), out)?;
-    write_line(&Line::Room { free, total }, out)?;
-    flush(out)
+    Ok(())
 }
 
 /// Writes a registry with its parts and its notices.
@@ -71,12 +81,22 @@ fn write_notices<W: Write>(notices: &[Notice], out: &mut W) -> Result<(), WriteF
     Ok(())
 }
 
-fn write_releases<W: Write>(releases: &[Release], out: &mut W) -> Result<(), WriteFailed>
-    ensures whole { OnOk result (Appends (W.contents out.old) (W.contents out.new) (lines_text (map release_line (entries_of release_key release_value releases.now)))) }
-    ensures begun { AppendsBeginning (W.contents out.old) (W.contents out.new) (lines_text (map release_line (entries_of release_key release_value releases.now))) }
+fn write_releases<W: Write>(records: &Records, out: &mut W) -> Result<(), WriteFailed>
+    ensures whole { OnOk result (Appends (W.contents out.old) (W.contents out.new) (lines_text (map release_line (entries (records_of records.now).releases)))) }
+    ensures begun { AppendsBeginning (W.contents out.old) (W.contents out.new) (lines_text (map release_line (entries (records_of records.now).releases))) }
 {
-    for release in releases {
+    for release in records.releases() {
         write_line(&release_line(release), out)?;
+    }
+    Ok(())
+}
+
+fn write_holds<W: Write>(records: &Records, out: &mut W) -> Result<(), WriteFailed>
+    ensures whole { OnOk result (Appends (W.contents out.old) (W.contents out.new) (lines_text (map hold_line (entries (records_of records.now).holds)))) }
+    ensures begun { AppendsBeginning (W.contents out.old) (W.contents out.new) (lines_text (map hold_line (entries (records_of records.now).holds))) }
+{
+    for hold in records.holds() {
+        write_line(&hold_line(hold), out)?;
     }
     Ok(())
 }
@@ -110,5 +130,26 @@ fn release_line(release: &Release) -> Line
         reason: release.reason,
         at: release.at,
         count: release.names.count(),
+    }
+}
+
+fn hold_line(hold: &Hold) -> Line
+    ensures { result ≡ hold_line (hold_entry hold.now) }
+{
+    let (reference, tld, day, at) = (hold.reference, hold.tld, hold.day, hold.at);
+    match hold.lifted {
+        None => Line::Hold {
+            reference,
+            tld,
+            day,
+            at,
+        },
+        Some(lifted) => Line::LiftedHold {
+            reference,
+            tld,
+            day,
+            at,
+            lifted,
+        },
     }
 }

@@ -97,8 +97,8 @@ pub fn print_line<W: Write>(line: &Line, out: &mut W) -> u8
     status_after(print(&line.bytes(), out), Status::Done)
 }
 
-/// Prints each registry with its parts and its notices, the releases and the free blocks, and answers
-/// the status.
+/// Prints each registry with its parts and its notices, the releases, the holds and the free blocks,
+/// and answers the status.
 pub fn print_state<W: Write>(records: &Records, free: u32, total: u32, out: &mut W) -> u8
     ensures status { IsStatusAfter 0 result }
     ensures printed { result ≡ 0 → Prints (W.contents out.old) (W.contents out.new) (state_text (records_of records.now) free total) }

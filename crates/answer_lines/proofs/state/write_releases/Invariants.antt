@@ -6,4 +6,4 @@ use Rattle.answer_lines.specs.State.{lines_text, release_line}
 use Rattle.answer_lines.proofs.state.write_releases.Given as goal
 
 abbrev pub invariant-loop-release : goal.invariant-loop-release
-invariant-loop-release g l = Appends (g.W.Write.contents l.fn.out) (g.W.Write.contents l.out) (lines_text (map release_line (entries_of release_key release_value (take l.release-index l.releases))))
+invariant-loop-release g l = Appends (g.W.Write.contents l.fn.out) (g.W.Write.contents l.out) (lines_text (map release_line (entries_of release_key release_value (take l.release-index l.release-items))))

@@ -1,6 +1,6 @@
 use Rattle.std.proofs.Common.{◌≡◌, ℕ, List, ◌++◌, codes, ap, sym, append_assoc}
 use Rattle.std.proofs.Output.{has_written_of_eq}
-use Rattle.schedule.specs.Text.{day_text}
+use Rattle.schedule.specs.Text.{day_text, moment_text}
 use Rattle.answer_lines.specs.Lines.{line_text}
 use Rattle.answer_lines.proofs.lines.LineDisplay.fmt.Goals as goal
 
@@ -34,3 +34,19 @@ returns-in-Released-clause-writes g c = λ plain ok.
 pub returns-in-Release-clause-writes : goal.returns-in-Release-clause-writes
 returns-in-Release-clause-writes g c = λ plain ok.
     has_written_of_eq _ _ _ _ _ (ap line_text (sym c.in-Release.is)) (has_written_of_eq _ _ _ _ _ (simp append_assoc) (c.write-in-Release.ensures.writes plain ok))
+
+pub returns-in-Held-clause-writes : goal.returns-in-Held-clause-writes
+returns-in-Held-clause-writes g c = λ plain ok.
+    has_written_of_eq _ _ _ _ _ (ap line_text (sym c.in-Held.is)) (has_written_of_eq _ _ _ _ _ (simp append_assoc) (c.write-in-Held.ensures.writes plain ok))
+
+pub returns-in-Lifted-clause-writes : goal.returns-in-Lifted-clause-writes
+returns-in-Lifted-clause-writes g c = λ plain ok.
+    has_written_of_eq _ _ _ _ _ (ap line_text (sym c.in-Lifted.is)) (has_written_of_eq _ _ _ _ _ (spaced (codes "lifted ") c.in-Lifted.reference (moment_text c.in-Lifted.at)) (c.write-in-Lifted.ensures.writes plain ok))
+
+pub returns-in-Hold-clause-writes : goal.returns-in-Hold-clause-writes
+returns-in-Hold-clause-writes g c = λ plain ok.
+    has_written_of_eq _ _ _ _ _ (ap line_text (sym c.in-Hold.is)) (has_written_of_eq _ _ _ _ _ (simp append_assoc) (c.write-in-Hold.ensures.writes plain ok))
+
+pub returns-in-LiftedHold-clause-writes : goal.returns-in-LiftedHold-clause-writes
+returns-in-LiftedHold-clause-writes g c = λ plain ok.
+    has_written_of_eq _ _ _ _ _ (ap line_text (sym c.in-LiftedHold.is)) (has_written_of_eq _ _ _ _ _ (simp append_assoc) (c.write-in-LiftedHold.ensures.writes plain ok))

@@ -5,7 +5,7 @@ use Rattle.custody_records.specs.Held.{records_of}
 use Rattle.custody_records.specs.Tables.{entries_of}
 use Rattle.custody_records.specs.Typed.{registry_key, registry_value}
 use Rattle.answer_lines.specs.State.{lines_text, registry_lines}
-use Rattle.answer_lines.proofs.state.write_state.Given as goal
+use Rattle.answer_lines.proofs.state.write_registries.Given as goal
 
 abbrev pub invariant-loop-registry : goal.invariant-loop-registry
 invariant-loop-registry g l = Appends (g.W.Write.contents l.fn.out) (g.W.Write.contents l.out)
