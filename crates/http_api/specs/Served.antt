@@ -86,6 +86,8 @@ made_status (record_of.Registry tld first_day) = status.Created
 made_status (record_of.Part name received len digest extents) = status.Created
 made_status (record_of.Notice notice) = status.Created
 made_status (record_of.Release release) = status.Created
+made_status (record_of.Hold hold) = status.Created
+made_status (record_of.Lifting reference at) = status.Created
 made_status (record_of.Purge count) = status.Done
 
 abbrev pub reply_status : Reply → Status

@@ -87,9 +87,12 @@ fn made_status(told: &Record) -> Status
     ensures { result ≡ made_status told.now }
 {
     match told {
-        Record::Registry { .. } | Record::Part { .. } | Record::Notice(_) | Record::Release(_) => {
-            Status::Created
-        }
+        Record::Registry { .. }
+        | Record::Part { .. }
+        | Record::Notice(_)
+        | Record::Release(_)
+        | Record::Hold(_)
+        | Record::Lifting { .. } => Status::Created,
         Record::Purge { .. } => Status::Done,
     }
 }

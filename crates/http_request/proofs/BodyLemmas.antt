@@ -5,8 +5,8 @@ use Rattle.std.specs.Str.{bytes_eq}
 use Rattle.std.specs.Cmp.Lexicographic.{bytes_decides}
 use Rattle.serde_json.specs.Data.{Num, unsigned, negative, float, Data, null, boolean, number, string, array, object, Members, no_members, member}
 use Rattle.serde_json.specs.Find.{as_number, as_u64, as_str, as_object}
-use Rattle.http_request.specs.Bodies.{StatementTexts, ReleaseTexts, registration_json, statement_json, release_json}
-use Rattle.http_request.specs.BodyReading.{member_at, end_of, text_at, number_at, registration_at, statement_at, release_at}
+use Rattle.http_request.specs.Bodies.{StatementTexts, ReleaseTexts, HoldTexts, registration_json, statement_json, release_json, hold_json}
+use Rattle.http_request.specs.BodyReading.{member_at, end_of, text_at, number_at, registration_at, statement_at, release_at, hold_at}
 
 chained : {A B : Type 0} (f : A → Option B) (o : Option A) (b : B) → option_and_then f o ≡ Some b → (a : A) × (o ≡ Some a) × (f a ≡ Some b)
 chained f None b e = cc
@@ -139,3 +139,25 @@ release_none d r none e = let back = release_back r in let same : release_at d �
 
 pub release_one : (d : Data) (r s : ReleaseTexts) → Some r ≡ release_at d → d ≡ release_json s → r ≡ s
 release_one d r s found is = some_same r s (found ∙ ap release_at is ∙ release_back s)
+
+pub hold_is : (d : Data) (h : HoldTexts) → hold_at d ≡ Some h → d ≡ hold_json h
+unfolding hold_at
+hold_is d h e =
+    let o = chained _ (as_object d) h e in
+    let date = chained _ (text_at (codes "date") o.0) h o.2 in
+    let tld = chained _ (text_at (codes "tld") date.0.1) h date.2 in
+    let z = chained _ (end_of tld.0.1) h tld.2 in
+    let same : record { date = date.0.0; tld = tld.0.0 } ≡ h = some_same _ _ z.2 in
+    let two = text_is (codes "tld") date.0.1 tld.0 tld.1 ∙ ap (member (codes "tld") (string tld.0.0)) (end_is tld.0.1 z.0 z.1) in
+    let one = text_is (codes "date") o.0 date.0 date.1 ∙ ap (member (codes "date") (string date.0.0)) two in
+    object_is d o.0 o.1 ∙ ap object one ∙ ap hold_json same
+
+pub hold_back : (h : HoldTexts) → hold_at (hold_json h) ≡ Some h
+unfolding hold_at
+hold_back h = refl
+
+pub hold_none : (d : Data) (h : HoldTexts) → hold_at d ≡ None → d ≡ hold_json h → ⊥
+hold_none d h none e = let back = hold_back h in let same : hold_at d ≡ hold_at (hold_json h) = ap hold_at e in cc
+
+pub hold_one : (d : Data) (h k : HoldTexts) → Some h ≡ hold_at d → d ≡ hold_json k → h ≡ k
+hold_one d h k found is = some_same h k (found ∙ ap hold_at is ∙ hold_back k)

@@ -13,7 +13,7 @@ use Rattle.matchit.specs.Level.{IsText}
 use Rattle.matchit.specs.Params.{AllText, walk}
 use Rattle.http_request.specs.declared.routes.Route.{Route}
 use Rattle.http_request.specs.declared.routes.Target as code
-use Rattle.http_request.specs.Paths.{Target, Registry, Deposit, Statements, Check, Release, ReleasedPart, Notices, Purges, Names, path_text, is_target_byte}
+use Rattle.http_request.specs.Paths.{Target, Registry, Deposit, Statements, Check, Release, ReleasedPart, Hold, Lift, Notices, Purges, Names, path_text, is_target_byte}
 use Rattle.http_request.specs.Table.{table}
 use Rattle.http_request.specs.Targets.{taken_by, seen}
 use Rattle.http_request.proofs.Targets.{entry_of, found_target, target_found}
@@ -60,6 +60,8 @@ all_text (Release reference) h = (utf8_of (codes "reference") refl, utf8_of refe
 all_text (ReleasedPart reference name) h =
     let p = small_parts reference (codes "/" ++ name) (small_parts (codes "/releases/") (reference ++ (codes "/" ++ name)) h).1 in
     (utf8_of (codes "reference") refl, utf8_of reference p.0, (utf8_of (codes "name") refl, utf8_of name (small_parts (codes "/") name p.1).1, tt))
+all_text (Hold reference) h = (utf8_of (codes "reference") refl, utf8_of reference (small_parts (codes "/holds/") reference h).1, tt)
+all_text (Lift reference) h = (utf8_of (codes "reference") refl, utf8_of reference (small_parts (codes "/lifts/") reference h).1, tt)
 all_text (Notices tld) h = (utf8_of (codes "tld") refl, utf8_of tld (small_parts (codes "/notices/") tld h).1, tt)
 all_text Purges h = tt
 

@@ -11,18 +11,18 @@ use Rattle.desk.specs.Grounds.{ground_text}
 use Rattle.custody_records.specs.Form.{ground_in}
 use Rattle.custody_records.proofs.FieldLemmas.{ground_in-ground_text}
 use Rattle.custody_machine.specs.declared.command.Statement as statement
-use Rattle.custody_machine.specs.Machine.{Register, Statement, Check, Release}
+use Rattle.custody_machine.specs.Machine.{Register, Statement, Check, Release, Hold}
 use Rattle.httparse.specs.Grammar.{RequestHead}
 use Rattle.httparse.proofs.GrammarLemmas.{request_unique}
 use Rattle.serde_json.specs.Data.{Data}
 use Rattle.http_request.specs.Asked.{Asked, IsAskedBy, IsBody, IsOneAsked, NoneBelow, Method, RequestFault, Stands, asks_for, bad, fault_number, limit_of, method_of}
 use Rattle.http_request.specs.declared.faults.RequestFault.TheVariants as fault
-use Rattle.http_request.specs.Bodies.{IsJsonOf, StatementTexts, ReleaseTexts, registration_json, statement_json, release_json}
-use Rattle.http_request.specs.BodyReading.{registration_at, statement_at, release_at}
+use Rattle.http_request.specs.Bodies.{IsJsonOf, StatementTexts, ReleaseTexts, HoldTexts, registration_json, statement_json, release_json, hold_json}
+use Rattle.http_request.specs.BodyReading.{registration_at, statement_at, release_at, hold_at}
 use Rattle.http_request.specs.Paths.{Target, Registry, Deposit, Statements, ReleasedPart, Notices, Purges, Names, is_target_byte}
 use Rattle.http_request.specs.Paths as paths
-use Rattle.http_request.specs.Wanted.{Wanted, Do, IsStatement, Means, texts_of, handover_texts}
-use Rattle.http_request.proofs.BodyLemmas.{registration_back, statement_back, release_back}
+use Rattle.http_request.specs.Wanted.{Wanted, Do, IsStatement, Means, texts_of, handover_texts, held_day_texts}
+use Rattle.http_request.proofs.BodyLemmas.{registration_back, statement_back, release_back, hold_back}
 use Rattle.http_request.proofs.Finding.{one_named}
 use Rattle.http_request.proofs.PlanLemmas.{one_length}
 
@@ -42,6 +42,9 @@ one_texts a b e = some_same a b (sym (statement_back a) ∙ ap statement_at e �
 
 one_handover : (a b : ReleaseTexts) → release_json a ≡ release_json b → a ≡ b
 one_handover a b e = some_same a b (sym (release_back a) ∙ ap release_at e ∙ release_back b)
+
+one_held_day : (a b : HoldTexts) → hold_json a ≡ hold_json b → a ≡ b
+one_held_day a b e = some_same a b (sym (hold_back a) ∙ ap hold_at e ∙ hold_back b)
 
 ground_text-injective : (a b : Ground) → ground_text a ≡ ground_text b → a ≡ b
 ground_text-injective a b e = some_same a b (sym (ground_in-ground_text a) ∙ ap ground_in e ∙ ground_in-ground_text b)
@@ -80,6 +83,12 @@ one_meaning (paths.Release reference) body v w (in_form, (tld, reason, known, js
     let same_ground = ground_text-injective reason reason2 (ap (λ (x : ReleaseTexts). x.reason) texts) in
     is ∙ ap₂ (λ (t : List ℕ) (r : Ground). Do (Release reference t r)) same_tld same_ground ∙ sym is2
 one_meaning (ReleasedPart reference name) body v w h k = h.1 ∙ sym k.1
+one_meaning (paths.Hold reference) body v w (in_form, (tld, d, known, day, json, is)) (in_form2, (tld2, e, known2, day2, json2, is2)) =
+    let texts = one_held_day (held_day_texts tld d) (held_day_texts tld2 e) (one_value body _ _ json json2) in
+    let same_tld : tld ≡ tld2 = ap (λ (x : HoldTexts). x.tld) texts in
+    let same_day = day_text-injective d e day day2 (ap (λ (x : HoldTexts). x.date) texts) in
+    is ∙ ap₂ (λ (t : List ℕ) (n : ℕ). Do (Hold reference t n)) same_tld same_day ∙ sym is2
+one_meaning (paths.Lift reference) body v w h k = h.1 ∙ sym k.1
 one_meaning (Notices tld) body v w h k = h.1 ∙ sym k.1
 one_meaning Purges body v w h k = h ∙ sym k
 

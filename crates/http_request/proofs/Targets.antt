@@ -8,7 +8,7 @@ use Rattle.matchit.specs.Router.{RouteOf}
 use Rattle.matchit.specs.Level.{IsText}
 use Rattle.http_request.specs.declared.routes.Route.{Route}
 use Rattle.http_request.specs.declared.routes.Route.TheVariants as route
-use Rattle.http_request.specs.Paths.{Target, Registry, Deposit, Statements, Check, Release, ReleasedPart, Notices, Purges, IsSegment, HasSegments, Names, path_text}
+use Rattle.http_request.specs.Paths.{Target, Registry, Deposit, Statements, Check, Release, ReleasedPart, Hold, Lift, Notices, Purges, IsSegment, HasSegments, Names, path_text}
 use Rattle.http_request.specs.Table.{row, table}
 use Rattle.http_request.proofs.Seeking.{Fits, SomeRow, TakesPart, TakesByte, seek_row}
 use Rattle.http_request.proofs.Descending.{seek_bytes, part_found, pair_found, first_found, second_found}
@@ -22,6 +22,8 @@ entry_of (Check tld date) = (row (codes "/checks/" ++ param_token ∷ codes "/" 
 entry_of (Release reference) = (row (codes "/releases/" ++ param_token ∷ []) (codes "/releases/{reference}") ((11, 20) ∷ []) route.Release).1
 entry_of (ReleasedPart reference name) =
     (row (codes "/releases/" ++ param_token ∷ codes "/" ++ param_token ∷ []) (codes "/releases/{reference}/{name}") ((11, 20) ∷ (23, 27) ∷ []) route.ReleasedPart).1
+entry_of (Hold reference) = (row (codes "/holds/" ++ param_token ∷ []) (codes "/holds/{reference}") ((8, 17) ∷ []) route.Hold).1
+entry_of (Lift reference) = (row (codes "/lifts/" ++ param_token ∷ []) (codes "/lifts/{reference}") ((8, 17) ∷ []) route.Lift).1
 entry_of (Notices tld) = (row (codes "/notices/" ++ param_token ∷ []) (codes "/notices/{tld}") ((10, 13) ∷ []) route.Notices).1
 entry_of Purges = (row (codes "/purges") (codes "/purges") [] route.Purges).1
 
@@ -72,13 +74,15 @@ found_target path text found e = by (seek_row 0 table path found text e)
     by : SomeRow (λ t k. Fits t path × (k ≡ found)) table → IsFoundAt path found
     by (inl h) = let f = fits_parts (codes "/checks/") path refl h.0 in (Check f.0 f.1, ((f.2, f.3), f.4), sym h.1)
     by (inr (inl h)) = let f = fits_part (codes "/deposits/") path refl h.0 in (Deposit f.0, (f.1, f.2), sym h.1)
-    by (inr (inr (inl h))) = let f = fits_part (codes "/notices/") path refl h.0 in (Notices f.0, (f.1, f.2), sym h.1)
-    by (inr (inr (inr (inl h)))) = (Purges, (tt, fits_none (codes "/purges") path refl h.0), sym h.1)
-    by (inr (inr (inr (inr (inl h))))) = let f = fits_part (codes "/registries/") path refl h.0 in (Registry f.0, (f.1, f.2), sym h.1)
-    by (inr (inr (inr (inr (inr (inl h)))))) = let f = fits_parts (codes "/releases/") path refl h.0 in (ReleasedPart f.0 f.1, ((f.2, f.3), f.4), sym h.1)
-    by (inr (inr (inr (inr (inr (inr (inl h))))))) = let f = fits_part (codes "/releases/") path refl h.0 in (Release f.0, (f.1, f.2), sym h.1)
-    by (inr (inr (inr (inr (inr (inr (inr (inl h)))))))) = (Statements, (tt, fits_none (codes "/statements") path refl h.0), sym h.1)
-    by (inr (inr (inr (inr (inr (inr (inr (inr h)))))))) = absurd h
+    by (inr (inr (inl h))) = let f = fits_part (codes "/holds/") path refl h.0 in (Hold f.0, (f.1, f.2), sym h.1)
+    by (inr (inr (inr (inl h)))) = let f = fits_part (codes "/lifts/") path refl h.0 in (Lift f.0, (f.1, f.2), sym h.1)
+    by (inr (inr (inr (inr (inl h))))) = let f = fits_part (codes "/notices/") path refl h.0 in (Notices f.0, (f.1, f.2), sym h.1)
+    by (inr (inr (inr (inr (inr (inl h)))))) = (Purges, (tt, fits_none (codes "/purges") path refl h.0), sym h.1)
+    by (inr (inr (inr (inr (inr (inr (inl h))))))) = let f = fits_part (codes "/registries/") path refl h.0 in (Registry f.0, (f.1, f.2), sym h.1)
+    by (inr (inr (inr (inr (inr (inr (inr (inl h)))))))) = let f = fits_parts (codes "/releases/") path refl h.0 in (ReleasedPart f.0 f.1, ((f.2, f.3), f.4), sym h.1)
+    by (inr (inr (inr (inr (inr (inr (inr (inr (inl h))))))))) = let f = fits_part (codes "/releases/") path refl h.0 in (Release f.0, (f.1, f.2), sym h.1)
+    by (inr (inr (inr (inr (inr (inr (inr (inr (inr (inl h)))))))))) = (Statements, (tt, fits_none (codes "/statements") path refl h.0), sym h.1)
+    by (inr (inr (inr (inr (inr (inr (inr (inr (inr (inr h)))))))))) = absurd h
 
 -- ---- what has its form is found
 
@@ -101,5 +105,7 @@ target_found (ReleasedPart reference name) s text =
     let t = (IsText-append (codes "/releases/") (reference ++ (codes "/" ++ name)) text).1 in
     let u = IsText-append reference (codes "/" ++ name) t in
     seek_bytes (codes "/releases/") (reference ++ (codes "/" ++ name)) table refl ∙ first_found _ _ reference name s.0 u.0 s.1 u.1.1
+target_found (Hold reference) s text = seek_bytes (codes "/holds/") reference table refl ∙ part_found _ reference s (IsText-append (codes "/holds/") reference text).1
+target_found (Lift reference) s text = seek_bytes (codes "/lifts/") reference table refl ∙ part_found _ reference s (IsText-append (codes "/lifts/") reference text).1
 target_found (Notices tld) s text = seek_bytes (codes "/notices/") tld table refl ∙ part_found _ tld s (IsText-append (codes "/notices/") tld text).1
 target_found Purges s text = seek_bytes (codes "/purges") [] table refl

@@ -6,7 +6,7 @@ use Rattle.std.proofs.lemmas.List.{drop_at, take_at, get_or_at}
 use Rattle.matchit.specs.Rows.{param_token}
 use Rattle.matchit.specs.Seek.{has_slash, slash}
 use Rattle.matchit.specs.Params.{wild_from, wild_stop, part_of, after_token, walk}
-use Rattle.http_request.specs.Paths.{Target, Registry, Deposit, Statements, Check, Release, ReleasedPart, Notices, Purges, HasSegments, path_text}
+use Rattle.http_request.specs.Paths.{Target, Registry, Deposit, Statements, Check, Release, ReleasedPart, Hold, Lift, Notices, Purges, HasSegments, path_text}
 use Rattle.http_request.specs.Targets.{taken_by}
 use Rattle.http_request.proofs.Descending.{segment_to, plain_segment}
 use Rattle.http_request.proofs.Targets.{entry_of}
@@ -113,6 +113,8 @@ taken_of Statements = []
 taken_of (Check tld date) = (codes "tld", tld) ∷ (codes "date", date) ∷ []
 taken_of (Release reference) = (codes "reference", reference) ∷ []
 taken_of (ReleasedPart reference name) = (codes "reference", reference) ∷ (codes "name", name) ∷ []
+taken_of (Hold reference) = (codes "reference", reference) ∷ []
+taken_of (Lift reference) = (codes "reference", reference) ∷ []
 taken_of (Notices tld) = (codes "tld", tld) ∷ []
 taken_of Purges = []
 
@@ -124,6 +126,8 @@ walked (Check tld date) s = two_walked (codes "/checks/") (codes "/checks/{tld}/
 walked (Release reference) s = one_walked (codes "/releases/") (codes "/releases/{reference}") reference (11, 20) refl
 walked (ReleasedPart reference name) s =
     two_walked (codes "/releases/") (codes "/releases/{reference}/{name}") reference name (11, 20) (23, 27) refl (omega arith) (plain_segment reference s.0)
+walked (Hold reference) s = one_walked (codes "/holds/") (codes "/holds/{reference}") reference (8, 17) refl
+walked (Lift reference) s = one_walked (codes "/lifts/") (codes "/lifts/{reference}") reference (8, 17) refl
 walked (Notices tld) s = one_walked (codes "/notices/") (codes "/notices/{tld}") tld (10, 13) refl
 walked Purges s = refl
 
@@ -134,5 +138,7 @@ taken_back Statements = refl
 taken_back (Check tld date) = refl
 taken_back (Release reference) = refl
 taken_back (ReleasedPart reference name) = refl
+taken_back (Hold reference) = refl
+taken_back (Lift reference) = refl
 taken_back (Notices tld) = refl
 taken_back Purges = refl

@@ -8,7 +8,7 @@ use Rattle.std.specs.Str.Parse.{digits_value}
 use Rattle.httparse.specs.Grammar.{RequestHead, ReadsRequest}
 use Rattle.httparse.specs.Spans.{name_and_value}
 use Rattle.http_request.specs.Head.{IsShort, HasNoShortHead}
-use Rattle.http_request.specs.Paths.{Target, Registry, Deposit, Statements, Check, Release, ReleasedPart, Notices, Purges, Names, is_target_byte}
+use Rattle.http_request.specs.Paths.{Target, Registry, Deposit, Statements, Check, Release, ReleasedPart, Hold, Lift, Notices, Purges, Names, is_target_byte}
 use Rattle.http_request.specs.Wanted.{Wanted, Means}
 pub use Rattle.http_request.specs.declared.faults.Method.{Method}
 pub use Rattle.http_request.specs.declared.faults.Method.TheVariants.{Get, Post, Put}
@@ -29,6 +29,8 @@ method_of Statements = Post
 method_of (Check tld date) = Post
 method_of (Release reference) = Put
 method_of (ReleasedPart reference name) = Get
+method_of (Hold reference) = Put
+method_of (Lift reference) = Post
 method_of (Notices tld) = Get
 method_of Purges = Post
 
@@ -40,6 +42,8 @@ limit_of Statements = Some 4096
 limit_of (Check tld date) = Some 0
 limit_of (Release reference) = Some 4096
 limit_of (ReleasedPart reference name) = None
+limit_of (Hold reference) = Some 4096
+limit_of (Lift reference) = Some 0
 limit_of (Notices tld) = None
 limit_of Purges = Some 0
 

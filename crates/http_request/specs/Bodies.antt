@@ -21,6 +21,11 @@ pub record ReleaseTexts : Type 0 where
   pub reason : List ℕ
   pub tld : List ℕ
 
+-- the texts of a hold
+pub record HoldTexts : Type 0 where
+  pub date : List ℕ
+  pub tld : List ℕ
+
 -- `{"first":..}`
 abbrev pub registration_json : List ℕ → Data
 registration_json first = object (member (codes "first") (string first) no_members)
@@ -34,3 +39,7 @@ statement_json s =
 -- `{"ground":..,"tld":..}`
 abbrev pub release_json : ReleaseTexts → Data
 release_json r = object (member (codes "ground") (string r.reason) (member (codes "tld") (string r.tld) no_members))
+
+-- `{"date":..,"tld":..}`
+abbrev pub hold_json : HoldTexts → Data
+hold_json h = object (member (codes "date") (string h.date) (member (codes "tld") (string h.tld) no_members))

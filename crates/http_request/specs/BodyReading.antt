@@ -2,7 +2,7 @@
 use Rattle.std.specs.Prelude.{ℕ, List, codes, Option, Some, None, option_and_then, if◌then◌else◌}
 use Rattle.std.specs.Str.{bytes_eq}
 use Rattle.serde_json.specs.Data.{Data, Members, no_members, member}
-use Rattle.http_request.specs.Bodies.{StatementTexts, ReleaseTexts}
+use Rattle.http_request.specs.Bodies.{StatementTexts, ReleaseTexts, HoldTexts}
 use Rattle.serde_json.specs.Find.{as_number, as_u64, as_str, as_object}
 
 infixl 10 ◌>>=◌
@@ -59,3 +59,11 @@ release_at d = do
   tld ← text_at (codes "tld") reason.1
   _ ← end_of tld.1
   Some (record { reason = reason.0; tld = tld.0 })
+
+unfoldable pub hold_at : Data → Option HoldTexts
+hold_at d = do
+  ms ← as_object d
+  date ← text_at (codes "date") ms
+  tld ← text_at (codes "tld") date.1
+  _ ← end_of tld.1
+  Some (record { date = date.0; tld = tld.0 })

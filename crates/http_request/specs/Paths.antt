@@ -10,6 +10,8 @@ pub data Target : Type 0 where
   Check : (tld date : List ℕ) → Target
   Release : (reference : List ℕ) → Target
   ReleasedPart : (reference name : List ℕ) → Target
+  Hold : (reference : List ℕ) → Target
+  Lift : (reference : List ℕ) → Target
   Notices : (tld : List ℕ) → Target
   Purges : Target
 
@@ -20,6 +22,8 @@ path_text Statements = codes "/statements"
 path_text (Check tld date) = codes "/checks/" ++ (tld ++ (codes "/" ++ date))
 path_text (Release reference) = codes "/releases/" ++ reference
 path_text (ReleasedPart reference name) = codes "/releases/" ++ (reference ++ (codes "/" ++ name))
+path_text (Hold reference) = codes "/holds/" ++ reference
+path_text (Lift reference) = codes "/lifts/" ++ reference
 path_text (Notices tld) = codes "/notices/" ++ tld
 path_text Purges = codes "/purges"
 
@@ -35,6 +39,8 @@ HasSegments Statements = Unit {0}
 HasSegments (Check tld date) = IsSegment tld × IsSegment date
 HasSegments (Release reference) = IsSegment reference
 HasSegments (ReleasedPart reference name) = IsSegment reference × IsSegment name
+HasSegments (Hold reference) = IsSegment reference
+HasSegments (Lift reference) = IsSegment reference
 HasSegments (Notices tld) = IsSegment tld
 HasSegments Purges = Unit {0}
 

@@ -5,7 +5,7 @@ use mathlib.Core.Path.{refl}
 use Rattle.matchit.specs.Rows.{RowsOf, param_token}
 use Rattle.matchit.specs.Router.{RouteOf}
 use Rattle.http_request.specs.declared.routes.Route.{Route}
-use Rattle.http_request.specs.declared.routes.Route.TheVariants.{Registry, Deposit, Statements, Check, Release, ReleasedPart, Notices, Purges}
+use Rattle.http_request.specs.declared.routes.Route.TheVariants.{Registry, Deposit, Statements, Check, Release, ReleasedPart, Hold, Lift, Notices, Purges}
 
 abbrev pub row : List ℕ → List ℕ → List (ℕ × ℕ) → Route → List ℕ × RouteOf Route
 row pattern text names route = (pattern, record { pattern = pattern; text = text; names = names; value = route })
@@ -15,6 +15,8 @@ abbrev pub table : RowsOf (RouteOf Route)
 table =
     row (codes "/checks/" ++ param_token ∷ codes "/" ++ param_token ∷ []) (codes "/checks/{tld}/{date}") ((9, 12) ∷ (15, 19) ∷ []) Check
     ∷ row (codes "/deposits/" ++ param_token ∷ []) (codes "/deposits/{name}") ((11, 15) ∷ []) Deposit
+    ∷ row (codes "/holds/" ++ param_token ∷ []) (codes "/holds/{reference}") ((8, 17) ∷ []) Hold
+    ∷ row (codes "/lifts/" ++ param_token ∷ []) (codes "/lifts/{reference}") ((8, 17) ∷ []) Lift
     ∷ row (codes "/notices/" ++ param_token ∷ []) (codes "/notices/{tld}") ((10, 13) ∷ []) Notices
     ∷ row (codes "/purges") (codes "/purges") [] Purges
     ∷ row (codes "/registries/" ++ param_token ∷ []) (codes "/registries/{tld}") ((13, 16) ∷ []) Registry
@@ -34,6 +36,8 @@ place_of Notices = 4
 place_of Purges = 5
 place_of Release = 6
 place_of ReleasedPart = 7
+place_of Hold = 8
+place_of Lift = 9
 
 route_at : ℕ → Route
 route_at zero = Registry
@@ -43,7 +47,9 @@ route_at (suc (suc (suc zero))) = Check
 route_at (suc (suc (suc (suc zero)))) = Notices
 route_at (suc (suc (suc (suc (suc zero))))) = Purges
 route_at (suc (suc (suc (suc (suc (suc zero)))))) = Release
-route_at (suc (suc (suc (suc (suc (suc (suc n))))))) = ReleasedPart
+route_at (suc (suc (suc (suc (suc (suc (suc zero))))))) = ReleasedPart
+route_at (suc (suc (suc (suc (suc (suc (suc (suc zero)))))))) = Hold
+route_at (suc (suc (suc (suc (suc (suc (suc (suc (suc n))))))))) = Lift
 
 place_kept : (route : Route) → route_at (place_of route) ≡ route
 unfolding place_of route_at
@@ -55,6 +61,8 @@ place_kept Notices = refl
 place_kept Purges = refl
 place_kept Release = refl
 place_kept ReleasedPart = refl
+place_kept Hold = refl
+place_kept Lift = refl
 
 coded_route : Coded Route
 coded_route = code_by ℕ coded_ℕ place_of route_at place_kept

@@ -8,8 +8,8 @@ use Rattle.deposit_name.specs.Name.{kind_text}
 use Rattle.desk.specs.declared.grounds.Ground.{Ground}
 use Rattle.desk.specs.Grounds.{ground_text}
 use Rattle.custody_machine.specs.declared.command.Statement as statement
-use Rattle.custody_machine.specs.Machine.{Command, Register, Receive, Statement, Check, Release, Purge}
-use Rattle.http_request.specs.Bodies.{StatementTexts, ReleaseTexts, IsJsonOf, registration_json, statement_json, release_json}
+use Rattle.custody_machine.specs.Machine.{Command, Register, Receive, Statement, Check, Release, Hold, Lift, Purge}
+use Rattle.http_request.specs.Bodies.{StatementTexts, ReleaseTexts, HoldTexts, IsJsonOf, registration_json, statement_json, release_json, hold_json}
 use Rattle.http_request.specs.Paths as paths
 
 pub data Wanted : Type 0 where
@@ -35,6 +35,9 @@ texts_of s = record { date = day_text s.day; id = s.id; kind = kind_text s.kind;
 abbrev pub handover_texts : List ℕ → Ground → ReleaseTexts
 handover_texts tld reason = record { reason = ground_text reason; tld = tld }
 
+abbrev pub held_day_texts : List ℕ → ℕ → HoldTexts
+held_day_texts tld day = record { date = day_text day; tld = tld }
+
 -- what a target and a body stand for: the parameters and the body are those of the command or reading, all in form
 abbrev pub Means : paths.Target → List ℕ → Wanted → Type 0
 Means (paths.Registry tld) body wanted = IsTld tld × ((first_day : ℕ) × IsDay first_day × IsJsonOf body (registration_json (day_text first_day)) × (wanted ≡ Do (Register tld first_day)))
@@ -44,5 +47,8 @@ Means (paths.Check tld date) body wanted = IsTld tld × ((day : ℕ) × IsDay da
 Means (paths.Release reference) body wanted =
     IsReference reference × ((tld : List ℕ) × (reason : Ground) × IsTld tld × IsJsonOf body (release_json (handover_texts tld reason)) × (wanted ≡ Do (Release reference tld reason)))
 Means (paths.ReleasedPart reference name) body wanted = IsReference reference × (wanted ≡ Fetch reference name)
+Means (paths.Hold reference) body wanted =
+    IsReference reference × ((tld : List ℕ) × (day : ℕ) × IsTld tld × IsDay day × IsJsonOf body (hold_json (held_day_texts tld day)) × (wanted ≡ Do (Hold reference tld day)))
+Means (paths.Lift reference) body wanted = IsReference reference × (wanted ≡ Do (Lift reference))
 Means (paths.Notices tld) body wanted = IsTld tld × (wanted ≡ Report tld)
 Means paths.Purges body wanted = wanted ≡ Do Purge

@@ -3,8 +3,8 @@ ghost use Rattle.std.specs.Prelude.{◌≡◌, ◌≤◌, ℕ, Some, IfSome, opt
 ghost use Rattle.serde_json.specs.Data.{Data};
 ghost use Rattle.serde_json.specs.View as json;
 ghost use Rattle.serde_json.specs.View.{members_view};
-ghost use Rattle.http_request.specs.BodyReading.{member_at, end_of, text_at, number_at, registration_at, statement_at, release_at};
-ghost use Rattle.http_request.specs.BodyTexts.{statement_texts, release_texts};
+ghost use Rattle.http_request.specs.BodyReading.{member_at, end_of, text_at, number_at, registration_at, statement_at, release_at, hold_at};
+ghost use Rattle.http_request.specs.BodyTexts.{statement_texts, release_texts, hold_texts};
 
 use serde_json::Value;
 use std::collections::btree_map::Iter;
@@ -24,6 +24,13 @@ pub(crate) struct StatementFields<'v> {
 #[derive(Clone, Copy, Debug)]
 pub(crate) struct ReleaseFields<'v> {
     pub(crate) reason: &'v str,
+    pub(crate) tld: &'v str,
+}
+
+/// The texts of a hold.
+#[derive(Clone, Copy, Debug)]
+pub(crate) struct HoldFields<'v> {
+    pub(crate) date: &'v str,
     pub(crate) tld: &'v str,
 }
 
@@ -107,4 +114,16 @@ pub(crate) fn release_fields(value: &Value) -> Option<ReleaseFields<'_>>
     let tld = next_text(&mut members, "tld")?;
     end(&mut members)?;
     Some(ReleaseFields { reason, tld })
+}
+
+/// The texts of a hold.
+#[tactic(auto, unfolding(crate::specs::BodyReading::hold_at))]
+pub(crate) fn hold_fields(value: &Value) -> Option<HoldFields<'_>>
+    ensures { option_map hold_texts result ≡ hold_at (json.view value.now) }
+{
+    let mut members = value.as_object()?.iter();
+    let date = next_text(&mut members, "date")?;
+    let tld = next_text(&mut members, "tld")?;
+    end(&mut members)?;
+    Some(HoldFields { date, tld })
 }

@@ -2,19 +2,20 @@
 ghost use Rattle.std.specs.Prelude.{◌≡◌, ◌≤◌, ℕ, List, Err, Some, IfOk, IfSome};
 ghost use Rattle.schedule.specs.Schedule.{IsDay};
 ghost use Rattle.schedule.specs.Text.{day_text};
-ghost use Rattle.deposit_name.specs.Identifiers.{IsTld};
+ghost use Rattle.deposit_name.specs.Identifiers.{IsReference, IsTld};
 ghost use Rattle.custody_machine.specs.declared.command.Statement as statement;
 ghost use Rattle.serde_json.specs.Data.{Data};
 ghost use Rattle.serde_json.specs.View as json;
-ghost use Rattle.http_request.specs.Bodies.{IsJsonOf, registration_json, statement_json, release_json};
-ghost use Rattle.http_request.specs.BodyTexts.{statement_texts, release_texts};
-ghost use Rattle.http_request.specs.Wanted.{Means, IsStatement, texts_of, handover_texts};
+ghost use Rattle.http_request.specs.Bodies.{IsJsonOf, registration_json, statement_json, release_json, hold_json};
+ghost use Rattle.http_request.specs.BodyTexts.{statement_texts, release_texts, hold_texts};
+ghost use Rattle.http_request.specs.Wanted.{Means, IsStatement, texts_of, handover_texts, held_day_texts};
 ghost use Rattle.http_request.specs.Wanted as asked;
 ghost use Rattle.http_request.specs.WantedSeen.{wanted_of};
 ghost use Rattle.http_request.specs.Targets.{seen};
 
 use crate::bodies::{
-    ReleaseFields, StatementFields, registration_text, release_fields, statement_fields,
+    HoldFields, ReleaseFields, StatementFields, hold_fields, registration_text, release_fields,
+    statement_fields,
 };
 use crate::{Target, Wanted};
 use custody_machine::{Command, Statement};
@@ -31,6 +32,22 @@ pub enum BodyFault {
     Form,
     /// Memory was refused.
     NoMemory,
+}
+
+/// The registry that a path names.
+fn tld_of(text: &[u8]) -> Result<Tld, BodyFault>
+    ensures found { IfOk result (λ tld. (tld ≡ text.now) × IsTld tld) }
+    ensures form { result ≡ Err BodyFault.Form → ¬ IsTld text.now }
+{
+    Tld::parse(text).ok_or(BodyFault::Form)
+}
+
+/// The reference that a path names.
+fn reference_of(text: &[u8]) -> Result<Reference, BodyFault>
+    ensures found { IfOk result (λ reference. (reference ≡ text.now) × IsReference reference) }
+    ensures form { result ≡ Err BodyFault.Form → ¬ IsReference text.now }
+{
+    Reference::parse(text).ok_or(BodyFault::Form)
 }
 
 /// The JSON value of a body.
@@ -147,6 +164,37 @@ fn handover_of(alloc: Global, body: &[u8]) -> Result<(Tld, Ground), BodyFault>
     handover_at(&value).ok_or(BodyFault::Form)
 }
 
+/// The registry of a hold, and its day, of which these are the texts.
+fn held_day_in(fields: &HoldFields<'_>) -> Option<(Tld, Day)>
+    ensures found { IfSome result (λ h. IsTld h.0 × IsDay h.1 × (hold_texts fields.now ≡ held_day_texts h.0 h.1)) }
+    ensures only { (tld : List ℕ) (day : ℕ) → IsTld tld → IsDay day
+        → hold_texts fields.now ≡ held_day_texts tld day → result ≡ Some (tld, day) }
+{
+    let day = read_day(fields.date.as_bytes())?;
+    let tld = Tld::parse(fields.tld.as_bytes())?;
+    Some((tld, day))
+}
+
+/// Of which registry a day is to be held, and which day.
+#[tactic(auto, using(crate::proofs::BodyLemmas::hold_is))]
+fn held_day_at(value: &Value) -> Option<(Tld, Day)>
+    ensures found { IfSome result (λ h.
+        IsTld h.0 × IsDay h.1 × (json.view value.now ≡ hold_json (held_day_texts h.0 h.1))) }
+    ensures only { (tld : List ℕ) (day : ℕ) → IsTld tld → IsDay day
+        → json.view value.now ≡ hold_json (held_day_texts tld day) → result ≡ Some (tld, day) }
+{
+    held_day_in(&hold_fields(value)?)
+}
+
+fn held_day_of(alloc: Global, body: &[u8]) -> Result<(Tld, Day), BodyFault>
+    ensures found { IfOk result (λ h. IsTld h.0 × IsDay h.1 × IsJsonOf body.now (hold_json (held_day_texts h.0 h.1))) }
+    ensures form { result ≡ Err BodyFault.Form → (tld : List ℕ) (day : ℕ) → IsTld tld → IsDay day
+        → ¬ IsJsonOf body.now (hold_json (held_day_texts tld day)) }
+{
+    let value = value_of(alloc, body)?;
+    held_day_at(&value).ok_or(BodyFault::Form)
+}
+
 /// What a target and a body stand for.
 pub fn meaning_of<'a>(
     alloc: Global,
@@ -158,29 +206,29 @@ pub fn meaning_of<'a>(
 {
     match target {
         Target::Registry(text) => {
-            let tld = Tld::parse(text).ok_or(BodyFault::Form)?;
+            let tld = tld_of(text)?;
             Ok(Wanted::Do(Command::Register(tld, first_day_of(alloc, body)?)))
         }
         Target::Deposit(name) => Ok(Wanted::Do(Command::Receive(name, body))),
         Target::Statements => Ok(Wanted::Do(Command::Statement(statement_of(alloc, body)?))),
         Target::Check(text, date) => {
-            let tld = Tld::parse(text).ok_or(BodyFault::Form)?;
+            let tld = tld_of(text)?;
             let day = read_day(date).ok_or(BodyFault::Form)?;
             Ok(Wanted::Do(Command::Check(tld, day)))
         }
         Target::Release(text) => {
-            let reference = Reference::parse(text).ok_or(BodyFault::Form)?;
+            let reference = reference_of(text)?;
             let (tld, reason) = handover_of(alloc, body)?;
             Ok(Wanted::Do(Command::Release(reference, tld, reason)))
         }
-        Target::ReleasedPart(text, name) => {
-            let reference = Reference::parse(text).ok_or(BodyFault::Form)?;
-            Ok(Wanted::Fetch(reference, name))
+        Target::ReleasedPart(text, name) => Ok(Wanted::Fetch(reference_of(text)?, name)),
+        Target::Hold(text) => {
+            let reference = reference_of(text)?;
+            let (tld, day) = held_day_of(alloc, body)?;
+            Ok(Wanted::Do(Command::Hold(reference, tld, day)))
         }
-        Target::Notices(text) => {
-            let tld = Tld::parse(text).ok_or(BodyFault::Form)?;
-            Ok(Wanted::Report(tld))
-        }
+        Target::Lift(text) => Ok(Wanted::Do(Command::Lift(reference_of(text)?))),
+        Target::Notices(text) => Ok(Wanted::Report(tld_of(text)?)),
         Target::Purges => Ok(Wanted::Do(Command::Purge)),
     }
 }

@@ -20,6 +20,8 @@ pub enum Route {
     Check,
     Release,
     ReleasedPart,
+    Hold,
+    Lift,
     Notices,
     Purges,
 }
@@ -33,6 +35,8 @@ pub enum Target<'p> {
     Check(&'p [u8], &'p [u8]),
     Release(&'p [u8]),
     ReleasedPart(&'p [u8], &'p [u8]),
+    Hold(&'p [u8]),
+    Lift(&'p [u8]),
     Notices(&'p [u8]),
     Purges,
 }
@@ -47,8 +51,12 @@ impl<'p> Target<'p> {
         ensures { result ≡ method_of (seen self.now) }
     {
         match self {
-            Target::Registry(_) | Target::Deposit(_) | Target::Release(_) => Method::Put,
-            Target::Statements | Target::Check(_, _) | Target::Purges => Method::Post,
+            Target::Registry(_) | Target::Deposit(_) | Target::Release(_) | Target::Hold(_) => {
+                Method::Put
+            }
+            Target::Statements | Target::Check(_, _) | Target::Lift(_) | Target::Purges => {
+                Method::Post
+            }
             Target::ReleasedPart(_, _) | Target::Notices(_) => Method::Get,
         }
     }
@@ -58,9 +66,11 @@ impl<'p> Target<'p> {
         ensures { result ≡ limit_of (seen self.now) }
     {
         match self {
-            Target::Registry(_) | Target::Statements | Target::Release(_) => Some(4096),
+            Target::Registry(_) | Target::Statements | Target::Release(_) | Target::Hold(_) => {
+                Some(4096)
+            }
             Target::Deposit(_) => Some(1_048_576),
-            Target::Check(_, _) | Target::Purges => Some(0),
+            Target::Check(_, _) | Target::Lift(_) | Target::Purges => Some(0),
             Target::ReleasedPart(_, _) | Target::Notices(_) => None,
         }
     }
@@ -84,6 +94,8 @@ fn route_table(alloc: Global) -> Result<Router<Route>, InsertError>
     router.insert("/checks/{tld}/{date}", Route::Check)?;
     router.insert("/releases/{reference}", Route::Release)?;
     router.insert("/releases/{reference}/{name}", Route::ReleasedPart)?;
+    router.insert("/holds/{reference}", Route::Hold)?;
+    router.insert("/lifts/{reference}", Route::Lift)?;
     router.insert("/notices/{tld}", Route::Notices)?;
     router.insert("/purges", Route::Purges)?;
     Ok(router)
@@ -109,6 +121,8 @@ fn target_of<'p>(route: Route, params: &Params<'_, 'p>) -> Option<Target<'p>>
             let name = params.get("name")?;
             Some(Target::ReleasedPart(reference.as_bytes(), name.as_bytes()))
         }
+        Route::Hold => Some(Target::Hold(params.get("reference")?.as_bytes())),
+        Route::Lift => Some(Target::Lift(params.get("reference")?.as_bytes())),
         Route::Notices => Some(Target::Notices(params.get("tld")?.as_bytes())),
         Route::Purges => Some(Target::Purges),
     }

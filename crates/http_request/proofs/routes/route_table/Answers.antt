@@ -12,4 +12,6 @@ returns c =
     let six = c.in_ok-insert-6.ensures in
     let seven = c.in_ok-insert-7.ensures in
     let eight = c.in_ok-insert-8.ensures in
-    record { table = rw (eight.1, seven.1, six.1, five.1, four.1, three.1, two.1, one.1, c.new-router.ensures) }
+    let nine = c.in_ok-insert-9.ensures in
+    let ten = c.in_ok-insert-10.ensures in
+    record { table = rw (ten.1, nine.1, eight.1, seven.1, six.1, five.1, four.1, three.1, two.1, one.1, c.new-router.ensures) }
