@@ -107,6 +107,7 @@ impl Plain {
                 && are_parts(records, &self.state.parts)
                 && records.notices() == self.state.notices.rows()
                 && are_releases(records, &self.state.releases)
+                && records.holds() == self.state.holds.rows()
     }
 }
 
@@ -123,6 +124,13 @@ pub fn command_of<'a>(order: &Order<'a>, file: &'a [u8]) -> Option<Command<'a>> 
             reason,
             ..
         } => Some(Command::Release(*reference, *tld, *reason)),
+        Order::Hold {
+            reference,
+            tld,
+            day,
+            ..
+        } => Some(Command::Hold(*reference, *tld, *day)),
+        Order::Lift { reference, .. } => Some(Command::Lift(*reference)),
         _ => None,
     }
 }
@@ -162,6 +170,25 @@ fn line_of(answer: &PlainAnswer) -> Option<Line> {
                 at,
                 count,
             })
+        }
+        PlainAnswer::Held {
+            reference,
+            tld,
+            day,
+            at,
+            ..
+        } => {
+            let (reference, tld, day, at) = (*reference, *tld, *day, *at);
+            Some(Line::Held {
+                reference,
+                tld,
+                day,
+                at,
+            })
+        }
+        PlainAnswer::Lifted { reference, at, .. } => {
+            let (reference, at) = (*reference, *at);
+            Some(Line::Lifted { reference, at })
         }
         PlainAnswer::Purged { count } => Some(Line::Purged { count: *count }),
     }

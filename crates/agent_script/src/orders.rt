@@ -101,14 +101,7 @@ pub fn words_in(alloc: Global, text: &str) -> Result<Vec<String>, AllocError> {
 
 /// The moment that the words name, if they name one, and else the first of all.
 pub fn moment_of(order: &Order<'_>) -> Option<Sec> {
-    match order {
-        Order::Put { now, .. }
-        | Order::Verify { now, .. }
-        | Order::Sweep { now, .. }
-        | Order::Purge { now, .. }
-        | Order::Release { now, .. } => now.or(Sec::new(0)),
-        _ => Sec::new(0),
-    }
+    order.named_moment().or(Sec::new(0))
 }
 
 fn carry_out<'a, S: Alter + Drop>(

@@ -130,6 +130,8 @@ fn carry_out(rt: &HostRuntime, order: &Order<'_>) -> Result<u8, ProgramError> {
         | Order::Verify { folder, .. }
         | Order::Sweep { folder, .. }
         | Order::Purge { folder, .. }
+        | Order::Hold { folder, .. }
+        | Order::Lift { folder, .. }
         | Order::Release { folder, .. }
         | Order::Fetch { folder, .. }
         | Order::Report { folder, .. }
