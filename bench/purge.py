@@ -1,5 +1,6 @@
 #!/usr/bin/env python3
-"""Times the purge of `escrow`, of half the parts of a vault, and counts its instructions, with those of opening the same vault beside it.
+"""Times the purge of `escrow`, of half the parts of a vault, and counts its instructions, with those of opening the same vault beside it;
+and of vaults with more and more holds, none of them of a day of these parts.
 
 It needs valgrind. Run `rt run` in crates/escrow first. Then: python3 bench/purge.py [PROGRAM]
 """
@@ -17,6 +18,7 @@ EARLY = datetime.date(2100, 1, 1)
 LATE = datetime.date(2400, 1, 1)
 NOW = datetime.date(2300, 1, 1)
 SIZES = (50_000, 100_000, 200_000)
+HOLDS = (0, 10, 100, 1_000)
 RUNS = 5
 SHA = hashlib.sha256(bytes(5)).digest()
 
@@ -37,6 +39,18 @@ def new_vault(escrow, folder, count):
     db.executemany(f"INSERT INTO part VALUES ({','.join('?' * 10)})", (row(i) for i in range(count)))
     db.commit()
     db.close()
+
+
+def with_holds(folder, count):
+    """A copy of the vault with so many holds of days behind all parts."""
+    copy = folder.with_name(f"h{count}")
+    shutil.copytree(folder, copy)
+    db = sqlite3.connect(copy / "custody.db")
+    held = ((f"H-{i}", "example", number(LATE) + i, number(LATE) * 86400, None) for i in range(count))
+    db.executemany("INSERT INTO hold VALUES (?, ?, ?, ?, ?)", held)
+    db.commit()
+    db.close()
+    return copy
 
 
 def purged(measure, escrow, folder, count):
@@ -64,6 +78,19 @@ def main():
             first = first or (time, whole, whole - opening)
             multiples = [now / then for now, then in zip((time, whole, whole - opening), first)]
             print(f"| {count:,} | {multiples[0]:.1f} | {multiples[1]:.2f} | {opening / whole:.0%} | {multiples[2]:.2f} |", flush=True)
+        show_holds(escrow, pathlib.Path(name).resolve() / f"v{SIZES[0]}", SIZES[0])
+
+
+def show_holds(escrow, folder, count):
+    """What a purge of the vault takes with more and more holds."""
+    print(f"\n| holds, beside {count:,} parts | time, as a multiple of that of the first row |")
+    print("|---|---|")
+    first = None
+    for holds in HOLDS:
+        held = with_holds(folder, holds)
+        time = min(purged(seconds, escrow, held, count) for _ in range(RUNS))
+        first = first or time
+        print(f"| {holds:,} | {time / first:.1f} |", flush=True)
 
 
 if __name__ == "__main__":

@@ -1,7 +1,7 @@
 #!/usr/bin/env python3
 """Lets each system call of the built program on the files of a vault fail, and kills the program at each, by strace.
 
-    tests/faults.py [PROGRAM] [--only COMMAND] [--lanes N]
+    tests/faults.py [PROGRAM] [--only COMMAND ..] [--lanes N]
 
 For each command of the life of a deposit, over a copy of the vault as it stands then: each of its calls on `vault.vol`,
 `custody.db` and the log `custody.db-wal` in turn fails with EIO, with ENOSPC and with EINTR, and the program is killed
@@ -12,6 +12,8 @@ as it makes it. Then:
   printed.
 - The same command again prints its record (a purge or a sweep that was done says what it does then), and the state is
   that after it.
+- The database is one of schema 1 without a table of holds, or one of schema 2 with it. (Before the last command it is
+  made one of schema 1, as a program of before there were holds leaves it.)
 
 The calls are those that strace shows of a run without a fault. PROGRAM is crates/escrow/out/escrow where it is not
 named. Where strace may not be used, a line says so, and nothing is tried.
@@ -24,6 +26,7 @@ import pathlib
 import re
 import shutil
 import signal
+import sqlite3
 import subprocess
 import sys
 import tempfile
@@ -31,7 +34,7 @@ import tempfile
 TOP = pathlib.Path(__file__).resolve().parent.parent
 FILES = ("vault.vol", "custody.db", "custody.db-wal")
 FAULTS = ("error=EIO", "error=ENOSPC", "error=EINTR", "signal=KILL")
-FULL, DIFF = "example_2026-08-02_full_S1_R0.ryde", "example_2026-08-03_diff_S1_R0.ryde"
+FULL, DIFF, LATE = (f"example_2026-08-0{part}_S1_R0.ryde" for part in ("2_full", "3_diff", "4_diff"))
 
 # The commands, in their order, and what one that was done prints when it comes again, where that is something else.
 LIFE = (
@@ -43,8 +46,11 @@ LIFE = (
     ("release", "release d R-1 example operator --now 2026-08-04T12:00:00Z", None),
     ("fetch", f"fetch d R-1 {FULL}", None),
     ("audit", "audit d", None),
+    ("hold", "hold d H-1 example --date 2026-08-02 --now 2026-08-04T13:00:00Z", None),
+    ("lift", "lift d H-1 --now 2026-08-04T14:00:00Z", None),
     ("purge", "purge d --now 2027-08-03T00:00:00Z", "dropped 0\n"),
     ("put again", f"put d in/{DIFF} --now 2027-08-03T01:00:00Z", None),
+    ("go over", f"put d in/{LATE} --now 2027-08-03T02:00:00Z", None),
 )
 # What is printed where a call fails, and its status.
 FAILURES = re.compile(r"(C[1-5] [^\n]+|[^\n]*file failed[^\n]*|[^\n]*: [^\n]+)\n\Z")
@@ -79,6 +85,28 @@ def calls_of(program, folder, words):
     return calls
 
 
+def go_back(folder):
+    """Makes the database one of schema 1."""
+    db = sqlite3.connect(folder / "d" / "custody.db", isolation_level=None)
+    db.executescript("DROP TABLE hold; UPDATE meta SET schema_no = 1")
+    db.close()
+
+
+def schema_of(folder):
+    """The number of the schema, and whether there is a table of holds; none where there is no record."""
+    with tempfile.TemporaryDirectory() as room:
+        copied(folder, pathlib.Path(room))
+        db = sqlite3.connect(pathlib.Path(room) / "d" / "custody.db")
+        try:
+            [has_holds] = db.execute("SELECT count(*) FROM sqlite_schema WHERE name = 'hold'").fetchone()
+            [number] = db.execute("SELECT schema_no FROM meta").fetchone()
+            return number, has_holds
+        except (sqlite3.Error, TypeError):
+            return None
+        finally:
+            db.close()
+
+
 def copied(folder, into):
     """A copy of the vault and of what is sent."""
     for name in ("d", "in"):
@@ -111,10 +139,12 @@ class Case:
             inject = f"inject={call.name}:{fault}:when={call.number}"
             tracer = ["strace", "-f", "-qqq", "-o", "/dev/null", "-e", f"trace={call.name}", "-e", inject]
             broken = run(self.program, folder, self.words, tracer)
+            schema = schema_of(folder)
             found = run(self.program, folder, "state d")
             again = run(self.program, folder, self.words)
             last = run(self.program, folder, "state d")
             wrong = [*self.ends(broken, fault), *self.opens(broken, found), *self.repeats(found, again)]
+            wrong += [f"is of schema {schema}"] * (schema not in ((1, 0), (2, 1), None))
             return broken.status, wrong + ["another state in the end"] * (last != self.after)
 
     def ends(self, broken, fault):
@@ -154,8 +184,11 @@ def try_all(program, only, lanes):
             (start / name).mkdir()
         (start / "in" / FULL).write_bytes(b"full" * 1500)
         (start / "in" / DIFF).write_bytes(b"diff" * 3000)
+        (start / "in" / LATE).write_bytes(b"late" * 3000)
         for name, words, done_before in LIFE:
-            if only in (None, name):
+            if name == "go over":
+                go_back(start)
+            if only is None or name in only:
                 case = Case(program, start, words, done_before)
                 runs = [(call, fault) for call in case.calls for fault in FAULTS]
                 with concurrent.futures.ThreadPoolExecutor(lanes) as pool:
@@ -174,7 +207,7 @@ def try_all(program, only, lanes):
 def main():
     words = argparse.ArgumentParser(description=__doc__, formatter_class=argparse.RawDescriptionHelpFormatter)
     words.add_argument("program", nargs="?", default=TOP / "crates/escrow/out/escrow")
-    words.add_argument("--only")
+    words.add_argument("--only", nargs="+")
     words.add_argument("--lanes", type=int, default=os.cpu_count())
     asked = words.parse_args()
     program = pathlib.Path(asked.program).resolve()

@@ -11,7 +11,8 @@ by bytes, by SQL through Python's sqlite3, or by files of other vaults. Then `st
 - A call that reads tells the same when it comes again. It leaves `vault.vol` as it was. The log
   `custody.db-wal` may change, whose head is written anew. `custody.db` may only where the log has
   more than a head, which is then copied, and where it has no byte or one, since that is made a
-  database without tables. In any case sqlite3 finds the same objects and rows as before.
+  database without tables. In any case sqlite3 finds the same objects and rows as before; but where
+  a database of schema 1 opens, those of schema 2 that stand for the same.
 - Where the opening fails, each call tells the same line and nothing else. Then nothing changes,
   nor by a call that is refused. A part that was received is listed by the next `state`. An `init`
   makes no volume anew where sqlite3 finds a table, an index, a view or a trigger.
@@ -78,7 +79,11 @@ purge {LATER}
 put example_2026-08-05_diff_S1_R0.ryde {LATER}
 put other_2026-08-04_full_S1_R0.ryde {LATER}
 release R-1 example operator {LATER}
-release R-2 other order {LATER}"""
+release R-2 other order {LATER}
+hold H-1 example --date 2026-08-05 {LATER}
+hold H-0 other --date 2026-08-04 {LATER}
+lift H-0 {LATER}"""
+EARLIER = "DROP TABLE hold; UPDATE meta SET schema_no = 1"
 READS = ("state", "report example", "audit", "fetch R-1 example_2026-08-05_diff_S1_R0.ryde")
 PUT = "put example_2026-08-06_full_S1_R0.ryde --now 2026-08-06T12:00:00Z"
 SWEEP = "sweep --now 2026-08-08T00:00:00Z"
@@ -135,7 +140,8 @@ def run(line):
 
 
 def make_vaults():
-    """The vaults that are changed. The last is the rich one with a log that sqlite3 wrote."""
+    """The vaults that are changed. The last two are the rich one with a log that sqlite3 wrote, and
+    one of schema 1."""
     deposit, noise = full_deposit(), random.Random(1).randbytes(50_000)
     for name, content in (
             ("example_2026-08-02_full_S1_R0", deposit[:700]), ("other_2026-08-04_full_S1_R0", b"5"),
@@ -156,6 +162,10 @@ def make_vaults():
         db.execute("INSERT INTO registry VALUES (?, ?)", (f"logged{day}", day))
     made["logged"] = {**made["rich"], **read("scratch")}
     db.close()
+    db = open_database(made["rich"])
+    db.executescript(EARLIER)
+    db.close()
+    made["earlier"] = {**made["rich"], **read("scratch")}
     return made
 
 
@@ -170,9 +180,11 @@ TEXTS = (b"", b"a", b"example", b"Example", b"-a", b"a-", b"a" * 63, b"a" * 64, 
          b"0000000000000001", b"00000000000000A1", b"example_2026-08-02_full_S1_R0.ryde\nx\n",
          b"example_2026-08-02_diff_S1_R0.ryde\n", b"other_2026-08-04_full_S1_R0.ryde\n")
 EDGES = (0, 1, 1, 2, 3, 4, 6, 7, 8, 18, 19, 20, 2**31, 2**32 - 1)
-# {t} and {o} are two of the five tables, {c} a column of {t}. A colon begins an edit of the schema.
+# {t} and {o} are two of the six tables, {c} a column of {t}. A colon begins an edit of the schema.
 SCHEMAS = """DROP TABLE {t}
 DROP TABLE {t}; CREATE VIEW {t} AS SELECT 1 AS one
+DROP TABLE hold; UPDATE meta SET schema_no = 1
+DROP TABLE hold; UPDATE meta SET schema_no = 1; CREATE TABLE extra AS SELECT * FROM {t}
 ALTER TABLE {t} RENAME TO extra
 ALTER TABLE {t} RENAME TO extra; ALTER TABLE {o} RENAME TO {t}
 ALTER TABLE {t} RENAME COLUMN {c} TO extra
@@ -246,7 +258,8 @@ def some_value(r, kind, known):
 
 def change_of_rows(r, db):
     """A statement that changes rows of one table, and its values."""
-    table = r.choice(("meta", "registry", "part", "part", "part", "notice", "notice", "handover"))
+    table = r.choice(("meta", "registry", "part", "part", "part", "notice", "notice", "handover",
+                      "hold"))
     names, kinds = zip(*COLUMNS[table])
     rows = db.execute(f"SELECT rowid, {', '.join(names)} FROM {table} ORDER BY rowid").fetchall()
     known = [list(column) for column in zip(*rows)][1:] or [[] for _ in names]
@@ -318,7 +331,10 @@ FORMS = {
     "notice": {"tld": TLD, "number": (1, 2**63 - 1), "kind": (0, 20), "day": (0, LAST),
                "rev": (0, 99), "id": rb"[A-Za-z0-9]{0,13}", "at": MOMENT},
     "handover": {"reference": rb"[A-Za-z0-9-]{1,32}", "tld": TLD, "ground": GROUNDS, "at": MOMENT,
-                 "names": rb"(?s:.*\n)?"}}
+                 "names": rb"(?s:.*\n)?"},
+    "hold": {"reference": rb"[A-Za-z0-9-]{1,32}", "tld": TLD, "day": (0, LAST), "at": MOMENT,
+             "lifted": MOMENT}}
+NULLS = (("extents", None), ("lifted", None))
 
 
 def look(files):
@@ -367,7 +383,7 @@ def is_form(form, value):
 def is_row(table, row):
     """Whether each column has its form, and those that go by one another too."""
     forms = FORMS[table].items()
-    return all(is_form(form, value) or (name, value) == ("extents", None)
+    return all(is_form(form, value) or (name, value) in NULLS
                for (name, form), value in zip(forms, row)) and (
         row.keep_day == keep_day_of(row) if table == "part" else
         row.kind <= 13 and row.id != b"" or (row.kind, row.rev, row.id) == (20, 0, b"")
@@ -408,7 +424,8 @@ def are_apart(rows, _volume):
     once = (verdicts, *([n[0:4:3] for n in notices if n.kind == kind] for kind in (0, 20)))
     known = {registry.tld for registry in rows["registry"]}
     return not (
-        all(row.tld in known for row in (*parts, *notices, *rows["handover"]))
+        all(row.tld in known
+            for row in (*parts, *notices, *rows["handover"], *rows.get("hold", ())))
         # The parts of a revision are 1 to k, of one kind. One above 0 follows a failure.
         and all(p.part == 1 or kinds.get((*p[:3], p.part - 1)) == p.kind for p in parts)
         and all(p.rev == 0 or (p.tld, p.day, p.rev - 1) in failures for p in parts)
@@ -422,13 +439,17 @@ def are_apart(rows, _volume):
                 for name in release.names.split(b"\n")[:-1]))
 
 
+def tables_of(schema):
+    return set(TABLES) - ({"hold"} if schema == 1 else set())
+
+
 DAMAGES = (
     lambda rows, volume: not rows.get("meta"),
     lambda rows, volume: not re.fullmatch(rb"RDEVAULT1\n[0-9a-f]{16}\n\0{4069}", volume[:4096]),
     lambda rows, volume: rows["meta"][0][2:] != (volume[10:26], len(volume) // 4096),
-    lambda rows, volume: rows["meta"][0].schema_no != 1,
-    lambda rows, volume: not all(table in rows and all(is_row(table, row) for row in rows[table])
-                                 for table in TABLES),
+    lambda rows, volume: rows["meta"][0].schema_no not in (1, 2),
+    lambda rows, volume: set(rows) != tables_of(rows["meta"][0].schema_no) or not all(
+        is_row(table, row) for table in rows for row in rows[table]),
     is_out_of_range, is_named_twice, are_apart)
 
 
@@ -482,6 +503,9 @@ def answers(rows, volume):
     for reference, tld, ground, at, names in sorted(rows["handover"]):
         words = f"{reference.decode()} {tld.decode()} {ground.decode()} {moment_of(at)}"
         text += f"release {words} {names.count(10)}\n"
+    for reference, tld, day, at, lifted in sorted(rows.get("hold", ())):
+        words = f"{reference.decode()} {tld.decode()} {date_of(day)} {moment_of(at)}"
+        text += f"hold {words}{'' if lifted is None else f' lifted {moment_of(lifted)}'}\n"
     text += f"free {free} of {rows['meta'][0].blocks - 1}\n"
     return {"state": text.encode(), "audit": (damaged or f"sound {held}\n").encode()}
 
@@ -512,12 +536,22 @@ def is_on_page(command, told):
         and (line != "C5 damaged H8" or command in ("fetch", "put", "verify"))
 
 
-def changes(old, new, may_copy):
+def gone_over(found):
+    """What sqlite3 finds in a database of schema 1 after an opening has made it one of schema 2."""
+    objects, rows = found
+    table = (b"table", b"hold", TABLES["hold"].encode())
+    objects = sorted((*objects, table, (b"index", b"sqlite_autoindex_hold_1", None)), key=lambda o: o[:2])
+    return objects, rows | {"meta": [row._replace(schema_no=2) for row in rows["meta"]], "hold": []}
+
+
+def changes(old, new, may_copy, goes_over=False):
     """What of the files is not as it was. The log may be copied into the database where it may."""
     named = [name for name in FILES if old.get(name) != new.get(name)]
     wrong = [f"{name} changed" for name in named
-             if name == "vault.vol" or name == "custody.db" and not may_copy]
+             if name == "vault.vol" or name == "custody.db" and not (may_copy or goes_over)]
     found = [(look(files) or ())[:2] for files in (old, new) if named and named != ["vault.vol"]]
+    if goes_over:
+        found[:1] = [gone_over(found[0])]
     if found[:1] != found[1:]:
         wrong.append(f"the rows changed from {found[0]} to {found[1]}")
     return wrong
@@ -545,8 +579,10 @@ def run_case(r, files):
         if again != told[line]:
             wrong.append(f"{line} told {told[line]}, and then {again}")
     has_log = len(files.get("custody.db-wal", b"")) > 56
-    wrong += changes(files, read("vault"), has_log or len(files.get("custody.db", b"")) <= 1)
     came = label_of(told["state"])
+    meta = found.rows.get("meta") if found and came == "opens" else None
+    goes_over = bool(meta) and meta[0].schema_no == 1
+    wrong += changes(files, read("vault"), has_log or len(files.get("custody.db", b"")) <= 1, goes_over)
     if expected and came not in expected:
         told_rows = found and found.rows
         wrong.append(f"state told {came}, the pages {' or '.join(expected)}: {told_rows}")

@@ -105,7 +105,7 @@ new_vault vault
 # ---- by curl
 
 by_curl() {
-    start 15 --now $at
+    start 21 --now $at
     url=http://127.0.0.1:$port
     asks "a registry" "201 Created" "registered example 2026-08-02" -X PUT -d '{"first":"2026-08-02"}' $url/registries/example
     asks "again" "200 OK" "registered example 2026-08-02" -X PUT -d '{ "first" : "2026-08-03" }' $url/registries/example
@@ -132,6 +132,13 @@ $names" -X PUT -d "$ground" $url/releases/R-1
     curl -s -m 20 -o got $url/releases/R-1/$second
     compare "the large part" "" "$(cmp got big 2>&1)"
     asks "another name" "404 Not Found" "Q18 not in release" $url/releases/R-1/x
+    hold='{"date":"2026-08-02","tld":"example"}'
+    asks "a hold" "201 Created" "held H-1 example 2026-08-02 $at" -X PUT -d "$hold" $url/holds/H-1
+    asks "again" "200 OK" "held H-1 example 2026-08-02 $at" -X PUT -d "$hold" $url/holds/H-1
+    asks "another day" "409 Conflict" "Q3 date out of range" -X PUT -d "${hold/08-02/08-03}" $url/holds/H-1
+    asks "its lifting" "201 Created" "lifted H-1 $at" -X POST -d '' $url/lifts/H-1
+    asks "again" "200 OK" "lifted H-1 $at" -X POST -d '' $url/lifts/H-1
+    asks "of none" "404 Not Found" "Q21 hold unknown" -X POST -d '' $url/lifts/H-2
     echo >> big
     asks "a larger one" "413 Content Too Large" "A8 too long" -T big $url/deposits/$second
     ended 0 ""
@@ -140,6 +147,7 @@ part $part 5 held $at
 part $second 1048576 held $at
 $notice
 release R-1 example operator $at 2
+hold H-1 example 2026-08-02 $at lifted $at
 free 42 of 299" "$("$program" state vault)"
 }
 

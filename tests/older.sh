@@ -1,5 +1,5 @@
 #!/bin/bash
-# A vault as the program wrote it before there were incremental deposits: its rows as SQL, its volume byte for byte.
+# A vault as the program wrote it before there were incremental deposits, in schema 1: its rows as SQL, its volume byte for byte.
 # tests/program.sh sources this file, and goes on with that vault. The pages of the database are those of sqlite3: with
 # OLDER=PROGRAM in the environment such a program makes the vault itself.
 #

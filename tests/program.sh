@@ -4,8 +4,8 @@
 #   tests/program.sh [PROGRAM]
 #
 # With KILLS=N in the environment N puts are killed, and N/4 calls of init; else 120 and 30. With SEED=S other vaults are
-# changed at random than with the seed 1. With OLDER=PROGRAM a program of before there were incremental deposits makes the
-# vault of "a vault of before", and not tests/older.sh.
+# changed at random than with the seed 1. With OLDER=PROGRAM a program of before there were incremental deposits, or of
+# before there were holds, makes the vault of "a vault of before", and not tests/older.sh; and goes the way back with it.
 # PROGRAM is crates/escrow/out/escrow where it is not named. `./demo` builds it. Where there is no sqlite3 or
 # setpriv, or no tmpfs can be mounted, what needs it is left out, and a line says so.
 set -u
@@ -374,6 +374,37 @@ part example_2027-08-04_diff_S1_R0.ryde 16384 held $later
 part $name 4096 held $later
 free 0 of 7" "" state parts
 
+echo "== a day is on hold"
+vault ordered 8
+expect 0 "received $leap 5 $noon" "" put ordered in/$leap --now $noon
+ordered="held H-1 example 2028-02-29 2029-02-01T00:00:00Z"
+expect 1 "" "Q21 hold unknown" lift ordered H-1
+expect 0 "$ordered" "" hold ordered H-1 example --date 2028-02-29 --now 2029-02-01T00:00:00Z
+expect 0 "dropped 0" "" purge ordered --now 2029-03-01T00:00:00Z
+expect 0 "$ordered" "" hold ordered H-1 example --date 2028-02-29 --now 2029-03-01T00:00:00Z
+expect 1 "" "Q20 hold reference used" hold ordered H-1 example --date 2028-02-28 --now 2029-03-01T00:00:00Z
+expect 1 "" "Q3 date out of range" hold ordered H-2 example --date 2026-08-01 --now 2029-03-01T00:00:00Z
+expect 1 "" "Q2 registry unknown" hold ordered H-2 other --date 2028-02-29 --now 2029-03-01T00:00:00Z
+expect 2 "" "bad value for DATE" hold ordered H_2 example --date 2029-02-29
+expect 2 "" "bad value for REF" hold ordered H_2 example --date 2028-02-29
+expect 2 "" "bad value for REF" lift ordered H_2 --now x
+expect 0 "$registry
+part $leap 5 held $noon
+hold H-1 example 2028-02-29 2029-02-01T00:00:00Z
+free 6 of 7" "" state ordered
+expect 0 "lifted H-1 2029-03-02T00:00:00Z" "" lift ordered H-1 --now 2029-03-02T00:00:00Z
+expect 0 "lifted H-1 2029-03-02T00:00:00Z" "" lift ordered H-1
+expect 0 "$ordered" "" hold ordered H-1 example --date 2028-02-29
+expect 1 "" "Q21 hold unknown" lift ordered H-9
+expect 0 "dropped 1" "" purge ordered --now 2029-03-02T00:00:00Z
+expect 0 "$registry
+part $leap 5 dropped $noon
+hold H-1 example 2028-02-29 2029-02-01T00:00:00Z lifted 2029-03-02T00:00:00Z
+free 7 of 7" "" state ordered
+if command -v sqlite3 > /dev/null; then
+    compare 0 "H-1|example|21243|1864598400|1867104000" "" "hold" sqlite3 ordered/custody.db 'SELECT * FROM hold'
+fi
+
 echo "== a release is recorded once, and lists what is held"
 handed="released R-1 example operator $later 3
 example_2026-08-04_diff_S1_R0.ryde
@@ -479,7 +510,7 @@ if command -v sqlite3 > /dev/null; then
     expect 3 "" "C5 damaged H7" fetch given R-1 x
 fi
 
-echo "== a vault of before there were incremental deposits"
+echo "== a vault of before there were incremental deposits and holds"
 if command -v sqlite3 > /dev/null; then
     mkdir before
     (cd before && older_vault)
@@ -491,11 +522,30 @@ if command -v sqlite3 > /dev/null; then
 part $name0 1422 dropped $ten
 part $diff0 583 held 2026-08-03T10:00:00Z
 part ${diff0/03/04} 5 held 2026-08-04T10:00:00Z"
+    # schema_is NUMBER: of this schema is the vault
+    schema_is() { check "schema $1" test "$(sqlite3 -readonly before/older/custody.db 'SELECT schema_no FROM meta')" = "$1"; }
+    schema_is 1
+    cp -r before/older before/copy
     expect 0 "$kept
 $notices
 release R-1 example operator 2026-08-06T01:00:00Z 3
 free 5 of 7" "" state before/older
+    schema_is 2
     expect 0 "sound 2" "" audit before/older
+    # the way back of the page
+    if [ -n "${OLDER-}" ]; then
+        compare 3 "" "C5 damaged H3" "an older program" "$OLDER" state before/older
+        compare 0 "0" "" "no hold" sqlite3 before/older/custody.db 'SELECT count(*) FROM hold'
+        sqlite3 before/older/custody.db 'BEGIN; DROP TABLE hold; UPDATE meta SET schema_no = 1; COMMIT'
+        compare 0 "$kept
+$notices
+release R-1 example operator 2026-08-06T01:00:00Z 3
+free 5 of 7" "" "an older program again" "$OLDER" state before/older
+    fi
+    # and a copy of before it
+    rm -r before/older
+    mv before/copy before/older
+    schema_is 1
     # what it acknowledged is answered as before
     expect 1 "" "Q6 dropped after keeping" put before/older before/parts/$name0
     expect 0 "received $diff0 583 2026-08-03T10:00:00Z" "" put before/older before/parts/$diff0
@@ -521,8 +571,14 @@ $notices
 release R-1 example operator 2026-08-06T01:00:00Z 3
 free 2 of 7" "" state before/older
     check "two rows of the new type" test "$(sqlite3 -readonly before/older/custody.db "SELECT count(*) FROM part WHERE kind = 'incr'")" = 2
+    schema_is 2
+    expect 0 "held H-1 example 2026-08-03 2027-08-05T12:00:00Z" "" \
+        hold before/older H-1 example --date 2026-08-03 --now 2027-08-05T12:00:00Z
+    expect 0 "dropped 1" "" purge before/older --now 2027-08-06T00:00:00Z
+    expect 0 "received $diff0 583 2026-08-03T10:00:00Z" "" put before/older before/parts/$diff0
+    expect 1 "" "Q6 dropped after keeping" put before/older before/parts/${diff0/03/04}
 else
-    skip "no sqlite3: a vault of before there were incremental deposits"
+    skip "no sqlite3: a vault of before there were incremental deposits and holds"
 fi
 
 echo "== the moment of the clock"
@@ -848,7 +904,7 @@ if command -v sqlite3 > /dev/null; then
     for vault in d whole broken big many k; do
         compare 0 ok "" "integrity of $vault" sqlite3 $vault/custody.db 'PRAGMA integrity_check'
     done
-    compare 0 "1|1|0000000000000001|8" "" "meta" sqlite3 d/custody.db 'SELECT * FROM meta'
+    compare 0 "1|2|0000000000000001|8" "" "meta" sqlite3 d/custody.db 'SELECT * FROM meta'
     compare 0 "example|20667" "" "registry" sqlite3 d/custody.db 'SELECT * FROM registry'
     compare 0 "example|20667|0|1|full|1785664800|21032|5|2CF24DBA5FB0A30E26E83B2AC5B9E29E1B161E5C1FA7425E73043362938B9824|0000000100000001" "" "part" \
         sqlite3 d/custody.db 'SELECT tld, day, rev, part, kind, received, keep_day, len, hex(sha), hex(extents) FROM part'
@@ -924,7 +980,9 @@ free 6 of 7" "" "state: $1" "$program" state e
         check "nothing is listed: $1" test -z "$(listed)"
     }
     number="UPDATE meta SET number = '0000000000000002'"
-    schema="UPDATE meta SET schema_no = 2"
+    schema="UPDATE meta SET schema_no = 3"
+    # as a program of before there were holds leaves it
+    back="DROP TABLE hold; UPDATE meta SET schema_no = 1"
     extents() { echo "UPDATE part SET extents = x'$1'"; }
     # also REV PART BLOCK: one part more, of the first ten bytes of this block
     also() {
@@ -957,8 +1015,14 @@ free 6 of 7" "" "state: $1" "$program" state e
     damaged H4 "no parts" "DROP TABLE part"
     damaged H4 "no notices" "DROP TABLE notice"
     damaged H4 "no releases" "DROP TABLE handover"
+    damaged H4 "no holds" "DROP TABLE hold"
+    damaged H4 "holds in schema 1" "UPDATE meta SET schema_no = 1"
+    damaged H4 "the day of a hold" "INSERT INTO hold VALUES ('H-1', 'example', -1, 1785665100, NULL)"
+    damaged H4 "the lifting of a hold" "INSERT INTO hold VALUES ('H-1', 'example', 20667, 1785665100, -1)"
+    damaged H4 "schema 1, and a length" "$back; UPDATE part SET len = 0"
+    damaged H7 "schema 1, and no first notice" "$back; UPDATE notice SET number = 2"
     damaged H4 "no notices and no releases" "DROP TABLE notice; DROP TABLE handover"
-    all="DROP TABLE handover; DROP TABLE notice; DROP TABLE part; DROP TABLE registry"
+    all="DROP TABLE hold; DROP TABLE handover; DROP TABLE notice; DROP TABLE part; DROP TABLE registry"
     damaged H4 "meta alone" "$all"
     damaged H3 "no releases, and the schema" "DROP TABLE handover; $schema"
     damaged H2 "no releases, and the number" "DROP TABLE handover; $number"
@@ -991,6 +1055,21 @@ free 6 of 7" "" "state: $1" "$program" state e
     opened "the file made anew" "VACUUM"
     opened "a number of its user" "PRAGMA user_version = 7"
     opened "a view more" "CREATE VIEW more AS SELECT tld FROM registry"
+
+    # Over schema 1 the first command makes schema 2, also behind a table that somebody else has made.
+    for sql in "$back" "$back; CREATE TABLE more (text TEXT NOT NULL) STRICT"; do
+        check "it can be edited: $sql" edited "$sql"
+        compare 0 "$registry
+part $name0 1422 held $ten
+$receipt
+free 6 of 7" "" "state: $sql" "$program" state e
+        check "no block is changed: $sql" cmp -s image e/vault.vol
+        check "it is of schema 2: $sql" test "$(sqlite3 e/custody.db 'SELECT schema_no, (SELECT count(*) FROM hold) FROM meta')" = "2|0"
+        expect 0 "held H-1 example 2026-08-02 $ten" "" hold e H-1 example --date 2026-08-02 --now $ten
+        sqlite3 e/custody.db "DELETE FROM hold; $back" .dump > again
+        check "every other row is as it was: $sql" cmp -s rows again
+        compare 0 "ok" "" "integrity: $sql" sqlite3 e/custody.db 'PRAGMA integrity_check'
+    done
 else
     skip "no sqlite3"
 fi
