@@ -3,7 +3,8 @@
 --
 --   sqlite3 -readonly found/custody.db < damage.sql
 --
--- Where a table is not there, sqlite3 says so of each question that needs it, and goes on.
+-- Where a table is not there, sqlite3 says so of each question that needs it, and goes on. (In schema
+-- 1 that of holds is not there, as it has to be.)
 
 -- H0: no record.
 SELECT 'H0', 'no table', 'meta'
@@ -11,12 +12,16 @@ WHERE NOT EXISTS (SELECT * FROM sqlite_schema WHERE type = 'table' AND name = 'm
 SELECT 'H0', 'no row of meta' WHERE NOT EXISTS (SELECT * FROM meta);
 
 -- H3: another schema.
-SELECT 'H3', 'schema', schema_no FROM meta WHERE schema_no <> 1;
+SELECT 'H3', 'schema', schema_no FROM meta WHERE schema_no NOT IN (1, 2);
 
 -- H4: tables, and fields out of form.
 WITH wanted (name) AS (VALUES ('registry'), ('part'), ('notice'), ('handover'))
 SELECT 'H4', 'no table', name FROM wanted
 WHERE name NOT IN (SELECT name FROM sqlite_schema WHERE type = 'table');
+
+-- (Schema 2 has a table of holds, and schema 1 has none.)
+SELECT 'H4', iif(schema_no = 1, 'table of schema 2', 'no table'), 'hold' FROM meta
+WHERE schema_no IN (1, 2) AND schema_no <> 1 + (SELECT count(*) FROM sqlite_schema WHERE type = 'table' AND name = 'hold');
 
 SELECT 'H4', 'meta', one FROM meta WHERE one <> 1;
 
@@ -43,6 +48,12 @@ WHERE length(reference) NOT BETWEEN 1 AND 32 OR reference GLOB '*[^A-Za-z0-9-]*'
     OR ground NOT IN ('operator', 'termination', 'no_notices', 'sunday_failed', 'five_failed',
         'insolvency', 'critical', 'order', 'audit')
     OR at NOT BETWEEN 0 AND 253370764799 OR names <> '' AND substr(names, -1) <> char(10);
+
+SELECT 'H4', 'hold', reference FROM hold
+WHERE length(reference) NOT BETWEEN 1 AND 32 OR reference GLOB '*[^A-Za-z0-9-]*'
+    OR length(tld) NOT BETWEEN 1 AND 63 OR tld GLOB '*[^a-z0-9-]*' OR tld GLOB '-*' OR tld GLOB '*-'
+    OR day NOT BETWEEN 0 AND 2932531 OR at NOT BETWEEN 0 AND 253370764799
+    OR lifted NOT BETWEEN 0 AND 253370764799;
 
 -- The extents of the parts, by their first block and their number of blocks.
 CREATE TEMP VIEW extent AS
@@ -98,3 +109,5 @@ WHERE names <> '' AND (tld, line.value) NOT IN (SELECT tld, tld || '_'
 SELECT 'H7', 'no registry', name, tld FROM (SELECT 'part' AS name, tld FROM part
     UNION SELECT 'notice', tld FROM notice UNION SELECT 'handover', tld FROM handover)
 WHERE tld NOT IN (SELECT tld FROM registry);
+
+SELECT 'H7', 'no registry', 'hold', tld FROM hold WHERE tld NOT IN (SELECT tld FROM registry);
