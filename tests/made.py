@@ -176,6 +176,7 @@ COLOURS = {
     "Custody": "#b8e6cb",
     "Words": "#dbe9fb",
     "HTTP": "#eadcf7",
+    "Laws": "#eadcf7",
     "Program": "#ffffff",
 }
 # The crates in the order in which a command and a request come to them, and the colour of their numbers.

@@ -1,0 +1,8 @@
+pub mod Tries
+pub mod OnceLemmas
+pub mod Told
+pub mod Beginnings
+pub mod Serving
+pub mod ClientLemmas
+pub mod RequestLemmas
+pub mod WholeLemmas

@@ -1,0 +1,5 @@
+pub mod Responses
+pub mod Service
+pub mod Clients
+pub mod Requests
+pub mod Whole

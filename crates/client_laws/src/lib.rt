@@ -1,0 +1,8 @@
+//! What a client of the agent over HTTP may rely on, through stops and repeats.
+//!
+//! There are laws alone here, and no program calls them.
+#![tactic(auto)]
+
+mod laws;
+
+pub use laws::{law_clients, law_requests, law_responses};
