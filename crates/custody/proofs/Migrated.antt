@@ -5,7 +5,6 @@ use Rattle.std.specs.Prelude.{slice_get, is_some}
 use Rattle.std.proofs.lemmas.Bool.{cases_Bool}
 use Rattle.vault_volume.specs.declared.volume.Volume as volume
 use Rattle.vault_volume.specs.Disk.{LeavesOne}
-use Rattle.sqlite.specs.Effect.{IsDatabase}
 use Rattle.sqlite.specs.Held.{Held, state}
 use Rattle.sqlite.specs.Schema.{Schema}
 use Rattle.sqlite.specs.State.{State}
@@ -17,10 +16,10 @@ use Rattle.custody_records.proofs.FormLemmas.{in_form_has, migrated_in_form}
 use Rattle.custody_records.proofs.ReadLemmas.{some_same}
 use Rattle.custody_store.specs.Reading.{has_table, rows_in}
 use Rattle.custody_store.specs.Schema.{first_schema, record_schema}
-use Rattle.custody_store.specs.Standing.{Standing, standing, shown, is_earlier, IsReady, Reads, Migrates}
+use Rattle.custody_store.specs.Standing.{Standing, standing, shown, is_earlier, IsReady, IsAsMade, Reads, Migrates}
 use Rattle.custody_store.proofs.MissingLemmas.{holds_missing, holds_there}
 use Rattle.custody_store.proofs.ReadLemmas.{still, all_there, first_of_ready, first_of_earlier}
-use Rattle.custody_store.proofs.TableLemmas.{holds_first, rows_held}
+use Rattle.custody_store.proofs.TableLemmas.{holds_first, rows_among}
 use Rattle.custody_machine.specs.Custody.{IsInStore}
 use Rattle.custody_machine.specs.Moves.{Left, MayLeave}
 use Rattle.custody.specs.Opening.{HasAll, ReadsVolume, OnlyReads, OnlyMigrates}
@@ -63,13 +62,11 @@ migrated_current rows meta first = by rows.meta first
 -- ---- which tables a database has
 
 -- that of holds is one of schema 2
-hold_there : (s : State) → IsReady record_schema s → has_table (codes "hold") s.now.schema ≡ true
-hold_there s ready =
-    let sound = subst (λ t. IsDatabase (record s.now { schema = t })) ready.tables.schema_is ready.tables.sound in
-    sym (holds_there s (first_of_ready s ready)) ∙ ap (λ (rows : Rows). is_some rows.holds) (rows_held s.now.trees sound)
+hold_there : (s : State) → IsReady s → has_table (codes "hold") s.now.schema ≡ true
+hold_there s ready = sym (holds_there s (first_of_ready s ready)) ∙ ap (λ (rows : Rows). is_some rows.holds) (rows_among s.now.trees s.now.schema ready.tables.begins ready.tables.sound)
 
 -- and of schema 1 it is not: with it there would be six
-hold_missing : (s : State) → IsReady first_schema s → has_table (codes "hold") s.now.schema ≡ false
+hold_missing : (s : State) → IsAsMade first_schema s → has_table (codes "hold") s.now.schema ≡ false
 hold_missing s earlier = elim (cases_Bool (has_table (codes "hold") s.now.schema)) [
   | inl there ↦
       let six = ((first_of_earlier s earlier).1 there).begins in
@@ -79,20 +76,20 @@ hold_missing s earlier = elim (cases_Bool (has_table (codes "hold") s.now.schema
 ]
 
 -- the tables of schema 2 are not the earlier ones, and those of schema 1 are
-not_earlier : (s : State) → IsReady record_schema s → is_earlier (shown s) ≡ false
+not_earlier : (s : State) → IsReady s → is_earlier (shown s) ≡ false
 not_earlier s ready = rw (all_there s (first_of_ready s ready), hold_there s ready) refl
 
-has_earlier : (s : State) → IsReady first_schema s → is_earlier (shown s) ≡ true
+has_earlier : (s : State) → IsAsMade first_schema s → is_earlier (shown s) ≡ true
 has_earlier s earlier = rw (all_there s (first_of_earlier s earlier), hold_missing s earlier) refl
 
 -- rows in form in tables of schema 2 are of it
-ready_current : (s : State) (records : Records) → IsReady record_schema s → form_of (rows_in s.now.trees) ≡ InForm records → IsCurrent (rows_in s.now.trees)
+ready_current : (s : State) (records : Records) → IsReady s → form_of (rows_in s.now.trees) ≡ InForm records → IsCurrent (rows_in s.now.trees)
 ready_current s records ready is =
     let first = (first_of_ready s ready).1 (hold_there s ready) in
     are_current (rows_in s.now.trees) records _ (holds_first s.now.trees s.now.schema first.begins first.sound) is
 
 -- and rows in form in those of schema 1 stand for the same records when they are those of schema 2
-migrated_alike : (s : State) (records : Records) → IsReady first_schema s → form_of (rows_in s.now.trees) ≡ InForm records → form_of (migrated (rows_in s.now.trees)) ≡ InForm records
+migrated_alike : (s : State) (records : Records) → IsAsMade first_schema s → form_of (rows_in s.now.trees) ≡ InForm records → form_of (migrated (rows_in s.now.trees)) ≡ InForm records
 migrated_alike s records earlier is =
     let rows = rows_in s.now.trees in
     migrated_in_form rows records is (are_earlier rows records (holds_missing s (first_of_earlier s earlier) (hold_missing s earlier)) is)
@@ -110,6 +107,7 @@ migrates_then s mid new x r reads after = record {
       let one = after.effect honest (same.earlier ready) in
       record {
         done = subst (λ rows. OnOk r (new.IsReady × (new.rows ≡ migrated rows))) same.rows one.done;
+        made = one.made;
         kept = subst (λ rows. OnErr r (IsTrue new.is_open → new.IsEarlier × (new.rows ≡ rows))) same.rows one.kept;
         left = λ rows h. elim (one.left rows h) [ inl before ↦ inl (reads.commits_nothing read rows before) | inr made ↦ inr (made ∙ ap migrated same.rows) ];
       };
@@ -124,11 +122,11 @@ migrates_both database db later end {mid} {over} {then} {x} {y} {r} reads is the
 
 -- the same with another answer
 pub migrates_answers : {A B E F : Type 0} (old new : Standing) (x : A) (y : B) → Migrates {E = E} old new (Ok x) → Migrates {E = F} old new (Ok y)
-migrates_answers old new x y p = record { trust = p.trust; mode = p.mode; effect = λ honest ready. let did = p.effect honest ready in record { done = did.done; kept = tt; left = did.left } }
+migrates_answers old new x y p = record { trust = p.trust; mode = p.mode; effect = λ honest ready. let did = p.effect honest ready in record { done = did.done; made = did.made; kept = tt; left = did.left } }
 
 -- or another error
 pub migrates_fails : {A B E F : Type 0} (old new : Standing) (e : E) (f : F) → Migrates {A = A} old new (Err e) → Migrates {A = B} old new (Err f)
-migrates_fails old new e f p = record { trust = p.trust; mode = p.mode; effect = λ honest ready. let did = p.effect honest ready in record { done = tt; kept = did.kept; left = did.left } }
+migrates_fails old new e f p = record { trust = p.trust; mode = p.mode; effect = λ honest ready. let did = p.effect honest ready in record { done = tt; made = tt; kept = did.kept; left = did.left } }
 
 -- a call that failed after it had only read
 pub migrates_nothing : {A B E F : Type 0} (s : State) (new : Standing) (r : Result A E) (f : F) → Reads (shown s) new r → Migrates {A = B} (shown s) new (Err f)
@@ -137,6 +135,7 @@ migrates_nothing s new r f reads = record {
   mode = reads.mode;
   effect = λ honest ready. record {
     done = tt;
+    made = tt;
     kept = λ is_open. let same = reads.same honest ready.rest is_open in (same.earlier ready, same.rows);
     left = λ rows h. inl (reads.commits_nothing honest rows h);
   };

@@ -25,7 +25,7 @@ use Rattle.custody_records.specs.Rows.{fresh}
 use Rattle.custody_records.specs.Written.{digits_of}
 use Rattle.custody_records.proofs.FormLemmas.{fresh_in_form}
 use Rattle.custody_store.specs.Reading.{rows_in, has_table}
-use Rattle.custody_store.specs.Schema.{meta_schema, record_schema}
+use Rattle.custody_store.specs.Schema.{meta_schema}
 use Rattle.custody_store.specs.Standing.{Standing, standing, shown, IsAtRest, IsReady, IsBare, HasFirst, HasTablesFirst, HasMetaOrNone, HasKnownTables, leaves, has_any, Founds, Reads, StandsAs}
 use Rattle.custody_store.proofs.BareLemmas.{rows_bare}
 use Rattle.custody_store.proofs.ReadLemmas.{still, reads_then, meta_there, meta_of_first, first_of_ready, first_of_earlier}
@@ -160,7 +160,7 @@ pub founds_err : {A B E F : Type 0} (old new : Standing) (after : Rows) (e : E) 
 founds_err old new after e f p = record {
   trust = p.trust;
   mode = p.mode;
-  effect = λ honest bare. let did = p.effect honest bare in record { done = tt; kept = did.kept; left = did.left };
+  effect = λ honest bare. let did = p.effect honest bare in record { done = tt; made = tt; kept = did.kept; left = did.left };
 }
 
 module _ (number blocks : ℕ) where
@@ -316,7 +316,7 @@ fresh_current number blocks meta is = ap (λ (row : MetaRow). has_holds row.sche
 
 -- the tables with the row of meta, which were made at once
 pub fresh_in_store : {A E : Type 0} (old : Standing) (new : State) (x : A) (number blocks : ℕ) → number < 2 ^ 64 → IsSize blocks → Founds {E = E} old (shown new) (fresh (digits_of number) (pos blocks)) (Ok x)
-    → HasCleanDisk new → old.IsBare → (records : Records) → records ≡ new_records number blocks → IsInStore records (shown new).rows (IsReady record_schema new) (leaves new)
+    → HasCleanDisk new → old.IsBare → (records : Records) → records ≡ new_records number blocks → IsInStore records (shown new).rows (IsReady new) (leaves new)
 fresh_in_store old new x number blocks lt fits founds honest bare records is =
     let done = (founds.effect honest bare).done in
     record {

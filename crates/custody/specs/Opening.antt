@@ -29,7 +29,7 @@ use Rattle.vault_volume.specs.Limits.{fewest_blocks, most_blocks}
 use Rattle.custody.specs.declared.answers.InitError.{InitError}
 use Rattle.custody.specs.declared.answers.InitError.TheVariants as init_error
 
--- a database has the tables of one of the two schemas as they are made, and no others
+-- a database begins with the tables of schema 2, whatever others it has, or has those of schema 1 and no others
 abbrev pub HasAll : Standing → Type 0
 HasAll s = s.IsReady ⊎ s.IsEarlier
 

@@ -1,5 +1,5 @@
 -- The UPDATE that drops the bytes of the parts whose keeping is over, and whose day is not on hold, changes just their rows.
-use Rattle.std.proofs.Common.{◌≡◌, inl, inr, ℕ, pos, ◌&&◌, Bool, true, false, cond, min, not, List, [], ◌∷◌, map, None, Ok, Err, Result, IfOk, refl, sym, ap, ap₂, ◌∙◌, arith}
+use Rattle.std.proofs.Common.{◌≡◌, inl, inr, ℕ, pos, ◌&&◌, Bool, true, false, cond, min, not, List, [], ◌∷◌, map, None, Ok, Err, Result, IfOk, refl, sym, ap, ap₂, subst, ◌∙◌, arith}
 use Rattle.std.specs.Prelude.{length, unwrap_or, int_lt}
 use Rattle.std.specs.List.{list_all}
 use Rattle.std.specs.Str.{bytes_eq}
@@ -22,26 +22,27 @@ use Rattle.sqlite.specs.Tree.{Trees}
 use Rattle.sqlite.specs.Command.TheVariants.{Update}
 use Rattle.sqlite.specs.Edit.{id_in}
 use Rattle.sqlite.specs.Effect.{Database}
-use Rattle.sqlite_catalog.specs.Listing.{IsSound}
 use Rattle.sqlite.specs.Does.{Tally, Does}
 use Rattle.sqlite.specs.State.{State, HasCleanDisk, Executes, mode_of}
 use Rattle.sqlite_rules.specs.Lists.{Has}
-use Rattle.sqlite_rules.proofs.ListLemmas.{all_has}
+use Rattle.sqlite_rules.proofs.ListLemmas.{all_has, has_front}
+use Rattle.custody_store.proofs.AmongLemmas.{record_quiet}
 use Rattle.sqlite_keyed.proofs.ListLemmas.{map-map}
 use Rattle.sqlite.specs.Listing.{understood}
 use Rattle.sqlite.proofs.Callers.{statement_of}
 use Rattle.custody_store.specs.Schema.{record_schema, part_table}
 use Rattle.custody_store.specs.Reading.{rows_in, part_row, hold_row}
 use Rattle.custody_store.specs.Dropping.{holds_row, is_due, dropped_row, dropped_if_due, without_due, count_due, is_same_number}
-use Rattle.custody_store.specs.Standing.{HasTables, IsReady}
-use Rattle.custody_store.proofs.StatementLemmas.{drop_due_text, hold_tests, parts_and_holds, due_tests, dropped_places, drop_due_program, drop_due_is}
-use Rattle.custody_store.proofs.TableLemmas.{rows_held, held_rows, sound_as}
-use Rattle.custody_store.proofs.HoldLemmas.{IsHoldRow, hold_rows}
+use Rattle.custody_store.specs.Standing.{HasAmong, BeginsWith, IsReady}
+use Rattle.custody_store.specs.Statements.{drop_due_text, today_only}
+use Rattle.custody_store.proofs.StatementLemmas.{hold_tests, parts_and_holds, due_tests, dropped_places, drop_due_program, drop_due_is}
+use Rattle.custody_store.proofs.TableLemmas.{rows_among, held_rows}
+use Rattle.custody_store.proofs.HoldLemmas.{IsHoldRow, hold_rows, hold_at}
 use Rattle.custody_store.proofs.EditLemmas.{changed_where}
 use Rattle.custody_store.proofs.UpdateLemmas.{Rewrites, rewrites, passes, heir}
 use Rattle.custody_store.proofs.ColumnLemmas.{cast_at, int_at, text_at}
 use Rattle.custody_store.proofs.TestLemmas.{is_held, is_unset, is_over, is_number, is_text, none_counted, any_same, map_has, count_same}
-use Rattle.custody_store.proofs.CommitLemmas.{Changes, written, update_writes}
+use Rattle.custody_store.proofs.CommitLemmas.{Changes, among_still, written, update_writes}
 use Rattle.custody_store.proofs.RowLemmas.{at_tree}
 
 abbrev part_at : Table
@@ -62,9 +63,6 @@ record IsPartRow (r : Row) : Type 0 where
   len : cast kinds.Integer (column r 8) ≡ column r 8
 
 -- ---- one row
-
-abbrev pub today_only : ℕ → Row
-today_only today = Int (pos today) ∷ []
 
 -- 1 where the part's day is on hold, and else 0
 abbrev counted_beside : ℕ → Trees → Row → Value
@@ -131,20 +129,20 @@ module _ (today : ℕ) (trees : Trees) (held : (h : Row) → Has (trees 9) h →
 
 -- ---- the whole table
 
-module _ (today : ℕ) (s : State) (tables : HasTables record_schema s.now) where
+module _ (today : ℕ) (s : State) (tables : HasAmong record_schema.tables s.now) where
   abbrev parts : List Row
   parts = s.now.trees 3
 
-  sound_before : IsSound record_schema s.now.trees
-  sound_before = sound_as record_schema s.now tables.schema_is tables.sound
-
   holds_are : (h : Row) → Has (s.now.trees 9) h → IsHoldRow h
-  holds_are = hold_rows s.now.trees sound_before
+  holds_are = hold_rows s.now.schema s.now.trees tables.sound (has_front s.now.schema.tables record_schema.tables tables.begins.0 hold_at tables.begins.1 (inr (inr (inr (inr (inr (inl refl)))))))
+
+  part_listed : Has s.now.schema.tables part_at
+  part_listed = has_front s.now.schema.tables record_schema.tables tables.begins.0 part_at tables.begins.1 (inr (inr (inl refl)))
 
   part_rows : (r : Row) → Has parts r → IsPartRow r
   part_rows r h =
-      let typed = (and_parts _ _ (all_has _ parts r (sound_before.obeys.rules Datatype).1.1.0 h)).0 in
-      let present = all_has _ parts r (sound_before.obeys.rules NotNull).1.1.0 h in
+      let typed = (and_parts _ _ (all_has _ parts r (all_has _ s.now.schema.tables part_at (tables.sound.obeys.rules Datatype) part_listed) h)).0 in
+      let present = all_has _ parts r (all_has _ s.now.schema.tables part_at (tables.sound.obeys.rules NotNull) part_listed) h in
       record {
         tld = cast_at part_at r typed 0 _ refl refl refl refl;
         tld_text = text_at part_at r typed present 0 _ refl refl refl refl refl;
@@ -160,10 +158,10 @@ module _ (today : ℕ) (s : State) (tables : HasTables record_schema s.now) wher
       }
 
   drops : (tally : Tally) (after : Database)
-      → Does s.step_limit (mode_of s) (today_only today) s.now (statement_of drop_due_text (understood record_schema drop_due_text)) None (Update 2 drop_due_program) (Ok (tally, after))
-      → Rewrites 3 (due today s.now.trees) (dropped today s.now.trees) s.now.trees tally after
+      → Does s.step_limit (mode_of s) (today_only today) s.now (statement_of drop_due_text (understood s.now.schema drop_due_text)) None (Update 2 drop_due_program) (Ok (tally, after))
+      → Rewrites record_schema.tables 3 (due today s.now.trees) (dropped today s.now.trees) s.now tally after
   drops tally after does =
-      rewrites s 2 part_at parts_and_holds due_tests dropped_places (today_only today) (among today s.now.trees) (statement_of drop_due_text (understood record_schema drop_due_text)) tables.schema_is refl refl tables.ordered.1.1.0 (λ r. refl) (λ r. refl) tally after does
+      rewrites record_schema.tables record_quiet s 2 part_at parts_and_holds due_tests dropped_places (today_only today) (among today s.now.trees) (statement_of drop_due_text (understood s.now.schema drop_due_text)) tables.begins tables.apart (inr (inr (inl refl))) (λ others. refl) refl tables.ordered.1.1.0 (λ r. refl) (λ r. refl) tally after does
 
   -- the rows after it, and the tables stay as they are made
   pub changes_due : Changes s drop_due_text (today_only today) (Update 2 drop_due_program) (without_due today)
@@ -175,31 +173,32 @@ module _ (today : ℕ) (s : State) (tables : HasTables record_schema s.now) wher
       let notices : after.trees 5 ≡ trees 5 = it.others.1.1.1.0 (λ e. omega (arith, e)) in
       let handovers : after.trees 7 ≡ trees 7 = it.others.1.1.1.1.0 (λ e. omega (arith, e)) in
       let holds : after.trees 9 ≡ trees 9 = it.others.1.1.1.1.1.0 (λ e. omega (arith, e)) in
-      let was = rows_held trees sound_before in
-      let is = rows_held after.trees (sound_as record_schema after it.schema sound) in
+      let was = rows_among trees s.now.schema tables.begins tables.sound in
+      let is = rows_among after.trees after.schema (subst (BeginsWith record_schema.tables) (sym it.schema) tables.begins) sound in
       let drop = dropped_if_due (map hold_row (trees 9)) today in
       let read : map part_row (changed_where (due today trees) (dropped today trees) parts) ≡ map drop (map part_row parts) =
       map-map part_row (λ r. cond (due today trees r) (dropped today trees r) r) parts ∙ map_has _ _ parts (λ r h. part_row_is today trees holds_are r (part_rows r h)) ∙ sym (map-map drop part_row parts) in
       let more : held_rows after.trees ≡ without_due today (held_rows trees) = rw (meta, registries, notices, handovers, holds, it.here, read) refl in
       let kept = tables.ordered in (
-        record { schema_is = it.schema; sound = sound; ordered = rw (meta, registries, notices, handovers, holds) (kept.0, (kept.1.0, (it.shaped, (kept.1.1.1.0, (kept.1.1.1.1.0, (kept.1.1.1.1.1.0, tt)))))) },
+        it.schema,
+        among_still s.now after tables it.schema sound (rw (meta, registries, notices, handovers, holds) (kept.0, (kept.1.0, (it.shaped, (kept.1.1.1.0, (kept.1.1.1.1.0, (kept.1.1.1.1.1.0, tt))))))),
         is ∙ more ∙ sym (ap (without_due today) was),
       )
 
   -- how many rows it changed
   counts_due : (tally : Tally) (after : Database)
-      → Does s.step_limit (mode_of s) (today_only today) s.now (statement_of drop_due_text (understood record_schema drop_due_text)) None (Update 2 drop_due_program) (Ok (tally, after))
+      → Does s.step_limit (mode_of s) (today_only today) s.now (statement_of drop_due_text (understood s.now.schema drop_due_text)) None (Update 2 drop_due_program) (Ok (tally, after))
       → unwrap_or tally.rows 0 ≡ count_due today (rows_in s.now.trees)
   counts_due tally after does =
       let it = drops tally after does in
       ap (λ o. unwrap_or o 0) it.counted
       ∙ count_same (due today s.now.trees) (is_due (map hold_row (s.now.trees 9)) today) part_row parts (λ r h. due_is today s.now.trees holds_are r (part_rows r h))
-      ∙ sym (ap (count_due today) (rows_held s.now.trees sound_before))
+      ∙ sym (ap (count_due today) (rows_among s.now.trees s.now.schema tables.begins tables.sound))
 
 -- the count that the statement answers
 pub drops_count : {E : Type 0} (today : ℕ) (old new : State) (r : Result ℕ E)
     → (HasCleanDisk new → IfOk r (λ count. Executes drop_due_text (today_only today) old new (Ok count)))
-    → HasCleanDisk new → IsReady record_schema old → IfOk r (λ count. count ≡ count_due today (rows_in old.now.trees))
+    → HasCleanDisk new → IsReady old → IfOk r (λ count. count ≡ count_due today (rows_in old.now.trees))
 drops_count today old new (Err e) h clean ready = tt
 drops_count today old new (Ok count) h clean ready =
     let w = written drop_due_text (today_only today) (Update 2 drop_due_program) drop_due_is (update_writes 2 drop_due_program) old new count (h clean) ready in

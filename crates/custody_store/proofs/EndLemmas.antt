@@ -13,13 +13,15 @@ use Rattle.custody_store.specs.Schema.{no_schema, first_schema, record_schema}
 use Rattle.custody_records.specs.Rows.{Rows, migrated}
 use Rattle.custody_store.specs.Reading.{rows_in}
 use Rattle.custody_store.specs.Making.{IsMaking, IsMade, none_in}
-use Rattle.custody_store.specs.Standing.{HasTables, IsAtRest, IsReady, IsBare, StandsAs, leaves, IsOneFounding, Founds, IsOneMigration, Migrates, shown, standing}
+use Rattle.custody_store.specs.Standing.{HasTables, IsAtRest, IsReady, IsAsMade, IsBare, StandsAs, leaves, IsOneFounding, Founds, IsOneMigration, Migrates, shown, standing}
 use Rattle.custody_store.specs.Calls.{IsSettled}
+use Rattle.custody_store.proofs.AmongLemmas.{as_made}
 use Rattle.custody_store.proofs.CommitLemmas.{at_rest, ready_at, stands_at, trusts}
 
 -- Tables of schema 2 are there at once with these rows, or the database stands as it stood.
 pub record IsOneEnd {A E : Type 0} (old new : State) (after : Rows) (result : Result A E) : Type 0 where
-  pub done : OnOk result (IsReady record_schema new × (rows_in new.now.trees ≡ after))
+  pub done : OnOk result (IsReady new × (rows_in new.now.trees ≡ after))
+  pub made : OnOk result (new.now.schema ≡ record_schema)
   pub kept : OnErr result (IsTrue new.is_open → StandsAs (shown old) (shown new))
   pub left : (rows : Rows) → leaves new rows → leaves old rows ⊎ (rows ≡ after)
 
@@ -33,6 +35,7 @@ module _ (old new : State) (was : IsAtRest old) (settled : IsSettled new) (clean
   undone mid (Ok x) is same back survives = absurd (let e = is in cc)
   undone mid (Err e) is same back survives = record {
     done = tt;
+    made = tt;
     kept = kept mid same back;
     left = λ rows h. elim (survives.crash clean h.0 h.1) [ inl before ↦ inl (h.0, before, h.2) | inr none ↦ absurd none ];
   }
@@ -43,13 +46,14 @@ module _ (old new : State) (was : IsAtRest old) (settled : IsSettled new) (clean
 
     pub committed : {A E : Type 0} (x : A) → Shows mid new mid.now mid.now false → IsOneEnd {E = E} old new after (Ok x)
     committed x shows = record {
-      done = (ready_at record_schema new shows.is_open shows.mode (shows.committed_is ∙ sym shows.now_is) settled (subst (HasTables record_schema) (sym shows.now_is) made.tables), ap (λ (d : Database). rows_in d.trees) shows.now_is ∙ made.rows_are);
+      done = (ready_at new shows.is_open shows.mode (shows.committed_is ∙ sym shows.now_is) settled (as_made new.now (subst (HasTables record_schema) (sym shows.now_is) made.tables)), ap (λ (d : Database). rows_in d.trees) shows.now_is ∙ made.rows_are);
+      made = ap (λ (d : Database). d.schema) shows.now_is ∙ made.tables.schema_is;
       kept = tt;
       left = left;
     }
 
     pub uncommitted : {A E : Type 0} (e : Error) (x : E) → FailsToCommit mid new e → IsOneEnd {A = A} old new after (Err x)
-    uncommitted e x (inl fails) = record { done = tt; kept = kept mid (λ _. made.committed ∙ sym was.committed) fails.3; left = left }
+    uncommitted e x (inl fails) = record { done = tt; made = tt; kept = kept mid (λ _. made.committed ∙ sym was.committed) fails.3; left = left }
     uncommitted e x (inr late) = absurd (let b = made.inside in let f = late.1 in cc)
 
 -- ---- where the transaction begins
@@ -57,7 +61,7 @@ module _ (old new : State) (was : IsAtRest old) (settled : IsSettled new) (clean
 starts : (old : State) → IsBare old → IsMaking no_schema old.now none_in (record old { in_transaction = true })
 starts old bare = record { is_open = bare.rest.is_open; inside = refl; committed = bare.rest.committed; schema_is = bare.schema; sound = bare.sound; rows_are = tt }
 
-starts_earlier : (old : State) → IsReady first_schema old → IsMaking first_schema old.now old.now.trees (record old { in_transaction = true })
+starts_earlier : (old : State) → IsAsMade first_schema old → IsMaking first_schema old.now old.now.trees (record old { in_transaction = true })
 starts_earlier old ready = record {
   is_open = ready.rest.is_open;
   inside = refl;
@@ -71,7 +75,7 @@ module _ {S : Type 0} (g : Ghosts S) (old begun : Held S) (is : begun ≡ record
   pub starts_at : IsBare (state g old) → IsMaking no_schema (state g old).now none_in (state g begun)
   starts_at bare = subst (λ h. IsMaking no_schema (state g old).now none_in (state g h)) (sym is) (starts (state g old) bare)
 
-  pub starts_earlier_at : IsReady first_schema (state g old) → IsMaking first_schema (state g old).now (state g old).now.trees (state g begun)
+  pub starts_earlier_at : IsAsMade first_schema (state g old) → IsMaking first_schema (state g old).now (state g old).now.trees (state g begun)
   starts_earlier_at ready = subst (λ h. IsMaking first_schema (state g old).now (state g old).now.trees (state g h)) (sym is) (starts_earlier (state g old) ready)
 
   pub keeps_at : (mid : State) → KeepsCommit (state g begun) mid → IsTrue mid.is_open → mid.committed ≡ (state g old).committed
@@ -83,12 +87,12 @@ module _ {S : Type 0} (g : Ghosts S) (old begun : Held S) (is : begun ≡ record
 -- ---- what the call is, which ends with no transaction open, whatever it wrote
 
 one_founding : {A E : Type 0} (old new : State) (after : Rows) (r : Result A E) → IsBare old → IsOneEnd old new after r → IsOneFounding (shown old) (shown new) after r
-one_founding old new after (Ok x) bare end = record { done = end.done; kept = tt; left = end.left }
-one_founding old new after (Err e) bare end = record { done = tt; kept = λ is_open. let still = end.kept is_open in (still.bare bare, still.rows); left = end.left }
+one_founding old new after (Ok x) bare end = record { done = end.done; made = end.made; kept = tt; left = end.left }
+one_founding old new after (Err e) bare end = record { done = tt; made = tt; kept = λ is_open. let still = end.kept is_open in (still.bare bare, still.rows); left = end.left }
 
-one_migration : {A E : Type 0} (old new : State) (r : Result A E) → IsReady first_schema old → IsOneEnd old new (migrated (rows_in old.now.trees)) r → IsOneMigration (shown old) (shown new) r
-one_migration old new (Ok x) ready end = record { done = end.done; kept = tt; left = end.left }
-one_migration old new (Err e) ready end = record { done = tt; kept = λ is_open. let still = end.kept is_open in (still.earlier ready, still.rows); left = end.left }
+one_migration : {A E : Type 0} (old new : State) (r : Result A E) → IsAsMade first_schema old → IsOneEnd old new (migrated (rows_in old.now.trees)) r → IsOneMigration (shown old) (shown new) r
+one_migration old new (Ok x) ready end = record { done = end.done; made = end.made; kept = tt; left = end.left }
+one_migration old new (Err e) ready end = record { done = tt; made = tt; kept = λ is_open. let still = end.kept is_open in (still.earlier ready, still.rows); left = end.left }
 
 module _ {S A E : Type 0} (g : Ghosts S) (old end exit : Held S) (same : end ≡ exit) (P : Trees → Type 0) (r : Result A E) (survives : Survives (state g old) (state g end) P) (ended : (state g end).in_transaction ≡ false) where
   pub founds : (after : Rows) → (HasCleanDisk (state g end) → IsBare (state g old) → IsOneEnd (state g old) (state g end) after r) → Founds (standing g old) (standing g exit) after r
@@ -98,7 +102,7 @@ module _ {S A E : Type 0} (g : Ghosts S) (old end exit : Held S) (same : end ≡
     effect = λ clean bare. one_founding (state g old) (state g end) after r bare (effect clean bare);
   })
 
-  pub migrates : (HasCleanDisk (state g end) → IsReady first_schema (state g old) → IsOneEnd (state g old) (state g end) (migrated (rows_in (state g old).now.trees)) r) → Migrates (standing g old) (standing g exit) r
+  pub migrates : (HasCleanDisk (state g end) → IsAsMade first_schema (state g old) → IsOneEnd (state g old) (state g end) (migrated (rows_in (state g old).now.trees)) r) → Migrates (standing g old) (standing g exit) r
   migrates effect = subst (λ h. Migrates (standing g old) (standing g h) r) same (record {
     trust = trusts (state g old) (state g end) P survives;
     mode = λ _. ended;

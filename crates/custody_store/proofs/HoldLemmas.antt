@@ -12,7 +12,8 @@ use Rattle.sqlite_schema.specs.declared.schema.Constraint.TheVariants.{Datatype,
 use Rattle.sqlite_catalog.specs.Listing.{IsSound}
 use Rattle.sqlite_rules.specs.Lists.{Has}
 use Rattle.sqlite_rules.proofs.ListLemmas.{all_has}
-use Rattle.custody_store.specs.Schema.{record_schema, hold_table}
+use Rattle.sqlite.specs.Schema.{Schema}
+use Rattle.custody_store.specs.Schema.{hold_table}
 use Rattle.custody_store.proofs.ColumnLemmas.{cast_at, int_at, text_at}
 use Rattle.custody_store.proofs.RowLemmas.{at_tree}
 
@@ -28,10 +29,10 @@ pub record IsHoldRow (r : Row) : Type 0 where
   pub day_int : column r 3 ≡ Int (id_in (column r 3))
   pub at : cast kinds.Integer (column r 4) ≡ column r 4
 
-pub hold_rows : (trees : Trees) → IsSound record_schema trees → (r : Row) → Has (trees 9) r → IsHoldRow r
-hold_rows trees sound r has =
-    let typed = (and_parts _ _ (all_has _ (trees 9) r (sound.obeys.rules Datatype).1.1.1.1.1.0 has)).0 in
-    let present = all_has _ (trees 9) r (sound.obeys.rules NotNull).1.1.1.1.1.0 has in
+pub hold_rows : (schema : Schema) (trees : Trees) → IsSound schema trees → Has schema.tables hold_at → (r : Row) → Has (trees 9) r → IsHoldRow r
+hold_rows schema trees sound listed r has =
+    let typed = (and_parts _ _ (all_has _ (trees 9) r (all_has _ schema.tables hold_at (sound.obeys.rules Datatype) listed) has)).0 in
+    let present = all_has _ (trees 9) r (all_has _ schema.tables hold_at (sound.obeys.rules NotNull) listed) has in
     record {
       reference = cast_at hold_at r typed 0 _ refl refl refl refl;
       reference_text = text_at hold_at r typed present 0 _ refl refl refl refl refl;

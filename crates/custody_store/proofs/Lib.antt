@@ -19,6 +19,9 @@ pub mod ReadLemmas
 pub mod MakingLemmas
 pub mod ModeLemmas
 pub mod EndLemmas
+pub mod TogetherLemmas
 pub mod FormLemmas
 pub mod MissingLemmas
 pub mod MigrationLemmas
+pub mod ActionLemmas
+pub mod AmongLemmas

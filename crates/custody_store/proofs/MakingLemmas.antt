@@ -29,7 +29,8 @@ use Rattle.custody_store.specs.Schema.{record_schema, meta_table}
 use Rattle.custody_records.specs.Rows.{fresh}
 use Rattle.custody_store.specs.Reading.{rows_in}
 use Rattle.custody_store.specs.Making.{IsMade, none_in}
-use Rattle.custody_store.proofs.StatementLemmas.{insert_meta_text, meta_source, insert_meta_is}
+use Rattle.custody_store.specs.Statements.{insert_meta_text}
+use Rattle.custody_store.proofs.StatementLemmas.{meta_source, insert_meta_is, over_schema_2}
 use Rattle.custody_store.proofs.TableLemmas.{rows_held, held_rows, sound_as}
 use Rattle.custody_store.proofs.InsertLemmas.{went, same_value, puts}
 use Rattle.custody_store.proofs.RowLemmas.{cast_null, cast_int, at_tree}
@@ -89,7 +90,8 @@ module _ (number : List ℕ) (blocks : ℤ) where
       let trees = old.now.trees in
       let db : Database = record { schema = record_schema; trees = trees } in
       let text = statement_of insert_meta_text (understood record_schema insert_meta_text) in
-      let w : Writes old new None (Insert 0 meta_source) text params count = runs_as insert_meta_text params old new record_schema making.schema_is (Insert 0 meta_source) insert_meta_is.is insert_meta_is.plain count h.0 in
+      let means = over_schema_2 insert_meta_is in
+      let w : Writes old new None (Insert 0 meta_source) text params count = runs_as insert_meta_text params old new record_schema making.schema_is (Insert 0 meta_source) means.is means.plain count h.0 in
       let here = subst (λ t. Does old.step_limit (mode_of old) params (record old.now { schema = t }) text None (Insert 0 meta_source) (Ok (w.tally, new.now))) making.schema_is w.changed in
       let it = puts old.step_limit (mode_of old) db new.now (at_tree 0 meta_table) params text 0 meta_source w.tally refl here in
       let edit = edit_of trees (at_tree 0 meta_table) [] Chosen 0 (source ∷ []) in

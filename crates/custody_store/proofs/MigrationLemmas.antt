@@ -1,5 +1,5 @@
 -- The UPDATE that writes the number of schema 2 into meta, in the transaction that has made the table of holds.
-use Rattle.std.proofs.Common.{◌≡◌, ℕ, pos, [], ◌∷◌, map, codes, None, Ok, refl, sym, ap, subst, ◌∙◌, arith}
+use Rattle.std.proofs.Common.{◌≡◌, inl, ℕ, pos, [], ◌∷◌, map, codes, None, Ok, refl, sym, ap, subst, ◌∙◌, arith}
 use Rattle.std.proofs.lemmas.Bool.{and_parts}
 use Rattle.sqlite.specs.Order.{Row}
 use Rattle.sqlite.specs.Term.{Env}
@@ -23,8 +23,11 @@ use Rattle.custody_records.specs.Rows.{MetaRow, migrated}
 use Rattle.custody_store.specs.Schema.{first_schema, record_schema, meta_table}
 use Rattle.custody_store.specs.Reading.{rows_in, meta_row}
 use Rattle.custody_store.specs.Making.{IsMaking, IsMade}
-use Rattle.custody_store.specs.Standing.{HasTables}
-use Rattle.custody_store.proofs.StatementLemmas.{set_schema_text, set_schema_places, set_schema_program, set_schema_is}
+use Rattle.custody_store.specs.Standing.{HasTables, BeginsWith, AreApart}
+use Rattle.sqlite.specs.Schema.{Schema}
+use Rattle.custody_store.proofs.AmongLemmas.{record_quiet, record_apart}
+use Rattle.custody_store.specs.Statements.{set_schema_text}
+use Rattle.custody_store.proofs.StatementLemmas.{set_schema_places, set_schema_program, set_schema_is, over_schema_2}
 use Rattle.custody_store.proofs.TableLemmas.{rows_first, rows_held, held_beside, held_rows, sound_as}
 use Rattle.custody_store.proofs.UpdateLemmas.{rewrites, heir, heir_rowid}
 use Rattle.custody_store.proofs.TestLemmas.{map_has}
@@ -79,14 +82,18 @@ pub sets_schema : (first : Database) (old new : State) (count : ℕ) → HasTabl
     → IsMade (migrated (rows_in first.trees)) first new
 sets_schema first old new count tables making h =
     let text = statement_of set_schema_text (understood record_schema set_schema_text) in
-    let w : Writes old new None (Update 0 set_schema_program) text [] count = runs_as set_schema_text [] old new record_schema making.schema_is (Update 0 set_schema_program) set_schema_is.is set_schema_is.plain count h.0 in
+    let means = over_schema_2 set_schema_is in
+    let w : Writes old new None (Update 0 set_schema_program) text [] count = runs_as set_schema_text [] old new record_schema making.schema_is (Update 0 set_schema_program) means.is means.plain count h.0 in
     let before = sound_as record_schema old.now making.schema_is making.sound in
     let was = making.rows_are in
     let trees = old.now.trees in
     let after = new.now.trees in
     let up = tables.ordered in
     let shaped : IsShaped shape.Table (trees 0) = subst (IsShaped shape.Table) (sym was.0) up.0 in
-    let it = rewrites old 0 meta_at (inner 0 end) [] set_schema_places [] alone text making.schema_is refl refl shaped (λ r. refl) (λ r. refl) w.tally new.now w.changed in
+    let begins : BeginsWith record_schema.tables old.now.schema = ([], ap (λ (t : Schema). t.tables) making.schema_is) in
+    let apart = subst (λ (t : Schema). AreApart t.tables) (sym making.schema_is) record_apart in
+    let it = rewrites record_schema.tables record_quiet old 0 meta_at (inner 0 end) [] set_schema_places [] alone text begins apart (inl refl) (λ others. refl) refl shaped (λ r. refl) (λ r. refl) w.tally new.now w.changed in
+    let schema : new.now.schema ≡ record_schema = it.schema ∙ making.schema_is in
     let registries : after 1 ≡ first.trees 1 = it.others.1.0 (λ e. omega (arith, e)) ∙ was.1.0 in
     let parts : after 3 ≡ first.trees 3 = it.others.1.1.0 (λ e. omega (arith, e)) ∙ was.1.1.0 in
     let notices : after 5 ≡ first.trees 5 = it.others.1.1.1.0 (λ e. omega (arith, e)) ∙ was.1.1.1.0 in
@@ -99,6 +106,6 @@ sets_schema first old new count tables making h =
       is_open = w.shown.is_open;
       inside = h.1.mode;
       committed = h.1.committed_is ∙ making.committed;
-      tables = record { schema_is = it.schema; sound = w.sound; ordered = rw (registries, parts, notices, handovers, holds) (it.shaped, (up.1.0, (up.1.1.0, (up.1.1.1.0, (up.1.1.1.1.0, ((tt, tt), tt)))))) };
-      rows_are = rows_held after (sound_as record_schema new.now it.schema w.sound) ∙ same ∙ sym (ap migrated (earlier_rows first tables));
+      tables = record { schema_is = schema; sound = w.sound; ordered = rw (registries, parts, notices, handovers, holds) (it.shaped, (up.1.0, (up.1.1.0, (up.1.1.1.0, (up.1.1.1.1.0, ((tt, tt), tt)))))) };
+      rows_are = rows_held after (sound_as record_schema new.now schema w.sound) ∙ same ∙ sym (ap migrated (earlier_rows first tables));
     }

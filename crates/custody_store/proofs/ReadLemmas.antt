@@ -9,7 +9,7 @@ use Rattle.sqlite.specs.Table.{Table}
 use Rattle.sqlite_schema.specs.Names.{same_name}
 use Rattle.custody_store.specs.Schema.{meta_schema, first_schema, record_schema}
 use Rattle.custody_store.specs.Reading.{has_table}
-use Rattle.custody_store.specs.Standing.{Standing, IsReady, HasFirst, HasTablesFirst, StandsAs, shown, has_all, Reads}
+use Rattle.custody_store.specs.Standing.{Standing, IsReady, IsAsMade, HasFirst, HasTablesFirst, StandsAs, shown, has_all, Reads}
 use Rattle.custody_store.proofs.CommitLemmas.{stands_at}
 
 pub on_ok : {A E : Type 0} (r : Result A E) {P : Type 0} → P → OnOk r P
@@ -30,6 +30,7 @@ reads_none s r = record {
 stands_then : (a b c : Standing) → StandsAs a b → StandsAs b c → StandsAs a c
 stands_then a b c p q = record {
   rows = q.rows ∙ p.rows;
+  schema = q.schema ∙ p.schema;
   rest = q.rest;
   ready = λ h. q.ready (p.ready h);
   earlier = λ h. q.earlier (p.earlier h);
@@ -74,7 +75,7 @@ unfolding same_name
 holds_apart = refl
 
 -- the tables of a schema are the first where there are no others
-first_of : (schema : Schema) (s : State) → IsReady schema s → HasFirst schema.tables s
+first_of : (schema : Schema) (s : State) → IsAsMade schema s → HasFirst schema.tables s
 first_of schema s ready = record {
   rest = ready.rest;
   begins = ([], ap (λ (t : Schema). t.tables) ready.tables.schema_is ∙ sym (append-nil schema.tables));
@@ -91,11 +92,13 @@ five_of_six s at = record {
   ordered = let up = at.ordered in (up.0, (up.1.0, (up.1.1.0, (up.1.1.1.0, (up.1.1.1.1.0, tt)))));
 }
 
-pub first_of_ready : (s : State) → IsReady record_schema s → HasTablesFirst s
-first_of_ready s ready = let six = first_of record_schema s ready in (five_of_six s six, λ _. six)
+pub first_of_ready : (s : State) → IsReady s → HasTablesFirst s
+first_of_ready s ready =
+    let six : HasFirst record_schema.tables s = record { rest = ready.rest; begins = ready.tables.begins; sound = ready.tables.sound; ordered = ready.tables.ordered } in
+    (five_of_six s six, λ _. six)
 
 -- where there is no table of holds, nothing is said of it
-pub first_of_earlier : (s : State) → IsReady first_schema s → HasTablesFirst s
+pub first_of_earlier : (s : State) → IsAsMade first_schema s → HasTablesFirst s
 first_of_earlier s ready = (
   first_of first_schema s ready,
   λ there. absurd (false≢true (sym (ap (λ (t : Schema). any_named (codes "hold") t.tables) ready.tables.schema_is ∙ holds_apart) ∙ there)),

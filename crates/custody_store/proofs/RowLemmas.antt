@@ -1,8 +1,8 @@
 -- Each INSERT adds one row at the end of its table.
-use Rattle.std.proofs.Common.{◌≡◌, ℕ, ℤ, List, [], ◌∷◌, Bool, true, false, cond, Option, Some, None, Ok, Result, slice_get, refl, sym, ap, subst, ◌∙◌, arith}
+use Rattle.std.proofs.Common.{◌≡◌, ℕ, ℤ, List, [], ◌∷◌, ◌++◌, Bool, true, false, cond, Option, Some, None, Ok, Result, slice_get, refl, sym, ap, subst, ◌∙◌, arith}
 use Rattle.std.proofs.lemmas.List.{map-append}
 use Rattle.sqlite.specs.declared.types.Value.{Value}
-use Rattle.sqlite.specs.declared.types.Value.TheVariants.{Null, Int, Text, Blob}
+use Rattle.sqlite.specs.declared.types.Value.TheVariants.{Null, Int}
 use Rattle.sqlite.specs.Order.{Row}
 use Rattle.sqlite.specs.Values.{bound_value}
 use Rattle.sqlite.specs.Ops.{unary}
@@ -18,18 +18,19 @@ use Rattle.sqlite.specs.Edit.{edit_of}
 use Rattle.sqlite.specs.Rowids.TheVariants.{Chosen}
 use Rattle.sqlite_trees.specs.declared.store.Shape.TheVariants as shape
 use Rattle.sqlite_trees.specs.View.{IsShaped}
-use Rattle.sqlite_rules.specs.Action.{works, Writes}
+use Rattle.sqlite_rules.specs.Action.{Writes}
 use Rattle.sqlite.specs.Listing.{understood}
 use Rattle.sqlite.proofs.Callers.{statement_of}
 use Rattle.custody_store.specs.Schema.{record_schema, registry_table, part_table, notice_table, handover_table, hold_table}
 use Rattle.custody_records.specs.Rows.{RegistryRow, PartRow, NoticeRow, HandoverRow, HoldRow, with_registry_row, with_part_row, with_notice_row, with_handover_row, with_hold_row}
-use Rattle.custody_store.specs.Reading.{rows_in, integer_unless_null, integer_or_null}
-use Rattle.custody_store.specs.Standing.{HasTables, shown, Commits}
+use Rattle.custody_store.specs.Reading.{rows_in, bytes_unless_null, bytes_or_null, integer_unless_null, integer_or_null}
+use Rattle.custody_store.specs.Standing.{HasAmong, BeginsWith, shown, Commits}
 use Rattle.custody_store.specs.Calls.{Runs}
-use Rattle.custody_store.proofs.StatementLemmas.{insert_registry_text, registry_source, insert_registry_is, insert_part_text, part_source, insert_part_is, insert_notice_text, notice_source, insert_notice_is, insert_handover_text, handover_source, insert_handover_is, insert_hold_text, hold_source, insert_hold_is}
-use Rattle.custody_store.proofs.TableLemmas.{rows_held, held_rows, sound_as}
+use Rattle.custody_store.specs.Statements.{insert_registry_text, registry_columns, insert_part_text, part_columns, insert_notice_text, notice_columns, insert_handover_text, handover_columns, insert_hold_text, hold_columns}
+use Rattle.custody_store.proofs.StatementLemmas.{registry_source, insert_registry_is, part_source, insert_part_is, notice_source, insert_notice_is, handover_source, insert_handover_is, hold_source, insert_hold_is}
+use Rattle.custody_store.proofs.TableLemmas.{rows_among, held_rows}
 use Rattle.custody_store.proofs.InsertLemmas.{puts, put_one, PutsLast, plain_table}
-use Rattle.custody_store.proofs.CommitLemmas.{Changes, commits_change, insert_writes}
+use Rattle.custody_store.proofs.CommitLemmas.{Changes, among_still, commits_change, insert_writes}
 
 either : (b : Bool) (x : Value) → cond b x x ≡ x
 either true x = refl
@@ -49,41 +50,34 @@ at_tree tree t = record t { tree = tree }
 
 -- one row of these columns went in at the end of the table in this tree
 record PutsRow (old : State) (tree : ℕ) (columns : Row) (after : Database) : Type 0 where
-  schema : after.schema ≡ record_schema
+  schema : after.schema ≡ old.now.schema
   was : rows_in old.now.trees ≡ held_rows old.now.trees
   is : rows_in after.trees ≡ held_rows after.trees
-  put : PutsLast old.now.trees after.trees tree columns
+  put : PutsLast record_schema.tables old.now.trees after.trees tree columns
 
-module _ (s : State) (tables : HasTables record_schema s.now) (at tree : ℕ) (t : Table) (from : Source) (columns : Row) (text : List ℕ) where
+module _ (s : State) (tables : HasAmong record_schema.tables s.now) (at tree : ℕ) (t : Table) (from : Source) (columns : Row) (text : List ℕ) where
   abbrev table : Table
   table = plain_table (at_tree tree t)
 
-  abbrev here : Database
-  here = record { schema = record_schema; trees = s.now.trees }
-
-  puts_row : slice_get record_schema.tables at ≡ Some table → ((rows : List Row) → IsSource here columns from rows → rows ≡ (Null ∷ columns) ∷ []) → IsShaped shape.Table (s.now.trees tree)
-      → cast_row table (Null ∷ columns) ≡ Null ∷ columns → works record_schema (mode_of s).keys 0 tree [] (edit_of s.now.trees table [] Chosen 0 ((Null ∷ columns) ∷ [])).news ≡ []
+  puts_row : ((others : List Table) → slice_get (record_schema.tables ++ others) at ≡ Some table) → ((rows : List Row) → IsSource s.now columns from rows → rows ≡ (Null ∷ columns) ∷ []) → IsShaped shape.Table (s.now.trees tree)
+      → cast_row table (Null ∷ columns) ≡ Null ∷ columns
       → (tally : Tally) (after : Database) → Does s.step_limit (mode_of s) columns s.now text None (Insert at from) (Ok (tally, after)) → IsDatabase after → PutsRow s tree columns after
-  puts_row found source shaped typed alone tally after does sound =
-      let over = subst (λ d. Does s.step_limit (mode_of s) columns (record s.now { schema = d }) text None (Insert at from) (Ok (tally, after))) tables.schema_is does in
-      let it = puts s.step_limit (mode_of s) here after (at_tree tree t) columns text at from tally found over in
-      let wrote = subst (λ rows. Writes record_schema (mode_of s).keys s.now.trees (edit_of s.now.trees table [] Chosen 0 rows) (Ok after.trees)) (source it.rows it.source) it.applied in
+  puts_row found source shaped typed tally after does sound =
+      let it = puts s.step_limit (mode_of s) s.now after (at_tree tree t) columns text at from tally (ap (λ l. slice_get l at) tables.begins.1 ∙ found tables.begins.0) does in
+      let wrote = subst (λ rows. Writes s.now.schema (mode_of s).keys s.now.trees (edit_of s.now.trees table [] Chosen 0 rows) (Ok after.trees)) (source it.rows it.source) it.applied in
       record {
         schema = it.schema;
-        was = rows_held s.now.trees (sound_as record_schema s.now tables.schema_is tables.sound);
-        is = rows_held after.trees (sound_as record_schema after it.schema sound);
-        put = put_one s.now.trees after.trees table (mode_of s).keys (Null ∷ columns) columns shaped typed alone wrote;
+        was = rows_among s.now.trees s.now.schema tables.begins tables.sound;
+        is = rows_among after.trees after.schema (subst (BeginsWith record_schema.tables) (sym it.schema) tables.begins) sound;
+        put = put_one record_schema.tables s.now.schema tables.begins s.now.trees after.trees table (mode_of s).keys (Null ∷ columns) columns shaped typed wrote;
       }
 
 -- ---- registry
 
-abbrev pub registry_columns : RegistryRow → Row
-registry_columns row = Text row.tld ∷ Int row.first_day ∷ []
-
-adds_registry : (s : State) (row : RegistryRow) → HasTables record_schema s.now → Changes s insert_registry_text (registry_columns row) (Insert 1 registry_source) (with_registry_row row)
+adds_registry : (s : State) (row : RegistryRow) → HasAmong record_schema.tables s.now → Changes s insert_registry_text (registry_columns row) (Insert 1 registry_source) (with_registry_row row)
 adds_registry s row tables tally after does sound =
     let typed : cast_row (at_tree 1 registry_table) (Null ∷ registry_columns row) ≡ Null ∷ registry_columns row = rw (cast_null, cast_int row.first_day) refl in
-    let it = puts_row s tables 1 1 registry_table registry_source (registry_columns row) (statement_of insert_registry_text (understood record_schema insert_registry_text)) refl (λ rows is. is.1) tables.ordered.1.0 typed refl tally after does sound in
+    let it = puts_row s tables 1 1 registry_table registry_source (registry_columns row) (statement_of insert_registry_text (understood s.now.schema insert_registry_text)) (λ others. refl) (λ rows is. is.1) tables.ordered.1.0 typed tally after does sound in
     let meta : after.trees 0 ≡ s.now.trees 0 = it.put.others.0 (λ e. omega (arith, e)) in
     let parts : after.trees 3 ≡ s.now.trees 3 = it.put.others.1.1.0 (λ e. omega (arith, e)) in
     let notices : after.trees 5 ≡ s.now.trees 5 = it.put.others.1.1.1.0 (λ e. omega (arith, e)) in
@@ -91,7 +85,8 @@ adds_registry s row tables tally after does sound =
     let holds : after.trees 9 ≡ s.now.trees 9 = it.put.others.1.1.1.1.1.0 (λ e. omega (arith, e)) in
     let more : held_rows after.trees ≡ with_registry_row row (held_rows s.now.trees) = rw (meta, parts, notices, handovers, holds, it.put.here, map-append) refl in
     let kept = tables.ordered in (
-      record { schema_is = it.schema; sound = sound; ordered = rw (meta, parts, notices, handovers, holds) (kept.0, (it.put.shaped, (kept.1.1.0, (kept.1.1.1.0, (kept.1.1.1.1.0, (kept.1.1.1.1.1.0, tt)))))) },
+      it.schema,
+      among_still s.now after tables it.schema sound (rw (meta, parts, notices, handovers, holds) (kept.0, (it.put.shaped, (kept.1.1.0, (kept.1.1.1.0, (kept.1.1.1.1.0, (kept.1.1.1.1.1.0, tt))))))),
       it.is ∙ more ∙ sym (ap (with_registry_row row) it.was),
     )
 
@@ -100,36 +95,35 @@ inserts_registry old new row r = commits_change insert_registry_text (registry_c
 
 -- ---- part
 
-abbrev pub part_columns : PartRow → List ℕ → Row
-part_columns row extents = Text row.tld ∷ Int row.day ∷ Int row.rev ∷ Int row.part ∷ Text row.kind ∷ Int row.received ∷ Int row.keep_day ∷ Int row.len ∷ Blob row.sha ∷ Blob extents ∷ []
+read_bytes : (extents : Option (List ℕ)) → bytes_unless_null (bytes_or_null extents) ≡ extents
+read_bytes None = refl
+read_bytes (Some b) = refl
 
-adds_part : (s : State) (row : PartRow) (extents : List ℕ) → HasTables record_schema s.now → row.extents ≡ Some extents → Changes s insert_part_text (part_columns row extents) (Insert 2 part_source) (with_part_row row)
-adds_part s row extents tables held tally after does sound =
-    let typed : cast_row (at_tree 3 part_table) (Null ∷ part_columns row extents) ≡ Null ∷ part_columns row extents = rw (cast_null, cast_int row.day, cast_int row.rev, cast_int row.part, cast_int row.received, cast_int row.keep_day, cast_int row.len) refl in
-    let it = puts_row s tables 2 3 part_table part_source (part_columns row extents) (statement_of insert_part_text (understood record_schema insert_part_text)) refl (λ rows is. is.1) tables.ordered.1.1.0 typed refl tally after does sound in
+adds_part : (s : State) (row : PartRow) → HasAmong record_schema.tables s.now → Changes s insert_part_text (part_columns row) (Insert 2 part_source) (with_part_row row)
+adds_part s row tables tally after does sound =
+    let typed : cast_row (at_tree 3 part_table) (Null ∷ part_columns row) ≡ Null ∷ part_columns row = rw (cast_null, cast_int row.day, cast_int row.rev, cast_int row.part, cast_int row.received, cast_int row.keep_day, cast_int row.len) refl in
+    let it = puts_row s tables 2 3 part_table part_source (part_columns row) (statement_of insert_part_text (understood s.now.schema insert_part_text)) (λ others. refl) (λ rows is. is.1) tables.ordered.1.1.0 typed tally after does sound in
     let meta : after.trees 0 ≡ s.now.trees 0 = it.put.others.0 (λ e. omega (arith, e)) in
     let registries : after.trees 1 ≡ s.now.trees 1 = it.put.others.1.0 (λ e. omega (arith, e)) in
     let notices : after.trees 5 ≡ s.now.trees 5 = it.put.others.1.1.1.0 (λ e. omega (arith, e)) in
     let handovers : after.trees 7 ≡ s.now.trees 7 = it.put.others.1.1.1.1.0 (λ e. omega (arith, e)) in
     let holds : after.trees 9 ≡ s.now.trees 9 = it.put.others.1.1.1.1.1.0 (λ e. omega (arith, e)) in
-    let more : held_rows after.trees ≡ with_part_row row (held_rows s.now.trees) = rw (meta, registries, notices, handovers, holds, it.put.here, map-append, held) refl in
+    let more : held_rows after.trees ≡ with_part_row row (held_rows s.now.trees) = rw (meta, registries, notices, handovers, holds, it.put.here, map-append, read_bytes row.extents) refl in
     let kept = tables.ordered in (
-      record { schema_is = it.schema; sound = sound; ordered = rw (meta, registries, notices, handovers, holds) (kept.0, (kept.1.0, (it.put.shaped, (kept.1.1.1.0, (kept.1.1.1.1.0, (kept.1.1.1.1.1.0, tt)))))) },
+      it.schema,
+      among_still s.now after tables it.schema sound (rw (meta, registries, notices, handovers, holds) (kept.0, (kept.1.0, (it.put.shaped, (kept.1.1.1.0, (kept.1.1.1.1.0, (kept.1.1.1.1.1.0, tt))))))),
       it.is ∙ more ∙ sym (ap (with_part_row row) it.was),
     )
 
-pub inserts_part : {A E : Type 0} (old new : State) (row : PartRow) (extents : List ℕ) (r : Result A E) → row.extents ≡ Some extents → Runs insert_part_text (part_columns row extents) old new r → Commits (shown old) (shown new) (with_part_row row (rows_in old.now.trees)) r
-inserts_part old new row extents r held = commits_change insert_part_text (part_columns row extents) (Insert 2 part_source) insert_part_is (insert_writes 2 part_source) old new (with_part_row row) r (λ ready. adds_part old row extents ready.tables held)
+pub inserts_part : {A E : Type 0} (old new : State) (row : PartRow) (r : Result A E) → Runs insert_part_text (part_columns row) old new r → Commits (shown old) (shown new) (with_part_row row (rows_in old.now.trees)) r
+inserts_part old new row r = commits_change insert_part_text (part_columns row) (Insert 2 part_source) insert_part_is (insert_writes 2 part_source) old new (with_part_row row) r (λ ready. adds_part old row ready.tables)
 
 -- ---- notice
 
-abbrev pub notice_columns : NoticeRow → Row
-notice_columns row = Text row.tld ∷ Int row.number ∷ Int row.kind ∷ Int row.day ∷ Int row.rev ∷ Text row.id ∷ Int row.at ∷ []
-
-adds_notice : (s : State) (row : NoticeRow) → HasTables record_schema s.now → Changes s insert_notice_text (notice_columns row) (Insert 3 notice_source) (with_notice_row row)
+adds_notice : (s : State) (row : NoticeRow) → HasAmong record_schema.tables s.now → Changes s insert_notice_text (notice_columns row) (Insert 3 notice_source) (with_notice_row row)
 adds_notice s row tables tally after does sound =
     let typed : cast_row (at_tree 5 notice_table) (Null ∷ notice_columns row) ≡ Null ∷ notice_columns row = rw (cast_null, cast_int row.number, cast_int row.kind, cast_int row.day, cast_int row.rev, cast_int row.at) refl in
-    let it = puts_row s tables 3 5 notice_table notice_source (notice_columns row) (statement_of insert_notice_text (understood record_schema insert_notice_text)) refl (λ rows is. is.1) tables.ordered.1.1.1.0 typed refl tally after does sound in
+    let it = puts_row s tables 3 5 notice_table notice_source (notice_columns row) (statement_of insert_notice_text (understood s.now.schema insert_notice_text)) (λ others. refl) (λ rows is. is.1) tables.ordered.1.1.1.0 typed tally after does sound in
     let meta : after.trees 0 ≡ s.now.trees 0 = it.put.others.0 (λ e. omega (arith, e)) in
     let registries : after.trees 1 ≡ s.now.trees 1 = it.put.others.1.0 (λ e. omega (arith, e)) in
     let parts : after.trees 3 ≡ s.now.trees 3 = it.put.others.1.1.0 (λ e. omega (arith, e)) in
@@ -137,7 +131,8 @@ adds_notice s row tables tally after does sound =
     let holds : after.trees 9 ≡ s.now.trees 9 = it.put.others.1.1.1.1.1.0 (λ e. omega (arith, e)) in
     let more : held_rows after.trees ≡ with_notice_row row (held_rows s.now.trees) = rw (meta, registries, parts, handovers, holds, it.put.here, map-append) refl in
     let kept = tables.ordered in (
-      record { schema_is = it.schema; sound = sound; ordered = rw (meta, registries, parts, handovers, holds) (kept.0, (kept.1.0, (kept.1.1.0, (it.put.shaped, (kept.1.1.1.1.0, (kept.1.1.1.1.1.0, tt)))))) },
+      it.schema,
+      among_still s.now after tables it.schema sound (rw (meta, registries, parts, handovers, holds) (kept.0, (kept.1.0, (kept.1.1.0, (it.put.shaped, (kept.1.1.1.1.0, (kept.1.1.1.1.1.0, tt))))))),
       it.is ∙ more ∙ sym (ap (with_notice_row row) it.was),
     )
 
@@ -146,13 +141,10 @@ inserts_notice old new row r = commits_change insert_notice_text (notice_columns
 
 -- ---- handover
 
-abbrev pub handover_columns : HandoverRow → Row
-handover_columns row = Text row.reference ∷ Text row.tld ∷ Text row.reason ∷ Int row.at ∷ Text row.names ∷ []
-
-adds_handover : (s : State) (row : HandoverRow) → HasTables record_schema s.now → Changes s insert_handover_text (handover_columns row) (Insert 4 handover_source) (with_handover_row row)
+adds_handover : (s : State) (row : HandoverRow) → HasAmong record_schema.tables s.now → Changes s insert_handover_text (handover_columns row) (Insert 4 handover_source) (with_handover_row row)
 adds_handover s row tables tally after does sound =
     let typed : cast_row (at_tree 7 handover_table) (Null ∷ handover_columns row) ≡ Null ∷ handover_columns row = rw (cast_null, cast_int row.at) refl in
-    let it = puts_row s tables 4 7 handover_table handover_source (handover_columns row) (statement_of insert_handover_text (understood record_schema insert_handover_text)) refl (λ rows is. is.1) tables.ordered.1.1.1.1.0 typed refl tally after does sound in
+    let it = puts_row s tables 4 7 handover_table handover_source (handover_columns row) (statement_of insert_handover_text (understood s.now.schema insert_handover_text)) (λ others. refl) (λ rows is. is.1) tables.ordered.1.1.1.1.0 typed tally after does sound in
     let meta : after.trees 0 ≡ s.now.trees 0 = it.put.others.0 (λ e. omega (arith, e)) in
     let registries : after.trees 1 ≡ s.now.trees 1 = it.put.others.1.0 (λ e. omega (arith, e)) in
     let parts : after.trees 3 ≡ s.now.trees 3 = it.put.others.1.1.0 (λ e. omega (arith, e)) in
@@ -160,7 +152,8 @@ adds_handover s row tables tally after does sound =
     let holds : after.trees 9 ≡ s.now.trees 9 = it.put.others.1.1.1.1.1.0 (λ e. omega (arith, e)) in
     let more : held_rows after.trees ≡ with_handover_row row (held_rows s.now.trees) = rw (meta, registries, parts, notices, holds, it.put.here, map-append) refl in
     let kept = tables.ordered in (
-      record { schema_is = it.schema; sound = sound; ordered = rw (meta, registries, parts, notices, holds) (kept.0, (kept.1.0, (kept.1.1.0, (kept.1.1.1.0, (it.put.shaped, (kept.1.1.1.1.1.0, tt)))))) },
+      it.schema,
+      among_still s.now after tables it.schema sound (rw (meta, registries, parts, notices, holds) (kept.0, (kept.1.0, (kept.1.1.0, (kept.1.1.1.0, (it.put.shaped, (kept.1.1.1.1.1.0, tt))))))),
       it.is ∙ more ∙ sym (ap (with_handover_row row) it.was),
     )
 
@@ -168,9 +161,6 @@ pub inserts_handover : {A E : Type 0} (old new : State) (row : HandoverRow) (r :
 inserts_handover old new row r = commits_change insert_handover_text (handover_columns row) (Insert 4 handover_source) insert_handover_is (insert_writes 4 handover_source) old new (with_handover_row row) r (λ ready. adds_handover old row ready.tables)
 
 -- ---- hold
-
-abbrev pub hold_columns : HoldRow → Row
-hold_columns row = Text row.reference ∷ Text row.tld ∷ Int row.day ∷ Int row.at ∷ integer_or_null row.lifted ∷ []
 
 cast_moment : (lifted : Option ℤ) → cast Integer (integer_or_null lifted) ≡ integer_or_null lifted
 cast_moment None = cast_null
@@ -184,10 +174,10 @@ read_moment : (lifted : Option ℤ) → integer_unless_null (integer_or_null lif
 read_moment None = refl
 read_moment (Some at) = refl
 
-adds_hold : (s : State) (row : HoldRow) → HasTables record_schema s.now → Changes s insert_hold_text (hold_columns row) (Insert 5 hold_source) (with_hold_row row)
+adds_hold : (s : State) (row : HoldRow) → HasAmong record_schema.tables s.now → Changes s insert_hold_text (hold_columns row) (Insert 5 hold_source) (with_hold_row row)
 adds_hold s row tables tally after does sound =
     let typed : cast_row (at_tree 9 hold_table) (Null ∷ hold_columns row) ≡ Null ∷ hold_columns row = rw (cast_null, cast_int row.day, cast_int row.at, cast_moment row.lifted) refl in
-    let it = puts_row s tables 5 9 hold_table hold_source (hold_columns row) (statement_of insert_hold_text (understood record_schema insert_hold_text)) refl (λ rows is. is.1) tables.ordered.1.1.1.1.1.0 typed refl tally after does sound in
+    let it = puts_row s tables 5 9 hold_table hold_source (hold_columns row) (statement_of insert_hold_text (understood s.now.schema insert_hold_text)) (λ others. refl) (λ rows is. is.1) tables.ordered.1.1.1.1.1.0 typed tally after does sound in
     let meta : after.trees 0 ≡ s.now.trees 0 = it.put.others.0 (λ e. omega (arith, e)) in
     let registries : after.trees 1 ≡ s.now.trees 1 = it.put.others.1.0 (λ e. omega (arith, e)) in
     let parts : after.trees 3 ≡ s.now.trees 3 = it.put.others.1.1.0 (λ e. omega (arith, e)) in
@@ -195,7 +185,8 @@ adds_hold s row tables tally after does sound =
     let handovers : after.trees 7 ≡ s.now.trees 7 = it.put.others.1.1.1.1.0 (λ e. omega (arith, e)) in
     let more : held_rows after.trees ≡ with_hold_row row (held_rows s.now.trees) = rw (meta, registries, parts, notices, handovers, it.put.here, map-append, read_moment row.lifted) refl in
     let kept = tables.ordered in (
-      record { schema_is = it.schema; sound = sound; ordered = rw (meta, registries, parts, notices, handovers) (kept.0, (kept.1.0, (kept.1.1.0, (kept.1.1.1.0, (kept.1.1.1.1.0, (it.put.shaped, tt)))))) },
+      it.schema,
+      among_still s.now after tables it.schema sound (rw (meta, registries, parts, notices, handovers) (kept.0, (kept.1.0, (kept.1.1.0, (kept.1.1.1.0, (kept.1.1.1.1.0, (it.put.shaped, tt))))))),
       it.is ∙ more ∙ sym (ap (with_hold_row row) it.was),
     )
 

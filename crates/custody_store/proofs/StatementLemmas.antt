@@ -1,4 +1,4 @@
--- What the texts of the statements mean: those that write over schema 2, and those that read over each schema whose first tables are these.
+-- What the texts of the statements mean, over each schema whose first tables are these.
 use Rattle.std.proofs.Common.{◌≡◌, List, [], ◌∷◌, ◌++◌, ℕ, pos, negsuc, codes, true, false, None, refl}
 use Rattle.sqlite.specs.declared.types.Value.TheVariants.{Null, Int}
 use Rattle.sqlite.specs.Term.{Term, lit, col, op1, op2}
@@ -21,18 +21,31 @@ use Rattle.sqlite.specs.Schema.{Schema}
 use Rattle.sqlite_schema.specs.declared.schema.Index.{Index}
 use Rattle.sqlite_schema.specs.declared.schema.View.{View}
 use Rattle.custody_store.specs.Schema.{meta_schema, first_schema, record_schema}
+use Rattle.custody_store.specs.Statements.{insert_meta_text, insert_registry_text, insert_part_text, insert_notice_text, insert_handover_text, insert_hold_text, drop_due_text, lift_text, set_schema_text}
 use Rattle.custody_store.proofs.ModeLemmas.{is_change_text}
 use Rattle.custody_store.proofs.QueryLemmas.{is_query_text}
 
--- a statement that is this command
-pub record IsMeaning (sql : List ℕ) (command : Command) : Type 0 where
-  pub is : command_of (understood record_schema sql) ≡ command
-  pub plain : IsPlain (understood record_schema sql)
+-- a statement that is this command over this schema
+pub record IsMeaningOver (schema : Schema) (sql : List ℕ) (command : Command) : Type 0 where
+  pub is : command_of (understood schema sql) ≡ command
+  pub plain : IsPlain (understood schema sql)
   pub changes : is_change_text sql ≡ true
 
+-- these tables first, and then others
+abbrev pub beginning_with : List Table → List Table → List Index → List View → Schema
+beginning_with first others indexes views = record { tables = first ++ others; indexes = indexes; views = views }
+
+-- the same over each schema whose first tables are these
+abbrev pub IsMeaning : List Table → List ℕ → Command → Type 0
+IsMeaning first sql command = (others : List Table) (indexes : List Index) (views : List View) → IsMeaningOver (beginning_with first others indexes views) sql command
+
 -- a statement that puts rows of this source into the table at this place
-abbrev pub IsInsertion : List ℕ → ℕ → Source → Type 0
-IsInsertion sql at from = IsMeaning sql (Insert at from)
+abbrev pub IsInsertion : List Table → List ℕ → ℕ → Source → Type 0
+IsInsertion first sql at from = IsMeaning first sql (Insert at from)
+
+-- over schema 2, with nothing else
+pub over_schema_2 : {sql : List ℕ} {command : Command} → IsMeaning record_schema.tables sql command → IsMeaningOver record_schema sql command
+over_schema_2 means = means [] record_schema.indexes []
 
 -- these columns of the rows of one table, in the order of the rowids
 abbrev pub in_order : ℕ → List Term → Query
@@ -54,75 +67,53 @@ pub record IsSelectionOver (schema : Schema) (sql : List ℕ) (tree : ℕ) (proj
   pub plain : IsPlain (understood schema sql)
   pub unlisted : reads_listing schema sql ≡ false
 
--- these tables first, and then others
-abbrev pub beginning_with : List Table → List Table → List Index → List View → Schema
-beginning_with first others indexes views = record { tables = first ++ others; indexes = indexes; views = views }
-
 -- the same over each schema whose first tables are these
 abbrev pub IsSelection : List Table → List ℕ → ℕ → List Term → List (List ℕ) → Type 0
 IsSelection first sql tree project names = (others : List Table) (indexes : List Index) (views : List View) → IsSelectionOver (beginning_with first others indexes views) sql tree project names
 
 -- ---- the statements
 
-abbrev pub insert_meta_text : List ℕ
-insert_meta_text = codes "INSERT INTO meta (one, schema_no, number, blocks) VALUES (1, 2, ?1, ?2)"
-
 abbrev pub meta_source : Source
 meta_source = Values (lit (Int (pos 1)) ∷ lit Null ∷ lit (Int (pos 2)) ∷ col 0 0 ∷ col 0 1 ∷ []) 5
 
-pub insert_meta_is : IsInsertion insert_meta_text 0 meta_source
+pub insert_meta_is : IsInsertion record_schema.tables insert_meta_text 0 meta_source
 unfolding understood everything
-insert_meta_is = record { is = refl; plain = (refl, refl); changes = refl }
-
-abbrev pub insert_registry_text : List ℕ
-insert_registry_text = codes "INSERT INTO registry (tld, first_day) VALUES (?1, ?2)"
+insert_meta_is others indexes views = record { is = refl; plain = (refl, refl); changes = refl }
 
 abbrev pub registry_source : Source
 registry_source = Values (lit Null ∷ col 0 0 ∷ col 0 1 ∷ []) 3
 
-pub insert_registry_is : IsInsertion insert_registry_text 1 registry_source
+pub insert_registry_is : IsInsertion record_schema.tables insert_registry_text 1 registry_source
 unfolding understood everything
-insert_registry_is = record { is = refl; plain = (refl, refl); changes = refl }
-
-abbrev pub insert_part_text : List ℕ
-insert_part_text = codes "INSERT INTO part (tld, day, rev, part, kind, received, keep_day, len, sha, extents) VALUES (?1, ?2, ?3, ?4, ?5, ?6, ?7, ?8, ?9, ?10)"
+insert_registry_is others indexes views = record { is = refl; plain = (refl, refl); changes = refl }
 
 abbrev pub part_source : Source
 part_source = Values (lit Null ∷ col 0 0 ∷ col 0 1 ∷ col 0 2 ∷ col 0 3 ∷ col 0 4 ∷ col 0 5 ∷ col 0 6 ∷ col 0 7 ∷ col 0 8 ∷ col 0 9 ∷ []) 11
 
-pub insert_part_is : IsInsertion insert_part_text 2 part_source
+pub insert_part_is : IsInsertion record_schema.tables insert_part_text 2 part_source
 unfolding understood everything
-insert_part_is = record { is = refl; plain = (refl, refl); changes = refl }
-
-abbrev pub insert_notice_text : List ℕ
-insert_notice_text = codes "INSERT INTO notice (tld, number, kind, day, rev, id, at) VALUES (?1, ?2, ?3, ?4, ?5, ?6, ?7)"
+insert_part_is others indexes views = record { is = refl; plain = (refl, refl); changes = refl }
 
 abbrev pub notice_source : Source
 notice_source = Values (lit Null ∷ col 0 0 ∷ col 0 1 ∷ col 0 2 ∷ col 0 3 ∷ col 0 4 ∷ col 0 5 ∷ col 0 6 ∷ []) 8
 
-pub insert_notice_is : IsInsertion insert_notice_text 3 notice_source
+pub insert_notice_is : IsInsertion record_schema.tables insert_notice_text 3 notice_source
 unfolding understood everything
-insert_notice_is = record { is = refl; plain = (refl, refl); changes = refl }
-
-abbrev pub insert_handover_text : List ℕ
-insert_handover_text = codes "INSERT INTO handover (reference, tld, ground, at, names) VALUES (?1, ?2, ?3, ?4, ?5)"
+insert_notice_is others indexes views = record { is = refl; plain = (refl, refl); changes = refl }
 
 abbrev pub handover_source : Source
 handover_source = Values (lit Null ∷ col 0 0 ∷ col 0 1 ∷ col 0 2 ∷ col 0 3 ∷ col 0 4 ∷ []) 6
 
-pub insert_handover_is : IsInsertion insert_handover_text 4 handover_source
+pub insert_handover_is : IsInsertion record_schema.tables insert_handover_text 4 handover_source
 unfolding understood everything
-insert_handover_is = record { is = refl; plain = (refl, refl); changes = refl }
-
-abbrev pub insert_hold_text : List ℕ
-insert_hold_text = codes "INSERT INTO hold (reference, tld, day, at, lifted) VALUES (?1, ?2, ?3, ?4, ?5)"
+insert_handover_is others indexes views = record { is = refl; plain = (refl, refl); changes = refl }
 
 abbrev pub hold_source : Source
 hold_source = Values (lit Null ∷ col 0 0 ∷ col 0 1 ∷ col 0 2 ∷ col 0 3 ∷ col 0 4 ∷ []) 6
 
-pub insert_hold_is : IsInsertion insert_hold_text 5 hold_source
+pub insert_hold_is : IsInsertion record_schema.tables insert_hold_text 5 hold_source
 unfolding understood everything
-insert_hold_is = record { is = refl; plain = (refl, refl); changes = refl }
+insert_hold_is others indexes views = record { is = refl; plain = (refl, refl); changes = refl }
 
 abbrev pub select_meta_text : List ℕ
 select_meta_text = codes "SELECT one, schema_no, number, blocks FROM meta ORDER BY rowid"
@@ -246,9 +237,6 @@ picked from tests project = record {
 abbrev pub updating : Join → List Term → List Term → Program
 updating from tests project = record { lets = []; body = picked from tests project }
 
-abbrev pub drop_due_text : List ℕ
-drop_due_text = codes "UPDATE part SET extents = NULL WHERE extents IS NOT NULL AND keep_day < ?1 AND NOT EXISTS (SELECT 1 FROM hold WHERE hold.tld = part.tld AND hold.day = part.day AND hold.lifted IS NULL)"
-
 -- a hold of the part's registry and day that is not lifted
 abbrev pub hold_tests : List Term
 hold_tests = op2 (Compare Eq Binary) (col 2 2) (col 1 1) ∷ op2 (Compare Eq Binary) (col 2 3) (col 1 2) ∷ op2 (Is Binary) (col 2 5) (lit Null) ∷ []
@@ -265,12 +253,9 @@ dropped_places = col 1 0 ∷ col 1 0 ∷ col 1 1 ∷ col 1 2 ∷ col 1 3 ∷ col
 abbrev pub drop_due_program : Program
 drop_due_program = updating parts_and_holds due_tests dropped_places
 
-pub drop_due_is : IsMeaning drop_due_text (Update 2 drop_due_program)
+pub drop_due_is : IsMeaning record_schema.tables drop_due_text (Update 2 drop_due_program)
 unfolding understood everything
-drop_due_is = record { is = refl; plain = (refl, refl); changes = refl }
-
-abbrev pub lift_text : List ℕ
-lift_text = codes "UPDATE hold SET lifted = ?2 WHERE reference = ?1"
+drop_due_is others indexes views = record { is = refl; plain = (refl, refl); changes = refl }
 
 abbrev pub lift_tests : List Term
 lift_tests = op2 (Compare Eq Binary) (col 1 1) (col 0 0) ∷ []
@@ -281,12 +266,9 @@ lifted_places = col 1 0 ∷ col 1 0 ∷ col 1 1 ∷ col 1 2 ∷ col 1 3 ∷ col 
 abbrev pub lift_program : Program
 lift_program = updating (inner 9 end) lift_tests lifted_places
 
-pub lift_is : IsMeaning lift_text (Update 5 lift_program)
+pub lift_is : IsMeaning record_schema.tables lift_text (Update 5 lift_program)
 unfolding understood everything
-lift_is = record { is = refl; plain = (refl, refl); changes = refl }
-
-abbrev pub set_schema_text : List ℕ
-set_schema_text = codes "UPDATE meta SET schema_no = 2"
+lift_is others indexes views = record { is = refl; plain = (refl, refl); changes = refl }
 
 -- the column that is the rowid stands as NULL among the others
 abbrev pub set_schema_places : List Term
@@ -295,6 +277,6 @@ set_schema_places = col 1 0 ∷ col 1 0 ∷ lit Null ∷ lit (Int (pos 2)) ∷ c
 abbrev pub set_schema_program : Program
 set_schema_program = updating (inner 0 end) [] set_schema_places
 
-pub set_schema_is : IsMeaning set_schema_text (Update 0 set_schema_program)
+pub set_schema_is : IsMeaning record_schema.tables set_schema_text (Update 0 set_schema_program)
 unfolding understood everything
-set_schema_is = record { is = refl; plain = (refl, refl); changes = refl }
+set_schema_is others indexes views = record { is = refl; plain = (refl, refl); changes = refl }

@@ -105,10 +105,14 @@ holds_first trees schema begins sound =
     let held = named (codes "hold") trees ∙ hold_named begins.0 _ (subst (AllZip IsTableRow (filter is_table_row (trees catalog_tree))) begins.1 sound.lists.listed.tables) in
     rw held refl
 
+-- where the first are the six
+pub rows_among : (trees : Trees) (schema : Schema) → BeginsWith record_schema.tables schema → IsSound schema trees → rows_in trees ≡ held_rows trees
+rows_among trees schema begins sound =
+    rows_first trees schema (drop 5 record_schema.tables ++ begins.0, begins.1) sound
+    ∙ ap (λ holds. held_beside holds trees) (holds_first trees schema begins sound)
+
 pub rows_held : (trees : Trees) → IsSound record_schema trees → rows_in trees ≡ held_rows trees
-rows_held trees sound =
-    rows_first trees record_schema (drop 5 record_schema.tables, refl) sound
-    ∙ ap (λ holds. held_beside holds trees) (holds_first trees record_schema ([], refl) sound)
+rows_held trees = rows_among trees record_schema ([], refl)
 
 -- where the first is meta
 pub meta_first : (trees : Trees) (schema : Schema) → BeginsWith meta_schema.tables schema → IsSound schema trees → (rows_in trees).meta ≡ Some (map meta_row (trees 0))

@@ -24,16 +24,12 @@ use Rattle.sqlite.specs.declared.run.Mode.{Mode}
 use Rattle.sqlite_rules.specs.declared.error.Rowids.TheVariants.{Given}
 use Rattle.sqlite_rules.specs.Calls.{ids_of}
 use Rattle.sqlite.specs.State.{State, mode_of}
-use Rattle.sqlite.proofs.Callers.{one_step}
-use Rattle.sqlite_schema.specs.declared.schema.Action.TheVariants.{NoAction}
-use Rattle.sqlite_schema.specs.declared.schema.Keys.{Keys}
-use Rattle.sqlite_schema.specs.declared.schema.Keys.TheVariants.{Enforced, Deferred, Off}
 use Rattle.sqlite_trees.specs.declared.store.Shape.TheVariants as shape
 use Rattle.sqlite_trees.specs.View.{IsShaped}
-use Rattle.sqlite_rules.specs.Action.{works, Writes}
-use Rattle.sqlite_rules.specs.Edit.{taken_by, without_all}
+use Rattle.sqlite_rules.specs.Action.{Writes}
+use Rattle.sqlite_rules.specs.Edit.{without_all}
 use Rattle.sqlite_rules.specs.Lists.{Has}
-use Rattle.sqlite_rules.proofs.ListLemmas.{has_filtered, has_kept, all_has, all_from}
+use Rattle.sqlite_rules.proofs.ListLemmas.{has_front, has_filtered, has_kept, all_has, all_from}
 use Rattle.sqlite_rules.proofs.ProbeLemmas.{has_mapped, mapped_has}
 use Rattle.sqlite_rules.proofs.PlaceLemmas.{given}
 use Rattle.sqlite_rules.proofs.TableLemmas.{int_is}
@@ -41,7 +37,8 @@ use Rattle.sqlite_trees.proofs.ListLemmas.{all-permutation}
 use Rattle.sqlite_keyed.proofs.ListLemmas.{map-map}
 use Rattle.custody_store.proofs.InsertLemmas.{went, same_value}
 use Rattle.custody_store.proofs.RowLemmas.{cast_int}
-use Rattle.custody_store.specs.Schema.{record_schema}
+use Rattle.custody_store.specs.Standing.{BeginsWith, AreApart}
+use Rattle.custody_store.proofs.ActionLemmas.{IsQuiet, steps, actions_keep}
 use Rattle.custody_store.proofs.EditLemmas.{changed_where, changed_shaped, edited_is}
 use Rattle.custody_store.proofs.StatementLemmas.{picked, updating}
 
@@ -127,26 +124,15 @@ module _ (tests project : List Term) (env : Row → Env) (table answer : List Ro
   row_for : (s : Row) → Has table s → passes tests env s ≡ true → Has answer (shows project env s)
   row_for s h is = has_permuted answer _ _ (IsPermutation-sym _ _ picked_are) (mapped_has (shows project env) _ s (has_kept (passes tests env) table s h is))
 
--- ---- no foreign key acts
-
-no_action : (b : Bool) → cond b NoAction NoAction ≡ NoAction
-no_action true = refl
-no_action false = refl
-
-nothing_acts : (keys : Keys) (tree : ℕ) (olds news : List Row) → works record_schema keys 0 tree olds news ≡ []
-nothing_acts Enforced tree olds news = rw (no_action _) refl
-nothing_acts Deferred tree olds news = rw (no_action _) refl
-nothing_acts Off tree olds news = refl
-
 -- ---- the whole table
 
--- the rows that pass were changed where they stand, and those of the other tables are as they were
-pub record Rewrites (tree : ℕ) (p : Row → Bool) (f : Row → Row) (trees : Trees) (tally : Tally) (after : Database) : Type 0 where
-  pub schema : after.schema ≡ record_schema
-  pub here : after.trees tree ≡ changed_where p f (trees tree)
+-- the rows that pass were changed where they stand, and those of the other tables of these are as they were
+pub record Rewrites (first : List Table) (tree : ℕ) (p : Row → Bool) (f : Row → Row) (db : Database) (tally : Tally) (after : Database) : Type 0 where
+  pub schema : after.schema ≡ db.schema
+  pub here : after.trees tree ≡ changed_where p f (db.trees tree)
   pub shaped : IsShaped shape.Table (after.trees tree)
-  pub others : AllByRecursion (λ t. t.tree ≢ tree → after.trees t.tree ≡ trees t.tree) record_schema.tables
-  pub counted : tally.rows ≡ Some (length (filter p (trees tree)))
+  pub others : AllByRecursion (λ t. t.tree ≢ tree → after.trees t.tree ≡ db.trees t.tree) first
+  pub counted : tally.rows ≡ Some (length (filter p (db.trees tree)))
 
 -- what comes in the place of a row
 abbrev pub heir : Table → List Term → (Row → Env) → Row → Row
@@ -158,23 +144,26 @@ heir_rowid t project env table shaped comes r h =
     let int : rowid r ≡ Int (id_in (rowid r)) = int_is (rowid r) (all_has _ table r shaped.1 h) in
     ap (cast Integer) (comes r ∙ int) ∙ cast_int (id_in (rowid r)) ∙ sym int
 
-pub rewrites : (s : State) (at : ℕ) (t : Table) (from : Join) (tests project : List Term) (params : Row) (env : Row → Env) (text : List ℕ) → s.now.schema ≡ record_schema → slice_get record_schema.tables at ≡ Some t
+pub rewrites : (first : List Table) → AllByRecursion IsQuiet first → (s : State) (at : ℕ) (t : Table) (from : Join) (tests project : List Term) (params : Row) (env : Row → Env) (text : List ℕ)
+    → BeginsWith first s.now.schema → AreApart s.now.schema.tables → Has first t → ((others : List Table) → slice_get (first ++ others) at ≡ Some t)
     → IsEach from tests (overlay s.now.trees []) params (s.now.trees t.tree) env → IsShaped shape.Table (s.now.trees t.tree)
     → ((r : Row) → rowid (shows project env r) ≡ rowid r) → ((r : Row) → rowid (drop 1 (shows project env r)) ≡ rowid r)
     → (tally : Tally) (after : Database) → Does s.step_limit (mode_of s) params s.now text None (Update at (updating from tests project)) (Ok (tally, after))
-    → Rewrites t.tree (passes tests env) (heir t project env) s.now.trees tally after
-rewrites s at t from tests project params env text schema_is found each shaped goes comes tally after does =
+    → Rewrites first t.tree (passes tests env) (heir t project env) s.now tally after
+rewrites first quiet s at t from tests project params env text begins apart listed found each shaped goes comes tally after does =
     let table = s.now.trees t.tree in
     let same_rowid = heir_rowid t project env table shaped comes in
-    let over : Database = record { schema = record_schema; trees = s.now.trees } in
+    let schema = s.now.schema in
     let q = updating from tests project in
     let cast_of = λ (a : Row). cast_row t (drop 1 a) in
-    let it : Changed over after (mode_of s) t q params tally = changes s.step_limit (mode_of s) over after t params text at q tally found
-    (subst (λ d. Does s.step_limit (mode_of s) params (record s.now { schema = d }) text None (Update at q) (Ok (tally, after))) schema_is does) in
+    let it : Changed s.now after (mode_of s) t q params tally = changes s.step_limit (mode_of s) s.now after t params text at q tally (ap (λ l. slice_get l at) begins.1 ∙ found begins.0) does in
     let same = picks from tests project (overlay s.now.trees []) params table env it.rows each (it.answer.answer Null) in
     let edit = edit_of s.now.trees t (ids_of it.rows) Given 1 it.rows in
     let news : edit.news ≡ map cast_of it.rows = given (without_all table (ids_of it.rows)) (map cast_of it.rows) in
-    let applied = one_step record_schema (mode_of s).keys s.now.trees after.trees edit (nothing_acts (mode_of s).keys t.tree (taken_by s.now.trees edit) edit.news) it.applied in
+    let step = steps schema (mode_of s).keys s.now.trees after.trees edit it.applied in
+    let applied = step.applied in
+    let kept : (u : Table) → Has first u → after.trees u.tree ≡ step.mid u.tree = λ (u : Table) (h : Has first u).
+    actions_keep schema (mode_of s).keys apart u (has_front schema.tables first begins.0 u begins.1 h) (all_has IsQuiet first u quiet h) s.now.trees after.trees edit step in
     let ids_from : (id : ℤ) → Has (ids_of it.rows) id → (r : Row) × Has table r × (passes tests env r ≡ true) × (id ≡ id_in (rowid r)) = λ (id : ℤ) (h : Has (ids_of it.rows) id).
     let a = has_mapped (λ r. id_in (rowid r)) it.rows id h in
     let r = row_of tests project env table it.rows same a.0 a.1 in
@@ -186,12 +175,12 @@ rewrites s at t from tests project params env text schema_is found each shaped g
     let news_has : (r : Row) → Has table r → passes tests env r ≡ true → Has edit.news (heir t project env r) = λ (r : Row) (h : Has table r) (is : passes tests env r ≡ true).
     subst (λ l. Has l (heir t project env r)) (sym news) (mapped_has cast_of it.rows _ (row_for tests project env table it.rows same r h is)) in
     let edited = edited_is table (passes tests env) (heir t project env) shaped same_rowid (ids_of it.rows) edit.news ids_from news_from news_has applied.keyed applied.fresh in
-    let here = applied.rows ∙ edited in
+    let here = kept t listed ∙ applied.rows ∙ edited in
     record {
       schema = it.schema;
       here = here;
       shaped = subst (IsShaped shape.Table) (sym here) (changed_shaped table (passes tests env) (heir t project env) shaped same_rowid);
-      others = applied.tables;
+      others = all_from (λ (u : Table). u.tree ≢ t.tree → after.trees u.tree ≡ s.now.trees u.tree) first (λ u h other. kept u h ∙ all_has _ schema.tables u applied.tables (has_front schema.tables first begins.0 u begins.1 h) other);
       counted = it.counted ∙ ap (λ l. Some (length l)) news
           ∙ ap Some (length-map it.rows cast_of ∙ length_permutation (map (shows project env) (filter (passes tests env) table)) it.rows same ∙ length-map (filter (passes tests env) table) (shows project env));
     }

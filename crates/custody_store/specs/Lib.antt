@@ -2,6 +2,7 @@ pub mod Schema
 pub mod Reading
 pub mod Standing
 pub mod Calls
+pub mod Statements
 pub mod Records
 pub mod Making
 pub mod Loaded

@@ -26,6 +26,11 @@ integer_unless_null (Real x) = Some (id_in (Real x))
 integer_unless_null (Text t) = Some (id_in (Text t))
 integer_unless_null (Blob b) = Some (id_in (Blob b))
 
+-- bytes, or NULL for none
+abbrev pub bytes_or_null : Option (List ℕ) → Value
+bytes_or_null None = Null
+bytes_or_null (Some b) = Blob b
+
 -- a number, or NULL for none
 abbrev pub integer_or_null : Option ℤ → Value
 integer_or_null None = Null

@@ -3,7 +3,7 @@ use Rattle.std.specs.Prelude.{◌≡◌, ◌⊎◌, ◌||◌, ◌&&◌, ◌++◌
 use Rattle.std.specs.List.{AllByRecursion}
 use Rattle.sqlite_trees.specs.declared.store.Shape.TheVariants as shape
 use Rattle.sqlite.specs.Store.{Ghosts}
-use Rattle.sqlite.specs.Tree.{Trees}
+use Rattle.sqlite.specs.Tree.{Trees, IsAscending}
 use Rattle.sqlite.specs.View.{IsShaped}
 use Rattle.sqlite.specs.Effect.{Database, IsDatabase}
 use Rattle.sqlite.specs.State.{State, HasCleanDisk}
@@ -40,8 +40,24 @@ pub record HasTables (schema : Schema) (db : Database) : Type 0 where
 abbrev pub BeginsWith : List Table → Schema → Type 0
 BeginsWith first schema = (others : List Table) × (schema.tables ≡ first ++ others)
 
+-- no two tables have one tree
+abbrev pub AreApart : List Table → Type 0
+AreApart = IsAscending (λ s t. s.tree ≡ t.tree → ⊥)
+
+-- the first tables are these, as they are made, and each table has a tree of its own; there may be any others, and any indexes and views
+pub record HasAmong (first : List Table) (db : Database) : Type 0 where
+  pub begins : BeginsWith first db.schema
+  pub apart : AreApart db.schema.tables
+  pub sound : IsDatabase db
+  pub ordered : AreOrdered first db.trees
+
+-- A database at rest, with the tables of schema 2 first, whatever others there are.
+pub record IsReady (s : State) : Type 0 where
+  pub rest : IsAtRest s
+  pub tables : HasAmong record_schema.tables s.now
+
 -- A database at rest, with the tables of a schema and no others.
-pub record IsReady (schema : Schema) (s : State) : Type 0 where
+pub record IsAsMade (schema : Schema) (s : State) : Type 0 where
   pub rest : IsAtRest s
   pub tables : HasTables schema s.now
 
@@ -70,7 +86,7 @@ pub record Standing : Type 1 where
   pub IsHonest : Type 0
   -- it is open, no transaction is, and a stop leaves its rows
   pub IsAtRest : Type 0
-  -- it is at rest, and has the tables that `create` makes, which are those of schema 2, and no others
+  -- it is at rest, and its first tables are those that `create` makes, which are those of schema 2, whatever others there are
   pub IsReady : Type 0
   -- it is at rest, and has the tables of schema 1 and no others
   pub IsEarlier : Type 0
@@ -85,6 +101,8 @@ pub record Standing : Type 1 where
   pub in_transaction : Bool
   -- a table of this name is there
   pub has_table : List ℕ → Bool
+  -- the tables, indexes and views that it has
+  pub schema : Schema
 
 abbrev pub shown : State → Standing
 shown s = record {
@@ -92,14 +110,15 @@ shown s = record {
   may_leave = leaves s;
   IsHonest = HasCleanDisk s;
   IsAtRest = IsAtRest s;
-  IsReady = IsReady record_schema s;
-  IsEarlier = IsReady first_schema s;
+  IsReady = IsReady s;
+  IsEarlier = IsAsMade first_schema s;
   HasTablesFirst = HasTablesFirst s;
   HasMetaFirst = HasFirst meta_schema.tables s;
   IsBare = IsBare s;
   is_open = s.is_open;
   in_transaction = s.in_transaction;
   has_table = λ name. has_table name s.now.schema;
+  schema = s.now.schema;
 }
 
 abbrev pub standing : {S : Type 0} → Ghosts S → Held S → Standing
@@ -131,6 +150,8 @@ pub record IsOneCommit {A E : Type 0} (old new : Standing) (after : Rows) (resul
   pub kept : OnErr result (IsTrue new.is_open → new.IsReady × (new.rows ≡ old.rows))
   -- a stop leaves what it left before, or the new rows
   pub left : (rows : Rows) → new.may_leave rows → old.may_leave rows ⊎ (rows ≡ after)
+  -- no table, index or view comes or goes
+  pub schema : IsTrue new.is_open → new.schema ≡ old.schema
   pub ended : new.in_transaction ≡ false
 
 -- A call that commits these rows, alone. Only a fault of the files makes a database dishonest, and it stays so.
@@ -142,6 +163,8 @@ pub record Commits {A E : Type 0} (old new : Standing) (after : Rows) (result : 
 -- The tables are made at once with these rows, or there is no table as before.
 pub record IsOneFounding {A E : Type 0} (old new : Standing) (after : Rows) (result : Result A E) : Type 0 where
   pub done : OnOk result (new.IsReady × (new.rows ≡ after))
+  -- and there is nothing else
+  pub made : OnOk result (new.schema ≡ record_schema)
   pub kept : OnErr result (IsTrue new.is_open → new.IsBare × (new.rows ≡ old.rows))
   pub left : (rows : Rows) → new.may_leave rows → old.may_leave rows ⊎ (rows ≡ after)
 
@@ -154,6 +177,8 @@ pub record Founds {A E : Type 0} (old new : Standing) (after : Rows) (result : R
 -- The tables of schema 1 are those of schema 2 at once, or they and the rows are those that were there.
 pub record IsOneMigration {A E : Type 0} (old new : Standing) (result : Result A E) : Type 0 where
   pub done : OnOk result (new.IsReady × (new.rows ≡ migrated old.rows))
+  -- and there is nothing else
+  pub made : OnOk result (new.schema ≡ record_schema)
   pub kept : OnErr result (IsTrue new.is_open → new.IsEarlier × (new.rows ≡ old.rows))
   -- a stop leaves what it left before, or the rows of schema 2
   pub left : (rows : Rows) → new.may_leave rows → old.may_leave rows ⊎ (rows ≡ migrated old.rows)
@@ -167,6 +192,7 @@ pub record Migrates {A E : Type 0} (old new : Standing) (result : Result A E) : 
 -- The tables and the rows are those that were there.
 pub record StandsAs (old new : Standing) : Type 0 where
   pub rows : new.rows ≡ old.rows
+  pub schema : new.schema ≡ old.schema
   pub rest : new.IsAtRest
   pub ready : old.IsReady → new.IsReady
   pub earlier : old.IsEarlier → new.IsEarlier

@@ -1,8 +1,10 @@
 //! The tables and the row of meta, made in one transaction.
-ghost use Rattle.std.specs.Prelude.{◌≡◌, pos, [], IsTrue, OnOk, Ok, IfErr};
+ghost use Rattle.std.specs.Prelude.{◌≡◌, ◌∷◌, pos, [], IsTrue, OnOk, Ok, IfErr};
 ghost use Rattle.sqlite.specs.State.{HasCleanDisk, Survives, ExecutesInside, KeepsCommit};
 ghost use Rattle.sqlite.specs.Held.{state};
 ghost use Rattle.sqlite.specs.Change.{next_tree};
+ghost use Rattle.custody_store.specs.Calls.{AreRun, RunsTogether};
+ghost use Rattle.custody_store.specs.Statements.{hold_text, making_tables, insert_meta_text, meta_columns, founding};
 ghost use Rattle.custody_store.specs.Schema.{no_schema, first_schema, record_schema};
 ghost use Rattle.custody_store.specs.Making.{IsMaking, IsMade, none_in};
 ghost use Rattle.custody_records.specs.Rows.{fresh};
@@ -31,6 +33,8 @@ pub fn make_holds<S: Alter>(tx: &mut Transaction<'_, S>) -> Result<(), StoreFaul
     ensures made { HasCleanDisk (state S.Store tx.new.conn.now)
         → OnOk result ((first : _) (rows : _) → rows (next_tree first_schema) ≡ []
         → IsMaking first_schema first rows (state S.Store tx.old.conn.now) → IsMaking record_schema first rows (state S.Store tx.new.conn.now)) }
+    ensures runs { HasCleanDisk (state S.Store tx.new.conn.now)
+        → OnOk result (IsTrue tx.old.conn.now.in_transaction → AreRun S.Store ((hold_text, []) ∷ []) tx.old.conn.now tx.new.conn.now) }
     ensures keeps { HasCleanDisk (state S.Store tx.new.conn.now) → KeepsCommit (state S.Store tx.old.conn.now) (state S.Store tx.new.conn.now) }
     ensures survives { Survives (state S.Store tx.old.conn.now) (state S.Store tx.new.conn.now) (λ _. ⊥) }
     ensures kind { IfErr result (λ e. e ≡ StoreFault.Failed) }
@@ -50,6 +54,8 @@ fn put_meta<S: Alter>(
     ensures same_reference { tx.new.conn.ghost_name ≡ tx.old.conn.ghost_name }
     ensures made { HasCleanDisk (state S.Store tx.new.conn.now)
         → OnOk result ((first : _) → IsMaking record_schema first none_in (state S.Store tx.old.conn.now) → IsMade (fresh digits.now (pos blocks)) first (state S.Store tx.new.conn.now)) }
+    ensures runs { HasCleanDisk (state S.Store tx.new.conn.now)
+        → OnOk result (IsTrue tx.old.conn.now.in_transaction → AreRun S.Store ((insert_meta_text, meta_columns digits.now blocks) ∷ []) tx.old.conn.now tx.new.conn.now) }
     ensures keeps { HasCleanDisk (state S.Store tx.new.conn.now) → KeepsCommit (state S.Store tx.old.conn.now) (state S.Store tx.new.conn.now) }
     ensures survives { Survives (state S.Store tx.old.conn.now) (state S.Store tx.new.conn.now) (λ _. ⊥) }
     ensures kind { IfErr result (λ e. e ≡ StoreFault.Failed) }
@@ -66,6 +72,8 @@ fn make_tables<S: Alter>(tx: &mut Transaction<'_, S>) -> Result<(), StoreFault>
     ensures same_reference { tx.new.conn.ghost_name ≡ tx.old.conn.ghost_name }
     ensures made { HasCleanDisk (state S.Store tx.new.conn.now)
         → OnOk result ((first : _) → IsMaking no_schema first none_in (state S.Store tx.old.conn.now) → IsMaking record_schema first none_in (state S.Store tx.new.conn.now)) }
+    ensures runs { HasCleanDisk (state S.Store tx.new.conn.now)
+        → OnOk result (IsTrue tx.old.conn.now.in_transaction → AreRun S.Store (making_tables) tx.old.conn.now tx.new.conn.now) }
     ensures keeps { HasCleanDisk (state S.Store tx.new.conn.now) → KeepsCommit (state S.Store tx.old.conn.now) (state S.Store tx.new.conn.now) }
     ensures survives { Survives (state S.Store tx.old.conn.now) (state S.Store tx.new.conn.now) (λ _. ⊥) }
     ensures kind { IfErr result (λ e. e ≡ StoreFault.Failed) }
@@ -96,6 +104,7 @@ fn make_tables<S: Alter>(tx: &mut Transaction<'_, S>) -> Result<(), StoreFault>
 /// Makes the tables and the row of meta in one transaction.
 pub fn found<S: Alter>(db: &mut Connection<S>, digits: &[u8], blocks: u32) -> Result<(), StoreFault>
     ensures founds { Founds (standing S.Store db.old) (standing S.Store db.new) (fresh digits.now (pos blocks)) result }
+    ensures runs { RunsTogether S.Store (founding digits.now blocks) db.old db.new result }
     ensures kind { IfErr result (λ e. e ≡ StoreFault.Failed) }
 {
     if !db.is_autocommit() {

@@ -1,11 +1,15 @@
 //! The store: a connection with the tables of the records.
-ghost use Rattle.std.specs.Prelude.{◌≡◌, ◌≤◌, length, true, false, pos, Err, IfOk, IfErr, MatchResult};
+ghost use Rattle.std.specs.Prelude.{◌≡◌, ◌^◌, ◌<◌, ◌≤◌, length, true, false, pos, Ok, Err, IfOk, IfErr, MatchResult};
+ghost use Rattle.sqlite.specs.Held.{state};
+ghost use Rattle.sqlite.specs.State.{HasCleanDisk, Executes};
 ghost use Rattle.custody_records.specs.Rows.{fresh, with_registry_row, with_part_row, with_notice_row, with_handover_row, with_hold_row, with_lifting};
 ghost use Rattle.custody_records.specs.Form.{form_of, InForm, OutOfForm};
 ghost use Rattle.custody_records.specs.Held.{records_of};
 ghost use Rattle.custody_records.specs.declared.damage.Damage.{Damage};
 ghost use Rattle.custody_records.specs.declared.damage.Damage.TheVariants as damage;
 ghost use Rattle.custody_records.specs.Written.{digits_of, row_of_registry};
+ghost use Rattle.custody_store.specs.Calls.{Runs, RunsTogether};
+ghost use Rattle.custody_store.specs.Statements.{founding, migration, insert_registry_text, registry_columns, insert_part_text, part_columns, insert_notice_text, notice_columns, insert_handover_text, handover_columns, insert_hold_text, hold_columns, lift_text, lifting, drop_due_text, today_only};
 ghost use Rattle.custody_store.specs.Dropping.{without_due, count_due};
 ghost use Rattle.custody_store.specs.Records.{staged_row, notice_row_of, release_row_of, hold_row_of};
 ghost use Rattle.custody_store.specs.Standing.{standing, Commits, Founds, Migrates, Reads, has_any, has_all};
@@ -45,6 +49,7 @@ impl<S: Alter> Model for Store<S> {
     ghost view = { λ s. s.db };
 }
 
+// `runs`: whatever other tables there are, a call that writes runs these statements, and no others.
 impl<S: Alter> Store<S> {
     /// The store of a connection with no transaction open.
     pub fn over(db: Connection<S>) -> Store<S>
@@ -64,6 +69,7 @@ impl<S: Alter> Store<S> {
     /// Makes the tables of schema 2, with the number and the blocks of the volume.
     pub fn create(&mut self, number: u64, blocks: u32) -> Result<(), StoreFault>
         ensures founds { Founds (standing S.Store self.old) (standing S.Store self.new) (fresh (digits_of number) (pos blocks)) result }
+        ensures runs { has_any (standing S.Store self.old) ≡ false → RunsTogether S.Store (founding (digits_of number) blocks) self.old self.new result }
         // Where one of the tables is there, it fails, and nothing is done.
         ensures taken { has_any (standing S.Store self.old) ≡ true → (result ≡ Err StoreFault.Failed) × (self.new ≡ self.old) }
         ensures kind { IfErr result (λ e. e ≡ StoreFault.Failed) }
@@ -77,6 +83,7 @@ impl<S: Alter> Store<S> {
     /// Makes tables of schema 1 those of schema 2, and commits it: the table of holds is there then.
     pub fn migrate(&mut self) -> Result<(), StoreFault>
         ensures migrates { Migrates (standing S.Store self.old) (standing S.Store self.new) result }
+        ensures runs { RunsTogether S.Store migration self.old self.new result }
         ensures kind { IfErr result (λ e. e ≡ StoreFault.Failed) }
     {
         go_over(&mut self.db)
@@ -86,6 +93,7 @@ impl<S: Alter> Store<S> {
     pub fn insert_registry(&mut self, registry: &Registry) -> Result<(), StoreFault>
         ensures commits { Commits (standing S.Store self.old) (standing S.Store self.new)
             (with_registry_row (row_of_registry registry.now.tld registry.now.first_day) (standing S.Store self.old).rows) result }
+        ensures runs { Runs insert_registry_text (registry_columns (row_of_registry registry.now.tld registry.now.first_day)) (state S.Store self.old) (state S.Store self.new) result }
         ensures kind { IfErr result (λ e. e ≡ StoreFault.Failed) }
     {
         run(
@@ -107,6 +115,7 @@ impl<S: Alter> Store<S> {
         ensures handed { IfOk result (λ t. (t.0.items ≡ staged.extents) × (t.1 ≡ staged.len) × (t.2 ≡ staged.digest)) }
         ensures commits { Commits (standing S.Store self.old) (standing S.Store self.new)
             (with_part_row (staged_row name.now received staged) (standing S.Store self.old).rows) result }
+        ensures runs { Runs insert_part_text (part_columns (staged_row name.now received staged)) (state S.Store self.old) (state S.Store self.new) result }
         ensures kind { IfErr result (λ e. e ≡ StoreFault.Failed) }
     {
         let (extents, len, digest) = staged.spend();
@@ -135,6 +144,9 @@ impl<S: Alter> Store<S> {
     pub fn insert_notice(&mut self, notice: &Notice) -> Result<(), StoreFault>
         ensures commits { Commits (standing S.Store self.old) (standing S.Store self.new)
             (with_notice_row (notice_row_of notice.now) (standing S.Store self.old).rows) result }
+        ensures runs { notice.now.number < 2 ^ 63 → Runs insert_notice_text (notice_columns (notice_row_of notice.now)) (state S.Store self.old) (state S.Store self.new) result }
+        // A greater number has no place in a column, and nothing is done.
+        ensures large { 2 ^ 63 ≤ notice.now.number → (result ≡ Err StoreFault.Failed) × (self.new ≡ self.old) }
         ensures kind { IfErr result (λ e. e ≡ StoreFault.Failed) }
     {
         let Some(number) = large(notice.number) else {
@@ -159,6 +171,7 @@ impl<S: Alter> Store<S> {
     pub fn insert_release(&mut self, release: &Release) -> Result<(), StoreFault>
         ensures commits { Commits (standing S.Store self.old) (standing S.Store self.new)
             (with_handover_row (release_row_of release.now) (standing S.Store self.old).rows) result }
+        ensures runs { Runs insert_handover_text (handover_columns (release_row_of release.now)) (state S.Store self.old) (state S.Store self.new) result }
         ensures kind { IfErr result (λ e. e ≡ StoreFault.Failed) }
     {
         run(
@@ -178,6 +191,7 @@ impl<S: Alter> Store<S> {
     pub fn insert_hold(&mut self, hold: &Hold) -> Result<(), StoreFault>
         ensures commits { Commits (standing S.Store self.old) (standing S.Store self.new)
             (with_hold_row (hold_row_of hold.now) (standing S.Store self.old).rows) result }
+        ensures runs { Runs insert_hold_text (hold_columns (hold_row_of hold.now)) (state S.Store self.old) (state S.Store self.new) result }
         ensures kind { IfErr result (λ e. e ≡ StoreFault.Failed) }
     {
         run(
@@ -197,6 +211,7 @@ impl<S: Alter> Store<S> {
     pub fn lift_hold(&mut self, reference: &Reference, at: Sec) -> Result<(), StoreFault>
         ensures commits { Commits (standing S.Store self.old) (standing S.Store self.new)
             (with_lifting reference.now at (standing S.Store self.old).rows) result }
+        ensures runs { Runs lift_text (lifting reference.now at) (state S.Store self.old) (state S.Store self.new) result }
         ensures kind { IfErr result (λ e. e ≡ StoreFault.Failed) }
     {
         run(
@@ -210,6 +225,8 @@ impl<S: Alter> Store<S> {
     /// hold, and commits it. It answers how many they were. Their records stay.
     pub fn drop_bytes(&mut self, today: Day) -> Result<u64, StoreFault>
         ensures commits { Commits (standing S.Store self.old) (standing S.Store self.new) (without_due today (standing S.Store self.old).rows) result }
+        ensures runs { Runs drop_due_text (today_only today) (state S.Store self.old) (state S.Store self.new) result }
+        ensures changed { HasCleanDisk (state S.Store self.new) → IfOk result (λ count. Executes drop_due_text (today_only today) (state S.Store self.old) (state S.Store self.new) (Ok count)) }
         ensures count { (standing S.Store self.new).IsHonest → (standing S.Store self.old).IsReady → IfOk result (λ count. count ≡ count_due today (standing S.Store self.old).rows) }
         ensures kind { IfErr result (λ e. e ≡ StoreFault.Failed) }
     {

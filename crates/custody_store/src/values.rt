@@ -1,5 +1,5 @@
 //! The parameters of statements.
-ghost use Rattle.std.specs.Prelude.{◌≡◌, ◌^◌, ◌≤◌, pos, option_map, IfSome, IfNone};
+ghost use Rattle.std.specs.Prelude.{◌≡◌, ◌^◌, ◌<◌, ◌≤◌, pos, option_map, IfSome, IfNone};
 ghost use Rattle.schedule.specs.Schedule.{year_after};
 ghost use Rattle.sqlite.specs.declared.types.Value.TheVariants.{Int, Text, Blob};
 ghost use Rattle.sqlite_value.specs.Value.{owned};
@@ -35,6 +35,7 @@ pub fn small<'v>(n: u8) -> ValueRef<'v>
 /// None where the number has no place in a column.
 pub fn large<'v>(n: u64) -> Option<ValueRef<'v>>
     ensures some { IfSome result (λ v. owned v ≡ Int (pos n)) }
+    ensures fits { IfSome result (λ _. n < 2 ^ 63) }
     ensures none { IfNone result (2 ^ 63 ≤ n) }
 {
     match i64::try_from(n) {

@@ -1,7 +1,9 @@
+use Rattle.std.proofs.Common.{refl}
 use Rattle.std.proofs.lemmas.Result.{on_ok_weaker}
 use Rattle.sqlite.specs.Held.{state}
 use Rattle.custody_store.specs.Schema.{first_schema, hold_table}
-use Rattle.custody_store.proofs.SchemaLemmas.{hold_text, makes_hold}
+use Rattle.custody_store.specs.Statements.{hold_text}
+use Rattle.custody_store.proofs.SchemaLemmas.{makes_hold}
 use Rattle.custody_store.proofs.MakingLemmas.{makes}
 use Rattle.custody_store.proofs.create.make_holds.Goals as goal
 
@@ -12,3 +14,6 @@ returns-clause-made g c clean =
     let ran = made making.inside in
     makes hold_text (state g.S.Store c.args.tx.now.conn.now) (state g.S.Store c.make.new.tx.conn.now) ran.0 ran.1 first_schema hold_table first rows none makes_hold making)
     (c.make.ensures.made clean)
+
+pub returns-clause-runs : goal.returns-clause-runs
+returns-clause-runs g c clean = on_ok_weaker c.make.result (λ made inside. let ran = made inside in (ran.0, _, ran.1, refl)) (c.make.ensures.made clean)

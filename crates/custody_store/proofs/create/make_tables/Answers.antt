@@ -4,7 +4,8 @@ use Rattle.sqlite.specs.State.{HasCleanDisk}
 use Rattle.sqlite.specs.Held.{state}
 use Rattle.custody_store.specs.Schema.{no_schema, meta_schema, meta_table, registry_table, part_table, notice_table, handover_table}
 use Rattle.custody_store.specs.Making.{none_in}
-use Rattle.custody_store.proofs.SchemaLemmas.{meta_text, registry_text, part_text, notice_text, handover_text, with_registry, with_part, with_notice, makes_meta, makes_registry, makes_part, makes_notice, makes_handover}
+use Rattle.custody_store.specs.Statements.{meta_text, registry_text, part_text, notice_text, handover_text}
+use Rattle.custody_store.proofs.SchemaLemmas.{with_registry, with_part, with_notice, makes_meta, makes_registry, makes_part, makes_notice, makes_handover}
 use Rattle.custody_store.proofs.MakingLemmas.{makes}
 use Rattle.custody_store.proofs.create.make_tables.Goals as goal
 
@@ -33,3 +34,23 @@ returns-clause-made g c clean =
     let ran5 = c.in_ok-make-5.ensures.made clean5 four.inside in
     let five = makes handover_text s4 s5 ran5.0 ran5.1 with_notice handover_table first none_in refl makes_handover four in
     last first none_in refl five) (c.make_holds.ensures.made clean)
+
+pub returns-clause-runs : goal.returns-clause-runs
+returns-clause-runs g c clean =
+    let s1 = c.make.new.tx.conn.now in
+    let s2 = c.make-2.new.tx.conn.now in
+    let s3 = c.make-3.new.tx.conn.now in
+    let s4 = c.make-4.new.tx.conn.now in
+    let s5 = c.make-5.new.tx.conn.now in
+    let clean5 : HasCleanDisk (state g.S.Store s5) = omega (arith, clean, c.make_holds.ensures.survives.clean) in
+    let clean4 : HasCleanDisk (state g.S.Store s4) = omega (arith, clean5, c.make-5.ensures.survives.clean) in
+    let clean3 : HasCleanDisk (state g.S.Store s3) = omega (arith, clean4, c.make-4.ensures.survives.clean) in
+    let clean2 : HasCleanDisk (state g.S.Store s2) = omega (arith, clean3, c.make-3.ensures.survives.clean) in
+    let clean1 : HasCleanDisk (state g.S.Store s1) = omega (arith, clean2, c.make-2.ensures.survives.clean) in
+    on_ok_weaker c.make_holds.result (λ last inside.
+    let one = c.in_ok-make.ensures.made clean1 inside in
+    let two = c.in_ok-make-2.ensures.made clean2 one.1.1.mode in
+    let three = c.in_ok-make-3.ensures.made clean3 two.1.1.mode in
+    let four = c.in_ok-make-4.ensures.made clean4 three.1.1.mode in
+    let five = c.in_ok-make-5.ensures.made clean5 four.1.1.mode in
+    (one.0, s1, one.1, (two.0, s2, two.1, (three.0, s3, three.1, (four.0, s4, four.1, (five.0, s5, five.1, last five.1.1.mode)))))) (c.make_holds.ensures.runs clean)

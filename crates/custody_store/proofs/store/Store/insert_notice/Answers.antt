@@ -12,3 +12,8 @@ returns-clause-commits g c =
 
 pub returns-in_default-clause-commits : goal.returns-in_default-clause-commits
 returns-in_default-clause-commits g c = commits_none (state g.S.Store c.args.self.now) _ _
+
+pub returns-clause-runs : goal.returns-clause-runs
+returns-clause-runs g c few =
+    rw (← c.self.view_is)
+    (rw (c.text.ensures, c.as_bytes.ensures.text, c.in-Some.ensures.some, c.small.ensures, c.number_of.ensures, c.day.ensures, c.small-2.ensures, c.rev_of.ensures, c.text-2.ensures, c.id_of.ensures, c.moment.ensures) at c.run.ensures.runs)

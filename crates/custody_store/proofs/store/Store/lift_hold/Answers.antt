@@ -7,3 +7,7 @@ returns-clause-commits g c =
     rw (← c.self.view_is)
     (lifts c.args.reference.now c.args.at (state g.S.Store c.self.inside.db) (state g.S.Store c.run.new.db) _
     (rw (c.text.ensures, c.as_bytes.ensures.text, c.moment.ensures) at c.run.ensures.runs))
+
+pub returns-clause-runs : goal.returns-clause-runs
+returns-clause-runs g c =
+    rw (← c.self.view_is) (rw (c.text.ensures, c.as_bytes.ensures.text, c.moment.ensures) at c.run.ensures.runs)
