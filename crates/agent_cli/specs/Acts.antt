@@ -9,6 +9,7 @@ use Rattle.sqlite.specs.Store.{Ghosts}
 use Rattle.custody_records.specs.Records.{Records}
 use Rattle.custody_machine.specs.Machine.{Command, Register, Receive, Statement, Check, Release, Hold, Lift, Purge}
 use Rattle.custody_machine.specs.declared.answers.Fault.{Fault}
+use Rattle.custody_machine.specs.declared.answers.Fault.TheVariants.{NoMemory, Closed}
 use Rattle.custody_machine.specs.declared.answers.Refusal.TheVariants.{RegistryUnknown}
 use Rattle.custody_machine.specs.Texts.{fault_text, refusal_text}
 use Rattle.custody_rules.specs.Due.{due_in}
@@ -71,7 +72,7 @@ module _ {V S : Type 0} {g : volume.Ghosts V} {database : Ghosts S} where
     -- whatever the status, what is printed is a beginning of it
     pub begun : is_open custody ≡ true → Begins output (state_of custody)
     pub while_open : is_open custody ≡ true → IsStatusAfter 0 status × IsUnused errors
-    pub while_closed : is_open custody ≡ false → (status ≡ 3) × IsUnused output
+    pub while_closed : is_open custody ≡ false → (status ≡ 3) × Begins errors (as_line (fault_text Closed)) × IsUnused output
 
   -- an open agent prints the report of a registry that is known, and refuses any other
   pub record Reports (custody : Custody V S g database) (tld : List ℕ) (status : ℕ) (output errors : Writer) : Type 0 where
@@ -80,7 +81,7 @@ module _ {V S : Type 0} {g : volume.Ghosts V} {database : Ghosts S} where
     pub begun : is_open custody ≡ true → is_some (get (recorded (keeper_of custody)).registries tld) ≡ true → Begins output (report_text (recorded (keeper_of custody)) tld)
     pub known : is_open custody ≡ true → is_some (get (recorded (keeper_of custody)).registries tld) ≡ true → IsStatusAfter 0 status × IsUnused errors
     pub unknown : is_open custody ≡ true → get (recorded (keeper_of custody)).registries tld ≡ None → IsStatusAfter 1 status × Takes errors (as_line (refusal_text RegistryUnknown)) 1 status × IsUnused output
-    pub while_closed : is_open custody ≡ false → (status ≡ 3) × IsUnused output
+    pub while_closed : is_open custody ≡ false → (status ≡ 3) × Begins errors (as_line (fault_text Closed)) × IsUnused output
 
   -- each of these days is checked in its turn, and the answer is told; the first that is not done ends it
   abbrev pub IsSwept : List (List ℕ × ℕ) → Custody V S g database → ℕ → Custody V S g database → ℕ → Writer → Writer → Type 0
@@ -93,8 +94,8 @@ module _ {V S : Type 0} {g : volume.Ghosts V} {database : Ghosts S} where
 
   -- an open agent is swept for the days that are due by its records, or there is no memory for them
   pub record Sweeps (old : Custody V S g database) (now : ℕ) (new : Custody V S g database) (status : ℕ) (output errors : Writer) : Type 0 where
-    pub swept : is_open old ≡ true → IsSwept (due_in (recorded (keeper_of old)) now) old now new status output errors ⊎ ((new ≡ old) × (status ≡ 3) × IsUnused output)
-    pub while_closed : is_open old ≡ false → (new ≡ old) × (status ≡ 3) × IsUnused output
+    pub swept : is_open old ≡ true → IsSwept (due_in (recorded (keeper_of old)) now) old now new status output errors ⊎ ((new ≡ old) × (status ≡ 3) × Begins errors (as_line (fault_text NoMemory)) × IsUnused output)
+    pub while_closed : is_open old ≡ false → (new ≡ old) × (status ≡ 3) × Begins errors (as_line (fault_text Closed)) × IsUnused output
 
   -- `register`, `put`, `verify`, `purge`, `hold`, `lift` and `release` give it their command, `sweep` its checks, `fetch` and `audit` read, and no other order changes it
   abbrev pub Acts : Order → List ℕ → ℕ → Custody V S g database → Custody V S g database → ℕ → Writer → Writer → Type 0

@@ -4,5 +4,7 @@
 #![tactic(auto)]
 
 mod laws;
+mod served;
 
 pub use laws::{law_clients, law_requests, law_responses};
+pub use served::serve_one;

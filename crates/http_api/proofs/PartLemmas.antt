@@ -13,7 +13,7 @@ use Rattle.http_request.specs.Body.{BeginsWith, IsDeclaredBody}
 use Rattle.http_request.specs.Head.{IsHeadOf, rest_of}
 use Rattle.http_request.specs.Paths.{Target, Deposit}
 use Rattle.http_request.specs.Targets.{seen}
-use Rattle.http_request.specs.Wanted.{Do, Means}
+use Rattle.http_request.specs.Wanted.{Do, Means, Report}
 use Rattle.http_request.specs.declared.head.Head.{Head}
 use Rattle.http_request.specs.declared.plan.Plan.{Plan}
 use Rattle.http_request.specs.declared.faults.RequestFault.{RequestFault}
@@ -23,12 +23,8 @@ use Rattle.http_request.specs.declared.error.RequestError.{RequestError}
 use Rattle.http_request.specs.declared.error.RequestError.TheVariants as error
 use Rattle.http_request.proofs.Asking.{Plans, asks_wanted}
 use Rattle.http_api.specs.declared.serve.Outcome.{Outcome}
-use Rattle.http_api.specs.Served.{HasTakenPart, IsNoCommand, LeavesBe, Serves, ErrorLeaves}
-
--- the first of two things as another
-pub either_on : {A B C : Type 0} → (A → B) → A ⊎ C → B ⊎ C
-either_on f (inl a) = inl (f a)
-either_on f (inr c) = inr c
+use Rattle.http_api.specs.declared.serve.Outcome.TheVariants as outcome
+use Rattle.http_api.specs.Served.{Does, ErrorLeaves, HasNoLength, HasNoMemory, HasTakenPart, IsDone, IsNoCommand, IsServed, IsStep, LeavesBe, Serves}
 
 cut_same : (front rest : List ℕ) (n : ℕ) → take n (take n front ++ rest) ≡ take n (front ++ rest)
 cut_same [] rest zero = refl
@@ -92,14 +88,28 @@ module _ {V S : Type 0} {g : volume.Ghosts V} {database : Ghosts S} (known : Opt
     part_left error.NoMemory same = same
     part_left (error.Fault found) left = fault_of_part found left
 
+-- what is done of a request is one of the ways in which it is served
+module _ {V S : Type 0} {g : volume.Ghosts V} {database : Ghosts S} where
+  pub done_serves : (known : Option (List ℕ)) (now : ℕ) (old new : Custody V S g database) (outcome : Outcome) → IsDone known now old outcome new → Serves known now old outcome new
+  done_serves known now old new outcome (wanted, asks, step) answer told = by (step answer told)
+    where
+      by : Does wanted now old answer new ⊎ (HasNoLength wanted old × HasNoMemory old answer new) → IsServed known now old answer new
+      by (inl does) = inl (asks_for wanted, asks, does)
+      by (inr (long, none)) = inr none
+
+  -- a report that is wanted is the outcome, and the custody is as it was
+  pub report_step : (tld : List ℕ) (now : ℕ) (custody : Custody V S g database) → IsStep (Report tld) now custody (outcome.Report tld) custody
+  report_step tld now custody answer (inl is) = inl (is, refl)
+  report_step tld now custody answer (inr (long, is)) = inr (long, (is, refl))
+
 -- the part of a request is received: that is what the request asks
 module _ {V S : Type 0} {g : volume.Ghosts V} {database : Ghosts S} (head : Head) (plan : Plan) where
-  pub part_serves : (a b : Option (List ℕ)) → Consumes a b head.bytes.items → IsHeadOf head → Plans head plan → (name : List ℕ) → seen plan.target ≡ Deposit name
+  pub part_done : (a b : Option (List ℕ)) → Consumes a b head.bytes.items → IsHeadOf head → Plans head plan → (name : List ℕ) → seen plan.target ≡ Deposit name
       → (len : ℕ) → plan.length ≡ Some len → (now : ℕ) (old new : Custody V S g database) (outcome : Outcome)
-      → HasTakenPart b (rest_of head) name len now old outcome new → Serves a now old outcome new
-  part_serves a b taken is plans name e len told now old new outcome (body, has, step) =
+      → HasTakenPart b (rest_of head) name len now old outcome new → IsDone a now old outcome new
+  part_done a b taken is plans name e len told now old new outcome (body, has, step) =
       let wanted = Do (Receive name body) in
       let whole = subst (λ (t : Option ℕ). IfSome b (λ rest. IsDeclaredBody (rest_of head ++ rest) t body)) (sym told) has in
       let means = subst (λ (t : Target). Means t body wanted) (sym e) refl in
       let asks = asks_wanted head plan a b taken is plans body whole wanted means in
-      λ answer shown. either_on (λ gives. (asks_for wanted, asks, gives)) (step answer shown)
+      (wanted, asks, step)

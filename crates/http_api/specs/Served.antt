@@ -1,5 +1,5 @@
 -- What is answered to a request, and what the agent does for it.
-use Rattle.std.specs.Prelude.{◌≡◌, ◌⊎◌, ◌++◌, [], ◌∷◌, ℕ, List, codes, Option, Some, None, Result, Ok, Err, IfSome, is_some, if◌then◌else◌}
+use Rattle.std.specs.Prelude.{◌≡◌, ◌≤◌, ◌^◌, ◌⊎◌, ◌++◌, [], ◌∷◌, ℕ, List, codes, length, Option, Some, None, Result, Ok, Err, IfSome, is_some, if◌then◌else◌}
 use Rattle.std.specs.FinMap.{get}
 use Rattle.vault_volume.specs.declared.volume.Volume as volume
 use Rattle.sqlite.specs.Store.{Ghosts}
@@ -143,22 +143,34 @@ module _ {V S : Type 0} {g : volume.Ghosts V} {database : Ghosts S} where
   abbrev pub HasNoMemory : Custody V S g database → Answer → Custody V S g database → Type 0
   HasNoMemory old answer new = (answer ≡ no_memory_answer) × (new ≡ old)
 
-  -- The reader's bytes, where they are known, ask something, which is done and answered; or memory ran out before.
+  -- The reader's bytes, where they are known, ask something, which is done and answered; or memory ran out before, as is also told of a report that has no length (below).
   abbrev pub IsServed : Option (List ℕ) → ℕ → Custody V S g database → Answer → Custody V S g database → Type 0
   IsServed known now old answer new =
       ((asked : Asked) × IfSome known (λ input. Asks input asked) × Gives known asked now old answer new) ⊎ HasNoMemory old answer new
 
   -- ---- an outcome before it is written
 
-  -- what answers it: a report is one of the custody as it is then, for whose length there may be no number
+  -- a report is wanted, and 64 bits do not tell its length
+  abbrev pub HasNoLength : Wanted → Custody V S g database → Type 0
+  HasNoLength (Do command) custody = ⊥
+  HasNoLength (Report tld) custody = 2 ^ 64 ≤ length (report_text (recorded (keeper_of custody)) tld)
+  HasNoLength (Fetch reference name) custody = ⊥
+
+  -- what answers it: a report is one of the custody as it is then; want of memory is told only where it has no length
   abbrev pub Answers : Custody V S g database → Outcome → Answer → Type 0
   Answers custody (outcome.Told response) answer = answer ≡ response_seen response
-  Answers custody (outcome.Report tld) answer = (answer ≡ report_answer custody tld) ⊎ (answer ≡ no_memory_answer)
+  Answers custody (outcome.Report tld) answer = (answer ≡ report_answer custody tld) ⊎ (HasNoLength (Report tld) custody × (answer ≡ no_memory_answer))
 
-  -- each answer of it is one to what is wanted
+  -- each answer of it is one to what is wanted, or it is a report that has no length
   abbrev pub IsStep : Wanted → ℕ → Custody V S g database → Outcome → Custody V S g database → Type 0
-  IsStep wanted now old outcome new = (answer : Answer) → Answers new outcome answer → Does wanted now old answer new ⊎ HasNoMemory old answer new
+  IsStep wanted now old outcome new =
+      (answer : Answer) → Answers new outcome answer → Does wanted now old answer new ⊎ (HasNoLength wanted old × HasNoMemory old answer new)
 
+  -- the bytes ask for something, of which it is a step
+  abbrev pub IsDone : Option (List ℕ) → ℕ → Custody V S g database → Outcome → Custody V S g database → Type 0
+  IsDone known now old outcome new = (wanted : Wanted) × IfSome known (λ input. Asks input (asks_for wanted)) × IsStep wanted now old outcome new
+
+  -- each answer of it is one to a request, of which memory may have run out before
   abbrev pub Serves : Option (List ℕ) → ℕ → Custody V S g database → Outcome → Custody V S g database → Type 0
   Serves known now old outcome new = (answer : Answer) → Answers new outcome answer → IsServed known now old answer new
 

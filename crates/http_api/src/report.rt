@@ -1,5 +1,5 @@
 //! The report of a registry, with its length.
-ghost use Rattle.std.specs.Prelude.{◌≡◌, IfSome, length};
+ghost use Rattle.std.specs.Prelude.{◌≡◌, ◌≤◌, ◌^◌, IfSome, IfNone, length};
 ghost use Rattle.desk.specs.Lines.{report_text};
 
 use desk::{LINE_MAX, Notice, write_line};
@@ -13,11 +13,12 @@ pub(crate) struct Report<'c> {
 }
 
 impl<'c> Report<'c> {
-    ghost use Rattle.std.specs.Prelude.{◌≡◌, IfSome};
+    ghost use Rattle.std.specs.Prelude.{◌≡◌, ◌≤◌, ◌^◌, IfSome, IfNone, length};
 
     /// The report of notices; `None` where 64 bits do not tell its length.
     pub(crate) fn of(notices: &'c [Notice]) -> Option<Report<'c>>
-        ensures { IfSome result (λ report. report.notices.now ≡ notices.entry.now) }
+        ensures some { IfSome result (λ report. report.notices.now ≡ notices.entry.now) }
+        ensures none { IfNone result (2 ^ 64 ≤ length (report_text notices.entry.now)) }
     {
         let len = report_len(notices)?;
         Some(Report { notices, len })
@@ -26,7 +27,8 @@ impl<'c> Report<'c> {
 
 /// How many bytes the lines of notices have; `None` where 64 bits do not tell it.
 fn report_len(notices: &[Notice]) -> Option<u64>
-    ensures { IfSome result (λ n. n ≡ length (report_text notices.now)) }
+    ensures some { IfSome result (λ n. n ≡ length (report_text notices.now)) }
+    ensures none { IfNone result (2 ^ 64 ≤ length (report_text notices.now)) }
 {
     let mut total: u64 = 0;
     for notice in notices {

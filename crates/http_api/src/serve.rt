@@ -7,7 +7,7 @@ ghost use Rattle.custody.specs.declared.answers.Refused as not_accepted;
 ghost use Rattle.http_request.specs.Errors.{IsRequestError, IsBodyError};
 ghost use Rattle.http_request.specs.WantedSeen.{wanted_of};
 ghost use Rattle.http_api.specs.Responses.{Answer, message_seen, response_seen, shown};
-ghost use Rattle.http_api.specs.Served.{Answers, ErrorLeaves, HasTakenPart, IsNoCommand, IsServed, IsStep, Serves, fetch_answer};
+ghost use Rattle.http_api.specs.Served.{Answers, ErrorLeaves, HasTakenPart, IsDone, IsNoCommand, IsServed, IsStep, Serves, fetch_answer};
 
 use crate::Status;
 use crate::report::Report;
@@ -148,7 +148,7 @@ fn outcome_of<R: Read, V: Volume, S: Alter>(
     custody: &mut Custody<V, S>,
     now: Sec,
 ) -> Result<Outcome, RequestError>
-    ensures done { IfOk result (λ outcome. Serves (R.remaining reader.old) now custody.old outcome custody.new) }
+    ensures done { IfOk result (λ outcome. IsDone (R.remaining reader.old) now custody.old outcome custody.new) }
     ensures error { IfErr result (λ error. IfSome (R.remaining reader.old) (λ input. IsRequestError input error)) }
     ensures left { IfErr result (λ error. ErrorLeaves (R.remaining reader.old) error custody.old custody.new) }
 {

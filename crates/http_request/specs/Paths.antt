@@ -1,5 +1,5 @@
 -- What the paths of the HTTP interface name.
-use Rattle.std.specs.Prelude.{◌≡◌, ◌<◌, ℕ, List, ◌++◌, length, codes, Bool, false, ◌==◌, ◌||◌}
+use Rattle.std.specs.Prelude.{◌≡◌, ◌<◌, ℕ, List, ◌++◌, length, codes, Bool, true, false, ◌==◌, ◌||◌}
 use Rattle.std.specs.Char.{is_ascii_alphanumeric}
 use Rattle.std.specs.List.{list_any}
 
@@ -51,3 +51,16 @@ Names path target = HasSegments target × (path ≡ path_text target)
 -- a byte of `A-Z a-z 0-9 / - _ .`
 abbrev pub is_target_byte : ℕ → Bool
 is_target_byte b = is_ascii_alphanumeric b || (b == 47 || (b == 45 || (b == 95 || b == 46)))
+
+-- whether the body of a request to it is JSON
+abbrev pub takes_json : Target → Bool
+takes_json (Registry tld) = true
+takes_json (Deposit name) = false
+takes_json Statements = true
+takes_json (Check tld date) = false
+takes_json (Release reference) = true
+takes_json (ReleasedPart reference name) = false
+takes_json (Hold reference) = true
+takes_json (Lift reference) = false
+takes_json (Notices tld) = false
+takes_json Purges = false

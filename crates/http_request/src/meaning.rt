@@ -1,5 +1,5 @@
 //! What a target and a body stand for.
-ghost use Rattle.std.specs.Prelude.{◌≡◌, ◌≤◌, ℕ, List, Err, Some, IfOk, IfSome};
+ghost use Rattle.std.specs.Prelude.{◌≡◌, ◌≤◌, ℕ, List, Err, Some, IfErr, IfOk, IfSome, true};
 ghost use Rattle.schedule.specs.Schedule.{IsDay};
 ghost use Rattle.schedule.specs.Text.{day_text};
 ghost use Rattle.deposit_name.specs.Identifiers.{IsReference, IsTld};
@@ -12,6 +12,7 @@ ghost use Rattle.http_request.specs.Wanted.{Means, IsStatement, texts_of, handov
 ghost use Rattle.http_request.specs.Wanted as asked;
 ghost use Rattle.http_request.specs.WantedSeen.{wanted_of};
 ghost use Rattle.http_request.specs.Targets.{seen};
+ghost use Rattle.http_request.specs.Paths.{takes_json};
 
 use crate::bodies::{
     HoldFields, ReleaseFields, StatementFields, hold_fields, registration_text, release_fields,
@@ -38,6 +39,7 @@ pub enum BodyFault {
 fn tld_of(text: &[u8]) -> Result<Tld, BodyFault>
     ensures found { IfOk result (λ tld. (tld ≡ text.now) × IsTld tld) }
     ensures form { result ≡ Err BodyFault.Form → ¬ IsTld text.now }
+    ensures kind { IfErr result (λ e. e ≡ BodyFault.Form) }
 {
     Tld::parse(text).ok_or(BodyFault::Form)
 }
@@ -46,6 +48,7 @@ fn tld_of(text: &[u8]) -> Result<Tld, BodyFault>
 fn reference_of(text: &[u8]) -> Result<Reference, BodyFault>
     ensures found { IfOk result (λ reference. (reference ≡ text.now) × IsReference reference) }
     ensures form { result ≡ Err BodyFault.Form → ¬ IsReference text.now }
+    ensures kind { IfErr result (λ e. e ≡ BodyFault.Form) }
 {
     Reference::parse(text).ok_or(BodyFault::Form)
 }
@@ -203,6 +206,8 @@ pub fn meaning_of<'a>(
 ) -> Result<Wanted<'a>, BodyFault>
     ensures found { IfOk result (λ w. Means (seen target.entry) body.entry.now (wanted_of w)) }
     ensures form { result ≡ Err BodyFault.Form → (w : asked.Wanted) → ¬ Means (seen target.entry) body.entry.now w }
+    // Memory is taken for the JSON of a body alone.
+    ensures memory { result ≡ Err BodyFault.NoMemory → takes_json (seen target.entry) ≡ true }
 {
     match target {
         Target::Registry(text) => {

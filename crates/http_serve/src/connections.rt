@@ -1,5 +1,5 @@
 //! Connections, one after the other.
-ghost use Rattle.std.specs.Prelude.{◌≡◌, ◌<◌, ℕ, Some, IfOk, IfSome, OnOk, OnErr};
+ghost use Rattle.std.specs.Prelude.{◌≡◌, ◌<◌, ℕ, Some, None, Ok, Err, IfOk, IfErr, IfSome, OnOk, OnErr};
 ghost use Rattle.http_serve.specs.Turns.{AreTurns, IsTurn};
 
 use crate::client::{REQUEST_SECONDS, RESPONSE_SECONDS, Timed, end_connection};
@@ -25,6 +25,11 @@ pub enum ServeFault {
 }
 
 impl fmt::Display for ServeFault {
+    ghost use Rattle.std.specs.Prelude.{Some};
+    ghost use Rattle.http_serve.specs.Faults.{serve_fault_text};
+
+    ghost output = { λ e. Some (serve_fault_text e) };
+
     fn fmt<W: fmt::Write>(&self, f: &mut fmt::Formatter<W>) -> fmt::Result {
         f.write_str(match self {
             ServeFault::Socket => "socket failed",
@@ -34,7 +39,9 @@ impl fmt::Display for ServeFault {
 }
 
 /// The next connection, if one is there. One that was given up before it is accepted is none.
-fn next_client(listener: &TcpListener) -> Result<Option<TcpStream>, ServeFault> {
+fn next_client(listener: &TcpListener) -> Result<Option<TcpStream>, ServeFault>
+    ensures { IfErr result (λ fault. fault ≡ ServeFault.Socket) }
+{
     match listener.accept() {
         Ok((stream, _)) => Ok(Some(stream)),
         Err(error) => match error.kind() {
@@ -46,7 +53,8 @@ fn next_client(listener: &TcpListener) -> Result<Option<TcpStream>, ServeFault> 
 
 /// The moment of a connection: the one that is given, or that of the clock.
 fn moment_at<C: Clock>(given: &Option<Sec>, clock: &C) -> Result<Sec, ServeFault>
-    ensures { IfOk result (λ now. IfSome given.now (λ moment. now ≡ moment)) }
+    ensures found { IfOk result (λ now. IfSome given.now (λ moment. now ≡ moment)) }
+    ensures given { IfSome given.now (λ moment. result ≡ Ok moment) }
 {
     match given {
         Some(moment) => Ok(*moment),
@@ -92,6 +100,8 @@ pub fn serve_connections<C: Clock, V: Volume, S: Alter, E: Write>(
     err: &mut E,
 ) -> Result<(), ServeFault>
     ensures all { OnOk result (AreTurns now count custody.old custody.new) }
+    // The clock fails only where it is read.
+    ensures clock { result ≡ Err ServeFault.Clock → now ≡ None }
     ensures fewer { OnErr result ((served : ℕ) × (served < count) × AreTurns now served custody.old custody.new) }
 {
     for _ in 0..count {

@@ -1,13 +1,12 @@
 use Rattle.std.proofs.Common.{◌∙◌, ◌++◌, ℕ, Err, Option, Some, IfSome, ap, arith, refl, subst, sym}
 use Rattle.std.proofs.lemmas.Result.{IfOk-weaker, IfErr-weaker}
-use Rattle.http_request.specs.Asked.{asks_for}
 use Rattle.http_request.specs.WantedSeen.{wanted_of}
 use Rattle.http_request.specs.Head.{rest_of}
 use Rattle.http_request.specs.Errors.{IsBodyError}
 use Rattle.http_request.specs.Targets.{seen}
 use Rattle.http_request.specs.declared.error.RequestError.TheVariants as error
 use Rattle.http_request.proofs.Asking.{plan_error, part_sent, part_told, body_error, form_error, asks_wanted}
-use Rattle.http_api.proofs.PartLemmas.{either_on, left_alone, part_left, part_serves}
+use Rattle.http_api.proofs.PartLemmas.{left_alone, part_done, part_left}
 use Rattle.http_api.proofs.serve.outcome_of.Goals as goal
 
 pub returns-in-Err-read_plan-clause-error : goal.returns-in-Err-read_plan-clause-error
@@ -30,7 +29,7 @@ returns-in-Ok-meaning_of-clause-done g c =
     let means = rw c.deref.ensures.value at c.in-Ok-meaning_of.ensures.found in
     let wanted = wanted_of c.in-Ok-meaning_of.wanted in
     let asks = asks_wanted c.in-Ok.head c.in-Ok-read_plan.plan _ _ c.in-Ok.ensures.found.0 c.in-Ok.ensures.found.1 c.in-Ok-read_plan.ensures.ok c.in-Ok-read_body.body.items body wanted means in
-    λ answer told. either_on (λ gives. (asks_for wanted, asks, gives)) (c.obey.ensures answer told)
+    (wanted, asks, c.obey.ensures)
 
 pub returns-in-Err-clause-left : goal.returns-in-Err-clause-left
 returns-in-Err-clause-left g c = left_alone _ _ _ refl c.in-Err.error
@@ -54,7 +53,7 @@ returns-in-Deposit-clause-done g c =
     let told = part_told head plan c.in-Ok.ensures.found.1 c.in-Ok-read_plan.ensures.ok c.in-Deposit.name.now named in
     let len = told.1 ∙ ap Some (sym (rw told.1 at c.unwrap_or-len.ensures)) in
     IfOk-weaker c.receive.result _ _
-    (λ outcome part. part_serves head plan _ _ c.in-Ok.ensures.found.0 c.in-Ok.ensures.found.1 c.in-Ok-read_plan.ensures.ok c.in-Deposit.name.now named _ len _ _ _ outcome part)
+    (λ outcome part. part_done head plan _ _ c.in-Ok.ensures.found.0 c.in-Ok.ensures.found.1 c.in-Ok-read_plan.ensures.ok c.in-Deposit.name.now named _ len _ _ _ outcome part)
     (rw c.rest.ensures at c.receive.ensures.done)
 
 pub returns-in-Deposit-clause-error : goal.returns-in-Deposit-clause-error

@@ -1,6 +1,10 @@
 use Rattle.std.proofs.Common.{◌∙◌, inl, inr}
 use Rattle.http_request.specs.Asked.{bad}
+use Rattle.http_api.proofs.PartLemmas.{done_serves}
 use Rattle.http_api.proofs.serve.respond.Goals as goal
+
+pub returns-in-Ok-clause-serves : goal.returns-in-Ok-clause-serves
+returns-in-Ok-clause-serves g c = done_serves _ _ _ _ c.in-Ok.outcome c.in-Ok.ensures.done
 
 pub returns-in-Err-Fault-clause-serves : goal.returns-in-Err-Fault-clause-serves
 returns-in-Err-Fault-clause-serves g c =
