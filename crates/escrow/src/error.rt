@@ -1,21 +1,20 @@
 //! Why an order is not carried out.
-use custody_machine::{Fault, Status};
-use sqlite::Error;
-use std::alloc::AllocError;
-use std::{fmt, io};
-use vault_volume::FileError;
+ghost use Rattle.std.specs.Prelude.{◌≡◌, IfSome, codes};
+ghost use Rattle.std.specs.IoError.{error_kind};
+ghost use Rattle.escrow.specs.Errors.{IsFileError, IsOfFile, error_status};
 
-/// What stops the program before an order is carried out. It prints as one line.
+use custody_machine::{Fault, Status};
+use std::alloc::{AllocError, Global};
+use std::fmt;
+use std::io::{self, ErrorKind};
+
+/// What stops the program before an order is carried out.
 #[derive(Debug, Drop)]
 pub enum ProgramError {
     /// An argument is no text.
     Words,
-    /// A file is not there, is in use, or fails.
-    File { path: String, cause: FileError },
-    /// A folder is not there.
-    NoFolder(String),
-    /// A database is not there to open.
-    Database { path: String, cause: Error },
+    /// A file or a folder is not there, is in use, or fails: the line that says which, and why.
+    File(String),
     /// The clock fails, or tells a moment out of range.
     Clock,
     /// The vault fails.
@@ -24,7 +23,9 @@ pub enum ProgramError {
 
 impl ProgramError {
     /// The exit status.
-    pub fn status(&self) -> u8 {
+    pub fn status(&self) -> u8
+        ensures { result ≡ error_status self.now }
+    {
         let status = match self {
             ProgramError::Words => Status::Misused,
             _ => Status::Failed,
@@ -32,36 +33,38 @@ impl ProgramError {
         status.number()
     }
 
-    /// The error that a file gives.
-    pub fn by_file(path: String, error: io::Error) -> ProgramError {
-        match error.kind() {
-            io::ErrorKind::OutOfMemory => ProgramError::Fault(Fault::NoMemory),
-            io::ErrorKind::NotFound => ProgramError::File {
-                path,
-                cause: FileError::Missing,
-            },
-            _ => ProgramError::File {
-                path,
-                cause: FileError::Io(error),
-            },
+    /// The error of a file or a folder, by its path and what is wrong with it.
+    pub fn of_file<D: fmt::Display + Drop>(alloc: Global, path: &str, cause: D) -> ProgramError
+        ensures kind { IsOfFile result }
+        ensures line { IfSome (D.output cause) (λ text. IsFileError path.now text result) }
+    {
+        match format!(in alloc; "file failed: {path}: {cause}\n") {
+            Ok(line) => ProgramError::File(line),
+            Err(_) => ProgramError::Fault(Fault::NoMemory),
         }
     }
-}
 
-impl fmt::Display for ProgramError {
-    fn fmt<W: fmt::Write>(&self, f: &mut fmt::Formatter<W>) -> fmt::Result {
-        match self {
-            ProgramError::Words => f.write_str("error: an argument is no text"),
-            ProgramError::File { path, cause } => write!(f, "file failed: {path}: {cause}"),
-            ProgramError::NoFolder(path) => write!(f, "file failed: {path}: folder missing"),
-            ProgramError::Database { path, cause } => write!(f, "file failed: {path}: {cause}"),
-            ProgramError::Clock => f.write_str("clock failed"),
-            ProgramError::Fault(fault) => write!(f, "{fault}"),
+    /// The error that a call on a file gives.
+    pub fn by_file(alloc: Global, path: &str, error: io::Error) -> ProgramError
+        ensures kind { IsOfFile result }
+        ensures memory { error_kind error ≡ ErrorKind.OutOfMemory → result ≡ ProgramError.Fault Fault.NoMemory }
+        ensures missing { error_kind error ≡ ErrorKind.NotFound → IsFileError path.now (codes "file missing") result }
+    {
+        match error.kind() {
+            ErrorKind::OutOfMemory => ProgramError::Fault(Fault::NoMemory),
+            ErrorKind::NotFound => ProgramError::of_file(alloc, path, "file missing"),
+            _ => ProgramError::of_file(alloc, path, error),
         }
     }
 }
 
 impl From<AllocError> for ProgramError {
+    ghost use Rattle.std.specs.Prelude.{◌≡◌};
+    ghost use Rattle.custody_machine.specs.declared.answers.Fault.TheVariants.{NoMemory};
+    ghost use Rattle.escrow.specs.declared.error.ProgramError.TheVariants as error;
+
+    ghost from_gives = { λ _ e. e ≡ error.Fault NoMemory };
+
     fn from(_error: AllocError) -> ProgramError {
         ProgramError::Fault(Fault::NoMemory)
     }

@@ -1,12 +1,16 @@
 //! The files: the two of a vault's folder, and the file that is put.
-ghost use Rattle.std.specs.Prelude.{◌≡◌, true, false, IfOk};
+ghost use Rattle.std.specs.Prelude.{◌≡◌, ◌++◌, true, false, codes, string_bytes, IfOk};
 ghost use Rattle.vault_volume.specs.declared.file.FileVolume.{FileVolume};
 ghost use Rattle.vault_volume.specs.File.{is_made_anew};
+ghost use Rattle.sqlite.specs.Held.{state};
 ghost use Rattle.custody_store.specs.Standing.{standing, HasMetaOrNone, has_any};
 ghost use Rattle.custody.specs.Opening.{HasNoRecord};
+ghost use Rattle.escrow.specs.Errors.{IsOpenError};
+ghost use Rattle.escrow.specs.Folder.{IsPart, ListsNothing};
 
 use crate::error::ProgramError;
 use crate::vault::Ended;
+use agent_cli::Order;
 use custody::has_record;
 use custody_machine::Fault;
 use custody_store::has_any;
@@ -14,25 +18,43 @@ use sqlite::{Alter, Connection, Error, ErrorCode, File, FileStore};
 use std::alloc::{AllocError, Global};
 use std::fs;
 use std::io::{self, Read};
-use vault_volume::{FileError, FileVolume, Volume};
+use vault_volume::{FileVolume, Volume};
 
 /// The database in a file.
 pub type Database = Connection<FileStore<File>>;
 
+/// How an order over the files of a folder ended.
+pub type EndedFolder = Ended<FileVolume, FileStore<File>>;
+
 /// One byte more than a part may have: of a longer file no more is read, and it is refused for its size.
 const READ_BYTES: u64 = 1_048_577;
 
-/// Reads the file that is put.
-pub fn read_file(rt: &HostRuntime, path: &str) -> Result<Vec<u8>, ProgramError> {
-    let path = String::from_str(rt.alloc(), path)?;
-    let file = match fs::File::open(rt, path.as_str()) {
-        Ok(file) => file,
-        Err(error) => return Err(ProgramError::by_file(path, error)),
+/// Opens the file that a `put` names; no other order has one.
+pub fn open_part(rt: &HostRuntime, order: &Order<'_>) -> Result<Option<fs::File>, ProgramError> {
+    let Order::Put { file, .. } = order else {
+        return Ok(None);
     };
-    let mut bytes = Vec::new(rt.alloc());
-    match file.take(READ_BYTES).read_to_end(&mut bytes) {
+    match fs::File::open(rt, *file) {
+        Ok(part) => Ok(Some(part)),
+        Err(error) => Err(ProgramError::by_file(rt.alloc(), file, error)),
+    }
+}
+
+/// Reads the bytes of the file that a `put` names: all of them, or one more than a part may have.
+pub fn read_part<R: Read + Drop>(
+    alloc: Global,
+    path: &str,
+    part: Option<R>,
+) -> Result<Vec<u8>, ProgramError>
+    ensures { IfOk result (λ bytes. IsPart R.remaining part bytes.items) }
+{
+    let mut bytes = Vec::new(alloc);
+    let Some(part) = part else {
+        return Ok(bytes);
+    };
+    match part.take(READ_BYTES).read_to_end(&mut bytes) {
         Ok(_) => Ok(bytes),
-        Err(error) => Err(ProgramError::by_file(path, error)),
+        Err(error) => Err(ProgramError::by_file(alloc, path, error)),
     }
 }
 
@@ -53,11 +75,12 @@ pub fn make(
     folder: &str,
     blocks: u32,
 ) -> Result<(FileVolume, Database), ProgramError>
-    ensures { IfOk result (λ files. ⟦<FileVolume as Volume>⟧.failures files.0 ≡ 0) }
+    ensures failures { IfOk result (λ files. ⟦<FileVolume as Volume>⟧.failures files.0 ≡ 0) }
+    ensures size { IfOk result (λ files. is_made_anew files.0 ≡ true → ⟦<FileVolume as Volume>⟧.size files.0 ≡ blocks) }
 {
     find_folder(rt, folder)?;
     let path = database_path(rt.alloc(), folder)?;
-    let db = open_database(rt, path)?;
+    let db = open_database(rt, &path)?;
     with_volume(rt, folder, blocks, db)
 }
 
@@ -69,8 +92,9 @@ fn with_database<V: Drop>(
 ) -> Result<(V, Database), ProgramError>
     ensures { IfOk result (λ files. files.0 ≡ volume) }
 {
-    let path = there(rt, database_path(rt.alloc(), folder)?)?;
-    let db = open_database(rt, path)?;
+    let path = database_path(rt.alloc(), folder)?;
+    find_file(rt, &path)?;
+    let db = open_database(rt, &path)?;
     Ok((volume, db))
 }
 
@@ -83,11 +107,13 @@ fn with_volume<S: Alter + Drop>(
     db: Connection<S>,
 ) -> Result<(FileVolume, Connection<S>), ProgramError>
     ensures failures { IfOk result (λ files. ⟦<FileVolume as Volume>⟧.failures files.0 ≡ 0) }
-    // A volume is made anew only where none of the five tables is there.
+    // A volume is made anew only where none of the five tables is there, and nothing else is listed.
     ensures new { IfOk result (λ files. is_made_anew files.0 ≡ true → has_any (standing S.Store db) ≡ false) }
+    ensures bare { IfOk result (λ files. is_made_anew files.0 ≡ true → ListsNothing (state S.Store db)) }
     // So it has no record of one.
     ensures made { HasMetaOrNone (standing S.Store db) → IfOk result (λ files. (standing S.Store files.1).IsHonest
         → is_made_anew files.0 ≡ true → HasNoRecord (standing S.Store db).rows) }
+    ensures size { IfOk result (λ files. is_made_anew files.0 ≡ true → ⟦<FileVolume as Volume>⟧.size files.0 ≡ blocks) }
 {
     let mut db = db;
     let is_new = is_empty(&db) && !has_any(&db);
@@ -102,7 +128,9 @@ fn with_volume<S: Alter + Drop>(
 
 /// Whether nothing is listed in a database. (A table is not among its tables where an index or a trigger
 /// on it is none that the database reads.)
-fn is_empty<S: Alter>(db: &Connection<S>) -> bool {
+fn is_empty<S: Alter>(db: &Connection<S>) -> bool
+    ensures { result ≡ true → ListsNothing (state S.Store db.now) }
+{
     let schema = db.schema();
     let tables = schema.tables.as_slice().len();
     let indexes = schema.indexes.as_slice().len();
@@ -112,7 +140,9 @@ fn is_empty<S: Alter>(db: &Connection<S>) -> bool {
 
 /// Closes the files of a vault, and answers the exit status. What was acknowledged is kept also where
 /// the database's log cannot be copied.
-pub fn close(ended: Ended<FileVolume, FileStore<File>>) -> u8 {
+pub fn close(ended: EndedFolder) -> u8
+    ensures { result ≡ ended.status }
+{
     let Ended { status, vault } = ended;
     if let Some((volume, db)) = vault {
         let _ = db.close();
@@ -123,41 +153,46 @@ pub fn close(ended: Ended<FileVolume, FileStore<File>>) -> u8 {
 
 /// Finds the folder of a vault, which has to be there.
 fn find_folder(rt: &HostRuntime, folder: &str) -> Result<(), ProgramError> {
-    let path = String::from_str(rt.alloc(), folder)?;
-    match fs::metadata(rt, path.as_str()) {
-        Ok(found) if found.is_dir() => Ok(()),
-        Ok(_) => Err(ProgramError::NoFolder(path)),
-        Err(error) if error.kind() == io::ErrorKind::NotFound => Err(ProgramError::NoFolder(path)),
-        Err(error) => Err(ProgramError::by_file(path, error)),
+    let is_folder = match fs::metadata(rt, folder) {
+        Ok(found) => found.is_dir(),
+        Err(error) if error.kind() == io::ErrorKind::NotFound => false,
+        Err(error) => return Err(ProgramError::by_file(rt.alloc(), folder, error)),
+    };
+    if !is_folder {
+        return Err(ProgramError::of_file(rt.alloc(), folder, "folder missing"));
     }
+    Ok(())
 }
 
-/// The path, where something is there.
-fn there(rt: &HostRuntime, path: String) -> Result<String, ProgramError> {
-    match fs::metadata(rt, path.as_str()) {
-        Ok(_) => Ok(path),
-        Err(error) => Err(ProgramError::by_file(path, error)),
+/// Finds a file, which has to be there.
+fn find_file(rt: &HostRuntime, path: &str) -> Result<(), ProgramError> {
+    match fs::metadata(rt, path) {
+        Ok(_) => Ok(()),
+        Err(error) => Err(ProgramError::by_file(rt.alloc(), path, error)),
     }
 }
 
 /// Settles the names of the files in a folder.
 fn sync_folder(rt: &HostRuntime, folder: &str) -> Result<(), ProgramError> {
-    let path = String::from_str(rt.alloc(), folder)?;
     let synced = match fs::File::open(rt, folder) {
         Ok(opened) => opened.sync_all(),
         Err(error) => Err(error),
     };
     match synced {
         Ok(()) => Ok(()),
-        Err(error) => Err(ProgramError::by_file(path, error)),
+        Err(error) => Err(ProgramError::by_file(rt.alloc(), folder, error)),
     }
 }
 
-fn database_path(alloc: Global, folder: &str) -> Result<String, AllocError> {
+fn database_path(alloc: Global, folder: &str) -> Result<String, AllocError>
+    ensures { IfOk result (λ path. string_bytes path ≡ folder.now ++ codes "/custody.db") }
+{
     format!(in alloc; "{folder}/custody.db")
 }
 
-fn volume_path(alloc: Global, folder: &str) -> Result<String, AllocError> {
+fn volume_path(alloc: Global, folder: &str) -> Result<String, AllocError>
+    ensures { IfOk result (λ path. string_bytes path ≡ folder.now ++ codes "/vault.vol") }
+{
     format!(in alloc; "{folder}/vault.vol")
 }
 
@@ -166,43 +201,44 @@ fn open_volume(rt: &HostRuntime, folder: &str) -> Result<FileVolume, ProgramErro
     ensures found { IfOk result (λ volume. is_made_anew volume ≡ false) }
 {
     let path = volume_path(rt.alloc(), folder)?;
-    match FileVolume::open(rt, path.as_str()) {
+    match FileVolume::open(rt, &path) {
         Ok(volume) => Ok(volume),
-        Err(cause) => Err(ProgramError::File { path, cause }),
+        Err(cause) => Err(ProgramError::of_file(rt.alloc(), &path, cause)),
     }
 }
 
 fn create_volume(rt: &HostRuntime, folder: &str, blocks: u32) -> Result<FileVolume, ProgramError>
-    ensures { IfOk result (λ volume. ⟦<FileVolume as Volume>⟧.failures volume ≡ 0) }
+    ensures failures { IfOk result (λ volume. ⟦<FileVolume as Volume>⟧.failures volume ≡ 0) }
+    ensures size { IfOk result (λ volume. ⟦<FileVolume as Volume>⟧.size volume ≡ blocks) }
 {
     let path = volume_path(rt.alloc(), folder)?;
-    match FileVolume::create(rt, path.as_str(), blocks) {
+    match FileVolume::create(rt, &path, blocks) {
         Ok(volume) => {
             sync_folder(rt, folder)?;
             Ok(volume)
         }
-        Err(cause) => Err(ProgramError::File { path, cause }),
+        Err(cause) => Err(ProgramError::of_file(rt.alloc(), &path, cause)),
     }
 }
 
 /// Opens a database, and makes it where it is not there.
-fn open_database(rt: &HostRuntime, path: String) -> Result<Database, ProgramError> {
-    match Connection::open(rt, path.as_str()) {
+fn open_database(rt: &HostRuntime, path: &str) -> Result<Database, ProgramError> {
+    match Connection::open(rt, path) {
         Ok(db) => Ok(db),
-        Err(error) => Err(error_of(path, error)),
+        Err(error) => Err(open_error(rt.alloc(), path, error)),
     }
 }
 
-fn error_of(path: String, error: Error) -> ProgramError {
+fn open_error(alloc: Global, path: &str, error: Error) -> ProgramError
+    ensures { IsOpenError path.now error result }
+{
     match error {
-        Error::SqliteFailure(ErrorCode::DatabaseBusy) => ProgramError::File {
-            path,
-            cause: FileError::Locked,
-        },
-        Error::SqliteFailure(ErrorCode::CannotOpen) => ProgramError::Database {
-            path,
-            cause: error,
-        },
+        Error::SqliteFailure(ErrorCode::DatabaseBusy) => {
+            ProgramError::of_file(alloc, path, "file in use")
+        }
+        Error::SqliteFailure(ErrorCode::CannotOpen) => {
+            ProgramError::of_file(alloc, path, "unable to open database file")
+        }
         Error::SqliteFailure(ErrorCode::OutOfMemory) => ProgramError::Fault(Fault::NoMemory),
         _ => ProgramError::Fault(Fault::StoreFailed),
     }

@@ -1,8 +1,15 @@
 //! The program `escrow`: a registry data escrow agent over the two files of a folder.
 #![tactic(auto)]
 
-ghost use Rattle.std.specs.Prelude.{◌≡◌, IfSome, Ok};
+ghost use Rattle.std.specs.Prelude.{◌≡◌, ◌⊎◌, IfOk, IfSome, MatchResult, OnOk};
+ghost use Rattle.std.specs.Process.{exit_status};
+ghost use Rattle.sqlite.specs.Files.{over_files};
+ghost use Rattle.std.specs.Io.KnownBytes.{Appends};
+ghost use Rattle.answer_lines.specs.Printed.{Begins, IsUnused};
+ghost use Rattle.agent_cli.specs.Faults.{IsStatusOf};
 ghost use Rattle.agent_cli.specs.Order.{meaning, named_moment};
+ghost use Rattle.escrow.specs.Errors.{IsTold, error_line};
+ghost use Rattle.escrow.specs.Folder.{IsDone, IsPart, Works};
 
 mod clock;
 mod error;
@@ -12,20 +19,23 @@ mod terminal;
 mod vault;
 
 use agent_cli::{Order, WordFault, order_of};
-use answer_lines::VolumeNumber;
+use answer_lines::{WriteFailed, fault_bytes, write_whole};
 use custody_machine::{Fault, Status};
 use error::ProgramError;
-use files::{close, find, make, read_file};
+use files::{EndedFolder, close, find, make, open_part, read_part};
 use schedule::Sec;
 use std::env;
-use std::io::{self, BufWriter};
+use std::io::{self, BufWriter, Read, Write};
 use std::process::ExitCode;
 use streams::hold_streams;
 use terminal::Terminal;
 use vault::{begin, listen, serve};
+use vault_volume::{FileVolume, Volume};
 
 /// Prints the text of words that are no order, help among them, and answers the status.
-fn tell_words(rt: &HostRuntime, fault: &WordFault) -> u8 {
+fn tell_words(rt: &HostRuntime, fault: &WordFault) -> u8
+    ensures { IsStatusOf fault.now result ⊎ (result ≡ 3) }
+{
     let printed = match fault {
         WordFault::Words(error) => error.print(rt),
         _ => eprint!(rt; "{fault}"),
@@ -36,33 +46,33 @@ fn tell_words(rt: &HostRuntime, fault: &WordFault) -> u8 {
     }
 }
 
-/// Prints the line of an error, and answers the status.
-fn tell_error(rt: &HostRuntime, error: &ProgramError) -> u8 {
-    match eprintln!(rt; "{error}") {
-        Ok(()) => error.status(),
-        Err(_) => Status::Failed.number(),
+/// Writes the line of an error.
+fn write_error<E: Write>(error: &ProgramError, err: &mut E) -> Result<(), WriteFailed>
+    ensures whole { OnOk result (Appends (E.contents err.old) (E.contents err.new) (error_line error.now)) }
+    ensures begun { Begins (record { before = E.contents err.old; after = E.contents err.new }) (error_line error.now) }
+{
+    match error {
+        ProgramError::Words => write_whole(b"error: an argument is no text\n", err),
+        ProgramError::File(line) => write_whole(line.as_bytes(), err),
+        ProgramError::Clock => write_whole(b"clock failed\n", err),
+        ProgramError::Fault(fault) => write_whole(&fault_bytes(fault), err),
     }
 }
 
-/// Makes the two files of a folder, and the vault in them.
-fn init(
-    rt: &HostRuntime,
-    folder: &str,
-    blocks: u32,
-    number: VolumeNumber,
-) -> Result<u8, ProgramError> {
-    let mut out = BufWriter::new(rt.alloc(), io::writer(rt)).map_err(|_| ProgramError::Fault(
-        Fault::NoMemory,
-    ))?;
-    let files = make(rt, folder, blocks)?;
-    let mut err = rt.stderr();
-    let ended = begin(rt.alloc(), files, blocks, number, &mut out, &mut err);
-    Ok(close(ended))
+/// Prints the line of an error, and answers the status.
+fn tell_error<E: Write>(error: &ProgramError, err: &mut E) -> u8
+    ensures { IsTold error.now result (record { before = E.contents err.old; after = E.contents err.new }) }
+{
+    match write_error(error, err) {
+        Ok(()) => error.status(),
+        Err(WriteFailed) => Status::Failed.number(),
+    }
 }
 
 /// The moment that the words name, or else that of the clock.
 fn moment(rt: &HostRuntime, order: &Order<'_>) -> Result<Sec, ProgramError>
-    ensures { IfSome (named_moment (meaning order.now)) (λ now. result ≡ Ok now) }
+    ensures named { IfSome (named_moment (meaning order.now)) (λ now. result ≡ Ok now) }
+    ensures found { IfOk result (λ now. IfSome (named_moment (meaning order.now)) (λ moment. now ≡ moment)) }
 {
     match order.named_moment() {
         Some(now) => Ok(now),
@@ -71,60 +81,45 @@ fn moment(rt: &HostRuntime, order: &Order<'_>) -> Result<Sec, ProgramError>
 }
 
 /// Carries out an order on the vault of a folder, at its moment.
-fn work(
+fn work<W: Write, E: Write>(
     rt: &HostRuntime,
     folder: &str,
     order: &Order<'_>,
     file: &[u8],
-) -> Result<u8, ProgramError> {
+    out: &mut W,
+    err: &mut E,
+) -> Result<EndedFolder, ProgramError>
+    ensures { IfOk result (λ ended. Works ⟦<FileVolume as Volume>⟧ over_files ended.status ended.vault (record { before = W.contents out.old; after = W.contents out.new }) (record { before = E.contents err.old; after = E.contents err.new }) order.now file.now) }
+{
     let now = moment(rt, order)?;
-    let mut out = BufWriter::new(rt.alloc(), io::writer(rt)).map_err(|_| ProgramError::Fault(
-        Fault::NoMemory,
-    ))?;
     let files = find(rt, folder)?;
-    let mut err = rt.stderr();
     let mut progress = Terminal::of(rt, order);
-    let ended = serve(
-        rt.alloc(),
-        files,
-        order,
-        file,
-        now,
-        &mut out,
-        &mut err,
-        &mut progress,
-    );
-    Ok(close(ended))
+    Ok(serve(rt.alloc(), files, order, file, now, out, err, &mut progress))
 }
 
-/// Answers requests on the vault of a folder.
-fn listen_on(
+/// Carries out an order over the files of its folder, which are to be closed then. `part` is the file that
+/// a `put` names.
+fn carry_out<R: Read + Drop, W: Write, E: Write>(
     rt: &HostRuntime,
-    folder: &str,
-    port: u16,
-    requests: u32,
-    now: Option<Sec>,
-) -> Result<u8, ProgramError> {
-    let mut out = BufWriter::new(rt.alloc(), io::writer(rt)).map_err(|_| ProgramError::Fault(
-        Fault::NoMemory,
-    ))?;
-    let files = find(rt, folder)?;
-    let mut err = rt.stderr();
-    let ended = listen(rt, files, port, requests, now, &mut out, &mut err);
-    Ok(close(ended))
-}
-
-fn carry_out(rt: &HostRuntime, order: &Order<'_>) -> Result<u8, ProgramError> {
-    let _streams = hold_streams(rt)?;
+    order: &Order<'_>,
+    part: Option<R>,
+    out: &mut W,
+    err: &mut E,
+) -> Result<EndedFolder, ProgramError>
+    ensures { IfOk result (λ ended. IsDone ⟦<FileVolume as Volume>⟧ over_files ended.status ended.vault (record { before = W.contents out.old; after = W.contents out.new }) (record { before = E.contents err.old; after = E.contents err.new }) (IsPart R.remaining part) order.now) }
+{
     match order {
         Order::Init {
             folder,
             blocks,
             number,
-        } => init(rt, folder, *blocks, *number),
+        } => {
+            let files = make(rt, folder, *blocks)?;
+            Ok(begin(rt.alloc(), files, *blocks, *number, out, err))
+        }
         Order::Put { folder, file, .. } => {
-            let bytes = read_file(rt, file)?;
-            work(rt, folder, order, &bytes)
+            let bytes = read_part(rt.alloc(), file, part)?;
+            work(rt, folder, order, &bytes, out, err)
         }
         Order::Register { folder, .. }
         | Order::Verify { folder, .. }
@@ -136,14 +131,28 @@ fn carry_out(rt: &HostRuntime, order: &Order<'_>) -> Result<u8, ProgramError> {
         | Order::Fetch { folder, .. }
         | Order::Report { folder, .. }
         | Order::State { folder }
-        | Order::Audit { folder } => work(rt, folder, order, &[]),
+        | Order::Audit { folder } => work(rt, folder, order, &[], out, err),
         Order::Serve {
             folder,
             port,
             requests,
             now,
-        } => listen_on(rt, folder, *port, *requests, *now),
+        } => {
+            let files = find(rt, folder)?;
+            Ok(listen(rt, files, *port, *requests, *now, out, err))
+        }
     }
+}
+
+/// Carries out an order, and closes the files of its folder.
+fn obey(rt: &HostRuntime, order: &Order<'_>) -> Result<u8, ProgramError> {
+    let _streams = hold_streams(rt)?;
+    let part = open_part(rt, order)?;
+    let mut out = BufWriter::new(rt.alloc(), io::writer(rt)).map_err(|_| ProgramError::Fault(
+        Fault::NoMemory,
+    ))?;
+    let ended = carry_out(rt, order, part, &mut out, &mut rt.stderr())?;
+    Ok(close(ended))
 }
 
 fn run(rt: &HostRuntime) -> Result<u8, ProgramError> {
@@ -155,15 +164,25 @@ fn run(rt: &HostRuntime) -> Result<u8, ProgramError> {
         Err(_) => return Err(ProgramError::Words),
     };
     match order_of(rt.alloc(), words.as_slice()) {
-        Ok(order) => carry_out(rt, &order),
+        Ok(order) => obey(rt, &order),
         Err(fault) => Ok(tell_words(rt, &fault)),
     }
 }
 
-fn main(rt: HostRuntime) -> ExitCode {
-    let status = match run(&rt) {
-        Ok(status) => status,
-        Err(error) => tell_error(&rt, &error),
+/// The exit status of a run. The line of an error is printed.
+fn exit_code<E: Write>(outcome: &Result<u8, ProgramError>, err: &mut E) -> ExitCode
+    ensures { MatchResult outcome.now
+        (λ status. (exit_status result ≡ status) × IsUnused (record { before = E.contents err.old; after = E.contents err.new }))
+        (λ error. IsTold error (exit_status result) (record { before = E.contents err.old; after = E.contents err.new })) }
+{
+    let status = match outcome {
+        Ok(status) => *status,
+        Err(error) => tell_error(error, err),
     };
     ExitCode::from(status)
+}
+
+fn main(rt: HostRuntime) -> ExitCode {
+    let outcome = run(&rt);
+    exit_code(&outcome, &mut rt.stderr())
 }

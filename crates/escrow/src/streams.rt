@@ -12,9 +12,8 @@ pub fn hold_streams(rt: &HostRuntime) -> Result<(File, File, File), ProgramError
 }
 
 fn open_null(rt: &HostRuntime) -> Result<File, ProgramError> {
-    let path = String::from_str(rt.alloc(), NULL)?;
-    match File::open(rt, path.as_str()) {
+    match File::open(rt, NULL) {
         Ok(file) => Ok(file),
-        Err(error) => Err(ProgramError::by_file(path, error)),
+        Err(error) => Err(ProgramError::by_file(rt.alloc(), NULL, error)),
     }
 }

@@ -1,5 +1,9 @@
 //! What a call does over a volume and a database, of whatever kinds they are.
-ghost use Rattle.std.specs.Prelude.{◌≡◌, ◌-◌, ◌^◌, ◌<◌, ◌≤◌, ℕ, IfSome};
+ghost use Rattle.std.specs.Prelude.{◌≡◌, ◌-◌, ◌^◌, ◌<◌, ◌≤◌, ℕ, IfSome, MatchOption};
+ghost use Rattle.answer_lines.specs.Lines.{line_text};
+ghost use Rattle.answer_lines.specs.Printed.{Takes, as_line};
+ghost use Rattle.answer_lines.specs.Statuses.{IsStatusAfter};
+ghost use Rattle.escrow.specs.Served.{HasListened, IsBegun, IsCarriedOut, IsNotMade, IsNotOpened};
 ghost use Rattle.agent_cli.specs.Order.{meaning, named_moment};
 ghost use Rattle.http_serve.specs.Turns.{AreTurns};
 
@@ -33,6 +37,9 @@ pub fn begin<V: Volume, S: Alter + Drop, W: Write, E: Write>(
     err: &mut E,
 ) -> Ended<V, S>
     requires { V.failures files.0 < 2 ^ 64 - 1 }
+    ensures { MatchOption result.vault
+        (IsNotMade V.Volume S.Store files.0 files.1 result.status (record { before = W.contents out.old; after = W.contents out.new }) (record { before = E.contents err.old; after = E.contents err.new }))
+        (λ v. IsBegun V.Volume S.Store files.0 files.1 blocks number result.status v.0 v.1 (record { before = W.contents out.old; after = W.contents out.new }) (record { before = E.contents err.old; after = E.contents err.new })) }
 {
     let (volume, db) = files;
     match Custody::init(alloc, volume, db, number.get()) {
@@ -60,6 +67,9 @@ pub fn serve<V: Volume, S: Alter + Drop, W: Write, E: Write, P: Progress>(
 ) -> Ended<V, S>
     requires failures { V.failures files.0 < 2 ^ 64 - 1 }
     requires moment { IfSome (named_moment (meaning order.now)) (λ moment. now ≡ moment) }
+    ensures { MatchOption result.vault
+        (IsNotOpened V.Volume S.Store files.0 files.1 result.status (record { before = W.contents out.old; after = W.contents out.new }) (record { before = E.contents err.old; after = E.contents err.new }))
+        (λ v. IsCarriedOut V.Volume S.Store files.0 files.1 order.now file.now now result.status v.0 v.1 (record { before = W.contents out.old; after = W.contents out.new }) (record { before = E.contents err.old; after = E.contents err.new })) }
 {
     let (volume, db) = files;
     let mut custody = match Custody::open(alloc, volume, db) {
@@ -89,6 +99,9 @@ pub fn listen<V: Volume, S: Alter + Drop, W: Write, E: Write>(
     err: &mut E,
 ) -> Ended<V, S>
     requires { V.failures files.0 < 2 ^ 64 - 1 }
+    ensures { MatchOption result.vault
+        (IsNotOpened V.Volume S.Store files.0 files.1 result.status (record { before = W.contents out.old; after = W.contents out.new }) (record { before = E.contents err.old; after = E.contents err.new }))
+        (λ v. HasListened V.Volume S.Store files.0 files.1 port now requests result.status v.0 v.1 (record { before = W.contents out.old; after = W.contents out.new })) }
 {
     let (volume, db) = files;
     let mut custody = match Custody::open(rt.alloc(), volume, db) {
@@ -117,7 +130,9 @@ fn answer<V: Volume, S: Alter, W: Write, E: Write>(
     out: &mut W,
     err: &mut E,
 ) -> u8
-    ensures { (served : ℕ) × (served ≤ requests) × AreTurns now served custody.old custody.new }
+    ensures turns { (served : ℕ) × (served ≤ requests) × (result ≡ 0 → served ≡ requests) × AreTurns now served custody.old custody.new }
+    ensures status { IsStatusAfter 0 result }
+    ensures told { Takes (record { before = W.contents out.old; after = W.contents out.new }) (as_line (line_text (Line.Listening port))) 0 result }
 {
     let alloc = rt.alloc();
     let Ok(api) = Api::new(alloc) else {
@@ -137,7 +152,9 @@ fn answer<V: Volume, S: Alter, W: Write, E: Write>(
 }
 
 /// Prints why no more connections are answered, and answers the status.
-fn tell_end<E: Write>(fault: ServeFault, err: &mut E) -> u8 {
+fn tell_end<E: Write>(fault: ServeFault, err: &mut E) -> u8
+    ensures { result ≡ 3 }
+{
     let _ = writeln!(err, "{fault}");
     Status::Failed.number()
 }
