@@ -3,11 +3,12 @@
 
     tests/faults.py [PROGRAM] [--only COMMAND ..] [--lanes N]
 
-For each command of the life of a deposit, over a copy of the vault as it stands then: each of its calls on `vault.vol`,
-`custody.db` and the log `custody.db-wal` in turn fails with EIO, with ENOSPC and with EINTR, and the program is killed
-as it makes it. Then:
+For each command of the life of a deposit, over a copy of the vault as it stands then: each of its calls on the folder,
+`vault.vol`, `custody.db` and the log `custody.db-wal` in turn fails with EIO, with ENOSPC and with EINTR, and the program
+is killed as it makes it. Then:
 
-- The program ends by itself, where it was not killed, with a status and a line as docs/CODES.md has them.
+- The program ends by itself, where it was not killed, with a status and a line as docs/CODES.md has them. A sync of the
+  folder that failed is told.
 - The vault opens. Its state is that before the command or that after it, and that after it where the command's line was
   printed.
 - The same command again prints its record (a purge or a sweep that was done says what it does then), and the state is
@@ -15,8 +16,10 @@ as it makes it. Then:
 - The database is one of schema 1 without a table of holds, or one of schema 2 with it. (Before the last command it is
   made one of schema 1, as a program of before there were holds leaves it.)
 
-The calls are those that strace shows of a run without a fault. PROGRAM is crates/escrow/out/escrow where it is not
-named. Where strace may not be used, a line says so, and nothing is tried.
+The calls are those that strace shows of a run without a fault. In that, the folder is synced after the last file is made
+in it and before the line is printed, so that the files' names are settled; `init` makes all three files. Where other
+commands are named, this is still tried of `init`, with the calls on the folder in between. PROGRAM is
+crates/escrow/out/escrow where it is not named. Where strace may not be used, a line says so, and nothing is tried.
 """
 import argparse
 import collections
@@ -55,7 +58,12 @@ LIFE = (
 # What is printed where a call fails, and its status.
 FAILURES = re.compile(r"(C[1-5] [^\n]+|[^\n]*file failed[^\n]*|[^\n]*: [^\n]+)\n\Z")
 
-Call = collections.namedtuple("Call", "name number")
+# The arguments of a call on one of the files, and on the folder.
+ON_FILE = re.compile(r'.*(?:vault\.vol|custody\.db(?:-wal)?)[">]')
+ON_FOLDER = re.compile(r'(?:AT_FDCWD(?:<[^>]*>)?, )?"(?:[^"]*/)?d"|\d+<[^>]*/d>')
+
+# A call: its name, the how-manieth of that name it is, and what strace shows behind that.
+Call = collections.namedtuple("Call", "name number shown")
 Done = collections.namedtuple("Done", "status out err")
 
 
@@ -69,20 +77,27 @@ def run(program, folder, words, tracer=()):
 
 
 def calls_of(program, folder, words):
-    """The calls of a run on the files of the vault: the name of each, and the how-manieth of that name it is."""
+    """The calls of a run on files."""
     trace = folder / "trace"
     run(program, folder, words, ["strace", "-f", "-y", "-qq", "-o", str(trace), "-e", "trace=%file,%desc"])
     counts, calls = collections.Counter(), []
     for line in trace.read_text(errors="replace").splitlines():
         match = re.match(r"\d+\s+(\w+)\((.*)", line)
-        if not match:
-            continue
-        name, rest = match.groups()
-        counts[name] += 1
-        if re.search(r"(?:vault\.vol|custody\.db(?:-wal)?)[\">]", rest):
-            calls.append(Call(name, counts[name]))
+        if match:
+            name, shown = match.groups()
+            counts[name] += 1
+            calls.append(Call(name, counts[name], shown))
     trace.unlink()
     return calls
+
+
+def is_made(call, file):
+    """Whether a call makes this file in the folder."""
+    return "O_CREAT" in call.shown and re.search(rf"= \d+<[^>]*/d/{re.escape(file)}>", call.shown)
+
+
+def is_folder_sync(call):
+    return call.name == "fsync" and ON_FOLDER.match(call.shown)
 
 
 def go_back(folder):
@@ -122,7 +137,11 @@ class Case:
         with tempfile.TemporaryDirectory() as room:
             folder = pathlib.Path(room)
             copied(start, folder)
-            self.calls = calls_of(program, folder, words)
+            before = set(os.listdir(folder / "d"))
+            calls = calls_of(program, folder, words)
+            self.made = set(os.listdir(folder / "d")) - before
+        self.calls = [call for call in calls if ON_FILE.match(call.shown) or ON_FOLDER.match(call.shown)]
+        self.settling = self.settles(calls)
         with tempfile.TemporaryDirectory() as room:
             folder = pathlib.Path(room)
             copied(start, folder)
@@ -130,6 +149,19 @@ class Case:
             self.whole = run(program, folder, words)
             self.after = run(program, folder, "state d")
         self.again = self.whole.out if done_before is None else done_before.encode()
+
+    def settles(self, calls):
+        """The calls on the folder between the making of the last file and the line; none where no file is made."""
+        places = [place for place, call in enumerate(calls) if any(is_made(call, file) for file in self.made)]
+        told = [place for place, call in enumerate(calls) if call.name == "write" and call.shown.startswith("1<")]
+        return [call for call in calls[places[-1]:told[0]] if ON_FOLDER.match(call.shown)] if places and told else []
+
+    def without_fault(self):
+        """What is wrong of the run without a fault: the files that it makes, and whether their names are settled."""
+        if self.words.startswith("init") and self.made != set(FILES):
+            yield f"makes {sorted(self.made)}"
+        if self.made and not any(is_folder_sync(call) and call.shown.endswith("= 0") for call in self.settling):
+            yield f"makes {sorted(self.made)}, and does not sync the folder between that and its line"
 
     def faults(self, call, fault):
         """How the program ends where this call meets the fault, and what is wrong."""
@@ -143,16 +175,18 @@ class Case:
             found = run(self.program, folder, "state d")
             again = run(self.program, folder, self.words)
             last = run(self.program, folder, "state d")
-            wrong = [*self.ends(broken, fault), *self.opens(broken, found), *self.repeats(found, again)]
+            wrong = [*self.ends(broken, call, fault), *self.opens(broken, found), *self.repeats(found, again)]
             wrong += [f"is of schema {schema}"] * (schema not in ((1, 0), (2, 1), None))
             return broken.status, wrong + ["another state in the end"] * (last != self.after)
 
-    def ends(self, broken, fault):
+    def ends(self, broken, call, fault):
         if fault == "signal=KILL" and broken.status in (-signal.SIGKILL, 128 + signal.SIGKILL):
             return
         if broken.status == self.whole.status:
             if broken != self.whole:
                 yield f"prints {broken.out!r} {broken.err!r}"
+            elif is_folder_sync(call) and fault != "error=EINTR":  # an interrupted one may be made again
+                yield "does not tell that the folder was not synced"
         elif broken.status != 3 or not FAILURES.match(broken.err.decode(errors="replace")):
             yield f"ends with {broken.status}: {broken.err!r}"
 
@@ -188,18 +222,21 @@ def try_all(program, only, lanes):
         for name, words, done_before in LIFE:
             if name == "go over":
                 go_back(start)
-            if only is None or name in only:
+            is_asked = only is None or name in only
+            if is_asked or name == "init":
                 case = Case(program, start, words, done_before)
-                runs = [(call, fault) for call in case.calls for fault in FAULTS]
+                calls = case.calls if is_asked else case.settling
+                runs = [(call, fault) for call in calls for fault in FAULTS]
                 with concurrent.futures.ThreadPoolExecutor(lanes) as pool:
                     told = list(pool.map(lambda it: case.faults(*it), runs))
-                for (call, fault), (_, wrong) in zip(runs, told):
+                found = [(f"{call.name} {call.number}, {fault}", wrong) for (call, fault), (_, wrong) in zip(runs, told)]
+                for title, wrong in [("no fault", [*case.without_fault()]), *found]:
                     passed, failed = passed + (not wrong), failed + bool(wrong)
                     for line in wrong:
-                        print(f"FAILED: {name}, {call.name} {call.number}, {fault}: {line}")
+                        print(f"FAILED: {name}, {title}: {line}")
                 ends = collections.Counter(status for status, _ in told)
                 done, told_so = ends.pop(case.whole.status, 0), ends.pop(3, 0)
-                print(f"{name}: {len(case.calls)} calls, {len(runs)} runs: {done} done, {told_so} failed, {sum(ends.values())} killed", flush=True)
+                print(f"{name}: {len(calls)} calls, {len(runs)} runs: {done} done, {told_so} failed, {sum(ends.values())} killed", flush=True)
             run(program, start, words)
     return passed, failed
 

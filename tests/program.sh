@@ -1074,6 +1074,95 @@ else
     skip "no sqlite3"
 fi
 
+echo "== commands beside what somebody else has made"
+if command -v sqlite3 > /dev/null; then
+    # the rows of the vault of before, what makes them schema 2, and what somebody else makes
+    older=$(older_rows)
+    forth="$(grep '^CREATE TABLE hold' "$top/docs/FORMATS.md"); UPDATE meta SET schema_no = 2;"
+    more="CREATE TABLE more (one TEXT PRIMARY KEY NOT NULL, many INTEGER) STRICT; CREATE INDEX most ON more (many);
+        INSERT INTO more VALUES ('b', 1), ('a', 2);"
+    besides="CREATE INDEX least ON part (keep_day); CREATE VIEW every AS SELECT * FROM more, registry; ANALYZE;"
+    # does OUT SQL WORDS..: the command prints this, and does to the database what the SQL does to its twin, and nothing
+    # else; then the vault opens, and is as the variables say
+    does() {
+        local out=$1 sql=$2
+        shift 2
+        expect 0 "$out" "" "$@"
+        rm -rf seen
+        cp -r beside seen
+        sqlite3 twin.db "$sql" .dump > wanted
+        check "these rows are changed, and no other: $sql" cmp -s wanted <(sqlite3 seen/custody.db .dump)
+        check "integrity: $sql" test "$(sqlite3 seen/custody.db 'PRAGMA integrity_check')" = ok
+        expect 0 "$registry
+$parts
+$noticed
+$others
+free $free of 7" "" state beside
+        expect 0 "sound $sound" "" audit beside
+    }
+    diff3=example_2026-08-03_diff_S1_R0.ryde
+    diff6=example_2026-08-06_diff_S1_R0.ryde
+    partial_deposit diff 2026-08-06 20260806001 20260803001 > in/$diff6
+    sha=$(sha256sum < in/$diff6 | cut -d ' ' -f 1)
+    names="$diff3
+${diff3/03/04}
+$diff6"
+    # over schema 1, and over schema 2 with the other table behind and before its own
+    for made in "$older $more $besides" "$older $forth $more $besides" "$more $older $forth $besides"; do
+        rm -rf beside
+        mkdir beside
+        older_volume before/parts > beside/vault.vol
+        sqlite3 beside/custody.db 'PRAGMA journal_mode = wal' "$made" > /dev/null
+        cp beside/custody.db twin.db
+        migrated=""
+        [[ $made == *"$forth"* ]] || migrated=$forth
+        parts="part $name0 1422 dropped $ten
+part $diff3 583 held 2026-08-03T10:00:00Z
+part ${diff3/03/04} 5 held 2026-08-04T10:00:00Z"
+        noticed="$notices
+registry later 2027-01-01"
+        others="release R-1 example operator 2026-08-06T01:00:00Z 3"
+        free=5 sound=2
+        does "registered later 2027-01-01" "$migrated INSERT INTO registry VALUES ('later', 20819)" \
+            register beside later --first 2027-01-01
+        parts="$parts
+part $diff6 583 held 2026-08-06T10:00:00Z"
+        free=4 sound=3
+        does "received $diff6 583 2026-08-06T10:00:00Z" "INSERT INTO part VALUES ('example', 20671, 0, 1, 'diff',
+            1786010400, 21036, 583, x'$sha', x'0000000100000001')" put beside in/$diff6 --now 2026-08-06T10:00:00Z
+        receipt="       5 RECEIPT    2026-08-06 R00 20260806001   2026-08-06T10:05:00Z example"
+        noticed="$notices
+$receipt
+registry later 2027-01-01"
+        does "$receipt" "INSERT INTO notice VALUES ('example', 5, 0, 20671, 0, '20260806001', 1786010700)" \
+            verify beside example --date 2026-08-06 --kind diff --revision 0 --parts 1 --id 20260806001 --now 2026-08-06T10:05:00Z
+        others="$others
+release R-2 example audit 2026-08-08T01:00:00Z 3"
+        does "released R-2 example audit 2026-08-08T01:00:00Z 3
+$names" "INSERT INTO handover VALUES ('R-2', 'example', 'audit', 1786150800, '$names' || char(10))" \
+            release beside R-2 example audit --now 2026-08-08T01:00:00Z
+        unheld=$others
+        for day in 3 4; do
+            others="$others
+hold H-$day example 2026-08-0$day 2027-08-01T00:00:00Z"
+            does "held H-$day example 2026-08-0$day 2027-08-01T00:00:00Z" \
+                "INSERT INTO hold VALUES ('H-$day', 'example', $((20665 + day)), 1817078400, NULL)" \
+                hold beside H-$day example --date 2026-08-0$day --now 2027-08-01T00:00:00Z
+        done
+        others="$unheld
+hold H-3 example 2026-08-03 2027-08-01T00:00:00Z lifted 2027-08-02T00:00:00Z
+hold H-4 example 2026-08-04 2027-08-01T00:00:00Z"
+        does "lifted H-3 2027-08-02T00:00:00Z" "UPDATE hold SET lifted = 1817164800 WHERE reference = 'H-3'" \
+            lift beside H-3 --now 2027-08-02T00:00:00Z
+        # of the three parts one is due: another is of a day on hold, and the third is kept a day longer
+        parts=${parts/583 held/583 dropped}
+        free=5 sound=2
+        does "dropped 1" "UPDATE part SET extents = NULL WHERE day = 20668" purge beside --now 2027-08-05T00:00:00Z
+    done
+else
+    skip "no sqlite3"
+fi
+
 echo "== vaults that are changed at random"
 if python3 -c "import sqlite3" 2> /dev/null; then
     check "tests/hostile.py" "$top/tests/hostile.py" "$program" --cases 300 --seed "${SEED:-1}" --seconds 300
