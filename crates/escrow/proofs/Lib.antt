@@ -1,2 +1,3 @@
 mod ErrorLemmas
+mod FolderLemmas
 mod PartLemmas

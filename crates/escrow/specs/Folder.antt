@@ -21,19 +21,16 @@ abbrev pub IsPart : {R : Type 0} → (R → Option (List ℕ)) → Option R → 
 IsPart remaining None bytes = bytes ≡ []
 IsPart remaining (Some file) bytes = IfSome (remaining file) (λ all. bytes ≡ take 1048577 all)
 
--- The status of an order, the volume and the database that are to be closed where there is a vault, and what is printed.
-module _ {S : Type 0} (g : volume.Ghosts FileVolume) (database : Ghosts S) (status : ℕ) (vault : Option (FileVolume × Held S)) (output errors : Writer) where
+-- Over the volume and the database of a folder: the status of an order, what is to be closed where there is a vault, and
+-- what is printed.
+module _ {S : Type 0} (g : volume.Ghosts FileVolume) (database : Ghosts S) (volume : FileVolume) (db : Held S) (status : ℕ) (vault : Option (FileVolume × Held S)) (output errors : Writer) where
   -- the files were made, a new volume with so many blocks, and an agent with this number was begun over them, or none
   pub record Inits (blocks number : ℕ) : Type 0 where
-    pub volume : FileVolume
-    pub db : Held S
     pub size : is_made_anew volume ≡ true → g.size volume ≡ blocks
     pub ends : MatchOption vault (IsNotMade g database volume db status output errors) (λ v. IsBegun g database volume db blocks number status v.0 v.1 output errors)
 
   -- the files were found, and the order was carried out over them at its moment, or no agent was opened
   pub record Works (order : Order) (bytes : List ℕ) : Type 0 where
-    pub volume : FileVolume
-    pub db : Held S
     pub now : ℕ
     pub found : is_made_anew volume ≡ false
     pub moment : IfSome (named_moment (meaning order)) (λ named. now ≡ named)
@@ -41,8 +38,6 @@ module _ {S : Type 0} (g : volume.Ghosts FileVolume) (database : Ghosts S) (stat
 
   -- the files were found, and so many connections at most were answered at this port, or no agent was opened
   pub record Listens (port requests : ℕ) (given : Option ℕ) : Type 0 where
-    pub volume : FileVolume
-    pub db : Held S
     pub found : is_made_anew volume ≡ false
     pub ends : MatchOption vault (IsNotOpened g database volume db status output errors) (λ v. HasListened g database volume db port given requests status v.0 v.1 output)
 
@@ -52,3 +47,11 @@ module _ {S : Type 0} (g : volume.Ghosts FileVolume) (database : Ghosts S) (stat
   IsDone IsRead (order.Put folder file now) = (bytes : List ℕ) × IsRead bytes × Works (order.Put folder file now) bytes
   IsDone IsRead (order.Serve folder port requests now) = Listens port requests now
   IsDone IsRead other = Works other []
+
+-- an order was done over a volume and a database, with this status
+pub record IsObeyed {S R : Type 0} (g : volume.Ghosts FileVolume) (database : Ghosts S) (remaining : R → Option (List ℕ)) (volume : FileVolume) (db : Held S) (order : Order) (status : ℕ) : Type 0 where
+  pub vault : Option (FileVolume × Held S)
+  pub output : Writer
+  pub errors : Writer
+  pub part : Option R
+  pub done : IsDone g database volume db status vault output errors (IsPart remaining part) order

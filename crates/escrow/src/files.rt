@@ -23,6 +23,13 @@ use vault_volume::{FileVolume, Volume};
 /// The database in a file.
 pub type Database = Connection<FileStore<File>>;
 
+/// The two files of a vault's folder, open.
+#[derive(Drop)]
+pub struct OpenFolder {
+    pub volume: FileVolume,
+    pub db: Database,
+}
+
 /// How an order over the files of a folder ended.
 pub type EndedFolder = Ended<FileVolume, FileStore<File>>;
 
@@ -59,29 +66,27 @@ pub fn read_part<R: Read + Drop>(
 }
 
 /// Opens the two files of a folder, which have to be there.
-pub fn find(rt: &HostRuntime, folder: &str) -> Result<(FileVolume, Database), ProgramError>
-    ensures failures { IfOk result (λ files. ⟦<FileVolume as Volume>⟧.failures files.0 ≡ 0) }
+pub fn find(rt: &HostRuntime, folder: &str) -> Result<OpenFolder, ProgramError>
+    ensures failures { IfOk result (λ files. ⟦<FileVolume as Volume>⟧.failures files.volume ≡ 0) }
     // It makes no volume.
-    ensures found { IfOk result (λ files. is_made_anew files.0 ≡ false) }
+    ensures found { IfOk result (λ files. is_made_anew files.volume ≡ false) }
 {
     find_folder(rt, folder)?;
     let volume = open_volume(rt, folder)?;
-    with_database(rt, folder, volume)
+    let (volume, db) = with_database(rt, folder, volume)?;
+    Ok(OpenFolder { volume, db })
 }
 
 /// Makes the two files of a folder. A volume of which the database has a record is left as it is.
-pub fn make(
-    rt: &HostRuntime,
-    folder: &str,
-    blocks: u32,
-) -> Result<(FileVolume, Database), ProgramError>
-    ensures failures { IfOk result (λ files. ⟦<FileVolume as Volume>⟧.failures files.0 ≡ 0) }
-    ensures size { IfOk result (λ files. is_made_anew files.0 ≡ true → ⟦<FileVolume as Volume>⟧.size files.0 ≡ blocks) }
+pub fn make(rt: &HostRuntime, folder: &str, blocks: u32) -> Result<OpenFolder, ProgramError>
+    ensures failures { IfOk result (λ files. ⟦<FileVolume as Volume>⟧.failures files.volume ≡ 0) }
+    ensures size { IfOk result (λ files. is_made_anew files.volume ≡ true → ⟦<FileVolume as Volume>⟧.size files.volume ≡ blocks) }
 {
     find_folder(rt, folder)?;
     let path = database_path(rt.alloc(), folder)?;
     let db = open_database(rt, &path)?;
-    with_volume(rt, folder, blocks, db)
+    let (volume, db) = with_volume(rt, folder, blocks, db)?;
+    Ok(OpenFolder { volume, db })
 }
 
 /// The volume of a folder with its database, which has to be there.

@@ -1,15 +1,18 @@
 //! The program `escrow`: a registry data escrow agent over the two files of a folder.
 #![tactic(auto)]
 
-ghost use Rattle.std.specs.Prelude.{◌≡◌, ◌⊎◌, IfOk, IfSome, MatchResult, OnOk};
+ghost use Rattle.std.specs.Prelude.{◌≡◌, ◌⊎◌, IfOk, IfSome, MatchResult, OnErr, OnOk, map, string_bytes};
 ghost use Rattle.std.specs.Process.{exit_status};
 ghost use Rattle.sqlite.specs.Files.{over_files};
 ghost use Rattle.std.specs.Io.KnownBytes.{Appends};
 ghost use Rattle.answer_lines.specs.Printed.{Begins, IsUnused};
 ghost use Rattle.agent_cli.specs.Faults.{IsStatusOf};
 ghost use Rattle.agent_cli.specs.Order.{meaning, named_moment};
+ghost use Rattle.agent_cli.specs.declared.order.Order.{Order};
+ghost use Rattle.escrow.specs.Calls.{AskFor, EndsCall, IsObeyedInFolder};
 ghost use Rattle.escrow.specs.Errors.{IsTold, error_line};
 ghost use Rattle.escrow.specs.Folder.{IsDone, IsPart, Works};
+ghost use Rattle.escrow.specs.declared.files.OpenFolder.{OpenFolder};
 
 mod clock;
 mod error;
@@ -22,7 +25,7 @@ use agent_cli::{Order, WordFault, order_of};
 use answer_lines::{WriteFailed, fault_bytes, write_whole};
 use custody_machine::{Fault, Status};
 use error::ProgramError;
-use files::{EndedFolder, close, find, make, open_part, read_part};
+use files::{EndedFolder, OpenFolder, close, find, make, open_part, read_part};
 use schedule::Sec;
 use std::env;
 use std::io::{self, BufWriter, Read, Write};
@@ -89,10 +92,11 @@ fn work<W: Write, E: Write>(
     out: &mut W,
     err: &mut E,
 ) -> Result<EndedFolder, ProgramError>
-    ensures { IfOk result (λ ended. Works ⟦<FileVolume as Volume>⟧ over_files ended.status ended.vault (record { before = W.contents out.old; after = W.contents out.new }) (record { before = E.contents err.old; after = E.contents err.new }) order.now file.now) }
+    ensures { IfOk result (λ ended. (files : OpenFolder) × Works ⟦<FileVolume as Volume>⟧ over_files files.volume files.db ended.status ended.vault (record { before = W.contents out.old; after = W.contents out.new }) (record { before = E.contents err.old; after = E.contents err.new }) order.now file.now) }
 {
     let now = moment(rt, order)?;
-    let files = find(rt, folder)?;
+    let found = find(rt, folder)?;
+    let files = (found.volume, found.db);
     let mut progress = Terminal::of(rt, order);
     Ok(serve(rt.alloc(), files, order, file, now, out, err, &mut progress))
 }
@@ -106,7 +110,7 @@ fn carry_out<R: Read + Drop, W: Write, E: Write>(
     out: &mut W,
     err: &mut E,
 ) -> Result<EndedFolder, ProgramError>
-    ensures { IfOk result (λ ended. IsDone ⟦<FileVolume as Volume>⟧ over_files ended.status ended.vault (record { before = W.contents out.old; after = W.contents out.new }) (record { before = E.contents err.old; after = E.contents err.new }) (IsPart R.remaining part) order.now) }
+    ensures { IfOk result (λ ended. (files : OpenFolder) × IsDone ⟦<FileVolume as Volume>⟧ over_files files.volume files.db ended.status ended.vault (record { before = W.contents out.old; after = W.contents out.new }) (record { before = E.contents err.old; after = E.contents err.new }) (IsPart R.remaining part) order.now) }
 {
     match order {
         Order::Init {
@@ -114,7 +118,8 @@ fn carry_out<R: Read + Drop, W: Write, E: Write>(
             blocks,
             number,
         } => {
-            let files = make(rt, folder, *blocks)?;
+            let made = make(rt, folder, *blocks)?;
+            let files = (made.volume, made.db);
             Ok(begin(rt.alloc(), files, *blocks, *number, out, err))
         }
         Order::Put { folder, file, .. } => {
@@ -138,14 +143,17 @@ fn carry_out<R: Read + Drop, W: Write, E: Write>(
             requests,
             now,
         } => {
-            let files = find(rt, folder)?;
+            let found = find(rt, folder)?;
+            let files = (found.volume, found.db);
             Ok(listen(rt, files, *port, *requests, *now, out, err))
         }
     }
 }
 
-/// Carries out an order, and closes the files of its folder.
-fn obey(rt: &HostRuntime, order: &Order<'_>) -> Result<u8, ProgramError> {
+/// Carries out an order, closes the files of its folder, and answers its status.
+fn obey(rt: &HostRuntime, order: &Order<'_>) -> Result<u8, ProgramError>
+    ensures { IfOk result (IsObeyedInFolder ⟦<FileVolume as Volume>⟧ ⟦<std::fs::File as Read>⟧.remaining order.now) }
+{
     let _streams = hold_streams(rt)?;
     let part = open_part(rt, order)?;
     let mut out = BufWriter::new(rt.alloc(), io::writer(rt)).map_err(|_| ProgramError::Fault(
@@ -155,6 +163,18 @@ fn obey(rt: &HostRuntime, order: &Order<'_>) -> Result<u8, ProgramError> {
     Ok(close(ended))
 }
 
+/// Does what the words of a call ask for, and answers the status. The first of them is the program's name.
+fn call(rt: &HostRuntime, words: &[String]) -> Result<u8, ProgramError>
+    ensures done { IfOk result (EndsCall ⟦<FileVolume as Volume>⟧ ⟦<std::fs::File as Read>⟧.remaining (map string_bytes words.now)) }
+    ensures error { OnErr result ((order : Order) × AskFor (map string_bytes words.now) order) }
+{
+    match order_of(rt.alloc(), words) {
+        Ok(order) => obey(rt, &order),
+        Err(fault) => Ok(tell_words(rt, &fault)),
+    }
+}
+
+/// Does what the words that the program was started with ask for.
 fn run(rt: &HostRuntime) -> Result<u8, ProgramError> {
     let words = match env::args(rt) {
         Ok(words) => words.collect::<Vec<String>>(rt.alloc())?,
@@ -163,10 +183,7 @@ fn run(rt: &HostRuntime) -> Result<u8, ProgramError> {
         }
         Err(_) => return Err(ProgramError::Words),
     };
-    match order_of(rt.alloc(), words.as_slice()) {
-        Ok(order) => obey(rt, &order),
-        Err(fault) => Ok(tell_words(rt, &fault)),
-    }
+    call(rt, words.as_slice())
 }
 
 /// The exit status of a run. The line of an error is printed.
