@@ -349,6 +349,17 @@ if [ $took -ge 25 ] && [ $took -le 45 ]; then ok; else no "the time limit of a r
 ended 0 "read failed"
 wait
 
+# ---- no further connection can be taken (the one that is waited for has its place among the open files already)
+
+if command -v prlimit > /dev/null; then
+    start 2 --now $at
+    prlimit --pid "$server" --nofile=4:4
+    compare "the one that it waits for" "$unknown" "$(printf "$request" | raw 9999 0 half)"
+    ended 3 "socket failed"
+else
+    skip "no prlimit"
+fi
+
 # ---- only here, one at a time, and killed
 
 start 9

@@ -89,6 +89,17 @@ $held
 free 6 of 7" "" state d
 expect 0 "registered example 2026-08-02" "" register d example --first 2027-01-01
 
+echo "== a part at a moment of the clock"
+vault clock 8
+before=$(date -u +%FT%TZ)
+moment=$("$program" put clock in/$name0 | sed -n "s/^received $name0 5 //p")
+after=$(date -u +%FT%TZ)
+if [[ -n $moment && ! $moment < $before && ! $moment > $after ]]; then
+    ok
+else
+    no "the moment of a put without --now" "got: $moment" "wanted: $before to $after"
+fi
+
 echo "== parts that are refused"
 printf world > in/example_2026-08-02_full_S3_R0.ryde
 printf world > in/example_2026-08-01_full_S1_R0.ryde
