@@ -1,5 +1,5 @@
 -- What stops the program before an order is carried out: its exit status, and the line that says so.
-use Rattle.std.specs.Prelude.{◌≡◌, ◌++◌, ℕ, List, codes, string_bytes}
+use Rattle.std.specs.Prelude.{◌≡◌, ◌⊎◌, ◌++◌, ℕ, List, codes, string_bytes}
 use Rattle.custody_machine.specs.declared.answers.Fault.TheVariants.{NoMemory, StoreFailed}
 use Rattle.custody_machine.specs.Texts.{fault_text}
 use Rattle.sqlite.specs.declared.error.Error.{Error}
@@ -13,6 +13,16 @@ use Rattle.escrow.specs.declared.error.ProgramError.TheVariants as error
 abbrev pub error_status : ProgramError → ℕ
 error_status error.Words = 2
 error_status e = 3
+
+-- it is no fault of the words or the clock
+abbrev pub IsOfVault : ProgramError → Type 0
+IsOfVault error.Words = ⊥
+IsOfVault error.Clock = ⊥
+IsOfVault e = Unit {0}
+
+-- it is one of the vault or the clock, and so ends a call with status 3
+abbrev pub IsFailure : ProgramError → Type 0
+IsFailure e = IsOfVault e ⊎ (e ≡ error.Clock)
 
 -- the line that is printed of it, with its line feed
 abbrev pub error_line : ProgramError → List ℕ

@@ -1,9 +1,13 @@
 //! The clock of the machine.
+ghost use Rattle.std.specs.Prelude.{◌≡◌, IfErr};
+
 use crate::error::ProgramError;
 use http_serve::moment_of;
 use schedule::Sec;
 
 /// The moment of now.
-pub fn now(rt: &HostRuntime) -> Result<Sec, ProgramError> {
+pub fn now(rt: &HostRuntime) -> Result<Sec, ProgramError>
+    ensures { IfErr result (λ error. error ≡ ProgramError.Clock) }
+{
     moment_of(rt).ok_or(ProgramError::Clock)
 }

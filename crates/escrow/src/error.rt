@@ -1,7 +1,7 @@
 //! Why an order is not carried out.
 ghost use Rattle.std.specs.Prelude.{◌≡◌, IfSome, codes};
 ghost use Rattle.std.specs.IoError.{error_kind};
-ghost use Rattle.escrow.specs.Errors.{IsFileError, IsOfFile, error_status};
+ghost use Rattle.escrow.specs.Errors.{IsFileError, IsOfFile, IsOfVault, error_status};
 
 use custody_machine::{Fault, Status};
 use std::alloc::{AllocError, Global};
@@ -36,6 +36,7 @@ impl ProgramError {
     /// The error of a file or a folder, by its path and what is wrong with it.
     pub fn of_file<D: fmt::Display + Drop>(alloc: Global, path: &str, cause: D) -> ProgramError
         ensures kind { IsOfFile result }
+        ensures vault { IsOfVault result }
         ensures line { IfSome (D.output cause) (λ text. IsFileError path.now text result) }
     {
         match format!(in alloc; "file failed: {path}: {cause}\n") {
@@ -47,6 +48,7 @@ impl ProgramError {
     /// The error that a call on a file gives.
     pub fn by_file(alloc: Global, path: &str, error: io::Error) -> ProgramError
         ensures kind { IsOfFile result }
+        ensures vault { IsOfVault result }
         ensures memory { error_kind error ≡ ErrorKind.OutOfMemory → result ≡ ProgramError.Fault Fault.NoMemory }
         ensures missing { error_kind error ≡ ErrorKind.NotFound → IsFileError path.now (codes "file missing") result }
     {

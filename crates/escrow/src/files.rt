@@ -1,11 +1,11 @@
 //! The files: the two of a vault's folder, and the file that is put.
-ghost use Rattle.std.specs.Prelude.{◌≡◌, ◌++◌, true, false, codes, string_bytes, IfOk};
+ghost use Rattle.std.specs.Prelude.{◌≡◌, ◌++◌, true, false, codes, string_bytes, IfErr, IfOk};
 ghost use Rattle.vault_volume.specs.declared.file.FileVolume.{FileVolume};
 ghost use Rattle.vault_volume.specs.File.{is_made_anew};
 ghost use Rattle.sqlite.specs.Held.{state};
 ghost use Rattle.custody_store.specs.Standing.{standing, HasMetaOrNone, has_any};
 ghost use Rattle.custody.specs.Opening.{HasNoRecord};
-ghost use Rattle.escrow.specs.Errors.{IsOpenError};
+ghost use Rattle.escrow.specs.Errors.{IsOfVault, IsOpenError};
 ghost use Rattle.escrow.specs.Folder.{IsPart, ListsNothing};
 
 use crate::error::ProgramError;
@@ -37,7 +37,9 @@ pub type EndedFolder = Ended<FileVolume, FileStore<File>>;
 const READ_BYTES: u64 = 1_048_577;
 
 /// Opens the file that a `put` names; no other order has one.
-pub fn open_part(rt: &HostRuntime, order: &Order<'_>) -> Result<Option<fs::File>, ProgramError> {
+pub fn open_part(rt: &HostRuntime, order: &Order<'_>) -> Result<Option<fs::File>, ProgramError>
+    ensures { IfErr result IsOfVault }
+{
     let Order::Put { file, .. } = order else {
         return Ok(None);
     };
@@ -53,7 +55,8 @@ pub fn read_part<R: Read + Drop>(
     path: &str,
     part: Option<R>,
 ) -> Result<Vec<u8>, ProgramError>
-    ensures { IfOk result (λ bytes. IsPart R.remaining part bytes.items) }
+    ensures read { IfOk result (λ bytes. IsPart R.remaining part bytes.items) }
+    ensures error { IfErr result IsOfVault }
 {
     let mut bytes = Vec::new(alloc);
     let Some(part) = part else {
@@ -70,6 +73,7 @@ pub fn find(rt: &HostRuntime, folder: &str) -> Result<OpenFolder, ProgramError>
     ensures failures { IfOk result (λ files. ⟦<FileVolume as Volume>⟧.failures files.volume ≡ 0) }
     // It makes no volume.
     ensures found { IfOk result (λ files. is_made_anew files.volume ≡ false) }
+    ensures error { IfErr result IsOfVault }
 {
     find_folder(rt, folder)?;
     let volume = open_volume(rt, folder)?;
@@ -81,6 +85,7 @@ pub fn find(rt: &HostRuntime, folder: &str) -> Result<OpenFolder, ProgramError>
 pub fn make(rt: &HostRuntime, folder: &str, blocks: u32) -> Result<OpenFolder, ProgramError>
     ensures failures { IfOk result (λ files. ⟦<FileVolume as Volume>⟧.failures files.volume ≡ 0) }
     ensures size { IfOk result (λ files. is_made_anew files.volume ≡ true → ⟦<FileVolume as Volume>⟧.size files.volume ≡ blocks) }
+    ensures error { IfErr result IsOfVault }
 {
     find_folder(rt, folder)?;
     let path = database_path(rt.alloc(), folder)?;
@@ -95,7 +100,8 @@ fn with_database<V: Drop>(
     folder: &str,
     volume: V,
 ) -> Result<(V, Database), ProgramError>
-    ensures { IfOk result (λ files. files.0 ≡ volume) }
+    ensures volume { IfOk result (λ files. files.0 ≡ volume) }
+    ensures error { IfErr result IsOfVault }
 {
     let path = database_path(rt.alloc(), folder)?;
     find_file(rt, &path)?;
@@ -119,6 +125,7 @@ fn with_volume<S: Alter + Drop>(
     ensures made { HasMetaOrNone (standing S.Store db) → IfOk result (λ files. (standing S.Store files.1).IsHonest
         → is_made_anew files.0 ≡ true → HasNoRecord (standing S.Store db).rows) }
     ensures size { IfOk result (λ files. is_made_anew files.0 ≡ true → ⟦<FileVolume as Volume>⟧.size files.0 ≡ blocks) }
+    ensures error { IfErr result IsOfVault }
 {
     let mut db = db;
     let is_new = is_empty(&db) && !has_any(&db);
@@ -157,7 +164,9 @@ pub fn close(ended: EndedFolder) -> u8
 }
 
 /// Finds the folder of a vault, which has to be there.
-fn find_folder(rt: &HostRuntime, folder: &str) -> Result<(), ProgramError> {
+fn find_folder(rt: &HostRuntime, folder: &str) -> Result<(), ProgramError>
+    ensures { IfErr result IsOfVault }
+{
     let is_folder = match fs::metadata(rt, folder) {
         Ok(found) => found.is_dir(),
         Err(error) if error.kind() == io::ErrorKind::NotFound => false,
@@ -170,7 +179,9 @@ fn find_folder(rt: &HostRuntime, folder: &str) -> Result<(), ProgramError> {
 }
 
 /// Finds a file, which has to be there.
-fn find_file(rt: &HostRuntime, path: &str) -> Result<(), ProgramError> {
+fn find_file(rt: &HostRuntime, path: &str) -> Result<(), ProgramError>
+    ensures { IfErr result IsOfVault }
+{
     match fs::metadata(rt, path) {
         Ok(_) => Ok(()),
         Err(error) => Err(ProgramError::by_file(rt.alloc(), path, error)),
@@ -178,7 +189,9 @@ fn find_file(rt: &HostRuntime, path: &str) -> Result<(), ProgramError> {
 }
 
 /// Settles the names of the files in a folder.
-fn sync_folder(rt: &HostRuntime, folder: &str) -> Result<(), ProgramError> {
+fn sync_folder(rt: &HostRuntime, folder: &str) -> Result<(), ProgramError>
+    ensures { IfErr result IsOfVault }
+{
     let synced = match fs::File::open(rt, folder) {
         Ok(opened) => opened.sync_all(),
         Err(error) => Err(error),
@@ -204,6 +217,7 @@ fn volume_path(alloc: Global, folder: &str) -> Result<String, AllocError>
 fn open_volume(rt: &HostRuntime, folder: &str) -> Result<FileVolume, ProgramError>
     ensures failures { IfOk result (λ volume. ⟦<FileVolume as Volume>⟧.failures volume ≡ 0) }
     ensures found { IfOk result (λ volume. is_made_anew volume ≡ false) }
+    ensures error { IfErr result IsOfVault }
 {
     let path = volume_path(rt.alloc(), folder)?;
     match FileVolume::open(rt, &path) {
@@ -215,6 +229,7 @@ fn open_volume(rt: &HostRuntime, folder: &str) -> Result<FileVolume, ProgramErro
 fn create_volume(rt: &HostRuntime, folder: &str, blocks: u32) -> Result<FileVolume, ProgramError>
     ensures failures { IfOk result (λ volume. ⟦<FileVolume as Volume>⟧.failures volume ≡ 0) }
     ensures size { IfOk result (λ volume. ⟦<FileVolume as Volume>⟧.size volume ≡ blocks) }
+    ensures error { IfErr result IsOfVault }
 {
     let path = volume_path(rt.alloc(), folder)?;
     match FileVolume::create(rt, &path, blocks) {
@@ -227,7 +242,9 @@ fn create_volume(rt: &HostRuntime, folder: &str, blocks: u32) -> Result<FileVolu
 }
 
 /// Opens a database, and makes it where it is not there.
-fn open_database(rt: &HostRuntime, path: &str) -> Result<Database, ProgramError> {
+fn open_database(rt: &HostRuntime, path: &str) -> Result<Database, ProgramError>
+    ensures { IfErr result IsOfVault }
+{
     match Connection::open(rt, path) {
         Ok(db) => Ok(db),
         Err(error) => Err(open_error(rt.alloc(), path, error)),
@@ -235,7 +252,8 @@ fn open_database(rt: &HostRuntime, path: &str) -> Result<Database, ProgramError>
 }
 
 fn open_error(alloc: Global, path: &str, error: Error) -> ProgramError
-    ensures { IsOpenError path.now error result }
+    ensures kind { IsOpenError path.now error result }
+    ensures vault { IsOfVault result }
 {
     match error {
         Error::SqliteFailure(ErrorCode::DatabaseBusy) => {

@@ -1,7 +1,7 @@
 //! The program `escrow`: a registry data escrow agent over the two files of a folder.
 #![tactic(auto)]
 
-ghost use Rattle.std.specs.Prelude.{◌≡◌, ◌⊎◌, IfOk, IfSome, MatchResult, OnErr, OnOk, map, string_bytes};
+ghost use Rattle.std.specs.Prelude.{◌≡◌, ◌⊎◌, IfErr, IfOk, IfSome, MatchResult, OnOk, map, string_bytes};
 ghost use Rattle.std.specs.Process.{exit_status};
 ghost use Rattle.sqlite.specs.Files.{over_files};
 ghost use Rattle.std.specs.Io.KnownBytes.{Appends};
@@ -10,7 +10,7 @@ ghost use Rattle.agent_cli.specs.Faults.{IsStatusOf};
 ghost use Rattle.agent_cli.specs.Order.{meaning, named_moment};
 ghost use Rattle.agent_cli.specs.declared.order.Order.{Order};
 ghost use Rattle.escrow.specs.Calls.{AskFor, EndsCall, IsObeyedInFolder};
-ghost use Rattle.escrow.specs.Errors.{IsTold, error_line};
+ghost use Rattle.escrow.specs.Errors.{IsFailure, IsTold, error_line};
 ghost use Rattle.escrow.specs.Folder.{IsDone, IsPart, Works};
 ghost use Rattle.escrow.specs.declared.files.OpenFolder.{OpenFolder};
 
@@ -76,6 +76,7 @@ fn tell_error<E: Write>(error: &ProgramError, err: &mut E) -> u8
 fn moment(rt: &HostRuntime, order: &Order<'_>) -> Result<Sec, ProgramError>
     ensures named { IfSome (named_moment (meaning order.now)) (λ now. result ≡ Ok now) }
     ensures found { IfOk result (λ now. IfSome (named_moment (meaning order.now)) (λ moment. now ≡ moment)) }
+    ensures error { IfErr result (λ error. error ≡ ProgramError.Clock) }
 {
     match order.named_moment() {
         Some(now) => Ok(now),
@@ -92,7 +93,8 @@ fn work<W: Write, E: Write>(
     out: &mut W,
     err: &mut E,
 ) -> Result<EndedFolder, ProgramError>
-    ensures { IfOk result (λ ended. (files : OpenFolder) × Works ⟦<FileVolume as Volume>⟧ over_files files.volume files.db ended.status ended.vault (record { before = W.contents out.old; after = W.contents out.new }) (record { before = E.contents err.old; after = E.contents err.new }) order.now file.now) }
+    ensures done { IfOk result (λ ended. (files : OpenFolder) × Works ⟦<FileVolume as Volume>⟧ over_files files.volume files.db ended.status ended.vault (record { before = W.contents out.old; after = W.contents out.new }) (record { before = E.contents err.old; after = E.contents err.new }) order.now file.now) }
+    ensures error { IfErr result IsFailure }
 {
     let now = moment(rt, order)?;
     let found = find(rt, folder)?;
@@ -110,7 +112,8 @@ fn carry_out<R: Read + Drop, W: Write, E: Write>(
     out: &mut W,
     err: &mut E,
 ) -> Result<EndedFolder, ProgramError>
-    ensures { IfOk result (λ ended. (files : OpenFolder) × IsDone ⟦<FileVolume as Volume>⟧ over_files files.volume files.db ended.status ended.vault (record { before = W.contents out.old; after = W.contents out.new }) (record { before = E.contents err.old; after = E.contents err.new }) (IsPart R.remaining part) order.now) }
+    ensures done { IfOk result (λ ended. (files : OpenFolder) × IsDone ⟦<FileVolume as Volume>⟧ over_files files.volume files.db ended.status ended.vault (record { before = W.contents out.old; after = W.contents out.new }) (record { before = E.contents err.old; after = E.contents err.new }) (IsPart R.remaining part) order.now) }
+    ensures error { IfErr result IsFailure }
 {
     match order {
         Order::Init {
@@ -152,7 +155,8 @@ fn carry_out<R: Read + Drop, W: Write, E: Write>(
 
 /// Carries out an order, closes the files of its folder, and answers its status.
 fn obey(rt: &HostRuntime, order: &Order<'_>) -> Result<u8, ProgramError>
-    ensures { IfOk result (IsObeyedInFolder ⟦<FileVolume as Volume>⟧ ⟦<std::fs::File as Read>⟧.remaining order.now) }
+    ensures done { IfOk result (IsObeyedInFolder ⟦<FileVolume as Volume>⟧ ⟦<std::fs::File as Read>⟧.remaining order.now) }
+    ensures error { IfErr result IsFailure }
 {
     let _streams = hold_streams(rt)?;
     let part = open_part(rt, order)?;
@@ -166,7 +170,7 @@ fn obey(rt: &HostRuntime, order: &Order<'_>) -> Result<u8, ProgramError>
 /// Does what the words of a call ask for, and answers the status. The first of them is the program's name.
 fn call(rt: &HostRuntime, words: &[String]) -> Result<u8, ProgramError>
     ensures done { IfOk result (EndsCall ⟦<FileVolume as Volume>⟧ ⟦<std::fs::File as Read>⟧.remaining (map string_bytes words.now)) }
-    ensures error { OnErr result ((order : Order) × AskFor (map string_bytes words.now) order) }
+    ensures error { IfErr result (λ error. IsFailure error × ((order : Order) × AskFor (map string_bytes words.now) order)) }
 {
     match order_of(rt.alloc(), words) {
         Ok(order) => obey(rt, &order),

@@ -2,8 +2,8 @@ use Rattle.std.proofs.Common.{rules}
 use Rattle.escrow.proofs.FolderLemmas.{IfOk-over}
 use Rattle.escrow.proofs.carry_out.Goals as goal
 
-pub returns-in_ok-made-in-Init : goal.returns-in_ok-made-in-Init
-returns-in_ok-made-in-Init g c =
+pub returns-in_ok-made-in-Init-clause-done : goal.returns-in_ok-made-in-Init-clause-done
+returns-in_ok-made-in-Init-clause-done g c =
     rw c.in-Init.is (
       c.in_ok-made-in-Init.made,
       record {
@@ -12,8 +12,8 @@ returns-in_ok-made-in-Init g c =
       },
     )
 
-pub returns-in_ok-found-in-Serve : goal.returns-in_ok-found-in-Serve
-returns-in_ok-found-in-Serve g c =
+pub returns-in_ok-found-in-Serve-clause-done : goal.returns-in_ok-found-in-Serve-clause-done
+returns-in_ok-found-in-Serve-clause-done g c =
     rw c.in-Serve.is (
       c.in_ok-found-in-Serve.found,
       record {
@@ -22,8 +22,8 @@ returns-in_ok-found-in-Serve g c =
       },
     )
 
-pub returns-in_ok-bytes-in-Put : goal.returns-in_ok-bytes-in-Put
-returns-in_ok-bytes-in-Put g c = IfOk-over _ _ _ (λ ended files works. search rules) c.work.ensures
+pub returns-in_ok-bytes-in-Put-clause-done : goal.returns-in_ok-bytes-in-Put-clause-done
+returns-in_ok-bytes-in-Put-clause-done g c = IfOk-over _ _ _ (λ ended files works. search rules) c.work.ensures.done
 
-pub returns-in-Register : goal.returns-in-Register
-returns-in-Register g c = IfOk-over _ _ _ (λ ended files works. search rules) c.work-in-Register.ensures
+pub returns-in-Register-clause-done : goal.returns-in-Register-clause-done
+returns-in-Register-clause-done g c = IfOk-over _ _ _ (λ ended files works. search rules) c.work-in-Register.ensures.done

@@ -1,7 +1,7 @@
 use Rattle.escrow.proofs.work.Goals as goal
 
-pub returns : goal.returns
-returns g c = (
+pub returns-clause-done : goal.returns-clause-done
+returns-clause-done g c = (
   c.in_ok-found.found,
   record {
     now = c.in_ok-now.now;
