@@ -349,12 +349,12 @@ if [ $took -ge 25 ] && [ $took -le 45 ]; then ok; else no "the time limit of a r
 ended 0 "read failed"
 wait
 
-# ---- no further connection can be taken (the one that is waited for has its place among the open files already)
+# ---- no further connection can be taken: the second one, or the first, if it was not waited for yet
 
 if command -v prlimit > /dev/null; then
     start 2 --now $at
     prlimit --pid "$server" --nofile=4:4
-    compare "the one that it waits for" "$unknown" "$(printf "$request" | raw 9999 0 half)"
+    printf "$request" | raw 9999 0 half > /dev/null 2>&1
     ended 3 "socket failed"
 else
     skip "no prlimit"

@@ -25,7 +25,7 @@ use agent_cli::{Order, WordFault, order_of};
 use answer_lines::{WriteFailed, fault_bytes, write_whole};
 use custody_machine::{Fault, Status};
 use error::ProgramError;
-use files::{EndedFolder, OpenFolder, close, find, make, open_part, read_part};
+use files::{EndedFolder, close, find, make, open_part, read_part};
 use schedule::Sec;
 use std::env;
 use std::io::{self, BufWriter, Read, Write};
