@@ -107,7 +107,6 @@ module _ {V : Type 0} {g : volume.Ghosts V} (old mid new : Vault V g) (len : ℕ
         sized = sized ∙ w.sized;
         taken = taken;
         open_in = there;
-        few = subst (λ (l : List Extent). length l ≤ 256) (sym same) w.few;
         chosen = subst (λ (l : List Extent). AreChosen (IsFree old) (g.size (volume_of old)) (block_count len) l) (sym same) w.chosen;
         takes = subst (λ (l : List Extent). Takes (IsFree old) l (IsFree new)) (sym same) (takes_same (IsFree old) (IsFree mid) (IsFree new) es w.takes free);
         size = size ∙ w.size;

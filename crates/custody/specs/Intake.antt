@@ -44,7 +44,6 @@ pub record IsWritten {V : Type 0} {g : volume.Ghosts V} (old new : Vault V g) (l
   pub sized : len_of opened ≡ len
   pub taken : HasTaken opened sent
   pub open_in : IsOpenIn new opened
-  pub few : length (extents_of opened) ≤ 256
   pub chosen : AreChosen (IsFree old) (g.size (volume_of old)) (block_count len) (extents_of opened)
   pub takes : Takes (IsFree old) (extents_of opened) (IsFree new)
   pub size : g.size (volume_of new) ≡ g.size (volume_of old)

@@ -14,7 +14,7 @@ use custody_machine::{Command, Fault};
 use schedule::Sec;
 use sqlite::{Alter, Connection, MemStore};
 use std::alloc::{AllocError, Global};
-use vault_volume::{MemVolume, Volume};
+use vault_volume::{BLOCK_BYTES, MemVolume, Volume};
 
 /// What commands answered, with the volume and the database as they left them.
 #[derive(Drop)]
@@ -160,5 +160,5 @@ fn may_restart(volume: &MemVolume, fill: &[u8]) -> bool
     ensures fits { IsTrue result → length fill.now ≡ 4096 * ⟦<MemVolume as Volume>⟧.size volume.now }
     ensures count { IsTrue result → ⟦<MemVolume as Volume>⟧.failures volume.now < 2 ^ 64 - 1 }
 {
-    fill.len() as u64 == 4096 * u64::from(volume.size()) && volume.failures() < u64::MAX
+    fill.len() as u64 == BLOCK_BYTES * u64::from(volume.size()) && volume.failures() < u64::MAX
 }

@@ -30,10 +30,7 @@ use desk::{Ground, Notice, NoticeKind};
 use schedule::{Day, Sec};
 use sqlite::Alter;
 use std::alloc::{AllocError, Global};
-use vault_volume::{Extent, Staged, Vault, Volume};
-
-/// The most extents of a part: a block each of 1 MiB.
-const MAX_EXTENTS: usize = 256;
+use vault_volume::{Extent, MAX_EXTENTS, Staged, Vault, Volume};
 
 /// The bytes of parts in a vault, the records of them in a store, and the same records in memory.
 #[derive(Drop)]
@@ -155,7 +152,6 @@ impl<V: Volume, S: Alter> Keeper<V, S> {
         room: Vec<Extent>,
         now: Sec,
     ) -> Result<Reply, Refused>
-        requires few { length staged.extents ≤ 256 }
         requires part { HasPartRoom self.old.records }
         requires new { get (recorded self.old).parts (key_of name.now) ≡ None }
         requires empty { vec_len room ≡ 0 }

@@ -1,7 +1,8 @@
 //! The custody: what a registry data escrow agent keeps for its registries, on a volume and in a
 //! database, through stops.
 //!
-//! `Custody` has the calls. `laws` and `composed` state what holds of them, and no program calls them.
+//! `Custody` has the calls. `laws` and `composed` state what holds of them, `law_histories` and `law_retries`
+//! what holds of every history that they are moves of. No program calls these.
 #![tactic(auto)]
 
 mod answers;
@@ -22,6 +23,7 @@ mod verifying;
 
 pub use answers::{InitError, Record, Refused, Reply};
 pub use custody::Custody;
+pub use custody_machine::{law_histories, law_retries};
 pub use opening::has_record;
 pub use progress::{Progress, Silent};
 pub use receiving::ReceiveError;

@@ -1,5 +1,5 @@
 //! The store: a connection with the tables of the records.
-ghost use Rattle.std.specs.Prelude.{◌≡◌, ◌^◌, ◌<◌, ◌≤◌, length, true, false, pos, Ok, Err, IfOk, IfErr, MatchResult};
+ghost use Rattle.std.specs.Prelude.{◌≡◌, ◌^◌, ◌<◌, ◌≤◌, true, false, pos, Ok, Err, IfOk, IfErr, MatchResult};
 ghost use Rattle.sqlite.specs.Held.{state};
 ghost use Rattle.sqlite.specs.State.{HasCleanDisk, Executes};
 ghost use Rattle.custody_records.specs.Rows.{fresh, with_registry_row, with_part_row, with_notice_row, with_handover_row, with_hold_row, with_lifting};
@@ -111,7 +111,6 @@ impl<S: Alter> Store<S> {
         received: Sec,
         staged: Staged,
     ) -> Result<(Vec<Extent>, u32, [u8; 32]), StoreFault>
-        requires few { length staged.extents ≤ 256 }
         ensures handed { IfOk result (λ t. (t.0.items ≡ staged.extents) × (t.1 ≡ staged.len) × (t.2 ≡ staged.digest)) }
         ensures commits { Commits (standing S.Store self.old) (standing S.Store self.new)
             (with_part_row (staged_row name.now received staged) (standing S.Store self.old).rows) result }

@@ -1,5 +1,9 @@
--- How many blocks a volume has, and how many bytes a part.
+-- How many bytes a block has, how many blocks a volume, and how many bytes and extents a part.
 use Rattle.std.specs.Prelude.{ℕ}
+
+-- the bytes of a block
+abbrev pub block_bytes : ℕ
+block_bytes = 4096
 
 -- block 0, and one for a part
 abbrev pub fewest_blocks : ℕ
@@ -12,3 +16,7 @@ most_blocks = 262_144
 -- 1 MiB
 abbrev pub max_part_len : ℕ
 max_part_len = 1_048_576
+
+-- a block each, of the longest part
+abbrev pub most_extents : ℕ
+most_extents = 256

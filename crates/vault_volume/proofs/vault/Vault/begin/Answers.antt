@@ -14,8 +14,8 @@ returns-clause-opened g c =
       counts = chosen.adds_up ∙ c.blocks_for.ensures;
     }
 
-pub returns-clause-few : goal.returns-clause-few
-returns-clause-few g c =
+pub invariant_of-result : goal.invariant_of-result
+invariant_of-result g c =
     let chosen = of_some _ _ _ c.in-Some.is c.in_ok-extents.ensures.chosen in
     let least = few_extents _ _ chosen.within in
     omega (arith, least, chosen.adds_up, c.requires.size, c.blocks_for.ensures)
