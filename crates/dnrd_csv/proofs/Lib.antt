@@ -1,4 +1,5 @@
 pub mod Decided
+pub mod FieldLemmas
 pub mod KeyLemmas
 pub mod Records
 pub mod RowLemmas

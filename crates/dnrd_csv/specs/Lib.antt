@@ -1,4 +1,5 @@
 pub mod ErrorText
+pub mod Fields
 pub mod Form
 pub mod FormTests
 pub mod Reading

@@ -22,10 +22,18 @@ impl Model for Keys {
 }
 
 impl Keys {
-    pub(crate) fn new(keys: ByteRecord) -> Keys
-        ensures { result ≡ fields_of keys }
+    /// The keys that these fields are. It takes no memory.
+    pub fn from_fields(fields: ByteRecord) -> Keys
+        ensures { result ≡ fields_of fields }
     {
-        Keys { keys }
+        Keys { keys: fields }
+    }
+
+    /// The keys, each as a field. It takes no memory.
+    pub fn into_fields(self) -> ByteRecord
+        ensures { fields_of result ≡ self }
+    {
+        self.keys
     }
 
     /// How many keys there are.

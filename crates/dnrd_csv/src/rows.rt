@@ -1,6 +1,8 @@
 //! The rows of a file.
-ghost use Rattle.std.specs.Prelude.{◌≡◌, ◌*◌, ◌<◌, ◌++◌, ◌==◌, [], All, OnOk, get_or, length};
+ghost use Rattle.std.specs.Prelude.{◌≡◌, ◌≢◌, ◌*◌, ◌<◌, ◌++◌, ◌==◌, ◌↔◌, [], ℕ, List, All, IfNone, IfSome, IsTrue, OnOk, flat_map, get_or, length};
 ghost use Rattle.csv.specs.Records.{fields_of};
+ghost use Rattle.dnrd_csv.specs.Fields.{AreRowsOf};
+ghost use Rattle.dnrd_csv.specs.Reading.{HaveWidth};
 ghost use Rattle.dnrd_csv.specs.Text.{IsRow, key_rows, table_text};
 
 use crate::spelling::{field_at, write_row};
@@ -44,6 +46,22 @@ impl Rows {
         }
     }
 
+    /// The rows that these fields are, one row after another, with so many fields each. `None` where the width is 0,
+    /// where the last row is short, or where a row is one empty field. It takes no memory.
+    pub fn from_fields(fields: ByteRecord, width: usize) -> Option<Rows>
+        ensures some { IfSome result (AreRowsOf width (fields_of fields)) }
+        ensures none { IfNone result ((rows : List (List (List ℕ))) → ¬ AreRowsOf width (fields_of fields) rows) }
+    {
+        let len = fields.len();
+        if width == 0 || len % width != 0 {
+            return None;
+        }
+        if width == 1 && !none_is_empty(&fields) {
+            return None;
+        }
+        Some(Rows::new(fields, width, len / width))
+    }
+
     /// How many rows there are.
     pub fn len(&self) -> usize
         ensures { result ≡ length self.now }
@@ -68,10 +86,10 @@ impl Rows {
         field_at(&self.fields, row * self.width + column)
     }
 
-    /// The fields of rows that have one each.
-    pub(crate) fn into_fields(self) -> ByteRecord
-        requires { All (λ row. length row ≡ 1) self }
-        ensures { key_rows (fields_of result) ≡ self }
+    /// The fields of the rows, one row after another. It takes no memory.
+    pub fn into_fields(self) -> ByteRecord
+        ensures fields { fields_of result ≡ flat_map (λ row. row) self }
+        ensures keys { HaveWidth 1 self → key_rows (fields_of result) ≡ self }
     {
         self.fields
     }
@@ -86,4 +104,16 @@ impl Rows {
         }
         Ok(())
     }
+}
+
+// Whether each of the fields has a byte.
+fn none_is_empty(fields: &ByteRecord) -> bool
+    ensures { IsTrue result ↔ All (λ field. field ≢ []) (fields_of fields.now) }
+{
+    for i in 0..fields.len() {
+        if field_at(fields, i).is_empty() {
+            return false;
+        }
+    }
+    true
 }

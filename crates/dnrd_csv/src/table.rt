@@ -76,7 +76,7 @@ pub fn read_keys(alloc: Global, name: TableName, text: &[u8]) -> Result<Keys, Ta
         → MatchResult result (λ keys. key_rows keys ≡ rows) (λ fault. fault ≡ TableError.OutOfMemory) }
 {
     let rows = read_columns(alloc, &columns(name)[..1], 1, text)?;
-    Ok(Keys::new(rows.into_fields()))
+    Ok(Keys::from_fields(rows.into_fields()))
 }
 
 /// The text of a table.

@@ -1,8 +1,9 @@
 //! Tables from outside, with their answers.
 use super::memory::most_held;
+use csv::ByteRecord;
 use deposit_name::TableName;
-use dnrd_csv::{Keys, Table, TableError, read_keys, read_table, write_table};
-use std::alloc::Global;
+use dnrd_csv::{Keys, Rows, Table, TableError, read_keys, read_table, write_table};
+use std::alloc::{AllocError, Global};
 use std::rt::Files;
 use std::test::Fail;
 
@@ -61,6 +62,25 @@ static REFUSED: [(&[u8], TableError); 16] = [
     (b"R1,Example,,ok\nR1,Other,,o1\n", TableError::FieldForm),
     (b"R1,Example,,ok\nR1,Other,,ok\n", TableError::DuplicateKey),
     (b"R1,\xFF,,ok\n\n", TableError::NotUtf8),
+];
+
+/// The fields of two registrars, one row after the other.
+static FIELDS: [&[u8]; 8] = [
+    b"R1",
+    b"Example, Inc.",
+    b"292",
+    b"ok",
+    b"R2",
+    b"",
+    b"",
+    b"ok",
+];
+
+/// Fields that are no rows of a width: it is 0, the last row is short, or a row is one empty field.
+static NO_ROWS: [(&[&[u8]], usize); 3] = [
+    (&[], 0),
+    (&[b"R1", b"ok", b"R2"], 2),
+    (&[b"R1", b""], 1),
 ];
 
 /// Whether a text is read as so many rows, and written as it was.
@@ -152,6 +172,45 @@ fn reads_keys(rt: HostRuntime) {
     assert!(rt; is_only_key(alloc, b"ns1.a.example\n", b"ns1.a.example"));
     let twice = read_keys(alloc, TableName::Host, b"b.example\na.example\nb.example\n");
     assert!(rt; twice.err() == Some(TableError::DuplicateKey));
+}
+
+/// Whether these are the fields of registrars with this text, and come back from their rows.
+fn is_text_of_fields(alloc: Global, fields: &[&[u8]], text: &[u8]) -> Result<bool, AllocError> {
+    let given = ByteRecord::from_fields(alloc, fields)?;
+    let Some(rows) = Rows::from_fields(given.clone()?, 4) else {
+        return Ok(false);
+    };
+    let table = Table {
+        name: TableName::Registrar,
+        rows,
+    };
+    let is_right = is_written(alloc, &table, text);
+    let Table { rows, .. } = table;
+    Ok(is_right && rows.into_fields() == given)
+}
+
+fn are_no_rows(alloc: Global, fields: &[&[u8]], width: usize) -> Result<bool, AllocError> {
+    let given = ByteRecord::from_fields(alloc, fields)?;
+    Ok(Rows::from_fields(given, width).is_none())
+}
+
+/// Whether these are keys as they stand, and come back from them.
+fn are_keys(alloc: Global, fields: &[&[u8]]) -> Result<bool, AllocError> {
+    let given = ByteRecord::from_fields(alloc, fields)?;
+    let keys = Keys::from_fields(given.clone()?);
+    Ok(keys.len() == fields.len() && keys.into_fields() == given)
+}
+
+#[test]
+fn makes_rows_of_fields(rt: HostRuntime) -> Result<(), Fail> {
+    let alloc = rt.alloc();
+    let text = b"R1,\"Example, Inc.\",292,ok\nR2,,,ok\n";
+    assert!(rt; is_text_of_fields(alloc, &FIELDS, text)?);
+    for &(fields, width) in &NO_ROWS {
+        assert!(rt; are_no_rows(alloc, fields, width)?, "of {width} fields");
+    }
+    assert!(rt; are_keys(alloc, &FIELDS)?);
+    Ok(())
 }
 
 /// The most memory held once a text of one byte again and again was refused, in kB.

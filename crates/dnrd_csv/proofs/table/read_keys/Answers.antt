@@ -1,4 +1,4 @@
-use Rattle.std.proofs.Common.{take, ◌∙◌, ap}
+use Rattle.std.proofs.Common.{take, ◌∙◌, ap, rules}
 use Rattle.std.proofs.lemmas.Result.{err_from_is_err_and}
 use Rattle.dnrd_csv.specs.Table.{columns_of}
 use Rattle.dnrd_csv.specs.Text.{key_rows}
@@ -13,4 +13,4 @@ returns-in_err-rows-clause-only c rows is =
 
 pub returns-clause-only : goal.returns-clause-only
 returns-clause-only c rows is =
-    ap key_rows c.new.ensures ∙ c.into_fields.ensures ∙ one_reading c.args.text.now c.in_ok-rows.rows rows c.in_ok-rows.ensures.ok.text is.text
+    ap key_rows c.from_fields.ensures ∙ c.into_fields.ensures.keys (search rules) ∙ one_reading c.args.text.now c.in_ok-rows.rows rows c.in_ok-rows.ensures.ok.text is.text
