@@ -1,9 +1,18 @@
-//! A map of blocks against a plain one, a list of extents, on random volumes.
+//! A map of blocks: by hand, and against a plain one, a list of extents, on random volumes.
 ghost use Rattle.std.specs.Prelude.{◌≤◌, ◌<◌};
 
-use extent_map::{Extent, ExtentMap};
+use extent_map::{Extent, ExtentMap, MapError};
 use std::alloc::{AllocError, Global};
 use std::test::Fail;
+
+// Used extents of eight blocks, by their starts and counts, with the reason why there is no map of them.
+static REFUSED: [(&[(u32, u32)], MapError); 5] = [
+    (&[(7, 2)], MapError::OutOfRange),
+    (&[(0, 1)], MapError::OutOfRange),
+    (&[(1, 0)], MapError::OutOfRange),
+    (&[(2, 2), (3, 1)], MapError::Overlap),
+    (&[(2, 2), (3, 1), (8, 1)], MapError::OutOfRange),
+];
 
 // The used extents, in rising order.
 #[derive(Drop)]
@@ -165,5 +174,37 @@ fn both_maps_agree(rt: HostRuntime) -> Result<(), Fail> {
     for seed in 0..4000u64 {
         assert!(rt; is_alike(rt.alloc(), seed)?, "seed {seed}");
     }
+    Ok(())
+}
+
+fn extents_of(alloc: Global, used: &[(u32, u32)]) -> Result<Vec<Extent>, AllocError> {
+    let mut extents = Vec::new(alloc);
+    for &(start, count) in used {
+        extents.push(Extent { start, count })?;
+    }
+    Ok(extents)
+}
+
+fn refusal(alloc: Global, used: &[(u32, u32)]) -> Result<Option<MapError>, Fail> {
+    let extents = extents_of(alloc, used)?;
+    Ok(ExtentMap::from_used(alloc, 8, &extents).err())
+}
+
+// Whether the three free blocks between two extents are too few for four, and are taken by three.
+fn is_filled(alloc: Global) -> Result<bool, Fail> {
+    let used = extents_of(alloc, &[(1, 1), (5, 3)])?;
+    let mut map = ExtentMap::from_used(alloc, 8, &used).ok().ok_or("a map")?;
+    let four = map.place(4);
+    let three = map.place(3);
+    let between = Extent { start: 2, count: 3 };
+    Ok(four.is_none() && three == Some(between) && map.free_blocks() == 0)
+}
+
+#[test]
+fn makes_maps_of_used_extents(rt: HostRuntime) -> Result<(), Fail> {
+    for &(used, error) in &REFUSED {
+        assert_eq!(rt; refusal(rt.alloc(), used)?, Some(error), "{used:?}");
+    }
+    assert!(rt; is_filled(rt.alloc())?);
     Ok(())
 }

@@ -243,6 +243,49 @@ fn an_upload_stopped_between_its_pieces_leaves_nothing(rt: HostRuntime) -> Resul
     Ok(())
 }
 
+// Stages a part, cancels it and stages it again. Tells how many blocks were free before, while the part
+// was staged and once it was cancelled, and where it lies now.
+fn stage_again<V: Volume>(
+    alloc: Global,
+    vault: &mut Vault<V>,
+    bytes: &[u8],
+) -> Option<((u32, u32, u32), Vec<Extent>)> {
+    if bytes.is_empty() || bytes.len() > 1048576 || vault.volume().failures() > 9 {
+        return None;
+    }
+    let before = vault.free_blocks();
+    let Ok(first) = vault.stage(alloc, bytes) else {
+        return None;
+    };
+    let between = vault.free_blocks();
+    vault.cancel(first);
+    let after = vault.free_blocks();
+    let Ok(second) = vault.stage(alloc, bytes) else {
+        return None;
+    };
+    let (extents, _, _) = second.spend();
+    Some(((before, between, after), extents))
+}
+
+// Whether a part of two blocks that is cancelled gives them back, and the next one takes them.
+fn is_cancelled(alloc: Global) -> Result<bool, Fail> {
+    let volume = MemVolume::new(alloc, 4, 4, 2)?;
+    let map = map_from(alloc, volume.size(), 1).ok_or("a map")?;
+    if map.size() != volume.size() {
+        return Err(Fail::from("another size"));
+    }
+    let mut vault = Vault::over(volume, map);
+    let (free, extents) = stage_again(alloc, &mut vault, &NEW).ok_or("not staged")?;
+    let first_two = Extent { start: 1, count: 2 };
+    Ok(free == (3, 1, 3) && extents.as_slice() == [first_two].as_slice())
+}
+
+#[test]
+fn a_cancelled_part_gives_its_blocks_back(rt: HostRuntime) -> Result<(), Fail> {
+    assert!(rt; is_cancelled(rt.alloc())?);
+    Ok(())
+}
+
 #[test]
 fn block_0_has_the_number_in_lower_case(rt: HostRuntime) -> Result<(), Fail> {
     let mut volume = MemVolume::new(rt.alloc(), 1, 8, 4)?;
