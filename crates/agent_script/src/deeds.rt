@@ -2,14 +2,16 @@
 use crate::beside::Plain;
 use crate::fault::ScriptFault;
 use crate::files::Files;
+use crate::listed::run_list;
 use crate::orders::{Way, check, order};
 use crate::requests::request;
+use crate::stopping::BLOCK;
 use crate::vault::Vault;
 use custody_records::{Part, Records};
 use sqlite::{Alter, Connection};
 use std::alloc::{AllocError, Global};
 use std::io::{self, Write};
-use vault_volume::{MemVolume, Volume, write_head};
+use vault_volume::{BLOCK_BYTES, MemVolume, Volume, write_head};
 
 /// Does what the words of a line say.
 pub fn deed<S: Alter + Drop, W: Write>(
@@ -27,10 +29,12 @@ pub fn deed<S: Alter + Drop, W: Write>(
             Ok(vault)
         }
         "ask" => order(alloc, Way::Command, words, files, vault, plain, out),
+        "run" => run_list(alloc, rest, files, vault, plain, out),
         "check" => check(alloc, Way::Command, rest, vault, plain, out),
         "insist" => insist(alloc, rest, files, vault, plain, out),
         "count" => count(alloc, rest, vault, out),
         "calls" => count_calls(vault, out),
+        "block" => compare_block(rest, files, vault, out),
         "send" | "resend" | "break" | "breaks" | "cut" | "cuts" => {
             plain.leave();
             request(alloc, verb, rest, files, vault, out)
@@ -104,6 +108,26 @@ fn count_calls<S: Alter + Drop, W: Write>(
     Ok(Vault::Closed(volume, db))
 }
 
+/// Closes a vault, and prints whether a block of its volume holds the first bytes of a file.
+fn compare_block<S: Alter + Drop, W: Write>(
+    words: &str,
+    files: &Files,
+    vault: Vault<S>,
+    out: &mut W,
+) -> Result<Vault<S>, ScriptFault> {
+    let (number, name) = words.split_once(' ').ok_or(ScriptFault::Line)?;
+    let (number, wanted) = (number_in(number)?, files.find(name)?.get(..BLOCK));
+    let (volume, db) = vault.close();
+    let held = volume.bytes().chunks(BLOCK).nth(number as usize);
+    let text = if held.is_some() && held == wanted {
+        "same"
+    } else {
+        "other"
+    };
+    writeln!(out, "{text}")?;
+    Ok(Vault::Closed(volume, db))
+}
+
 fn number_in(word: &str) -> Result<u32, ScriptFault> {
     word.parse().ok().ok_or(ScriptFault::Line)
 }
@@ -164,7 +188,7 @@ fn call_in(volume: &MemVolume, word: &str) -> Result<u64, ScriptFault> {
 /// The machine comes back after a stop, and open bytes hold those of a filling.
 fn restart(alloc: Global, filling: &str, volume: &mut MemVolume) -> Result<(), ScriptFault> {
     let fill = fill_of(alloc, filling, volume.bytes())?;
-    if fill.len() != 4096 * volume.size() as usize {
+    if fill.len() != BLOCK * volume.size() as usize {
         return Err(ScriptFault::Line);
     }
     volume.restart(&fill);
@@ -193,7 +217,7 @@ fn byte_of(filling: &str, at: usize, read: u8) -> u8 {
 fn flip(volume: &mut MemVolume, at: u32) -> Result<(), ScriptFault> {
     let old = volume.bytes().get(at as usize).copied();
     let old = old.ok_or(ScriptFault::Line)?;
-    if u64::from(at) >= 4096 * u64::from(volume.size()) || volume.failures() > 99 {
+    if u64::from(at) >= BLOCK_BYTES * u64::from(volume.size()) || volume.failures() > 99 {
         return Err(ScriptFault::Line);
     }
     let is_done = volume.write_at(u64::from(at), &[old ^ 1]).is_ok();

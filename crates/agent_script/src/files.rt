@@ -1,5 +1,6 @@
 //! The files that a script names.
 use crate::fault::ScriptFault;
+use crate::stopping::BLOCK;
 use std::alloc::{AllocError, Global};
 use std::ops::RangeInclusive;
 
@@ -44,7 +45,7 @@ impl Files {
     ) -> Result<(), AllocError> {
         let mut bytes = Vec::with_capacity(alloc, len)?;
         for at in 0..len {
-            bytes.push(b'a' + (at / 4096 % 26) as u8)?;
+            bytes.push(b'a' + (at / BLOCK % 26) as u8)?;
         }
         self.add(alloc, name, bytes)
     }

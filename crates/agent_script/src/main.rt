@@ -3,6 +3,7 @@
 #![tactic(auto)]
 
 mod beside;
+mod cuts;
 mod databases;
 mod deeds;
 mod disk;
@@ -10,6 +11,7 @@ mod everywhere;
 mod example;
 mod fault;
 mod files;
+mod listed;
 mod orders;
 mod places;
 mod printed;
@@ -22,6 +24,7 @@ mod vault;
 mod wide;
 
 use beside::Plain;
+use cuts::play_cuts;
 use disk::play_on_disk;
 use everywhere::play_everywhere;
 use example::play;
@@ -67,6 +70,7 @@ fn play_anew<W: Write>(
     out: &mut W,
 ) -> Result<(), ScriptFault> {
     match kind_of(example) {
+        "cuts_anew" => return play_cuts(alloc, example, files, out),
         "disk" => return play_on_disk(alloc, example, files, out),
         "stops" | "fails" => return play_everywhere(alloc, example, files, out),
         "sizes" => return show_sizes(alloc, out),

@@ -6,7 +6,7 @@ use crate::printed::Printed;
 use crate::vault::Vault;
 use agent_cli::{Order, act, order_of};
 use answer_lines::{tell, tell_answer};
-use custody::{Custody, Silent};
+use custody::{Custody, Refused, Reply, Silent};
 use custody_machine::Command;
 use deposit_name::Tld;
 use schedule::{Day, Sec, read_day, read_moment};
@@ -192,16 +192,29 @@ fn ask<V: Volume, S: Alter>(
     printed: &mut Printed,
 ) -> Result<(), ScriptFault> {
     let answer = custody.apply(alloc, command, now);
-    printed.status = tell_answer(&answer, &mut printed.out, &mut printed.err);
-    plain.follow(alloc, command, now, printed)?;
-    if answer.is_ok_and(|reply| reply.is_repeat) {
-        writeln!(printed.out, "again")?;
-    }
+    print_answer(alloc, &answer, command, now, plain, printed)?;
     compare(custody, plain, printed)
 }
 
+/// Prints the answer to a command, and whether it is a repeat. The plain program does the command too.
+pub fn print_answer(
+    alloc: Global,
+    answer: &Result<Reply, Refused>,
+    command: &Command<'_>,
+    now: Sec,
+    plain: &mut Plain,
+    printed: &mut Printed,
+) -> Result<(), ScriptFault> {
+    printed.status = tell_answer(answer, &mut printed.out, &mut printed.err);
+    plain.follow(alloc, command, now, printed)?;
+    if matches!(answer, Ok(reply) if reply.is_repeat) {
+        writeln!(printed.out, "again")?;
+    }
+    Ok(())
+}
+
 /// Adds a line where the plain program keeps something else.
-fn compare<V: Volume, S: Alter>(
+pub fn compare<V: Volume, S: Alter>(
     custody: &Custody<V, S>,
     plain: &Plain,
     printed: &mut Printed,

@@ -14,14 +14,22 @@ use vault_volume::{MemVolume, Volume};
 const MOMENT: &[u8] = b"2026-08-02T10:05:00Z";
 
 /// Room for each response.
-const AMPLE: usize = 100_000;
+pub const AMPLE: usize = 100_000;
 
 /// Bytes that come in pieces of at most so many. Behind them the sender ends, or fails.
 #[derive(Drop)]
-struct Sender<'a> {
+pub struct Sender<'a> {
     bytes: &'a [u8],
     size: usize,
     fails: bool,
+}
+
+impl<'a> Sender<'a> {
+    /// One that ends behind its bytes.
+    pub fn of(bytes: &'a [u8], size: usize) -> Sender<'a> {
+        let fails = false;
+        Sender { bytes, size, fails }
+    }
 }
 
 impl<'a> Read for Sender<'a> {
@@ -60,9 +68,9 @@ impl Write for Taker {
 }
 
 /// What came of a request, and the bytes that were taken.
-type Exchange = (Result<Served, ServeError>, Vec<u8>);
+pub type Exchange = (Result<Served, ServeError>, Vec<u8>);
 
-fn exchange<V: Volume, S: Alter>(
+pub fn exchange<V: Volume, S: Alter>(
     alloc: Global,
     api: &Api,
     custody: &mut Custody<V, S>,
@@ -81,8 +89,7 @@ fn exchange<V: Volume, S: Alter>(
 }
 
 /// Sends the request of a line to the vault, which is opened where it is closed, and prints what the line
-/// asks for. The words are a number and the request, in which `\r` and `\n` stand for their bytes.
-/// After `<` stands the name of a file whose bytes follow it.
+/// asks for.
 pub fn request<S: Alter + Drop, W: Write>(
     alloc: Global,
     verb: &str,
@@ -91,6 +98,24 @@ pub fn request<S: Alter + Drop, W: Write>(
     vault: Vault<S>,
     out: &mut W,
 ) -> Result<Vault<S>, ScriptFault> {
+    let (number, bytes) = request_in(alloc, words, files)?;
+    let mut told = Vec::new(alloc);
+    let mut vault = send(alloc, verb, number, &bytes, vault, &mut told)?;
+    if verb == "resend" && wants_memory(&told) {
+        told.clear();
+        vault = send(alloc, verb, number, &bytes, vault.closed(), &mut told)?;
+    }
+    out.write_all(&told)?;
+    Ok(vault)
+}
+
+/// The number and the request that words give. In these `\r` and `\n` stand for their bytes, and after `<`
+/// stands the name of a file whose bytes follow.
+pub fn request_in(
+    alloc: Global,
+    words: &str,
+    files: &Files,
+) -> Result<(usize, Vec<u8>), ScriptFault> {
     let (words, file) = words.split_once(" < ").unwrap_or((words, ""));
     let (number, text) = words.split_once(' ').unwrap_or((words, ""));
     let number: u32 = number.parse().ok().ok_or(ScriptFault::Line)?;
@@ -98,21 +123,7 @@ pub fn request<S: Alter + Drop, W: Write>(
     if !file.is_empty() {
         bytes.extend_from_slice(files.find(file)?)?;
     }
-    let mut told = Vec::new(alloc);
-    let mut vault = send(alloc, verb, number as usize, &bytes, vault, &mut told)?;
-    if verb == "resend" && wants_memory(&told) {
-        told.clear();
-        vault = send(
-            alloc,
-            verb,
-            number as usize,
-            &bytes,
-            vault.closed(),
-            &mut told,
-        )?;
-    }
-    out.write_all(&told)?;
-    Ok(vault)
+    Ok((number as usize, bytes))
 }
 
 /// Whether what was told of a request is that memory was wanting, or that the database failed.
@@ -183,7 +194,7 @@ fn print_answer<V: Volume, S: Alter, W: Write>(
 }
 
 /// Prints what was taken in one line, and why it is not the whole of a response.
-fn print_taken<W: Write>(
+pub fn print_taken<W: Write>(
     served: &Result<Served, ServeError>,
     taken: &[u8],
     out: &mut W,

@@ -1,5 +1,6 @@
 //! Sessions, and openings over what a stop has left of them: the calls that the headline is about.
 use crate::fault::ScriptFault;
+use crate::stopping::BLOCK;
 use custody::composed::{begin_run_and_reopen, new_database, open_run_and_reopen};
 use custody::{Custody, Refused, Reply};
 use custody_machine::Command;
@@ -78,7 +79,7 @@ fn show_stop<S: Alter + Drop, W: Write>(
     if volume.failures() > 9 {
         return Err(ScriptFault::Line);
     }
-    let fill = vec![in alloc; 255u8; 4096 * BLOCKS as usize]?;
+    let fill = vec![in alloc; 255u8; BLOCK * BLOCKS as usize]?;
     write!(out, "stop at call {stop}:")?;
     let shown = match open_run_and_reopen(alloc, volume, db, &commands, &fill, left) {
         Ok(it) => show(&it.answers, it.custody.room().ok().map(|room| room.0), out),
@@ -95,7 +96,7 @@ fn show_whole<W: Write>(alloc: Global, out: &mut W) -> Result<(), ScriptFault> {
         (Command::Receive(NAME, b"hello"), now),
     ];
     let volume = MemVolume::new(alloc, BLOCKS, 64, 16)?;
-    let fill = vec![in alloc; 255u8; 4096 * BLOCKS as usize]?;
+    let fill = vec![in alloc; 255u8; BLOCK * BLOCKS as usize]?;
     write!(out, "from the beginning:")?;
     let shown = match begin_run_and_reopen(alloc, volume, 1, &commands, &fill) {
         Ok(it) => show(&it.answers, it.custody.room().ok().map(|room| room.0), out),

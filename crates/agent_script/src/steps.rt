@@ -53,7 +53,8 @@ pub fn steps_in<'a>(
     Ok(steps)
 }
 
-fn call_in<'a>(alloc: Global, text: &str, files: &'a Files) -> Result<Step<'a>, ScriptFault> {
+/// The step that a call of `escrow` is.
+pub fn call_in<'a>(alloc: Global, text: &str, files: &'a Files) -> Result<Step<'a>, ScriptFault> {
     let (words, file) = call_of(alloc, text, files)?;
     Ok(Step {
         words,

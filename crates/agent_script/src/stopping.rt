@@ -3,9 +3,10 @@ ghost use Rattle.std.specs.Prelude.{◌≡◌, ◌-◌, ◌<◌, ◌^◌, IsTrue
 
 use crate::fault::ScriptFault;
 use std::alloc::{AllocError, Global};
-use vault_volume::{Failed, MemVolume, Volume};
+use vault_volume::{BLOCK_BYTES, Failed, MemVolume, Volume};
 
-const BLOCK: usize = 4096;
+/// The bytes of a block.
+pub const BLOCK: usize = BLOCK_BYTES as usize;
 
 /// A call that changes what a stop may leave.
 #[derive(Clone, Copy, PartialEq, Eq)]
