@@ -1,6 +1,7 @@
-# What tests/program.sh and tests/http.sh count, and how they tell it. Each sources this file.
+# What the scripts of this folder count, and how they tell it. Each of them sources this file.
 passed=0
 failed=0
+skipped=0
 
 ok() { passed=$((passed + 1)); }
 
@@ -12,5 +13,17 @@ no() {
     printf '    %s\n' "$@"
 }
 
-# skip WHY: what is not on this machine, so that its checks do not count
-skip() { echo "left out: $1"; }
+# skip WHY: what this machine lacks, and the checks that are not made for it
+skip() {
+    skipped=$((skipped + 1))
+    echo "skipped: $1"
+}
+
+# has COMMAND CHECKS: whether the machine has the command; where it has not, these checks are skipped
+has() { command -v "$1" > /dev/null || { skip "$2: no $1"; false; }; }
+
+# tell: the last line of a script. Its status is 0 where nothing failed, whatever was skipped
+tell() {
+    echo "$passed passed, $failed failed, $skipped skipped"
+    [ "$failed" = 0 ]
+}

@@ -19,7 +19,8 @@ is killed as it makes it. Then:
 The calls are those that strace shows of a run without a fault. In that, the folder is synced after the last file is made
 in it and before the line is printed, so that the files' names are settled; `init` makes all three files. Where other
 commands are named, this is still tried of `init`, with the calls on the folder in between. PROGRAM is
-crates/escrow/out/escrow where it is not named. Where strace may not be used, a line says so, and nothing is tried.
+crates/escrow/out/escrow where it is not named. Where strace may not be used, or this Python has no sqlite3, a line says
+so, and nothing is tried. The last line is `N passed, M failed, K skipped`; the status is 0 where nothing failed.
 """
 import argparse
 import collections
@@ -29,10 +30,14 @@ import pathlib
 import re
 import shutil
 import signal
-import sqlite3
 import subprocess
 import sys
 import tempfile
+
+try:
+    import sqlite3
+except ImportError:
+    sqlite3 = None
 
 TOP = pathlib.Path(__file__).resolve().parent.parent
 FILES = ("vault.vol", "custody.db", "custody.db-wal")
@@ -241,6 +246,16 @@ def try_all(program, only, lanes):
     return passed, failed
 
 
+def lacking():
+    """What this machine lacks for all of it, or nothing."""
+    if sqlite3 is None:
+        return "no python3 with sqlite3"
+    if not shutil.which("strace"):
+        return "no strace"
+    used = subprocess.run(["strace", "-o", "/dev/null", "true"], capture_output=True)
+    return "strace may not be used" if used.returncode else None
+
+
 def main():
     words = argparse.ArgumentParser(description=__doc__, formatter_class=argparse.RawDescriptionHelpFormatter)
     words.add_argument("program", nargs="?", default=TOP / "crates/escrow/out/escrow")
@@ -250,12 +265,13 @@ def main():
     program = pathlib.Path(asked.program).resolve()
     if not os.access(program, os.X_OK):
         sys.exit(f"no program at {program}: run ./demo --proved")
-    if not shutil.which("strace") or subprocess.run(["strace", "-o", "/dev/null", "true"], capture_output=True).returncode:
-        print("left out: no strace, or it may not be used")
-        print("0 passed, 0 failed")
-        return
-    passed, failed = try_all(program, asked.only, asked.lanes)
-    print(f"{passed} passed, {failed} failed")
+    passed = failed = skipped = 0
+    if why := lacking():
+        skipped = 1
+        print(f"skipped: calls that fail: {why}")
+    else:
+        passed, failed = try_all(program, asked.only, asked.lanes)
+    print(f"{passed} passed, {failed} failed, {skipped} skipped")
     sys.exit(1 if failed else 0)
 
 

@@ -3,12 +3,14 @@
 #
 #   tests/http.sh [PROGRAM]
 #
-# PROGRAM is crates/escrow/out/escrow where it is not named. It wants python3, and takes about a minute, since the time
-# limit of a slow client is waited for. Where there is no curl, what needs it is left out, and a line says so.
+# PROGRAM is crates/escrow/out/escrow where it is not named, which `./demo --proved` builds. It wants python3, and takes
+# about a minute, since the time limit of a slow client is waited for. Where there is no curl or no prlimit, the checks that
+# need it are skipped, and a line says so. The last line is `N passed, M failed, K skipped`; the status is 0 where nothing
+# failed.
 set -u
 top=$(cd "$(dirname "$0")/.." && pwd)
 program=$(realpath "${1:-$top/crates/escrow/out/escrow}")
-[ -x "$program" ] || { echo "no program at $program: run ./demo"; exit 2; }
+[ -x "$program" ] || { echo "no program at $program: run ./demo --proved"; exit 2; }
 command -v python3 > /dev/null || { echo "no python3"; exit 2; }
 work=$(mktemp -d)
 server=
@@ -151,10 +153,9 @@ hold H-1 example 2026-08-02 $at lifted $at
 free 42 of 299" "$("$program" state vault)"
 }
 
-if command -v curl > /dev/null; then
+if has curl "by curl"; then
     by_curl
 else
-    skip "no curl"
     "$program" register vault example --first 2026-08-02 > register.out
 fi
 "$program" state vault > before
@@ -303,25 +304,34 @@ letters() {
     printf 'PUT /deposits/%s HTTP/1.1\r\nContent-Length: 100000\r\n\r\n' "$part"
     head -c "$1" /dev/zero | tr '\0' a
 }
-new_vault letters
-"$program" register letters example --first 2026-08-02 > register.out
-start 1 --now $at
-compare "a part that is cut" "$(told "400 Bad Request" "A9 body short")" "$(letters 70000 | raw 9999 0 half)"
-ended 0 ""
-compare "nothing is kept of it" "$registered
-free 299 of 299" "$("$program" state letters)"
-compare "its first block was written" "" "$(cmp <(tail -c +4097 letters/vault.vol | head -c 4096) <(head -c 4096 /dev/zero | tr '\0' a) 2>&1)"
-start 1 --now $at
+# awaits_letters FOLDER: a new vault with the registry, and a server of it for one connection
+awaits_letters() {
+    new_vault "$1"
+    "$program" register "$1" example --first 2026-08-02 > register.out
+    compare "$1: before" "$registered
+free 299 of 299" "$("$program" state "$1")"
+    start 1 --now $at
+}
+# lies_free FOLDER: the first block of the part was written while it came, and nothing is kept of it
+lies_free() {
+    compare "$1: block 1" "" "$(cmp <(tail -c +4097 "$1/vault.vol" | head -c 4096) <(head -c 4096 /dev/zero | tr '\0' a) 2>&1)"
+    compare "$1: nothing is kept" "$registered
+free 299 of 299" "$("$program" state "$1")"
+}
+awaits_letters reset
 letters 70000 | raw 9999 0.02 reset
 ended 0 "read failed"
-compare "nor of one that is broken off" "$registered
-free 299 of 299" "$("$program" state letters)"
+lies_free reset
+awaits_letters cut
+compare "a part that is cut" "$(told "400 Bad Request" "A9 body short")" "$(letters 70000 | raw 9999 0 half)"
+ended 0 ""
+lies_free cut
 start 1 --now $at
 compare "the whole part" "$(told "201 Created" "received $part 100000 $at")" "$(letters 100000 | raw 9999 0 half)"
 ended 0 ""
 compare "it is kept" "$registered
 part $part 100000 held $at
-free 274 of 299" "$("$program" state letters)"
+free 274 of 299" "$("$program" state cut)"
 vault=vault
 
 # ---- clients that go away
@@ -351,25 +361,23 @@ wait
 
 # ---- no further connection can be taken: the second one, or the first, if it was not waited for yet
 
-if command -v prlimit > /dev/null; then
+if has prlimit "no further connection can be taken"; then
     start 2 --now $at
     prlimit --pid "$server" --nofile=4:4
     printf "$request" | raw 9999 0 half > /dev/null 2>&1
     ended 3 "socket failed"
-else
-    skip "no prlimit"
 fi
 
 # ---- only here, one at a time, and killed
 
 start 9
-address=$(hostname -I 2> /dev/null | cut -d ' ' -f 1)
-if [ -n "$address" ] && command -v curl > /dev/null; then
-    curl -s -m 5 "http://$address:$port/notices/other" > /dev/null
-    compare "it listens on 127.0.0.1 alone" 7 $?
-else
-    skip "no other address, or no curl"
-fi
+# met ADDRESS: what becomes of a connection to the server's port there
+met() { python3 -c "import socket; socket.create_connection(('$1', $port), 5)" 2>&1 | sed '$!d; s/:.*//'; }
+compare "it listens on 127.0.0.1" "" "$(met 127.0.0.1)"
+# Each address of 127.0.0.0/8 is this machine's, and it may have others.
+for address in 127.0.0.2 $(hostname -I 2> /dev/null); do
+    compare "it does not listen on $address" ConnectionRefusedError "$(met "$address")"
+done
 cp -a vault copy
 compare "the port is taken" "socket failed
 3" "$("$program" serve copy --port $port --requests 1 2>&1; echo $?)"
@@ -389,5 +397,4 @@ server=
 compare "it opens after a kill" 0 $?
 compare "it has the part" "part $third 5 held ${answer##* }" "$(grep "^part $third" state)"
 
-echo "$passed passed, $failed failed"
-[ "$failed" = 0 ]
+tell

@@ -10,81 +10,51 @@
   finds no memory, and the program ends with status 1 and the beginning of it.
 
 Without a word both are run. `--every N` refuses each Nth allocation alone, `--only K` tries the Kth example alone. Run
-`rt run` in crates/text_answers and in crates/agent_script first. It needs gdb, on x86-64. The allocations are counted
-where they are made, in the program that was built, since `rt try --fail-alloc` builds a program anew for each of them.
+`rt run` in crates/text_answers and in crates/agent_script first. The allocations are counted where they are made, in the
+program that was built (tests/allocations.py), since `rt try --fail-alloc` builds a program anew for each of them. The last
+line is `N passed, M failed, K skipped`, of runs; the status is 0 where nothing failed. Where the machine is no Linux on
+x86-64, or lets no program be traced, a line says so, and nothing is tried.
 """
 import argparse
-import json
+import multiprocessing
 import os
 import pathlib
 import re
-import subprocess
 import sys
 import tempfile
 
-try:
-    import gdb  # There where gdb runs this file.
-except ImportError:
-    gdb = None
+from allocations import Program, Run, lacking
 
 CRATES = pathlib.Path(__file__).resolve().parent.parent / "crates"
-CALLS = ("malloc", "realloc")
 WANTS = (": K6", ": E2")
-PARTS = os.cpu_count() or 1
-ALL = 2**31 - 1
 
 
-def run_within_gdb(folder, part, every):
-    """Runs the program with no allocation refused, then with each of this part of them."""
-    given, output = pathlib.Path(folder, "given"), pathlib.Path(folder, f"output{part}")
-
-    def run():
-        gdb.execute(f"run < {given} > {output} 2> /dev/null", to_string=True)
-
-    def told():
-        return int(gdb.parse_and_eval("$_exitcode")), output.read_text(errors="replace")
-
-    def refuse(place, n):
-        """The status and the output, where the nth call that comes to this place is given no memory."""
-        place.enabled, place.ignore_count = True, n - 1
-        run()
-        # At the first instruction of the call: back to the caller, with a null pointer.
-        gdb.execute("set $rip = *(long *) $rsp")
-        gdb.execute("set $rsp = $rsp + 8")
-        gdb.execute("set $rax = 0")
-        place.enabled = False
-        gdb.execute("continue", to_string=True)
-        return told()
-
-    # The calls stand in a library, which is there once the program has begun.
-    gdb.execute("break main")
-    run()
-    gdb.execute("delete")
-    places = [gdb.Breakpoint(f"*{call}") for call in CALLS]
-    for place in places:
-        place.ignore_count = ALL
-    run()
-    base, counts = told(), [place.hit_count for place in places]
-    for place in places:
-        place.enabled = False
-    refused = [(call, place, n) for call, place, count in zip(CALLS, places, counts) for n in range(1, 1 + count, every)]
-    runs = [(f"{call} {n}", *refuse(place, n)) for call, place, n in refused[part::PARTS]]
-    text = json.dumps({"base": base, "allocations": sum(counts), "runs": runs})
-    pathlib.Path(folder, f"told{part}").write_text(text)
+def run_once(program, given, counts, is_counted=False):
+    """One run: how often each call was made, where that is wanted, the status and the output."""
+    with tempfile.TemporaryFile() as lines, tempfile.TemporaryFile() as output:
+        lines.write(given.encode())
+        lines.seek(0)
+        run = Run(program, lines, output, counts)
+        made = run.counts() if is_counted else {}
+        status = run.end()
+        output.seek(0)
+        return made, status, output.read().decode(errors="replace")
 
 
-def run_all(program, given, every):
-    """What each part tells of the runs over these lines."""
-    with tempfile.TemporaryDirectory() as folder:
-        pathlib.Path(folder, "given").write_text(given)
-        command = ["gdb", "-q", "-batch", "-nx", "-x", __file__, "--args", program]
-        parts = [
-            subprocess.Popen(command, env={**os.environ, "PART_OF_RUNS": json.dumps([folder, part, every])}, stdout=subprocess.DEVNULL)
-            for part in range(PARTS)
-        ]
-        for part in parts:
-            part.wait()
-        return [json.loads(pathlib.Path(folder, f"told{part}").read_text()) for part in range(PARTS)]
+def refuse(asked):
+    """What is refused, and the status and the output then."""
+    program, given, call, n = asked
+    _, status, text = run_once(program, given, {call: n})
+    return f"{call} {n}", status, text
+
+
+def run_all(path, given, every):
+    """The status and the output with no allocation refused, how many there are, and the runs with one refused."""
+    program = Program.of(path)
+    made, *base = run_once(program, given, {}, is_counted=True)
+    asked = [(program, given, call, n) for call, count in made.items() for n in range(1, 1 + count, every)]
+    with multiprocessing.Pool() as lanes:
+        return base, sum(made.values()), lanes.map(refuse, asked, chunksize=16)
 
 
 def faults_of_texts(base, run):
@@ -123,34 +93,40 @@ def examples():
 
 
 def try_all(title, program, given, every, judge):
-    """Makes the runs over these lines, prints what they came to, and answers whether all is right."""
-    told = run_all(program, given, every)
-    base, allocations = told[0]["base"], told[0]["allocations"]
-    judged = [judge(base, run) for part in told for run in part["runs"]]
+    """Makes the runs over these lines, prints what they came to, and answers how many passed and failed, and the wants."""
+    if not os.access(program, os.X_OK):
+        sys.exit(f"no program at {program}: run rt run in crates/{program.name}")
+    base, allocations, runs = run_all(program, given, every)
+    judged = [judge(base, run) for run in runs]
     wants = [count for count, _ in judged]
     faults = [fault for _, faults in judged for fault in faults]
     for fault in faults:
         print(fault)
     print(f"{title}: {allocations} allocations, {len(judged)} runs with one refused, {len(faults)} faults")
-    return not faults and base[0] == 0 and max(wants) <= 1, wants
+    # One run more is that with none refused, which has to make allocations, and to end well.
+    is_sound = base[0] == 0 and bool(judged)
+    if not is_sound:
+        print(f"{title}: status {base[0]} with none refused")
+    failed = sum(count > 1 or bool(wrong) for count, wrong in judged) + (not is_sound)
+    return len(judged) + 1 - failed, failed, wants
 
 
 def try_texts(every):
     program = CRATES / "text_answers/out/text_answers"
-    is_right, wants = try_all("texts", program, "", every, faults_of_texts)
+    passed, failed, wants = try_all("texts", program, "", every, faults_of_texts)
     print(f"    answers for want of memory: none in {wants.count(0)} runs, one in {wants.count(1)}")
-    return is_right
+    return passed, failed
 
 
 def try_calls(every, only):
-    program, is_right = CRATES / "agent_script/out/agent_script", True
+    program, all_passed, all_failed = CRATES / "agent_script/out/agent_script", 0, 0
     for number, given in enumerate(examples(), 1):
         if only in (None, number):
             title = re.search(r"^# (.*)$", given, re.M)[1]
-            is_so, wants = try_all(title, program, given, every, faults_of_calls)
+            passed, failed, wants = try_all(title, program, given, every, faults_of_calls)
             print(f"    as without in {wants.count(0)} runs, ended by the script itself in {wants.count(1)}", flush=True)
-            is_right = is_right and is_so
-    return is_right
+            all_passed, all_failed = all_passed + passed, all_failed + failed
+    return all_passed, all_failed
 
 
 def main():
@@ -159,15 +135,17 @@ def main():
     words.add_argument("--every", type=int, default=1)
     words.add_argument("--only", type=int)
     asked = words.parse_args()
-    is_right = True
-    if asked.what != "calls":
-        is_right = try_texts(asked.every)
-    if asked.what != "texts":
-        is_right = try_calls(asked.every, asked.only) and is_right
-    sys.exit(0 if is_right else 1)
+    passed = failed = skipped = 0
+    if why := lacking():
+        skipped = 1
+        print(f"skipped: memory that is refused: {why}")
+    else:
+        tried = [try_texts(asked.every)] if asked.what != "calls" else []
+        tried += [try_calls(asked.every, asked.only)] if asked.what != "texts" else []
+        passed, failed = (sum(counts) for counts in zip(*tried))
+    print(f"{passed} passed, {failed} failed, {skipped} skipped")
+    sys.exit(1 if failed else 0)
 
 
-if gdb is not None:
-    run_within_gdb(*json.loads(os.environ["PART_OF_RUNS"]))
-else:
+if __name__ == "__main__":
     main()

@@ -4,10 +4,11 @@
 #
 #   tests/peers.sh [PROGRAM]
 #
-# PROGRAM is crates/escrow/out/escrow where it is not named. It wants python3, and takes little more than a minute, since
-# time limits are waited for. After four minutes it is ended, or after PEERS_SECONDS of the environment. Where there is no
-# curl, nginx or openssl, what needs it is left out, and a line says so. It listens on 127.0.0.1 alone, at free ports, and
-# ends what it starts.
+# PROGRAM is crates/escrow/out/escrow where it is not named, which `./demo --proved` builds. It wants python3, and takes
+# little more than a minute, since time limits are waited for. After four minutes it is ended, or after PEERS_SECONDS of the
+# environment. Where there is no curl, nginx, openssl or prlimit, the checks that need it are skipped, and a line says so.
+# The last line is `N passed, M failed, K skipped`; the status is 0 where nothing failed. It listens on 127.0.0.1 alone, at
+# free ports, and ends what it starts.
 set -u
 # What is behind a pipe counts, too.
 shopt -s lastpipe
@@ -15,7 +16,7 @@ shopt -s lastpipe
 [ -n "${PEERS_BOUNDED-}" ] || PEERS_BOUNDED=1 exec timeout --foreground "${PEERS_SECONDS-240}" "$0" "$@"
 top=$(cd "$(dirname "$0")/.." && pwd)
 program=$(realpath "${1:-$top/crates/escrow/out/escrow}")
-[ -x "$program" ] || { echo "no program at $program: run ./demo"; exit 2; }
+[ -x "$program" ] || { echo "no program at $program: run ./demo --proved"; exit 2; }
 python=$(python3 -c 'import sys; print(sys.executable)') || { echo "no python3"; exit 2; }
 client=$top/tests/peers/client.py
 work=$(mktemp -d)
@@ -175,12 +176,11 @@ cut_part() { printf 'PUT /deposits/%s HTTP/1.1\r\nContent-Length: 100000\r\n\r\n
 . "$top/tests/peers/gateway.sh"
 
 start_slow
-if command -v curl > /dev/null; then by_curl; else skip "no curl"; fi
+if has curl "by curl"; then by_curl; fi
 by_sockets
 missing=
 for tool in curl nginx openssl; do command -v $tool > /dev/null || missing="$missing $tool"; done
 if [ -z "$missing" ]; then by_gateway; else skip "the gateway: no$missing"; fi
 end_slow
 
-echo "$passed passed, $failed failed"
-[ "$failed" = 0 ]
+tell

@@ -6,12 +6,13 @@
 # With KILLS=N in the environment N puts are killed, and N/4 calls of init; else 120 and 30. With SEED=S other vaults are
 # changed at random than with the seed 1. With OLDER=PROGRAM a program of before there were incremental deposits, or of
 # before there were holds, makes the vault of "a vault of before", and not tests/older.sh; and goes the way back with it.
-# PROGRAM is crates/escrow/out/escrow where it is not named. `./demo` builds it. Where there is no sqlite3 or
-# setpriv, or no tmpfs can be mounted, what needs it is left out, and a line says so.
+# PROGRAM is crates/escrow/out/escrow where it is not named, which `./demo --proved` builds. Where the machine lacks what
+# some checks need (sqlite3, curl, setpriv, script, a tmpfs that can be mounted), they are skipped, and a line says so. The
+# last line is `N passed, M failed, K skipped`; the status is 0 where nothing failed.
 set -u
 top=$(cd "$(dirname "$0")/.." && pwd)
 program=$(realpath "${1:-$top/crates/escrow/out/escrow}")
-[ -x "$program" ] || { echo "no program at $program: run ./demo"; exit 2; }
+[ -x "$program" ] || { echo "no program at $program: run ./demo --proved"; exit 2; }
 [ -z "${OLDER-}" ] || OLDER=$(realpath "$OLDER")
 work=$(mktemp -d)
 chmod 755 "$work"
@@ -74,6 +75,7 @@ if "$top/tests/demo/play.py" "$program" > "$work/transcript" 2>&1; then
 else
     no "the transcript" "$(tail -n 6 "$work/transcript")"
 fi
+has curl "the transcript over HTTP"
 
 echo "== one part, received once"
 vault d 8
@@ -311,7 +313,7 @@ expect 0 "received $leap 5 $noon" "" put year in/$leap --now $noon
 expect 0 "dropped 0" "" purge year --now 2029-02-28T23:59:59Z
 if command -v sqlite3 > /dev/null; then kept=$(columns year "hex(extents) = '0000000100000001'"); fi
 expect 0 "dropped 1" "" purge year --now 2029-03-01T00:00:00Z
-if command -v sqlite3 > /dev/null; then
+if has sqlite3 "the row of dropped bytes"; then
     check "a row has lost its extents, and nothing else" test "$(columns year "extents IS NULL")" = "$kept"
 fi
 expect 1 "" "Q6 dropped after keeping" put year in/$leap --now 2029-03-01T00:00:00Z
@@ -371,7 +373,7 @@ at_one parts 2026-08-04 8192
 expect 0 "dropped 1" "" purge parts --now $later
 of 2027-08-04 16384
 expect 0 "received $name 16384 $later" "" put parts "in/$name" --now $later
-if command -v sqlite3 > /dev/null; then
+if has sqlite3 "the extents of a part"; then
     check "two extents" test "$(sqlite3 parts/custody.db 'SELECT hex(extents) FROM part WHERE len = 16384')" = 00000001000000030000000600000001
 fi
 of 2027-08-04 8192 2
@@ -412,7 +414,7 @@ expect 0 "$registry
 part $leap 5 dropped $noon
 hold H-1 example 2028-02-29 2029-02-01T00:00:00Z lifted 2029-03-02T00:00:00Z
 free 7 of 7" "" state ordered
-if command -v sqlite3 > /dev/null; then
+if has sqlite3 "the row of a hold"; then
     compare 0 "H-1|example|21243|1864598400|1867104000" "" "hold" sqlite3 ordered/custody.db 'SELECT * FROM hold'
 fi
 
@@ -439,7 +441,7 @@ part $name 4096 dropped $later
 release R-1 example operator $later 3
 release R-2 example audit 2029-01-01T00:00:00Z 0
 free 7 of 7" "" state parts
-if command -v sqlite3 > /dev/null; then
+if has sqlite3 "damaged rows of a release"; then
     cp -r parts handed
     sqlite3 handed/custody.db "UPDATE handover SET names = 'example_2026-08-05_diff_S1_R0.ryde' || char(10) WHERE reference = 'R-1'"
     expect 3 "" "C5 damaged H7" state handed
@@ -516,13 +518,13 @@ expect 0 "dropped 2" "" purge older --now 2027-08-04T00:00:00Z
 expect 1 "" "Q6 dropped after keeping" fetch older R-1 $name0
 expect 0 "sound 0" "" audit older
 expect 1 "" "Q18 not in release" fetch older R-1 x
-if command -v sqlite3 > /dev/null; then
+if has sqlite3 "a damaged row of a release"; then
     sqlite3 given/custody.db "UPDATE handover SET names = '$name0' || char(10) || 'x' || char(10)"
     expect 3 "" "C5 damaged H7" fetch given R-1 x
 fi
 
 echo "== a vault of before there were incremental deposits and holds"
-if command -v sqlite3 > /dev/null; then
+if has sqlite3 "a vault of before there were incremental deposits and holds"; then
     mkdir before
     (cd before && older_vault)
     notices="       1 RECEIPT    2026-08-02 R00 20260802001   $five example
@@ -588,8 +590,6 @@ free 2 of 7" "" state before/older
     expect 0 "dropped 1" "" purge before/older --now 2027-08-06T00:00:00Z
     expect 0 "received $diff0 583 2026-08-03T10:00:00Z" "" put before/older before/parts/$diff0
     expect 1 "" "Q6 dropped after keeping" put before/older before/parts/${diff0/03/04}
-else
-    skip "no sqlite3: a vault of before there were incremental deposits and holds"
 fi
 
 echo "== the moment of the clock"
@@ -750,9 +750,7 @@ compare 3 "" "" "init" sh -c "'$program' init mute --blocks 8 --number 000000000
 expect 0 "free 7 of 7" "" state mute
 
 echo "== a folder that may not be written"
-if [ "$(id -u)" = 0 ] && ! command -v setpriv > /dev/null; then
-    skip "no setpriv"
-else
+if [ "$(id -u)" != 0 ] || has setpriv "a folder that may not be written"; then
     as=()
     [ "$(id -u)" = 0 ] && as=(setpriv --reuid=65534 --regid=65534 --clear-groups)
     mkdir closed
@@ -800,7 +798,7 @@ free 98 of 99" "" state small
     expect 0 "received example_2026-08-02_full_S3_R0.ryde 5 $ten" "" put small in/example_2026-08-02_full_S3_R0.ryde --now $ten
     umount small
 else
-    skip "no tmpfs can be mounted"
+    skip "a full disk: no tmpfs can be mounted"
 fi
 
 echo "== a sweep of many days"
@@ -815,13 +813,12 @@ check "it got somewhere" test "$lines" -gt 10
 "$program" report swept example > first.all
 check "what was printed is recorded" cmp -s first.out <(head -n "$lines" first.all)
 check "and at most the check that failed" test $(($(wc -l < first.all) - lines)) -le 1
-if command -v script > /dev/null; then
+if has script "a sweep on a terminal"; then
     script -qec "'$program' sweep swept --now $later > rest.out" /dev/null < /dev/null > shown.err
     left=$((2408 - $(wc -l < first.all)))
     check "a terminal is told how far it is" test "$(tr -d '\r' < shown.err)" = "swept 1000 of $left days
 swept 2000 of $left days"
 else
-    skip "no script, so no terminal"
     "$program" sweep swept --now $later > rest.out 2> rest.err
     check "no terminal is told how far it is" test ! -s rest.err
 fi
@@ -839,12 +836,10 @@ for n in $(seq 0 16); do
     check "part $n is received" test -n "$("$program" put wide "long/$part" --now 2026-08-04T12:00:00Z)"
 done
 expect 0 "sound 17" "" audit wide
-if command -v script > /dev/null; then
+if has script "an audit on a terminal"; then
     script -qec "'$program' audit wide > wide.out" /dev/null < /dev/null > shown.err
     check "a terminal is told how far it is" test "$(tr -d '\r' < shown.err)" = "audited 4096 of 4352 blocks"
     check "and the output is as without it" test "$(cat wide.out)" = "sound 17"
-else
-    skip "no script, so no terminal"
 fi
 rm -r wide long
 
@@ -911,7 +906,7 @@ for n in $(seq 1 $((kills / 4))); do
 done
 
 echo "== the database is SQLite's"
-if command -v sqlite3 > /dev/null; then
+if has sqlite3 "what the database holds"; then
     for vault in d whole broken big many k; do
         compare 0 ok "" "integrity of $vault" sqlite3 $vault/custody.db 'PRAGMA integrity_check'
     done
@@ -944,12 +939,10 @@ free 6 of 7" "" state d
 part $name0 5 dropped $ten
 free 7 of 7" "" state altered
     expect 1 "" "Q6 dropped after keeping" put altered in/$name0 --now $ten
-else
-    skip "no sqlite3"
 fi
 
 echo "== hostile rows and images"
-if command -v sqlite3 > /dev/null; then
+if has sqlite3 "hostile rows and images"; then
     # edited SQL [COMMAND..]: a copy of the vault with a deposit that has passed; its database is
     # edited, and then the command is run
     edited() {
@@ -1081,12 +1074,10 @@ free 6 of 7" "" "state: $sql" "$program" state e
         check "every other row is as it was: $sql" cmp -s rows again
         compare 0 "ok" "" "integrity: $sql" sqlite3 e/custody.db 'PRAGMA integrity_check'
     done
-else
-    skip "no sqlite3"
 fi
 
 echo "== commands beside what somebody else has made"
-if command -v sqlite3 > /dev/null; then
+if has sqlite3 "commands beside what somebody else has made"; then
     # the rows of the vault of before, what makes them schema 2, and what somebody else makes
     older=$(older_rows)
     forth="$(grep '^CREATE TABLE hold' "$top/docs/FORMATS.md"); UPDATE meta SET schema_no = 2;"
@@ -1170,16 +1161,13 @@ hold H-4 example 2026-08-04 2027-08-01T00:00:00Z"
         free=5 sound=2
         does "dropped 1" "UPDATE part SET extents = NULL WHERE day = 20668" purge beside --now 2027-08-05T00:00:00Z
     done
-else
-    skip "no sqlite3"
 fi
 
 echo "== vaults that are changed at random"
 if python3 -c "import sqlite3" 2> /dev/null; then
     check "tests/hostile.py" "$top/tests/hostile.py" "$program" --cases 300 --seed "${SEED:-1}" --seconds 300
 else
-    skip "no python3 with sqlite3"
+    skip "vaults that are changed at random: no python3 with sqlite3"
 fi
 
-echo "$passed passed, $failed failed"
-[ $failed = 0 ]
+tell

@@ -211,7 +211,7 @@ failures_by_curl() {
     asks "the rest is sound" "200 OK" "" $url/notices/example
     ended damaged ""
 
-    command -v prlimit > /dev/null || { skip "no prlimit"; return; }
+    has prlimit "a volume that cannot be written" || return
     cp -a plain limited
     trap '' XFSZ
     serve limited 3 --now $five
