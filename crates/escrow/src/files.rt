@@ -118,7 +118,7 @@ fn with_volume<S: Alter + Drop>(
     db: Connection<S>,
 ) -> Result<(FileVolume, Connection<S>), ProgramError>
     ensures failures { IfOk result (λ files. ⟦<FileVolume as Volume>⟧.failures files.0 ≡ 0) }
-    // A volume is made anew only where none of the five tables is there, and nothing else is listed.
+    // A volume is made anew only where none of the six tables is there, and nothing else is listed.
     ensures new { IfOk result (λ files. is_made_anew files.0 ≡ true → has_any (standing S.Store db) ≡ false) }
     ensures bare { IfOk result (λ files. is_made_anew files.0 ≡ true → ListsNothing (state S.Store db)) }
     // So it has no record of one.
