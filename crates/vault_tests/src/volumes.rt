@@ -5,9 +5,11 @@ use std::alloc::Global;
 use std::test::Fail;
 use std::{env, fs, process};
 use vault_volume::{
-    Extent, ExtentMap, FileError, FileVolume, MemVolume, Staged, Vault, Volume, read_head,
-    write_head,
+    BLOCK_BYTES, Extent, ExtentMap, FileError, FileVolume, MemVolume, Staged, Vault, Volume,
+    read_head, write_head,
 };
+
+const BLOCK: usize = BLOCK_BYTES as usize;
 
 const NUMBER: u64 = 0x0123_4567_89AB_CDEF;
 
@@ -41,7 +43,7 @@ fn byte_of(pattern: Pattern, old: &[u8], i: usize) -> u8 {
         Pattern::Ones => return 255,
         Pattern::Written => return b'n',
         Pattern::OldReversed => old.len().saturating_sub(i).saturating_sub(1),
-        Pattern::BlockZero => i % 4096,
+        Pattern::BlockZero => i % BLOCK,
     };
     old.get(at).copied().unwrap_or(0)
 }
@@ -137,7 +139,7 @@ fn prepared(alloc: Global) -> Result<MemVolume, Fail> {
 }
 
 fn restart(volume: &mut MemVolume, fill: &[u8]) {
-    if fill.len() == 4096 * volume.size() as usize {
+    if fill.len() == BLOCK * volume.size() as usize {
         volume.restart(fill);
     }
 }
@@ -323,13 +325,13 @@ fn without_room_each_call_fails(rt: HostRuntime) -> Result<(), Fail> {
     let (volume, first) = keep_from(rt.alloc(), volume, 1, &HELD);
     let (mut volume, second) = keep_from(rt.alloc(), volume, 1, b"xyz");
     assert_eq!(rt; (first, second, volume.failures()), (true, false, 1));
-    let fill = vec![in rt.alloc(); 255u8; 8192]?;
+    let fill = vec![in rt.alloc(); 255u8; 2 * BLOCK]?;
     restart(&mut volume, &fill);
     assert!(rt;
         volume
             .bytes()
             .iter()
-            .skip(4096)
+            .skip(BLOCK)
             .take(3)
             .all(|byte| *byte == 255)
     );
