@@ -1,4 +1,5 @@
 //! A response that is cut after each number of its bytes, each time by a new vault.
+use crate::BLOCKS;
 use crate::beside::Plain;
 use crate::example::play;
 use crate::fault::ScriptFault;
@@ -11,9 +12,6 @@ use sqlite::{Alter, Connection};
 use std::alloc::Global;
 use std::io::Write;
 use vault_volume::{MemVolume, Volume};
-
-/// How many blocks the volume of each vault has.
-const BLOCKS: u32 = 8;
 
 /// A request, and the lines that are played before it.
 #[derive(Clone, Copy)]
