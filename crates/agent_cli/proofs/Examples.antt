@@ -8,7 +8,7 @@ use Rattle.deposit_name.specs.declared.kinds.Kind.TheVariants.{Full, Incr}
 use Rattle.deposit_name.proofs.IdentifierLemmas.{is_tld-IsTld, is_deposit_id-IsDepositId, is_reference-IsReference}
 use Rattle.desk.specs.declared.grounds.Ground.TheVariants.{Operator}
 use Rattle.answer_lines.proofs.NumberLemmas.{number_one}
-use Rattle.agent_cli.specs.Order.{Asks}
+use Rattle.agent_cli.specs.Order.{ReadsWords}
 use Rattle.agent_cli.specs.Examples.{WordsGiveOrders}
 
 example_is_tld : IsTld (codes "example")
@@ -24,7 +24,7 @@ h_1_is_reference : IsReference (codes "H-1")
 h_1_is_reference = (is_reference-IsReference (codes "H-1")).0 refl
 
 pub words_give_orders : WordsGiveOrders
-unfolding Asks date_of flags_fault walk_fault defaults_fault bundle_met walked
+unfolding ReadsWords date_of flags_fault walk_fault defaults_fault bundle_met walked
 words_give_orders = record {
   of_init = inl (1, (omega arith, sym number_one), refl);
   of_register = inl (codes "example", (refl, example_is_tld), inl (20_667, (omega arith, refl), refl));

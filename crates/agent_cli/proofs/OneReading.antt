@@ -10,18 +10,18 @@ use Rattle.clap.specs.Walk.{is_empty}
 use Rattle.deposit_name.proofs.NameLemmas.{kind_text-injective}
 use Rattle.agent_cli.specs.Grammar.{escrow_app}
 use Rattle.agent_cli.specs.Forms.{ShowsMoment}
-use Rattle.agent_cli.specs.Order.{Asks, AuditReading, FetchReading, HoldReading, InitReading, IsOneReading, LiftReading, MetReading, NamedReading, PurgeReading, PutReading, ReadsValue, Reading, RegisterReading, ReleaseReading, ReportReading, ServeReading, StateReading, SweepReading, VerifyReading, named, refused}
-use Rattle.agent_cli.specs.declared.table.Subcommand.{Subcommand}
-use Rattle.agent_cli.specs.declared.table.Subcommand.TheVariants as subcommand
+use Rattle.agent_cli.specs.Order.{ReadsWords, AuditReading, FetchReading, HoldReading, InitReading, IsOneReading, LiftReading, MatchesReading, SubcommandReading, PurgeReading, PutReading, ReadsValue, WordsReading, RegisterReading, ReleaseReading, ReportReading, ServeReading, StateReading, SweepReading, VerifyReading, subcommand_named, no_order}
+use Rattle.agent_cli.specs.declared.subcommands.Subcommand.{Subcommand}
+use Rattle.agent_cli.specs.declared.subcommands.Subcommand.TheVariants as subcommand
 use Rattle.agent_cli.specs.declared.order.Argument.{Argument}
 use Rattle.agent_cli.proofs.FormLemmas.{if_given_one}
 use Rattle.answer_lines.proofs.NumberLemmas.{digits_of-injective}
 use Rattle.schedule.proofs.TextLemmas.{day_text-injective, moment_text-injective}
 
-abbrev IsOne : (Reading → Type 0) → Type 0
-IsOne Reads = (r s : Reading) → Reads r → Reads s → r ≡ s
+abbrev IsOne : (WordsReading → Type 0) → Type 0
+IsOne Reads = (r s : WordsReading) → Reads r → Reads s → r ≡ s
 
-value_one : {X : Type 0} (a : Argument) (Shows : X → Type 0) (Next : X → Reading → Type 0)
+value_one : {X : Type 0} (a : Argument) (Shows : X → Type 0) (Next : X → WordsReading → Type 0)
     → ((x y : X) → Shows x → Shows y → x ≡ y) → ((x : X) → IsOne (Next x)) → IsOne (ReadsValue a Shows Next)
 value_one a Shows Next one next r s (inl p) (inl q) =
     next q.0 r s (subst (λ x. Next x r) (one p.0 q.0 p.1 q.1) p.2) q.2
@@ -95,14 +95,14 @@ serve_one : (rows : List Row) → IsOne (ServeReading rows)
 serve_one rows =
     value_one _ _ _ (if_given_one ShowsMoment (λ t x y h k. moment_text-injective x y h.0 k.0 (sym h.1 ∙ k.1)) _) (λ x r s h k. h ∙ sym k)
 
-either_one : (b : Bool) (P Q : Reading → Type 0) → IsOne P → IsOne Q → IsOne (λ r. MatchBool b (P r) (Q r))
+either_one : (b : Bool) (P Q : WordsReading → Type 0) → IsOne P → IsOne Q → IsOne (λ r. MatchBool b (P r) (Q r))
 either_one true P Q p q = p
 either_one false P Q p q = q
 
-refused_one : IsOne (λ r. r ≡ refused)
+refused_one : IsOne (λ r. r ≡ no_order)
 refused_one r s h k = h ∙ sym k
 
-named_one : (subcommand : Option Subcommand) (rows : List Row) → IsOne (NamedReading subcommand rows)
+named_one : (subcommand : Option Subcommand) (rows : List Row) → IsOne (SubcommandReading subcommand rows)
 named_one None rows = refused_one
 named_one (Some subcommand.Init) rows = init_one rows
 named_one (Some subcommand.Register) rows = register_one rows
@@ -119,11 +119,11 @@ named_one (Some subcommand.State) rows = state_one rows
 named_one (Some subcommand.Audit) rows = audit_one rows
 named_one (Some subcommand.Serve) rows = serve_one rows
 
-met_one : (met : Option (Text × List Row)) → IsOne (MetReading met)
+met_one : (met : Option (Text × List Row)) → IsOne (MatchesReading met)
 met_one None = refused_one
-met_one (Some p) = named_one (named p.0) p.1
+met_one (Some p) = named_one (subcommand_named p.0) p.1
 
 pub asks_one : IsOneReading
-unfolding Asks
+unfolding ReadsWords
 asks_one words =
-    either_one (is_empty (fault_of escrow_app words)) (MetReading (subcommand_of escrow_app words)) _ (met_one (subcommand_of escrow_app words)) refused_one
+    either_one (is_empty (fault_of escrow_app words)) (MatchesReading (subcommand_of escrow_app words)) _ (met_one (subcommand_of escrow_app words)) refused_one

@@ -22,7 +22,7 @@ use Rattle.clap.proofs.ValueTestLemmas.{accepts-Accepts, Accepts-accepts}
 use Rattle.agent_cli.specs.Grammar.{escrow_app}
 use Rattle.agent_cli.proofs.HelpLemmas.{IsNotHelp, first_empty, other_way, walk_none}
 use Rattle.agent_cli.specs.Forms.{count_in_text, count_of}
-use Rattle.agent_cli.specs.Order.{Answers, Asks, IsFaultFrom, NamedReading, Reading, bad, named, refused}
+use Rattle.agent_cli.specs.Order.{AnswersReading, ReadsWords, IsFaultFrom, SubcommandReading, WordsReading, bad_argument, subcommand_named, no_order}
 use Rattle.agent_cli.specs.declared.order.Argument.{Argument}
 use Rattle.agent_cli.specs.declared.order.Order.{Order}
 use Rattle.agent_cli.specs.declared.order.WordFault.{WordFault}
@@ -90,22 +90,22 @@ among_some : (k : ErrorKind) (xs : Kinds) → IsAmong k xs → is_empty xs ≡ f
 among_some k [] h = absurd h
 among_some k (x ∷ xs) h = ne_eqb (length (x ∷ xs)) 0 (λ e. omega (arith, e))
 
-pub refused_by : (words : List Text) → is_empty (fault_of escrow_app words) ≡ false → Asks words refused
-unfolding Asks
+pub refused_by : (words : List Text) → is_empty (fault_of escrow_app words) ≡ false → ReadsWords words no_order
+unfolding ReadsWords
 refused_by words e = rw e refl
 
 -- an error of clap is an answer, where it has a kind that the words call for
-pub fault_answers : (words : List Text) (e : Error) (w : WordFault) → IsFaultFrom e w → HasKind (fault_of escrow_app words) e → Answers (Asks words) (Err w)
+pub fault_answers : (words : List Text) (e : Error) (w : WordFault) → IsFaultFrom e w → HasKind (fault_of escrow_app words) e → AnswersReading (ReadsWords words) (Err w)
 fault_answers words e (fault.Words f) h (inl no_memory) = absurd (h.1 no_memory)
 fault_answers words e (fault.Words f) h (inr among) = refused_by words (among_some (kind_of e) _ among)
 fault_answers words e (fault.Bad a) h k = absurd h
 fault_answers words e fault.NoMemory h k = tt
 
 -- an argument out of form is an answer
-pub bad_answers : (Reads : Reading → Type 0) (a : Argument) (e : WordFault) → e ≡ fault.Bad a → (r : Result Order WordFault) → IsErrAnd r (λ y. y ≡ e)
-    → Reads (bad a) → Answers Reads r
+pub bad_answers : (Reads : WordsReading → Type 0) (a : Argument) (e : WordFault) → e ≡ fault.Bad a → (r : Result Order WordFault) → IsErrAnd r (λ y. y ≡ e)
+    → Reads (bad_argument a) → AnswersReading Reads r
 bad_answers Reads a e is (Ok o) h reads = absurd h
-bad_answers Reads a e is (Err x) h reads = subst (λ (y : WordFault). Answers Reads (Err y)) (sym (h ∙ is)) reads
+bad_answers Reads a e is (Err x) h reads = subst (λ (y : WordFault). AnswersReading Reads (Err y)) (sym (h ∙ is)) reads
 
 -- ---- a subcommand
 
@@ -122,24 +122,24 @@ found_passes : {X : Type 0} (p q : X → Bool) (xs : List X) → list_all (λ x.
 found_passes p q [] h = tt
 found_passes p q (x ∷ xs) h = at_test q x (find p xs) (p x) (both _ _ h).0 (found_passes p q xs (both _ _ h).1)
 
-shape_named : (o : Option Shape) (words : List Text) → IfSome o (λ s. is_some (named s.name) ≡ true)
-    → IfSome (option_map (λ s. rows_at s words) o) (λ p. is_some (named p.0) ≡ true)
+shape_named : (o : Option Shape) (words : List Text) → IfSome o (λ s. is_some (subcommand_named s.name) ≡ true)
+    → IfSome (option_map (λ s. rows_at s words) o) (λ p. is_some (subcommand_named p.0) ≡ true)
 shape_named None words h = tt
 shape_named (Some s) words h = h
 
 -- words that pass name a subcommand of the table: `help`, which is none, is told as help
-pub knows_subcommand : (words : List Text) → fault_of escrow_app words ≡ [] → IfSome (subcommand_of escrow_app words) (λ p. is_some (named p.0) ≡ true)
+pub knows_subcommand : (words : List Text) → fault_of escrow_app words ≡ [] → IfSome (subcommand_of escrow_app words) (λ p. is_some (subcommand_named p.0) ≡ true)
 knows_subcommand words none =
     let rest = argument_words escrow_app words in
     go (stop_after (built escrow_app).top.rules (names_of (built escrow_app)) rest)
     (walk_none (built escrow_app).top (names_of (built escrow_app)) refl rest (walk_from nothing_held) tt (first_empty _ _ none))
   where
-    go : (stop : Option (Text × List Text)) → IsNotHelp stop → IfSome (entered (built escrow_app) stop) (λ p. is_some (named p.0) ≡ true)
+    go : (stop : Option (Text × List Text)) → IsNotHelp stop → IfSome (entered (built escrow_app) stop) (λ p. is_some (subcommand_named p.0) ≡ true)
     go None other = tt
     go (Some p) other =
         let test : Shape → Bool = λ s. answers_to p.0 (label_of s) in
         let help = other_way p.0 other in
-        shape_named (find test (built escrow_app).subs) p.1 (found_passes test (λ s. is_some (named s.name)) (built escrow_app).subs (rw help refl))
+        shape_named (find test (built escrow_app).subs) p.1 (found_passes test (λ s. is_some (subcommand_named s.name)) (built escrow_app).subs (rw help refl))
 
 pair_of : {X : Type 0} (h : X → Text × List Row) (s : Option X) (name : Text) (rows : List Row) → Some name ≡ option_map (λ b. (h b).0) s
     → Some rows ≡ option_map {T = Text × List Row} (λ p. p.1) (option_map h s) → option_map h s ≡ Some (name, rows)
@@ -155,13 +155,13 @@ pub met_rows : (m : ArgMatches) (name : Text) (rows : List Row) → Some name �
 met_rows m name rows e1 e2 = pair_of _ _ name rows e1 e2
 
 -- a result that is as its reading allows is as another does that allows no less
-pub answers_as : (P Q : Reading → Type 0) → ((r : Reading) → P r → Q r) → (r : Result Order WordFault) → Answers P r → Answers Q r
+pub answers_as : (P Q : WordsReading → Type 0) → ((r : WordsReading) → P r → Q r) → (r : Result Order WordFault) → AnswersReading P r → AnswersReading Q r
 answers_as P Q sub (Ok o) h = sub _ h
 answers_as P Q sub (Err (fault.Bad a)) h = sub _ h
 answers_as P Q sub (Err (fault.Words e)) h = sub _ h
 answers_as P Q sub (Err fault.NoMemory) h = tt
 
 pub met_asks : (words : List Text) (name : Text) (rows : List Row) → fault_of escrow_app words ≡ []
-    → subcommand_of escrow_app words ≡ Some (name, rows) → (r : Reading) → NamedReading (named name) rows r → Asks words r
-unfolding Asks
+    → subcommand_of escrow_app words ≡ Some (name, rows) → (r : WordsReading) → SubcommandReading (subcommand_named name) rows r → ReadsWords words r
+unfolding ReadsWords
 met_asks words name rows none met r h = rw (none, met) h

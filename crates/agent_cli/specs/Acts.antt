@@ -1,5 +1,23 @@
 -- What an order does to an agent.
-use Rattle.std.specs.Prelude.{◌≡◌, ◌≢◌, ◌⊎◌, ◌==◌, ◌-◌, ℕ, List, [], ◌∷◌, Option, None, Result, Ok, Err, is_some, true, false}
+use Rattle.std.specs.Prelude.{
+  ◌≡◌,
+  ◌≢◌,
+  ◌⊎◌,
+  ◌==◌,
+  ◌-◌,
+  ℕ,
+  List,
+  [],
+  ◌∷◌,
+  Option,
+  None,
+  Result,
+  Ok,
+  Err,
+  is_some,
+  true,
+  false,
+}
 use Rattle.std.specs.FinMap.{get}
 use Rattle.std.specs.Io.KnownBytes.{Appends}
 use Rattle.std.specs.List.{after_last}
@@ -7,16 +25,26 @@ use Rattle.vault_volume.specs.declared.volume.Volume as volume
 use Rattle.deposit_name.specs.Name.{Name}
 use Rattle.sqlite.specs.Store.{Ghosts}
 use Rattle.custody_records.specs.Records.{Records}
-use Rattle.custody_machine.specs.Machine.{Command, Register, Receive, Statement, Check, Release, Hold, Lift, Purge}
-use Rattle.custody_machine.specs.declared.answers.Fault.{Fault}
-use Rattle.custody_machine.specs.declared.answers.Fault.TheVariants.{NoMemory, Closed}
+use Rattle.custody_machine.specs.Machine.{
+  Command,
+  Register,
+  Receive,
+  Statement,
+  Check,
+  Release,
+  Hold,
+  Lift,
+  Purge,
+}
+use Rattle.custody_machine.specs.declared.answers.Failure.{Failure}
+use Rattle.custody_machine.specs.declared.answers.Failure.TheVariants.{NoMemory, Closed}
 use Rattle.custody_machine.specs.declared.answers.Refusal.TheVariants.{RegistryUnknown}
-use Rattle.custody_machine.specs.Texts.{fault_text, refusal_text}
-use Rattle.custody_rules.specs.Due.{due_in}
-use Rattle.custody.specs.Custody.{HasApplied, keeper_of, is_open}
-use Rattle.custody.specs.Audited.{HasAudited}
-use Rattle.custody.specs.Fetched.{HasFetched}
-use Rattle.custody.specs.Keeper.{recorded}
+use Rattle.custody_machine.specs.Texts.{failure_text, refusal_text}
+use Rattle.custody_rules.specs.DueDays.{due_days}
+use Rattle.custody.specs.Custody.{HasApplied, open_custody_of, is_open}
+use Rattle.custody.specs.Auditing.{HasAudited}
+use Rattle.custody.specs.Fetching.{HasFetched}
+use Rattle.custody.specs.OpenCustody.{current_records}
 use Rattle.custody.specs.Opening.{free_blocks}
 use Rattle.custody.specs.declared.custody.Custody.{Custody}
 use Rattle.custody.specs.Answers.{init_error_text}
@@ -24,64 +52,71 @@ use Rattle.custody.specs.declared.answers.InitError.TheVariants.{AlreadyInitiali
 use Rattle.custody.specs.declared.answers.Reply.{Reply}
 use Rattle.custody.specs.declared.answers.Refused.{Refused}
 use Rattle.custody.specs.declared.answers.Refused.TheVariants as refused
-use Rattle.answer_lines.specs.Audited.{audit_status, audit_text}
-use Rattle.answer_lines.specs.Printed.{Begins, IsPrinted, IsUnused, Takes, Writer, as_line}
-use Rattle.answer_lines.specs.State.{report_text, state_text}
-use Rattle.answer_lines.specs.Statuses.{IsStatus, IsStatusAfter, answer_status}
+use Rattle.answer_lines.specs.Auditing.{audit_status, audit_text}
+use Rattle.answer_lines.specs.Printing.{
+  WritesBeginning,
+  IsAnswerPrinted,
+  IsUnused,
+  WritesWholeAt,
+  Writer,
+  as_line,
+}
+use Rattle.answer_lines.specs.State.{registry_report_text, state_text}
+use Rattle.answer_lines.specs.Statuses.{IsExitStatus, IsStatusAfter, answer_status}
 use Rattle.agent_cli.specs.declared.order.Order.{Order}
 use Rattle.agent_cli.specs.declared.order.Order.TheVariants as order
 
 -- the name that a path has
-abbrev pub name_in : List ℕ → List ℕ
-name_in path = after_last (λ b. b == 47) path
+abbrev pub file_name : List ℕ → List ℕ
+file_name path = after_last (λ b. b == 47) path
 
 -- Bytes go to the output as they are, and the line of a refusal or of a failure to the errors: with status 0 the first stand there whole, with status 1 the second, and whatever the status a beginning of them.
-abbrev pub IsGiven : Result (List ℕ) Refused → ℕ → Writer → Writer → Type 0
-IsGiven (Ok bytes) status output errors = Takes output bytes 0 status × IsUnused errors
-IsGiven (Err (refused.Refusal why)) status output errors = Takes errors (as_line (refusal_text why)) 1 status × IsUnused output
-IsGiven (Err (refused.Fault why)) status output errors = Begins errors (as_line (fault_text why)) × IsUnused output
+abbrev pub IsFetchPrinted : Result (List ℕ) Refused → ℕ → Writer → Writer → Type 0
+IsFetchPrinted (Ok bytes) status output errors = WritesWholeAt output bytes 0 status × IsUnused errors
+IsFetchPrinted (Err (refused.Refusal why)) status output errors = WritesWholeAt errors (as_line (refusal_text why)) 1 status × IsUnused output
+IsFetchPrinted (Err (refused.Failure why)) status output errors = WritesBeginning errors (as_line (failure_text why)) × IsUnused output
 
 -- What an audit has found goes to the output: the parts that are damaged, with status 1, or how many are held, with status 0, and whatever the status a beginning of it. The line of a failure goes to the errors.
-abbrev pub IsFound : Records → Result (List Name) Fault → ℕ → Writer → Writer → Type 0
-IsFound records (Ok damaged) status output errors =
-    IsStatusAfter (audit_status damaged) status × Takes output (audit_text damaged records) (audit_status damaged) status × IsUnused errors
-IsFound records (Err why) status output errors = (status ≡ 3) × Begins errors (as_line (fault_text why)) × IsUnused output
+abbrev pub IsAuditPrinted : Records → Result (List Name) Failure → ℕ → Writer → Writer → Type 0
+IsAuditPrinted records (Ok damaged) status output errors =
+    IsStatusAfter (audit_status damaged) status × WritesWholeAt output (audit_text damaged records) (audit_status damaged) status × IsUnused errors
+IsAuditPrinted records (Err why) status output errors = (status ≡ 3) × WritesBeginning errors (as_line (failure_text why)) × IsUnused output
 
 module _ {V S : Type 0} {g : volume.Ghosts V} {database : Ghosts S} where
   -- the agent is given one command, whose answer is told
   abbrev pub Applies : Custody V S g database → Command → ℕ → Custody V S g database → ℕ → Writer → Writer → Type 0
   Applies old command now new status output errors =
-      (answer : Result Reply Refused) × HasApplied old command now answer new × IsStatusAfter (answer_status answer) status × IsPrinted answer status output errors
+      (answer : Result Reply Refused) × HasApplied old command now answer new × IsStatusAfter (answer_status answer) status × IsAnswerPrinted answer status output errors
 
   -- a part is fetched, and its bytes are all that the output is given
   abbrev pub Fetches : Custody V S g database → (reference name : List ℕ) → Custody V S g database → ℕ → Writer → Writer → Type 0
   Fetches old reference name new status output errors =
-      (answer : Result (List ℕ) Refused) × HasFetched old reference name answer new × IsStatusAfter (answer_status answer) status × IsGiven answer status output errors
+      (answer : Result (List ℕ) Refused) × HasFetched old reference name answer new × IsStatusAfter (answer_status answer) status × IsFetchPrinted answer status output errors
 
   -- it is audited, and what was found is all that is printed
   abbrev pub Audits : Custody V S g database → Custody V S g database → ℕ → Writer → Writer → Type 0
-  Audits old new status output errors = (answer : Result (List Name) Fault) × HasAudited old answer new × IsFound (recorded (keeper_of old)) answer status output errors
+  Audits old new status output errors = (answer : Result (List Name) Failure) × HasAudited old answer new × IsAuditPrinted (current_records (open_custody_of old)) answer status output errors
 
   -- what is printed of the records and the free blocks
-  abbrev pub state_of : Custody V S g database → List ℕ
-  state_of custody = as_line (state_text (recorded (keeper_of custody)) (free_blocks (recorded (keeper_of custody))) ((recorded (keeper_of custody)).blocks - 1))
+  abbrev pub printed_state : Custody V S g database → List ℕ
+  printed_state custody = as_line (state_text (current_records (open_custody_of custody)) (free_blocks (current_records (open_custody_of custody))) ((current_records (open_custody_of custody)).blocks - 1))
 
   -- an open agent prints its records and its free blocks, and one that is closed nothing of them
   pub record PrintsState (custody : Custody V S g database) (status : ℕ) (output errors : Writer) : Type 0 where
-    pub shown : status ≡ 0 → (is_open custody ≡ true) × Appends output.before output.after (state_of custody)
+    pub shown : status ≡ 0 → (is_open custody ≡ true) × Appends output.before output.after (printed_state custody)
     -- whatever the status, what is printed is a beginning of it
-    pub begun : is_open custody ≡ true → Begins output (state_of custody)
+    pub begun : is_open custody ≡ true → WritesBeginning output (printed_state custody)
     pub while_open : is_open custody ≡ true → IsStatusAfter 0 status × IsUnused errors
-    pub while_closed : is_open custody ≡ false → (status ≡ 3) × Begins errors (as_line (fault_text Closed)) × IsUnused output
+    pub while_closed : is_open custody ≡ false → (status ≡ 3) × WritesBeginning errors (as_line (failure_text Closed)) × IsUnused output
 
   -- an open agent prints the report of a registry that is known, and refuses any other
-  pub record Reports (custody : Custody V S g database) (tld : List ℕ) (status : ℕ) (output errors : Writer) : Type 0 where
-    pub shown : status ≡ 0 → (is_open custody ≡ true) × (is_some (get (recorded (keeper_of custody)).registries tld) ≡ true) × Appends output.before output.after (report_text (recorded (keeper_of custody)) tld)
+  pub record PrintsReport (custody : Custody V S g database) (tld : List ℕ) (status : ℕ) (output errors : Writer) : Type 0 where
+    pub shown : status ≡ 0 → (is_open custody ≡ true) × (is_some (get (current_records (open_custody_of custody)).registries tld) ≡ true) × Appends output.before output.after (registry_report_text (current_records (open_custody_of custody)) tld)
     -- whatever the status, what is printed of a registry that is known is a beginning of its report
-    pub begun : is_open custody ≡ true → is_some (get (recorded (keeper_of custody)).registries tld) ≡ true → Begins output (report_text (recorded (keeper_of custody)) tld)
-    pub known : is_open custody ≡ true → is_some (get (recorded (keeper_of custody)).registries tld) ≡ true → IsStatusAfter 0 status × IsUnused errors
-    pub unknown : is_open custody ≡ true → get (recorded (keeper_of custody)).registries tld ≡ None → IsStatusAfter 1 status × Takes errors (as_line (refusal_text RegistryUnknown)) 1 status × IsUnused output
-    pub while_closed : is_open custody ≡ false → (status ≡ 3) × Begins errors (as_line (fault_text Closed)) × IsUnused output
+    pub begun : is_open custody ≡ true → is_some (get (current_records (open_custody_of custody)).registries tld) ≡ true → WritesBeginning output (registry_report_text (current_records (open_custody_of custody)) tld)
+    pub known : is_open custody ≡ true → is_some (get (current_records (open_custody_of custody)).registries tld) ≡ true → IsStatusAfter 0 status × IsUnused errors
+    pub unknown : is_open custody ≡ true → get (current_records (open_custody_of custody)).registries tld ≡ None → IsStatusAfter 1 status × WritesWholeAt errors (as_line (refusal_text RegistryUnknown)) 1 status × IsUnused output
+    pub while_closed : is_open custody ≡ false → (status ≡ 3) × WritesBeginning errors (as_line (failure_text Closed)) × IsUnused output
 
   -- each of these days is checked in its turn, and the answer is told; the first that is not done ends it
   abbrev pub IsSwept : List (List ℕ × ℕ) → Custody V S g database → ℕ → Custody V S g database → ℕ → Writer → Writer → Type 0
@@ -94,23 +129,23 @@ module _ {V S : Type 0} {g : volume.Ghosts V} {database : Ghosts S} where
 
   -- an open agent is swept for the days that are due by its records, or there is no memory for them
   pub record Sweeps (old : Custody V S g database) (now : ℕ) (new : Custody V S g database) (status : ℕ) (output errors : Writer) : Type 0 where
-    pub swept : is_open old ≡ true → IsSwept (due_in (recorded (keeper_of old)) now) old now new status output errors ⊎ ((new ≡ old) × (status ≡ 3) × Begins errors (as_line (fault_text NoMemory)) × IsUnused output)
-    pub while_closed : is_open old ≡ false → (new ≡ old) × (status ≡ 3) × Begins errors (as_line (fault_text Closed)) × IsUnused output
+    pub swept : is_open old ≡ true → IsSwept (due_days (current_records (open_custody_of old)) now) old now new status output errors ⊎ ((new ≡ old) × (status ≡ 3) × WritesBeginning errors (as_line (failure_text NoMemory)) × IsUnused output)
+    pub while_closed : is_open old ≡ false → (new ≡ old) × (status ≡ 3) × WritesBeginning errors (as_line (failure_text Closed)) × IsUnused output
 
   -- `register`, `put`, `verify`, `purge`, `hold`, `lift` and `release` give it their command, `sweep` its checks, `fetch` and `audit` read, and no other order changes it
   abbrev pub Acts : Order → List ℕ → ℕ → Custody V S g database → Custody V S g database → ℕ → Writer → Writer → Type 0
   Acts (order.Init folder blocks number) bytes now old new status output errors =
-      (new ≡ old) × IsStatusAfter 1 status × Takes errors (as_line (init_error_text AlreadyInitialised)) 1 status × IsUnused output
+      (new ≡ old) × IsStatusAfter 1 status × WritesWholeAt errors (as_line (init_error_text AlreadyInitialised)) 1 status × IsUnused output
   Acts (order.Register folder tld first) bytes now old new status output errors = Applies old (Register tld first) now new status output errors
-  Acts (order.Put folder file at) bytes now old new status output errors = Applies old (Receive (name_in file.now) bytes) now new status output errors
+  Acts (order.Put folder file at) bytes now old new status output errors = Applies old (Receive (file_name file.now) bytes) now new status output errors
   Acts (order.Verify folder statement at) bytes now old new status output errors = Applies old (Statement statement) now new status output errors
-  Acts (order.Sweep folder at) bytes now old new status output errors = IsStatus status × Sweeps old now new status output errors
+  Acts (order.Sweep folder at) bytes now old new status output errors = IsExitStatus status × Sweeps old now new status output errors
   Acts (order.Purge folder at) bytes now old new status output errors = Applies old Purge now new status output errors
   Acts (order.Hold folder reference tld day at) bytes now old new status output errors = Applies old (Hold reference tld day) now new status output errors
   Acts (order.Lift folder reference at) bytes now old new status output errors = Applies old (Lift reference) now new status output errors
   Acts (order.Release folder reference tld reason at) bytes now old new status output errors = Applies old (Release reference tld reason) now new status output errors
-  Acts (order.Fetch folder reference name) bytes now old new status output errors = IsStatus status × Fetches old reference name.now new status output errors
-  Acts (order.Report folder tld) bytes now old new status output errors = (new ≡ old) × IsStatus status × Reports old tld status output errors
-  Acts (order.State folder) bytes now old new status output errors = (new ≡ old) × IsStatus status × PrintsState old status output errors
-  Acts (order.Audit folder) bytes now old new status output errors = IsStatus status × Audits old new status output errors
+  Acts (order.Fetch folder reference name) bytes now old new status output errors = IsExitStatus status × Fetches old reference name.now new status output errors
+  Acts (order.Report folder tld) bytes now old new status output errors = (new ≡ old) × IsExitStatus status × PrintsReport old tld status output errors
+  Acts (order.State folder) bytes now old new status output errors = (new ≡ old) × IsExitStatus status × PrintsState old status output errors
+  Acts (order.Audit folder) bytes now old new status output errors = IsExitStatus status × Audits old new status output errors
   Acts (order.Serve folder port requests at) bytes now old new status output errors = (new ≡ old) × (status ≡ 0) × IsUnused output × IsUnused errors

@@ -1,12 +1,37 @@
 -- Faults of words: the names of arguments, the texts, and exit statuses.
-use Rattle.std.specs.Prelude.{◌≡◌, ℕ, Bool, true, false, if◌then◌else◌, List, [], ◌∷◌, ◌++◌, Option, None, Some, codes}
+use Rattle.std.specs.Prelude.{
+  ◌≡◌,
+  ℕ,
+  Bool,
+  true,
+  false,
+  if◌then◌else◌,
+  List,
+  [],
+  ◌∷◌,
+  ◌++◌,
+  Option,
+  None,
+  Some,
+  codes,
+}
 use Rattle.clap.specs.Words.{kind_of}
 use Rattle.clap.specs.declared.error.ErrorKind.{ErrorKind}
 use Rattle.clap.specs.declared.error.ErrorKind.TheVariants.{DisplayHelp, DisplayVersion}
 use Rattle.custody_machine.specs.Texts as machine
-use Rattle.custody_machine.specs.declared.answers.Fault.TheVariants.{NoMemory}
+use Rattle.custody_machine.specs.declared.answers.Failure.TheVariants.{NoMemory}
 use Rattle.agent_cli.specs.declared.order.Argument.{Argument}
-use Rattle.agent_cli.specs.declared.order.Argument.TheVariants.{Tld, Date, First, Kind, Id, Reference, Ground, Number, Now}
+use Rattle.agent_cli.specs.declared.order.Argument.TheVariants.{
+  Tld,
+  Date,
+  First,
+  Kind,
+  Id,
+  Reference,
+  Ground,
+  Number,
+  Now,
+}
 use Rattle.agent_cli.specs.declared.order.WordFault.{WordFault}
 use Rattle.agent_cli.specs.declared.order.WordFault.TheVariants as fault
 
@@ -22,10 +47,10 @@ argument_text Number = codes "NUMBER"
 argument_text Now = codes "NOW"
 
 -- the text of a fault with its last line feed, which for words that `clap` does not take is that of `clap`
-abbrev pub fault_text : WordFault → Option (List ℕ)
-fault_text (fault.Words e) = None
-fault_text (fault.Bad a) = Some (codes "bad value for " ++ argument_text a ++ 10 ∷ [])
-fault_text fault.NoMemory = Some (machine.fault_text NoMemory ++ 10 ∷ [])
+abbrev pub word_fault_text : WordFault → Option (List ℕ)
+word_fault_text (fault.Words e) = None
+word_fault_text (fault.Bad a) = Some (codes "bad value for " ++ argument_text a ++ 10 ∷ [])
+word_fault_text fault.NoMemory = Some (machine.failure_text NoMemory ++ 10 ∷ [])
 
 -- help or the version is asked for, which is no mistake
 abbrev pub is_question : ErrorKind → Bool

@@ -1,13 +1,53 @@
 -- The command `escrow`, as clap's builders make it. Help and the names of values are no part of it.
-use Rattle.std.specs.Prelude.{ℕ, Bool, true, false, List, [], ◌∷◌, Some, unwrap_or, codes, fold, map, pos}
+use Rattle.std.specs.Prelude.{
+  ℕ,
+  Bool,
+  true,
+  false,
+  List,
+  [],
+  ◌∷◌,
+  Some,
+  unwrap_or,
+  codes,
+  fold,
+  map,
+  pos,
+}
 use Rattle.std.specs.Str.{bytes_eq}
-use Rattle.clap.specs.Words.{App, Row, Rule, Shape, Text, first_of, new_app, new_rule, with_rule, with_subcommand}
+use Rattle.clap.specs.Words.{
+  App,
+  Row,
+  Rule,
+  Shape,
+  Text,
+  first_of,
+  new_app,
+  new_rule,
+  with_rule,
+  with_subcommand,
+}
 use Rattle.clap.specs.declared.builder.ValueParser.TheVariants.{Signed}
-use Rattle.agent_cli.specs.declared.table.Form.{Form}
-use Rattle.agent_cli.specs.declared.table.Form.TheVariants.{Place, Option, Count}
-use Rattle.agent_cli.specs.declared.table.Subcommand.{Subcommand}
-use Rattle.agent_cli.specs.declared.table.Subcommand.TheVariants.{Init, Register, Put, Verify, Sweep, Purge, Hold, Lift, Release, Fetch, Report, State, Audit, Serve}
-use Rattle.agent_cli.specs.declared.table.Word.{Word}
+use Rattle.agent_cli.specs.declared.subcommands.WordForm.{WordForm}
+use Rattle.agent_cli.specs.declared.subcommands.WordForm.TheVariants.{Place, Option, Count}
+use Rattle.agent_cli.specs.declared.subcommands.Subcommand.{Subcommand}
+use Rattle.agent_cli.specs.declared.subcommands.Subcommand.TheVariants.{
+  Init,
+  Register,
+  Put,
+  Verify,
+  Sweep,
+  Purge,
+  Hold,
+  Lift,
+  Release,
+  Fetch,
+  Report,
+  State,
+  Audit,
+  Serve,
+}
+use Rattle.agent_cli.specs.declared.subcommands.Word.{Word}
 use Rattle.vault_volume.specs.Limits.{fewest_blocks, most_blocks}
 
 -- a positional argument, which has to be there
@@ -26,7 +66,7 @@ count_rule id least most = record (option_rule id true) { parser = Some (Signed 
 abbrev pub rule_in : Word → Rule
 rule_in word = by word.form
   where
-    by : Form → Rule
+    by : WordForm → Rule
     by Place = positional_rule word.id.now
     by (Option value required) = option_rule word.id.now required
     by (Count least most) = count_rule word.id.now least most
@@ -98,5 +138,5 @@ abbrev pub escrow_app : App
 escrow_app = fold with_subcommand bare_app (map shape subcommands)
 
 -- the first value of an argument, and the empty text where it has none
-abbrev pub text_of : Text → List Row → Text
-text_of id rows = unwrap_or (first_of id rows) []
+abbrev pub text_in : Text → List Row → Text
+text_in id rows = unwrap_or (first_of id rows) []

@@ -1,15 +1,15 @@
 //! What an order does to the agent of a folder.
 ghost use Rattle.std.specs.Prelude.{◌≡◌};
-ghost use Rattle.answer_lines.specs.Statuses.{IsStatus};
-ghost use Rattle.agent_cli.specs.Acts.{Acts, Audits, Fetches, PrintsState, Reports};
+ghost use Rattle.answer_lines.specs.Statuses.{IsExitStatus};
+ghost use Rattle.agent_cli.specs.Acts.{Acts, Audits, Fetches, PrintsState, PrintsReport};
 
 use crate::sweeping::sweep;
-use crate::{Order, last_part};
+use crate::{Order, file_name};
 use answer_lines::{
     print_audit, print_bytes, print_report, print_state, tell, tell_answer, tell_init, tell_refusal,
 };
 use custody::{Custody, InitError, Progress, Refused};
-use custody_machine::{Command, Refusal, Status};
+use custody_machine::{Command, ExitStatus, Refusal};
 use deposit_name::{Reference, Tld};
 use schedule::Sec;
 use sqlite::Alter;
@@ -32,7 +32,7 @@ pub fn act<V: Volume, S: Alter, W: Write, E: Write, P: Progress>(
     progress: &mut P,
 ) -> u8
     ensures acts { Acts order.now file.now now custody.old custody.new result (record { before = W.contents out.old; after = W.contents out.new }) (record { before = E.contents err.old; after = E.contents err.new }) }
-    ensures status { IsStatus result }
+    ensures status { IsExitStatus result }
 {
     match order {
         Order::Init { .. } => tell_init(&InitError::AlreadyInitialised, err),
@@ -41,7 +41,7 @@ pub fn act<V: Volume, S: Alter, W: Write, E: Write, P: Progress>(
             tell_answer(&answer, out, err)
         }
         Order::Put { file: path, .. } => {
-            let answer = custody.apply(alloc, &Command::Receive(last_part(path), file), now);
+            let answer = custody.apply(alloc, &Command::Receive(file_name(path), file), now);
             tell_answer(&answer, out, err)
         }
         Order::Verify { statement, .. } => {
@@ -80,10 +80,10 @@ pub fn act<V: Volume, S: Alter, W: Write, E: Write, P: Progress>(
             name,
             ..
         } => fetch(alloc, custody, reference, name, out, err),
-        Order::Report { tld, .. } => show_report(custody, tld, out, err),
+        Order::Report { tld, .. } => print_report_of(custody, tld, out, err),
         Order::State { .. } => show(custody, out, err),
         Order::Audit { .. } => audit(alloc, custody, out, err, progress),
-        Order::Serve { .. } => Status::Done.number(),
+        Order::Serve { .. } => ExitStatus::Done.number(),
     }
 }
 
@@ -95,14 +95,14 @@ fn fetch<V: Volume, S: Alter, W: Write, E: Write>(
     out: &mut W,
     err: &mut E,
 ) -> u8
-    ensures status { IsStatus result }
+    ensures status { IsExitStatus result }
     ensures fetches { Fetches custody.old reference.now name.now custody.new result (record { before = W.contents out.old; after = W.contents out.new }) (record { before = E.contents err.old; after = E.contents err.new }) }
 {
     let mut bytes = Vec::new(alloc);
     match custody.fetch(alloc, reference, name.as_bytes(), &mut bytes) {
         Ok(()) => print_bytes(&bytes, out),
         Err(Refused::Refusal(refusal)) => tell_refusal(&refusal, err),
-        Err(Refused::Fault(fault)) => tell(&fault, err),
+        Err(Refused::Failure(failure)) => tell(&failure, err),
     }
 }
 
@@ -113,7 +113,7 @@ fn audit<V: Volume, S: Alter, W: Write, E: Write, P: Progress>(
     err: &mut E,
     progress: &mut P,
 ) -> u8
-    ensures status { IsStatus result }
+    ensures status { IsExitStatus result }
     ensures audits { Audits custody.old custody.new result (record { before = W.contents out.old; after = W.contents out.new }) (record { before = E.contents err.old; after = E.contents err.new }) }
 {
     let damaged = match custody.audit(alloc, progress) {
@@ -126,14 +126,14 @@ fn audit<V: Volume, S: Alter, W: Write, E: Write, P: Progress>(
     }
 }
 
-fn show_report<V: Volume, S: Alter, W: Write, E: Write>(
+fn print_report_of<V: Volume, S: Alter, W: Write, E: Write>(
     custody: &Custody<V, S>,
     tld: &Tld,
     out: &mut W,
     err: &mut E,
 ) -> u8
-    ensures status { IsStatus result }
-    ensures reports { Reports custody.now tld.now result (record { before = W.contents out.old; after = W.contents out.new }) (record { before = E.contents err.old; after = E.contents err.new }) }
+    ensures status { IsExitStatus result }
+    ensures reports { PrintsReport custody.now tld.now result (record { before = W.contents out.old; after = W.contents out.new }) (record { before = E.contents err.old; after = E.contents err.new }) }
 {
     let records = match custody.records() {
         Ok(records) => records,
@@ -150,7 +150,7 @@ fn show<V: Volume, S: Alter, W: Write, E: Write>(
     out: &mut W,
     err: &mut E,
 ) -> u8
-    ensures status { IsStatus result }
+    ensures status { IsExitStatus result }
     ensures shown { PrintsState custody.now result (record { before = W.contents out.old; after = W.contents out.new }) (record { before = E.contents err.old; after = E.contents err.new }) }
 {
     let records = match custody.records() {

@@ -4,7 +4,7 @@ ghost use Rattle.clap.specs.Words.{app_of, rule_of, shape_of};
 ghost use Rattle.clap.specs.declared.builder.Command.TheViews.{out-Command};
 ghost use Rattle.agent_cli.specs.Grammar.{bare_app, escrow_app, rule_in, shape_in};
 
-use crate::table::{Form, Row, SUBCOMMANDS, Word};
+use crate::subcommands::{Row, SUBCOMMANDS, Word, WordForm};
 use clap::builder::ValueParser;
 use clap::{Arg, Command};
 use std::alloc::{AllocError, Global};
@@ -15,11 +15,11 @@ fn argument<'a>(alloc: Global, word: &Word<'a>) -> Arg<'a>
 {
     let argument = Arg::new(alloc, word.id).help(word.help);
     match word.form {
-        Form::Place => argument.required(true),
-        Form::Option { value, required } => {
+        WordForm::Place => argument.required(true),
+        WordForm::Option { value, required } => {
             argument.long(word.id).value_name(value).required(required)
         }
-        Form::Count { least, most } => argument
+        WordForm::Count { least, most } => argument
             .long(word.id)
             .value_name("N")
             .required(true)

@@ -6,13 +6,14 @@ mod grammar;
 mod laws;
 mod order;
 mod paths;
+mod subcommands;
 mod sweeping;
-mod table;
 mod values;
 mod words;
 
 pub use acting::act;
+pub use answer_lines::tell;
 pub use laws::law_orders;
 pub use order::{Argument, Order, WordFault};
-pub use paths::last_part;
+pub use paths::file_name;
 pub use words::order_of;

@@ -1,11 +1,11 @@
 //! What a command line asks for.
 ghost use Rattle.std.specs.Prelude.{◌≡◌, Some};
-ghost use Rattle.agent_cli.specs.Faults.{IsStatusOf, argument_text, fault_text};
+ghost use Rattle.agent_cli.specs.Faults.{IsStatusOf, argument_text, word_fault_text};
 ghost use Rattle.agent_cli.specs.declared.order.WordFault.TheVariants.{NoMemory};
 
 use answer_lines::VolumeNumber;
 use clap::error::ErrorKind;
-use custody_machine::{Fault, Statement, Status};
+use custody_machine::{ExitStatus, Failure, Statement};
 use deposit_name::{Reference, Tld};
 use desk::Ground;
 use schedule::{Day, Sec};
@@ -171,24 +171,24 @@ impl WordFault {
     {
         let status = match self {
             WordFault::Words(error) => match error.kind() {
-                ErrorKind::DisplayHelp | ErrorKind::DisplayVersion => Status::Done,
-                _ => Status::Misused,
+                ErrorKind::DisplayHelp | ErrorKind::DisplayVersion => ExitStatus::Done,
+                _ => ExitStatus::Misused,
             },
-            WordFault::Bad(_) => Status::Misused,
-            WordFault::NoMemory => Fault::NoMemory.code().status,
+            WordFault::Bad(_) => ExitStatus::Misused,
+            WordFault::NoMemory => Failure::NoMemory.code().status,
         };
         status.number()
     }
 }
 
 impl fmt::Display for WordFault {
-    ghost output = { fault_text };
+    ghost output = { word_fault_text };
 
     fn fmt<W: fmt::Write>(&self, f: &mut fmt::Formatter<W>) -> fmt::Result {
         match self {
             WordFault::Words(error) => write!(f, "{error}"),
             WordFault::Bad(argument) => writeln!(f, "bad value for {argument}"),
-            WordFault::NoMemory => writeln!(f, "{}", Fault::NoMemory),
+            WordFault::NoMemory => writeln!(f, "{}", Failure::NoMemory),
         }
     }
 }

@@ -3,7 +3,7 @@ ghost use Rattle.std.specs.Prelude.{◌≡◌, ◌==◌};
 ghost use Rattle.std.specs.List.{after_last};
 
 /// The last part of a path: what stands after its last `/`, or all of it where it has none.
-pub fn last_part(path: &str) -> &[u8]
+pub fn file_name(path: &str) -> &[u8]
     ensures { result.now ≡ after_last (λ b. b == 47) path.now }
 {
     let bytes = path.as_bytes();

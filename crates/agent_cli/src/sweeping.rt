@@ -1,13 +1,13 @@
 //! A sweep: each day that has passed without a notice is checked.
 ghost use Rattle.std.specs.Prelude.{◌≡◌, map};
 ghost use Rattle.custody_machine.specs.Machine.{Check};
-ghost use Rattle.custody_rules.specs.Due.{day_in};
-ghost use Rattle.answer_lines.specs.Statuses.{IsStatus};
+ghost use Rattle.custody_rules.specs.DueDays.{due_day_pair};
+ghost use Rattle.answer_lines.specs.Statuses.{IsExitStatus};
 ghost use Rattle.agent_cli.specs.Acts.{Applies, IsSwept, Sweeps};
 
 use answer_lines::{tell, tell_answer};
 use custody::{Custody, Progress};
-use custody_machine::{Command, Fault};
+use custody_machine::{Command, Failure};
 use custody_rules::{DueDay, due_days};
 use schedule::Sec;
 use sqlite::Alter;
@@ -25,7 +25,7 @@ pub(crate) fn sweep<V: Volume, S: Alter, W: Write, E: Write, P: Progress>(
     err: &mut E,
     progress: &mut P,
 ) -> u8
-    ensures status { IsStatus result }
+    ensures status { IsExitStatus result }
     ensures sweeps { Sweeps custody.old now custody.new result (record { before = W.contents out.old; after = W.contents out.new }) (record { before = E.contents err.old; after = E.contents err.new }) }
 {
     let due = match custody.records() {
@@ -37,7 +37,7 @@ pub(crate) fn sweep<V: Volume, S: Alter, W: Write, E: Write, P: Progress>(
             progress.begin(days.len());
             check_days(alloc, custody, &days, now, out, err, progress)
         }
-        Err(_) => tell(&Fault::NoMemory, err),
+        Err(_) => tell(&Failure::NoMemory, err),
     }
 }
 
@@ -51,8 +51,8 @@ fn check_days<V: Volume, S: Alter, W: Write, E: Write, P: Progress>(
     err: &mut E,
     progress: &mut P,
 ) -> u8
-    ensures status { IsStatus result }
-    ensures swept { IsSwept (map day_in days.now) custody.old now custody.new result (record { before = W.contents out.old; after = W.contents out.new }) (record { before = E.contents err.old; after = E.contents err.new }) }
+    ensures status { IsExitStatus result }
+    ensures swept { IsSwept (map due_day_pair days.now) custody.old now custody.new result (record { before = W.contents out.old; after = W.contents out.new }) (record { before = E.contents err.old; after = E.contents err.new }) }
 {
     for day in days {
         let status = check_day(alloc, custody, day, now, out, err);
@@ -72,7 +72,7 @@ fn check_day<V: Volume, S: Alter, W: Write, E: Write>(
     out: &mut W,
     err: &mut E,
 ) -> u8
-    ensures status { IsStatus result }
+    ensures status { IsExitStatus result }
     ensures applied { Applies custody.old (Check due.now.tld due.now.day) now custody.new result (record { before = W.contents out.old; after = W.contents out.new }) (record { before = E.contents err.old; after = E.contents err.new }) }
 {
     let answer = custody.apply(alloc, &Command::Check(due.tld, due.day), now);

@@ -2,8 +2,18 @@
 ghost use Rattle.std.specs.Prelude.{◌≡◌, ◌≤◌, codes};
 ghost use Rattle.clap.specs.Words.{first_of, found_of, rows_of};
 ghost use Rattle.answer_lines.specs.Number.{ShowsNumber};
-ghost use Rattle.agent_cli.specs.Grammar.{text_of};
-ghost use Rattle.agent_cli.specs.Forms.{ShowsDay, ShowsGround, ShowsId, ShowsIfGiven, ShowsKind, ShowsMoment, ShowsReference, ShowsTld, count_of};
+ghost use Rattle.agent_cli.specs.Grammar.{text_in};
+ghost use Rattle.agent_cli.specs.Forms.{
+  ShowsDay,
+  ShowsGround,
+  ShowsId,
+  ShowsIfGiven,
+  ShowsKind,
+  ShowsMoment,
+  ShowsReference,
+  ShowsTld,
+  count_of,
+};
 ghost use Rattle.agent_cli.specs.Order.{AnswersValue};
 
 use crate::{Argument, WordFault};
@@ -15,7 +25,7 @@ use schedule::{Day, Sec, read_day, read_moment};
 
 /// The value of an argument that is required.
 pub(crate) fn text_in<'a>(matches: &ArgMatches<'a>, id: &str) -> &'a str
-    ensures { result.now ≡ text_of id.now (rows_of (found_of matches.now)) }
+    ensures { result.now ≡ text_in id.now (rows_of (found_of matches.now)) }
 {
     matches.get_str(id).unwrap_or("")
 }
@@ -48,49 +58,49 @@ pub(crate) fn port_in(matches: &ArgMatches<'_>) -> u16
 }
 
 pub(crate) fn tld_in(matches: &ArgMatches<'_>) -> Result<Tld, WordFault>
-    ensures { AnswersValue Argument.Tld (ShowsTld (text_of (codes "TLD") (rows_of (found_of matches.now)))) result }
+    ensures { AnswersValue Argument.Tld (ShowsTld (text_in (codes "TLD") (rows_of (found_of matches.now)))) result }
 {
     Tld::parse(text_in(matches, "TLD").as_bytes()).ok_or(WordFault::Bad(Argument::Tld))
 }
 
 pub(crate) fn date_in(matches: &ArgMatches<'_>) -> Result<Day, WordFault>
-    ensures { AnswersValue Argument.Date (ShowsDay (text_of (codes "date") (rows_of (found_of matches.now)))) result }
+    ensures { AnswersValue Argument.Date (ShowsDay (text_in (codes "date") (rows_of (found_of matches.now)))) result }
 {
     read_day(text_in(matches, "date").as_bytes()).ok_or(WordFault::Bad(Argument::Date))
 }
 
 pub(crate) fn first_in(matches: &ArgMatches<'_>) -> Result<Day, WordFault>
-    ensures { AnswersValue Argument.First (ShowsDay (text_of (codes "first") (rows_of (found_of matches.now)))) result }
+    ensures { AnswersValue Argument.First (ShowsDay (text_in (codes "first") (rows_of (found_of matches.now)))) result }
 {
     read_day(text_in(matches, "first").as_bytes()).ok_or(WordFault::Bad(Argument::First))
 }
 
 pub(crate) fn kind_in(matches: &ArgMatches<'_>) -> Result<Kind, WordFault>
-    ensures { AnswersValue Argument.Kind (ShowsKind (text_of (codes "kind") (rows_of (found_of matches.now)))) result }
+    ensures { AnswersValue Argument.Kind (ShowsKind (text_in (codes "kind") (rows_of (found_of matches.now)))) result }
 {
     Kind::parse(text_in(matches, "kind").as_bytes()).ok_or(WordFault::Bad(Argument::Kind))
 }
 
 pub(crate) fn id_in(matches: &ArgMatches<'_>) -> Result<DepositId, WordFault>
-    ensures { AnswersValue Argument.Id (ShowsId (text_of (codes "id") (rows_of (found_of matches.now)))) result }
+    ensures { AnswersValue Argument.Id (ShowsId (text_in (codes "id") (rows_of (found_of matches.now)))) result }
 {
     DepositId::parse(text_in(matches, "id").as_bytes()).ok_or(WordFault::Bad(Argument::Id))
 }
 
 pub(crate) fn reference_in(matches: &ArgMatches<'_>) -> Result<Reference, WordFault>
-    ensures { AnswersValue Argument.Reference (ShowsReference (text_of (codes "REF") (rows_of (found_of matches.now)))) result }
+    ensures { AnswersValue Argument.Reference (ShowsReference (text_in (codes "REF") (rows_of (found_of matches.now)))) result }
 {
     Reference::parse(text_in(matches, "REF").as_bytes()).ok_or(WordFault::Bad(Argument::Reference))
 }
 
 pub(crate) fn ground_in(matches: &ArgMatches<'_>) -> Result<Ground, WordFault>
-    ensures { AnswersValue Argument.Ground (ShowsGround (text_of (codes "GROUND") (rows_of (found_of matches.now)))) result }
+    ensures { AnswersValue Argument.Ground (ShowsGround (text_in (codes "GROUND") (rows_of (found_of matches.now)))) result }
 {
     Ground::parse(text_in(matches, "GROUND")).ok_or(WordFault::Bad(Argument::Ground))
 }
 
 pub(crate) fn number_in(matches: &ArgMatches<'_>) -> Result<VolumeNumber, WordFault>
-    ensures { AnswersValue Argument.Number (ShowsNumber (text_of (codes "number") (rows_of (found_of matches.now)))) result }
+    ensures { AnswersValue Argument.Number (ShowsNumber (text_in (codes "number") (rows_of (found_of matches.now)))) result }
 {
     VolumeNumber::parse(text_in(matches, "number").as_bytes()).ok_or(WordFault::Bad(
         Argument::Number,

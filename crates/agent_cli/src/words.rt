@@ -2,10 +2,29 @@
 ghost use Rattle.std.specs.Prelude.{◌≡◌, Some, map};
 ghost use Rattle.std.specs.String.{string_bytes};
 ghost use Rattle.clap.specs.Words.{found_of, rows_of};
-ghost use Rattle.agent_cli.specs.Order.{Answers, Asks, AuditReading, FetchReading, HoldReading, InitReading, IsFaultFrom, LiftReading, NamedReading, PurgeReading, PutReading, RegisterReading, ReleaseReading, ReportReading, ServeReading, StateReading, SweepReading, VerifyReading};
+ghost use Rattle.agent_cli.specs.Order.{
+  AnswersReading,
+  ReadsWords,
+  AuditReading,
+  FetchReading,
+  HoldReading,
+  InitReading,
+  IsFaultFrom,
+  LiftReading,
+  SubcommandReading,
+  PurgeReading,
+  PutReading,
+  RegisterReading,
+  ReleaseReading,
+  ReportReading,
+  ServeReading,
+  StateReading,
+  SweepReading,
+  VerifyReading,
+};
 
 use crate::grammar::escrow_command;
-use crate::table::Subcommand;
+use crate::subcommands::Subcommand;
 use crate::values::{
     count_in, date_in, first_in, ground_in, id_in, kind_in, now_in, number_in, parts_in, port_in,
     reference_in, revision_in, text_in, tld_in,
@@ -18,7 +37,7 @@ use std::alloc::Global;
 use vault_volume::MOST_BLOCKS;
 
 fn init_order<'a>(matches: &ArgMatches<'a>) -> Result<Order<'a>, WordFault>
-    ensures { Answers (InitReading (rows_of (found_of matches.now))) result }
+    ensures { AnswersReading (InitReading (rows_of (found_of matches.now))) result }
 {
     let number = number_in(matches)?;
     Ok(Order::Init {
@@ -29,7 +48,7 @@ fn init_order<'a>(matches: &ArgMatches<'a>) -> Result<Order<'a>, WordFault>
 }
 
 fn register_order<'a>(matches: &ArgMatches<'a>) -> Result<Order<'a>, WordFault>
-    ensures { Answers (RegisterReading (rows_of (found_of matches.now))) result }
+    ensures { AnswersReading (RegisterReading (rows_of (found_of matches.now))) result }
 {
     let tld = tld_in(matches)?;
     let first = first_in(matches)?;
@@ -41,7 +60,7 @@ fn register_order<'a>(matches: &ArgMatches<'a>) -> Result<Order<'a>, WordFault>
 }
 
 fn put_order<'a>(matches: &ArgMatches<'a>) -> Result<Order<'a>, WordFault>
-    ensures { Answers (PutReading (rows_of (found_of matches.now))) result }
+    ensures { AnswersReading (PutReading (rows_of (found_of matches.now))) result }
 {
     let now = now_in(matches)?;
     Ok(Order::Put {
@@ -52,7 +71,7 @@ fn put_order<'a>(matches: &ArgMatches<'a>) -> Result<Order<'a>, WordFault>
 }
 
 fn verify_order<'a>(matches: &ArgMatches<'a>) -> Result<Order<'a>, WordFault>
-    ensures { Answers (VerifyReading (rows_of (found_of matches.now))) result }
+    ensures { AnswersReading (VerifyReading (rows_of (found_of matches.now))) result }
 {
     let tld = tld_in(matches)?;
     let day = date_in(matches)?;
@@ -74,7 +93,7 @@ fn verify_order<'a>(matches: &ArgMatches<'a>) -> Result<Order<'a>, WordFault>
 }
 
 fn sweep_order<'a>(matches: &ArgMatches<'a>) -> Result<Order<'a>, WordFault>
-    ensures { Answers (SweepReading (rows_of (found_of matches.now))) result }
+    ensures { AnswersReading (SweepReading (rows_of (found_of matches.now))) result }
 {
     let now = now_in(matches)?;
     Ok(Order::Sweep {
@@ -84,7 +103,7 @@ fn sweep_order<'a>(matches: &ArgMatches<'a>) -> Result<Order<'a>, WordFault>
 }
 
 fn purge_order<'a>(matches: &ArgMatches<'a>) -> Result<Order<'a>, WordFault>
-    ensures { Answers (PurgeReading (rows_of (found_of matches.now))) result }
+    ensures { AnswersReading (PurgeReading (rows_of (found_of matches.now))) result }
 {
     let now = now_in(matches)?;
     Ok(Order::Purge {
@@ -94,7 +113,7 @@ fn purge_order<'a>(matches: &ArgMatches<'a>) -> Result<Order<'a>, WordFault>
 }
 
 fn hold_order<'a>(matches: &ArgMatches<'a>) -> Result<Order<'a>, WordFault>
-    ensures { Answers (HoldReading (rows_of (found_of matches.now))) result }
+    ensures { AnswersReading (HoldReading (rows_of (found_of matches.now))) result }
 {
     let tld = tld_in(matches)?;
     let day = date_in(matches)?;
@@ -110,7 +129,7 @@ fn hold_order<'a>(matches: &ArgMatches<'a>) -> Result<Order<'a>, WordFault>
 }
 
 fn lift_order<'a>(matches: &ArgMatches<'a>) -> Result<Order<'a>, WordFault>
-    ensures { Answers (LiftReading (rows_of (found_of matches.now))) result }
+    ensures { AnswersReading (LiftReading (rows_of (found_of matches.now))) result }
 {
     let reference = reference_in(matches)?;
     let now = now_in(matches)?;
@@ -122,7 +141,7 @@ fn lift_order<'a>(matches: &ArgMatches<'a>) -> Result<Order<'a>, WordFault>
 }
 
 fn release_order<'a>(matches: &ArgMatches<'a>) -> Result<Order<'a>, WordFault>
-    ensures { Answers (ReleaseReading (rows_of (found_of matches.now))) result }
+    ensures { AnswersReading (ReleaseReading (rows_of (found_of matches.now))) result }
 {
     let tld = tld_in(matches)?;
     let reference = reference_in(matches)?;
@@ -138,7 +157,7 @@ fn release_order<'a>(matches: &ArgMatches<'a>) -> Result<Order<'a>, WordFault>
 }
 
 fn fetch_order<'a>(matches: &ArgMatches<'a>) -> Result<Order<'a>, WordFault>
-    ensures { Answers (FetchReading (rows_of (found_of matches.now))) result }
+    ensures { AnswersReading (FetchReading (rows_of (found_of matches.now))) result }
 {
     let reference = reference_in(matches)?;
     Ok(Order::Fetch {
@@ -149,7 +168,7 @@ fn fetch_order<'a>(matches: &ArgMatches<'a>) -> Result<Order<'a>, WordFault>
 }
 
 fn report_order<'a>(matches: &ArgMatches<'a>) -> Result<Order<'a>, WordFault>
-    ensures { Answers (ReportReading (rows_of (found_of matches.now))) result }
+    ensures { AnswersReading (ReportReading (rows_of (found_of matches.now))) result }
 {
     let tld = tld_in(matches)?;
     Ok(Order::Report {
@@ -159,7 +178,7 @@ fn report_order<'a>(matches: &ArgMatches<'a>) -> Result<Order<'a>, WordFault>
 }
 
 fn state_order<'a>(matches: &ArgMatches<'a>) -> Result<Order<'a>, WordFault>
-    ensures { Answers (StateReading (rows_of (found_of matches.now))) result }
+    ensures { AnswersReading (StateReading (rows_of (found_of matches.now))) result }
 {
     Ok(Order::State {
         folder: text_in(matches, "DIR"),
@@ -167,7 +186,7 @@ fn state_order<'a>(matches: &ArgMatches<'a>) -> Result<Order<'a>, WordFault>
 }
 
 fn audit_order<'a>(matches: &ArgMatches<'a>) -> Result<Order<'a>, WordFault>
-    ensures { Answers (AuditReading (rows_of (found_of matches.now))) result }
+    ensures { AnswersReading (AuditReading (rows_of (found_of matches.now))) result }
 {
     Ok(Order::Audit {
         folder: text_in(matches, "DIR"),
@@ -175,7 +194,7 @@ fn audit_order<'a>(matches: &ArgMatches<'a>) -> Result<Order<'a>, WordFault>
 }
 
 fn serve_order<'a>(matches: &ArgMatches<'a>) -> Result<Order<'a>, WordFault>
-    ensures { Answers (ServeReading (rows_of (found_of matches.now))) result }
+    ensures { AnswersReading (ServeReading (rows_of (found_of matches.now))) result }
 {
     let now = now_in(matches)?;
     Ok(Order::Serve {
@@ -188,7 +207,7 @@ fn serve_order<'a>(matches: &ArgMatches<'a>) -> Result<Order<'a>, WordFault>
 
 /// The order of a subcommand.
 fn order_in<'a>(subcommand: Subcommand, matches: &ArgMatches<'a>) -> Result<Order<'a>, WordFault>
-    ensures { Answers (NamedReading (Some subcommand) (rows_of (found_of matches.now))) result }
+    ensures { AnswersReading (SubcommandReading (Some subcommand) (rows_of (found_of matches.now))) result }
 {
     match subcommand {
         Subcommand::Init => init_order(matches),
@@ -221,7 +240,7 @@ fn fault_from(error: clap::Error) -> WordFault
 /// What the words of a call ask for; the first of them is the program's name. A call for help is an
 /// `Err` with the text of the help.
 pub fn order_of<'a>(alloc: Global, words: &'a [String]) -> Result<Order<'a>, WordFault>
-    ensures { Answers (Asks (map string_bytes words.now)) result }
+    ensures { AnswersReading (ReadsWords (map string_bytes words.now)) result }
 {
     let command = escrow_command(alloc)?;
     let matches = match command.try_get_matches_from(words) {

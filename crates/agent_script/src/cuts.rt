@@ -1,9 +1,9 @@
 //! A response that is cut after each number of its bytes, each time by a new vault.
 use crate::BLOCKS;
-use crate::beside::Plain;
 use crate::example::play;
 use crate::fault::ScriptFault;
 use crate::files::Files;
+use crate::plain_comparison::Plain;
 use crate::requests::{AMPLE, Exchange, Sender, exchange, print_taken, request_in};
 use crate::vault::Vault;
 use custody::Custody;

@@ -1,9 +1,9 @@
 //! Examples over a database in two files in memory, whose machine stops.
-use crate::beside::Plain;
 use crate::databases::{ALL, Calls, Database, files_of, left_of, open_files};
 use crate::example::play_closed;
 use crate::fault::ScriptFault;
 use crate::files::Files;
+use crate::plain_comparison::Plain;
 use std::alloc::Global;
 use std::io::Write;
 use vault_volume::MemVolume;

@@ -1,9 +1,9 @@
 //! An example: its lines in their order.
-use crate::beside::Plain;
-use crate::deeds::deed;
 use crate::fault::ScriptFault;
 use crate::files::Files;
 use crate::orders::{Way, order};
+use crate::plain_comparison::Plain;
+use crate::script_actions::deed;
 use crate::vault::Vault;
 use sqlite::{Alter, Connection};
 use std::alloc::Global;

@@ -2,42 +2,42 @@
 //! lines with what the agent answers.
 #![tactic(auto)]
 
-mod beside;
+mod command_pairs;
 mod cuts;
 mod databases;
-mod deeds;
 mod disk;
-mod everywhere;
 mod example;
 mod fault;
 mod files;
-mod listed;
 mod orders;
+mod output;
 mod places;
-mod printed;
+mod plain_comparison;
 mod requests;
 mod runs;
+mod script_actions;
 mod sessions;
 mod steps;
 mod stopping;
+mod stopping_places;
 mod vault;
-mod wide;
+mod wide_volume;
 
-use beside::Plain;
 use cuts::play_cuts;
 use disk::play_on_disk;
-use everywhere::play_everywhere;
 use example::play;
 use fault::ScriptFault;
 use files::Files;
+use plain_comparison::Plain;
 use sessions::show_sessions;
 use sqlite::Connection;
 use std::alloc::{AllocError, Global};
 use std::io::{self, BufWriter, Write};
 use std::process::ExitCode;
+use stopping_places::play_everywhere;
 use vault::Vault;
 use vault_volume::MemVolume;
-use wide::show_sizes;
+use wide_volume::show_sizes;
 
 /// How many blocks the volume of an example has, where it names no number.
 const BLOCKS: u32 = 8;

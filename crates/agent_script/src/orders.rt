@@ -1,8 +1,8 @@
 //! Calls of `escrow`, as the program answers them.
-use crate::beside::{Plain, command_of};
 use crate::fault::ScriptFault;
 use crate::files::Files;
-use crate::printed::Printed;
+use crate::output::Printed;
+use crate::plain_comparison::{Plain, command_of};
 use crate::vault::Vault;
 use agent_cli::{Order, act, order_of};
 use answer_lines::{tell, tell_answer};

@@ -1,15 +1,15 @@
 //! Runs of the same steps, each broken off otherwise: all of them are to end alike.
-use crate::beside::Plain;
 use crate::fault::ScriptFault;
 use crate::orders::moment_of;
+use crate::output::Printed;
 use crate::places::{Place, Trace, Way};
-use crate::printed::Printed;
+use crate::plain_comparison::Plain;
 use crate::steps::Step;
 use crate::stopping::{Filling, Script, Stopping};
 use agent_cli::{Order, act};
 use answer_lines::tell_answer;
 use custody::{Custody, Refused, Reply, Silent};
-use custody_machine::{Command, Fault};
+use custody_machine::{Command, Failure};
 use deposit_name::Reference;
 use schedule::Sec;
 use sqlite::{Alter, Connection};
@@ -24,7 +24,7 @@ const BLOCKS: u32 = 8;
 #[derive(Clone, Copy, PartialEq, Eq)]
 pub enum Difference {
     /// A vault does not open.
-    Opening(Fault),
+    Opening(Failure),
     /// Other records are found than those of the commands that were committed.
     Records,
     /// A part has other bytes than it was received with.
@@ -32,7 +32,7 @@ pub enum Difference {
     /// A step is answered otherwise than by the plain program.
     Answer,
     /// A step fails, or fails otherwise than by the volume's failure and then by a closed vault.
-    Fault(Fault),
+    Failure(Failure),
     /// Nothing breaks the session off.
     Unbroken,
     /// A call is answered after a failure.
@@ -63,7 +63,7 @@ struct Machine<S: Alter + Drop> {
 }
 
 /// An opening: the custody, or why there is none.
-type Opened<S> = Result<Custody<Stopping, S>, (Fault, Stopping, Connection<S>)>;
+type Opened<S> = Result<Custody<Stopping, S>, (Failure, Stopping, Connection<S>)>;
 
 impl<S: Alter + Drop> Machine<S> {
     /// A vault that is begun over a new database.
@@ -193,7 +193,7 @@ fn session<S: Alter + Drop>(
             Ok(Machine::closed(custody))
         }
         Err((fault, volume, db)) => {
-            if ending == Ending::Whole || fault != Fault::VolumeFailed {
+            if ending == Ending::Whole || fault != Failure::VolumeFailed {
                 seen.differs(Difference::Opening(fault));
             }
             Ok(Machine { volume, db })
@@ -211,7 +211,7 @@ fn serve<V: Volume, S: Alter>(
     seen: &mut Seen,
 ) -> Result<(), ScriptFault> {
     seen.trace.commits.clear();
-    let mut wanted = Fault::VolumeFailed;
+    let mut wanted = Failure::VolumeFailed;
     for (number, step) in steps.iter().enumerate() {
         let Some((command, now)) = step.command(alloc) else {
             return Err(ScriptFault::Line);
@@ -222,15 +222,15 @@ fn serve<V: Volume, S: Alter>(
                     seen.trace.commits.push(number)?;
                 }
             }
-            Err(fault) => {
-                if ending == Ending::Whole || fault != wanted {
-                    seen.differs(Difference::Fault(fault));
+            Err(failure) => {
+                if ending == Ending::Whole || failure != wanted {
+                    seen.differs(Difference::Failure(failure));
                 }
-                wanted = Fault::Closed;
+                wanted = Failure::Closed;
             }
         }
     }
-    if wanted == Fault::Closed {
+    if wanted == Failure::Closed {
         if !is_closed(alloc, custody)? {
             seen.differs(Difference::NotClosed);
         }
@@ -240,7 +240,7 @@ fn serve<V: Volume, S: Alter>(
     Ok(())
 }
 
-/// Does a step, and beside it the plain program. The answer is whether it was committed, or the fault.
+/// Does a step, and beside it the plain program. The answer is whether it was committed, or the failure.
 fn answer<V: Volume, S: Alter>(
     alloc: Global,
     command: &Command<'_>,
@@ -248,10 +248,10 @@ fn answer<V: Volume, S: Alter>(
     custody: &mut Custody<V, S>,
     plain: &mut Plain,
     seen: &mut Seen,
-) -> Result<Result<bool, Fault>, ScriptFault> {
+) -> Result<Result<bool, Failure>, ScriptFault> {
     let answer = custody.apply(alloc, command, now);
-    if let Err(Refused::Fault(fault)) = answer {
-        return Ok(Err(fault));
+    if let Err(Refused::Failure(failure)) = answer {
+        return Ok(Err(failure));
     }
     let mut printed = Printed::new(alloc)?;
     printed.status = tell_answer(&answer, &mut printed.out, &mut printed.err);
@@ -280,10 +280,10 @@ fn is_closed<V: Volume, S: Alter>(
     let fetched = custody.fetch(alloc, &reference, b"", &mut bytes);
     let audited = custody.audit(alloc, &mut Silent);
     Ok(
-        fetched == Err(Refused::Fault(Fault::Closed))
-            && matches!(audited, Err(Fault::Closed))
-            && matches!(custody.records(), Err(Fault::Closed))
-            && custody.room() == Err(Fault::Closed),
+        fetched == Err(Refused::Failure(Failure::Closed))
+            && matches!(audited, Err(Failure::Closed))
+            && matches!(custody.records(), Err(Failure::Closed))
+            && custody.room() == Err(Failure::Closed),
     )
 }
 
@@ -372,11 +372,11 @@ fn show_state<S: Alter + Drop>(
 impl fmt::Display for Difference {
     fn fmt<W: fmt::Write>(&self, f: &mut fmt::Formatter<W>) -> fmt::Result {
         match self {
-            Difference::Opening(fault) => write!(f, "the vault does not open: {fault}"),
+            Difference::Opening(failure) => write!(f, "the vault does not open: {failure}"),
             Difference::Records => f.write_str("other records are found"),
             Difference::Bytes => f.write_str("a part has other bytes"),
             Difference::Answer => f.write_str("a step is answered otherwise"),
-            Difference::Fault(fault) => write!(f, "a step answers {fault}"),
+            Difference::Failure(failure) => write!(f, "a step answers {failure}"),
             Difference::Unbroken => f.write_str("the session goes on to its end"),
             Difference::NotClosed => f.write_str("a closed vault answers"),
         }

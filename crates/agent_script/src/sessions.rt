@@ -1,7 +1,7 @@
 //! Sessions, and openings over what a stop has left of them: the calls that the headline is about.
 use crate::fault::ScriptFault;
 use crate::stopping::BLOCK;
-use custody::composed::{begin_run_and_reopen, new_database, open_run_and_reopen};
+use custody::sessions::{begin_run_and_reopen, new_database, open_run_and_reopen};
 use custody::{Custody, Refused, Reply};
 use custody_machine::Command;
 use deposit_name::Tld;

@@ -1,8 +1,8 @@
 //! The steps of an example that is broken off at each place.
-use crate::beside::command_of;
 use crate::fault::ScriptFault;
 use crate::files::Files;
 use crate::orders::{call_of, check_in, moment_of};
+use crate::plain_comparison::command_of;
 use agent_cli::order_of;
 use custody_machine::Command;
 use deposit_name::Tld;

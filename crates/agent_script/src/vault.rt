@@ -4,7 +4,7 @@ ghost use Rattle.std.specs.Prelude.{◌-◌, ◌^◌, ◌<◌, IfOk};
 use crate::fault::ScriptFault;
 use answer_lines::{Line, VolumeNumber, print_line, tell_init};
 use custody::Custody;
-use custody_machine::Fault;
+use custody_machine::Failure;
 use sqlite::{Alter, Connection};
 use std::alloc::Global;
 use std::io::Write;
@@ -18,7 +18,7 @@ pub enum Vault<S: Alter + Drop> {
 }
 
 /// An opening: the custody, or why there is none.
-type Opened<S> = Result<Custody<MemVolume, S>, (Fault, MemVolume, Connection<S>)>;
+type Opened<S> = Result<Custody<MemVolume, S>, (Failure, MemVolume, Connection<S>)>;
 
 impl<S: Alter + Drop> Vault<S> {
     pub fn is_open(&self) -> bool {

@@ -8,12 +8,12 @@ use Rattle.extent_map.specs.declared.extent.Extent.{Extent}
 use Rattle.custody_records.specs.declared.parts.Part.{Part}
 use Rattle.custody_records.specs.Keys.{PartKey, part_cmp}
 use Rattle.custody_records.specs.Records.{PartRecord, Records}
-use Rattle.custody_records.specs.Tables.{entries_of, is_rising, table_map}
-use Rattle.custody_records.specs.Typed.{part_place, part_value}
+use Rattle.custody_records.specs.Tables.{row_entries, is_rising, table_map}
+use Rattle.custody_records.specs.TypedRecords.{key_of_part, part_value}
 use Rattle.custody_records.proofs.TableLemmas.{entries-table_map}
-use Rattle.answer_lines.specs.Audited.{count_held}
+use Rattle.answer_lines.specs.Auditing.{count_held_parts}
 use Rattle.answer_lines.specs.Lines.{line_text}
-use Rattle.answer_lines.specs.Printed.{as_line}
+use Rattle.answer_lines.specs.Printing.{as_line}
 use Rattle.answer_lines.specs.State.{lines_text}
 use Rattle.answer_lines.specs.declared.lines.Line.TheVariants.{Damaged}
 use Rattle.answer_lines.proofs.PrintLemmas.{IsTextOf}
@@ -31,14 +31,14 @@ is_held row = by row.extents
     by None = refl
     by (Some extents) = refl
 
-count_entries : (n : ℕ) (rows : List Part) → fold (λ k (e : PartKey × PartRecord). k + cond (is_some e.1.extents) 1 0) n (entries_of part_place part_value rows) ≡ fold (λ k (row : Part). k + cond (is_some row.extents) 1 0) n rows
+count_entries : (n : ℕ) (rows : List Part) → fold (λ k (e : PartKey × PartRecord). k + cond (is_some e.1.extents) 1 0) n (row_entries key_of_part part_value rows) ≡ fold (λ k (row : Part). k + cond (is_some row.extents) 1 0) n rows
 count_entries n [] = refl
 count_entries n (row ∷ rows) =
-    ap (λ (b : Bool). fold (λ k (e : PartKey × PartRecord). k + cond (is_some e.1.extents) 1 0) (n + cond b 1 0) (entries_of part_place part_value rows)) (is_held row)
+    ap (λ (b : Bool). fold (λ k (e : PartKey × PartRecord). k + cond (is_some e.1.extents) 1 0) (n + cond b 1 0) (row_entries key_of_part part_value rows)) (is_held row)
     ∙ count_entries (n + cond (is_some row.extents) 1 0) rows
 
-pub held_rows : (records : Records) (rows : List Part) → records.parts ≡ table_map part_cmp part_place part_value rows → is_rising part_cmp part_place rows ≡ true
-    → count_by (λ (row : Part). is_some row.extents) rows ≡ count_held records
+pub held_rows : (records : Records) (rows : List Part) → records.parts ≡ table_map part_cmp key_of_part part_value rows → is_rising part_cmp key_of_part rows ≡ true
+    → count_by (λ (row : Part). is_some row.extents) rows ≡ count_held_parts records
 held_rows records rows all rising =
     sym (count_entries 0 rows)
-    ∙ ap (count_by (λ (e : PartKey × PartRecord). is_some e.1.extents)) (sym (ap entries all ∙ entries-table_map part_cmp part_place part_value rows rising))
+    ∙ ap (count_by (λ (e : PartKey × PartRecord). is_some e.1.extents)) (sym (ap entries all ∙ entries-table_map part_cmp key_of_part part_value rows rising))

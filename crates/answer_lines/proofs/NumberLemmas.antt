@@ -8,7 +8,7 @@ use Rattle.std.specs.Int.{w64, to_be_bytes}
 use Rattle.hex.specs.Hex.{encode_with, lower_digits}
 use Rattle.hex.proofs.HexLemmas.{IsAscii-encode_with}
 use Rattle.custody_records.specs.Form.{number_in}
-use Rattle.custody_records.specs.Written.{digits_of}
+use Rattle.custody_records.specs.RowsOfRecords.{digits_of}
 use Rattle.custody_records.proofs.FormLemmas.{number_in-digits}
 
 pub digits_of-injective : (m n : ℕ) → m < 2 ^ 64 → n < 2 ^ 64 → digits_of m ≡ digits_of n → m ≡ n

@@ -6,10 +6,10 @@ use Rattle.std.specs.Prelude.{Result, Ok, Err, OnOk}
 use Rattle.std.specs.Io.KnownBytes.{Appends}
 use Rattle.std.specs.List.{flat_map}
 use Rattle.desk.specs.Lines.{AppendsBeginning}
-use Rattle.custody_records.specs.Tables.{entries_of}
+use Rattle.custody_records.specs.Tables.{row_entries}
 use Rattle.answer_lines.specs.Lines.{line_text}
 use Rattle.answer_lines.specs.declared.lines.Line.{Line}
-use Rattle.answer_lines.specs.Printed.{as_line}
+use Rattle.answer_lines.specs.Printing.{as_line}
 use Rattle.answer_lines.specs.State.{lines_text}
 use Rattle.answer_lines.proofs.Beginnings.{begins_first, begins_second}
 
@@ -20,11 +20,11 @@ pub record IsTextOf {Row : Type 0} (text : List Row → List ℕ) (row_text : Ro
 
 -- each row as a line
 pub are_lines : {Row K X : Type 0} (key : Row → K) (value : Row → X) (line_at : K × X → Line)
-    → IsTextOf (λ (rows : List Row). lines_text (map line_at (entries_of key value rows))) (λ row. as_line (line_text (line_at (key row, value row))))
+    → IsTextOf (λ (rows : List Row). lines_text (map line_at (row_entries key value rows))) (λ row. as_line (line_text (line_at (key row, value row))))
 are_lines key value line_at = record { none = refl; more = λ row rows. refl }
 
 -- each row as a text
-pub are_texts : {Row K X : Type 0} (key : Row → K) (value : Row → X) (text : K × X → List ℕ) → IsTextOf (λ (rows : List Row). flat_map text (entries_of key value rows)) (λ row. text (key row, value row))
+pub are_texts : {Row K X : Type 0} (key : Row → K) (value : Row → X) (text : K × X → List ℕ) → IsTextOf (λ (rows : List Row). flat_map text (row_entries key value rows)) (λ row. text (key row, value row))
 are_texts key value text = record { none = refl; more = λ row rows. refl }
 
 text_join : {Row : Type 0} (text : List Row → List ℕ) (row_text : Row → List ℕ) → IsTextOf text row_text → (a b : List Row) → text (a ++ b) ≡ text a ++ text b

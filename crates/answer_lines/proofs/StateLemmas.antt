@@ -4,10 +4,10 @@ use Rattle.std.proofs.KnownBytes.{Appends-trans}
 use Rattle.std.specs.FinMap.{FinMap, entries}
 use Rattle.std.specs.Io.KnownBytes.{Appends}
 use Rattle.custody_records.specs.Keys.{text_cmp}
-use Rattle.custody_records.specs.Tables.{entries_of, is_rising, table_map}
+use Rattle.custody_records.specs.Tables.{row_entries, is_rising, table_map}
 use Rattle.custody_records.proofs.TableLemmas.{entries-table_map}
 use Rattle.desk.specs.Lines.{AppendsBeginning}
-use Rattle.answer_lines.specs.Printed.{as_line}
+use Rattle.answer_lines.specs.Printing.{as_line}
 use Rattle.answer_lines.specs.State.{lines_text}
 use Rattle.answer_lines.specs.declared.lines.Line.{Line}
 use Rattle.answer_lines.proofs.Beginnings.{begins_first, begins_second}
@@ -15,7 +15,7 @@ use Rattle.answer_lines.proofs.PrintLemmas.{lines_text-append}
 
 -- the rows of a table are the entries of its map
 pub rows_are : {Row X : Type 0} (key : Row → List ℕ) (value : Row → X) (kept : FinMap text_cmp X) (rows : List Row) → kept ≡ table_map text_cmp key value rows → is_rising text_cmp key rows ≡ true
-    → entries_of key value rows ≡ entries kept
+    → row_entries key value rows ≡ entries kept
 rows_are key value kept rows all rising = sym (ap entries all ∙ entries-table_map text_cmp key value rows rising)
 
 -- ---- the lines of a registry: its own, those of its parts and those of its notices

@@ -1,6 +1,6 @@
-pub mod Audited
+pub mod Auditing
 pub mod Lines
 pub mod Number
-pub mod Printed
+pub mod Printing
 pub mod State
 pub mod Statuses

@@ -1,9 +1,31 @@
 -- The lines of `state`: each registry with its parts and its notices, the releases, the holds, and last the free blocks.
-use Rattle.std.specs.Prelude.{ℕ, List, [], ◌∷◌, ◌++◌, Option, None, Some, length, map, is_some, if◌then◌else◌}
+use Rattle.std.specs.Prelude.{
+  ℕ,
+  List,
+  [],
+  ◌∷◌,
+  ◌++◌,
+  Option,
+  None,
+  Some,
+  length,
+  map,
+  is_some,
+  if◌then◌else◌,
+}
 use Rattle.std.specs.FinMap.{entries}
 use Rattle.std.specs.List.{flat_map}
 use Rattle.custody_records.specs.Keys.{NoticeKey, PartKey}
-use Rattle.custody_records.specs.Records.{Hold, Notice, PartRecord, Records, Release, name_of, notices_of, parts_of}
+use Rattle.custody_records.specs.Records.{
+  Hold,
+  Notice,
+  PartRecord,
+  Records,
+  Release,
+  name_of,
+  notices_of,
+  parts_of,
+}
 use Rattle.answer_lines.specs.Lines.{line_text, room_text}
 use Rattle.answer_lines.specs.declared.lines.Line.{Line}
 use Rattle.answer_lines.specs.declared.lines.Line.TheVariants as line
@@ -32,8 +54,8 @@ abbrev pub lines_text : List Line → List ℕ
 lines_text = flat_map (λ l. line_text l ++ 10 ∷ [])
 
 -- the report of a registry: its notices by number (Specification 2, Part B section 7)
-abbrev pub report_text : Records → List ℕ → List ℕ
-report_text records tld = lines_text (map notice_line (notices_of records tld))
+abbrev pub registry_report_text : Records → List ℕ → List ℕ
+registry_report_text records tld = lines_text (map notice_line (notices_of records tld))
 
 -- a registry, its parts by day, revision and place in the series, and its notices by number
 abbrev pub registry_lines : Records → List ℕ × ℕ → List Line

@@ -2,19 +2,19 @@
 ghost use Rattle.std.specs.Prelude.{◌≡◌, ◌+◌, ◌≤◌, ◌^◌, ◌<◌, ◌++◌, [], ◌∷◌, length, codes, decimal};
 ghost use Rattle.arrayvec.specs.ArrayVec.{array_vec_len};
 ghost use Rattle.schedule.specs.Text.{day_text, moment_text};
-ghost use Rattle.deposit_name.specs.FaultText as names;
+ghost use Rattle.deposit_name.specs.ErrorText as names;
 ghost use Rattle.deposit_name.specs.Name.{name_text};
 ghost use Rattle.desk.specs.Lines.{line};
-ghost use Rattle.custody_records.specs.Written.{digits_of};
+ghost use Rattle.custody_records.specs.RowsOfRecords.{digits_of};
 ghost use Rattle.custody.specs.Answers.{init_error_text};
-ghost use Rattle.custody_machine.specs.Codes.{row_of, row_text};
-ghost use Rattle.custody_machine.specs.Texts.{damage_text, fault_text, refusal_text};
+ghost use Rattle.custody_machine.specs.Codes.{code_row, code_row_text};
+ghost use Rattle.custody_machine.specs.Texts.{damage_text, failure_text, refusal_text};
 ghost use Rattle.answer_lines.specs.Lines.{hold_text, line_text, lifted_hold_text, release_text};
 
 use crate::{Line, VolumeNumber};
 use arrayvec::ArrayVec;
 use custody::InitError;
-use custody_machine::{Code, Damage, Fault, Refusal};
+use custody_machine::{Code, Damage, Failure, Refusal};
 use custody_records::write_number;
 use deposit_name::{DepositName, NameError, Reference, Tld, write_name};
 use desk::{Ground, LINE_MAX, Notice, write_line};
@@ -70,7 +70,7 @@ fn registry_line(word: &[u8], tld: &Tld, first: Day) -> LineBytes
 }
 
 /// A word with its space, and a part: its name and length, a word between spaces, a moment.
-fn part_line(word: &[u8], name: &DepositName, len: u32, state: &[u8], at: Sec) -> LineBytes
+fn part_line_bytes(word: &[u8], name: &DepositName, len: u32, state: &[u8], at: Sec) -> LineBytes
     requires { (length word.now ≤ 20) × (length state.now ≤ 20) }
     ensures { result.items ≡ (word.now ++ name_text name.now ++ codes " " ++ decimal len ++ state.now ++ moment_text at) ++ 10 ∷ [] }
 {
@@ -201,7 +201,7 @@ fn lifted_line(reference: &Reference, at: Sec) -> LineBytes
 }
 
 /// The line of a notice in a report.
-fn notice_line(notice: &Notice) -> LineBytes
+fn notice_line_bytes(notice: &Notice) -> LineBytes
     ensures { result.items ≡ line notice.now }
 {
     let mut room = [0; LINE_MAX];
@@ -223,9 +223,9 @@ impl Line {
             Line::Ready { blocks, number } => ready_line(*blocks, *number),
             Line::Registered { tld, first } => registry_line(b"registered ", tld, *first),
             Line::Received { name, length, at } => {
-                part_line(b"received ", name, *length, b" ", *at)
+                part_line_bytes(b"received ", name, *length, b" ", *at)
             }
-            Line::Notice(notice) => notice_line(notice),
+            Line::Notice(notice) => notice_line_bytes(notice),
             Line::Released {
                 reference,
                 tld,
@@ -245,9 +245,11 @@ impl Line {
             Line::Lifted { reference, at } => lifted_line(reference, *at),
             Line::Purged { count } => count_line(b"dropped ", *count as u64),
             Line::Registry { tld, first } => registry_line(b"registry ", tld, *first),
-            Line::Part { name, length, at } => part_line(b"part ", name, *length, b" held ", *at),
+            Line::Part { name, length, at } => part_line_bytes(
+                b"part ", name, *length, b" held ", *at,
+            ),
             Line::Dropped { name, length, at } => {
-                part_line(b"part ", name, *length, b" dropped ", *at)
+                part_line_bytes(b"part ", name, *length, b" dropped ", *at)
             }
             Line::Release {
                 reference,
@@ -284,7 +286,7 @@ impl Line {
 }
 
 fn name_fault(fault: NameError) -> &'static str
-    ensures { result.now ≡ names.fault_text fault }
+    ensures { result.now ≡ names.name_error_text fault }
 {
     match fault {
         NameError::Suffix => "N1",
@@ -331,15 +333,15 @@ pub fn refusal_bytes(refusal: &Refusal) -> LineBytes
 }
 
 /// The bytes of the line of a failure, with its line feed.
-pub fn fault_bytes(fault: &Fault) -> LineBytes
-    ensures { result.items ≡ fault_text fault.now ++ 10 ∷ [] }
+pub fn failure_bytes(failure: &Failure) -> LineBytes
+    ensures { result.items ≡ failure_text failure.now ++ 10 ∷ [] }
 {
-    let code = fault.code();
+    let code = failure.code();
     let mut line = LineBytes::new();
     append(&mut line, code.number.as_bytes());
     append(&mut line, b" ");
     append(&mut line, code.text.as_bytes());
-    if let Fault::Damaged(damage) = fault {
+    if let Failure::Damaged(damage) = failure {
         append(&mut line, b" ");
         append(&mut line, damage_number(*damage).as_bytes());
     }
@@ -350,7 +352,7 @@ pub fn fault_bytes(fault: &Fault) -> LineBytes
 /// A number and its text.
 fn code_line(code: &Code) -> LineBytes
     requires { length code.now.number.now + length code.now.text.now ≤ 200 }
-    ensures { result.items ≡ row_text (row_of code.now) ++ 10 ∷ [] }
+    ensures { result.items ≡ code_row_text (code_row code.now) ++ 10 ∷ [] }
 {
     let mut line = LineBytes::new();
     append(&mut line, code.number.as_bytes());
@@ -365,7 +367,7 @@ pub fn init_error_bytes(error: &InitError) -> LineBytes
     ensures { result.items ≡ init_error_text error.now ++ 10 ∷ [] }
 {
     match error {
-        InitError::Fault(fault) => fault_bytes(fault),
+        InitError::Failure(failure) => failure_bytes(failure),
         InitError::AlreadyInitialised | InitError::Size => code_line(&error.code()),
     }
 }

@@ -2,18 +2,18 @@
 //! belongs, and the exit status.
 #![tactic(auto)]
 
-mod audited;
+mod auditing;
 mod bytes;
 mod lines;
 mod number;
+mod printing;
 mod state;
-mod telling;
 mod writing;
 
-pub use bytes::{LineBytes, append, append_number, fault_bytes, init_error_bytes, refusal_bytes};
+pub use bytes::{LineBytes, append, append_number, failure_bytes, init_error_bytes, refusal_bytes};
 pub use lines::{Line, names_behind};
 pub use number::VolumeNumber;
-pub use telling::{
+pub use printing::{
     print_audit, print_bytes, print_line, print_report, print_state, tell, tell_answer, tell_init,
     tell_refusal,
 };

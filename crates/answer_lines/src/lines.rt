@@ -1,7 +1,7 @@
 //! The lines of replies.
 ghost use Rattle.std.specs.Prelude.{◌≡◌, IfOk, Some};
 ghost use Rattle.answer_lines.specs.Lines.{line_text, notice_text};
-ghost use Rattle.answer_lines.specs.Printed.{names_behind};
+ghost use Rattle.answer_lines.specs.Printing.{names_behind};
 
 use crate::VolumeNumber;
 use custody::Record;
@@ -117,7 +117,7 @@ pub enum Line {
 
 impl Line {
     ghost use Rattle.std.specs.Prelude.{◌≡◌};
-    ghost use Rattle.answer_lines.specs.Printed.{line_of};
+    ghost use Rattle.answer_lines.specs.Printing.{line_of};
 
     /// The line of the record that a command made, or found made.
     pub fn of_record(told: &Record) -> Line

@@ -1,7 +1,7 @@
 //! The numbers of volumes.
 ghost use Rattle.std.specs.Prelude.{◌≡◌, ℕ, ◌^◌, ◌<◌, Some, IfSome};
 ghost use Rattle.std.specs.Str.{IsAscii};
-ghost use Rattle.custody_records.specs.Written.{digits_of};
+ghost use Rattle.custody_records.specs.RowsOfRecords.{digits_of};
 ghost use Rattle.answer_lines.specs.Number.{ShowsNumber};
 
 use custody_records::{read_number, write_number};

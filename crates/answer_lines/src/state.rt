@@ -3,11 +3,30 @@ ghost use Rattle.std.specs.Prelude.{◌≡◌, OnOk, map};
 ghost use Rattle.std.specs.FinMap.{entries};
 ghost use Rattle.std.specs.Io.KnownBytes.{Appends};
 ghost use Rattle.desk.specs.Lines.{AppendsBeginning};
-ghost use Rattle.custody_records.specs.Held.{records_of};
-ghost use Rattle.custody_records.specs.Tables.{entries_of};
-ghost use Rattle.custody_records.specs.Typed.{hold_entry, notice_key, notice_value, part_entry, part_place, part_value, registry_key, registry_value, release_entry};
-ghost use Rattle.answer_lines.specs.Printed.{Prints, as_line};
-ghost use Rattle.answer_lines.specs.State.{hold_line, lines_text, notice_line, part_line, registries_text, registry_lines, release_line, state_text};
+ghost use Rattle.custody_records.specs.MemoryRecords.{records_of};
+ghost use Rattle.custody_records.specs.Tables.{row_entries};
+ghost use Rattle.custody_records.specs.TypedRecords.{
+  hold_entry,
+  notice_key,
+  notice_value,
+  part_entry,
+  key_of_part,
+  part_value,
+  registry_key,
+  registry_value,
+  release_entry,
+};
+ghost use Rattle.answer_lines.specs.Printing.{PrintsLine, as_line};
+ghost use Rattle.answer_lines.specs.State.{
+  hold_line,
+  lines_text,
+  notice_line,
+  part_line,
+  registries_text,
+  registry_lines,
+  release_line,
+  state_text,
+};
 
 use crate::writing::{flush, write_line};
 use crate::{Line, WriteFailed};
@@ -22,7 +41,7 @@ pub(crate) fn write_state<W: Write>(
     total: u32,
     out: &mut W,
 ) -> Result<(), WriteFailed>
-    ensures whole { OnOk result (Prints (W.contents out.old) (W.contents out.new) (state_text (records_of records.now) free total)) }
+    ensures whole { OnOk result (PrintsLine (W.contents out.old) (W.contents out.new) (state_text (records_of records.now) free total)) }
     ensures begun { AppendsBeginning (W.contents out.old) (W.contents out.new) (as_line (state_text (records_of records.now) free total)) }
 {
     write_registries(records, out)?;
@@ -61,8 +80,8 @@ fn write_registry<W: Write>(
 }
 
 fn write_parts<W: Write>(parts: &[Part], out: &mut W) -> Result<(), WriteFailed>
-    ensures whole { OnOk result (Appends (W.contents out.old) (W.contents out.new) (lines_text (map part_line (entries_of part_place part_value parts.now)))) }
-    ensures begun { AppendsBeginning (W.contents out.old) (W.contents out.new) (lines_text (map part_line (entries_of part_place part_value parts.now))) }
+    ensures whole { OnOk result (Appends (W.contents out.old) (W.contents out.new) (lines_text (map part_line (row_entries key_of_part part_value parts.now)))) }
+    ensures begun { AppendsBeginning (W.contents out.old) (W.contents out.new) (lines_text (map part_line (row_entries key_of_part part_value parts.now))) }
 {
     for part in parts {
         write_line(&part_line(part), out)?;
@@ -71,8 +90,8 @@ fn write_parts<W: Write>(parts: &[Part], out: &mut W) -> Result<(), WriteFailed>
 }
 
 fn write_notices<W: Write>(notices: &[Notice], out: &mut W) -> Result<(), WriteFailed>
-    ensures whole { OnOk result (Appends (W.contents out.old) (W.contents out.new) (lines_text (map notice_line (entries_of notice_key notice_value notices.now)))) }
-    ensures begun { AppendsBeginning (W.contents out.old) (W.contents out.new) (lines_text (map notice_line (entries_of notice_key notice_value notices.now))) }
+    ensures whole { OnOk result (Appends (W.contents out.old) (W.contents out.new) (lines_text (map notice_line (row_entries notice_key notice_value notices.now)))) }
+    ensures begun { AppendsBeginning (W.contents out.old) (W.contents out.new) (lines_text (map notice_line (row_entries notice_key notice_value notices.now))) }
 {
     for notice in notices {
         let line = Line::Notice(*notice);
@@ -103,8 +122,8 @@ fn write_holds<W: Write>(records: &Records, out: &mut W) -> Result<(), WriteFail
 
 /// Writes the line of each notice.
 pub(crate) fn write_report<W: Write>(notices: &[Notice], out: &mut W) -> Result<(), WriteFailed>
-    ensures whole { OnOk result (Appends (W.contents out.old) (W.contents out.new) (lines_text (map notice_line (entries_of notice_key notice_value notices.now)))) }
-    ensures begun { AppendsBeginning (W.contents out.old) (W.contents out.new) (lines_text (map notice_line (entries_of notice_key notice_value notices.now))) }
+    ensures whole { OnOk result (Appends (W.contents out.old) (W.contents out.new) (lines_text (map notice_line (row_entries notice_key notice_value notices.now)))) }
+    ensures begun { AppendsBeginning (W.contents out.old) (W.contents out.new) (lines_text (map notice_line (row_entries notice_key notice_value notices.now))) }
 {
     write_notices(notices, out)?;
     flush(out)

@@ -3,7 +3,7 @@ ghost use Rattle.std.specs.Prelude.{OnOk};
 ghost use Rattle.std.specs.Io.KnownBytes.{Appends, Keeps};
 ghost use Rattle.desk.specs.Lines.{AppendsBeginning};
 ghost use Rattle.answer_lines.specs.Lines.{line_text};
-ghost use Rattle.answer_lines.specs.Printed.{Prints, as_line};
+ghost use Rattle.answer_lines.specs.Printing.{PrintsLine, as_line};
 
 use crate::Line;
 use std::io::Write;
@@ -33,7 +33,7 @@ pub fn write_whole<W: Write>(bytes: &[u8], out: &mut W) -> Result<(), WriteFaile
 
 /// Writes a line with its line feed.
 pub(crate) fn write_line<W: Write>(line: &Line, out: &mut W) -> Result<(), WriteFailed>
-    ensures whole { OnOk result (Prints (W.contents out.old) (W.contents out.new) (line_text line.now)) }
+    ensures whole { OnOk result (PrintsLine (W.contents out.old) (W.contents out.new) (line_text line.now)) }
     ensures begun { AppendsBeginning (W.contents out.old) (W.contents out.new) (as_line (line_text line.now)) }
 {
     write_whole(&line.bytes(), out)

@@ -4,26 +4,26 @@ use Rattle.std.specs.Prelude.{count_by}
 use Rattle.std.specs.List.{list_any}
 use Rattle.std.proofs.lemmas.List.Folds.{list_any-append}
 use Rattle.std.proofs.lemmas.List.Sums.{sum_by-cons}
-use Rattle.custody_machine.specs.Machine.{Command, Entry}
-use Rattle.custody_machine.specs.Retries.{are_same_keys, has_same_key, key, once_after}
+use Rattle.custody_machine.specs.Machine.{Command, TimedCommand}
+use Rattle.custody_machine.specs.Retries.{are_same_keys, has_same_key, command_key, once_after}
 use Rattle.custody_machine.proofs.Retries.{keys_are_compared}
 
 module _ (command : Command) where
-  abbrev has_it : Entry → Bool
+  abbrev has_it : TimedCommand → Bool
   has_it entry = has_same_key command entry.0
 
-  abbrev count_in : List Entry → ℕ
+  abbrev count_in : List TimedCommand → ℕ
   count_in entries = count_by has_it entries
 
   -- what has the same key is compared alike
   alike : (other : Command) → has_same_key command other ≡ true → (earlier : List Command) → list_any (has_same_key other) earlier ≡ list_any (has_same_key command) earlier
-  alike other same earlier = ap (λ k. list_any (λ (c : Command). are_same_keys k (key c)) earlier) (sym ((keys_are_compared command other).0 same).1)
+  alike other same earlier = ap (λ k. list_any (λ (c : Command). are_same_keys k (command_key c)) earlier) (sym ((keys_are_compared command other).0 same).1)
 
-  counted : (entry : Entry) (entries : List Entry) (b : Bool) (n : ℕ) → has_it entry ≡ b → count_in entries ≡ n → count_in (entry ∷ entries) ≡ cond b 1 0 + n
-  counted entry entries b n has is = sum_by-cons (λ (e : Entry). cond (has_it e) 1 0) entry entries ∙ (λ i. cond (has i) 1 0 + is i)
+  counted : (entry : TimedCommand) (entries : List TimedCommand) (b : Bool) (n : ℕ) → has_it entry ≡ b → count_in entries ≡ n → count_in (entry ∷ entries) ≡ cond b 1 0 + n
+  counted entry entries b n has is = sum_by-cons (λ (e : TimedCommand). cond (has_it e) 1 0) entry entries ∙ (λ i. cond (has i) 1 0 + is i)
 
   -- where an earlier one has the key, none is left
-  none_left : (earlier : List Command) (entries : List Entry) → list_any (has_same_key command) earlier ≡ true → count_in (once_after earlier entries) ≡ 0
+  none_left : (earlier : List Command) (entries : List TimedCommand) → list_any (has_same_key command) earlier ≡ true → count_in (once_after earlier entries) ≡ 0
   none_left earlier [] h = refl
   none_left earlier (entry ∷ entries) h = by (list_any (has_same_key entry.0) earlier) refl (has_it entry) refl (none_left earlier entries h) (λ e. none_left (entry.0 ∷ earlier) entries e)
     where
@@ -35,7 +35,7 @@ module _ (command : Command) where
       by false seen false is skipped taken = counted entry (once_after (entry.0 ∷ earlier) entries) false 0 is (taken (ap (λ b. b || list_any (has_same_key command) earlier) is ∙ h))
 
   -- where none has, and one comes, it is the only one
-  one_left : (earlier : List Command) (entries : List Entry) → list_any (has_same_key command) earlier ≡ false → list_any has_it entries ≡ true → count_in (once_after earlier entries) ≡ 1
+  one_left : (earlier : List Command) (entries : List TimedCommand) → list_any (has_same_key command) earlier ≡ false → list_any has_it entries ≡ true → count_in (once_after earlier entries) ≡ 1
   one_left earlier [] h there = cc
   one_left earlier (entry ∷ entries) h there = by (list_any (has_same_key entry.0) earlier) refl (has_it entry) refl there (λ e. one_left earlier entries h e) (λ e f. one_left (entry.0 ∷ earlier) entries e f)
     where
@@ -49,7 +49,7 @@ module _ (command : Command) where
       by false seen false is there skipped taken = counted entry (once_after (entry.0 ∷ earlier) entries) false 1 is (taken (ap (λ b. b || list_any (has_same_key command) earlier) is ∙ h) there)
 
   -- a command that stands among others stands there once
-  pub counted_once : (before behind : List Entry) (now : ℕ) → is_some (key command) ≡ true → count_in (once_after [] ((before ++ (command, now) ∷ []) ++ behind)) ≡ 1
+  pub counted_once : (before behind : List TimedCommand) (now : ℕ) → is_some (command_key command) ≡ true → count_in (once_after [] ((before ++ (command, now) ∷ []) ++ behind)) ≡ 1
   counted_once before behind now keyed =
       one_left [] ((before ++ (command, now) ∷ []) ++ behind) refl
       (list_any-append has_it (before ++ (command, now) ∷ []) behind ∙ ap (λ b. b || list_any has_it behind) (list_any-append has_it before ((command, now) ∷ []) ∙ last (list_any has_it before)))

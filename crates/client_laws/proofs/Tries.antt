@@ -7,21 +7,21 @@ use Rattle.std.proofs.lemmas.Bool.{cases_lt}
 use Rattle.std.proofs.lemmas.Bool.Decides.{Decides-ltb}
 use Rattle.schedule.specs.Schedule.{day_of, year_after}
 use Rattle.deposit_name.specs.declared.kinds.Kind.{Kind}
-use Rattle.deposit_name.specs.declared.faults.NameError.{NameError}
+use Rattle.deposit_name.specs.declared.errors.NameError.{NameError}
 use Rattle.deposit_name.specs.Name.{Name}
 use Rattle.custody_records.specs.Keys.{text_cmp, PartKey, part_cmp}
-use Rattle.custody_records.specs.Orders.{part_total, part_exact}
+use Rattle.custody_records.specs.inside.Orders.{part_total, part_exact}
 use Rattle.custody_records.specs.Purge.{is_on_hold}
 use Rattle.custody_records.specs.Records as kept_in
 use Rattle.custody_records.specs.Records.{key_of}
 use Rattle.custody_machine.specs.declared.answers.Refusal.{Refusal}
-use Rattle.custody_machine.specs.declared.answers.Fault.TheVariants.{NoMemory, VolumeFailed, StoreFailed, Closed, Damaged}
-use Rattle.custody_machine.specs.Names.{read_name}
+use Rattle.custody_machine.specs.declared.answers.Failure.TheVariants.{NoMemory, VolumeFailed, StoreFailed, Closed, Damaged}
+use Rattle.custody_machine.specs.NameReading.{read_name}
 use Rattle.custody_machine.specs.State.{State, Part, Content, Held, Dropped}
 use Rattle.custody_machine.specs.MapValues.{map_keyed}
-use Rattle.custody_machine.specs.Machine.{Command, Receive, Purge, Record, OfPurge, Reply, Outcome, Refuse, Accept, step, state_of, state_after, Answer, Accepted, Refused, Failed, Answers, MayRefuse, recorded, is_dropped, is_gone, HasRecord, Entry, without_bytes, dropped_if_due, without_due, count_due}
-use Rattle.custody_machine.specs.History.{Event, Answered, Rested, ShutDown, StoppedAtRest, StoppedWithin, OpenedWith, Opened, NotOpened, Condition, Running, Halted, Stopped, Pair, Happens, Run, condition_after, OpensSoundly, IsFoundWithin, MayFind}
-use Rattle.custody_machine.specs.Retries.{key, has_same_key, IsKeptAs, IsDroppedSince}
+use Rattle.custody_machine.specs.Machine.{Command, Receive, Purge, Record, OfPurge, Reply, Step, Refuse, Accept, step, state_of, state_after, Answer, Accepted, Refused, Failed, MayAnswer, MayRefuse, part_under_name, is_dropped, are_bytes_dropped, HasRecord, TimedCommand, without_bytes, part_dropped_if_due, state_without_due, count_due}
+use Rattle.custody_machine.specs.History.{Event, Answered, AnsweredOtherCall, ShutDown, StoppedAtRest, StoppedWithin, OpenedWith, Opened, NotOpened, Condition, Running, Halted, Stopped, Pair, Happens, HappensAlong, condition_after, OpensSoundly, IsFoundWithin, MayFind}
+use Rattle.custody_machine.specs.Retries.{command_key, has_same_key, IsKeptAs, IsDroppedSince}
 use Rattle.custody_machine.proofs.MapValues.{get-map_keyed}
 use Rattle.custody_machine.proofs.Accepting.{accept_inj, step_none, recorded_of}
 use Rattle.custody_machine.proofs.Continuing.{KeepsPart, kept_itself}
@@ -37,7 +37,7 @@ one_value a b o p q = cc
 
 -- a held part loses its bytes where a test of its moment is passed
 abbrev drops : (ℕ → Bool) → Part → Part
-drops test part = if not (is_gone part.content) && test part.received then without_bytes part else part
+drops test part = if not (are_bytes_dropped part.content) && test part.received then without_bytes part else part
 
 -- the early test is passed only where the late one is
 module _ (early late : ℕ → Bool) (kind : Kind) (received : ℕ) (later : early received ≡ true → late received ≡ true) where
@@ -78,32 +78,32 @@ module _ (holds : FinMap text_cmp kept_in.Hold) (early late : ℕ) (less : (y : 
       by false e b f is = cc
 
   module _ (parts : FinMap part_cmp Part) where
-    twice : (today next both : ℕ) → ((key : PartKey) (part : Part) → dropped_if_due holds next key (dropped_if_due holds today key part) ≡ dropped_if_due holds both key part)
-        → map_keyed (dropped_if_due holds next) (map_keyed (dropped_if_due holds today) parts) ≡ map_keyed (dropped_if_due holds both) parts
+    twice : (today next both : ℕ) → ((key : PartKey) (part : Part) → part_dropped_if_due holds next key (part_dropped_if_due holds today key part) ≡ part_dropped_if_due holds both key part)
+        → map_keyed (part_dropped_if_due holds next) (map_keyed (part_dropped_if_due holds today) parts) ≡ map_keyed (part_dropped_if_due holds both) parts
     twice today next both each = same_map part_total part_exact _ _ (λ q.
-        get-map_keyed part_cmp part_exact (dropped_if_due holds next) (map_keyed (dropped_if_due holds today) parts) q
-        ∙ ap (option_map (dropped_if_due holds next q)) (get-map_keyed part_cmp part_exact (dropped_if_due holds today) parts q)
+        get-map_keyed part_cmp part_exact (part_dropped_if_due holds next) (map_keyed (part_dropped_if_due holds today) parts) q
+        ∙ ap (option_map (part_dropped_if_due holds next q)) (get-map_keyed part_cmp part_exact (part_dropped_if_due holds today) parts q)
         ∙ by q (get parts q)
-        ∙ sym (get-map_keyed part_cmp part_exact (dropped_if_due holds both) parts q))
+        ∙ sym (get-map_keyed part_cmp part_exact (part_dropped_if_due holds both) parts q))
       where
-        by : (q : PartKey) (o : Option Part) → option_map (dropped_if_due holds next q) (option_map (dropped_if_due holds today q) o) ≡ option_map (dropped_if_due holds both q) o
+        by : (q : PartKey) (o : Option Part) → option_map (part_dropped_if_due holds next q) (option_map (part_dropped_if_due holds today q) o) ≡ option_map (part_dropped_if_due holds both q) o
         by q None = refl
         by q (Some part) = ap Some (each q part)
 
-    pub early_then_late : map_keyed (dropped_if_due holds late) (map_keyed (dropped_if_due holds early) parts) ≡ map_keyed (dropped_if_due holds late) parts
+    pub early_then_late : map_keyed (part_dropped_if_due holds late) (map_keyed (part_dropped_if_due holds early) parts) ≡ map_keyed (part_dropped_if_due holds late) parts
     early_then_late = twice early late late (λ key part. late_after (test key early) (test key late) part.kind part.received (test_later key part.received) part.content)
 
-    pub late_then_early : map_keyed (dropped_if_due holds early) (map_keyed (dropped_if_due holds late) parts) ≡ map_keyed (dropped_if_due holds late) parts
+    pub late_then_early : map_keyed (part_dropped_if_due holds early) (map_keyed (part_dropped_if_due holds late) parts) ≡ map_keyed (part_dropped_if_due holds late) parts
     late_then_early = twice late early late (λ key part. late_before (test key early) (test key late) part.kind part.received (test_later key part.received) part.content)
 
-purge_is : (s : State) (now : ℕ) → step s Purge now ≡ Accept (record { entry = OfPurge (count_due s (day_of now)); is_repeat = false }) (without_due s (day_of now))
+purge_is : (s : State) (now : ℕ) → step s Purge now ≡ Accept (record { entry = OfPurge (count_due s (day_of now)); is_repeat = false }) (state_without_due s (day_of now))
 purge_is s now = step_none s Purge now refl
 
 below_later : (a b : ℕ) → a ≤ b → (y : ℕ) → nat_lt y a ≡ true → nat_lt y b ≡ true
 below_later a b h y e = let below = (Decides-ltb y a).0 e in (Decides-ltb y b).1 (omega arith)
 
 -- what two purges leave, one of them leaves alone
-two_purges : (s : State) (a b : ℕ) → (c : ℕ) × ((c ≡ a) ⊎ (c ≡ b)) × (without_due (without_due s (day_of a)) (day_of b) ≡ without_due s (day_of c))
+two_purges : (s : State) (a b : ℕ) → (c : ℕ) × ((c ≡ a) ⊎ (c ≡ b)) × (state_without_due (state_without_due s (day_of a)) (day_of b) ≡ state_without_due s (day_of c))
 two_purges s a b = ⊎_elim
     (λ (h : day_of a < day_of b). (b, inr refl, ap (λ parts. record s { parts = parts }) (early_then_late s.holds (day_of a) (day_of b) (below_later (day_of a) (day_of b) (omega arith)) s.parts)))
     (λ h. (a, inl refl, ap (λ parts. record s { parts = parts }) (late_then_early s.holds (day_of b) (day_of a) (below_later (day_of b) (day_of a) h) s.parts)))
@@ -117,12 +117,12 @@ pub record IsOneOf (s : State) (c : Command) (a b : ℕ) (told : Reply) (new : S
   pub one : (now ≡ a) ⊎ (now ≡ b)
   pub reply : Reply
   pub accepts : step s c now ≡ Accept reply new
-  pub kept : is_some (key c) ≡ true → IsKeptAs reply.entry told.entry
+  pub kept : is_some (command_key c) ≡ true → IsKeptAs reply.entry told.entry
 
-own_key : (c : Command) → is_some (key c) ≡ true → has_same_key c c ≡ true
+own_key : (c : Command) → is_some (command_key c) ≡ true → has_same_key c c ≡ true
 own_key c keyed = (keys_are_compared c c).1 (keyed, refl)
 
-keyed_again : (s : State) (c : Command) (mid new : State) (a b : ℕ) (first told : Reply) → is_some (key c) ≡ true → step s c a ≡ Accept first mid → step mid c b ≡ Accept told new → IsOneOf s c a b told new
+keyed_again : (s : State) (c : Command) (mid new : State) (a b : ℕ) (first told : Reply) → is_some (command_key c) ≡ true → step s c a ≡ Accept first mid → step mid c b ≡ Accept told new → IsOneOf s c a b told new
 keyed_again s c mid new a b first told keyed made again =
     let keeps = accepted_is_kept s c a first mid made in
     let same = (same_key_is_kept mid c c first.entry b told new keeps (own_key c keyed) again).1 in
@@ -139,7 +139,7 @@ accepted_again s Purge mid new a b first told made again =
     let first_is = accept_inj _ _ _ _ (sym (purge_is s a) ∙ made) in
     let told_is = accept_inj _ _ _ _ (sym (purge_is mid b) ∙ again) in
     let one = two_purges s a b in
-    let new_is : without_due s (day_of one.0) ≡ new = sym one.2 ∙ ap (λ t. without_due t (day_of b)) first_is.1 ∙ told_is.1 in
+    let new_is : state_without_due s (day_of one.0) ≡ new = sym one.2 ∙ ap (λ t. state_without_due t (day_of b)) first_is.1 ∙ told_is.1 in
     record { now = one.0; one = one.1; reply = record { entry = OfPurge (count_due s (day_of one.0)); is_repeat = false }; accepts = purge_is s one.0 ∙ ap (Accept (record { entry = OfPurge (count_due s (day_of one.0)); is_repeat = false })) new_is; kept = λ keyed. cc }
 accepted_again s c mid new a b first told made again = keyed_again s c mid new a b first told refl made again
 
@@ -148,9 +148,9 @@ not_dropped : (s mid : State) (c : Command) (now : ℕ) (first : Reply) → step
 not_dropped s mid (Receive text bytes) now first made gone =
     let keeps : KeepsPart mid text bytes first.entry = accepted_is_kept s (Receive text bytes) now first mid made in
     let at = subst (HasRecord mid) keeps.made (replies_are_records s mid (Receive text bytes) now first made) in
-    let there : recorded mid keeps.name ≡ Some keeps.part = recorded_of mid keeps.name keeps.part at keeps.kind in
-    let dropped : is_dropped (recorded mid keeps.name) ≡ true = ap (λ n. is_dropped (recorded mid n)) (one_name gone.0 keeps.name (read_name text) gone.1 keeps.named) ∙ gone.2 in
-    let held : is_dropped (recorded mid keeps.name) ≡ false = ap is_dropped there ∙ ap is_gone keeps.content in cc
+    let there : part_under_name mid keeps.name ≡ Some keeps.part = recorded_of mid keeps.name keeps.part at keeps.kind in
+    let dropped : is_dropped (part_under_name mid keeps.name) ≡ true = ap (λ n. is_dropped (part_under_name mid n)) (one_name gone.0 keeps.name (read_name text) gone.1 keeps.named) ∙ gone.2 in
+    let held : is_dropped (part_under_name mid keeps.name) ≡ false = ap is_dropped there ∙ ap are_bytes_dropped keeps.content in cc
   where
     one_name : (m n : Name) (read : Result Name NameError) → read ≡ Ok m → read ≡ Ok n → n ≡ m
     one_name m n read p q = cc
@@ -165,7 +165,7 @@ not_refused s c mid a b first q made may = keyed refl
     by entry (inl h) = let r = subst (λ r. MayRefuse c r q) h may in let new = r.2 in cc
     by entry (inr h) = not_dropped s mid c a first made h.1
 
-    keyed : is_some (key c) ≡ true → ⊥
+    keyed : is_some (command_key c) ≡ true → ⊥
     keyed is =
         let there = as_now mid c first.entry (accepted_is_kept s c a first mid made) in
         by there.0 (asked_again mid c there.0 b is there.2 there.3).0
@@ -187,14 +187,14 @@ module _ (asked : Option Command) (M : ℕ → Type 0) (old : State) where
   -- what happens to a custody for it
   abbrev pub IsTry : Event → Type 0
   IsTry (Answered c now answer) = (asked ≡ Some c) × M now
-  IsTry Rested = Unit {0}
+  IsTry AnsweredOtherCall = Unit {0}
   IsTry ShutDown = Unit {0}
   IsTry (StoppedAtRest pair) = Unit {0}
   IsTry (StoppedWithin c now pair) = (asked ≡ Some c) × M now
   IsTry (OpenedWith pair answer) = Unit {0}
 
   -- what is in doubt is the command
-  abbrev InDoubt : Option Entry → Type 0
+  abbrev InDoubt : Option TimedCommand → Type 0
   InDoubt None = Unit {0}
   InDoubt (Some entry) = (asked ≡ Some entry.0) × M entry.1
 
@@ -214,7 +214,7 @@ module _ (asked : Option Command) (M : ℕ → Type 0) (old : State) where
   reached_after : (state : State) (c : Command) (now : ℕ) → Reached state → asked ≡ Some c → M now → Reached (state_after state c now)
   reached_after state c now here own at = by (step state c now) refl
     where
-      by : (r : Outcome) → step state c now ≡ r → Reached (state_of state r)
+      by : (r : Step) → step state c now ≡ r → Reached (state_of state r)
       by (Refuse q) e = here
       by (Accept reply new) e = reached_by state new c now reply here own at e
 
@@ -222,11 +222,11 @@ module _ (asked : Option Command) (M : ℕ → Type 0) (old : State) where
   reached_within state found c now here own at (inl is) = subst Reached (sym is) here
   reached_within state found c now here own at (inr is) = subst Reached (sym is) (reached_after state c now here own at)
 
-  reached_found : (state found : State) (doubt : Option Entry) → Reached state → InDoubt doubt → MayFind state doubt found → Reached found
+  reached_found : (state found : State) (doubt : Option TimedCommand) → Reached state → InDoubt doubt → MayFind state doubt found → Reached found
   reached_found state found None here own is = subst Reached (sym is) here
   reached_found state found (Some entry) here own is = reached_within state found entry.0 entry.1 here own.0 own.1 is
 
-  answered_tried : (state new : State) (c : Command) (now : ℕ) (answer : Answer) → Reached state → asked ≡ Some c → M now → Answers state c now answer new → IsTried (condition_after state c now answer new)
+  answered_tried : (state new : State) (c : Command) (now : ℕ) (answer : Answer) → Reached state → asked ≡ Some c → M now → MayAnswer state c now answer new → IsTried (condition_after state c now answer new)
   answered_tried state new c now (Accepted reply) here own at e = reached_by state new c now reply here own at e
   answered_tried state new c now (Refused q) here own at e = subst Reached (sym e.1) here
   answered_tried state new c now (Failed NoMemory) here own at e = subst Reached (sym e.1) here
@@ -237,31 +237,31 @@ module _ (asked : Option Command) (M : ℕ → Type 0) (old : State) where
 
   pub tried_then : (start : Condition) (event : Event) (next : Condition) → IsTried start → IsTry event → Happens start event next → IsTried next
   tried_then (Running state) (Answered c now answer) next here own h = subst IsTried (sym h.2) (answered_tried state h.0 c now answer here own.0 own.1 h.1)
-  tried_then (Running state) Rested next here own h = subst IsTried (sym h) here
+  tried_then (Running state) AnsweredOtherCall next here own h = subst IsTried (sym h) here
   tried_then (Running state) ShutDown next here own h = subst IsTried (sym h) (here, tt)
   tried_then (Running state) (StoppedAtRest pair) next here own h = subst IsTried (sym h.1) (weaker pair (λ found is. subst Reached (sym is) here) h.0)
   tried_then (Running state) (StoppedWithin c now pair) next here own h = subst IsTried (sym h.1) (weaker pair (λ found is. reached_within state found c now here own.0 own.1 is) h.0)
   tried_then (Running state) (OpenedWith pair answer) next here own h = absurd h
   tried_then (Halted state doubt) (Answered c now answer) next here own h = subst IsTried (sym h.1) here
-  tried_then (Halted state doubt) Rested next here own h = subst IsTried (sym h) here
+  tried_then (Halted state doubt) AnsweredOtherCall next here own h = subst IsTried (sym h) here
   tried_then (Halted state doubt) ShutDown next here own h = subst IsTried (sym h) here
   tried_then (Halted state doubt) (StoppedAtRest pair) next here own h = subst IsTried (sym h.1) (weaker pair (λ found is. reached_found state found doubt here.0 here.1 is) h.0)
   tried_then (Halted state doubt) (StoppedWithin c now pair) next here own h = subst IsTried (sym h.1) (weaker pair (λ found is. reached_found state found doubt here.0 here.1 is) h.0)
   tried_then (Halted state doubt) (OpenedWith pair answer) next here own h = absurd h
   tried_then (Stopped left) (Answered c now answer) next here own h = absurd h
-  tried_then (Stopped left) Rested next here own h = absurd h
+  tried_then (Stopped left) AnsweredOtherCall next here own h = absurd h
   tried_then (Stopped left) ShutDown next here own h = absurd h
   tried_then (Stopped left) (StoppedAtRest pair) next here own h = subst IsTried (sym h.1) here
   tried_then (Stopped left) (StoppedWithin c now pair) next here own h = absurd h
   tried_then (Stopped left) (OpenedWith pair (Opened state)) next here own h =
       subst IsTried (sym h.2) (subst Reached (one_value here.0 state left.opens here.1 (subst (λ (p : Pair). p.opens ≡ Some state) h.0 h.1)) here.2)
-  tried_then (Stopped left) (OpenedWith pair (NotOpened fault)) next here own h = subst IsTried (sym (h.2 ∙ ap Stopped h.0)) here
+  tried_then (Stopped left) (OpenedWith pair (NotOpened failure)) next here own h = subst IsTried (sym (h.2 ∙ ap Stopped h.0)) here
 
   abbrev pub AreTries : List Event → Type 0
   AreTries [] = Unit {0}
   AreTries (event ∷ events) = IsTry event × AreTries events
 
-  pub tried_after : (start : Condition) (events : List Event) (last : Condition) → IsTried start → AreTries events → Run start events last → IsTried last
+  pub tried_after : (start : Condition) (events : List Event) (last : Condition) → IsTried start → AreTries events → HappensAlong start events last → IsTried last
   tried_after start [] last here own run = subst IsTried (sym run) here
   tried_after start (event ∷ events) last here own run = tried_after run.0 events last (tried_then start event run.0 here own.0 run.1) own.1 run.2
 
@@ -276,7 +276,7 @@ module _ (asked : Option Command) (M : ℕ → Type 0) (state : State) where
   widen_reached s (inl is) = inl is
   widen_reached s (inr (c, never, one)) = cc
 
-  widen_doubt : (doubt : Option Entry) → InDoubt None (λ _. ⊥) state doubt → InDoubt asked M state doubt
+  widen_doubt : (doubt : Option TimedCommand) → InDoubt None (λ _. ⊥) state doubt → InDoubt asked M state doubt
   widen_doubt None h = tt
   widen_doubt (Some entry) h = absurd h.1
 
@@ -292,7 +292,7 @@ module _ (M : ℕ → Type 0) (state : State) where
   narrow_reached s (inl is) = inl is
   narrow_reached s (inr (c, never, one)) = cc
 
-  narrow_doubt : (doubt : Option Entry) → InDoubt None M state doubt → InDoubt None (λ _. ⊥) state doubt
+  narrow_doubt : (doubt : Option TimedCommand) → InDoubt None M state doubt → InDoubt None (λ _. ⊥) state doubt
   narrow_doubt None h = tt
   narrow_doubt (Some entry) h = let never = h.0 in cc
 
@@ -309,7 +309,7 @@ only_state state s (inr (c, never, one)) = cc
 
 -- what a command that is given once is told, against what was told of it
 abbrev pub IsToldAs : Command → Answer → Answer → Type 0
-IsToldAs c (Accepted reply) (Accepted told) = is_some (key c) ≡ true → IsKeptAs reply.entry told.entry
+IsToldAs c (Accepted reply) (Accepted told) = is_some (command_key c) ≡ true → IsKeptAs reply.entry told.entry
 IsToldAs c (Refused refusal) (Refused told) = refusal ≡ told
 IsToldAs c _ _ = ⊥
 
@@ -318,11 +318,11 @@ pub record DoneOnce (c : Command) (M : ℕ → Type 0) (old new : State) (told :
   pub now : ℕ
   pub moment : M now
   pub answer : Answer
-  pub answers : Answers old c now answer new
+  pub answers : MayAnswer old c now answer new
   pub told_as : IsToldAs c answer told
 
 abbrev pub IsFailed : Answer → Type 0
-IsFailed (Failed fault) = Unit {0}
+IsFailed (Failed failure) = Unit {0}
 IsFailed _ = ⊥
 
 module _ (c : Command) (M : ℕ → Type 0) (old : State) where
@@ -339,11 +339,11 @@ module _ (c : Command) (M : ℕ → Type 0) (old : State) where
       let is : c ≡ d = cc in
       absurd (not_refused old c mid one.now now one.reply q (ap (λ b. step old b one.now) is ∙ one.accepts) may)
 
-  answered_once : (mid new : State) (now : ℕ) (told : Answer) → Reached (Some c) M old mid → M now → (IsFailed told → ⊥) → Answers mid c now told new
+  answered_once : (mid new : State) (now : ℕ) (told : Answer) → Reached (Some c) M old mid → M now → (IsFailed told → ⊥) → MayAnswer mid c now told new
       → DoneOnce c M old new told × IsAtRest new (condition_after mid c now told new)
   answered_once mid new now (Accepted told) here at fails h = (accepted_once mid new now told here at h, inl refl)
   answered_once mid new now (Refused q) here at fails h = (refused_once mid new now q here at h.0 h.1, inl refl)
-  answered_once mid new now (Failed fault) here at fails h = absurd (fails tt)
+  answered_once mid new now (Failed failure) here at fails h = absurd (fails tt)
 
   -- the command was tried, and then answered, and by no failure
   pub last_try : (cond next : Condition) (now : ℕ) (told : Answer) → IsTried (Some c) M old cond → M now → (IsFailed told → ⊥) → Happens cond (Answered c now told) next

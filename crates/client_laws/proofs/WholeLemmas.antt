@@ -1,6 +1,6 @@
 -- No response is the beginning of another: its lines are told apart one after the other, and the last tells the length of the body.
 use Rattle.std.proofs.Common.{◌≡◌, ℕ, List, [], ◌∷◌, ◌++◌, length, Option, Some, None, Bool, true, false, not, ◌&&◌, ◌==◌, refl, sym, ◌∙◌, ap, if◌then◌else◌, arith, append_assoc, append-nil}
-use Rattle.std.specs.Prelude.{codes, decimal}
+use Rattle.std.specs.Prelude.{codes, decimal, bytes_eq}
 use Rattle.std.specs.Fmt.{digits}
 use Rattle.std.specs.List.{list_all}
 use Rattle.std.specs.Str.Parse.{AllDigits}
@@ -9,19 +9,18 @@ use Rattle.std.proofs.lemmas.Fmt.{decimal_injective, decimal_is_IsNumeral}
 use Rattle.std.proofs.lemmas.List.{append_cancel_left, length-append}
 use Rattle.std.proofs.lemmas.Bool.Decides.{Decides-eqb}
 use Rattle.custody_machine.proofs.Continuing.{and_both}
-use Rattle.custody_machine.specs.Names.{is_same_text}
 use Rattle.custody_machine.specs.declared.codes.HttpStatus.TheVariants.{BadRequest, NotFound, Conflict, Gone, ContentTooLarge, InternalServerError, ServiceUnavailable, InsufficientStorage}
 use Rattle.http_request.specs.declared.faults.Method.{Method}
 use Rattle.http_request.specs.declared.faults.Method.TheVariants.{Get, Post, Put}
-use Rattle.http_request.specs.Asked.{method_text}
-use Rattle.http_api.specs.declared.status.Status.{Status}
-use Rattle.http_api.specs.declared.status.Status.TheVariants.{Done, Created, MethodNotAllowed, LengthRequired, NotImplemented, Coded}
+use Rattle.http_request.specs.RequestMeaning.{method_text}
+use Rattle.http_api.specs.declared.status.ResponseStatus.{ResponseStatus}
+use Rattle.http_api.specs.declared.status.ResponseStatus.TheVariants.{Done, Created, MethodNotAllowed, LengthRequired, NotImplemented, Coded}
 use Rattle.http_api.specs.declared.response.Media.{Media}
 use Rattle.http_api.specs.declared.response.Media.TheVariants.{Text, Bytes}
-use Rattle.http_api.specs.Responses.{Answer, allow_line, media_text, shown}
+use Rattle.http_api.specs.Responses.{HttpResponse, allow_line, media_text, response_bytes}
 use Rattle.http_api.specs.Statuses.{status_text}
 use Rattle.client_laws.proofs.Beginnings.{behind}
-use Rattle.client_laws.specs.Whole.{ClientsCanTell, NoneBeginsAnother}
+use Rattle.client_laws.specs.WholeResponses.{ClientsCanTell, NoResponseBeginsAnother}
 
 -- ---- lines
 
@@ -47,7 +46,7 @@ flat p s q m r d t l e b x = simp append_assoc refl
 
 -- ---- what the lines have
 
-status_in_line : (status : Status) → IsInLine (status_text status)
+status_in_line : (status : ResponseStatus) → IsInLine (status_text status)
 unfolding digits
 status_in_line (Coded BadRequest) = refl
 status_in_line (Coded NotFound) = refl
@@ -60,23 +59,23 @@ status_in_line (Coded InsufficientStorage) = refl
 status_in_line status = refl
 
 -- the status that a text is
-status_in : List ℕ → Status
+status_in : List ℕ → ResponseStatus
 status_in text =
-    if is_same_text text (codes "200 OK") then Done
-    else if is_same_text text (codes "201 Created") then Created
-    else if is_same_text text (codes "405 Method Not Allowed") then MethodNotAllowed
-    else if is_same_text text (codes "411 Length Required") then LengthRequired
-    else if is_same_text text (codes "501 Not Implemented") then NotImplemented
-    else if is_same_text text (codes "400 Bad Request") then Coded BadRequest
-    else if is_same_text text (codes "404 Not Found") then Coded NotFound
-    else if is_same_text text (codes "409 Conflict") then Coded Conflict
-    else if is_same_text text (codes "410 Gone") then Coded Gone
-    else if is_same_text text (codes "413 Content Too Large") then Coded ContentTooLarge
-    else if is_same_text text (codes "500 Internal Server Error") then Coded InternalServerError
-    else if is_same_text text (codes "503 Service Unavailable") then Coded ServiceUnavailable
+    if bytes_eq text (codes "200 OK") then Done
+    else if bytes_eq text (codes "201 Created") then Created
+    else if bytes_eq text (codes "405 Method Not Allowed") then MethodNotAllowed
+    else if bytes_eq text (codes "411 Length Required") then LengthRequired
+    else if bytes_eq text (codes "501 Not Implemented") then NotImplemented
+    else if bytes_eq text (codes "400 Bad Request") then Coded BadRequest
+    else if bytes_eq text (codes "404 Not Found") then Coded NotFound
+    else if bytes_eq text (codes "409 Conflict") then Coded Conflict
+    else if bytes_eq text (codes "410 Gone") then Coded Gone
+    else if bytes_eq text (codes "413 Content Too Large") then Coded ContentTooLarge
+    else if bytes_eq text (codes "500 Internal Server Error") then Coded InternalServerError
+    else if bytes_eq text (codes "503 Service Unavailable") then Coded ServiceUnavailable
     else Coded InsufficientStorage
 
-status_back : (status : Status) → status_in (status_text status) ≡ status
+status_back : (status : ResponseStatus) → status_in (status_text status) ≡ status
 unfolding digits status_in
 status_back (Coded BadRequest) = refl
 status_back (Coded NotFound) = refl
@@ -93,7 +92,7 @@ media_in_line Text = refl
 media_in_line Bytes = refl
 
 media_in : List ℕ → Media
-media_in text = if is_same_text text (codes "text/plain") then Text else Bytes
+media_in text = if bytes_eq text (codes "text/plain") then Text else Bytes
 
 media_back : (media : Media) → media_in (media_text media) ≡ media
 unfolding media_in
@@ -106,7 +105,7 @@ method_in_line Post = refl
 method_in_line Put = refl
 
 method_in : List ℕ → Method
-method_in text = if is_same_text text (codes "GET") then Get else if is_same_text text (codes "POST") then Post else Put
+method_in text = if bytes_eq text (codes "GET") then Get else if bytes_eq text (codes "POST") then Post else Put
 
 method_back : (method : Method) → method_in (method_text method) ≡ method
 unfolding method_in
@@ -145,9 +144,9 @@ allow_apart (Some m) (Some n) x y e =
 
 -- ---- responses
 
-pub none_begins_another : NoneBeginsAnother
+pub none_begins_another : NoResponseBeginsAnother
 none_begins_another a b rest short_a short_b e =
-    let start = append_cancel_left (codes "HTTP/1.1 ") _ _ (sym (lines b []) ∙ append-nil (shown b) ∙ e ∙ lines a rest) in
+    let start = append_cancel_left (codes "HTTP/1.1 ") _ _ (sym (lines b []) ∙ append-nil (response_bytes b) ∙ e ∙ lines a rest) in
     let statuses = ends_alike (status_text b.status) (status_text a.status) (codes "\nContent-Type: ") _ _ (status_in_line b.status) (status_in_line a.status) start in
     let medias = ends_alike (media_text b.media) (media_text a.media) (codes "\nContent-Length: ") _ _ (media_in_line b.media) (media_in_line a.media) statuses.1 in
     let lengths = ends_alike (decimal (length b.body)) (decimal (length a.body)) (codes "\nConnection: close\r\n") _ _
@@ -158,7 +157,7 @@ none_begins_another a b rest short_a short_b e =
     let none = nothing_more a.body b.body rest (decimal_injective (length b.body) (length a.body) short_b short_a lengths.0) (sym (append-nil b.body) ∙ fields.1) in
     ((λ i. record { status = status i; media = media i; allow = fields.0 i; body = none.0 i }), none.1)
   where
-    lines : (x : Answer) (z : List ℕ) → shown x ++ z ≡ codes "HTTP/1.1 " ++ (status_text x.status ++ (codes "\r\nContent-Type: " ++ (media_text x.media ++ (codes "\r\nContent-Length: " ++ (decimal (length x.body) ++ (codes "\r\nConnection: close\r\n" ++ (allow_line x.allow ++ (codes "\r\n" ++ (x.body ++ z)))))))))
+    lines : (x : HttpResponse) (z : List ℕ) → response_bytes x ++ z ≡ codes "HTTP/1.1 " ++ (status_text x.status ++ (codes "\r\nContent-Type: " ++ (media_text x.media ++ (codes "\r\nContent-Length: " ++ (decimal (length x.body) ++ (codes "\r\nConnection: close\r\n" ++ (allow_line x.allow ++ (codes "\r\n" ++ (x.body ++ z)))))))))
     lines x z = flat (codes "HTTP/1.1 ") (status_text x.status) (codes "\r\nContent-Type: ") (media_text x.media) (codes "\r\nContent-Length: ") (decimal (length x.body)) (codes "\r\nConnection: close\r\n") (allow_line x.allow) (codes "\r\n") x.body z
 
     nothing_more : (x y rest : List ℕ) → length y ≡ length x → y ≡ x ++ rest → (y ≡ x) × (rest ≡ [])
@@ -174,7 +173,7 @@ nothing_before (x ∷ xs) ys e = cc
 pub clients_can_tell : ClientsCanTell
 clients_can_tell old new x read answer s begins is short_a short_x =
     let unread = behind x.written read begins in
-    let unwritten = behind (shown x.answer) x.written s.2 in
-    let joined : shown x.answer ≡ shown answer ++ (unread.0 ++ unwritten.0) = unwritten.1 ∙ ap (λ l. l ++ unwritten.0) unread.1 ∙ append_assoc read unread.0 unwritten.0 ∙ ap (λ l. l ++ (unread.0 ++ unwritten.0)) is in
+    let unwritten = behind (response_bytes x.answer) x.written s.2 in
+    let joined : response_bytes x.answer ≡ response_bytes answer ++ (unread.0 ++ unwritten.0) = unwritten.1 ∙ ap (λ l. l ++ unwritten.0) unread.1 ∙ append_assoc read unread.0 unwritten.0 ∙ ap (λ l. l ++ (unread.0 ++ unwritten.0)) is in
     let one = none_begins_another answer x.answer (unread.0 ++ unwritten.0) short_a short_x joined in
-    (one.0, unread.1 ∙ ap (λ l. read ++ l) (nothing_before unread.0 unwritten.0 one.1) ∙ append-nil read ∙ is ∙ ap shown (sym one.0))
+    (one.0, unread.1 ∙ ap (λ l. read ++ l) (nothing_before unread.0 unwritten.0 one.1) ∙ append-nil read ∙ is ∙ ap response_bytes (sym one.0))

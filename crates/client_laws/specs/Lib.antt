@@ -2,4 +2,4 @@ pub mod Responses
 pub mod Service
 pub mod Clients
 pub mod Requests
-pub mod Whole
+pub mod WholeResponses

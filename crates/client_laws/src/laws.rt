@@ -2,9 +2,19 @@
 //! what this speaks of.
 ghost use Rattle.custody_machine.specs.State.{State};
 ghost use Rattle.custody.specs.Sessions.{IsServing, place_of};
-ghost use Rattle.client_laws.specs.Clients.{AcceptedIsFoundOnce, BodiesAreTheSame, ClientsEndAsOnce, RepeatsAreTold};
-ghost use Rattle.client_laws.specs.Requests.{IsThere, RequestsMove, RequestsMayStop, MayStopAfterwards};
-ghost use Rattle.client_laws.specs.Whole.{ClientsCanTell, NoneBeginsAnother};
+ghost use Rattle.client_laws.specs.Clients.{
+  AcceptedIsFoundOnce,
+  BodiesAreTheSame,
+  ClientsEndAsOnce,
+  ServiceAnswersRepeats,
+};
+ghost use Rattle.client_laws.specs.Requests.{
+  IsCustodyAt,
+  RequestsMove,
+  RequestsMayStop,
+  MayStopAfterwards,
+};
+ghost use Rattle.client_laws.specs.WholeResponses.{ClientsCanTell, NoResponseBeginsAnother};
 
 use custody::Custody;
 use custody::laws::law_at_rest;
@@ -19,7 +29,7 @@ use vault_volume::Volume;
 /// requests sent once, in that order, without a stop. A purge has no record, and is done anew each time.
 pub fn law_clients()
     ensures accepted { (first : State) → AcceptedIsFoundOnce first }
-    ensures again { (first : State) → RepeatsAreTold first }
+    ensures again { (first : State) → ServiceAnswersRepeats first }
     ensures same_body { (first : State) → BodiesAreTheSame first }
     ensures ends { (first : State) → ClientsEndAsOnce first }
 {
@@ -29,7 +39,7 @@ pub fn law_clients()
 /// A client can tell from the bytes that it has read whether they are a whole response, and which: no
 /// response is the beginning of another.
 pub fn law_responses()
-    ensures one { NoneBeginsAnother }
+    ensures one { NoResponseBeginsAnother }
     ensures read { ClientsCanTell }
 {}
 
@@ -37,7 +47,7 @@ pub fn law_responses()
 /// service, from the place where the custody was to the one where it is; and so is a stop at any moment
 /// of it. An open custody is where the first begins.
 pub fn law_requests<V: Volume, S: Alter>(old: &Custody<V, S>, new: &Custody<V, S>)
-    ensures begins { IsServing S.Store old.now → IsThere S.Store old.now (place_of S.Store old.now) }
+    ensures begins { IsServing S.Store old.now → IsCustodyAt S.Store old.now (place_of S.Store old.now) }
     ensures moves { V.tells → RequestsMove S.Store old.now new.now }
     ensures stops { V.tells → RequestsMayStop S.Store old.now new.now }
     ensures at_rest { MayStopAfterwards S.Store new.now }

@@ -4,7 +4,7 @@
 #![tactic(auto)]
 
 mod laws;
-mod served;
+mod serving;
 
 pub use laws::{law_clients, law_requests, law_responses};
-pub use served::serve_one;
+pub use serving::serve_one;

@@ -11,11 +11,11 @@ use Rattle.extent_map.specs.declared.extent.Extent.{Extent}
 use Rattle.custody_records.specs.Keys.{PartKey, part_cmp}
 use Rattle.custody_records.specs.Records.{PartRecord, Records, key_of, name_of}
 use Rattle.custody_records.specs.Tables.{is_below_all, is_rising, table_map}
-use Rattle.custody_records.specs.Typed.{part_place, part_value}
+use Rattle.custody_records.specs.TypedRecords.{key_of_part, part_value}
 use Rattle.custody_records.specs.declared.parts.Part.{Part}
-use Rattle.custody_machine.specs.Stored.{HasDigestAt}
+use Rattle.custody_machine.specs.StoredState.{HasDigestAt}
 use Rattle.custody_rules.proofs.PartBlocks.{row_of, has_row}
-use Rattle.custody.specs.Audited.{IsHeldUnder, IsDamagedUnder, AreHeld, AreDamaged, is_intact, has_digest}
+use Rattle.custody.specs.Auditing.{IsHeldPartOf, IsDamagedUnder, AreHeld, AreDamaged, is_intact, has_digest}
 use Rattle.custody.proofs.RevisionLemmas.{held_sound, held_broken, dropped_sound}
 
 -- ---- names that are picked
@@ -51,25 +51,25 @@ module _ (P Q : Part → Type 0) where
     picked_on p h = subst (λ l. IsPicked l (names ++ row.name ∷ [])) (sym one_more) (picked (take i rows) names row p h)
 
   -- they are in the order of the rows
-  below : (low : PartKey) (rows : List Part) (names : List Name) → is_below_all part_cmp part_place low rows ≡ true → IsPicked rows names → is_below_all part_cmp key_of low names ≡ true
+  below : (low : PartKey) (rows : List Part) (names : List Name) → is_below_all part_cmp key_of_part low rows ≡ true → IsPicked rows names → is_below_all part_cmp key_of low names ≡ true
   below low [] [] is h = refl
   below low [] (name ∷ names) is h = absurd h
-  below low (row ∷ rows) names is (inl h) = below low rows names (and_parts (is_lt (part_cmp low (part_place row))) _ is).1 h.1
+  below low (row ∷ rows) names is (inl h) = below low rows names (and_parts (is_lt (part_cmp low (key_of_part row))) _ is).1 h.1
   below low (row ∷ rows) names is (inr h) =
       subst (λ (l : List Name). is_below_all part_cmp key_of low l ≡ true) (sym h.1)
-      (both (is_lt (part_cmp low (part_place row))) _ (and_parts (is_lt (part_cmp low (part_place row))) _ is).0 (below low rows h.0 (and_parts (is_lt (part_cmp low (part_place row))) _ is).1 h.3))
+      (both (is_lt (part_cmp low (key_of_part row))) _ (and_parts (is_lt (part_cmp low (key_of_part row))) _ is).0 (below low rows h.0 (and_parts (is_lt (part_cmp low (key_of_part row))) _ is).1 h.3))
     where
       both : (a b : Bool) → a ≡ true → b ≡ true → (a && b) ≡ true
       both a b e f = cc
 
-  pub in_order : (rows : List Part) (names : List Name) → is_rising part_cmp part_place rows ≡ true → IsPicked rows names → is_rising part_cmp key_of names ≡ true
+  pub in_order : (rows : List Part) (names : List Name) → is_rising part_cmp key_of_part rows ≡ true → IsPicked rows names → is_rising part_cmp key_of names ≡ true
   in_order [] [] is h = refl
   in_order [] (name ∷ names) is h = absurd h
-  in_order (row ∷ rows) names is (inl h) = in_order rows names (and_parts (is_below_all part_cmp part_place (part_place row) rows) _ is).1 h.1
+  in_order (row ∷ rows) names is (inl h) = in_order rows names (and_parts (is_below_all part_cmp key_of_part (key_of_part row) rows) _ is).1 h.1
   in_order (row ∷ rows) names is (inr h) =
       subst (λ (l : List Name). is_rising part_cmp key_of l ≡ true) (sym h.1)
-      (both (is_below_all part_cmp key_of (key_of row.name) h.0) _ (below (part_place row) rows h.0 (and_parts (is_below_all part_cmp part_place (part_place row) rows) _ is).0 h.3)
-      (in_order rows h.0 (and_parts (is_below_all part_cmp part_place (part_place row) rows) _ is).1 h.3))
+      (both (is_below_all part_cmp key_of (key_of row.name) h.0) _ (below (key_of_part row) rows h.0 (and_parts (is_below_all part_cmp key_of_part (key_of_part row) rows) _ is).0 h.3)
+      (in_order rows h.0 (and_parts (is_below_all part_cmp key_of_part (key_of_part row) rows) _ is).1 h.3))
     where
       both : (a b : Bool) → a ≡ true → b ≡ true → (a && b) ≡ true
       both a b e f = cc
@@ -108,16 +108,16 @@ module _ (tells : Type 0) (image : List ℕ) where
   abbrev pub IsPassing : Part → Type 0
   IsPassing part = tells → has_digest image part ≡ true
 
-module _ (records : Records) (rows : List Part) (all : records.parts ≡ table_map part_cmp part_place part_value rows) (rising : is_rising part_cmp part_place rows ≡ true)
+module _ (records : Records) (rows : List Part) (all : records.parts ≡ table_map part_cmp key_of_part part_value rows) (rising : is_rising part_cmp key_of_part rows ≡ true)
     (tells : Type 0) (image : List ℕ) (names : List Name) (done : IsPicked (IsPicking tells image) (IsPassing tells image) rows names) where
   -- what is recorded of a row
-  recorded_row : (i : ℕ) (row : Part) → i < length rows → ((d : Part) → get_or rows i d ≡ row) → get records.parts (part_place row) ≡ Some (part_value row)
-  recorded_row i row low at = subst (λ (p : Part). get records.parts (part_place p) ≡ Some (part_value p)) (at row) (has_row records rows all rising i row low)
+  recorded_row : (i : ℕ) (row : Part) → i < length rows → ((d : Part) → get_or rows i d ≡ row) → get records.parts (key_of_part row) ≡ Some (part_value row)
+  recorded_row i row low at = subst (λ (p : Part). get records.parts (key_of_part p) ≡ Some (part_value p)) (at row) (has_row records rows all rising i row low)
 
-  held_row : (row : Part) → get records.parts (part_place row) ≡ Some (part_value row) → IsSome (part_value row).extents → IsHeldUnder records row.name
+  held_row : (row : Part) → get records.parts (key_of_part row) ≡ Some (part_value row) → IsSome (part_value row).extents → IsHeldPartOf records row.name
   held_row row is some = by (part_value row).extents refl some
     where
-      by : (o : Option (List Extent)) → (part_value row).extents ≡ o → IsSome o → IsHeldUnder records row.name
+      by : (o : Option (List Extent)) → (part_value row).extents ≡ o → IsSome o → IsHeldPartOf records row.name
       by None at none = absurd (let e = none in cc)
       by (Some extents) at there = record { part = part_value row; extents = extents; recorded = is; kind = refl; held = at }
 
@@ -126,7 +126,7 @@ module _ (records : Records) (rows : List Part) (all : records.parts ≡ table_m
     order = in_order (IsPicking tells image) (IsPassing tells image) rows names rising done;
     each = λ name has.
         let found = row_picked (IsPicking tells image) (IsPassing tells image) rows names name done has in
-        subst (IsHeldUnder records) found.4 (held_row found.1 (recorded_row found.0 found.1 found.2 found.3) found.5.0);
+        subst (IsHeldPartOf records) found.4 (held_row found.1 (recorded_row found.0 found.1 found.2 found.3) found.5.0);
   }
 
   -- the test is that of the digest
@@ -143,7 +143,7 @@ module _ (records : Records) (rows : List Part) (all : records.parts ≡ table_m
   damaged_row told name has =
       let found = row_picked (IsPicking tells image) (IsPassing tells image) rows names name done has in
       let at = recorded_row found.0 found.1 found.2 found.3 in
-      subst (IsDamagedUnder records image) found.4 (held_row found.1 at found.5.0, broken (part_place found.1) (part_value found.1) at (part_value found.1).extents refl (found.5.1 told))
+      subst (IsDamagedUnder records image) found.4 (held_row found.1 at found.5.0, broken (key_of_part found.1) (part_value found.1) at (part_value found.1).extents refl (found.5.1 told))
 
   named_row : tells → (name : Name) → IsDamagedUnder records image name → Contains names name
   named_row told name damaged =
@@ -152,7 +152,7 @@ module _ (records : Records) (rows : List Part) (all : records.parts ≡ table_m
       let same : row.row.name ≡ name = λ i. name_of (row.key_is i) ((ap (λ (p : PartRecord). p.kind) row.value_is ∙ held.kind) i) in
       let not : ¬ IsPassing tells image row.row = λ passing.
       damaged.1 (subst (HasDigestAt image records) row.key_is
-      (sound (part_place row.row) (part_value row.row) (recorded_row row.place row.row row.within row.at) (part_value row.row).extents refl (passing told))) in
+      (sound (key_of_part row.row) (part_value row.row) (recorded_row row.place row.row row.within row.at) (part_value row.row).extents refl (passing told))) in
       subst (Contains names) same (name_picked (IsPicking tells image) (IsPassing tells image) rows names row.place row.row done row.within row.at not)
 
   pub are_damaged : tells → AreDamaged records image names

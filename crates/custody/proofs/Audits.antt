@@ -6,45 +6,45 @@ use Rattle.sqlite.specs.Store.{Ghosts}
 use Rattle.vault_volume.specs.declared.errors.ReadError.{ReadError}
 use Rattle.vault_volume.specs.declared.errors.ReadError.TheVariants as read_error
 use Rattle.vault_volume.specs.declared.volume.Volume as volume
-use Rattle.custody_machine.specs.declared.answers.Fault.{Fault}
-use Rattle.custody_machine.specs.declared.answers.Fault.TheVariants.{NoMemory, VolumeFailed}
+use Rattle.custody_machine.specs.declared.answers.Failure.{Failure}
+use Rattle.custody_machine.specs.declared.answers.Failure.TheVariants.{NoMemory, VolumeFailed}
 use Rattle.custody.specs.declared.custody.Custody.{Custody}
 use Rattle.custody.specs.Answers.{stays_open}
-use Rattle.custody.specs.Audited.{AreHeld, AreDamaged, HasAudited, as_refused}
-use Rattle.custody.specs.Custody.{keeper_of, is_open}
-use Rattle.custody.specs.Keeper.{recorded, image_of, failures_of}
-use Rattle.custody.specs.Reading.{IsOnlyRead, CountsRead}
+use Rattle.custody.specs.Auditing.{AreHeld, AreDamaged, HasAudited, as_refused}
+use Rattle.custody.specs.Custody.{open_custody_of, is_open}
+use Rattle.custody.specs.OpenCustody.{current_records, image_of, failures_of}
+use Rattle.custody.specs.Reading.{ReadsVault, CountsReadFailure}
 use Rattle.custody.proofs.Rested.{reads_rested}
 
-module _ {V S : Type 0} {g : volume.Ghosts V} {database : Ghosts S} (old new : Custody V S g database) (serving : is_open old ≡ true) (same : recorded (keeper_of new) ≡ recorded (keeper_of old)) (store_same : (keeper_of new).store ≡ (keeper_of old).store)
-    (read : IsOnlyRead (keeper_of old).vault (keeper_of new).vault) where
+module _ {V S : Type 0} {g : volume.Ghosts V} {database : Ghosts S} (old new : Custody V S g database) (serving : is_open old ≡ true) (same : current_records (open_custody_of new) ≡ current_records (open_custody_of old)) (store_same : (open_custody_of new).store ≡ (open_custody_of old).store)
+    (read : ReadsVault (open_custody_of old).vault (open_custody_of new).vault) where
   -- each answer of an open custody is told in the same words
-  answers : (answer : Result (List Name) Fault) → IfErr answer (λ fault. (fault ≡ NoMemory) ⊎ (fault ≡ VolumeFailed)) → is_open new ≡ stays_open (as_refused answer)
-      → IfOk answer (AreHeld (recorded (keeper_of old))) → (g.tells → IfOk answer (AreDamaged (recorded (keeper_of old)) (image_of (keeper_of old))))
-      → (is_open new ≡ false → failures_of (keeper_of old) < failures_of (keeper_of new)) → (is_open new ≡ true → failures_of (keeper_of new) ≡ failures_of (keeper_of old)) → HasAudited old answer new
+  answers : (answer : Result (List Name) Failure) → IfErr answer (λ failure. (failure ≡ NoMemory) ⊎ (failure ≡ VolumeFailed)) → is_open new ≡ stays_open (as_refused answer)
+      → IfOk answer (AreHeld (current_records (open_custody_of old))) → (g.tells → IfOk answer (AreDamaged (current_records (open_custody_of old)) (image_of (open_custody_of old))))
+      → (is_open new ≡ false → failures_of (open_custody_of old) < failures_of (open_custody_of new)) → (is_open new ≡ true → failures_of (open_custody_of new) ≡ failures_of (open_custody_of old)) → HasAudited old answer new
   answers answer fails opened held damaged failed not_failed = record {
     closed = λ shut. let clash : true ≡ false = sym serving ∙ shut in cc;
     fails = λ _. fails;
     opened = λ _. opened;
     held = λ _. held;
     damaged = λ _. damaged;
-    rested = λ _. reads_rested database (keeper_of old) (keeper_of new) (old.order serving) same store_same read.free read.size (λ tells. (read.image tells, read.any_moment tells)) (is_open new) failed not_failed;
+    rested = λ _. reads_rested database (open_custody_of old) (open_custody_of new) (old.order serving) same store_same read.free read.size (λ tells. (read.image tells, read.any_moment tells)) (is_open new) failed not_failed;
     unwritten = λ _ tells. (read.image tells, read.any_moment tells);
   }
 
-  stays : is_open new ≡ true → is_open new ≡ false → failures_of (keeper_of old) < failures_of (keeper_of new)
+  stays : is_open new ≡ true → is_open new ≡ false → failures_of (open_custody_of old) < failures_of (open_custody_of new)
   stays still shut = let clash : true ≡ false = sym still ∙ shut in cc
 
-  pub audited : (names : List Name) → is_open new ≡ true → AreHeld (recorded (keeper_of old)) names → (g.tells → AreDamaged (recorded (keeper_of old)) (image_of (keeper_of old)) names)
-      → failures_of (keeper_of new) ≡ failures_of (keeper_of old) → HasAudited old (Ok names) new
+  pub audited : (names : List Name) → is_open new ≡ true → AreHeld (current_records (open_custody_of old)) names → (g.tells → AreDamaged (current_records (open_custody_of old)) (image_of (open_custody_of old)) names)
+      → failures_of (open_custody_of new) ≡ failures_of (open_custody_of old) → HasAudited old (Ok names) new
   audited names still held damaged failures = answers (Ok names) tt still held damaged (stays still) (λ _. failures)
 
-  pub audit_unnamed : (e : ReadError) → e ≡ read_error.NoMemory → CountsRead {T = Vec Name Global} (Err e) (failures_of (keeper_of old)) (failures_of (keeper_of new)) → is_open new ≡ true → HasAudited old (Err NoMemory) new
+  pub audit_unnamed : (e : ReadError) → e ≡ read_error.NoMemory → CountsReadFailure {T = Vec Name Global} (Err e) (failures_of (open_custody_of old)) (failures_of (open_custody_of new)) → is_open new ≡ true → HasAudited old (Err NoMemory) new
   audit_unnamed e is failures still =
-      let none : failures_of (keeper_of new) ≡ failures_of (keeper_of old) = subst (λ (e : ReadError). CountsRead {T = Vec Name Global} (Err e) (failures_of (keeper_of old)) (failures_of (keeper_of new))) is failures in
+      let none : failures_of (open_custody_of new) ≡ failures_of (open_custody_of old) = subst (λ (e : ReadError). CountsReadFailure {T = Vec Name Global} (Err e) (failures_of (open_custody_of old)) (failures_of (open_custody_of new))) is failures in
       answers (Err NoMemory) (inl refl) still tt (λ _. tt) (stays still) (λ _. none)
 
-  pub audit_failed : (e : ReadError) → e ≡ read_error.VolumeFailed → CountsRead {T = Vec Name Global} (Err e) (failures_of (keeper_of old)) (failures_of (keeper_of new)) → is_open new ≡ false → HasAudited old (Err VolumeFailed) new
+  pub audit_failed : (e : ReadError) → e ≡ read_error.VolumeFailed → CountsReadFailure {T = Vec Name Global} (Err e) (failures_of (open_custody_of old)) (failures_of (open_custody_of new)) → is_open new ≡ false → HasAudited old (Err VolumeFailed) new
   audit_failed e is failures shut =
-      let one : failures_of (keeper_of new) ≡ failures_of (keeper_of old) + 1 = subst (λ (e : ReadError). CountsRead {T = Vec Name Global} (Err e) (failures_of (keeper_of old)) (failures_of (keeper_of new))) is failures in
+      let one : failures_of (open_custody_of new) ≡ failures_of (open_custody_of old) + 1 = subst (λ (e : ReadError). CountsReadFailure {T = Vec Name Global} (Err e) (failures_of (open_custody_of old)) (failures_of (open_custody_of new))) is failures in
       answers (Err VolumeFailed) (inr refl) shut tt (λ _. tt) (λ _. omega (arith, one)) (λ still. let clash : true ≡ false = sym still ∙ shut in cc)

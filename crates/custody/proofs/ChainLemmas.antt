@@ -14,9 +14,9 @@ use Rattle.deposit_verify.specs.Verdict.{verdict}
 use Rattle.custody_records.specs.Keys.{PartKey}
 use Rattle.custody_records.specs.Records.{Records}
 use Rattle.custody_machine.specs.declared.command.Statement as statement
-use Rattle.custody_machine.specs.Machine.{base_of, first_part, held_chain, joined, known_of, part_keys, verdict_keys, verdict_on}
-use Rattle.custody_machine.specs.Stored.{state_in, HasDigestAt}
-use Rattle.custody.specs.Verified.{chain_keys}
+use Rattle.custody_machine.specs.Machine.{base_of, first_part, held_chain, joined_bytes, known_of, part_keys, verdict_keys, verdict_on}
+use Rattle.custody_machine.specs.StoredState.{state_in, HasDigestAt}
+use Rattle.custody.specs.inside.Verifying.{chain_keys}
 
 -- ---- the keys after a chain
 
@@ -67,12 +67,12 @@ later_of names = take (length names - 1) (drop 1 names)
 
 module _ (records : Records) (image : List ℕ) (seen : List ℕ) (same : seen ≡ image) (later : List Name) (i : ℕ) (name : Name) (lt : i < length later) (is : name ≡ get_or later i name) where
   -- one later deposit more is read
-  pub base_more : (start found next : Option Base) (bytes : List ℕ) → bytes ≡ joined (state_in records seen) name → next ≡ option_and_then (λ (base : Base). base_then base bytes) found
-      → found ≡ all_then start (map (joined (state_in records image)) (take i later)) → next ≡ all_then start (map (joined (state_in records image)) (take (i + 1) later))
+  pub base_more : (start found next : Option Base) (bytes : List ℕ) → bytes ≡ joined_bytes (state_in records seen) name → next ≡ option_and_then (λ (base : Base). base_then base bytes) found
+      → found ≡ all_then start (map (joined_bytes (state_in records image)) (take i later)) → next ≡ all_then start (map (joined_bytes (state_in records image)) (take (i + 1) later))
   base_more start found next bytes read after before =
-      let f = joined (state_in records image) in
+      let f = joined_bytes (state_in records image) in
       after
-      ∙ ap (λ (b : List ℕ). option_and_then (λ (base : Base). base_then base b) found) (read ∙ ap (λ j. joined (state_in records j) name) same)
+      ∙ ap (λ (b : List ℕ). option_and_then (λ (base : Base). base_then base b) found) (read ∙ ap (λ j. joined_bytes (state_in records j) name) same)
       ∙ ap (option_and_then (λ (base : Base). base_then base (f name))) before
       ∙ sym (then_more start (map f (take i later)) (f name))
       ∙ ap (all_then start) (sym (map_more f later i name lt ∙ ap (λ x. map f (take i later) ++ f x ∷ []) (sym is)))
@@ -98,7 +98,7 @@ module _ (records : Records) (image : List ℕ) (stated : statement.Statement) (
   none_base few = by names few chain
     where
       by : (xs : List Name) → length xs < 1 → xs ≡ held_chain (state_in records image) stated → None ≡ base_of (state_in records image) stated
-      by [] lt is = sym none_at ∙ ap (λ l. base_at (map (joined (state_in records image)) l)) is
+      by [] lt is = sym none_at ∙ ap (λ l. base_at (map (joined_bytes (state_in records image)) l)) is
       by (x ∷ xs) lt is = absurd (omega (arith, lt))
 
   -- and no parts
@@ -118,10 +118,10 @@ module _ (records : Records) (image : List ℕ) (stated : statement.Statement) (
         by (x ∷ xs) least at = λ j. at j ∷ take_all (length (x ∷ xs) - 1) xs (omega arith) j
 
     -- where all are read, the keys are those after the chain
-    pub base_whole : (bytes : List ℕ) (start found : Option Base) → bytes ≡ joined (state_in records image) first → start ≡ base_at (bytes ∷ []) → (i : ℕ) → length (later_of names) ≤ i
-        → found ≡ all_then start (map (joined (state_in records image)) (take i (later_of names))) → found ≡ base_of (state_in records image) stated
+    pub base_whole : (bytes : List ℕ) (start found : Option Base) → bytes ≡ joined_bytes (state_in records image) first → start ≡ base_at (bytes ∷ []) → (i : ℕ) → length (later_of names) ≤ i
+        → found ≡ all_then start (map (joined_bytes (state_in records image)) (take i (later_of names))) → found ≡ base_of (state_in records image) stated
     base_whole bytes start found read at i end all =
-        let f = joined (state_in records image) in
+        let f = joined_bytes (state_in records image) in
         all
         ∙ ap (λ l. all_then start (map f l)) (take_all i (later_of names) end)
         ∙ ap (λ o. all_then o (map f (later_of names))) (at ∙ some_at bytes [] ∙ ap base_of_first read)
@@ -174,9 +174,9 @@ module _ (records : Records) (image : List ℕ) (stated : statement.Statement) w
         by (inr before) = chain key before
 
     -- the verdict on what was read, with what is known of it
-    pub verdict_is : (found : Verdict) (bytes : List ℕ) (about : Known) (base : Option Base) → found ≡ verdict bytes about → bytes ≡ joined (state_in records seen) name
+    pub verdict_is : (found : Verdict) (bytes : List ℕ) (about : Known) (base : Option Base) → found ≡ verdict bytes about → bytes ≡ joined_bytes (state_in records seen) name
         → about ≡ record (known_of (state_in records image) stated) { base = base } → base ≡ base_of (state_in records image) stated → found ≡ verdict_on (state_in records image) stated
     verdict_is found bytes about base told read knows at =
         told
-        ∙ ap (λ b. verdict b about) (read ∙ (λ i. joined (state_in records (same i)) (is i)))
-        ∙ ap (verdict (joined (state_in records image) (first_part stated))) (knows ∙ ap (λ b. record (known_of (state_in records image) stated) { base = b }) at)
+        ∙ ap (λ b. verdict b about) (read ∙ (λ i. joined_bytes (state_in records (same i)) (is i)))
+        ∙ ap (verdict (joined_bytes (state_in records image) (first_part stated))) (knows ∙ ap (λ b. record (known_of (state_in records image) stated) { base = b }) at)

@@ -6,14 +6,14 @@ use borrow.Rule.Slice.PartMut.{put_mid}
 use Rattle.std.specs.Io.KnownBytes.{Consumes, IsAtEnd}
 use Rattle.std.proofs.KnownBytes.{Consumes-trans}
 use Rattle.std.specs.Fmt.{option_append}
-use Rattle.custody.specs.Receiving.{AreFirst}
+use Rattle.custody.specs.Receiving.{AreFirstBytes}
 
 -- what came so far is what the reader has lost, and so many are left
 abbrev pub HaveCome : Option (List ℕ) → Option (List ℕ) → ℕ → ℕ → List ℕ → Type 0
 HaveCome old now len left sent = Consumes old now sent × (length sent + left ≡ len)
 
 -- all came
-pub all_came : (old now : Option (List ℕ)) (len left : ℕ) (sent : List ℕ) → HaveCome old now len left sent → left ≡ 0 → AreFirst old len sent
+pub all_came : (old now : Option (List ℕ)) (len left : ℕ) (sent : List ℕ) → HaveCome old now len left sent → left ≡ 0 → AreFirstBytes old len sent
 all_came old now len left sent come none = (long, by old now come.0)
   where
     long : length sent ≡ len

@@ -10,62 +10,62 @@ use Rattle.vault_volume.specs.Extents.{SameFree}
 use Rattle.vault_volume.specs.Image.{DiffersOnlyIn}
 use Rattle.vault_volume.proofs.ImageLemmas.{same_in, in_more}
 use Rattle.custody_records.specs.declared.records.Records as held
-use Rattle.custody_records.specs.Held.{records_of}
+use Rattle.custody_records.specs.MemoryRecords.{records_of}
 use Rattle.custody_records.specs.Records.{Records}
 use Rattle.custody_records.specs.Rows.{Rows}
-use Rattle.custody_store.specs.Standing.{Commits, standing}
+use Rattle.custody_store.specs.StoreState.{Commits, store_state}
 use Rattle.custody_machine.specs.Machine as machine
-use Rattle.custody_machine.specs.Machine.{Command, Refuse, Accept, step, reads, Accepted, Answers, MayRefuse, MayFail}
+use Rattle.custody_machine.specs.Machine.{Command, Refuse, Accept, step, deciding_keys, Accepted, MayAnswer, MayRefuse, MayFail}
 use Rattle.custody_machine.specs.State.{State}
 use Rattle.custody_machine.specs.History.{is_open_after}
-use Rattle.custody_machine.specs.Stored.{IsVolumeOf, IsGood, state_in}
+use Rattle.custody_machine.specs.StoredState.{IsVolumeOf, AreWholeOnVolume, state_in}
 use Rattle.custody_machine.specs.Moves.{DependsOnBytes}
-use Rattle.custody_machine.specs.Rulings.{bytes_of}
+use Rattle.custody_machine.specs.Rulings.{command_bytes}
 use Rattle.custody_machine.specs.Custody.{IsInOrder, IsInStore}
-use Rattle.custody_machine.specs.declared.answers.Fault.{Fault}
+use Rattle.custody_machine.specs.declared.answers.Failure.{Failure}
 use Rattle.custody_machine.specs.declared.answers.Refusal.{Refusal}
-use Rattle.custody_machine.specs.declared.answers.Fault.TheVariants.{NoMemory, VolumeFailed, StoreFailed, Closed, Damaged}
+use Rattle.custody_machine.specs.declared.answers.Failure.TheVariants.{NoMemory, VolumeFailed, StoreFailed, Closed, Damaged}
 use Rattle.custody_machine.specs.declared.answers.Refusal.TheVariants.{VolumeFull}
 use Rattle.custody_machine.proofs.Compared.{each_of, now_of}
 use Rattle.custody_machine.proofs.Composed.{IsChange, nothing_in}
 use Rattle.custody.specs.declared.answers.Reply.{Reply}
 use Rattle.custody.specs.declared.answers.Refused as not_accepted
 use Rattle.custody.specs.declared.answers.Refused.TheVariants as refused
-use Rattle.custody.specs.declared.keeper.Keeper.{Keeper}
+use Rattle.custody.specs.declared.open_custody.OpenCustody.{OpenCustody}
 use Rattle.custody.specs.Answers.{answer_of, stays_open, uses_volume, writes_volume}
-use Rattle.custody.specs.Ruled.{IsRuled}
-use Rattle.custody.specs.Shown.{IsRecorded, HoldsBytes}
-use Rattle.custody.specs.Keeper.{recorded, stored, image_of, failures_of, left_by, left_since, KeepsOrder, KeepsImage, KeepsRows, IsSafe, IsUnwritten, HasDone}
-use Rattle.custody.proofs.KeeperLemmas.{on_ok, stays_still, leaves_more, StandFor, either_form, form_then, rows_then, safe_done, safe_undone, image_same, order_same, good_before, does_nothing, does_change, is_in_doubt}
+use Rattle.custody.specs.RulingAnswers.{FollowsRecords}
+use Rattle.custody.specs.ReplyRecords.{IsRecorded, HoldsBytes}
+use Rattle.custody.specs.OpenCustody.{current_records, store_state_of, image_of, failures_of, MayLeaveImage, MayLeaveImageSince, KeepsOrder, KeepsImage, KeepsRows, IsSafe, IsUnwritten, HasExecuted}
+use Rattle.custody.proofs.OpenCustodyLemmas.{on_ok, stays_still, leaves_more, StandFor, either_form, form_then, rows_then, safe_done, safe_undone, image_same, order_same, good_before, does_nothing, does_change, is_in_doubt}
 
 -- the machine closes where the code does
 pub opens_alike : (command : Command) (answer : Result Reply not_accepted.Refused) → stays_open answer ≡ is_open_after (answer_of command answer)
 opens_alike command (Ok reply) = refl
 opens_alike command (Err (refused.Refusal refusal)) = refl
-opens_alike command (Err (refused.Fault NoMemory)) = refl
-opens_alike command (Err (refused.Fault VolumeFailed)) = refl
-opens_alike command (Err (refused.Fault StoreFailed)) = refl
-opens_alike command (Err (refused.Fault Closed)) = refl
-opens_alike command (Err (refused.Fault (Damaged damage))) = refl
+opens_alike command (Err (refused.Failure NoMemory)) = refl
+opens_alike command (Err (refused.Failure VolumeFailed)) = refl
+opens_alike command (Err (refused.Failure StoreFailed)) = refl
+opens_alike command (Err (refused.Failure Closed)) = refl
+opens_alike command (Err (refused.Failure (Damaged damage))) = refl
 
 -- what is no want of room
 pub ok_not_full : (reply : Reply) → ◌≢◌ {A = Result Reply not_accepted.Refused} (Ok reply) (Err (refused.Refusal VolumeFull))
 ok_not_full reply e = cc
 
-pub fault_not_full : (fault : Fault) → ◌≢◌ {A = Result Reply not_accepted.Refused} (Err (refused.Fault fault)) (Err (refused.Refusal VolumeFull))
-fault_not_full fault e = cc
+pub fault_not_full : (failure : Failure) → ◌≢◌ {A = Result Reply not_accepted.Refused} (Err (refused.Failure failure)) (Err (refused.Refusal VolumeFull))
+fault_not_full failure e = cc
 
 pub refusal_not_full : (refusal : Refusal) → refusal ≢ VolumeFull → ◌≢◌ {A = Result Reply not_accepted.Refused} (Err (refused.Refusal refusal)) (Err (refused.Refusal VolumeFull))
 refusal_not_full refusal other e = let same : refusal ≡ VolumeFull = cc in other same
 
-module _ {V S : Type 0} {g : volume.Ghosts V} (database : Ghosts S) (old : Keeper V S g) (order : KeepsOrder old) (command : Command) (now : ℕ) where
+module _ {V S : Type 0} {g : volume.Ghosts V} (database : Ghosts S) (old : OpenCustody V S g) (order : KeepsOrder old) (command : Command) (now : ℕ) where
   -- ---- nothing was written: it is refused, it is a repeat, or it failed before the commit and is open still
 
-  module _ (new : Keeper V S g) (same : recorded new ≡ recorded old) (store_same : new.store ≡ old.store) (free : SameFree (IsFree old.vault) (IsFree new.vault)) (unwritten : g.tells → IsUnwritten old new) where
-    pub reads_done : (answer : Result Reply not_accepted.Refused) → IsSafe old command answer new → IsRuled (recorded old) command now answer (recorded new)
-        → IfOk answer (λ reply. IsRecorded (recorded new) reply.record) → (g.tells → IfOk answer (λ reply. HoldsBytes (image_of new) reply.record (bytes_of command)))
-        → (g.tells → Answers (state_in (recorded old) (image_of old)) command now (answer_of command answer) (state_in (recorded old) (image_of old)) × DependsOnBytes (recorded old) (image_of old) command now (answer_of command answer))
-        → HasDone database old command now answer new
+  module _ (new : OpenCustody V S g) (same : current_records new ≡ current_records old) (store_same : new.store ≡ old.store) (free : SameFree (IsFree old.vault) (IsFree new.vault)) (unwritten : g.tells → IsUnwritten old new) where
+    pub reads_done : (answer : Result Reply not_accepted.Refused) → IsSafe old command answer new → FollowsRecords (current_records old) command now answer (current_records new)
+        → IfOk answer (λ reply. IsRecorded (current_records new) reply.record) → (g.tells → IfOk answer (λ reply. HoldsBytes (image_of new) reply.record (command_bytes command)))
+        → (g.tells → MayAnswer (state_in (current_records old) (image_of old)) command now (answer_of command answer) (state_in (current_records old) (image_of old)) × DependsOnBytes (current_records old) (image_of old) command now (answer_of command answer))
+        → HasExecuted database old command now answer new
     reads_done answer safe ruled shown holds told = record {
       safe = safe;
       ruled = ruled;
@@ -75,27 +75,27 @@ module _ {V S : Type 0} {g : volume.Ghosts V} (database : Ghosts S) (old : Keepe
       unwritten = λ _ _. unwritten;
       reads_only = λ _. unwritten;
       any_moment = λ tells volume. leaves_more g.moment g.left_at (volume_of old.vault) (volume_of new.vault) _ _ volume.elsewhere (unwritten tells).1;
-      mode = λ _ store. subst (λ s. (standing database s).in_transaction ≡ false) (sym store_same) store.ready.rest.autocommit;
-      trust = subst (λ s. (standing database s).IsHonest) store_same;
+      mode = λ _ store. subst (λ s. (store_state database s).in_transaction ≡ false) (sym store_same) store.ready.rest.autocommit;
+      trust = subst (λ s. (store_state database s).IsHonest) store_same;
       serves = λ tells honest volume store. let allowed = told tells in let still = unwritten tells in
           does_nothing database old new order volume store command now answer allowed.0 allowed.1 (opens_alike command answer) same (λ _. still.0)
-          (λ j w. volume.elsewhere j (each_of g.moment g.left_at (volume_of old.vault) (volume_of new.vault) _ still.1 j w)) (λ r w. subst (λ s. (standing database s).may_leave r) store_same w)
+          (λ j w. volume.elsewhere j (each_of g.moment g.left_at (volume_of old.vault) (volume_of new.vault) _ still.1 j w)) (λ r w. subst (λ s. (store_state database s).may_leave r) store_same w)
           (λ j w. volume.elsewhere j (now_of g.moment g.left_at (volume_of old.vault) (volume_of new.vault) _ still.1 j w));
       image = λ _ tells volume. let still = unwritten tells in image_same old new same free still.0 (λ c w. volume.elsewhere c (now_of g.moment g.left_at (volume_of old.vault) (volume_of new.vault) _ still.1 c w)) volume;
-      rows = λ _ honest store. subst (λ s. IsInStore (recorded new) (standing database s).rows (standing database s).IsReady (standing database s).may_leave) (sym store_same)
-          (subst (λ k. IsInStore k (stored database old).rows (stored database old).IsReady (stored database old).may_leave) (sym same) store);
+      rows = λ _ honest store. subst (λ s. IsInStore (current_records new) (store_state database s).rows (store_state database s).IsReady (store_state database s).may_leave) (sym store_same)
+          (subst (λ k. IsInStore k (store_state_of database old).rows (store_state_of database old).IsReady (store_state_of database old).may_leave) (sym same) store);
     }
 
   -- ---- nothing was called
 
-  module _ (r : held.Records) (same : records_of r ≡ recorded old) (answer : Result Reply not_accepted.Refused) (stays : stays_open answer ≡ true) where
-    abbrev resting : Keeper V S g
+  module _ (r : held.Records) (same : records_of r ≡ current_records old) (answer : Result Reply not_accepted.Refused) (stays : stays_open answer ≡ true) where
+    abbrev resting : OpenCustody V S g
     resting = record { vault = old.vault; store = old.store; records = r }
 
-    pub rests_done : answer ≢ Err (refused.Refusal VolumeFull) → IsRuled (recorded old) command now answer (records_of r)
-        → IfOk answer (λ reply. IsRecorded (records_of r) reply.record) → (g.tells → IfOk answer (λ reply. HoldsBytes (image_of old) reply.record (bytes_of command)))
-        → (g.tells → Answers (state_in (recorded old) (image_of old)) command now (answer_of command answer) (state_in (recorded old) (image_of old)) × DependsOnBytes (recorded old) (image_of old) command now (answer_of command answer))
-        → HasDone database old command now answer (record { vault = old.vault; store = old.store; records = r })
+    pub rests_done : answer ≢ Err (refused.Refusal VolumeFull) → FollowsRecords (current_records old) command now answer (records_of r)
+        → IfOk answer (λ reply. IsRecorded (records_of r) reply.record) → (g.tells → IfOk answer (λ reply. HoldsBytes (image_of old) reply.record (command_bytes command)))
+        → (g.tells → MayAnswer (state_in (current_records old) (image_of old)) command now (answer_of command answer) (state_in (current_records old) (image_of old)) × DependsOnBytes (current_records old) (image_of old) command now (answer_of command answer))
+        → HasExecuted database old command now answer (record { vault = old.vault; store = old.store; records = r })
     rests_done full ruled shown holds told =
         reads_done resting same refl (λ b. (λ f. f, λ f. f)) (λ _. (refl, stays_still g.moment g.left_at (volume_of old.vault))) answer
         (safe_undone old resting same (λ b. (λ f. f, λ f. f)) command answer (λ e. shut (ap stays_open e)) (λ e. shut (ap stays_open e)) (λ _. refl) (λ e. absurd (full e)) (λ _. refl) refl (λ _. order_same old resting same (λ b. (λ f. f, λ f. f)) refl refl order))
@@ -105,54 +105,54 @@ module _ {V S : Type 0} {g : volume.Ghosts V} (database : Ghosts S) (old : Keepe
         shut closed = let clash : true ≡ false = sym stays ∙ closed in cc
 
   -- the three that every command has, each from what the machine answers
-  module _ (r : held.Records) (same : records_of r ≡ recorded old) where
+  module _ (r : held.Records) (same : records_of r ≡ current_records old) where
     -- refused, and no bytes decided it
-    pub refuses_done : (refusal : Refusal) → refusal ≢ VolumeFull → step (state_in (recorded old) (image_of old)) command now ≡ Refuse refusal → reads (state_in (recorded old) (image_of old)) command now ≡ []
-        → IsRuled (recorded old) command now (Err (refused.Refusal refusal)) (records_of r) → HasDone database old command now (Err (refused.Refusal refusal)) (record { vault = old.vault; store = old.store; records = r })
+    pub refuses_done : (refusal : Refusal) → refusal ≢ VolumeFull → step (state_in (current_records old) (image_of old)) command now ≡ Refuse refusal → deciding_keys (state_in (current_records old) (image_of old)) command now ≡ []
+        → FollowsRecords (current_records old) command now (Err (refused.Refusal refusal)) (records_of r) → HasExecuted database old command now (Err (refused.Refusal refusal)) (record { vault = old.vault; store = old.store; records = r })
     refuses_done refusal other is none ruled = rests_done r same (Err (refused.Refusal refusal)) refl (refusal_not_full refusal other) ruled tt (λ _. tt)
         (λ _. ((subst (λ x. MayRefuse command x refusal) (sym is) refl, refl), λ key within. absurd (nothing_in _ key none within)))
 
     -- a repeat, and no bytes decided it
-    pub repeats_done : (answer : Reply) (reply : machine.Reply) → answer_of command (Ok answer) ≡ Accepted reply → step (state_in (recorded old) (image_of old)) command now ≡ Accept reply (state_in (recorded old) (image_of old)) → reads (state_in (recorded old) (image_of old)) command now ≡ []
-        → IsRuled (recorded old) command now (Ok answer) (records_of r) → IsRecorded (records_of r) answer.record → (g.tells → HoldsBytes (image_of old) answer.record (bytes_of command)) → HasDone database old command now (Ok answer) (record { vault = old.vault; store = old.store; records = r })
+    pub repeats_done : (answer : Reply) (reply : machine.Reply) → answer_of command (Ok answer) ≡ Accepted reply → step (state_in (current_records old) (image_of old)) command now ≡ Accept reply (state_in (current_records old) (image_of old)) → deciding_keys (state_in (current_records old) (image_of old)) command now ≡ []
+        → FollowsRecords (current_records old) command now (Ok answer) (records_of r) → IsRecorded (records_of r) answer.record → (g.tells → HoldsBytes (image_of old) answer.record (command_bytes command)) → HasExecuted database old command now (Ok answer) (record { vault = old.vault; store = old.store; records = r })
     repeats_done answer reply told is none ruled shown holds = rests_done r same (Ok answer) refl (ok_not_full answer) ruled shown holds
         (λ _. (
-          subst (λ a. Answers (state_in (recorded old) (image_of old)) command now a (state_in (recorded old) (image_of old))) (sym told) is,
-          subst (λ a. DependsOnBytes (recorded old) (image_of old) command now a) (sym told) (λ key within. absurd (nothing_in _ key none within)),
+          subst (λ a. MayAnswer (state_in (current_records old) (image_of old)) command now a (state_in (current_records old) (image_of old))) (sym told) is,
+          subst (λ a. DependsOnBytes (current_records old) (image_of old) command now a) (sym told) (λ key within. absurd (nothing_in _ key none within)),
         ))
 
     -- it would be accepted, and there is no memory
-    pub no_memory_done : (reply : machine.Reply) (later : State) → step (state_in (recorded old) (image_of old)) command now ≡ Accept reply later
-        → IsRuled (recorded old) command now (Err (refused.Fault NoMemory)) (records_of r) → HasDone database old command now (Err (refused.Fault NoMemory)) (record { vault = old.vault; store = old.store; records = r })
-    no_memory_done reply later is ruled = rests_done r same (Err (refused.Fault NoMemory)) refl (fault_not_full NoMemory) ruled tt (λ _. tt)
-        (λ _. ((subst (λ x. MayFail x (reads (state_in (recorded old) (image_of old)) command now) NoMemory) (sym is) tt, refl), tt))
+    pub no_memory_done : (reply : machine.Reply) (later : State) → step (state_in (current_records old) (image_of old)) command now ≡ Accept reply later
+        → FollowsRecords (current_records old) command now (Err (refused.Failure NoMemory)) (records_of r) → HasExecuted database old command now (Err (refused.Failure NoMemory)) (record { vault = old.vault; store = old.store; records = r })
+    no_memory_done reply later is ruled = rests_done r same (Err (refused.Failure NoMemory)) refl (fault_not_full NoMemory) ruled tt (λ _. tt)
+        (λ _. ((subst (λ x. MayFail x (deciding_keys (state_in (current_records old) (image_of old)) command now) NoMemory) (sym is) tt, refl), tt))
 
   -- ---- a command that is one commit
 
   -- Its records and its reply are the machine's. What it wrote before lies in free blocks, and a stop after it leaves all but some of the blocks that are free then.
-  pub record IsOneChange (new : Keeper V S g) (changed : Records) (reply : machine.Reply) (unsettled : ℕ → Type 0) : Type 0 where
+  pub record IsOneChange (new : OpenCustody V S g) (changed : Records) (reply : machine.Reply) (unsettled : ℕ → Type 0) : Type 0 where
     pub uncalled : uses_volume command ≡ false → volume_of new.vault ≡ volume_of old.vault
     pub reads_only : writes_volume command ≡ false → g.tells → IsUnwritten old new
     pub failures : failures_of new ≡ failures_of old
     pub first : reply.is_repeat ≡ false
     pub written : g.tells → DiffersOnlyIn (IsFree old.vault) (image_of old) (image_of new)
-    pub accepted : g.tells → KeepsImage old → step (state_in (recorded old) (image_of old)) command now ≡ Accept reply (state_in changed (image_of new))
-    pub rests : g.tells → KeepsImage old → DependsOnBytes (recorded old) (image_of old) command now (Accepted reply)
-    pub change : g.tells → KeepsImage old → IsGood (recorded old) (image_of old) → IsChange (recorded old) (image_of old) (IsFree old.vault) changed (image_of new) unsettled
+    pub accepted : g.tells → KeepsImage old → step (state_in (current_records old) (image_of old)) command now ≡ Accept reply (state_in changed (image_of new))
+    pub rests : g.tells → KeepsImage old → DependsOnBytes (current_records old) (image_of old) command now (Accepted reply)
+    pub change : g.tells → KeepsImage old → AreWholeOnVolume (current_records old) (image_of old) → IsChange (current_records old) (image_of old) (IsFree old.vault) changed (image_of new) unsettled
     pub volume : g.tells → KeepsImage old → IsVolumeOf changed (image_of new)
     pub any_moment : g.tells → KeepsImage old → LeavesOnly g.moment g.left_at (volume_of old.vault) (volume_of new.vault) (DiffersOnlyIn (IsFree old.vault) (image_of old))
-    pub after : g.tells → KeepsImage old → (j : List ℕ) → left_by new j → DiffersOnlyIn unsettled (image_of new) j
+    pub after : g.tells → KeepsImage old → (j : List ℕ) → MayLeaveImage new j → DiffersOnlyIn unsettled (image_of new) j
 
   -- And what is known in memory goes on after it.
-  pub record GoesOn (new : Keeper V S g) (changed : Records) (reply : machine.Reply) (unsettled : ℕ → Type 0) : Type 0 where
+  pub record GoesOn (new : OpenCustody V S g) (changed : Records) (reply : machine.Reply) (unsettled : ℕ → Type 0) : Type 0 where
     pub change : IsOneChange new changed reply unsettled
     pub in_order : IsInOrder changed (g.size (volume_of new.vault)) (failures_of new) (IsFree new.vault)
     pub fewer : (b : ℕ) → unsettled b → IsFree new.vault b
 
   -- one that does not call the volume
   pub volume_stays : (store : database_of.Held S) (r : held.Records) (changed : Records) (reply : machine.Reply) → IsInOrder changed (g.size (volume_of old.vault)) (failures_of old) (IsFree old.vault) → reply.is_repeat ≡ false
-      → reads (state_in (recorded old) (image_of old)) command now ≡ [] → step (state_in (recorded old) (image_of old)) command now ≡ Accept reply (state_in changed (image_of old))
-      → (IsGood (recorded old) (image_of old) → IsChange (recorded old) (image_of old) (IsFree old.vault) changed (image_of old) (IsFree old.vault)) → (IsVolumeOf (recorded old) (image_of old) → IsVolumeOf changed (image_of old))
+      → deciding_keys (state_in (current_records old) (image_of old)) command now ≡ [] → step (state_in (current_records old) (image_of old)) command now ≡ Accept reply (state_in changed (image_of old))
+      → (AreWholeOnVolume (current_records old) (image_of old) → IsChange (current_records old) (image_of old) (IsFree old.vault) changed (image_of old) (IsFree old.vault)) → (IsVolumeOf (current_records old) (image_of old) → IsVolumeOf changed (image_of old))
       → GoesOn (record { vault = old.vault; store = store; records = r }) changed reply (IsFree old.vault)
   volume_stays store r changed reply in_order first none accepted change volume = record {
     change = record {
@@ -172,16 +172,16 @@ module _ {V S : Type 0} {g : volume.Ghosts V} (database : Ghosts S) (old : Keepe
     fewer = λ b f. f;
   }
 
-  module _ (new : Keeper V S g) (changed : Records) (reply : machine.Reply) {unsettled : ℕ → Type 0} (is : IsOneChange new changed reply unsettled) {A E : Type 0} (result : Result A E) (after : Rows)
-      (commits : Commits (stored database old) (stored database new) after result) (means : StandFor (stored database old).rows (recorded old) → StandFor after changed) where
-    during : g.tells → KeepsImage old → (j : List ℕ) → left_since old new j → DiffersOnlyIn (IsFree old.vault) (image_of old) j
+  module _ (new : OpenCustody V S g) (changed : Records) (reply : machine.Reply) {unsettled : ℕ → Type 0} (is : IsOneChange new changed reply unsettled) {A E : Type 0} (result : Result A E) (after : Rows)
+      (commits : Commits (store_state_of database old) (store_state_of database new) after result) (means : StandFor (store_state_of database old).rows (current_records old) → StandFor after changed) where
+    during : g.tells → KeepsImage old → (j : List ℕ) → MayLeaveImageSince old new j → DiffersOnlyIn (IsFree old.vault) (image_of old) j
     during tells volume = each_of g.moment g.left_at (volume_of old.vault) (volume_of new.vault) _ (is.any_moment tells volume)
 
-    ended : (stored database new).IsHonest → KeepsRows database old → (stored database new).in_transaction ≡ false
+    ended : (store_state_of database new).IsHonest → KeepsRows database old → (store_state_of database new).in_transaction ≡ false
     ended honest store = (commits.effect honest store.ready).ended
 
     -- the database failed: it is committed or not
-    pub commits_in_doubt : IsRuled (recorded old) command now (Err (refused.Fault StoreFailed)) (recorded new) → HasDone database old command now (Err (refused.Fault StoreFailed)) new
+    pub commits_in_doubt : FollowsRecords (current_records old) command now (Err (refused.Failure StoreFailed)) (current_records new) → HasExecuted database old command now (Err (refused.Failure StoreFailed)) new
     commits_in_doubt ruled = record {
       safe = record { answers = λ e. cc; failed = λ e. cc; not_failed = λ _. is.failures; full = λ e. cc; uncalled = is.uncalled; unchanged = λ e. cc; order = λ e. cc };
       ruled = ruled;
@@ -195,19 +195,19 @@ module _ {V S : Type 0} {g : volume.Ghosts V} (database : Ghosts S) (old : Keepe
       trust = commits.trust;
       serves = λ tells honest volume store.
           is_in_doubt database old new order volume store command now changed unsettled (is.change tells volume (good_before database old new order volume store command now)) reply (is.accepted tells volume) is.first
-          (during tells volume) (either_form _ _ (recorded old) changed _ store (means (store.in_form, store.current)) result (commits.effect honest store.ready)) (is.after tells volume);
+          (during tells volume) (either_form _ _ (current_records old) changed _ store (means (store.in_form, store.current)) result (commits.effect honest store.ready)) (is.after tells volume);
       image = λ e. cc;
       rows = λ e. cc;
     }
 
   -- it is committed, and answered
-  module _ (new : Keeper V S g) (changed : Records) (reply : machine.Reply) {unsettled : ℕ → Type 0} (goes : GoesOn new changed reply unsettled) {A E : Type 0} (result : Result A E) (after : Rows)
-      (commits : Commits (stored database old) (stored database new) after result) (means : StandFor (stored database old).rows (recorded old) → StandFor after changed) where
+  module _ (new : OpenCustody V S g) (changed : Records) (reply : machine.Reply) {unsettled : ℕ → Type 0} (goes : GoesOn new changed reply unsettled) {A E : Type 0} (result : Result A E) (after : Rows)
+      (commits : Commits (store_state_of database old) (store_state_of database new) after result) (means : StandFor (store_state_of database old).rows (current_records old) → StandFor after changed) where
     abbrev is : IsOneChange new changed reply unsettled
     is = goes.change
 
-    pub commits_done : is_err result ≡ false → recorded new ≡ changed → (answer : Reply) → answer.is_repeat ≡ false → answer_of command (Ok answer) ≡ Accepted reply → IsRuled (recorded old) command now (Ok answer) (recorded new)
-        → IsRecorded (recorded new) answer.record → (g.tells → HoldsBytes (image_of new) answer.record (bytes_of command)) → HasDone database old command now (Ok answer) new
+    pub commits_done : is_err result ≡ false → current_records new ≡ changed → (answer : Reply) → answer.is_repeat ≡ false → answer_of command (Ok answer) ≡ Accepted reply → FollowsRecords (current_records old) command now (Ok answer) (current_records new)
+        → IsRecorded (current_records new) answer.record → (g.tells → HoldsBytes (image_of new) answer.record (command_bytes command)) → HasExecuted database old command now (Ok answer) new
     commits_done good same answer first told ruled shown holds = record {
       safe = safe_done old new command answer first is.uncalled is.failures (subst (λ r. IsInOrder r (g.size (volume_of new.vault)) (failures_of new) (IsFree new.vault)) (sym same) goes.in_order);
       ruled = ruled;
@@ -221,9 +221,9 @@ module _ {V S : Type 0} {g : volume.Ghosts V} (database : Ghosts S) (old : Keepe
       trust = commits.trust;
       serves = λ tells honest volume store. let done = on_ok _ result _ refl good (commits.effect honest store.ready).done in
           does_change database old new order volume store command now changed unsettled (is.change tells volume (good_before database old new order volume store command now)) answer reply told (is.accepted tells volume) (is.rests tells volume) same
-          (during new changed reply is result after commits means tells volume) (form_then _ _ (recorded old) changed _ store (means (store.in_form, store.current)) done.0 done.1) (is.after tells volume);
+          (during new changed reply is result after commits means tells volume) (form_then _ _ (current_records old) changed _ store (means (store.in_form, store.current)) done.0 done.1) (is.after tells volume);
       image = λ _ tells volume. record { volume = subst (λ r. IsVolumeOf r (image_of new)) (sym same) (is.volume tells volume); elsewhere = λ c w. in_more unsettled (IsFree new.vault) (image_of new) c goes.fewer (is.after tells volume c w) };
-      rows = λ _ honest store. let done = on_ok _ result _ refl good (commits.effect honest store.ready).done in rows_then _ _ (recorded old) changed _ store (means (store.in_form, store.current)) done.0 done.1 _ same;
+      rows = λ _ honest store. let done = on_ok _ result _ refl good (commits.effect honest store.ready).done in rows_then _ _ (current_records old) changed _ store (means (store.in_form, store.current)) done.0 done.1 _ same;
     }
       where
         repeated : {P : Type 0} (b : Bool) → b ≡ false → not b ≡ false → P

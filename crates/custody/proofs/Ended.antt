@@ -7,11 +7,11 @@ use Rattle.vault_volume.specs.Extents.{SameFree}
 use Rattle.vault_volume.specs.Image.{DiffersOnlyIn}
 use Rattle.vault_volume.specs.Vault.{volume_of, IsFree}
 use Rattle.vault_volume.proofs.ImageLemmas.{in_both, in_more}
-use Rattle.custody_store.specs.Standing.{standing}
+use Rattle.custody_store.specs.StoreState.{store_state}
 use Rattle.custody_machine.specs.Machine.{Command}
-use Rattle.custody_machine.specs.Stored.{IsVolumeOf}
+use Rattle.custody_machine.specs.StoredState.{IsVolumeOf}
 use Rattle.custody_machine.specs.Custody.{IsInStore}
-use Rattle.custody_machine.specs.declared.answers.Fault.TheVariants as fault
+use Rattle.custody_machine.specs.declared.answers.Failure.TheVariants as failure
 use Rattle.custody_machine.proofs.Compared.{each_of, now_of}
 use Rattle.custody_machine.proofs.Composed.{named_used, head_used}
 use Rattle.custody_machine.proofs.Rested.{rests}
@@ -19,23 +19,23 @@ use Rattle.custody_machine.proofs.Stored.{good-elsewhere}
 use Rattle.custody.specs.declared.answers.Reply.{Reply}
 use Rattle.custody.specs.declared.answers.Refused.{Refused}
 use Rattle.custody.specs.declared.answers.Refused.TheVariants as refused
-use Rattle.custody.specs.declared.keeper.Keeper.{Keeper}
+use Rattle.custody.specs.declared.open_custody.OpenCustody.{OpenCustody}
 use Rattle.custody.specs.Answers.{stays_open, may_change}
-use Rattle.custody.specs.Keeper.{recorded, stored, image_of, failures_of, left_by, left_since, KeepsOrder, KeepsImage, HasDone}
-use Rattle.custody.specs.Rested.{HasRested}
-use Rattle.custody.proofs.KeeperLemmas.{order_same}
+use Rattle.custody.specs.OpenCustody.{current_records, store_state_of, image_of, failures_of, MayLeaveImage, MayLeaveImageSince, KeepsOrder, KeepsImage, HasExecuted}
+use Rattle.custody.specs.OtherCalls.{RecordsNothing}
+use Rattle.custody.proofs.OpenCustodyLemmas.{order_same}
 
-module _ {V S : Type 0} {g : volume.Ghosts V} (database : Ghosts S) (old new : Keeper V S g) (order : KeepsOrder old) (same : recorded new ≡ recorded old) (store_same : new.store ≡ old.store)
+module _ {V S : Type 0} {g : volume.Ghosts V} (database : Ghosts S) (old new : OpenCustody V S g) (order : KeepsOrder old) (same : current_records new ≡ current_records old) (store_same : new.store ≡ old.store)
     (moved : g.tells → DiffersOnlyIn (IsFree old.vault) (image_of old) (image_of new)) (leaves : g.tells → KeepsImage old → LeavesOnly g.moment g.left_at (volume_of old.vault) (volume_of new.vault) (DiffersOnlyIn (IsFree old.vault) (image_of old))) where
-  during : g.tells → KeepsImage old → (j : List ℕ) → left_since old new j → DiffersOnlyIn (IsFree old.vault) (image_of old) j
+  during : g.tells → KeepsImage old → (j : List ℕ) → MayLeaveImageSince old new j → DiffersOnlyIn (IsFree old.vault) (image_of old) j
   during tells volume = each_of g.moment g.left_at (volume_of old.vault) (volume_of new.vault) _ (leaves tells volume)
 
-  after : g.tells → KeepsImage old → (j : List ℕ) → left_by new j → DiffersOnlyIn (IsFree old.vault) (image_of old) j
+  after : g.tells → KeepsImage old → (j : List ℕ) → MayLeaveImage new j → DiffersOnlyIn (IsFree old.vault) (image_of old) j
   after tells volume = now_of g.moment g.left_at (volume_of old.vault) (volume_of new.vault) _ (leaves tells volume)
 
   -- it recorded nothing, and wrote free blocks at most
   pub rested : (is_open : Bool) → (is_open ≡ false → failures_of old < failures_of new) → (is_open ≡ true → failures_of new ≡ failures_of old) → (is_open ≡ true → KeepsOrder new) → (is_open ≡ true → g.tells → KeepsImage old → KeepsImage new)
-      → HasRested database old is_open new
+      → RecordsNothing database old is_open new
   rested is_open failed not_failed ordered image = record {
     records = same;
     store = store_same;
@@ -45,18 +45,18 @@ module _ {V S : Type 0} {g : volume.Ghosts V} (database : Ghosts S) (old new : K
     written = moved;
     any_moment = leaves;
     rests = λ tells volume store.
-        rests (recorded old) (stored database old).rows (image_of old) _ _ (IsFree old.vault) (stored database old).IsReady (stored database old).may_leave (left_by old) order volume store
-        (image_of new) (moved tells) is_open (recorded new) (left_since old new) (stored database new).may_leave (left_by new) (λ _. same) (during tells volume) (λ r w. subst (λ s. (standing database s).may_leave r) store_same w) (after tells volume);
+        rests (current_records old) (store_state_of database old).rows (image_of old) _ _ (IsFree old.vault) (store_state_of database old).IsReady (store_state_of database old).may_leave (MayLeaveImage old) order volume store
+        (image_of new) (moved tells) is_open (current_records new) (MayLeaveImageSince old new) (store_state_of database new).may_leave (MayLeaveImage new) (λ _. same) (during tells volume) (λ r w. subst (λ s. (store_state database s).may_leave r) store_same w) (after tells volume);
     image = image;
-    rows = λ store. subst (λ s. IsInStore (recorded new) (standing database s).rows (standing database s).IsReady (standing database s).may_leave) (sym store_same)
-        (subst (λ k. IsInStore k (stored database old).rows (stored database old).IsReady (stored database old).may_leave) (sym same) store);
+    rows = λ store. subst (λ s. IsInStore (current_records new) (store_state database s).rows (store_state database s).IsReady (store_state database s).may_leave) (sym store_same)
+        (subst (λ k. IsInStore k (store_state_of database old).rows (store_state_of database old).IsReady (store_state_of database old).may_leave) (sym same) store);
   }
 
   -- and its blocks are free as before
-  pub freed_rested : SameFree (IsFree old.vault) (IsFree new.vault) → g.size (volume_of new.vault) ≡ g.size (volume_of old.vault) → failures_of new ≡ failures_of old → HasRested database old true new
+  pub freed_rested : SameFree (IsFree old.vault) (IsFree new.vault) → g.size (volume_of new.vault) ≡ g.size (volume_of old.vault) → failures_of new ≡ failures_of old → RecordsNothing database old true new
   freed_rested free size failures = rested true (λ e. cc) (λ _. failures) (λ _. order_same old new same free size failures order) (λ _ tells volume. record {
     volume = subst (λ r. IsVolumeOf r (image_of new)) (sym same)
-        (good-elsewhere (IsFree old.vault) (recorded old) (image_of old) (image_of new) (moved tells) (named_used (recorded old) _ _ (IsFree old.vault) order) (head_used (recorded old) _ _ (IsFree old.vault) order) (record { whole = order.whole; volume = volume.volume })).volume;
+        (good-elsewhere (IsFree old.vault) (current_records old) (image_of old) (image_of new) (moved tells) (named_used (current_records old) _ _ (IsFree old.vault) order) (head_used (current_records old) _ _ (IsFree old.vault) order) (record { whole = order.whole; volume = volume.volume })).volume;
     elsewhere = λ c left. in_more (IsFree old.vault) (IsFree new.vault) (image_of new) c (λ b f. (free b).1 f) (in_both (IsFree old.vault) (image_of new) (image_of old) c (back (moved tells)) (after tells volume c left));
   })
     where
@@ -64,19 +64,19 @@ module _ {V S : Type 0} {g : volume.Ghosts V} (database : Ghosts S) (old new : K
       back d = record { same_length = sym d.same_length; elsewhere = λ k outside. sym (d.elsewhere k outside) }
 
 -- a command that recorded nothing was no more than that
-pub undone_rested : {V S : Type 0} {g : volume.Ghosts V} (database : Ghosts S) (old new : Keeper V S g) (command : Command) (now : ℕ) (answer : Result Reply Refused) → KeepsOrder old → may_change answer ≡ false → HasDone database old command now answer new → HasRested database old (stays_open answer) new
+pub undone_rested : {V S : Type 0} {g : volume.Ghosts V} (database : Ghosts S) (old new : OpenCustody V S g) (command : Command) (now : ℕ) (answer : Result Reply Refused) → KeepsOrder old → may_change answer ≡ false → HasExecuted database old command now answer new → RecordsNothing database old (stays_open answer) new
 undone_rested {V} {S} {g} database old new command now answer order nothing done =
     rested database old new order (done.safe.unchanged nothing).0 (done.safe.unchanged nothing).1 done.written done.any_moment (stays_open answer)
     (λ shut. done.safe.failed (closed answer nothing shut done.safe.answers)) (λ opened. done.safe.not_failed (λ e. stays answer opened e)) done.safe.order done.image
   where
-    closed : (a : Result Reply Refused) → may_change a ≡ false → stays_open a ≡ false → a ≢ Err (refused.Fault fault.Closed) → a ≡ Err (refused.Fault fault.VolumeFailed)
+    closed : (a : Result Reply Refused) → may_change a ≡ false → stays_open a ≡ false → a ≢ Err (refused.Failure failure.Closed) → a ≡ Err (refused.Failure failure.VolumeFailed)
     closed (Ok reply) n s other = cc
     closed (Err (refused.Refusal refusal)) n s other = cc
-    closed (Err (refused.Fault fault.NoMemory)) n s other = cc
-    closed (Err (refused.Fault fault.VolumeFailed)) n s other = refl
-    closed (Err (refused.Fault fault.StoreFailed)) n s other = cc
-    closed (Err (refused.Fault fault.Closed)) n s other = absurd (other refl)
-    closed (Err (refused.Fault (fault.Damaged damage))) n s other = cc
+    closed (Err (refused.Failure failure.NoMemory)) n s other = cc
+    closed (Err (refused.Failure failure.VolumeFailed)) n s other = refl
+    closed (Err (refused.Failure failure.StoreFailed)) n s other = cc
+    closed (Err (refused.Failure failure.Closed)) n s other = absurd (other refl)
+    closed (Err (refused.Failure (failure.Damaged damage))) n s other = cc
 
-    stays : (a : Result Reply Refused) → stays_open a ≡ true → a ≡ Err (refused.Fault fault.VolumeFailed) → ⊥
+    stays : (a : Result Reply Refused) → stays_open a ≡ true → a ≡ Err (refused.Failure failure.VolumeFailed) → ⊥
     stays a s e = let shut : stays_open a ≡ false = ap stays_open e in cc

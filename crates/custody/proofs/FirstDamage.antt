@@ -7,27 +7,27 @@ use Rattle.vault_volume.specs.Image.{bytes_at}
 use Rattle.vault_volume.specs.Head.{head_of}
 use Rattle.custody_records.specs.declared.meta.Meta.{Meta}
 use Rattle.custody_records.specs.Rows.{MetaRow, Rows, first_meta}
-use Rattle.custody_records.specs.declared.damage.Damage as rows_damage
-use Rattle.custody_records.specs.declared.damage.Damage.TheVariants as form
+use Rattle.custody_records.specs.declared.damage.RowDamage as rows_damage
+use Rattle.custody_records.specs.declared.damage.RowDamage.TheVariants as form
 use Rattle.custody_records.specs.Form.{natural, number_in, is_schema, is_known, OutOfForm, InForm, form_by, form_of}
-use Rattle.custody_records.specs.Written.{digits_of}
-use Rattle.custody_records.specs.Typed as typed
+use Rattle.custody_records.specs.RowsOfRecords.{digits_of}
+use Rattle.custody_records.specs.TypedRecords as typed
 use Rattle.custody_machine.specs.declared.damage.Damage.TheVariants as wrong
-use Rattle.custody_machine.specs.Damage.{IsDamaged, NoneBefore}
+use Rattle.custody_machine.specs.Damage.{IsDamaged, NoDamageBefore}
 use Rattle.custody_machine.proofs.Damages.{none_before_all, none_before_next}
 use Rattle.custody_machine.proofs.Heads.{digits_by_head}
 use Rattle.custody_machine.specs.declared.damage.Damage.{Damage}
-use Rattle.custody_machine.specs.Stored.{AreInRange, AreOnce}
+use Rattle.custody_machine.specs.StoredState.{HaveExtentsInRange, HaveBlocksOnce}
 use Rattle.custody_records.specs.Records.{Records}
 use Rattle.custody_records.proofs.FormLemmas.{InForm-injective}
 use Rattle.custody_records.proofs.ReadLemmas.{some_same}
 use Rattle.sqlite.specs.State.{State}
 use Rattle.custody_store.specs.Schema.{meta_schema}
 use Rattle.custody_store.specs.Reading.{rows_in}
-use Rattle.custody_store.specs.Standing.{HasFirst, shown, has_all}
+use Rattle.custody_store.specs.StoreState.{HasFirstTables, as_store_state, has_all_tables}
 use Rattle.custody_store.proofs.MissingLemmas.{missing_form}
 use Rattle.custody_rules.specs.Breaks.{BreaksFirst}
-use Rattle.custody.specs.Opening.{HasNoRecord, IsDamageTold, IsRowDamage}
+use Rattle.custody.specs.Opening.{HasNoRecord, IsReportedDamage, IsRowDamage}
 use Rattle.custody.proofs.Opened.{broken_damaged}
 
 -- a row that was found is there
@@ -77,7 +77,7 @@ known_schema rows found is schema meta first =
 
 -- a table that is not there is told where none of H0 to H3 is true
 module _ (rows : Rows) (out : form_of rows ≡ OutOfForm form.Form) where
-  pub missing_told : (tells : Type 0) (image : List ℕ) → ¬ HasNoRecord rows → (tells → NoneBefore wrong.Schema rows image) → IsDamageTold tells rows image wrong.Form
+  pub missing_told : (tells : Type 0) (image : List ℕ) → ¬ HasNoRecord rows → (tells → NoDamageBefore wrong.Schema rows image) → IsReportedDamage tells rows image wrong.Form
   missing_told tells image has before = record {
     is_first = λ told. record {
       is_true = out;
@@ -88,7 +88,7 @@ module _ (rows : Rows) (out : form_of rows ≡ OutOfForm form.Form) where
   }
 
 -- so it is where meta is there with a row of a known schema, and another table is not
-pub row_missing : (s : State) → HasFirst meta_schema.tables s → has_all (shown s) ≡ false → ¬ HasNoRecord (rows_in s.now.trees) → ((meta : MetaRow) → first_meta (rows_in s.now.trees) ≡ Some meta → is_known meta ≡ true) → form_of (rows_in s.now.trees) ≡ OutOfForm form.Form
+pub row_missing : (s : State) → HasFirstTables meta_schema.tables s → has_all_tables (as_store_state s) ≡ false → ¬ HasNoRecord (rows_in s.now.trees) → ((meta : MetaRow) → first_meta (rows_in s.now.trees) ≡ Some meta → is_known meta ≡ true) → form_of (rows_in s.now.trees) ≡ OutOfForm form.Form
 row_missing s first missing has known = by (first_meta (rows_in s.now.trees)) refl
   where
     by : (found : Option MetaRow) → first_meta (rows_in s.now.trees) ≡ found → form_of (rows_in s.now.trees) ≡ OutOfForm form.Form
@@ -104,11 +104,11 @@ digits_read text number is = by (bytes_eq text (digits_of (number_in text))) ref
     by false e is = cc
 
 module _ (rows : Rows) (found : Meta) (image : List ℕ) (is : Some found ≡ option_map typed.meta_of (first_meta rows)) where
-  pub none_before_head : NoneBefore wrong.Head rows image
+  pub none_before_head : NoDamageBefore wrong.Head rows image
   none_before_head = none_before_next wrong.NoRecord wrong.Head rows image refl (none_before_all rows image) (has_record rows found is)
 
   module _ (number : ℕ) (lt : number < 2 ^ 64) (head : bytes_at image 0 4096 ≡ head_of number) where
-    pub none_before_volume : NoneBefore wrong.Volume rows image
+    pub none_before_volume : NoDamageBefore wrong.Volume rows image
     none_before_volume = none_before_next wrong.Head wrong.Volume rows image refl none_before_head (λ other. other number lt head)
 
     -- the row is that of the volume
@@ -127,27 +127,27 @@ module _ (rows : Rows) (found : Meta) (image : List ℕ) (is : Some found ≡ op
               size = long ∙ ap (λ b. 4096 * natural b) (sym same_blocks ∙ ap (λ (m : Meta). m.blocks) same) ∙ ap (λ (m : MetaRow). 4096 * natural m.blocks) (sym at_row);
             })
 
-    pub none_before_schema : (size : ℕ) → length image ≡ 4096 * size → found.number ≡ Some number → found.blocks ≡ pos size → NoneBefore wrong.Schema rows image
+    pub none_before_schema : (size : ℕ) → length image ≡ 4096 * size → found.number ≡ Some number → found.blocks ≡ pos size → NoDamageBefore wrong.Schema rows image
     none_before_schema size long same_number same_blocks = none_before_next wrong.Volume wrong.Schema rows image refl none_before_volume (no_other_volume size long same_number same_blocks)
 
 -- ---- rows whose volume is found and whose schema is known
 
 -- records in form that break a rule
 module _ (records : Records) (rows : Rows) (is : form_of rows ≡ InForm records) where
-  in_form_not : (why : rows_damage.Damage) → ¬ (form_of rows ≡ OutOfForm why)
+  in_form_not : (why : rows_damage.RowDamage) → ¬ (form_of rows ≡ OutOfForm why)
   in_form_not why out = let clash : InForm records ≡ OutOfForm why = sym is ∙ out in cc
 
-  module _ (image : List ℕ) (before : NoneBefore wrong.Schema rows image) where
-    before_range : NoneBefore wrong.Extent rows image
+  module _ (image : List ℕ) (before : NoDamageBefore wrong.Schema rows image) where
+    before_range : NoDamageBefore wrong.Extent rows image
     before_range = none_before_next wrong.Form wrong.Extent rows image refl (none_before_next wrong.Schema wrong.Form rows image refl before (in_form_not form.Schema)) (in_form_not form.Form)
 
-    before_once : AreInRange records → NoneBefore wrong.Overlap rows image
-    before_once range = none_before_next wrong.Extent wrong.Overlap rows image refl before_range (λ other. other.2 (subst AreInRange (InForm-injective records other.0 (sym is ∙ other.1)) range))
+    before_once : HaveExtentsInRange records → NoDamageBefore wrong.Overlap rows image
+    before_once range = none_before_next wrong.Extent wrong.Overlap rows image refl before_range (λ other. other.2 (subst HaveExtentsInRange (InForm-injective records other.0 (sym is ∙ other.1)) range))
 
-    before_linked : AreInRange records → AreOnce records → NoneBefore wrong.Link rows image
-    before_linked range once = none_before_next wrong.Overlap wrong.Link rows image refl (before_once range) (λ other. other.2 (subst AreOnce (InForm-injective records other.0 (sym is ∙ other.1)) once))
+    before_linked : HaveExtentsInRange records → HaveBlocksOnce records → NoDamageBefore wrong.Link rows image
+    before_linked range once = none_before_next wrong.Overlap wrong.Link rows image refl (before_once range) (λ other. other.2 (subst HaveBlocksOnce (InForm-injective records other.0 (sym is ∙ other.1)) once))
 
-  first_broken : (damage : Damage) → BreaksFirst damage records → (image : List ℕ) → NoneBefore wrong.Schema rows image → NoneBefore damage rows image
+  first_broken : (damage : Damage) → BreaksFirst damage records → (image : List ℕ) → NoDamageBefore wrong.Schema rows image → NoDamageBefore damage rows image
   first_broken wrong.NoRecord breaks image before = absurd breaks
   first_broken wrong.Head breaks image before = absurd breaks
   first_broken wrong.Volume breaks image before = absurd breaks

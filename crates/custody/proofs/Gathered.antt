@@ -7,7 +7,7 @@ use Rattle.std.specs.Cmp.{IsTotalOrder, tied_itself}
 use Rattle.std.specs.declared.cmp.Ordering.{Ordering}
 use Rattle.std.specs.Ordering.{is_eq}
 use Rattle.std.specs.FinMap.{FinMap, IsAntisymmetric, empty, entries, get, get-insert, insert, len-empty, len-entries}
-use Rattle.custody_records.specs.Form.{gather, gathered}
+use Rattle.custody_records.specs.Form.{gather, gathered_table}
 use Rattle.custody_machine.specs.MapValues.{map_keyed}
 use Rattle.custody_machine.proofs.Entries.{any_insert, any_of_get}
 use Rattle.custody_machine.proofs.MapValues.{get-map_keyed, map_keyed-empty, map_keyed-insert}
@@ -51,7 +51,7 @@ module _ {X K V : Type 0} {order : K → K → Ordering} (read : X → Option (K
         ∙ ap (λ m. gather read m (map change rows)) (sym (map_keyed-insert order exact changed total so_far first.entry.0 first.entry.1))
         ∙ gather_changed rows (insert so_far first.entry.0 first.entry.1) all first.rest
 
-    pub gathered_changed : (table : Option (List X)) (all : FinMap order V) → gathered read table ≡ Some all → gathered read (option_map (map change) table) ≡ Some (map_keyed changed all)
+    pub gathered_changed : (table : Option (List X)) (all : FinMap order V) → gathered_table read table ≡ Some all → gathered_table read (option_map (map change) table) ≡ Some (map_keyed changed all)
     gathered_changed None all e = cc
     gathered_changed (Some rows) all e = ap (λ m. gather read m (map change rows)) (sym (map_keyed-empty order exact changed total)) ∙ gather_changed rows empty all e
 
@@ -87,7 +87,7 @@ module _ {X K V : Type 0} {order : K → K → Ordering} (read : X → Option (K
         of_none [] e = refl
         of_none (entry ∷ es) e = cc
 
-    pub gathered_any : (table : Option (List X)) (all : FinMap order V) → gathered read table ≡ Some all → list_any test (unwrap_or table []) ≡ list_any passes (entries all)
+    pub gathered_any : (table : Option (List X)) (all : FinMap order V) → gathered_table read table ≡ Some all → list_any test (unwrap_or table []) ≡ list_any passes (entries all)
     gathered_any None all e = cc
     gathered_any (Some rows) all e = sym (or_false (list_any test rows)) ∙ ap (λ b. list_any test rows || b) (sym none_yet) ∙ gather_any rows empty all e
       where

@@ -9,11 +9,11 @@ use Rattle.std.proofs.lemmas.Slice.Eq.{bytes_eq-Decides}
 use Rattle.schedule.specs.Schedule.{IsMoment}
 use Rattle.deposit_name.specs.Identifiers.{is_reference, is_tld}
 use Rattle.custody_records.specs.Keys.{text_cmp}
-use Rattle.custody_records.specs.Orders.{text_exact, text_total}
+use Rattle.custody_records.specs.inside.Orders.{text_exact, text_total}
 use Rattle.custody_records.specs.Records.{Hold, Records, lifted_at, with_hold}
-use Rattle.custody_records.specs.Rows.{HoldRow, MetaRow, Rows, lifted_row, with_hold_row, with_lifting}
-use Rattle.custody_records.specs.Form.{gathered, has_holds, hold_in, hold_of, holds_in, is_day, is_hold, is_lifting, is_moment, form_of, InForm, IsCurrent}
-use Rattle.custody_records.specs.Written.{IsHold, row_of_hold}
+use Rattle.custody_records.specs.Rows.{HoldRow, MetaRow, Rows, row_with_lifting, with_hold_row, with_lifting}
+use Rattle.custody_records.specs.Form.{gathered_table, has_holds, hold_in, hold_of_row, holds_in, is_day, is_hold, is_lifting, is_moment, form_of, InForm, HasCurrentSchema}
+use Rattle.custody_records.specs.RowsOfRecords.{IsHold, row_of_hold}
 use Rattle.custody_records.proofs.FieldLemmas.{moment_passes}
 use Rattle.custody_records.proofs.FormLemmas.{AreRecords, hold_inserted, in_form_from, in_form_has}
 use Rattle.custody_records.proofs.ReadBack.{hold_read_back}
@@ -22,14 +22,14 @@ use Rattle.custody_machine.proofs.MapValues.{get-map_keyed}
 use Rattle.custody.proofs.Gathered.{gathered_changed}
 
 -- the hold of a row in form
-pub row_holds : (row : HoldRow) (entry : List ℕ × Hold) → hold_in row ≡ Some entry → (is_hold row ≡ true) × ((row.reference, hold_of row) ≡ entry)
+pub row_holds : (row : HoldRow) (entry : List ℕ × Hold) → hold_in row ≡ Some entry → (is_hold row ≡ true) × ((row.reference, hold_of_row row) ≡ entry)
 row_holds row entry e = by (is_hold row) refl e
   where
-    by : (form : Bool) → is_hold row ≡ form → cond form (Some (row.reference, hold_of row)) None ≡ Some entry → (is_hold row ≡ true) × ((row.reference, hold_of row) ≡ entry)
+    by : (form : Bool) → is_hold row ≡ form → cond form (Some (row.reference, hold_of_row row)) None ≡ Some entry → (is_hold row ≡ true) × ((row.reference, hold_of_row row) ≡ entry)
     by true is e = (is, cc)
     by false is e = cc
 
-module _ (rows : Rows) (records : Records) (current : IsCurrent rows) (was : form_of rows ≡ InForm records) where
+module _ (rows : Rows) (records : Records) (current : HasCurrentSchema rows) (was : form_of rows ≡ InForm records) where
   old : AreRecords rows records
   old = in_form_has rows records was
 
@@ -37,7 +37,7 @@ module _ (rows : Rows) (records : Records) (current : IsCurrent rows) (was : for
   has = current old.meta (ap (option_and_then (λ (metas : List MetaRow). slice_get metas 0)) old.alone)
 
   -- the table of holds is there, in form
-  pub holds_gathered : gathered hold_in rows.holds ≡ Some records.holds
+  pub holds_gathered : gathered_table hold_in rows.holds ≡ Some records.holds
   holds_gathered = ap (λ b. holds_in b rows.holds) (sym has) ∙ old.holds
 
   -- a hold that is made
@@ -51,11 +51,11 @@ module _ (rows : Rows) (records : Records) (current : IsCurrent rows) (was : for
     abbrev lifted_if : List ℕ → Hold → Hold
     lifted_if key hold = cond (bytes_eq key reference) (lifted_at at hold) hold
 
-    row_lifted : IsMoment at → (row : HoldRow) (entry : List ℕ × Hold) → hold_in row ≡ Some entry → hold_in (lifted_row reference at row) ≡ Some (entry.0, lifted_if entry.0 entry.1)
+    row_lifted : IsMoment at → (row : HoldRow) (entry : List ℕ × Hold) → hold_in row ≡ Some entry → hold_in (row_with_lifting reference at row) ≡ Some (entry.0, lifted_if entry.0 entry.1)
     row_lifted moment row entry e =
         by (bytes_eq row.reference reference) ∙ ap (λ (entry : List ℕ × Hold). Some (entry.0, lifted_if entry.0 entry.1)) read.1
       where
-        read : (is_hold row ≡ true) × ((row.reference, hold_of row) ≡ entry)
+        read : (is_hold row ≡ true) × ((row.reference, hold_of_row row) ≡ entry)
         read = row_holds row entry e
 
         with_moment : (a b c d e f : Bool) → (a && (b && (c && (d && e)))) ≡ true → f ≡ true → (a && (b && (c && (d && f)))) ≡ true
@@ -65,9 +65,9 @@ module _ (rows : Rows) (records : Records) (current : IsCurrent rows) (was : for
         with_moment true false c d e f p q = cc
         with_moment false b c d e f p q = cc
 
-        by : (b : Bool) → hold_in (cond b (record row { lifted = Some (pos at) }) row) ≡ Some (row.reference, cond b (lifted_at at (hold_of row)) (hold_of row))
-        by true = ap (λ form. cond form (Some (row.reference, lifted_at at (hold_of row))) None) (with_moment (is_reference row.reference) (is_tld row.tld) (is_day row.day) (is_moment row.at) (is_lifting row.lifted) (is_moment (pos at)) read.0 (moment_passes at moment))
-        by false = ap (λ form. cond form (Some (row.reference, hold_of row)) None) read.0
+        by : (b : Bool) → hold_in (cond b (record row { lifted = Some (pos at) }) row) ≡ Some (row.reference, cond b (lifted_at at (hold_of_row row)) (hold_of_row row))
+        by true = ap (λ form. cond form (Some (row.reference, lifted_at at (hold_of_row row))) None) (with_moment (is_reference row.reference) (is_tld row.tld) (is_day row.day) (is_moment row.at) (is_lifting row.lifted) (is_moment (pos at)) read.0 (moment_passes at moment))
+        by false = ap (λ form. cond form (Some (row.reference, hold_of_row row)) None) read.0
 
     -- that is to replace the hold of the reference
     lifts_one : (holds : FinMap text_cmp Hold) (hold : Hold) → get holds reference ≡ Some hold → map_keyed lifted_if holds ≡ insert holds reference (lifted_at at hold)
@@ -97,6 +97,6 @@ module _ (rows : Rows) (records : Records) (current : IsCurrent rows) (was : for
       releases = old.releases;
       holds =
           ap (λ b. holds_in b (with_lifting reference at rows).holds) has
-          ∙ gathered_changed hold_in text_total text_exact (lifted_row reference at) lifted_if (row_lifted moment) rows.holds records.holds holds_gathered
+          ∙ gathered_changed hold_in text_total text_exact (row_with_lifting reference at) lifted_if (row_lifted moment) rows.holds records.holds holds_gathered
           ∙ ap Some (lifts_one records.holds hold there);
     })

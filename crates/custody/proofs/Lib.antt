@@ -9,8 +9,8 @@ pub mod FirstDamage
 pub mod Gathered
 pub mod HoldRows
 pub mod Holds
-pub mod Intakes
-pub mod KeeperLemmas
+pub mod Uploads
+pub mod OpenCustodyLemmas
 pub mod KeptPart
 pub mod Opened
 pub mod PartLemmas

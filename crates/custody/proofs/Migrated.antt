@@ -4,25 +4,25 @@ use Rattle.std.specs.Option.{option_and_then}
 use Rattle.std.specs.Prelude.{slice_get, is_some}
 use Rattle.std.proofs.lemmas.Bool.{cases_Bool}
 use Rattle.vault_volume.specs.declared.volume.Volume as volume
-use Rattle.vault_volume.specs.Disk.{LeavesOne}
+use Rattle.vault_volume.specs.Disk.{LeavesOneImage}
 use Rattle.sqlite.specs.Held.{Held, state}
 use Rattle.sqlite.specs.Schema.{Schema}
 use Rattle.sqlite.specs.State.{State}
 use Rattle.sqlite.specs.Store.{Ghosts}
-use Rattle.custody_records.specs.Form.{form_of, InForm, has_holds, holds_in, IsCurrent, IsEarlier}
+use Rattle.custody_records.specs.Form.{form_of, InForm, has_holds, holds_in, HasCurrentSchema, HasEarlierSchema}
 use Rattle.custody_records.specs.Records.{Records}
-use Rattle.custody_records.specs.Rows.{MetaRow, HoldRow, Rows, first_meta, migrated}
+use Rattle.custody_records.specs.Rows.{MetaRow, HoldRow, Rows, first_meta, migrated_rows}
 use Rattle.custody_records.proofs.FormLemmas.{in_form_has, migrated_in_form}
 use Rattle.custody_records.proofs.ReadLemmas.{some_same}
 use Rattle.custody_store.specs.Reading.{has_table, rows_in}
 use Rattle.custody_store.specs.Schema.{first_schema, record_schema}
-use Rattle.custody_store.specs.Standing.{Standing, standing, shown, is_earlier, IsReady, IsAsMade, Reads, Migrates}
+use Rattle.custody_store.specs.StoreState.{StoreState, store_state, as_store_state, has_earlier_tables, IsReady, HasSchemaAtRest, ChangesNothing, Migrates}
 use Rattle.custody_store.proofs.MissingLemmas.{holds_missing, holds_there}
 use Rattle.custody_store.proofs.ReadLemmas.{still, all_there, first_of_ready, first_of_earlier}
 use Rattle.custody_store.proofs.TableLemmas.{holds_first, rows_among}
 use Rattle.custody_machine.specs.Custody.{IsInStore}
 use Rattle.custody_machine.specs.Moves.{Left, MayLeave}
-use Rattle.custody.specs.Opening.{HasAll, ReadsVolume, OnlyReads, OnlyMigrates}
+use Rattle.custody.specs.Opening.{HasAllTables, ReadsVolume, OnlyReads, OnlyMigrates}
 use Rattle.custody.proofs.Opened.{reads_both, left_alike, left_same}
 
 -- ---- which schema rows are of
@@ -35,7 +35,7 @@ holds_by_schema rows records is meta first =
     ap (λ (row : MetaRow). holds_in (has_holds row.schema_no) rows.holds) (sym same) ∙ of.holds
 
 -- with a table of holds they are of schema 2
-are_current : (rows : Rows) (records : Records) (holds : List HoldRow) → rows.holds ≡ Some holds → form_of rows ≡ InForm records → IsCurrent rows
+are_current : (rows : Rows) (records : Records) (holds : List HoldRow) → rows.holds ≡ Some holds → form_of rows ≡ InForm records → HasCurrentSchema rows
 are_current rows records holds there is meta first = by (has_holds meta.schema_no) (ap (holds_in (has_holds meta.schema_no)) (sym there) ∙ holds_by_schema rows records is meta first)
   where
     by : (b : Bool) → holds_in b (Some holds) ≡ Some records.holds → b ≡ true
@@ -43,7 +43,7 @@ are_current rows records holds there is meta first = by (has_holds meta.schema_n
     by false found = cc
 
 -- and without one of schema 1
-are_earlier : (rows : Rows) (records : Records) → rows.holds ≡ None → form_of rows ≡ InForm records → IsEarlier rows
+are_earlier : (rows : Rows) (records : Records) → rows.holds ≡ None → form_of rows ≡ InForm records → HasEarlierSchema rows
 are_earlier rows records none is meta first = by (has_holds meta.schema_no) (ap (holds_in (has_holds meta.schema_no)) (sym none) ∙ holds_by_schema rows records is meta first)
   where
     by : (b : Bool) → holds_in b None ≡ Some records.holds → b ≡ false
@@ -51,10 +51,10 @@ are_earlier rows records none is meta first = by (has_holds meta.schema_no) (ap 
     by false found = refl
 
 -- rows of schema 1 that were made those of schema 2 are of it
-migrated_current : (rows : Rows) → IsCurrent (migrated rows)
+migrated_current : (rows : Rows) → HasCurrentSchema (migrated_rows rows)
 migrated_current rows meta first = by rows.meta first
   where
-    by : (metas : Option (List MetaRow)) → first_meta (migrated (record rows { meta = metas })) ≡ Some meta → has_holds meta.schema_no ≡ true
+    by : (metas : Option (List MetaRow)) → first_meta (migrated_rows (record rows { meta = metas })) ≡ Some meta → has_holds meta.schema_no ≡ true
     by None is = cc
     by (Some []) is = cc
     by (Some (row ∷ others)) is = ap (λ (row : MetaRow). has_holds row.schema_no) (sym (some_same _ meta is))
@@ -66,7 +66,7 @@ hold_there : (s : State) → IsReady s → has_table (codes "hold") s.now.schema
 hold_there s ready = sym (holds_there s (first_of_ready s ready)) ∙ ap (λ (rows : Rows). is_some rows.holds) (rows_among s.now.trees s.now.schema ready.tables.begins ready.tables.sound)
 
 -- and of schema 1 it is not: with it there would be six
-hold_missing : (s : State) → IsAsMade first_schema s → has_table (codes "hold") s.now.schema ≡ false
+hold_missing : (s : State) → HasSchemaAtRest first_schema s → has_table (codes "hold") s.now.schema ≡ false
 hold_missing s earlier = elim (cases_Bool (has_table (codes "hold") s.now.schema)) [
   | inl there ↦
       let six = ((first_of_earlier s earlier).1 there).begins in
@@ -76,20 +76,20 @@ hold_missing s earlier = elim (cases_Bool (has_table (codes "hold") s.now.schema
 ]
 
 -- the tables of schema 2 are not the earlier ones, and those of schema 1 are
-not_earlier : (s : State) → IsReady s → is_earlier (shown s) ≡ false
+not_earlier : (s : State) → IsReady s → has_earlier_tables (as_store_state s) ≡ false
 not_earlier s ready = rw (all_there s (first_of_ready s ready), hold_there s ready) refl
 
-has_earlier : (s : State) → IsAsMade first_schema s → is_earlier (shown s) ≡ true
+has_earlier : (s : State) → HasSchemaAtRest first_schema s → has_earlier_tables (as_store_state s) ≡ true
 has_earlier s earlier = rw (all_there s (first_of_earlier s earlier), hold_missing s earlier) refl
 
 -- rows in form in tables of schema 2 are of it
-ready_current : (s : State) (records : Records) → IsReady s → form_of (rows_in s.now.trees) ≡ InForm records → IsCurrent (rows_in s.now.trees)
+ready_current : (s : State) (records : Records) → IsReady s → form_of (rows_in s.now.trees) ≡ InForm records → HasCurrentSchema (rows_in s.now.trees)
 ready_current s records ready is =
     let first = (first_of_ready s ready).1 (hold_there s ready) in
     are_current (rows_in s.now.trees) records _ (holds_first s.now.trees s.now.schema first.begins first.sound) is
 
 -- and rows in form in those of schema 1 stand for the same records when they are those of schema 2
-migrated_alike : (s : State) (records : Records) → IsAsMade first_schema s → form_of (rows_in s.now.trees) ≡ InForm records → form_of (migrated (rows_in s.now.trees)) ≡ InForm records
+migrated_alike : (s : State) (records : Records) → HasSchemaAtRest first_schema s → form_of (rows_in s.now.trees) ≡ InForm records → form_of (migrated_rows (rows_in s.now.trees)) ≡ InForm records
 migrated_alike s records earlier is =
     let rows = rows_in s.now.trees in
     migrated_in_form rows records is (are_earlier rows records (holds_missing s (first_of_earlier s earlier) (hold_missing s earlier)) is)
@@ -97,39 +97,39 @@ migrated_alike s records earlier is =
 -- ---- a migration, and calls that only read
 
 -- what a call did that read, and then another that migrated
-migrates_then : {A B E F : Type 0} (s : State) (mid new : Standing) (x : A) (r : Result B F) → Reads {E = E} (shown s) mid (Ok x) → Migrates mid new r → Migrates (shown s) new r
+migrates_then : {A B E F : Type 0} (s : State) (mid new : StoreState) (x : A) (r : Result B F) → ChangesNothing {E = E} (as_store_state s) mid (Ok x) → Migrates mid new r → Migrates (as_store_state s) new r
 migrates_then s mid new x r reads after = record {
   trust = λ honest. reads.trust (after.trust honest);
   mode = λ closed. after.mode (reads.mode closed);
   effect = λ honest ready.
       let read = after.trust honest in
-      let same = still (shown s) mid x reads read ready.rest in
+      let same = still (as_store_state s) mid x reads read ready.rest in
       let one = after.effect honest (same.earlier ready) in
       record {
-        done = subst (λ rows. OnOk r (new.IsReady × (new.rows ≡ migrated rows))) same.rows one.done;
+        done = subst (λ rows. OnOk r (new.IsReady × (new.rows ≡ migrated_rows rows))) same.rows one.done;
         made = one.made;
         kept = subst (λ rows. OnErr r (IsTrue new.is_open → new.IsEarlier × (new.rows ≡ rows))) same.rows one.kept;
-        left = λ rows h. elim (one.left rows h) [ inl before ↦ inl (reads.commits_nothing read rows before) | inr made ↦ inr (made ∙ ap migrated same.rows) ];
+        left = λ rows h. elim (one.left rows h) [ inl before ↦ inl (reads.commits_nothing read rows before) | inr made ↦ inr (made ∙ ap migrated_rows same.rows) ];
       };
 }
 
 -- the same of a database that is handed on
-pub migrates_both : {S A B C D E F : Type 0} (database : Ghosts S) (db later end : Held S) {mid over then : Held S} {x : A} {y : B} {r : Result C D} → Reads {E = E} (standing database db) (standing database mid) (Ok x) → over ≡ mid
-    → Reads {E = F} (standing database over) (standing database later) (Ok y) → Migrates (standing database later) (standing database then) r → end ≡ then → Migrates (standing database db) (standing database end) r
+pub migrates_both : {S A B C D E F : Type 0} (database : Ghosts S) (db later end : Held S) {mid over then : Held S} {x : A} {y : B} {r : Result C D} → ChangesNothing {E = E} (store_state database db) (store_state database mid) (Ok x) → over ≡ mid
+    → ChangesNothing {E = F} (store_state database over) (store_state database later) (Ok y) → Migrates (store_state database later) (store_state database then) r → end ≡ then → Migrates (store_state database db) (store_state database end) r
 migrates_both database db later end {mid} {over} {then} {x} {y} {r} reads is then_reads migrates at =
     let before = reads_both database db later reads is then_reads refl in
-    subst (λ h. Migrates (standing database db) (standing database h) r) (sym at) (migrates_then (state database db) (standing database later) (standing database then) y r before migrates)
+    subst (λ h. Migrates (store_state database db) (store_state database h) r) (sym at) (migrates_then (state database db) (store_state database later) (store_state database then) y r before migrates)
 
 -- the same with another answer
-pub migrates_answers : {A B E F : Type 0} (old new : Standing) (x : A) (y : B) → Migrates {E = E} old new (Ok x) → Migrates {E = F} old new (Ok y)
+pub migrates_answers : {A B E F : Type 0} (old new : StoreState) (x : A) (y : B) → Migrates {E = E} old new (Ok x) → Migrates {E = F} old new (Ok y)
 migrates_answers old new x y p = record { trust = p.trust; mode = p.mode; effect = λ honest ready. let did = p.effect honest ready in record { done = did.done; made = did.made; kept = tt; left = did.left } }
 
 -- or another error
-pub migrates_fails : {A B E F : Type 0} (old new : Standing) (e : E) (f : F) → Migrates {A = A} old new (Err e) → Migrates {A = B} old new (Err f)
+pub migrates_fails : {A B E F : Type 0} (old new : StoreState) (e : E) (f : F) → Migrates {A = A} old new (Err e) → Migrates {A = B} old new (Err f)
 migrates_fails old new e f p = record { trust = p.trust; mode = p.mode; effect = λ honest ready. let did = p.effect honest ready in record { done = tt; made = tt; kept = did.kept; left = did.left } }
 
 -- a call that failed after it had only read
-pub migrates_nothing : {A B E F : Type 0} (s : State) (new : Standing) (r : Result A E) (f : F) → Reads (shown s) new r → Migrates {A = B} (shown s) new (Err f)
+pub migrates_nothing : {A B E F : Type 0} (s : State) (new : StoreState) (r : Result A E) (f : F) → ChangesNothing (as_store_state s) new r → Migrates {A = B} (as_store_state s) new (Err f)
 migrates_nothing s new r f reads = record {
   trust = reads.trust;
   mode = reads.mode;
@@ -145,37 +145,37 @@ migrates_nothing s new r f reads = record {
 
 module _ {V S : Type 0} (device : volume.Ghosts V) (database : Ghosts S) (volume : V) (db : Held S) (later : V) (then : Held S) where
   -- the volume is read, and the database goes over to schema 2
-  pub only_migrates : {A E : Type 0} (r : Result A E) → ReadsVolume device volume later → Migrates (standing database db) (standing database then) r → OnlyMigrates device database volume db later then r
+  pub only_migrates : {A E : Type 0} (r : Result A E) → ReadsVolume device volume later → Migrates (store_state database db) (store_state database then) r → OnlyMigrates device database volume db later then r
   only_migrates r image rows = record {
     image = image;
     rows = rows;
     leaves = λ tells one ready honest. let only = image.any_moment tells in record {
-      within = λ r j h since. left_same (standing database db).rows (device.image volume) r j (ready.rest.only r h) ((one j).0 (only.since since.0 j since.1 since.2 since.3));
+      within = λ r j h since. left_same (store_state database db).rows (device.image volume) r j (ready.rest.only r h) ((one j).0 (only.since since.0 j since.1 since.2 since.3));
       at_exit = λ r j h left.
           let same = (one j).0 (only.since (device.moment later) j only.later (omega arith) left) in
           elim ((rows.effect honest ready).left r h) [
-            | inl before ↦ left_same (standing database db).rows (device.image volume) r j (ready.rest.only r before) same
-            | inr made ↦ left_alike (standing database db).rows (device.image volume) r j (λ records is. ap form_of made ∙ migrated_alike (state database db) records ready is) same
+            | inl before ↦ left_same (store_state database db).rows (device.image volume) r j (ready.rest.only r before) same
+            | inr made ↦ left_alike (store_state database db).rows (device.image volume) r j (λ records is. ap form_of made ∙ migrated_alike (state database db) records ready is) same
           ];
     };
   }
 
   -- over the tables of either schema: what a stop leaves after it
-  pub left_of_all : {A E : Type 0} (r : Result A E) → (is_earlier (standing database db) ≡ false → OnlyReads device database volume db later then r) → (is_earlier (standing database db) ≡ true → OnlyMigrates device database volume db later then r)
-      → device.tells → LeavesOne (device.image volume) (device.left_at volume (device.moment volume)) → HasAll (standing database db) → (standing database then).IsHonest
-      → (rows : Rows) (image : List ℕ) → (standing database then).may_leave rows → device.left_at later (device.moment later) image → MayLeave (Left (standing database db).rows (device.image volume)) rows image
+  pub left_of_all : {A E : Type 0} (r : Result A E) → (has_earlier_tables (store_state database db) ≡ false → OnlyReads device database volume db later then r) → (has_earlier_tables (store_state database db) ≡ true → OnlyMigrates device database volume db later then r)
+      → device.tells → LeavesOneImage (device.image volume) (device.left_at volume (device.moment volume)) → HasAllTables (store_state database db) → (store_state database then).IsHonest
+      → (rows : Rows) (image : List ℕ) → (store_state database then).may_leave rows → device.left_at later (device.moment later) image → MayLeave (Left (store_state database db).rows (device.image volume)) rows image
   left_of_all r reads migrates tells one (inl ready) honest rows image h w = ((reads (not_earlier (state database db) ready)).leaves tells one ready.rest honest).at_exit rows image h w
   left_of_all r reads migrates tells one (inr earlier) honest rows image h w = ((migrates (has_earlier (state database db) earlier)).leaves tells one earlier honest).at_exit rows image h w
 
   -- and what an open custody keeps of the rows
-  pub rows_of_all : {A E : Type 0} (x : A) → (is_earlier (standing database db) ≡ false → OnlyReads device database {E = E} volume db later then (Ok x)) → (is_earlier (standing database db) ≡ true → OnlyMigrates device database {E = E} volume db later then (Ok x))
-      → HasAll (standing database db) → (standing database then).IsHonest → (records : Records) → form_of (standing database db).rows ≡ InForm records
-      → IsInStore records (standing database then).rows (standing database then).IsReady (standing database then).may_leave
+  pub rows_of_all : {A E : Type 0} (x : A) → (has_earlier_tables (store_state database db) ≡ false → OnlyReads device database {E = E} volume db later then (Ok x)) → (has_earlier_tables (store_state database db) ≡ true → OnlyMigrates device database {E = E} volume db later then (Ok x))
+      → HasAllTables (store_state database db) → (store_state database then).IsHonest → (records : Records) → form_of (store_state database db).rows ≡ InForm records
+      → IsInStore records (store_state database then).rows (store_state database then).IsReady (store_state database then).may_leave
   rows_of_all x reads migrates (inl ready) honest records is =
       let s = state database db in
-      let same = still (shown s) (standing database then) x (reads (not_earlier s ready)).rows honest ready.rest in
-      record { ready = same.ready ready; in_form = ap form_of same.rows ∙ is; current = subst IsCurrent (sym same.rows) (ready_current s records ready is); settled = same.rest.only }
+      let same = still (as_store_state s) (store_state database then) x (reads (not_earlier s ready)).rows honest ready.rest in
+      record { ready = same.ready ready; in_form = ap form_of same.rows ∙ is; current = subst HasCurrentSchema (sym same.rows) (ready_current s records ready is); settled = same.rest.only }
   rows_of_all x reads migrates (inr earlier) honest records is =
       let s = state database db in
       let done = ((migrates (has_earlier s earlier)).rows.effect honest earlier).done in
-      record { ready = done.0; in_form = ap form_of done.1 ∙ migrated_alike s records earlier is; current = subst IsCurrent (sym done.1) (migrated_current (shown s).rows); settled = done.0.rest.only }
+      record { ready = done.0; in_form = ap form_of done.1 ∙ migrated_alike s records earlier is; current = subst HasCurrentSchema (sym done.1) (migrated_current (as_store_state s).rows); settled = done.0.rest.only }

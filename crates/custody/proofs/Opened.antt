@@ -3,13 +3,13 @@ use Rattle.std.proofs.Common.{◌≡◌, ◌⊎◌, inl, inr, ℕ, zero, suc, �
 use Rattle.std.specs.Prelude.{◌||◌, codes, true, false, option_map, IfSome, IfNone}
 use Rattle.vault_volume.specs.Image.{bytes_at, DiffersOnlyIn}
 use Rattle.vault_volume.proofs.ImageLemmas.{same_in}
-use Rattle.vault_volume.specs.Disk.{LeavesOne, LeavesOnly}
+use Rattle.vault_volume.specs.Disk.{LeavesOneImage, LeavesOnly}
 use Rattle.vault_volume.specs.Head.{head_of}
 use Rattle.custody_records.specs.declared.meta.Meta.{Meta}
 use Rattle.custody_records.specs.Records.{Records}
 use Rattle.custody_records.specs.Rows.{MetaRow, Rows, first_meta}
-use Rattle.custody_records.specs.Form.{form_of, InForm, natural, has_holds, IsCurrent}
-use Rattle.custody_records.specs.Typed as typed
+use Rattle.custody_records.specs.Form.{form_of, InForm, natural, has_holds, HasCurrentSchema}
+use Rattle.custody_records.specs.TypedRecords as typed
 use Rattle.custody_records.proofs.MetaLemmas.{number_reads}
 use Rattle.custody_records.proofs.ReadLemmas.{some_same}
 use Rattle.custody_machine.specs.declared.damage.Damage.{Damage}
@@ -21,30 +21,30 @@ use Rattle.std.specs.declared.cmp.Ordering.{Ordering}
 use Rattle.sqlite.specs.State.{State, HasCleanDisk}
 use Rattle.custody_records.specs.Keys.{text_cmp, part_cmp, notice_cmp}
 use Rattle.custody_records.specs.Records.{new_records}
-use Rattle.custody_records.specs.Rows.{fresh}
-use Rattle.custody_records.specs.Written.{digits_of}
+use Rattle.custody_records.specs.Rows.{initial_rows}
+use Rattle.custody_records.specs.RowsOfRecords.{digits_of}
 use Rattle.custody_records.proofs.FormLemmas.{fresh_in_form}
 use Rattle.custody_store.specs.Reading.{rows_in, has_table}
 use Rattle.custody_store.specs.Schema.{meta_schema}
-use Rattle.custody_store.specs.Standing.{Standing, standing, shown, IsAtRest, IsReady, IsBare, HasFirst, HasTablesFirst, HasMetaOrNone, HasKnownTables, leaves, has_any, Founds, Reads, StandsAs}
+use Rattle.custody_store.specs.StoreState.{StoreState, store_state, as_store_state, IsAtRest, IsReady, IsBare, HasFirstTables, HasSchemaTablesFirst, HasMetaOrNone, HasKnownTables, MayLeaveRows, has_any_table, CreatesTables, ChangesNothing, SameTablesAndRows}
 use Rattle.custody_store.proofs.BareLemmas.{rows_bare}
 use Rattle.custody_store.proofs.ReadLemmas.{still, reads_then, meta_there, meta_of_first, first_of_ready, first_of_earlier}
 use Rattle.custody_machine.specs.State.{empty as nothing}
-use Rattle.custody_machine.specs.Stored.{AreWhole, IsGood, KeepsParts, part_of, state_in, HasDigests}
+use Rattle.custody_machine.specs.StoredState.{AreWhole, AreWholeOnVolume, KeepsParts, part_of, state_in, HasDigests}
 use Rattle.custody_machine.specs.Moves.{Serving, Left, MayLeave, IsBegun}
 use Rattle.custody_machine.specs.Custody.{IsOnVolume, IsInStore, LeftSince, Leaves, MayInitialise}
 use Rattle.custody_machine.proofs.MapValues.{get-map_values}
 use Rattle.custody_machine.proofs.Stored.{keeps_itself}
-use Rattle.custody_records.specs.Orders.{part_total, part_exact}
+use Rattle.custody_records.specs.inside.Orders.{part_total, part_exact}
 use Rattle.custody_records.proofs.FormLemmas.{InForm-injective}
 use Rattle.vault_volume.specs.declared.volume.Volume as volume
 use Rattle.sqlite.specs.Store.{Ghosts}
 use Rattle.sqlite.specs.Held.{Held, state}
-use Rattle.custody_machine.specs.declared.answers.Fault.{Fault}
-use Rattle.custody_machine.specs.declared.answers.Fault.TheVariants as fault
+use Rattle.custody_machine.specs.declared.answers.Failure.{Failure}
+use Rattle.custody_machine.specs.declared.answers.Failure.TheVariants as failure
 use Rattle.custody.specs.declared.answers.InitError.{InitError}
 use Rattle.custody.specs.declared.answers.InitError.TheVariants as init_error
-use Rattle.custody.specs.Opening.{HasAll, HasAllOrNone, HasNoRecord, WritesNothing, IsSize, ReadsVolume, OnlyReads}
+use Rattle.custody.specs.Opening.{HasAllTables, HasAllTablesOrNone, HasNoRecord, WritesNothing, IsVolumeSize, ReadsVolume, OnlyReads}
 use Rattle.custody.specs.Calls.{LeavesNone}
 
 pub some_is : {T : Type 0} (P : T → Type 0) (o : Option T) (x : T) → o ≡ Some x → IfSome o P → P x
@@ -103,60 +103,60 @@ pub bare_has_none : (s : State) → IsBare s → HasNoRecord (rows_in s.now.tree
 bare_has_none s bare = ap first_meta (rows_bare s bare)
 
 -- nor has what a stop leaves of it
-pub none_left : (s : State) → IsBare s → (rows : Rows) → leaves s rows → HasNoRecord rows
+pub none_left : (s : State) → IsBare s → (rows : Rows) → MayLeaveRows s rows → HasNoRecord rows
 none_left s bare rows left = ap first_meta (bare.rest.only rows left) ∙ bare_has_none s bare
 
 -- where there is no record, what a stop leaves has none
-pub still_none : (s : State) → IsAtRest s → HasNoRecord (rows_in s.now.trees) → (rows : Rows) → leaves s rows → HasNoRecord rows
+pub still_none : (s : State) → IsAtRest s → HasNoRecord (rows_in s.now.trees) → (rows : Rows) → MayLeaveRows s rows → HasNoRecord rows
 still_none s rest none rows left = ap first_meta (rest.only rows left) ∙ none
 
 -- where meta is there, one is
-any_there : (s : State) → HasFirst meta_schema.tables s → has_any (shown s) ≡ true
+any_there : (s : State) → HasFirstTables meta_schema.tables s → has_any_table (as_store_state s) ≡ true
 any_there s first = ap (λ b. b || has_table (codes "registry") s.now.schema || has_table (codes "part") s.now.schema || has_table (codes "notice") s.now.schema || has_table (codes "handover") s.now.schema || has_table (codes "hold") s.now.schema) (meta_there s first)
 
 -- a database with the tables of a schema has the five first that both have
-pub first_of_all : (s : State) → HasAll (shown s) → HasTablesFirst s
+pub first_of_all : (s : State) → HasAllTables (as_store_state s) → HasSchemaTablesFirst s
 first_of_all s (inl ready) = first_of_ready s ready
 first_of_all s (inr earlier) = first_of_earlier s earlier
 
 -- so it begins with meta
-pub meta_of_all : (s : State) → HasAll (shown s) → HasFirst meta_schema.tables s
+pub meta_of_all : (s : State) → HasAllTables (as_store_state s) → HasFirstTables meta_schema.tables s
 meta_of_all s all = meta_of_first s (first_of_all s all)
 
-pub none_all : (s : State) → false ≡ has_any (shown s) → HasAll (shown s) → ⊥
+pub none_all : (s : State) → false ≡ has_any_table (as_store_state s) → HasAllTables (as_store_state s) → ⊥
 none_all s none all = let some : false ≡ true = none ∙ any_there s (meta_of_all s all) in cc
 
 -- and its tables are known
-pub known_of_all : (s : State) → HasAll (shown s) → HasKnownTables (shown s)
+pub known_of_all : (s : State) → HasAllTables (as_store_state s) → HasKnownTables (as_store_state s)
 known_of_all s all = inr (meta_of_all s all, λ _. first_of_all s all)
 
 -- where none is there, there is no table at all
-pub bare_where_none : (s : State) → false ≡ has_any (shown s) → HasAllOrNone (shown s) → IsBare s
+pub bare_where_none : (s : State) → false ≡ has_any_table (as_store_state s) → HasAllTablesOrNone (as_store_state s) → IsBare s
 bare_where_none s none (inl all) = absurd (none_all s none all)
 bare_where_none s none (inr bare) = bare
 
 -- where its tables are known, it begins with meta, or has none
-pub meta_where_known : (s : Standing) → HasKnownTables s → HasMetaOrNone s
+pub meta_where_known : (s : StoreState) → HasKnownTables s → HasMetaOrNone s
 meta_where_known s (inl bare) = inr bare
 meta_where_known s (inr known) = inl known.0
 
 -- with the tables of a schema it is at rest
-pub all_rests : (s : State) → HasAll (shown s) → IsAtRest s
+pub all_rests : (s : State) → HasAllTables (as_store_state s) → IsAtRest s
 all_rests s (inl ready) = ready.rest
 all_rests s (inr earlier) = earlier.rest
 
 -- and so is one without tables
-pub either_rests : (s : State) → HasAllOrNone (shown s) → IsAtRest s
+pub either_rests : (s : State) → HasAllTablesOrNone (as_store_state s) → IsAtRest s
 either_rests s (inl all) = all_rests s all
 either_rests s (inr bare) = bare.rest
 
 -- either is known to begin with meta, or to have no table
-pub meta_or_none : (s : State) → HasAllOrNone (shown s) → HasMetaOrNone (shown s)
+pub meta_or_none : (s : State) → HasAllTablesOrNone (as_store_state s) → HasMetaOrNone (as_store_state s)
 meta_or_none s (inl all) = inl (meta_of_all s all)
 meta_or_none s (inr bare) = inr bare
 
--- the same with another fault
-pub founds_err : {A B E F : Type 0} (old new : Standing) (after : Rows) (e : E) (f : F) → Founds {A = A} old new after (Err e) → Founds {A = B} old new after (Err f)
+-- the same with another error
+pub founds_err : {A B E F : Type 0} (old new : StoreState) (after : Rows) (e : E) (f : F) → CreatesTables {A = A} old new after (Err e) → CreatesTables {A = B} old new after (Err f)
 founds_err old new after e f p = record {
   trust = p.trust;
   mode = p.mode;
@@ -201,9 +201,9 @@ module _ (number blocks : ℕ) where
   pub new_begun : (records : Records) (image : List ℕ) → records ≡ new_records number blocks → IsBegun nothing (Serving records image)
   new_begun records image is = subst (λ r. IsBegun nothing (Serving r image)) (sym is) (new_empty image, new_digests image)
 
-  module _ (image : List ℕ) (lt : number < 2 ^ 64) (fits : IsSize blocks) (head : bytes_at image 0 4096 ≡ head_of number) (long : length image ≡ 4096 * blocks) where
+  module _ (image : List ℕ) (lt : number < 2 ^ 64) (fits : IsVolumeSize blocks) (head : bytes_at image 0 4096 ≡ head_of number) (long : length image ≡ 4096 * blocks) where
     -- the rows that are made, with the volume that is begun, stand for it
-    fresh_begun : IsBegun nothing (Left (fresh (digits_of number) (pos blocks)) image)
+    fresh_begun : IsBegun nothing (Left (initial_rows (digits_of number) (pos blocks)) image)
     fresh_begun = (
       record {
         records = new_records number blocks;
@@ -214,27 +214,27 @@ module _ (number blocks : ℕ) where
       λ records is. subst (HasDigests image) (InForm-injective (new_records number blocks) records (sym (fresh_in_form number blocks lt fits.0 fits.1) ∙ is)) (new_digests image),
     )
 
-    pub begun_left : (rows : Rows) (left : List ℕ) → rows ≡ fresh (digits_of number) (pos blocks) → left ≡ image → IsBegun nothing (Left rows left)
-    begun_left rows left new is = subst (λ r. IsBegun nothing (Left r left)) (sym new) (subst (λ i. IsBegun nothing (Left (fresh (digits_of number) (pos blocks)) i)) (sym is) fresh_begun)
+    pub begun_left : (rows : Rows) (left : List ℕ) → rows ≡ initial_rows (digits_of number) (pos blocks) → left ≡ image → IsBegun nothing (Left rows left)
+    begun_left rows left new is = subst (λ r. IsBegun nothing (Left r left)) (sym new) (subst (λ i. IsBegun nothing (Left (initial_rows (digits_of number) (pos blocks)) i)) (sym is) fresh_begun)
 
     -- what a stop leaves after the volume is begun
-    pub may_be_begun : (s : State) → IsBare s → (rows : Rows) (left : List ℕ) → leaves s rows ⊎ (rows ≡ fresh (digits_of number) (pos blocks)) → left ≡ image → MayInitialise rows left
+    pub may_be_begun : (s : State) → IsBare s → (rows : Rows) (left : List ℕ) → MayLeaveRows s rows ⊎ (rows ≡ initial_rows (digits_of number) (pos blocks)) → left ≡ image → MayInitialise rows left
     may_be_begun s bare rows left (inl old) is = inl (none_left s bare rows old)
     may_be_begun s bare rows left (inr new) is = inr (begun_left rows left new is)
 
 -- ---- calls that only read
 
-module _ {A E : Type 0} (old mid new : Standing) (x : A) (reads : Reads {E = E} old mid (Ok x)) (is : new ≡ mid) where
+module _ {A E : Type 0} (old mid new : StoreState) (x : A) (reads : ChangesNothing {E = E} old mid (Ok x)) (is : new ≡ mid) where
   -- the tables and rows are those that were there
-  pub stands_still : new.IsHonest → old.IsAtRest → StandsAs old new
-  stands_still honest rest = subst (StandsAs old) (sym is) (still old mid x reads (subst (λ s. s.IsHonest) is honest) rest)
+  pub stands_still : new.IsHonest → old.IsAtRest → SameTablesAndRows old new
+  stands_still honest rest = subst (SameTablesAndRows old) (sym is) (still old mid x reads (subst (λ s. s.IsHonest) is honest) rest)
 
 -- two such calls, where the database is handed on
-pub reads_both : {S A B E F : Type 0} (database : Ghosts S) (db end : Held S) {mid over later : Held S} {x : A} {r : Result B F} → Reads {E = E} (standing database db) (standing database mid) (Ok x) → over ≡ mid
-    → Reads (standing database over) (standing database later) r → end ≡ later → Reads (standing database db) (standing database end) r
+pub reads_both : {S A B E F : Type 0} (database : Ghosts S) (db end : Held S) {mid over later : Held S} {x : A} {r : Result B F} → ChangesNothing {E = E} (store_state database db) (store_state database mid) (Ok x) → over ≡ mid
+    → ChangesNothing (store_state database over) (store_state database later) r → end ≡ later → ChangesNothing (store_state database db) (store_state database end) r
 reads_both database db end {mid} {over} {later} {x} {r} reads is then at =
-    subst (λ h. Reads (standing database db) (standing database h) r) (sym at)
-    (reads_then (standing database db) (standing database mid) (standing database later) x r reads (subst (λ h. Reads (standing database h) (standing database later) r) is then))
+    subst (λ h. ChangesNothing (store_state database db) (store_state database h) r) (sym at)
+    (reads_then (store_state database db) (store_state database mid) (store_state database later) x r reads (subst (λ h. ChangesNothing (store_state database h) (store_state database later) r) is then))
 
 -- ---- what an opening leaves
 
@@ -243,7 +243,7 @@ pub left_alike : (rows : Rows) (image : List ℕ) (r : Rows) (j : List ℕ) → 
 left_alike rows image r j alike same_image records is good = record {
   records = records;
   in_form = alike records is;
-  good = subst (IsGood records) (sym same_image) good;
+  good = subst (AreWholeOnVolume records) (sym same_image) good;
   keeps = subst (KeepsParts records image records) (sym same_image) (keeps_itself records image);
   state = ap (state_in records) same_image;
 }
@@ -253,9 +253,9 @@ pub left_same : (rows : Rows) (image : List ℕ) (r : Rows) (j : List ℕ) → r
 left_same rows image r j same_rows = left_alike rows image r j (λ records is. ap form_of same_rows ∙ is)
 
 -- a stop within it, or after it
-pub leaves_start : {A E V : Type 0} (s : State) (new : Standing) (r : Result A E) (moment : V → ℕ) (left_at : V → ℕ → List ℕ → Type 0) (old later : V) (image : List ℕ) → IsAtRest s → Reads (shown s) new r → new.IsHonest
-    → LeavesOne image (left_at old (moment old)) → LeavesOnly moment left_at old later (left_at old (moment old))
-    → Leaves (record { rows_before = leaves s; images_since = LeftSince moment left_at old later; rows_then = new.may_leave; images_then = left_at later (moment later) }) (MayLeave (Left (rows_in s.now.trees) image)) (MayLeave (Left (rows_in s.now.trees) image))
+pub leaves_start : {A E V : Type 0} (s : State) (new : StoreState) (r : Result A E) (moment : V → ℕ) (left_at : V → ℕ → List ℕ → Type 0) (old later : V) (image : List ℕ) → IsAtRest s → ChangesNothing (as_store_state s) new r → new.IsHonest
+    → LeavesOneImage image (left_at old (moment old)) → LeavesOnly moment left_at old later (left_at old (moment old))
+    → Leaves (record { rows_before = MayLeaveRows s; images_since = LeftSince moment left_at old later; rows_then = new.may_leave; images_then = left_at later (moment later) }) (MayLeave (Left (rows_in s.now.trees) image)) (MayLeave (Left (rows_in s.now.trees) image))
 leaves_start s new r moment left_at old later image rest reads honest one only = record {
   within = λ rows j h since. left_same (rows_in s.now.trees) image rows j (rest.only rows h) ((one j).0 (only.since since.0 j since.1 since.2 since.3));
   at_exit = λ rows j h left. left_same (rows_in s.now.trees) image rows j (rest.only rows (reads.commits_nothing honest rows h))
@@ -264,25 +264,25 @@ leaves_start s new r moment left_at old later image rest reads honest one only =
 
 -- volume and database are only read
 module _ {V S : Type 0} (device : volume.Ghosts V) (database : Ghosts S) where
-  pub only_reads : {A E : Type 0} (volume : V) (db : Held S) (later : V) (then : Held S) (r : Result A E) → ReadsVolume device volume later → Reads (standing database db) (standing database then) r → OnlyReads device database volume db later then r
+  pub only_reads : {A E : Type 0} (volume : V) (db : Held S) (later : V) (then : Held S) (r : Result A E) → ReadsVolume device volume later → ChangesNothing (store_state database db) (store_state database then) r → OnlyReads device database volume db later then r
   only_reads volume db later then r image rows = record {
     image = image;
     rows = rows;
-    leaves = λ tells one rest honest. leaves_start (state database db) (standing database then) r device.moment device.left_at volume later (device.image volume) rest rows honest one (image.any_moment tells);
+    leaves = λ tells one rest honest. leaves_start (state database db) (store_state database then) r device.moment device.left_at volume later (device.image volume) rest rows honest one (image.any_moment tells);
   }
 
 -- ---- what a beginning leaves that makes nothing
 
 -- a failure of volume or database is told where something was written
-pub is_written : (why : Fault) → (why ≡ fault.VolumeFailed) ⊎ (why ≡ fault.StoreFailed) → ¬ WritesNothing (init_error.Fault why)
+pub is_written : (why : Failure) → (why ≡ failure.VolumeFailed) ⊎ (why ≡ failure.StoreFailed) → ¬ WritesNothing (init_error.Failure why)
 is_written why kind (inl same) = cc
 is_written why kind (inr (inl same)) = cc
 is_written why (inl is) (inr (inr same)) = cc
 is_written why (inr is) (inr (inr same)) = cc
 
 -- where the database was only read
-pub none_made : {A E V S : Type 0} (device : volume.Ghosts V) (database : Ghosts S) (volume : V) (db : Held S) (number : ℕ) (error : InitError) (later : V) (then : Held S) (r : Result A E) → Reads (standing database db) (standing database then) r → (standing database then).IsHonest
-    → (HasMetaOrNone (standing database db) → error ≡ init_error.AlreadyInitialised → ¬ HasNoRecord (standing database db).rows) → (HasMetaOrNone (standing database db) → error ≡ init_error.Size → HasNoRecord (standing database db).rows)
+pub none_made : {A E V S : Type 0} (device : volume.Ghosts V) (database : Ghosts S) (volume : V) (db : Held S) (number : ℕ) (error : InitError) (later : V) (then : Held S) (r : Result A E) → ChangesNothing (store_state database db) (store_state database then) r → (store_state database then).IsHonest
+    → (HasMetaOrNone (store_state database db) → error ≡ init_error.AlreadyInitialised → ¬ HasNoRecord (store_state database db).rows) → (HasMetaOrNone (store_state database db) → error ≡ init_error.Size → HasNoRecord (store_state database db).rows)
     → LeavesNone device database volume db number error later then
 none_made device database volume db number error later then r reads honest taken not_taken = record {
   taken = taken;
@@ -293,7 +293,7 @@ none_made device database volume db number error later then r reads honest taken
   fails = λ tells either none rows image left _. inl (none_then either none rows left);
 }
   where
-    none_then : HasAllOrNone (standing database db) → HasNoRecord (standing database db).rows → (rows : Rows) → (standing database then).may_leave rows → HasNoRecord rows
+    none_then : HasAllTablesOrNone (store_state database db) → HasNoRecord (store_state database db).rows → (rows : Rows) → (store_state database then).may_leave rows → HasNoRecord rows
     none_then either none rows left = still_none (state database db) (either_rests (state database db) either) none rows (reads.commits_nothing honest rows left)
 
 -- ---- what is kept of the volume and the rows
@@ -311,17 +311,17 @@ on_volume image_in moment left_at v w is records free head long one = subst (λ 
 })
 
 -- new rows are of schema 2
-fresh_current : (number : List ℕ) (blocks : ℤ) → IsCurrent (fresh number blocks)
+fresh_current : (number : List ℕ) (blocks : ℤ) → HasCurrentSchema (initial_rows number blocks)
 fresh_current number blocks meta is = ap (λ (row : MetaRow). has_holds row.schema_no) (sym (some_same _ meta is))
 
 -- the tables with the row of meta, which were made at once
-pub fresh_in_store : {A E : Type 0} (old : Standing) (new : State) (x : A) (number blocks : ℕ) → number < 2 ^ 64 → IsSize blocks → Founds {E = E} old (shown new) (fresh (digits_of number) (pos blocks)) (Ok x)
-    → HasCleanDisk new → old.IsBare → (records : Records) → records ≡ new_records number blocks → IsInStore records (shown new).rows (IsReady new) (leaves new)
+pub fresh_in_store : {A E : Type 0} (old : StoreState) (new : State) (x : A) (number blocks : ℕ) → number < 2 ^ 64 → IsVolumeSize blocks → CreatesTables {E = E} old (as_store_state new) (initial_rows (digits_of number) (pos blocks)) (Ok x)
+    → HasCleanDisk new → old.IsBare → (records : Records) → records ≡ new_records number blocks → IsInStore records (as_store_state new).rows (IsReady new) (MayLeaveRows new)
 fresh_in_store old new x number blocks lt fits founds honest bare records is =
     let done = (founds.effect honest bare).done in
     record {
       ready = done.0;
       in_form = ap form_of done.1 ∙ fresh_in_form number blocks lt fits.0 fits.1 ∙ ap InForm (sym is);
-      current = subst IsCurrent (sym done.1) (fresh_current (digits_of number) (pos blocks));
+      current = subst HasCurrentSchema (sym done.1) (fresh_current (digits_of number) (pos blocks));
       settled = done.0.rest.only;
     }

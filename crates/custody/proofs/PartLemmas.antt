@@ -13,14 +13,14 @@ use Rattle.deposit_name.specs.Name.{Name}
 use Rattle.extent_map.specs.declared.extent.Extent.{Extent}
 use Rattle.vault_volume.specs.Extents.{IsExtentOf, block_count, blocks_of}
 use Rattle.vault_volume.specs.Staged.{StagedPart}
-use Rattle.custody_records.specs.Records.{Records, key_of, with_part}
+use Rattle.custody_records.specs.Records.{Records, key_of, with_part, staged_record}
 use Rattle.custody_records.specs.Rows.{Rows, with_part_row}
 use Rattle.custody_records.specs.Form.{natural, is_number, is_within, number_in, form_of, InForm}
-use Rattle.custody_records.specs.Written.{HasWords, AreWritable, IsPart, row_of_part}
+use Rattle.custody_records.specs.RowsOfRecords.{HasWords, AreWritable, IsPart, row_of_part}
 use Rattle.custody_records.proofs.FormLemmas.{in_form_has, part_inserted}
 use Rattle.custody_records.proofs.ReadBack.{part_read_back}
-use Rattle.custody_machine.specs.Names.{read_name}
-use Rattle.custody_machine.specs.Custody.{IsPlaced, staged_record}
+use Rattle.custody_machine.specs.NameReading.{read_name}
+use Rattle.custody_machine.specs.Custody.{IsPlaced}
 use Rattle.custody_machine.proofs.NameReading.{read_is}
 
 -- ---- the row of a staged part

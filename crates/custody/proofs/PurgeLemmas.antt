@@ -12,10 +12,10 @@ use Rattle.deposit_name.specs.declared.kinds.Kind.{Kind}
 use Rattle.deposit_name.specs.Identifiers.{is_reference, is_tld}
 use Rattle.extent_map.specs.declared.extent.Extent.{Extent}
 use Rattle.custody_records.specs.Keys.{text_cmp, PartKey}
-use Rattle.custody_records.specs.Orders.{part_total, part_exact, text_total, text_exact}
+use Rattle.custody_records.specs.inside.Orders.{part_total, part_exact, text_total, text_exact}
 use Rattle.custody_records.specs.Records.{Hold, PartRecord, Records}
 use Rattle.custody_records.specs.Rows.{HoldRow, PartRow, Rows}
-use Rattle.custody_records.specs.Form.{natural, is_number, is_within, is_day, is_deposit_day, is_moment, is_part, kind_in, extents_in, part_key, part_in, hold_in, is_hold, gathered, form_of, InForm, IsCurrent}
+use Rattle.custody_records.specs.Form.{natural, is_number, is_within, is_day, is_deposit_day, is_moment, is_part, kind_in, extents_in, part_key, part_in, hold_in, is_hold, gathered_table, form_of, InForm, HasCurrentSchema}
 use Rattle.custody_records.proofs.FormLemmas.{in_form_has, in_form_from}
 use Rattle.custody_store.specs.Dropping as row
 use Rattle.custody_records.specs.Purge as part
@@ -62,7 +62,7 @@ is_read r kind extents f k x = λ i. cond (f i) (option_and_then (λ (it : Kind)
 held_both : (o : Option (List ℕ)) (extents : Option (List Extent)) → extents_in o ≡ Some extents → is_some extents ≡ is_some o
 held_both None extents e = let same : None ≡ extents = some_same None extents e in ap is_some (sym same)
 held_both (Some []) extents e = cc
-held_both (Some (b ∷ bytes)) extents e = by (Rattle.custody_records.specs.Form.extents_of (b ∷ bytes)) e
+held_both (Some (b ∷ bytes)) extents e = by (Rattle.custody_records.specs.Form.blob_extents (b ∷ bytes)) e
   where
     by : (r : Option (List Extent)) → option_map Some r ≡ Some extents → is_some extents ≡ true
     by None e = cc
@@ -86,18 +86,18 @@ same_number (pos m) (negsuc n) p q = cc
 same_number (negsuc m) b p q = cc
 
 -- a row of a hold is of the part's day exactly where the hold is
-holds_both : (r : PartRow) → is_deposit_day r.day ≡ true → (h : HoldRow) (entry : List ℕ × Hold) → hold_in h ≡ Some entry → row.holds_row r h ≡ part.holds_part (part_key r) entry
+holds_both : (r : PartRow) → is_deposit_day r.day ≡ true → (h : HoldRow) (entry : List ℕ × Hold) → hold_in h ≡ Some entry → row.is_hold_of_row r h ≡ part.is_hold_of_part (part_key r) entry
 holds_both r of_deposit h entry e =
     let read = row_holds h entry e in
     let past_tld = (and_parts (is_tld h.tld) _ (and_parts (is_reference h.reference) _ read.0).1).1 in
     let day = same_number h.day r.day (and_parts (is_day h.day) _ past_tld).0 of_deposit in
-    (λ i. open_both h.lifted i && (bytes_eq h.tld r.tld && day i)) ∙ ap (part.holds_part (part_key r)) read.1
+    (λ i. open_both h.lifted i && (bytes_eq h.tld r.tld && day i)) ∙ ap (part.is_hold_of_part (part_key r)) read.1
   where
     open_both : (lifted : Option ℤ) → is_none lifted ≡ is_none (option_map natural lifted)
     open_both None = refl
     open_both (Some at) = refl
 
-module _ (hold_rows : Option (List HoldRow)) (holds : FinMap text_cmp Hold) (gathers : gathered hold_in hold_rows ≡ Some holds) (today : ℕ) where
+module _ (hold_rows : Option (List HoldRow)) (holds : FinMap text_cmp Hold) (gathers : gathered_table hold_in hold_rows ≡ Some holds) (today : ℕ) where
   abbrev rows_of_holds : List HoldRow
   rows_of_holds = unwrap_or hold_rows []
 
@@ -105,26 +105,26 @@ module _ (hold_rows : Option (List HoldRow)) (holds : FinMap text_cmp Hold) (gat
   after entry = (entry.0, part.dropped_if_due holds today entry.0 entry.1)
 
   -- the day of a row is on hold exactly where that of its record is
-  on_hold_both : (r : PartRow) → is_part r ≡ true → row.is_on_hold rows_of_holds r ≡ part.is_on_hold holds (part_key r)
+  on_hold_both : (r : PartRow) → is_part r ≡ true → row.is_row_on_hold rows_of_holds r ≡ part.is_on_hold holds (part_key r)
   on_hold_both r form =
       let of_deposit = (and_parts (is_deposit_day r.day) _ (and_parts (is_tld r.tld) _ form).1).0 in
-      gathered_any hold_in text_total text_exact (row.holds_row r) (part.holds_part (part_key r)) (holds_both r of_deposit) hold_rows holds gathers
+      gathered_any hold_in text_total text_exact (row.is_hold_of_row r) (part.is_hold_of_part (part_key r)) (holds_both r of_deposit) hold_rows holds gathers
 
   -- a row is due exactly where its record is
-  due_both : (r : PartRow) (entry : PartKey × PartRecord) → IsRead r entry → row.is_due rows_of_holds today r ≡ part.is_due holds today entry.0 entry.1
+  due_both : (r : PartRow) (entry : PartKey × PartRecord) → IsRead r entry → row.is_due_row rows_of_holds today r ≡ part.is_due holds today entry.0 entry.1
   due_both r entry h =
       let kept_to_day = kept_to (year_after (day_of (natural r.received))) r.keep_day today (day_kept r h.form) in
       (λ i. sym (held_both r.extents h.extents h.extents_are) i && (kept_to_day i && not (on_hold_both r h.form i)))
       ∙ sym (ap (λ (e : PartKey × PartRecord). part.is_due holds today e.0 e.1) h.is)
 
   -- the row without its bytes stands for the record without its extents
-  row_means : (r : PartRow) (entry : PartKey × PartRecord) → part_in r ≡ Some entry → part_in (row.dropped_if_due rows_of_holds today r) ≡ Some (after entry)
+  row_means : (r : PartRow) (entry : PartKey × PartRecord) → part_in r ≡ Some entry → part_in (row.row_dropped_if_due rows_of_holds today r) ≡ Some (after entry)
   row_means r entry e = by (part.is_due holds today entry.0 entry.1) refl
     where
       h : IsRead r entry
       h = read_is r entry e
 
-      by : (d : Bool) → part.is_due holds today entry.0 entry.1 ≡ d → part_in (row.dropped_if_due rows_of_holds today r) ≡ Some (after entry)
+      by : (d : Bool) → part.is_due holds today entry.0 entry.1 ≡ d → part_in (row.row_dropped_if_due rows_of_holds today r) ≡ Some (after entry)
       by true is =
           let due = due_both r entry h ∙ is in
           ap (λ d. part_in (cond d (row.dropped_row r) r)) due
@@ -136,7 +136,7 @@ module _ (hold_rows : Option (List HoldRow)) (holds : FinMap text_cmp Hold) (gat
           ap (λ d. part_in (cond d (row.dropped_row r) r)) not_due ∙ e ∙ ap (λ d. Some (entry.0, cond d (record entry.1 { extents = None }) entry.1)) (sym is)
 
 -- What the rows stand for after it is what they stood for, without the bytes that were due.
-pub purge_means : (today : ℕ) (rows : Rows) (records : Records) → IsCurrent rows → form_of rows ≡ InForm records → form_of (row.without_due today rows) ≡ InForm (kept.without_due today records)
+pub purge_means : (today : ℕ) (rows : Rows) (records : Records) → HasCurrentSchema rows → form_of rows ≡ InForm records → form_of (row.rows_without_due today rows) ≡ InForm (kept.records_without_due today records)
 purge_means today rows records current was =
     let old = in_form_has rows records was in
     in_form_from _ _ (record {
@@ -148,7 +148,7 @@ purge_means today rows records current was =
       blocks = old.blocks;
       registries = old.registries;
       parts =
-          gathered_changed part_in part_total part_exact (row.dropped_if_due (row.holds_of rows) today) (part.dropped_if_due records.holds today)
+          gathered_changed part_in part_total part_exact (row.row_dropped_if_due (row.all_hold_rows rows) today) (part.dropped_if_due records.holds today)
           (row_means rows.holds records.holds (holds_gathered rows records current was) today) rows.parts records.parts old.parts;
       notices = old.notices;
       releases = old.releases;

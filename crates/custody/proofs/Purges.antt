@@ -16,43 +16,43 @@ use Rattle.vault_volume.specs.Image.{DiffersOnlyIn}
 use Rattle.vault_volume.proofs.ImageLemmas.{same_in}
 use Rattle.custody_records.specs.declared.records.Records as held
 use Rattle.custody_records.specs.Keys.{part_cmp}
-use Rattle.custody_records.specs.Orders.{part_exact}
+use Rattle.custody_records.specs.inside.Orders.{part_exact}
 use Rattle.custody_records.specs.Purge.{dropped_if_due, entries_without_due}
 use Rattle.custody_records.specs.Records.{Records}
-use Rattle.custody_machine.specs.declared.answers.Fault.TheVariants.{NoMemory}
+use Rattle.custody_machine.specs.declared.answers.Failure.TheVariants.{NoMemory}
 use Rattle.custody_machine.specs.Machine as machine
 use Rattle.custody_machine.specs.Machine.{Purge, OfPurge, Accept, step}
-use Rattle.custody_machine.specs.Stored.{IsGood, IsVolumeOf, state_in}
+use Rattle.custody_machine.specs.StoredState.{AreWholeOnVolume, IsVolumeOf, state_in}
 use Rattle.custody_machine.specs.MapValues.{map_keyed}
-use Rattle.custody_machine.specs.Purge.{IsDueBlock, count_due, without_due}
+use Rattle.custody_machine.specs.Purge.{IsDueBlock, count_due_records, records_without_due}
 use Rattle.custody_machine.specs.Custody.{IsInOrder}
-use Rattle.custody_machine.specs.Rulings.{DropsBytes, Makes, Decides}
+use Rattle.custody_machine.specs.Rulings.{DropsBytes, GoRuling, Decides}
 use Rattle.custody_machine.proofs.MapValues.{entries-map_keyed}
 use Rattle.custody_machine.proofs.Composed.{IsChange, nothing_in}
 use Rattle.custody_machine.proofs.Purged.{due_used, purged_in_order, purge_accepted, purge_changes}
 use Rattle.custody.specs.declared.answers.Refused.TheVariants as refused
-use Rattle.custody.specs.declared.keeper.Keeper.{Keeper}
-use Rattle.custody.specs.Keeper.{recorded, image_of, failures_of, left_by, KeepsImage, KeepsOrder, HasDone}
-use Rattle.custody.proofs.KeeperLemmas.{leaves_more, stays_still}
+use Rattle.custody.specs.declared.open_custody.OpenCustody.{OpenCustody}
+use Rattle.custody.specs.OpenCustody.{current_records, image_of, failures_of, MayLeaveImage, KeepsImage, KeepsOrder, HasExecuted}
+use Rattle.custody.proofs.OpenCustodyLemmas.{leaves_more, stays_still}
 use Rattle.custody.proofs.Done.{IsOneChange, GoesOn, no_memory_done}
 
 -- the records, after the bytes were dropped in memory
-pub dropped_records : (today : ℕ) (old new : Records) → entries new.parts ≡ entries_without_due old.holds today (entries old.parts) → new ≡ record old { parts = new.parts } → new ≡ without_due today old
+pub dropped_records : (today : ℕ) (old new : Records) → entries new.parts ≡ entries_without_due old.holds today (entries old.parts) → new ≡ record old { parts = new.parts } → new ≡ records_without_due today old
 dropped_records today old new parts others =
     others ∙ ap (λ m. record old { parts = m }) (same_entries_map new.parts (map_keyed (dropped_if_due old.holds today) old.parts) (parts ∙ sym (entries-map_keyed part_cmp part_exact (dropped_if_due old.holds today) old.parts)))
 
-module _ {V S : Type 0} {g : volume.Ghosts V} (database : Ghosts S) (old : Keeper V S g) (order : KeepsOrder old) (now : ℕ) (d : Decides (Makes DropsBytes) (recorded old) Purge now) where
+module _ {V S : Type 0} {g : volume.Ghosts V} (database : Ghosts S) (old : OpenCustody V S g) (order : KeepsOrder old) (now : ℕ) (d : Decides (GoRuling DropsBytes) (current_records old) Purge now) where
   abbrev pub records_then : Records
-  records_then = without_due (day_of now) (recorded old)
+  records_then = records_without_due (day_of now) (current_records old)
 
   abbrev pub reply_then : machine.Reply
-  reply_then = record { entry = OfPurge (count_due (day_of now) (recorded old)); is_repeat = false }
+  reply_then = record { entry = OfPurge (count_due_records (day_of now) (current_records old)); is_repeat = false }
 
   -- there is no memory for the extents that are due
-  pub unlisted_done : HasDone database old Purge now (Err (refused.Fault NoMemory)) old
-  unlisted_done = no_memory_done database old order Purge now old.records refl _ _ (d.1 (image_of old)) (Makes DropsBytes, d, inl refl)
+  pub unlisted_done : HasExecuted database old Purge now (Err (refused.Failure NoMemory)) old
+  unlisted_done = no_memory_done database old order Purge now old.records refl _ _ (d.1 (image_of old)) (GoRuling DropsBytes, d, inl refl)
 
-  good_of : KeepsImage old → IsGood (recorded old) (image_of old)
+  good_of : KeepsImage old → AreWholeOnVolume (current_records old) (image_of old)
   good_of kept = record { whole = order.whole; volume = kept.volume }
 
   -- The volume is not called. Until the blocks are given back, a stop leaves all but those that were free.
@@ -60,25 +60,25 @@ module _ {V S : Type 0} {g : volume.Ghosts V} (database : Ghosts S) (old : Keepe
       → IsOneChange database old order Purge now (record { vault = vault; store = store; records = r }) records_then reply_then (IsFree old.vault)
   purge_change vault same store r = record {
     uncalled = λ _. same;
-    reads_only = λ _ _. subst (λ v. (g.image v ≡ image_of old) × LeavesOnly g.moment g.left_at (volume_of old.vault) v (left_by old)) (sym same) (refl, stays_still g.moment g.left_at (volume_of old.vault));
+    reads_only = λ _ _. subst (λ v. (g.image v ≡ image_of old) × LeavesOnly g.moment g.left_at (volume_of old.vault) v (MayLeaveImage old)) (sym same) (refl, stays_still g.moment g.left_at (volume_of old.vault));
     failures = ap g.failures same;
     first = refl;
     written = λ _. subst (λ v. DiffersOnlyIn (IsFree old.vault) (image_of old) (g.image v)) (sym same) (same_in (IsFree old.vault) (image_of old));
-    accepted = λ _ kept. subst (λ v. step (state_in (recorded old) (image_of old)) Purge now ≡ Accept reply_then (state_in records_then (g.image v))) (sym same) (purge_accepted (recorded old) (image_of old) (good_of kept) now d);
+    accepted = λ _ kept. subst (λ v. step (state_in (current_records old) (image_of old)) Purge now ≡ Accept reply_then (state_in records_then (g.image v))) (sym same) (purge_accepted (current_records old) (image_of old) (good_of kept) now d);
     rests = λ _ _ key within. absurd (nothing_in _ key refl within);
-    change = λ _ _ good. subst (λ v. IsChange (recorded old) (image_of old) (IsFree old.vault) records_then (g.image v) (IsFree old.vault)) (sym same)
-        (purge_changes (recorded old) (image_of old) good now d (g.size (volume_of old.vault)) (failures_of old) (IsFree old.vault) order);
+    change = λ _ _ good. subst (λ v. IsChange (current_records old) (image_of old) (IsFree old.vault) records_then (g.image v) (IsFree old.vault)) (sym same)
+        (purge_changes (current_records old) (image_of old) good now d (g.size (volume_of old.vault)) (failures_of old) (IsFree old.vault) order);
     volume = λ _ kept. subst (λ v. IsVolumeOf records_then (g.image v)) (sym same) (record { head = kept.volume.head; size = kept.volume.size });
     any_moment = λ _ kept. subst (λ v. LeavesOnly g.moment g.left_at (volume_of old.vault) v (DiffersOnlyIn (IsFree old.vault) (image_of old))) (sym same)
         (leaves_more g.moment g.left_at (volume_of old.vault) (volume_of old.vault) _ _ kept.elsewhere (stays_still g.moment g.left_at (volume_of old.vault)));
     after = λ _ kept. subst (λ v. (j : List ℕ) → g.left_at v (g.moment v) j → DiffersOnlyIn (IsFree old.vault) (g.image v) j) (sym same) kept.elsewhere;
   }
 
-  module _ (due : List Extent) (exact : (b : ℕ) → (IsInAny due b → IsDueBlock (day_of now) (recorded old) b) × (IsDueBlock (day_of now) (recorded old) b → IsInAny due b)) where
+  module _ (due : List Extent) (exact : (b : ℕ) → (IsInAny due b → IsDueBlock (day_of now) (current_records old) b) × (IsDueBlock (day_of now) (current_records old) b → IsInAny due b)) where
     -- none of the blocks that are due is free
-    pub due_are_used : All (IsExtentOf (recorded old).blocks) due → AreUsed (g.size (volume_of old.vault)) (IsFree old.vault) due
+    pub due_are_used : All (IsExtentOf (current_records old).blocks) due → AreUsed (g.size (volume_of old.vault)) (IsFree old.vault) due
     due_are_used range = used_in due (subst (λ n. All (IsExtentOf n) due) (sym order.blocks) range)
-        (λ b. due_used (day_of now) (recorded old) (g.size (volume_of old.vault)) (failures_of old) (IsFree old.vault) order due exact b)
+        (λ b. due_used (day_of now) (current_records old) (g.size (volume_of old.vault)) (failures_of old) (IsFree old.vault) order due exact b)
       where
         used_in : (es : List Extent) → All (IsExtentOf (g.size (volume_of old.vault))) es → ((b : ℕ) → IsInAny es b → ¬ IsFree old.vault b) → AreUsed (g.size (volume_of old.vault)) (IsFree old.vault) es
         used_in [] range out = All-nil (IsUsed (g.size (volume_of old.vault)) (IsFree old.vault))
@@ -92,6 +92,6 @@ module _ {V S : Type 0} {g : volume.Ghosts V} (database : Ghosts S) (old : Keepe
     purge_goes_on vault same store r gives = record {
       change = purge_change vault same store r;
       in_order = subst (λ v. IsInOrder records_then (g.size v) (g.failures v) (IsFree vault)) (sym same)
-          (purged_in_order (day_of now) (recorded old) (g.size (volume_of old.vault)) (failures_of old) (IsFree old.vault) order due exact (IsFree vault) gives);
+          (purged_in_order (day_of now) (current_records old) (g.size (volume_of old.vault)) (failures_of old) (IsFree old.vault) order due exact (IsFree vault) gives);
       fewer = λ b f. (gives b).1 (inl f);
     }

@@ -9,24 +9,24 @@ use Rattle.vault_volume.proofs.ImageLemmas.{same_in}
 use Rattle.custody_machine.specs.Custody.{IsInStore}
 use Rattle.custody_machine.proofs.Compared.{each_of, now_of}
 use Rattle.custody_machine.proofs.Rested.{rests}
-use Rattle.custody_store.specs.Standing.{standing}
-use Rattle.custody.specs.declared.keeper.Keeper.{Keeper}
-use Rattle.custody.specs.Keeper.{recorded, stored, image_of, failures_of, left_by, left_since, KeepsOrder, KeepsImage, IsUnwritten}
-use Rattle.custody.specs.Rested.{HasRested}
-use Rattle.custody.proofs.KeeperLemmas.{leaves_more, order_same, image_same}
+use Rattle.custody_store.specs.StoreState.{store_state}
+use Rattle.custody.specs.declared.open_custody.OpenCustody.{OpenCustody}
+use Rattle.custody.specs.OpenCustody.{current_records, store_state_of, image_of, failures_of, MayLeaveImage, MayLeaveImageSince, KeepsOrder, KeepsImage, IsUnwritten}
+use Rattle.custody.specs.OtherCalls.{RecordsNothing}
+use Rattle.custody.proofs.OpenCustodyLemmas.{leaves_more, order_same, image_same}
 
-module _ {V S : Type 0} {g : volume.Ghosts V} (database : Ghosts S) (old new : Keeper V S g) (order : KeepsOrder old) (same : recorded new ≡ recorded old) (store_same : new.store ≡ old.store) (free : SameFree (IsFree old.vault) (IsFree new.vault))
+module _ {V S : Type 0} {g : volume.Ghosts V} (database : Ghosts S) (old new : OpenCustody V S g) (order : KeepsOrder old) (same : current_records new ≡ current_records old) (store_same : new.store ≡ old.store) (free : SameFree (IsFree old.vault) (IsFree new.vault))
     (size : g.size (volume_of new.vault) ≡ g.size (volume_of old.vault)) (unwritten : g.tells → IsUnwritten old new) where
   moved : g.tells → DiffersOnlyIn (IsFree old.vault) (image_of old) (image_of new)
   moved tells = subst (DiffersOnlyIn (IsFree old.vault) (image_of old)) (sym (unwritten tells).0) (same_in (IsFree old.vault) (image_of old))
 
-  during : g.tells → KeepsImage old → (j : List ℕ) → left_since old new j → DiffersOnlyIn (IsFree old.vault) (image_of old) j
+  during : g.tells → KeepsImage old → (j : List ℕ) → MayLeaveImageSince old new j → DiffersOnlyIn (IsFree old.vault) (image_of old) j
   during tells volume j w = volume.elsewhere j (each_of g.moment g.left_at (volume_of old.vault) (volume_of new.vault) _ (unwritten tells).1 j w)
 
-  after : g.tells → KeepsImage old → (j : List ℕ) → left_by new j → DiffersOnlyIn (IsFree old.vault) (image_of old) j
+  after : g.tells → KeepsImage old → (j : List ℕ) → MayLeaveImage new j → DiffersOnlyIn (IsFree old.vault) (image_of old) j
   after tells volume j w = volume.elsewhere j (now_of g.moment g.left_at (volume_of old.vault) (volume_of new.vault) _ (unwritten tells).1 j w)
 
-  pub reads_rested : (is_open : Bool) → (is_open ≡ false → failures_of old < failures_of new) → (is_open ≡ true → failures_of new ≡ failures_of old) → HasRested database old is_open new
+  pub reads_rested : (is_open : Bool) → (is_open ≡ false → failures_of old < failures_of new) → (is_open ≡ true → failures_of new ≡ failures_of old) → RecordsNothing database old is_open new
   reads_rested is_open failed not_failed = record {
     records = same;
     store = store_same;
@@ -36,9 +36,9 @@ module _ {V S : Type 0} {g : volume.Ghosts V} (database : Ghosts S) (old new : K
     written = moved;
     any_moment = λ tells volume. leaves_more g.moment g.left_at (volume_of old.vault) (volume_of new.vault) _ _ volume.elsewhere (unwritten tells).1;
     rests = λ tells volume store.
-        rests (recorded old) (stored database old).rows (image_of old) _ _ (IsFree old.vault) (stored database old).IsReady (stored database old).may_leave (left_by old) order volume store
-        (image_of new) (moved tells) is_open (recorded new) (left_since old new) (stored database new).may_leave (left_by new) (λ _. same) (during tells volume) (λ r w. subst (λ s. (standing database s).may_leave r) store_same w) (after tells volume);
+        rests (current_records old) (store_state_of database old).rows (image_of old) _ _ (IsFree old.vault) (store_state_of database old).IsReady (store_state_of database old).may_leave (MayLeaveImage old) order volume store
+        (image_of new) (moved tells) is_open (current_records new) (MayLeaveImageSince old new) (store_state_of database new).may_leave (MayLeaveImage new) (λ _. same) (during tells volume) (λ r w. subst (λ s. (store_state database s).may_leave r) store_same w) (after tells volume);
     image = λ _ tells volume. image_same old new same free (unwritten tells).0 (after tells volume) volume;
-    rows = λ store. subst (λ s. IsInStore (recorded new) (standing database s).rows (standing database s).IsReady (standing database s).may_leave) (sym store_same)
-        (subst (λ k. IsInStore k (stored database old).rows (stored database old).IsReady (stored database old).may_leave) (sym same) store);
+    rows = λ store. subst (λ s. IsInStore (current_records new) (store_state database s).rows (store_state database s).IsReady (store_state database s).may_leave) (sym store_same)
+        (subst (λ k. IsInStore k (store_state_of database old).rows (store_state_of database old).IsReady (store_state_of database old).may_leave) (sym same) store);
   }

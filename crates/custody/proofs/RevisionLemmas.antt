@@ -17,12 +17,12 @@ use Rattle.vault_volume.specs.Vault.{volume_of}
 use Rattle.extent_map.specs.declared.extent.Extent.{Extent}
 use Rattle.custody_records.specs.Keys.{PartKey, part_cmp}
 use Rattle.custody_records.specs.Records.{PartRecord, Records, key_of}
-use Rattle.custody_machine.specs.Machine.{bytes_held, joined, part_keys, part_in}
-use Rattle.custody_machine.specs.State.{places, at_place}
-use Rattle.custody_machine.specs.Stored.{part_of, state_in, HasDigestAt, AreInRange, AreExtents, ForExtents}
+use Rattle.custody_machine.specs.Machine.{bytes_held, joined_bytes, part_keys, revision_part}
+use Rattle.custody_machine.specs.State.{part_numbers, key_with_part}
+use Rattle.custody_machine.specs.StoredState.{part_of, state_in, HasDigestAt, HaveExtentsInRange, AreExtents, ForExtents}
 use Rattle.custody_machine.proofs.MapValues.{get-map_values}
 use Rattle.custody_machine.proofs.Series.{is_place}
-use Rattle.custody.specs.Reading.{IsOnlyRead, bytes_under}
+use Rattle.custody.specs.Reading.{ReadsVault, bytes_under}
 
 -- ---- keys of places
 
@@ -57,27 +57,27 @@ module _ (p : ℕ → Bool) (f : ℕ → PartKey) where
 
 module _ (records : Records) (image : List ℕ) (name : Name) where
   abbrev pub key_at : ℕ → PartKey
-  key_at place = at_place (key_of name) place
+  key_at place = key_with_part (key_of name) place
 
-  place_is : (place : ℕ) → part_in (state_in records image) name place ≡ option_map (part_of image) (get records.parts (key_at place))
+  place_is : (place : ℕ) → revision_part (state_in records image) name place ≡ option_map (part_of image) (get records.parts (key_at place))
   place_is place = get-map_values part_cmp (part_of image) records.parts (key_at place)
 
-  pub joined_is : flat_map (λ place. bytes_under image records (key_at place)) places ≡ joined (state_in records image) name
-  joined_is = λ i. flat_map (λ place. bytes_held (sym (place_is place) i)) places
+  pub joined_is : flat_map (λ place. bytes_under image records (key_at place)) part_numbers ≡ joined_bytes (state_in records image) name
+  joined_is = λ i. flat_map (λ place. bytes_held (sym (place_is place) i)) part_numbers
 
   -- where the part at each place has its digest, each that is read has
   pub all_sound : ((k : ℕ) → k < 8 → HasDigestAt image records (key_at (suc k))) → (key : PartKey) → Contains (part_keys (state_in records image) name) key → HasDigestAt image records key
   all_sound sound key within =
       All-contains (HasDigestAt image records) _ key
-      (All-from_recursion (HasDigestAt image records) _ (all_of (λ place. is_some (part_in (state_in records image) name place)) key_at (HasDigestAt image records) places
+      (All-from_recursion (HasDigestAt image records) _ (all_of (λ place. is_some (revision_part (state_in records image) name place)) key_at (HasDigestAt image records) part_numbers
       (sound 0 (omega arith), (sound 1 (omega arith), (sound 2 (omega arith), (sound 3 (omega arith), (sound 4 (omega arith), (sound 5 (omega arith), (sound 6 (omega arith), (sound 7 (omega arith), tt))))))))))
       within
 
   -- and one that has not is read
   pub broken_read : (k : ℕ) → k < 8 → (¬ HasDigestAt image records (key_at (suc k))) → Contains (part_keys (state_in records image) name) (key_at (suc k))
-  broken_read k lt broken = key_in (λ place. is_some (part_in (state_in records image) name place)) key_at (suc k) (by (get records.parts (key_at (suc k))) refl) places (is_place k lt)
+  broken_read k lt broken = key_in (λ place. is_some (revision_part (state_in records image) name place)) key_at (suc k) (by (get records.parts (key_at (suc k))) refl) part_numbers (is_place k lt)
     where
-      by : (o : Option PartRecord) → get records.parts (key_at (suc k)) ≡ o → is_some (part_in (state_in records image) name (suc k)) ≡ true
+      by : (o : Option PartRecord) → get records.parts (key_at (suc k)) ≡ o → is_some (revision_part (state_in records image) name (suc k)) ≡ true
       by None at = absurd (broken (λ part extents there. absurd (never part (sym at ∙ there))))
         where
           never : (part : PartRecord) → ◌≡◌ {A = Option PartRecord} None (Some part) → ⊥
@@ -89,7 +89,7 @@ module _ (records : Records) (image : List ℕ) (name : Name) where
   abbrev bytes_at : ℕ → List ℕ
   bytes_at place = bytes_under image records (key_at place)
 
-  place_at : (n : ℕ) → n < 8 → get_or places n 0 ≡ suc n
+  place_at : (n : ℕ) → n < 8 → get_or part_numbers n 0 ≡ suc n
   place_at zero lt = refl
   place_at (suc zero) lt = refl
   place_at (suc (suc zero)) lt = refl
@@ -100,8 +100,8 @@ module _ (records : Records) (image : List ℕ) (name : Name) where
   place_at (suc (suc (suc (suc (suc (suc (suc zero))))))) lt = refl
   place_at (suc (suc (suc (suc (suc (suc (suc (suc n)))))))) lt = absurd (omega (arith, lt))
 
-  front_more : (n : ℕ) → n < 8 → flat_map bytes_at (take n places) ++ bytes_at (suc n) ≡ flat_map bytes_at (take (n + 1) places)
-  front_more n lt = flat_map_more bytes_at [] (take n places) (suc n) ∙ ap (λ m. flat_map bytes_at (take n places ++ m ∷ [])) (sym (place_at n lt)) ∙ ap (flat_map bytes_at) (sym (take_more places n 0 lt))
+  front_more : (n : ℕ) → n < 8 → flat_map bytes_at (take n part_numbers) ++ bytes_at (suc n) ≡ flat_map bytes_at (take (n + 1) part_numbers)
+  front_more n lt = flat_map_more bytes_at [] (take n part_numbers) (suc n) ∙ ap (λ m. flat_map bytes_at (take n part_numbers ++ m ∷ [])) (sym (place_at n lt)) ∙ ap (flat_map bytes_at) (sym (take_more part_numbers n 0 lt))
 
   module _ (place : ℕ) (low : 1 ≤ place) (high : place ≤ 8) (seen : List ℕ) (same : seen ≡ image) (key : PartKey) (is : key ≡ key_at place) where
     before : ℕ
@@ -113,10 +113,10 @@ module _ (records : Records) (image : List ℕ) (name : Name) where
     here : key ≡ key_at (suc (place - 1))
     here = is ∙ ap key_at (sym next)
 
-    pub bytes_more : (front items : List ℕ) → front ≡ flat_map bytes_at (take (place - 1) places) → items ≡ front ++ bytes_under seen records key → items ≡ flat_map bytes_at (take (place + 1 - 1) places)
+    pub bytes_more : (front items : List ℕ) → front ≡ flat_map bytes_at (take (place - 1) part_numbers) → items ≡ front ++ bytes_under seen records key → items ≡ flat_map bytes_at (take (place + 1 - 1) part_numbers)
     bytes_more front items was added =
         let count : place - 1 + 1 ≡ place + 1 - 1 = omega (arith, low) in
-        added ∙ (λ i. was i ++ bytes_under (same i) records (here i)) ∙ front_more (place - 1) (omega (arith, low, high)) ∙ ap (λ n. flat_map bytes_at (take n places)) count
+        added ∙ (λ i. was i ++ bytes_under (same i) records (here i)) ∙ front_more (place - 1) (omega (arith, low, high)) ∙ ap (λ n. flat_map bytes_at (take n part_numbers)) count
 
     pub sound_more : ((k : ℕ) → suc k < place → HasDigestAt image records (key_at (suc k))) → HasDigestAt seen records key → (k : ℕ) → suc k < place + 1 → HasDigestAt image records (key_at (suc k))
     sound_more each last k lt = by (cases_lt (suc k) place)
@@ -134,13 +134,13 @@ module _ (records : Records) (image : List ℕ) (name : Name) where
         not_here : ¬ HasDigestAt image records (key_at (suc (place - 1)))
         not_here has = broken (subst (λ j. HasDigestAt j records key) (sym same) (subst (HasDigestAt image records) (sym here) has))
 
-  pub whole_read : (place : ℕ) → 9 ≤ place → (items : List ℕ) → items ≡ flat_map bytes_at (take (place - 1) places) → ((k : ℕ) → suc k < place → HasDigestAt image records (key_at (suc k)))
-      → (items ≡ joined (state_in records image) name) × ((key : PartKey) → Contains (part_keys (state_in records image) name) key → HasDigestAt image records key)
-  whole_read place most items is sound = (is ∙ ap (flat_map bytes_at) (take_all (place - 1) places (omega (arith, most))) ∙ joined_is, all_sound (λ k lt. sound k (omega (arith, lt, most))))
+  pub whole_read : (place : ℕ) → 9 ≤ place → (items : List ℕ) → items ≡ flat_map bytes_at (take (place - 1) part_numbers) → ((k : ℕ) → suc k < place → HasDigestAt image records (key_at (suc k)))
+      → (items ≡ joined_bytes (state_in records image) name) × ((key : PartKey) → Contains (part_keys (state_in records image) name) key → HasDigestAt image records key)
+  whole_read place most items is sound = (is ∙ ap (flat_map bytes_at) (take_all (place - 1) part_numbers (omega (arith, most))) ∙ joined_is, all_sound (λ k lt. sound k (omega (arith, lt, most))))
 
 -- ---- the part with a key
 
-pub in_range : (records : Records) (key : PartKey) (kept : PartRecord) (extents : List Extent) (blocks : ℕ) → AreInRange records → get records.parts key ≡ Some kept → kept.extents ≡ Some extents → blocks ≡ records.blocks → AreExtents blocks kept.len extents
+pub in_range : (records : Records) (key : PartKey) (kept : PartRecord) (extents : List Extent) (blocks : ℕ) → HaveExtentsInRange records → get records.parts key ≡ Some kept → kept.extents ≡ Some extents → blocks ≡ records.blocks → AreExtents blocks kept.len extents
 in_range records key kept extents blocks all at held same = subst (λ b. AreExtents b kept.len extents) (sym same) (subst (λ o. ForExtents o (AreExtents records.blocks kept.len)) held (all key kept at))
 
 pub if_ok_then : {T E : Type 0} (P Q : T → Type 0) (r : Result T E) → ((x : T) → P x → Q x) → IfOk r P → IfOk r Q
@@ -184,7 +184,7 @@ module _ (image : List ℕ) (records : Records) (key : PartKey) (kept : PartReco
 -- ---- a volume that is read again
 
 module _ {V : Type 0} {g : volume.Ghosts V} where
-  pub not_read : (vault : Vault V g) → IsOnlyRead vault vault
+  pub not_read : (vault : Vault V g) → ReadsVault vault vault
   not_read vault = record {
     free = λ b. (λ f. f, λ f. f);
     size = refl;
@@ -192,7 +192,7 @@ module _ {V : Type 0} {g : volume.Ghosts V} where
     any_moment = λ _. record { later = omega arith; past = λ t c at. (λ w. w, λ w. w); since = λ t c from to w. let same : t ≡ g.moment (volume_of vault) = omega arith in subst (λ k. g.left_at (volume_of vault) k c) same w };
   }
 
-  pub read_again : (first mid last : Vault V g) → IsOnlyRead first mid → IsOnlyRead mid last → IsOnlyRead first last
+  pub read_again : (first mid last : Vault V g) → ReadsVault first mid → ReadsVault mid last → ReadsVault first last
   read_again first mid last a b = record {
     free = λ n. (λ f. (a.free n).0 ((b.free n).0 f), λ f. (b.free n).1 ((a.free n).1 f));
     size = b.size ∙ a.size;

@@ -15,59 +15,59 @@ use Rattle.vault_volume.proofs.FreeLemmas.{counted_in}
 use Rattle.custody_records.specs.declared.parts.Part.{Part}
 use Rattle.custody_records.specs.Keys.{PartKey, part_cmp}
 use Rattle.custody_records.specs.Records.{PartRecord, Records, key_of}
-use Rattle.custody_records.specs.Tables.{entries_of, is_rising, table_map}
-use Rattle.custody_records.specs.Typed.{part_place, part_value}
+use Rattle.custody_records.specs.Tables.{row_entries, is_rising, table_map}
+use Rattle.custody_records.specs.TypedRecords.{key_of_part, part_value}
 use Rattle.custody_records.proofs.TableLemmas.{entries-table_map}
 use Rattle.custody_machine.specs.Machine.{Command, Register, Receive, Statement, Check, Release, Hold, Lift, Purge}
-use Rattle.custody_machine.specs.Stored.{ForExtents, AreExtents, AreWhole}
-use Rattle.custody_machine.specs.Rulings.{AddsRegistry, AddsPart, AddsVerdict, AddsAbsence, AddsRelease, AddsHold, LiftsHold, DropsBytes, Ruling, Refuses, Repeats, ByBytes, Makes, Decides}
-use Rattle.custody_machine.specs.Custody.{IsInOrder, HasRoomFor}
+use Rattle.custody_machine.specs.StoredState.{ForExtents, AreExtents, AreWhole}
+use Rattle.custody_machine.specs.Rulings.{AddsRegistry, AddsPart, AddsVerdict, AddsAbsence, AddsRelease, AddsHold, LiftsHold, DropsBytes, Ruling, RefuseRuling, KeptRuling, CompareRuling, GoRuling, Decides}
+use Rattle.custody_machine.specs.Custody.{IsInOrder, HasRoomForCommand}
 use Rattle.custody_machine.proofs.Room.{room_for_part}
-use Rattle.custody_rules.specs.Blocks.{IsInRange, all_extents, extents_of}
+use Rattle.custody_rules.specs.Blocks.{IsInRange, extents_of_all, part_extents}
 use Rattle.custody_rules.specs.Blocks as rules
 use Rattle.custody_rules.proofs.PartBlocks.{each_extent, in_range_rows, once_rows, named_rows, rows_named}
 use Rattle.custody.specs.declared.answers.Reply.{Reply}
 use Rattle.custody.specs.declared.answers.Refused.{Refused}
-use Rattle.custody.specs.declared.keeper.Keeper.{Keeper}
-use Rattle.custody.specs.Ruled.{Follows, received_record}
-use Rattle.custody.specs.Keeper.{recorded, KeepsOrder, HasDone}
-use Rattle.custody.specs.Opening.{blocks_held, free_blocks}
+use Rattle.custody.specs.declared.open_custody.OpenCustody.{OpenCustody}
+use Rattle.custody.specs.RulingAnswers.{FollowsRuling, received_record}
+use Rattle.custody.specs.OpenCustody.{current_records, KeepsOrder, HasExecuted}
+use Rattle.custody.specs.Opening.{held_block_count, free_blocks}
 
-sum_by-entries_of : {Row K X : Type 0} (key : Row → K) (value : Row → X) (f : K × X → ℕ) (rows : List Row) → sum_by f (entries_of key value rows) ≡ sum_by (λ row. f (key row, value row)) rows
+sum_by-entries_of : {Row K X : Type 0} (key : Row → K) (value : Row → X) (f : K × X → ℕ) (rows : List Row) → sum_by f (row_entries key value rows) ≡ sum_by (λ row. f (key row, value row)) rows
 sum_by-entries_of key value f [] = refl
 sum_by-entries_of key value f (row ∷ rows) =
-    sum_by-cons f (key row, value row) (entries_of key value rows) ∙ ap (λ n. f (key row, value row) + n) (sum_by-entries_of key value f rows) ∙ sym (sum_by-cons (λ row. f (key row, value row)) row rows)
+    sum_by-cons f (key row, value row) (row_entries key value rows) ∙ ap (λ n. f (key row, value row) + n) (sum_by-entries_of key value f rows) ∙ sym (sum_by-cons (λ row. f (key row, value row)) row rows)
 
 -- how many blocks a part in memory has
 abbrev pub blocks_of_part : Part → ℕ
-blocks_of_part part = blocks_held part.len (option_map (λ v. v.items) part.extents)
+blocks_of_part part = held_block_count part.len (option_map (λ v. v.items) part.extents)
 
-pub blocks_of_parts : (parts : FinMap part_cmp PartRecord) (rows : List Part) → parts ≡ table_map part_cmp part_place part_value rows → is_rising part_cmp part_place rows ≡ true
-    → sum_by (λ (entry : PartKey × PartRecord). blocks_held entry.1.len entry.1.extents) (entries parts) ≡ sum_by blocks_of_part rows
+pub blocks_of_parts : (parts : FinMap part_cmp PartRecord) (rows : List Part) → parts ≡ table_map part_cmp key_of_part part_value rows → is_rising part_cmp key_of_part rows ≡ true
+    → sum_by (λ (entry : PartKey × PartRecord). held_block_count entry.1.len entry.1.extents) (entries parts) ≡ sum_by blocks_of_part rows
 blocks_of_parts parts rows is rising =
-    ap (λ m. sum_by (λ (entry : PartKey × PartRecord). blocks_held entry.1.len entry.1.extents) (entries m)) is
-    ∙ ap (sum_by (λ (entry : PartKey × PartRecord). blocks_held entry.1.len entry.1.extents)) (entries-table_map part_cmp part_place part_value rows rising)
-    ∙ sum_by-entries_of part_place part_value (λ entry. blocks_held entry.1.len entry.1.extents) rows
+    ap (λ m. sum_by (λ (entry : PartKey × PartRecord). held_block_count entry.1.len entry.1.extents) (entries m)) is
+    ∙ ap (sum_by (λ (entry : PartKey × PartRecord). held_block_count entry.1.len entry.1.extents)) (entries-table_map part_cmp key_of_part part_value rows rising)
+    ∙ sum_by-entries_of key_of_part part_value (λ entry. held_block_count entry.1.len entry.1.extents) rows
 
 -- the blocks of the extents of all rows
-blocks_of_row : (blocks len : ℕ) (o : Option (List Extent)) → ForExtents o (AreExtents blocks len) → blocks_of (rules.held o) ≡ blocks_held len o
+blocks_of_row : (blocks len : ℕ) (o : Option (List Extent)) → ForExtents o (AreExtents blocks len) → blocks_of (rules.held_extents o) ≡ held_block_count len o
 blocks_of_row blocks len None range = refl
 blocks_of_row blocks len (Some extents) range = range.counts
 
-blocks_of_rows : (blocks : ℕ) (rows : List Part) → All (IsInRange blocks) rows → blocks_of (all_extents rows) ≡ sum_by blocks_of_part rows
+blocks_of_rows : (blocks : ℕ) (rows : List Part) → All (IsInRange blocks) rows → blocks_of (extents_of_all rows) ≡ sum_by blocks_of_part rows
 blocks_of_rows blocks [] each = refl
 blocks_of_rows blocks (row ∷ rows) each =
-    sum_by-append (λ (e : Extent). e.count) (extents_of row) (all_extents rows)
-    ∙ ap (λ n. n + blocks_of (all_extents rows)) (blocks_of_row blocks row.len (part_value row).extents (All-head (IsInRange blocks) row rows each))
+    sum_by-append (λ (e : Extent). e.count) (part_extents row) (extents_of_all rows)
+    ∙ ap (λ n. n + blocks_of (extents_of_all rows)) (blocks_of_row blocks row.len (part_value row).extents (All-head (IsInRange blocks) row rows each))
     ∙ ap (λ n. blocks_of_part row + n) (blocks_of_rows blocks rows (All-tail (IsInRange blocks) row rows each))
     ∙ sym (sum_by-cons blocks_of_part row rows)
 
 -- the free blocks are all but block 0 and those of the parts that are held
-pub free_count : (records : Records) (rows : List Part) → records.parts ≡ table_map part_cmp part_place part_value rows → is_rising part_cmp part_place rows ≡ true
+pub free_count : (records : Records) (rows : List Part) → records.parts ≡ table_map part_cmp key_of_part part_value rows → is_rising part_cmp key_of_part rows ≡ true
     → (size failures : ℕ) (free : ℕ → Type 0) → IsInOrder records size failures free → (count : ℕ) → HasCount free size count → count ≡ free_blocks records
 free_count records rows all rising size failures free order count counted =
     let ranges = in_range_rows records rows all rising order.whole.extents in
-    let extents = all_extents rows in
+    let extents = extents_of_all rows in
     let left = count_free records.blocks extents (each_extent records.blocks rows ranges) (once_rows records rows all rising order.whole.once) in
     let mine = count_over free (Beside (Above0 records.blocks) extents)
     (λ b. (λ f. let p = (order.placeable b).0 f in ((p.0, p.1), λ i. p.2 (rows_named records rows all rising b i)), λ w. (order.placeable b).1 (w.0.0, w.0.1, λ named. w.1 (named_rows records rows all rising b named))))
@@ -76,8 +76,8 @@ free_count records rows all rising size failures free order count counted =
     ∙ ap (λ n. records.blocks - 1 - n) (blocks_of_rows records.blocks rows ranges ∙ sym (blocks_of_parts records.parts rows all rising))
 
 -- a new part is accepted only where there is room
-pub had_room : {V S : Type 0} {g : volume.Ghosts V} (database : Ghosts S) (old new : Keeper V S g) → KeepsOrder old → (command : Command) (now : ℕ) (answer : Result Reply Refused)
-    → HasDone database old command now answer new → IfOk answer (λ reply. reply.is_repeat ≡ false → HasRoomFor (recorded old) command)
+pub had_room : {V S : Type 0} {g : volume.Ghosts V} (database : Ghosts S) (old new : OpenCustody V S g) → KeepsOrder old → (command : Command) (now : ℕ) (answer : Result Reply Refused)
+    → HasExecuted database old command now answer new → IfOk answer (λ reply. reply.is_repeat ≡ false → HasRoomForCommand (current_records old) command)
 had_room database old new order command now (Err e) done = tt
 had_room database old new order (Register tld first_day) now (Ok reply) done = λ _. tt
 had_room database old new order (Statement stated) now (Ok reply) done = λ _. tt
@@ -88,18 +88,18 @@ had_room database old new order (Lift reference) now (Ok reply) done = λ _. tt
 had_room database old new order Purge now (Ok reply) done = λ _. tt
 had_room {V} {S} {g} database old new order (Receive text bytes) now (Ok reply) done = by done.ruled.0 done.ruled.1 done.ruled.2
   where
-    by : (ruling : Ruling) → Decides ruling (recorded old) (Receive text bytes) now → Follows ruling (recorded old) bytes now (Ok reply) (recorded new) → reply.is_repeat ≡ false → HasRoomFor (recorded old) (Receive text bytes)
-    by (Refuses refusal) decides ruled first = cc
-    by (Repeats entry) decides ruled first = let repeat = ruled.1 in cc
-    by (ByBytes name part extents) decides ruled first = let repeat = ruled.1 in cc
-    by (Makes (AddsRegistry tld first_day)) decides ruled first = let other = decides.0.0 in cc
-    by (Makes (AddsVerdict stated)) decides ruled first = let other = decides.0 in cc
-    by (Makes (AddsAbsence tld day)) decides ruled first = let other = decides.0 in cc
-    by (Makes (AddsRelease reference tld reason)) decides ruled first = let other = decides.0.0 in cc
-    by (Makes (AddsHold reference tld day)) decides ruled first = let other = decides.0.0 in cc
-    by (Makes (LiftsHold reference)) decides ruled first = let other = decides.0.0 in cc
-    by (Makes DropsBytes) decides ruled first = let other = decides.0 in cc
-    by (Makes (AddsPart name)) decides ruled first =
+    by : (ruling : Ruling) → Decides ruling (current_records old) (Receive text bytes) now → FollowsRuling ruling (current_records old) bytes now (Ok reply) (current_records new) → reply.is_repeat ≡ false → HasRoomForCommand (current_records old) (Receive text bytes)
+    by (RefuseRuling refusal) decides ruled first = cc
+    by (KeptRuling entry) decides ruled first = let repeat = ruled.1 in cc
+    by (CompareRuling name part extents) decides ruled first = let repeat = ruled.1 in cc
+    by (GoRuling (AddsRegistry tld first_day)) decides ruled first = let other = decides.0.0 in cc
+    by (GoRuling (AddsVerdict stated)) decides ruled first = let other = decides.0 in cc
+    by (GoRuling (AddsAbsence tld day)) decides ruled first = let other = decides.0 in cc
+    by (GoRuling (AddsRelease reference tld reason)) decides ruled first = let other = decides.0.0 in cc
+    by (GoRuling (AddsHold reference tld day)) decides ruled first = let other = decides.0.0 in cc
+    by (GoRuling (LiftsHold reference)) decides ruled first = let other = decides.0.0 in cc
+    by (GoRuling DropsBytes) decides ruled first = let other = decides.0 in cc
+    by (GoRuling (AddsPart name)) decides ruled first =
         let counted = counted_in old.vault in
         let kept = done.safe.order refl in
-        room_for_part (recorded old) (g.size (volume_of old.vault)) _ (IsFree old.vault) order counted.0 counted.1 (key_of name) (received_record name now bytes ruled.0) ruled.0 refl decides.0.1 (subst AreWhole ruled.3 kept.whole)
+        room_for_part (current_records old) (g.size (volume_of old.vault)) _ (IsFree old.vault) order counted.0 counted.1 (key_of name) (received_record name now bytes ruled.0) ruled.0 refl decides.0.1 (subst AreWhole ruled.3 kept.whole)

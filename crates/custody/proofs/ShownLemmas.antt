@@ -9,12 +9,12 @@ use Rattle.custody_machine.specs.State.{Held}
 use Rattle.custody_machine.specs.Machine.{OfPart}
 use Rattle.custody.specs.declared.answers.Record.{Record}
 use Rattle.custody.specs.declared.answers.Record.TheVariants as of
-use Rattle.custody.specs.Answers.{record_shown}
-use Rattle.custody.specs.Shown.{ShowsPart, IsRecorded, HoldsBytes}
+use Rattle.custody.specs.Answers.{machine_record}
+use Rattle.custody.specs.ReplyRecords.{IsRecordOfPart, IsRecorded, HoldsBytes}
 
 module _ (name : Name) (part : PartRecord) where
   -- it is shown, where it is recorded
-  pub shown_of : (records : Records) (told : Record) → ShowsPart told name part → get records.parts (key_of name) ≡ Some part → IsRecorded records told
+  pub shown_of : (records : Records) (told : Record) → IsRecordOfPart told name part → get records.parts (key_of name) ≡ Some part → IsRecorded records told
   shown_of records (of.Registry tld day) shows at = absurd shows
   shown_of records (of.Notice notice) shows at = absurd shows
   shown_of records (of.Release release) shows at = absurd shows
@@ -25,7 +25,7 @@ module _ (name : Name) (part : PartRecord) where
       subst (λ n. get records.parts (key_of n) ≡ Some (record { kind = n.kind; received = received; len = len; digest = digest; extents = Some extents.items })) (sym shows.0) (at ∙ ap Some shows.1)
 
   -- its bytes are where it says
-  pub holds_of : (image bytes : List ℕ) (extents : List Extent) (told : Record) → ShowsPart told name part → part.extents ≡ Some extents → part_bytes image extents part.len ≡ bytes → HoldsBytes image told bytes
+  pub holds_of : (image bytes : List ℕ) (extents : List Extent) (told : Record) → IsRecordOfPart told name part → part.extents ≡ Some extents → part_bytes image extents part.len ≡ bytes → HoldsBytes image told bytes
   holds_of image bytes extents (of.Registry tld day) shows held is = absurd shows
   holds_of image bytes extents (of.Notice notice) shows held is = absurd shows
   holds_of image bytes extents (of.Release release) shows held is = absurd shows
@@ -40,7 +40,7 @@ module _ (name : Name) (part : PartRecord) where
       some_same a b e = cc
 
   -- and the machine's record of it has its name, kind and moment
-  pub entry_of : (bytes : List ℕ) (told : Record) → ShowsPart told name part → record_shown bytes told ≡ OfPart (key_of name) (record { kind = name.kind; received = part.received; content = Held bytes })
+  pub entry_of : (bytes : List ℕ) (told : Record) → IsRecordOfPart told name part → machine_record bytes told ≡ OfPart (key_of name) (record { kind = name.kind; received = part.received; content = Held bytes })
   entry_of bytes (of.Registry tld day) shows = absurd shows
   entry_of bytes (of.Notice notice) shows = absurd shows
   entry_of bytes (of.Release release) shows = absurd shows

@@ -1,13 +1,13 @@
 //! What a custody answers.
 ghost use Rattle.std.specs.Prelude.{◌≡◌, IfOk, OnErr, Some, true};
-ghost use Rattle.custody_records.specs.Typed.{part_value};
+ghost use Rattle.custody_records.specs.TypedRecords.{part_value};
 ghost use Rattle.custody_rules.specs.Rulings.{record_of};
-ghost use Rattle.custody.specs.Answers.{lists_names, told_by};
-ghost use Rattle.custody.specs.Shown.{ShowsPart};
+ghost use Rattle.custody.specs.Answers.{lists_names, repeated_record};
+ghost use Rattle.custody.specs.ReplyRecords.{IsRecordOfPart};
 
-use custody_machine::{Code, Fault, Refusal, Status};
+use custody_machine::{Code, ExitStatus, Failure, Refusal};
 use custody_records::{Hold, Part, Registry, Release};
-use custody_rules::Kept;
+use custody_rules::KeptRecord;
 use deposit_name::{DepositName, Reference, Tld};
 use desk::Notice;
 use schedule::{Day, Sec};
@@ -52,7 +52,7 @@ impl Record {
         part: &Part,
         extents: &[Extent],
     ) -> Result<Record, AllocError>
-        ensures { (part_value part.now).extents ≡ Some extents.now → IfOk result (λ told. ShowsPart told part.now.name (part_value part.now)) }
+        ensures { (part_value part.now).extents ≡ Some extents.now → IfOk result (λ told. IsRecordOfPart told part.now.name (part_value part.now)) }
     {
         Ok(Record::Part {
             name: part.name,
@@ -64,16 +64,16 @@ impl Record {
     }
 
     /// The record that answers a repeat. Only a release takes memory, for its names.
-    pub(crate) fn of_kept(alloc: Global, kept: &Kept<'_>) -> Result<Record, AllocError>
-        ensures told { IfOk result (λ told. told ≡ told_by kept.now) }
+    pub(crate) fn of_kept(alloc: Global, kept: &KeptRecord<'_>) -> Result<Record, AllocError>
+        ensures told { IfOk result (λ told. told ≡ repeated_record kept.now) }
         ensures release { OnErr result (lists_names (record_of kept.now) ≡ true) }
     {
         match kept {
-            Kept::Registry(registry) => Ok(Record::from(*registry)),
-            Kept::Notice(notice) => Ok(Record::Notice(*notice)),
-            Kept::Release(release) => Ok(Record::Release(release.try_clone(alloc)?)),
-            Kept::Hold(hold) => Ok(Record::Hold(**hold)),
-            Kept::Lifting(reference, at) => Ok(Record::Lifting {
+            KeptRecord::Registry(registry) => Ok(Record::from(*registry)),
+            KeptRecord::Notice(notice) => Ok(Record::Notice(*notice)),
+            KeptRecord::Release(release) => Ok(Record::Release(release.try_clone(alloc)?)),
+            KeptRecord::Hold(hold) => Ok(Record::Hold(**hold)),
+            KeptRecord::Lifting(reference, at) => Ok(Record::Lifting {
                 reference: *reference,
                 at: *at,
             }),
@@ -107,8 +107,11 @@ pub struct Reply {
 #[derive(Clone, Copy, Debug, PartialEq, Eq)]
 pub enum Refused {
     Refusal(Refusal),
-    Fault(Fault),
+    Failure(Failure),
 }
+
+/// What a command is answered.
+pub type Outcome = Result<Reply, Refused>;
 
 /// Why there is no custody over a volume and a database. It prints as its number and text.
 #[derive(Clone, Copy, Debug, PartialEq, Eq)]
@@ -117,27 +120,27 @@ pub enum InitError {
     AlreadyInitialised,
     /// The volume has fewer than 2 blocks, or more than 262,144.
     Size,
-    Fault(Fault),
+    Failure(Failure),
 }
 
 impl InitError {
     ghost use Rattle.std.specs.Prelude.{◌≡◌};
     ghost use Rattle.custody.specs.Answers.{init_error_code};
-    ghost use Rattle.custody_machine.specs.Codes.{row_of};
+    ghost use Rattle.custody_machine.specs.Codes.{code_row};
 
     /// Its row.
     pub fn code(&self) -> Code
-        ensures { row_of result ≡ init_error_code self.now }
+        ensures { code_row result ≡ init_error_code self.now }
     {
         let (number, text) = match self {
             InitError::AlreadyInitialised => ("I1", "already initialised"),
             InitError::Size => ("I2", "size"),
-            InitError::Fault(fault) => return fault.code(),
+            InitError::Failure(failure) => return failure.code(),
         };
         Code {
             number,
             text,
-            status: Status::Refused,
+            status: ExitStatus::Refused,
             http: None,
         }
     }
@@ -145,29 +148,29 @@ impl InitError {
 
 impl From<StageError> for Refused {
     ghost use Rattle.std.specs.Prelude.{◌≡◌};
-    ghost use Rattle.custody.specs.Answers.{unstaged};
+    ghost use Rattle.custody.specs.Answers.{refused_of_stage_error};
 
-    ghost from_gives = { λ error r. r ≡ unstaged error };
+    ghost from_gives = { λ error r. r ≡ refused_of_stage_error error };
 
     fn from(error: StageError) -> Refused {
         match error {
             StageError::Full => Refused::Refusal(Refusal::VolumeFull),
-            StageError::NoMemory => Refused::Fault(Fault::NoMemory),
-            StageError::VolumeFailed => Refused::Fault(Fault::VolumeFailed),
+            StageError::NoMemory => Refused::Failure(Failure::NoMemory),
+            StageError::VolumeFailed => Refused::Failure(Failure::VolumeFailed),
         }
     }
 }
 
 impl From<ReadError> for Refused {
     ghost use Rattle.std.specs.Prelude.{◌≡◌};
-    ghost use Rattle.custody.specs.Answers.{unread};
+    ghost use Rattle.custody.specs.Answers.{refused_of_read_error};
 
-    ghost from_gives = { λ error r. r ≡ unread error };
+    ghost from_gives = { λ error r. r ≡ refused_of_read_error error };
 
     fn from(error: ReadError) -> Refused {
         match error {
-            ReadError::NoMemory => Refused::Fault(Fault::NoMemory),
-            ReadError::VolumeFailed => Refused::Fault(Fault::VolumeFailed),
+            ReadError::NoMemory => Refused::Failure(Failure::NoMemory),
+            ReadError::VolumeFailed => Refused::Failure(Failure::VolumeFailed),
         }
     }
 }
@@ -181,7 +184,7 @@ impl fmt::Display for Refused {
     fn fmt<W: fmt::Write>(&self, f: &mut fmt::Formatter<W>) -> fmt::Result {
         match self {
             Refused::Refusal(refusal) => write!(f, "{refusal}"),
-            Refused::Fault(fault) => write!(f, "{fault}"),
+            Refused::Failure(failure) => write!(f, "{failure}"),
         }
     }
 }
@@ -194,7 +197,7 @@ impl fmt::Display for InitError {
 
     fn fmt<W: fmt::Write>(&self, f: &mut fmt::Formatter<W>) -> fmt::Result {
         match self {
-            InitError::Fault(fault) => write!(f, "{fault}"),
+            InitError::Failure(failure) => write!(f, "{failure}"),
             _ => write!(f, "{}", self.code()),
         }
     }

@@ -2,15 +2,15 @@
 ghost use Rattle.std.specs.Prelude.{◌≡◌, ◌-◌, ◌<◌, ◌^◌, false, IfOk, IsSome};
 ghost use Rattle.vault_volume.specs.Disk.{CountsFailure};
 ghost use Rattle.vault_volume.specs.Vault.{volume_of};
-ghost use Rattle.custody_records.specs.Held.{records_of};
-ghost use Rattle.custody_records.specs.Typed.{part_value};
-ghost use Rattle.custody_machine.specs.Stored.{AreInRange};
+ghost use Rattle.custody_records.specs.MemoryRecords.{records_of};
+ghost use Rattle.custody_records.specs.TypedRecords.{part_value};
+ghost use Rattle.custody_machine.specs.StoredState.{HaveExtentsInRange};
 ghost use Rattle.custody_rules.specs.Blocks.{IsInRange};
-ghost use Rattle.custody.specs.Audited.{AreDamaged, AreHeld, has_digest};
-ghost use Rattle.custody.specs.Reading.{CountsRead, IsOnlyRead};
+ghost use Rattle.custody.specs.Auditing.{AreDamaged, AreHeld, has_digest};
+ghost use Rattle.custody.specs.Reading.{CountsReadFailure, ReadsVault};
 
 use crate::Progress;
-use crate::intake::digest_part;
+use crate::upload::digest_part;
 use custody_records::{Part, Records};
 use deposit_name::DepositName;
 use std::alloc::Global;
@@ -24,13 +24,13 @@ pub(crate) fn audit_parts<V: Volume, P: Progress>(
     records: &Records,
     progress: &mut P,
 ) -> Result<Vec<DepositName>, ReadError>
-    requires range { AreInRange (records_of records.now) }
+    requires range { HaveExtentsInRange (records_of records.now) }
     requires blocks { V.size (volume_of vault.old) ≡ (records_of records.now).blocks }
     requires count { V.failures (volume_of vault.old) < 2 ^ 64 - 1 }
     ensures held { IfOk result (λ names. AreHeld (records_of records.now) names.items) }
     ensures damaged { V.tells → IfOk result (λ names. AreDamaged (records_of records.now) (V.image (volume_of vault.old)) names.items) }
-    ensures read { IsOnlyRead vault.old vault.new }
-    ensures failures { CountsRead result (V.failures (volume_of vault.old)) (V.failures (volume_of vault.new)) }
+    ensures read { ReadsVault vault.old vault.new }
+    ensures failures { CountsReadFailure result (V.failures (volume_of vault.old)) (V.failures (volume_of vault.new)) }
 {
     let mut damaged = Vec::new(alloc);
     for part in records.parts() {
@@ -61,7 +61,7 @@ fn has_digest<V: Volume>(vault: &mut Vault<V>, part: &Part) -> Result<bool, Fail
     requires count { V.failures (volume_of vault.old) < 2 ^ 64 - 1 }
     ensures dropped { IfOk result (λ intact. intact ≡ false → IsSome (part_value part.now).extents) }
     ensures digest { V.tells → IfOk result (λ intact. intact ≡ has_digest (V.image (volume_of vault.old)) part.now) }
-    ensures read { IsOnlyRead vault.old vault.new }
+    ensures read { ReadsVault vault.old vault.new }
     ensures failures { CountsFailure result (V.failures (volume_of vault.old)) (V.failures (volume_of vault.new)) }
 {
     match &part.extents {

@@ -1,8 +1,13 @@
 //! What the types of fields promise, for proofs: each of these does nothing.
 ghost use Rattle.schedule.specs.Schedule.{IsDay, IsMoment};
 ghost use Rattle.deposit_name.specs.Identifiers.{IsTld, IsDepositId};
-ghost use Rattle.custody_records.specs.Typed.{release_key, release_value, hold_key, hold_value};
-ghost use Rattle.custody_records.specs.Written.{IsRelease, IsHold};
+ghost use Rattle.custody_records.specs.TypedRecords.{
+  release_key,
+  release_value,
+  hold_key,
+  hold_value,
+};
+ghost use Rattle.custody_records.specs.RowsOfRecords.{IsRelease, IsHold};
 ghost use Rattle.std.specs.Prelude.{◌≡◌, ◌≤◌, None};
 
 use custody_machine::Statement;

@@ -3,11 +3,11 @@ ghost use Rattle.std.specs.Prelude.{◌≡◌, ◌-◌, ◌<◌, ◌^◌, ◌++�
 ghost use Rattle.vault_volume.specs.Extents.{part_bytes};
 ghost use Rattle.vault_volume.specs.Vault.{volume_of};
 ghost use Rattle.sha2.specs.Sha256.{sha256};
-ghost use Rattle.custody_records.specs.Held.{records_of};
+ghost use Rattle.custody_records.specs.MemoryRecords.{records_of};
 ghost use Rattle.custody_records.specs.Records.{key_of};
-ghost use Rattle.custody_machine.specs.State.{at_place};
-ghost use Rattle.custody_machine.specs.Stored.{AreExtents, AreInRange, HasDigestAt};
-ghost use Rattle.custody.specs.Reading.{IsOnlyRead, CountsRead, bytes_under, IsRead};
+ghost use Rattle.custody_machine.specs.State.{key_with_part};
+ghost use Rattle.custody_machine.specs.StoredState.{AreExtents, HaveExtentsInRange, HasDigestAt};
+ghost use Rattle.custody.specs.Reading.{ReadsVault, CountsReadFailure, bytes_under, IsRevisionRead};
 
 use custody_records::{Part, PartKey, Records};
 use deposit_name::DepositName;
@@ -17,7 +17,7 @@ use vault_volume::{Extent, ReadError, Vault, Volume};
 
 /// What was read of the parts of a revision.
 #[derive(Debug, Drop)]
-pub(crate) enum Joined {
+pub(crate) enum RevisionBytes {
     /// Their bytes, in the order of the series.
     Whole(Vec<u8>),
     /// The part at this place has not its recorded digest.
@@ -31,13 +31,13 @@ pub(crate) fn read_revision<V: Volume>(
     vault: &mut Vault<V>,
     records: &Records,
     name: &DepositName,
-) -> Result<Joined, ReadError>
-    requires range { AreInRange (records_of records.now) }
+) -> Result<RevisionBytes, ReadError>
+    requires range { HaveExtentsInRange (records_of records.now) }
     requires blocks { V.size (volume_of vault.old) ≡ (records_of records.now).blocks }
     requires count { V.failures (volume_of vault.old) < 2 ^ 64 - 1 }
-    ensures joined { V.tells → IfOk result (λ found. IsRead found (records_of records.now) (V.image (volume_of vault.old)) name.now) }
-    ensures read { IsOnlyRead vault.old vault.new }
-    ensures failures { CountsRead result (V.failures (volume_of vault.old)) (V.failures (volume_of vault.new)) }
+    ensures joined { V.tells → IfOk result (λ found. IsRevisionRead found (records_of records.now) (V.image (volume_of vault.old)) name.now) }
+    ensures read { ReadsVault vault.old vault.new }
+    ensures failures { CountsReadFailure result (V.failures (volume_of vault.old)) (V.failures (volume_of vault.new)) }
 {
     let Ok(mut joined) = Vec::with_capacity(alloc, count_bytes(records, name)) else {
         return Err(ReadError::NoMemory);
@@ -45,15 +45,15 @@ pub(crate) fn read_revision<V: Volume>(
     for place in 1..=8 {
         let key = key_at(name, place);
         if !append_part(alloc, vault, records, &key, &mut joined)? {
-            return Ok(Joined::Broken(key));
+            return Ok(RevisionBytes::Broken(key));
         }
     }
-    Ok(Joined::Whole(joined))
+    Ok(RevisionBytes::Whole(joined))
 }
 
 /// The key of the part at a place of the revision of a name.
 fn key_at(name: &DepositName, place: u8) -> PartKey
-    ensures { result ≡ at_place (key_of name.now) place }
+    ensures { result ≡ key_with_part (key_of name.now) place }
 {
     PartKey {
         part: place,
@@ -78,14 +78,14 @@ fn append_part<V: Volume>(
     key: &PartKey,
     joined: &mut Vec<u8>,
 ) -> Result<bool, ReadError>
-    requires range { AreInRange (records_of records.now) }
+    requires range { HaveExtentsInRange (records_of records.now) }
     requires blocks { V.size (volume_of vault.old) ≡ (records_of records.now).blocks }
     requires count { V.failures (volume_of vault.old) < 2 ^ 64 - 1 }
     ensures bytes { V.tells → IfOk result (λ sound. sound ≡ true → joined.new.items ≡ joined.old.items ++ bytes_under (V.image (volume_of vault.old)) (records_of records.now) key.now) }
     ensures sound { V.tells → IfOk result (λ sound. sound ≡ true → HasDigestAt (V.image (volume_of vault.old)) (records_of records.now) key.now) }
     ensures broken { V.tells → IfOk result (λ sound. sound ≡ false → ¬ HasDigestAt (V.image (volume_of vault.old)) (records_of records.now) key.now) }
-    ensures read { IsOnlyRead vault.old vault.new }
-    ensures failures { CountsRead result (V.failures (volume_of vault.old)) (V.failures (volume_of vault.new)) }
+    ensures read { ReadsVault vault.old vault.new }
+    ensures failures { CountsReadFailure result (V.failures (volume_of vault.old)) (V.failures (volume_of vault.new)) }
 {
     let Some(part) = records.part(key) else {
         return Ok(true);
@@ -109,8 +109,8 @@ fn append_held<V: Volume>(
     ensures bytes { V.tells → IfOk result (λ sound. sound ≡ true → joined.new.items ≡ joined.old.items ++ part_bytes (V.image (volume_of vault.old)) extents.now part.now.len) }
     ensures sound { V.tells → IfOk result (λ sound. sound ≡ true → sha256 (part_bytes (V.image (volume_of vault.old)) extents.now part.now.len) ≡ part.now.digest) }
     ensures broken { V.tells → IfOk result (λ sound. sound ≡ false → ¬ (sha256 (part_bytes (V.image (volume_of vault.old)) extents.now part.now.len) ≡ part.now.digest)) }
-    ensures read { IsOnlyRead vault.old vault.new }
-    ensures failures { CountsRead result (V.failures (volume_of vault.old)) (V.failures (volume_of vault.new)) }
+    ensures read { ReadsVault vault.old vault.new }
+    ensures failures { CountsReadFailure result (V.failures (volume_of vault.old)) (V.failures (volume_of vault.new)) }
 {
     match read_sound(alloc, vault, part, extents)? {
         Some(stored) => match joined.extend_from_slice(&stored) {
@@ -135,8 +135,8 @@ pub(crate) fn read_sound<V: Volume>(
     ensures broken { V.tells → IfOk result (λ found. IfNone found (¬ (sha256 (part_bytes (V.image (volume_of vault.old)) extents.now part.now.len) ≡ part.now.digest))) }
     // Whatever the volume is, bytes are answered with the digest alone.
     ensures digest { IfOk result (λ found. IfSome found (λ stored. sha256 stored.items ≡ part.now.digest)) }
-    ensures read { IsOnlyRead vault.old vault.new }
-    ensures failures { CountsRead result (V.failures (volume_of vault.old)) (V.failures (volume_of vault.new)) }
+    ensures read { ReadsVault vault.old vault.new }
+    ensures failures { CountsReadFailure result (V.failures (volume_of vault.old)) (V.failures (volume_of vault.new)) }
 {
     let mut stored = Vec::new(alloc);
     vault.read_part(extents, part.len, &mut stored)?;

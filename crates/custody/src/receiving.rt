@@ -1,11 +1,11 @@
 //! A part that is received while its bytes are read.
 ghost use Rattle.std.specs.Prelude.{◌≡◌, ◌≤◌, ◌<◌, IfOk, length};
 ghost use Rattle.std.specs.Io.KnownBytes.{IsAtEnd};
-ghost use Rattle.custody.specs.Receiving.{Fills, GivesPiece, HasCome, MayTakeAll, TakesBody};
+ghost use Rattle.custody.specs.Receiving.{Fills, GivesPiece, DropsBody, MayTakeBody, TakesBody};
 
 use crate::Refused;
-use crate::intake::{Intake, PIECE_LEN, new_buffer};
-use crate::keeper::Keeper;
+use crate::open_custody::OpenCustody;
+use crate::upload::{PIECE_LEN, Upload, new_buffer};
 use sqlite::Alter;
 use std::io::{self, Read};
 use vault_volume::Volume;
@@ -34,55 +34,55 @@ impl From<Refused> for ReceiveError {
 
 /// Why not all the bytes came.
 #[derive(Clone, Copy, Debug, PartialEq, Eq)]
-pub enum Ended {
+pub enum BodyCut {
     Short,
     ReadFailed,
 }
 
-impl From<Ended> for ReceiveError {
+impl From<BodyCut> for ReceiveError {
     ghost use Rattle.std.specs.Prelude.{◌≡◌};
-    ghost use Rattle.custody.specs.Receiving.{error_of};
+    ghost use Rattle.custody.specs.Receiving.{receive_error_of};
 
-    ghost from_gives = { λ ended e. e ≡ error_of ended };
+    ghost from_gives = { λ ended e. e ≡ receive_error_of ended };
 
-    fn from(ended: Ended) -> ReceiveError {
+    fn from(ended: BodyCut) -> ReceiveError {
         match ended {
-            Ended::Short => ReceiveError::Short,
-            Ended::ReadFailed => ReceiveError::ReadFailed,
+            BodyCut::Short => ReceiveError::Short,
+            BodyCut::ReadFailed => ReceiveError::ReadFailed,
         }
     }
 }
 
-impl<V: Volume, S: Alter> Keeper<V, S> {
+impl<V: Volume, S: Alter> OpenCustody<V, S> {
     /// Takes the bytes of a part until all have come, or the reader ends or fails.
     pub(crate) fn take_body<R: Read>(
         &mut self,
-        intake: Intake,
+        upload: Upload,
         len: u32,
         reader: &mut R,
-    ) -> (Intake, Result<(), Ended>)
-        requires { MayTakeAll S.Store self.old intake len }
-        ensures { TakesBody S.Store (R.remaining reader.old) self.old self.new intake len result.0 result.1 }
+    ) -> (Upload, Result<(), BodyCut>)
+        requires { MayTakeBody S.Store self.old upload len }
+        ensures { TakesBody S.Store (R.remaining reader.old) self.old self.new upload len result.0 result.1 }
     {
         let mut buffer = new_buffer();
-        let mut intake = intake;
+        let mut upload = upload;
         let mut left = len as usize;
         while left > 0 {
             match next_piece(reader, &mut buffer, left) {
                 Ok(piece) => {
                     left -= piece.len();
-                    intake = self.take(intake, piece);
+                    upload = self.take(upload, piece);
                 }
-                Err(ended) => return (intake, Err(ended)),
+                Err(ended) => return (upload, Err(ended)),
             }
         }
-        (intake, Ok(()))
+        (upload, Ok(()))
     }
 }
 
 /// Reads the bytes of a part, and drops them.
-pub(crate) fn drop_body<R: Read>(len: u32, reader: &mut R) -> Result<(), Ended>
-    ensures { HasCome (R.remaining reader.old) len result }
+pub(crate) fn drop_body<R: Read>(len: u32, reader: &mut R) -> Result<(), BodyCut>
+    ensures { DropsBody (R.remaining reader.old) len result }
 {
     let mut buffer = new_buffer();
     let mut left = len as usize;
@@ -101,15 +101,15 @@ fn next_piece<'b, R: Read>(
     reader: &mut R,
     buffer: &'b mut [u8; 32_768],
     left: usize,
-) -> Result<&'b [u8], Ended>
+) -> Result<&'b [u8], BodyCut>
     requires { 1 ≤ left }
     ensures { GivesPiece (R.remaining reader.old) (R.remaining reader.new) left result }
 {
     let room = left.min(PIECE_LEN);
     match fill(reader, &mut buffer[..room]) {
-        Ok(0) => Err(Ended::Short),
+        Ok(0) => Err(BodyCut::Short),
         Ok(count) => Ok(&buffer[..count]),
-        Err(_) => Err(Ended::ReadFailed),
+        Err(_) => Err(BodyCut::ReadFailed),
     }
 }
 

@@ -2,17 +2,23 @@
 ghost use Rattle.std.specs.Prelude.{◌≡◌, ◌-◌, ◌<◌, ◌^◌, IfOk};
 ghost use Rattle.std.specs.Option.{option_and_then};
 ghost use Rattle.vault_volume.specs.Vault.{volume_of};
-ghost use Rattle.custody_records.specs.Held.{records_of};
+ghost use Rattle.custody_records.specs.MemoryRecords.{records_of};
 ghost use Rattle.deposit_verify.specs.Bases.{base_then};
 ghost use Rattle.custody_machine.specs.Machine as machine;
-ghost use Rattle.custody_machine.specs.Machine.{base_of, joined, part_keys};
-ghost use Rattle.custody_machine.specs.Stored.{AreInRange, AreWhole, state_in};
-ghost use Rattle.custody.specs.Reading.{IsOnlyRead};
-ghost use Rattle.custody.specs.Verified.{HasFirstPart, HaveDigests, IsVerified, CountsVerified, chain_keys};
+ghost use Rattle.custody_machine.specs.Machine.{base_of, joined_bytes, part_keys};
+ghost use Rattle.custody_machine.specs.StoredState.{HaveExtentsInRange, AreWhole, state_in};
+ghost use Rattle.custody.specs.Reading.{ReadsVault};
+ghost use Rattle.custody.specs.inside.Verifying.{
+  HasFirstPart,
+  HaveDigests,
+  IsVerified,
+  CountsVerifyFailure,
+  chain_keys,
+};
 
 use crate::Refused;
-use crate::reading::{Joined, read_revision};
-use custody_machine::{Damage, Fault, Statement};
+use crate::reading::{RevisionBytes, read_revision};
+use custody_machine::{Damage, Failure, Statement};
 use custody_records::{PartKey, Records};
 use custody_rules::{held_chain, known_about};
 use deposit_name::DepositName;
@@ -32,17 +38,17 @@ pub(crate) fn verify_stated<V: Volume>(
     requires count { V.failures (volume_of vault.old) < 2 ^ 64 - 1 }
     requires first { HasFirstPart (records_of records.now) statement.now }
     ensures verified { V.tells → IsVerified result (records_of records.now) (V.image (volume_of vault.old)) statement.now }
-    ensures read { IsOnlyRead vault.old vault.new }
-    ensures failures { CountsVerified result (V.failures (volume_of vault.old)) (V.failures (volume_of vault.new)) }
+    ensures read { ReadsVault vault.old vault.new }
+    ensures failures { CountsVerifyFailure result (V.failures (volume_of vault.old)) (V.failures (volume_of vault.new)) }
 {
     let base = read_base(alloc, vault, records, statement)?;
     let name = first_part(records, statement);
     let joined = read_whole(alloc, vault, records, &name)?;
     let Ok(about) = known_about(alloc, records, statement, &name, base) else {
-        return Err(Refused::Fault(Fault::NoMemory));
+        return Err(Refused::Failure(Failure::NoMemory));
     };
     let Ok(verdict) = verify(alloc, &joined, &about) else {
-        return Err(Refused::Fault(Fault::NoMemory));
+        return Err(Refused::Failure(Failure::NoMemory));
     };
     Ok(verdict)
 }
@@ -55,29 +61,29 @@ fn read_base<V: Volume>(
     records: &Records,
     statement: &Statement,
 ) -> Result<Option<Base>, Refused>
-    requires range { AreInRange (records_of records.now) }
+    requires range { HaveExtentsInRange (records_of records.now) }
     requires blocks { V.size (volume_of vault.old) ≡ (records_of records.now).blocks }
     requires count { V.failures (volume_of vault.old) < 2 ^ 64 - 1 }
     ensures base { V.tells → IfOk result (λ base. base ≡ base_of (state_in (records_of records.now) (V.image (volume_of vault.old))) statement.now) }
     ensures digests { V.tells → HaveDigests result (records_of records.now) (V.image (volume_of vault.old)) (chain_keys (records_of records.now) (V.image (volume_of vault.old)) statement.now) }
-    ensures read { IsOnlyRead vault.old vault.new }
-    ensures failures { CountsVerified result (V.failures (volume_of vault.old)) (V.failures (volume_of vault.new)) }
+    ensures read { ReadsVault vault.old vault.new }
+    ensures failures { CountsVerifyFailure result (V.failures (volume_of vault.old)) (V.failures (volume_of vault.new)) }
 {
     let Ok(chain) = held_chain(alloc, records, statement) else {
-        return Err(Refused::Fault(Fault::NoMemory));
+        return Err(Refused::Failure(Failure::NoMemory));
     };
     let [first, later @ ..] = chain.as_slice() else {
         return Ok(None);
     };
     let full = read_whole(alloc, vault, records, first)?;
     let Ok(mut base) = Base::of_full(alloc, &full) else {
-        return Err(Refused::Fault(Fault::NoMemory));
+        return Err(Refused::Failure(Failure::NoMemory));
     };
     drop(full);
     for name in later {
         let joined = read_whole(alloc, vault, records, name)?;
         let Ok(next) = base_then(alloc, base, &joined) else {
-            return Err(Refused::Fault(Fault::NoMemory));
+            return Err(Refused::Failure(Failure::NoMemory));
         };
         base = next;
     }
@@ -105,17 +111,17 @@ fn read_whole<V: Volume>(
     records: &Records,
     name: &DepositName,
 ) -> Result<Vec<u8>, Refused>
-    requires range { AreInRange (records_of records.now) }
+    requires range { HaveExtentsInRange (records_of records.now) }
     requires blocks { V.size (volume_of vault.old) ≡ (records_of records.now).blocks }
     requires count { V.failures (volume_of vault.old) < 2 ^ 64 - 1 }
-    ensures bytes { V.tells → IfOk result (λ bytes. bytes.items ≡ joined (state_in (records_of records.now) (V.image (volume_of vault.old))) name.now) }
+    ensures bytes { V.tells → IfOk result (λ bytes. bytes.items ≡ joined_bytes (state_in (records_of records.now) (V.image (volume_of vault.old))) name.now) }
     ensures digests { V.tells → HaveDigests result (records_of records.now) (V.image (volume_of vault.old)) (part_keys (state_in (records_of records.now) (V.image (volume_of vault.old))) name.now) }
-    ensures read { IsOnlyRead vault.old vault.new }
-    ensures failures { CountsVerified result (V.failures (volume_of vault.old)) (V.failures (volume_of vault.new)) }
+    ensures read { ReadsVault vault.old vault.new }
+    ensures failures { CountsVerifyFailure result (V.failures (volume_of vault.old)) (V.failures (volume_of vault.new)) }
 {
     match read_revision(alloc, vault, records, name)? {
-        Joined::Whole(joined) => Ok(joined),
-        Joined::Broken(_) => Err(Refused::Fault(Fault::Damaged(Damage::Digest))),
+        RevisionBytes::Whole(joined) => Ok(joined),
+        RevisionBytes::Broken(_) => Err(Refused::Failure(Failure::Damaged(Damage::Digest))),
     }
 }
 

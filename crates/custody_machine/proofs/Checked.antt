@@ -5,18 +5,18 @@ use Rattle.schedule.specs.Schedule.{day_of}
 use Rattle.custody_records.specs.Keys.{NoticeKey}
 use Rattle.custody_records.specs.Records.{Notice}
 use Rattle.custody_machine.specs.State.{State, has_notice}
-use Rattle.custody_machine.specs.Machine.{Check, Refusal, RegistryUnknown, DateOutOfRange, NotYetDue, DayHasVerdict, Reply, Outcome, Accept, is_unknown, is_beyond, is_verdict, absence_of, check_tests, first_standing, unless_kept, notice_record, step, missed}
+use Rattle.custody_machine.specs.Machine.{Check, Refusal, RegistryUnknown, DateOutOfRange, NotYetDue, DayHasVerdict, Reply, Step, Accept, is_tld_unregistered, is_day_outside, is_verdict, absence_of, check_tests, first_refusal, unless_kept, notice_record, step, check_step}
 use Rattle.custody_machine.proofs.Accepting.{none_head, step_accepts}
 
 -- none of the refusals of a check stands
 pub record NoneStandsOn (s : State) (tld : List ℕ) (day now : ℕ) : Type 0 where
-  pub registry : is_unknown s tld ≡ false
-  pub date : (is_none (absence_of s tld day) && is_beyond s tld day now) ≡ false
+  pub registry : is_tld_unregistered s tld ≡ false
+  pub date : (is_none (absence_of s tld day) && is_day_outside s tld day now) ≡ false
   pub due : (is_none (absence_of s tld day) && day == day_of now) ≡ false
   pub verdict : (is_none (absence_of s tld day) && has_notice s.notices tld day is_verdict) ≡ false
 
 module _ (s : State) (tld : List ℕ) (day now : ℕ) where
-  pub none_stand_on : first_standing (check_tests s tld day now) ≡ None → NoneStandsOn s tld day now
+  pub none_stand_on : first_refusal (check_tests s tld day now) ≡ None → NoneStandsOn s tld day now
   none_stand_on e =
       let b = none_head _ RegistryUnknown _ e in
       let c = none_head _ DateOutOfRange _ b.1 in
@@ -31,12 +31,12 @@ check_refusals a b c d = cond a (Some RegistryUnknown) (cond b (Some DateOutOfRa
 four_none : (a b c d : Bool) → a ≡ false → b ≡ false → c ≡ false → d ≡ false → check_refusals a b c d ≡ None
 four_none a b c d p q r t = rw (p, q, r, t) refl
 
-pub find_none_on : (s : State) (tld : List ℕ) (day now : ℕ) → NoneStandsOn s tld day now → first_standing (check_tests s tld day now) ≡ None
+pub find_none_on : (s : State) (tld : List ℕ) (day now : ℕ) → NoneStandsOn s tld day now → first_refusal (check_tests s tld day now) ≡ None
 find_none_on s tld day now h = four_none _ _ _ _ h.registry h.date h.due h.verdict
 
--- the outcome of a check, by the absence that is kept
-abbrev pub missed_by : State → List ℕ → ℕ → ℕ → Option (NoticeKey × Notice) → Outcome
-missed_by s tld day now o = unless_kept s (option_map notice_record o) (missed s tld day now)
+-- the step of a check, by the absence that is kept
+abbrev pub missed_by : State → List ℕ → ℕ → ℕ → Option (NoticeKey × Notice) → Step
+missed_by s tld day now o = unless_kept s (option_map notice_record o) (check_step s tld day now)
 
 -- what acceptance of a check tells
 pub record IsChecked (s : State) (tld : List ℕ) (day now : ℕ) (reply : Reply) (new : State) : Type 0 where

@@ -1,4 +1,5 @@
 -- A part that is kept, compared with the bytes of a command; and what a call leaves at its moments.
+use Rattle.std.specs.Prelude.{bytes_eq}
 use Rattle.std.proofs.Common.{◌≡◌, ◌≢◌, ◌⊎◌, inl, inr, ℕ, List, [], ◌∷◌, Option, Some, None, Bool, true, false, refl, sym, ◌∙◌, ap, subst, arith}
 use Rattle.std.specs.FinMap.{get}
 use Rattle.deposit_name.specs.Name.{Name}
@@ -8,21 +9,20 @@ use Rattle.vault_volume.specs.Disk.{LeavesOnly}
 use Rattle.vault_volume.specs.Extents.{part_bytes}
 use Rattle.custody_records.specs.Keys.{PartKey}
 use Rattle.custody_records.specs.Records.{PartRecord, Records, key_of}
-use Rattle.custody_machine.specs.Names.{is_same_text}
 use Rattle.custody_machine.specs.State.{State}
-use Rattle.custody_machine.specs.Machine.{Command, Register, Receive, Statement, Check, Release, Hold, Lift, Purge, OfPart, Reply, Outcome, Refuse, Accept, OtherBytes, refusal_of, step, reads, Accepted, Refused, Failed, Fault, NoMemory, VolumeFailed, Damaged, MayFail}
+use Rattle.custody_machine.specs.Machine.{Command, Register, Receive, Statement, Check, Release, Hold, Lift, Purge, OfPart, Reply, Step, Refuse, Accept, OtherBytes, refusal_of, step, deciding_keys, Accepted, Refused, Failed, Failure, NoMemory, VolumeFailed, Damaged, MayFail}
 use Rattle.custody_machine.specs.declared.damage.Damage.TheVariants.{Digest}
-use Rattle.custody_machine.specs.Stored.{part_of, state_in, HasDigestAt}
+use Rattle.custody_machine.specs.StoredState.{part_of, state_in, HasDigestAt}
 use Rattle.custody_machine.specs.Moves.{DependsOnBytes}
-use Rattle.custody_machine.specs.Rulings.{ByBytes, Decides, IsUnder, bytes_of}
+use Rattle.custody_machine.specs.Rulings.{CompareRuling, Decides, BringsPart, command_bytes}
 use Rattle.custody_machine.specs.Custody.{LeftSince, Same, Other, Broken, Compares}
 use Rattle.custody_machine.proofs.SameValues.{text_decides}
 use Rattle.custody_machine.proofs.Accepting.{step_accepts}
 use Rattle.custody_machine.proofs.Composed.{nothing_in, one_in, first_in, reads_accepted, reads_other}
 
-module _ (records : Records) (i : List ℕ) (command : Command) (now : ℕ) (name : Name) (part : PartRecord) (extents : List Extent) (d : Decides (ByBytes name part extents) records command now) where
+module _ (records : Records) (i : List ℕ) (command : Command) (now : ℕ) (name : Name) (part : PartRecord) (extents : List Extent) (d : Decides (CompareRuling name part extents) records command now) where
   abbrev bytes : List ℕ
-  bytes = bytes_of command
+  bytes = command_bytes command
 
   pub same_rules : Compares Same (part_bytes i extents part.len) bytes part.digest → step (state_in records i) command now ≡ Accept (record { entry = OfPart (key_of name) (part_of i part); is_repeat = true }) (state_in records i)
   same_rules same = (d.1 i).0 same
@@ -30,10 +30,10 @@ module _ (records : Records) (i : List ℕ) (command : Command) (now : ℕ) (nam
   pub other_rules : part_bytes i extents part.len ≢ bytes → step (state_in records i) command now ≡ Refuse OtherBytes
   other_rules other = (d.1 i).1 other
 
-  reads_key : part_bytes i extents part.len ≢ bytes → reads (state_in records i) command now ≡ key_of name ∷ []
+  reads_key : part_bytes i extents part.len ≢ bytes → deciding_keys (state_in records i) command now ≡ key_of name ∷ []
   reads_key other = by command (other_rules other) d.0.named
     where
-      by : (command : Command) → step (state_in records i) command now ≡ Refuse OtherBytes → IsUnder command name → reads (state_in records i) command now ≡ key_of name ∷ []
+      by : (command : Command) → step (state_in records i) command now ≡ Refuse OtherBytes → BringsPart command name → deciding_keys (state_in records i) command now ≡ key_of name ∷ []
       by (Register tld first_day) refused under = absurd under
       by (Receive text bytes) refused under = reads_other (state_in records i) text bytes now name refused under
       by (Statement stated) refused under = absurd under
@@ -43,10 +43,10 @@ module _ (records : Records) (i : List ℕ) (command : Command) (now : ℕ) (nam
       by (Lift reference) refused under = absurd under
       by Purge refused under = absurd under
 
-  reads_none : refusal_of (state_in records i) command now ≡ None → reads (state_in records i) command now ≡ []
+  reads_none : refusal_of (state_in records i) command now ≡ None → deciding_keys (state_in records i) command now ≡ []
   reads_none none = by command none d.0.named
     where
-      by : (command : Command) → refusal_of (state_in records i) command now ≡ None → IsUnder command name → reads (state_in records i) command now ≡ []
+      by : (command : Command) → refusal_of (state_in records i) command now ≡ None → BringsPart command name → deciding_keys (state_in records i) command now ≡ []
       by (Register tld first_day) none under = absurd under
       by (Receive text bytes) none under = reads_accepted (state_in records i) text bytes now none
       by (Statement stated) none under = absurd under
@@ -79,36 +79,36 @@ module _ (records : Records) (i : List ℕ) (command : Command) (now : ℕ) (nam
   pub broken_rests : Compares Broken (part_bytes i extents part.len) bytes part.digest → DependsOnBytes records i command now (Failed (Damaged Digest))
   broken_rests broken = (key_of name, first_in _ (key_of name) (reads_key broken.0), λ has. broken.1 (has part extents d.0.recorded d.0.held))
 
-  pub broken_may_fail : Compares Broken (part_bytes i extents part.len) bytes part.digest → MayFail (step (state_in records i) command now) (reads (state_in records i) command now) (Damaged Digest)
-  broken_may_fail broken = subst (λ r. MayFail r (reads (state_in records i) command now) (Damaged Digest)) (sym (other_rules broken.0)) (refl, λ none. some_not_none (sym (reads_key broken.0) ∙ none))
+  pub broken_may_fail : Compares Broken (part_bytes i extents part.len) bytes part.digest → MayFail (step (state_in records i) command now) (deciding_keys (state_in records i) command now) (Damaged Digest)
+  broken_may_fail broken = subst (λ r. MayFail r (deciding_keys (state_in records i) command now) (Damaged Digest)) (sym (other_rules broken.0)) (refl, λ none. some_not_none (sym (reads_key broken.0) ∙ none))
     where
       some_not_none : ◌≡◌ {A = List PartKey} (key_of name ∷ []) [] → ⊥
       some_not_none e = cc
 
   -- whichever it is, memory or the volume may fail
-  pub may_fail : (fault : Fault) → ((r : Outcome) → (r ≡ Refuse OtherBytes) ⊎ ((reply : Reply) × (new : State) × (r ≡ Accept reply new)) → MayFail r (reads (state_in records i) command now) fault) → MayFail (step (state_in records i) command now) (reads (state_in records i) command now) fault
-  may_fail fault may = by (is_same_text (part_bytes i extents part.len) bytes) refl
+  pub may_fail : (failure : Failure) → ((r : Step) → (r ≡ Refuse OtherBytes) ⊎ ((reply : Reply) × (new : State) × (r ≡ Accept reply new)) → MayFail r (deciding_keys (state_in records i) command now) failure) → MayFail (step (state_in records i) command now) (deciding_keys (state_in records i) command now) failure
+  may_fail fault may = by (bytes_eq (part_bytes i extents part.len) bytes) refl
     where
-      by : (b : Bool) → is_same_text (part_bytes i extents part.len) bytes ≡ b → MayFail (step (state_in records i) command now) (reads (state_in records i) command now) fault
+      by : (b : Bool) → bytes_eq (part_bytes i extents part.len) bytes ≡ b → MayFail (step (state_in records i) command now) (deciding_keys (state_in records i) command now) fault
       by true e = may _ (inr (_, _, same_rules ((text_decides (part_bytes i extents part.len) bytes).0 e)))
       by false e = may _ (inl (other_rules (λ same. never ((text_decides (part_bytes i extents part.len) bytes).1 same) e)))
         where
           never : {b : Bool} → b ≡ true → b ≡ false → ⊥
           never p q = cc
 
-  pub no_memory_may_be : MayFail (step (state_in records i) command now) (reads (state_in records i) command now) NoMemory
+  pub no_memory_may_be : MayFail (step (state_in records i) command now) (deciding_keys (state_in records i) command now) NoMemory
   no_memory_may_be = may_fail NoMemory by
     where
-      by : (r : Outcome) → (r ≡ Refuse OtherBytes) ⊎ ((reply : Reply) × (new : State) × (r ≡ Accept reply new)) → MayFail r (reads (state_in records i) command now) NoMemory
-      by r (inl e) = subst (λ r. MayFail r (reads (state_in records i) command now) NoMemory) (sym e) refl
-      by r (inr e) = subst (λ r. MayFail r (reads (state_in records i) command now) NoMemory) (sym e.2) tt
+      by : (r : Step) → (r ≡ Refuse OtherBytes) ⊎ ((reply : Reply) × (new : State) × (r ≡ Accept reply new)) → MayFail r (deciding_keys (state_in records i) command now) NoMemory
+      by r (inl e) = subst (λ r. MayFail r (deciding_keys (state_in records i) command now) NoMemory) (sym e) refl
+      by r (inr e) = subst (λ r. MayFail r (deciding_keys (state_in records i) command now) NoMemory) (sym e.2) tt
 
-  pub volume_failed_may_be : MayFail (step (state_in records i) command now) (reads (state_in records i) command now) VolumeFailed
+  pub volume_failed_may_be : MayFail (step (state_in records i) command now) (deciding_keys (state_in records i) command now) VolumeFailed
   volume_failed_may_be = may_fail VolumeFailed by
     where
-      by : (r : Outcome) → (r ≡ Refuse OtherBytes) ⊎ ((reply : Reply) × (new : State) × (r ≡ Accept reply new)) → MayFail r (reads (state_in records i) command now) VolumeFailed
-      by r (inl e) = subst (λ r. MayFail r (reads (state_in records i) command now) VolumeFailed) (sym e) refl
-      by r (inr e) = subst (λ r. MayFail r (reads (state_in records i) command now) VolumeFailed) (sym e.2) tt
+      by : (r : Step) → (r ≡ Refuse OtherBytes) ⊎ ((reply : Reply) × (new : State) × (r ≡ Accept reply new)) → MayFail r (deciding_keys (state_in records i) command now) VolumeFailed
+      by r (inl e) = subst (λ r. MayFail r (deciding_keys (state_in records i) command now) VolumeFailed) (sym e) refl
+      by r (inr e) = subst (λ r. MayFail r (deciding_keys (state_in records i) command now) VolumeFailed) (sym e.2) tt
 
 -- ---- moments
 

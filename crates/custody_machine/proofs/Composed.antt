@@ -7,29 +7,28 @@ use Rattle.std.specs.FinMap.{get}
 use Rattle.std.proofs.lemmas.Bool.Decides.{Decides-eqb, Decides-ltb, nat_tests}
 use Rattle.sha2.specs.Sha256.{sha256}
 use Rattle.deposit_name.specs.declared.kinds.Kind.{Kind}
-use Rattle.deposit_name.specs.declared.faults.NameError.{NameError}
-use Rattle.deposit_name.specs.Name.{Name}
+use Rattle.deposit_name.specs.declared.errors.NameError.{NameError}
+use Rattle.deposit_name.specs.Name.{Name, is_same_kind}
 use Rattle.vault_volume.specs.Image.{DiffersOnlyIn}
 use Rattle.vault_volume.specs.Extents.{IsExtentOf, IsInAny, block_count}
 use Rattle.vault_volume.specs.Staged.{StagedPart}
 use Rattle.vault_volume.proofs.ImageLemmas.{same_in, in_more, in_both}
 use Rattle.custody_records.specs.Keys.{PartKey, part_cmp}
-use Rattle.custody_records.specs.Records.{PartRecord, Records, key_of}
+use Rattle.custody_records.specs.Records.{PartRecord, Records, key_of, staged_record}
 use Rattle.custody_records.specs.Records as recorded_in
 use Rattle.custody_records.specs.Rows.{Rows}
 use Rattle.custody_records.specs.Form.{form_of, InForm}
-use Rattle.custody_machine.specs.Names.{read_name}
-use Rattle.custody_machine.specs.SameValues.{is_same_kind}
-use Rattle.custody_machine.specs.State.{State, Held, places, at_place, has_notice}
-use Rattle.custody_machine.specs.Machine.{Statement, Check, Release, Hold, Lift, Purge, if_made, Command, Register, Receive, Refusal, NameRefused, RegistryUnknown, DateOutOfRange, Size, OtherBytes, DroppedAfterKeeping, RevisionNotDue, AlreadyStated, TypeDiffers, PartOutOfOrder, VolumeFull, PartsDiffer, LaterDayPassed, NotYetDue, DayHasVerdict, GroundDoesNotStand, ReferenceUsed, NotInRelease, ReleaseUnknown, HoldReferenceUsed, HoldUnknown, Record, OfRegistry, OfPart, Reply, Refuse, Accept, max_part_len, of_kind, recorded, part_in, has_other_kind, is_failure_of, refusal_of, kept, effect, received, unless_kept, unless_refused, step, state_of, state_after, received_part, with_part, Entry, read_by, reads, Answer, Accepted, Failed, StoreFailed, MayFail, Answers, named_tests, first_standing, verdict_keys}
+use Rattle.custody_machine.specs.NameReading.{read_name}
+use Rattle.custody_machine.specs.State.{State, Held, part_numbers, key_with_part, has_notice}
+use Rattle.custody_machine.specs.Machine.{Statement, Check, Release, Hold, Lift, Purge, keys_if_made, Command, Register, Receive, Refusal, NameRefused, RegistryUnknown, DateOutOfRange, Size, OtherBytes, DroppedAfterKeeping, RevisionNotDue, AlreadyStated, TypeDiffers, PartOutOfOrder, VolumeFull, PartsDiffer, LaterDayPassed, NotYetDue, DayHasVerdict, GroundDoesNotStand, ReferenceUsed, NotInRelease, ReleaseUnknown, HoldReferenceUsed, HoldUnknown, Record, OfRegistry, OfPart, Reply, Refuse, Accept, max_part_len, part_of_kind, part_under_name, revision_part, has_other_kind, is_failure_of, refusal_of, kept_record, effect, receive_step, unless_kept, unless_refused, step, state_of, state_after, received_part, state_with_part, TimedCommand, compared_keys, deciding_keys, Answer, Accepted, Failed, StoreFailed, MayFail, MayAnswer, named_tests, first_refusal, verdict_keys}
 use Rattle.custody_machine.specs.History.{IsFoundWithin, doubt_of, MayFind, is_open_after}
-use Rattle.custody_machine.specs.Stored.{AreNaming, IsNamed, AreWhole, IsVolumeOf, is_part_of, IsGood, part_of, state_in, KeepsParts, OpensFrom}
+use Rattle.custody_machine.specs.StoredState.{HaveBlock, IsPartBlock, AreWhole, IsVolumeOf, is_part_of, AreWholeOnVolume, part_of, state_in, KeepsParts, OpensFrom}
 use Rattle.custody_machine.specs.Moves.{Place, Serving, Shut, MayLeave, MayLeaveWithin, DependsOnBytes, place_after}
-use Rattle.custody_machine.specs.Custody.{IsPlaceable, IsInOrder, IsOnVolume, IsInStore, IsPlaced, IsSettled, staged_record, IsAt, Serves}
+use Rattle.custody_machine.specs.Custody.{IsPlaceable, IsInOrder, IsOnVolume, IsInStore, IsPlaced, IsDurable, IsAtPlace, AnswersCommand}
 use Rattle.custody_machine.proofs.MapValues.{get-map_values}
 use Rattle.custody_machine.proofs.Series.{prior_taken, is_place}
 use Rattle.custody_machine.proofs.Accepting.{accept_inj, NoneStands, refused_name, step_none, step_accepts, registered, receives, place_passes, insert_here}
-use Rattle.custody_records.specs.Orders.{part_total}
+use Rattle.custody_records.specs.inside.Orders.{part_total}
 use Rattle.custody_machine.proofs.Stored.{state_in-elsewhere, digest-elsewhere, good-elsewhere, keeps_same, keeps_itself, keeps_on, whole-with_registry, good-with_registry, keeps-with_registry, state_in-with_part, inserted, part_still, IsInPlace, whole-with_part, good-with_part, keeps-with_part}
 
 -- ---- which parts are read
@@ -52,23 +51,23 @@ pub refusal_is : (s : State) (text bytes : List ℕ) (now : ℕ) (q : Refusal) �
 unfolding step
 refusal_is s text bytes now q e = by (refusal_of s (Receive text bytes) now) refl e
   where
-    by_kept : (name : Name) (o : Option Record) → unless_kept s o (received s (Ok name) bytes now) ≡ Refuse q → ⊥
+    by_kept : (name : Name) (o : Option Record) → unless_kept s o (receive_step s (Ok name) bytes now) ≡ Refuse q → ⊥
     by_kept name None e = cc
     by_kept name (Some entry) e = cc
 
-    by_name : (r : Result Name NameError) → read_name text ≡ r → refusal_of s (Receive text bytes) now ≡ None → unless_kept s (kept s (Receive text bytes)) (received s r bytes now) ≡ Refuse q → ⊥
-    by_name (Err fault) is none e = let stands : refusal_of s (Receive text bytes) now ≡ Some (NameRefused fault) = ap (λ r. first_standing (named_tests s r bytes now)) is ∙ refused_name s bytes now fault in cc
-    by_name (Ok name) is none e = by_kept name (kept s (Receive text bytes)) e
+    by_name : (r : Result Name NameError) → read_name text ≡ r → refusal_of s (Receive text bytes) now ≡ None → unless_kept s (kept_record s (Receive text bytes)) (receive_step s r bytes now) ≡ Refuse q → ⊥
+    by_name (Err fault) is none e = let stands : refusal_of s (Receive text bytes) now ≡ Some (NameRefused fault) = ap (λ r. first_refusal (named_tests s r bytes now)) is ∙ refused_name s bytes now fault in cc
+    by_name (Ok name) is none e = by_kept name (kept_record s (Receive text bytes)) e
 
-    by : (o : Option Refusal) → refusal_of s (Receive text bytes) now ≡ o → unless_refused o (unless_kept s (kept s (Receive text bytes)) (effect s (Receive text bytes) now)) ≡ Refuse q → o ≡ Some q
+    by : (o : Option Refusal) → refusal_of s (Receive text bytes) now ≡ o → unless_refused o (unless_kept s (kept_record s (Receive text bytes)) (effect s (Receive text bytes) now)) ≡ Refuse q → o ≡ Some q
     by None is e = absurd (by_name (read_name text) refl is e)
     by (Some r) is e = let same : r ≡ q = cc in ap Some same
 
 -- of a part that is accepted
-pub reads_accepted : (s : State) (text bytes : List ℕ) (now : ℕ) → refusal_of s (Receive text bytes) now ≡ None → reads s (Receive text bytes) now ≡ []
-reads_accepted s text bytes now e = ap (λ o. read_by o (read_name text)) e
+pub reads_accepted : (s : State) (text bytes : List ℕ) (now : ℕ) → refusal_of s (Receive text bytes) now ≡ None → deciding_keys s (Receive text bytes) now ≡ []
+reads_accepted s text bytes now e = ap (λ o. compared_keys o (read_name text)) e
 
-read_none : (q : Refusal) → q ≢ OtherBytes → (r : Result Name NameError) → read_by (Some q) r ≡ []
+read_none : (q : Refusal) → q ≢ OtherBytes → (r : Result Name NameError) → compared_keys (Some q) r ≡ []
 read_none q other (Err fault) = refl
 read_none (NameRefused fault) other (Ok name) = refl
 read_none RegistryUnknown other (Ok name) = refl
@@ -92,17 +91,17 @@ read_none ReleaseUnknown other (Ok name) = refl
 read_none HoldReferenceUsed other (Ok name) = refl
 read_none HoldUnknown other (Ok name) = refl
 
-part_refused : (s : State) (text bytes : List ℕ) (now : ℕ) (q : Refusal) → step s (Receive text bytes) now ≡ Refuse q → q ≢ OtherBytes → reads s (Receive text bytes) now ≡ []
-part_refused s text bytes now q e other = ap (λ o. read_by o (read_name text)) (refusal_is s text bytes now q e) ∙ read_none q other (read_name text)
+part_refused : (s : State) (text bytes : List ℕ) (now : ℕ) (q : Refusal) → step s (Receive text bytes) now ≡ Refuse q → q ≢ OtherBytes → deciding_keys s (Receive text bytes) now ≡ []
+part_refused s text bytes now q e other = ap (λ o. compared_keys o (read_name text)) (refusal_is s text bytes now q e) ∙ read_none q other (read_name text)
 
 -- of a command that is refused, but not for its bytes
-pub reads_refused : (s : State) (command : Command) (now : ℕ) (q : Refusal) → step s command now ≡ Refuse q → q ≢ OtherBytes → reads s command now ≡ []
+pub reads_refused : (s : State) (command : Command) (now : ℕ) (q : Refusal) → step s command now ≡ Refuse q → q ≢ OtherBytes → deciding_keys s command now ≡ []
 unfolding step
 reads_refused s (Register tld day) now q e other = refl
 reads_refused s (Receive text bytes) now q e other = part_refused s text bytes now q e other
-reads_refused s (Statement stated) now q e other = by (refusal_of s (Statement stated) now) (kept s (Statement stated)) e
+reads_refused s (Statement stated) now q e other = by (refusal_of s (Statement stated) now) (kept_record s (Statement stated)) e
   where
-    by : (o : Option Refusal) (k : Option Record) → unless_refused o (unless_kept s k (effect s (Statement stated) now)) ≡ Refuse q → if_made o k (verdict_keys s stated) ≡ []
+    by : (o : Option Refusal) (k : Option Record) → unless_refused o (unless_kept s k (effect s (Statement stated) now)) ≡ Refuse q → keys_if_made o k (verdict_keys s stated) ≡ []
     by None None e = cc
     by None (Some entry) e = refl
     by (Some r) k e = refl
@@ -113,13 +112,13 @@ reads_refused s (Lift reference) now q e other = refl
 reads_refused s Purge now q e other = refl
 
 -- of a repeat
-pub reads_repeated : (s : State) (command : Command) (now : ℕ) (reply : Reply) (new : State) → step s command now ≡ Accept reply new → reply.is_repeat ≡ true → reads s command now ≡ []
+pub reads_repeated : (s : State) (command : Command) (now : ℕ) (reply : Reply) (new : State) → step s command now ≡ Accept reply new → reply.is_repeat ≡ true → deciding_keys s command now ≡ []
 unfolding step
 reads_repeated s (Register tld day) now reply new e again = refl
 reads_repeated s (Receive text bytes) now reply new e again = reads_accepted s text bytes now (step_accepts s (Receive text bytes) now reply new e).0
-reads_repeated s (Statement stated) now reply new e again = by (refusal_of s (Statement stated) now) (kept s (Statement stated)) e
+reads_repeated s (Statement stated) now reply new e again = by (refusal_of s (Statement stated) now) (kept_record s (Statement stated)) e
   where
-    by : (o : Option Refusal) (k : Option Record) → unless_refused o (unless_kept s k (effect s (Statement stated) now)) ≡ Accept reply new → if_made o k (verdict_keys s stated) ≡ []
+    by : (o : Option Refusal) (k : Option Record) → unless_refused o (unless_kept s k (effect s (Statement stated) now)) ≡ Accept reply new → keys_if_made o k (verdict_keys s stated) ≡ []
     by None None e = let first : false ≡ true = ap (λ (r : Reply). r.is_repeat) (accept_inj _ _ _ _ e).0 ∙ again in cc
     by None (Some entry) e = refl
     by (Some r) k e = refl
@@ -129,12 +128,12 @@ reads_repeated s (Hold reference tld day) now reply new e again = refl
 reads_repeated s (Lift reference) now reply new e again = refl
 reads_repeated s Purge now reply new e again = refl
 
-pub reads_other : (s : State) (text bytes : List ℕ) (now : ℕ) (name : Name) → step s (Receive text bytes) now ≡ Refuse OtherBytes → read_name text ≡ Ok name → reads s (Receive text bytes) now ≡ key_of name ∷ []
-reads_other s text bytes now name e named = λ i. read_by (refusal_is s text bytes now OtherBytes e i) (named i)
+pub reads_other : (s : State) (text bytes : List ℕ) (now : ℕ) (name : Name) → step s (Receive text bytes) now ≡ Refuse OtherBytes → read_name text ≡ Ok name → deciding_keys s (Receive text bytes) now ≡ key_of name ∷ []
+reads_other s text bytes now name e named = λ i. compared_keys (refusal_is s text bytes now OtherBytes e i) (named i)
 
 -- ---- the same records, with an image that differs only in blocks that they leave
 
-module _ (records : Records) (free : ℕ → Type 0) (i : List ℕ) (good : IsGood records i) (unnamed : (b : ℕ) → IsNamed records b → ¬ free b) (head : ¬ free 0) where
+module _ (records : Records) (free : ℕ → Type 0) (i : List ℕ) (good : AreWholeOnVolume records i) (unnamed : (b : ℕ) → IsPartBlock records b → ¬ free b) (head : ¬ free 0) where
   pub opens_same : (P : State → Type 0) (r : Rows) (j : List ℕ) → form_of r ≡ InForm records → DiffersOnlyIn free i j → P (state_in records i) → OpensFrom records i P r j
   opens_same P r j is differs p = record {
     records = records;
@@ -155,7 +154,7 @@ module _ (records : Records) (free : ℕ → Type 0) (i : List ℕ) (good : IsGo
   }
 
 module _ (records : Records) (size failures : ℕ) (free : ℕ → Type 0) (order : IsInOrder records size failures free) where
-  pub named_used : (b : ℕ) → IsNamed records b → ¬ free b
+  pub named_used : (b : ℕ) → IsPartBlock records b → ¬ free b
   named_used b named f = ((order.placeable b).0 f).2 named
 
   pub head_used : ¬ free 0
@@ -163,13 +162,13 @@ module _ (records : Records) (size failures : ℕ) (free : ℕ → Type 0) (orde
 
 -- ---- where a custody is after an answer
 
-is_there : (records new : Records) (i later : List ℕ) (is_open b : Bool) (place : Place) → is_open ≡ b → (is_open ≡ true → (new ≡ records) × (later ≡ i)) → (closed : Place) → IsAt false new later closed → IsAt is_open new later (if b then Serving records i else closed)
+is_there : (records new : Records) (i later : List ℕ) (is_open b : Bool) (place : Place) → is_open ≡ b → (is_open ≡ true → (new ≡ records) × (later ≡ i)) → (closed : Place) → IsAtPlace false new later closed → IsAtPlace is_open new later (if b then Serving records i else closed)
 is_there records new i later true true place e same closed shut = (sym (same refl).0, sym (same refl).1)
 is_there records new i later false false place e same closed shut = shut
 is_there records new i later true false place e same closed shut = cc
 is_there records new i later false true place e same closed shut = cc
 
-may_find_itself : (s : State) (doubt : Option Entry) → MayFind s doubt s
+may_find_itself : (s : State) (doubt : Option TimedCommand) → MayFind s doubt s
 may_find_itself s None = refl
 may_find_itself s (Some entry) = inl refl
 
@@ -177,7 +176,7 @@ may_find_itself s (Some entry) = inl refl
 
 module _ (records : Records) (rows : Rows) (i : List ℕ) (size failures : ℕ) (free : ℕ → Type 0) (is_ready : Type 0) (left_rows : Rows → Type 0) (left_images : List ℕ → Type 0)
     (order : IsInOrder records size failures free) (volume : IsOnVolume records i free left_images) (store : IsInStore records rows is_ready left_rows) where
-  pub good_now : IsGood records i
+  pub good_now : AreWholeOnVolume records i
   good_now = record { whole = order.whole; volume = volume.volume }
 
   form_left : (r : Rows) → left_rows r → form_of r ≡ InForm records
@@ -194,9 +193,9 @@ module _ (records : Records) (rows : Rows) (i : List ℕ) (size failures : ℕ) 
 
   -- a command that changed nothing
   pub changes_nothing : (command : Command) (now : ℕ) (answer : Answer) (is_open : Bool) (new : Records) (later : List ℕ) (since : List ℕ → Type 0) (rows_then : Rows → Type 0) (images_then : List ℕ → Type 0)
-      → Answers (state_in records i) command now answer (state_in records i) → DependsOnBytes records i command now answer → is_open ≡ is_open_after answer → (is_open ≡ true → (new ≡ records) × (later ≡ i))
+      → MayAnswer (state_in records i) command now answer (state_in records i) → DependsOnBytes records i command now answer → is_open ≡ is_open_after answer → (is_open ≡ true → (new ≡ records) × (later ≡ i))
       → ((j : List ℕ) → since j → DiffersOnlyIn free i j) → ((r : Rows) → rows_then r → left_rows r) → ((j : List ℕ) → images_then j → DiffersOnlyIn free i j)
-      → Serves (record { records = records; image = i }) command now answer is_open (record { records = new; image = later }) (record { rows_before = left_rows; images_since = since; rows_then = rows_then; images_then = images_then })
+      → AnswersCommand (record { records = records; image = i }) command now answer is_open (record { records = new; image = later }) (record { rows_before = left_rows; images_since = since; rows_then = rows_then; images_then = images_then })
   changes_nothing command now answer is_open new later since rows_then images_then allowed rests opened goes_on during rows_same images_same = record {
     next = place_after records i command now answer records i;
     moves = (records, i, allowed, rests, keeps_itself records i, refl);
@@ -215,9 +214,9 @@ module _ (records : Records) (rows : Rows) (i : List ℕ) (size failures : ℕ) 
 
 -- records and an image that a commit makes of others, and the blocks that are free then
 pub record IsChange (records : Records) (i : List ℕ) (free : ℕ → Type 0) (changed : Records) (j : List ℕ) (g : ℕ → Type 0) : Type 0 where
-  pub good : IsGood changed j
+  pub good : AreWholeOnVolume changed j
   pub keeps : KeepsParts records i changed j
-  pub unnamed : (b : ℕ) → IsNamed changed b → ¬ g b
+  pub unnamed : (b : ℕ) → IsPartBlock changed b → ¬ g b
   pub head : ¬ g 0
   pub fewer : (b : ℕ) → g b → free b
   pub moved : DiffersOnlyIn free i j
@@ -232,7 +231,7 @@ module _ (records : Records) (rows : Rows) (i : List ℕ) (size failures : ℕ) 
   pub accepts : (new : Records) (later : List ℕ) (since : List ℕ → Type 0) (rows_then : Rows → Type 0) (images_then : List ℕ → Type 0)
       → DependsOnBytes records i command now (Accepted reply) → (new ≡ changed) × (later ≡ j)
       → ((k : List ℕ) → since k → DiffersOnlyIn free i k) → ((r : Rows) → rows_then r → form_of r ≡ InForm changed) → ((k : List ℕ) → images_then k → DiffersOnlyIn g j k)
-      → Serves (record { records = records; image = i }) command now (Accepted reply) true (record { records = new; image = later }) (record { rows_before = left_rows; images_since = since; rows_then = rows_then; images_then = images_then })
+      → AnswersCommand (record { records = records; image = i }) command now (Accepted reply) true (record { records = new; image = later }) (record { rows_before = left_rows; images_since = since; rows_then = rows_then; images_then = images_then })
   accepts new later since rows_then images_then rests goes_on during only same = record {
     next = Serving changed j;
     moves = (changed, j, ruled, rests, change.keeps, refl);
@@ -247,10 +246,10 @@ module _ (records : Records) (rows : Rows) (i : List ℕ) (size failures : ℕ) 
   pub in_doubt : (new : Records) (later : List ℕ) (since : List ℕ → Type 0) (rows_then : Rows → Type 0) (images_then : List ℕ → Type 0)
       → reply.is_repeat ≡ false
       → ((k : List ℕ) → since k → DiffersOnlyIn free i k) → ((r : Rows) → rows_then r → (form_of r ≡ InForm records) ⊎ (form_of r ≡ InForm changed)) → ((k : List ℕ) → images_then k → DiffersOnlyIn g j k)
-      → Serves (record { records = records; image = i }) command now (Failed StoreFailed) false (record { records = new; image = later }) (record { rows_before = left_rows; images_since = since; rows_then = rows_then; images_then = images_then })
+      → AnswersCommand (record { records = records; image = i }) command now (Failed StoreFailed) false (record { records = new; image = later }) (record { rows_before = left_rows; images_since = since; rows_then = rows_then; images_then = images_then })
   in_doubt new later since rows_then images_then first during either same = record {
     next = Shut records i (Some (command, now));
-    moves = (records, i, (subst (λ r. MayFail r (reads (state_in records i) command now) StoreFailed) (sym ruled) first, refl), tt, keeps_itself records i, refl);
+    moves = (records, i, (subst (λ r. MayFail r (deciding_keys (state_in records i) command now) StoreFailed) (sym ruled) first, refl), tt, keeps_itself records i, refl);
     is_at = tt;
     leaves = record {
       within = λ r k left w. before_commit records rows i size failures free is_ready left_rows left_images order volume store command now r k left (during k w);
@@ -273,7 +272,7 @@ pub register_adds : (records : Records) (i : List ℕ) (tld : List ℕ) (day now
 register_adds records i tld day now e = step_none (state_in records i) (Register tld day) now refl ∙ ap (registered (state_in records i) tld day now) e
 
 module _ (records : Records) (i : List ℕ) (size failures failures_then : ℕ) (free free_then : ℕ → Type 0) (order : IsInOrder records size failures free) (tld : List ℕ) (day : ℕ) where
-  pub registry_changes : IsGood records i → IsChange records i free (recorded_in.with_registry records tld day) i free
+  pub registry_changes : AreWholeOnVolume records i → IsChange records i free (recorded_in.with_registry records tld day) i free
   registry_changes good = record {
     good = good-with_registry records i tld day good;
     keeps = keeps-with_registry records i tld day;
@@ -290,25 +289,25 @@ module _ (records : Records) (i : List ℕ) (size failures failures_then : ℕ) 
 
 module _ (records : Records) (i : List ℕ) (whole : AreWhole records) (n : Name) where
   -- a place of the revision, in the records
-  pub place_is : (place : ℕ) → part_in (state_in records i) n place ≡ option_map (part_of i) (get records.parts (at_place (key_of n) place))
-  place_is place = get-map_values part_cmp (part_of i) records.parts (at_place (key_of n) place)
+  pub place_is : (place : ℕ) → revision_part (state_in records i) n place ≡ option_map (part_of i) (get records.parts (key_with_part (key_of n) place))
+  place_is place = get-map_values part_cmp (part_of i) records.parts (key_with_part (key_of n) place)
 
   some_of : (o : Option PartRecord) (kind : Kind) → is_part_of kind o ≡ true → is_some (option_map (part_of i) o) ≡ true
   some_of None kind h = cc
   some_of (Some p) kind h = refl
 
-  pub closed : (m : ℕ) → is_some (part_in (state_in records i) n (suc (suc m))) ≡ true → is_some (part_in (state_in records i) n (suc m)) ≡ true
-  closed m e = by (get records.parts (at_place (key_of n) (suc (suc m)))) refl (ap is_some (sym (place_is (suc (suc m)))) ∙ e)
+  pub closed : (m : ℕ) → is_some (revision_part (state_in records i) n (suc (suc m))) ≡ true → is_some (revision_part (state_in records i) n (suc m)) ≡ true
+  closed m e = by (get records.parts (key_with_part (key_of n) (suc (suc m)))) refl (ap is_some (sym (place_is (suc (suc m)))) ∙ e)
     where
-      by : (o : Option PartRecord) → get records.parts (at_place (key_of n) (suc (suc m))) ≡ o → is_some (option_map (part_of i) o) ≡ true → is_some (part_in (state_in records i) n (suc m)) ≡ true
+      by : (o : Option PartRecord) → get records.parts (key_with_part (key_of n) (suc (suc m))) ≡ o → is_some (option_map (part_of i) o) ≡ true → is_some (revision_part (state_in records i) n (suc m)) ≡ true
       by None at h = cc
-      by (Some p) at h = ap is_some (place_is (suc m)) ∙ some_of _ p.kind (whole.linked.series (at_place (key_of n) (suc (suc m))) p at m refl)
+      by (Some p) at h = ap is_some (place_is (suc m)) ∙ some_of _ p.kind (whole.linked.series (key_with_part (key_of n) (suc (suc m))) p at m refl)
 
 -- ---- a new part
 
 -- what none of the refusals of a new part tells
 module _ (records : Records) (i : List ℕ) (whole : AreWhole records) (text bytes : List ℕ) (now : ℕ) (n : Name) (named : read_name text ≡ Ok n) (empty_place : get records.parts (key_of n) ≡ None)
-    (ruled : step (state_in records i) (Receive text bytes) now ≡ Accept (record { entry = OfPart (key_of n) (received_part n bytes now); is_repeat = false }) (with_part (state_in records i) (key_of n) (received_part n bytes now))) where
+    (ruled : step (state_in records i) (Receive text bytes) now ≡ Accept (record { entry = OfPart (key_of n) (received_part n bytes now); is_repeat = false }) (state_with_part (state_in records i) (key_of n) (received_part n bytes now))) where
   none_stand : NoneStands (state_in records i) n bytes now
   none_stand = let r = receives (state_in records i) text bytes now _ _ ruled in
       subst (λ (m : Name). NoneStands (state_in records i) m bytes now) (one r.name n (read_name text) r.named named) r.none
@@ -323,14 +322,14 @@ module _ (records : Records) (i : List ℕ) (whole : AreWhole records) (text byt
       not_none None e = cc
       not_none (Some d) e = refl
 
-  is_new_name : is_none (recorded (state_in records i) n) ≡ true
-  is_new_name = ap (λ o. is_none (option_and_then (of_kind n.kind) o)) (get-map_values part_cmp (part_of i) records.parts (key_of n) ∙ ap (option_map (part_of i)) empty_place)
+  is_new_name : is_none (part_under_name (state_in records i) n) ≡ true
+  is_new_name = ap (λ o. is_none (option_and_then (part_of_kind n.kind) o)) (get-map_values part_cmp (part_of i) records.parts (key_of n) ∙ ap (option_map (part_of i)) empty_place)
 
-  series : (m : ℕ) → n.part ≡ suc (suc m) → is_part_of n.kind (get records.parts (at_place (key_of n) (suc m))) ≡ true
+  series : (m : ℕ) → n.part ≡ suc (suc m) → is_part_of n.kind (get records.parts (key_with_part (key_of n) (suc m))) ≡ true
   series m e =
-      let count = counted_to (is_none (recorded (state_in records i) n)) is_new_name _ none_stand.order in
-      let taken = prior_taken (λ place. is_some (part_in (state_in records i) n place)) (closed records i whole n) n.part m ((Decides-eqb _ _).0 count) e in
-      by (get records.parts (at_place (key_of n) (suc m))) refl (ap is_some (sym (place_is records i whole n (suc m))) ∙ taken.0) taken.1
+      let count = counted_to (is_none (part_under_name (state_in records i) n)) is_new_name _ none_stand.order in
+      let taken = prior_taken (λ place. is_some (revision_part (state_in records i) n place)) (closed records i whole n) n.part m ((Decides-eqb _ _).0 count) e in
+      by (get records.parts (key_with_part (key_of n) (suc m))) refl (ap is_some (sym (place_is records i whole n (suc m))) ∙ taken.0) taken.1
     where
       counted_to : (b : Bool) → b ≡ true → (t : Bool) → (b && not t) ≡ false → t ≡ true
       counted_to true e true h = refl
@@ -341,19 +340,19 @@ module _ (records : Records) (i : List ℕ) (whole : AreWhole records) (text byt
       second true e t h = h
       second false e t h = cc
 
-      by : (o : Option PartRecord) → get records.parts (at_place (key_of n) (suc m)) ≡ o → is_some (option_map (part_of i) o) ≡ true → m < 8 → is_part_of n.kind o ≡ true
+      by : (o : Option PartRecord) → get records.parts (key_with_part (key_of n) (suc m)) ≡ o → is_some (option_map (part_of i) o) ≡ true → m < 8 → is_part_of n.kind o ≡ true
       by None at h lt = cc
       by (Some prior) at h lt = by_kind (is_same_kind prior.kind n.kind) refl
         where
           by_kind : (t : Bool) → is_same_kind prior.kind n.kind ≡ t → t ≡ true
           by_kind true k = refl
           by_kind false k =
-              let other : has_other_kind n.kind (part_in (state_in records i) n (suc m)) ≡ true = ap (has_other_kind n.kind) (place_is records i whole n (suc m) ∙ ap (option_map (part_of i)) at) ∙ ap not k in
-              let some : list_any (λ place. has_other_kind n.kind (part_in (state_in records i) n place)) places ≡ true = place_passes (λ place. has_other_kind n.kind (part_in (state_in records i) n place)) places (suc m) (is_place m lt) other in
-              let none : list_any (λ place. has_other_kind n.kind (part_in (state_in records i) n place)) places ≡ false = second (is_none (recorded (state_in records i) n)) is_new_name _ none_stand.kind in cc
+              let other : has_other_kind n.kind (revision_part (state_in records i) n (suc m)) ≡ true = ap (has_other_kind n.kind) (place_is records i whole n (suc m) ∙ ap (option_map (part_of i)) at) ∙ ap not k in
+              let some : list_any (λ place. has_other_kind n.kind (revision_part (state_in records i) n place)) part_numbers ≡ true = place_passes (λ place. has_other_kind n.kind (revision_part (state_in records i) n place)) part_numbers (suc m) (is_place m lt) other in
+              let none : list_any (λ place. has_other_kind n.kind (revision_part (state_in records i) n place)) part_numbers ≡ false = second (is_none (part_under_name (state_in records i) n)) is_new_name _ none_stand.kind in cc
 
   due : 0 < n.rev → has_notice records.notices n.tld n.day (is_failure_of (n.rev - 1)) ≡ true
-  due lt = by (is_none (recorded (state_in records i) n)) is_new_name _ (nat_lt 0 n.rev) (Decides-ltb 0 n.rev).1 _ none_stand.due
+  due lt = by (is_none (part_under_name (state_in records i) n)) is_new_name _ (nat_lt 0 n.rev) (Decides-ltb 0 n.rev).1 _ none_stand.due
     where
       by : (b : Bool) → b ≡ true → (r s : Bool) → (0 < n.rev → s ≡ true) → (t : Bool) → (b && (r || (s && not t))) ≡ false → t ≡ true
       by b e r s p t h = of b e r s (p lt) t h
@@ -373,7 +372,7 @@ module _ (records : Records) (i : List ℕ) (whole : AreWhole records) (text byt
       sized len e = (grind (arith, nat_tests), grind (arith, nat_tests))
 
   -- nothing is read of it
-  pub reads_nothing : reads (state_in records i) (Receive text bytes) now ≡ []
+  pub reads_nothing : deciding_keys (state_in records i) (Receive text bytes) now ≡ []
   reads_nothing = let r = step_accepts (state_in records i) (Receive text bytes) now _ _ ruled in reads_accepted (state_in records i) text bytes now r.0
 
   module _ (size failures : ℕ) (free : ℕ → Type 0) (kept_order : IsInOrder records size failures free) (g : ℕ → Type 0) (staged : StagedPart) (p : IsPlaced size free g bytes staged) where
@@ -390,8 +389,8 @@ module _ (records : Records) (i : List ℕ) (whole : AreWhole records) (text byt
     }
 
     -- a block that a part names then is one of those before, or of the new part
-    named_then : (b : ℕ) → IsNamed (recorded_in.with_part records (key_of n) (staged_record n now staged)) b → IsNamed records b ⊎ IsInAny staged.extents b
-    named_then b is = inserted records.parts (key_of n) (staged_record n now staged) (λ q r. AreNaming r.extents b → IsNamed records b ⊎ IsInAny staged.extents b) (λ within. inr within) (λ q r at within. inl (q, r, at, within)) is.0 is.1 is.2 is.3
+    named_then : (b : ℕ) → IsPartBlock (recorded_in.with_part records (key_of n) (staged_record n now staged)) b → IsPartBlock records b ⊎ IsInAny staged.extents b
+    named_then b is = inserted records.parts (key_of n) (staged_record n now staged) (λ q r. HaveBlock r.extents b → IsPartBlock records b ⊎ IsInAny staged.extents b) (λ within. inr within) (λ q r at within. inl (q, r, at, within)) is.0 is.1 is.2 is.3
 
     -- the blocks that are free then are those that may be placed
     pub part_in_order : (failures_then : ℕ) → failures_then < 2 ^ 64 - 1 → IsInOrder (recorded_in.with_part records (key_of n) (staged_record n now staged)) size failures_then g
@@ -405,18 +404,18 @@ module _ (records : Records) (i : List ℕ) (whole : AreWhole records) (text byt
         to : (b : ℕ) → g b → IsPlaceable (recorded_in.with_part records (key_of n) (staged_record n now staged)) b
         to b f = let was = (kept_order.placeable b).0 ((p.taken b).0 f).0 in (was.0, was.1, λ is. elim (named_then b is) [ inl before ↦ was.2 before | inr within ↦ ((p.taken b).0 f).1 within ])
 
-        still : (m : ℕ) → IsNamed records m → IsNamed (recorded_in.with_part records (key_of n) (staged_record n now staged)) m
+        still : (m : ℕ) → IsPartBlock records m → IsPartBlock (recorded_in.with_part records (key_of n) (staged_record n now staged)) m
         still m is = (is.0, is.1, part_still records.parts (key_of n) (staged_record n now staged) empty_place is.0 is.1 is.2, is.3)
 
         from : (b : ℕ) → IsPlaceable (recorded_in.with_part records (key_of n) (staged_record n now staged)) b → g b
         from b q = (p.taken b).1 ((kept_order.placeable b).1 (q.0, q.1, λ is. q.2 (still b is))) (λ within. q.2 (key_of n, staged_record n now staged, insert_here part_total records.parts (key_of n) (staged_record n now staged), within))
 
-    module _ (volume : IsVolumeOf records i) (j : List ℕ) (images_then : List ℕ → Type 0) (s : IsSettled i j free images_then bytes staged) where
+    module _ (volume : IsVolumeOf records i) (j : List ℕ) (images_then : List ℕ → Type 0) (s : IsDurable i j free images_then bytes staged) where
       -- the state after the command
-      pub state_then : state_in (recorded_in.with_part records (key_of n) (staged_record n now staged)) j ≡ with_part (state_in records i) (key_of n) (received_part n bytes now)
+      pub state_then : state_in (recorded_in.with_part records (key_of n) (staged_record n now staged)) j ≡ state_with_part (state_in records i) (key_of n) (received_part n bytes now)
       state_then = state_in-with_part records j (key_of n) (staged_record n now staged)
-          ∙ ap (λ b. with_part (state_in records j) (key_of n) (record { kind = n.kind; received = now; content = Held b })) s.holds
-          ∙ ap (λ z. with_part z (key_of n) (received_part n bytes now)) (state_in-elsewhere free records i j s.elsewhere (named_used records size failures free kept_order))
+          ∙ ap (λ b. state_with_part (state_in records j) (key_of n) (record { kind = n.kind; received = now; content = Held b })) s.holds
+          ∙ ap (λ z. state_with_part z (key_of n) (received_part n bytes now)) (state_in-elsewhere free records i j s.elsewhere (named_used records size failures free kept_order))
 
       pub part_changes : IsChange records i free (recorded_in.with_part records (key_of n) (staged_record n now staged)) j g
       part_changes = record {
@@ -429,7 +428,7 @@ module _ (records : Records) (i : List ℕ) (whole : AreWhole records) (text byt
         moved = s.elsewhere;
       }
         where
-          by : (b : ℕ) → g b → IsNamed records b ⊎ IsInAny staged.extents b → ⊥
+          by : (b : ℕ) → g b → IsPartBlock records b ⊎ IsInAny staged.extents b → ⊥
           by b f (inl is) = named_used records size failures free kept_order b is ((p.taken b).0 f).0
           by b f (inr within) = ((p.taken b).0 f).1 within
 

@@ -12,7 +12,7 @@ use Rattle.std.proofs.lemmas.Bool.Decides.{Decides-eqb}
 use Rattle.std.proofs.lemmas.Option.{cond_some}
 use Rattle.schedule.specs.Schedule.{day_of}
 use Rattle.deposit_name.specs.declared.kinds.Kind.{Kind}
-use Rattle.deposit_name.specs.Name.{Name}
+use Rattle.deposit_name.specs.Name.{Name, is_same_kind}
 use Rattle.deposit_verify.specs.declared.verdict.Verdict.{Verdict}
 use Rattle.desk.specs.declared.grounds.Ground.{Ground}
 use Rattle.deposit_verify.specs.declared.verdict.Verdict.TheVariants.{Pass, Fail}
@@ -21,14 +21,13 @@ use Rattle.custody_records.specs.Keys.{text_cmp, PartKey, part_cmp, NoticeKey}
 use Rattle.custody_records.specs.Records as kept_in
 use Rattle.custody_records.specs.Records.{Notice, key_of, lifted_at, new_hold}
 use Rattle.custody_machine.specs.declared.command.Statement as statement
-use Rattle.custody_machine.specs.Names.{read_name}
-use Rattle.custody_machine.specs.SameValues.{is_same_kind}
-use Rattle.custody_machine.specs.State.{State, Part, Held, places, at_place, is_notice_of, has_notice}
-use Rattle.custody_machine.specs.Machine.{Check, Release, Hold, Lift, Purge, OfRelease, OfHold, OfLifting, OfPurge, kept_hold, lifting_of, with_hold, kept_release, without_bytes, is_due, dropped_if_due, count_due, without_due, absence_of, absence_notice, is_absence, is_unknown, OfNotice, first_part, if_of_id, has_id, is_verdict_of, verdict_told, has_verdict, are_as_stated, kept_verdict, with_notice, next_key, verdict_notice, notice_kind, verdict_on, Command, Register, Receive, Statement, Record, OfRegistry, OfPart, Reply, Outcome, Refuse, Accept, first_day_of, part_at, recorded, has_other_kind, part_in, with_registry, with_part, with_release, received_part, kept, step, state_of, HasRecord, is_unregistered, is_out_of_size}
-use Rattle.custody_machine.specs.Retries.{key, IsKeptAs, StillHas, KeepsRecords, NothingIsRemoved}
+use Rattle.custody_machine.specs.NameReading.{read_name}
+use Rattle.custody_machine.specs.State.{State, Part, Held, part_numbers, key_with_part, is_notice_of, has_notice}
+use Rattle.custody_machine.specs.Machine.{Check, Release, Hold, Lift, Purge, OfRelease, OfHold, OfLifting, OfPurge, kept_hold, lifting_of, state_with_hold, kept_release, without_bytes, is_due_part, part_dropped_if_due, count_due, state_without_due, absence_of, absence_notice, is_absence, is_tld_unregistered, OfNotice, first_part, if_of_id, has_id, is_verdict_of, recorded_verdict, has_verdict, are_parts_as_stated, kept_verdict, state_with_notice, next_key, verdict_notice, notice_kind, verdict_on, Command, Register, Receive, Statement, Record, OfRegistry, OfPart, Reply, Step, Refuse, Accept, first_day_of, part_at, part_under_name, has_other_kind, revision_part, state_with_registry, state_with_part, state_with_release, received_part, kept_record, step, state_of, HasRecord, is_unregistered, is_out_of_size}
+use Rattle.custody_machine.specs.Retries.{command_key, IsKeptAs, StillHas, KeepsRecords, NothingIsRemoved}
 use Rattle.custody_machine.proofs.MapValues.{get-map_keyed}
 use Rattle.custody_machine.proofs.SameValues.{text_decides}
-use Rattle.custody_records.specs.Orders.{text_total, part_total, part_exact, notice_total}
+use Rattle.custody_records.specs.inside.Orders.{text_total, part_total, part_exact, notice_total}
 use Rattle.custody_machine.proofs.Entries.{passes_found, any_of_found, found_where_any, get_found, find_insert, next_is_new}
 use Rattle.custody_machine.proofs.Stated.{NoneStandsOf, stated_by, IsStated, accepts_statement}
 use Rattle.custody_machine.proofs.Checked.{missed_by, accepts_check}
@@ -50,43 +49,43 @@ still s entry has = (entry, has, kept_itself entry)
 pub keeps_itself : (s : State) → KeepsRecords s s
 keeps_itself = still
 
-pub keeps_registering : (s : State) (tld : List ℕ) (day : ℕ) → first_day_of s tld ≡ None → KeepsRecords s (with_registry s tld day)
-keeps_registering s tld day none (OfRegistry q x) e = still (with_registry s tld day) (OfRegistry q x) (insert_new text_total s.registries tld day q x none e)
-keeps_registering s tld day none entry e = still (with_registry s tld day) entry e
+pub keeps_registering : (s : State) (tld : List ℕ) (day : ℕ) → first_day_of s tld ≡ None → KeepsRecords s (state_with_registry s tld day)
+keeps_registering s tld day none (OfRegistry q x) e = still (state_with_registry s tld day) (OfRegistry q x) (insert_new text_total s.registries tld day q x none e)
+keeps_registering s tld day none entry e = still (state_with_registry s tld day) entry e
 
-pub keeps_adding : (s : State) (key : PartKey) (part : Part) → part_at s key ≡ None → KeepsRecords s (with_part s key part)
-keeps_adding s key part none (OfPart q x) e = still (with_part s key part) (OfPart q x) (insert_new part_total s.parts key part q x none e)
-keeps_adding s key part none entry e = still (with_part s key part) entry e
+pub keeps_adding : (s : State) (key : PartKey) (part : Part) → part_at s key ≡ None → KeepsRecords s (state_with_part s key part)
+keeps_adding s key part none (OfPart q x) e = still (state_with_part s key part) (OfPart q x) (insert_new part_total s.parts key part q x none e)
+keeps_adding s key part none entry e = still (state_with_part s key part) entry e
 
-pub keeps_noticing : (s : State) (key : NoticeKey) (notice : Notice) → get s.notices key ≡ None → KeepsRecords s (with_notice s key notice)
-keeps_noticing s key notice none (OfNotice q x) e = still (with_notice s key notice) (OfNotice q x) (insert_new notice_total s.notices key notice q x none e)
-keeps_noticing s key notice none entry e = still (with_notice s key notice) entry e
+pub keeps_noticing : (s : State) (key : NoticeKey) (notice : Notice) → get s.notices key ≡ None → KeepsRecords s (state_with_notice s key notice)
+keeps_noticing s key notice none (OfNotice q x) e = still (state_with_notice s key notice) (OfNotice q x) (insert_new notice_total s.notices key notice q x none e)
+keeps_noticing s key notice none entry e = still (state_with_notice s key notice) entry e
 
-pub keeps_releasing : (s : State) (reference : List ℕ) (release : kept_in.Release) → get s.releases reference ≡ None → KeepsRecords s (with_release s reference release)
-keeps_releasing s reference release none (OfRelease q x) e = still (with_release s reference release) (OfRelease q x) (insert_new text_total s.releases reference release q x none e)
-keeps_releasing s reference release none entry e = still (with_release s reference release) entry e
+pub keeps_releasing : (s : State) (reference : List ℕ) (release : kept_in.Release) → get s.releases reference ≡ None → KeepsRecords s (state_with_release s reference release)
+keeps_releasing s reference release none (OfRelease q x) e = still (state_with_release s reference release) (OfRelease q x) (insert_new text_total s.releases reference release q x none e)
+keeps_releasing s reference release none entry e = still (state_with_release s reference release) entry e
 
-pub keeps_holding : (s : State) (reference : List ℕ) (hold : kept_in.Hold) → get s.holds reference ≡ None → KeepsRecords s (with_hold s reference hold)
+pub keeps_holding : (s : State) (reference : List ℕ) (hold : kept_in.Hold) → get s.holds reference ≡ None → KeepsRecords s (state_with_hold s reference hold)
 keeps_holding s reference hold none (OfHold q x) e = hold_stays s reference hold none q x e
 keeps_holding s reference hold none (OfLifting q at) e = lifting_stays s reference hold none q at e
-keeps_holding s reference hold none entry e = still (with_hold s reference hold) entry e
+keeps_holding s reference hold none entry e = still (state_with_hold s reference hold) entry e
 
-pub keeps_lifting : (s : State) (reference : List ℕ) (hold : kept_in.Hold) (now : ℕ) → get s.holds reference ≡ Some hold → hold.lifted ≡ None → KeepsRecords s (with_hold s reference (lifted_at now hold))
+pub keeps_lifting : (s : State) (reference : List ℕ) (hold : kept_in.Hold) (now : ℕ) → get s.holds reference ≡ Some hold → hold.lifted ≡ None → KeepsRecords s (state_with_hold s reference (lifted_at now hold))
 keeps_lifting s reference hold now there standing (OfHold q x) e = held_stays s reference hold now there standing q x e
 keeps_lifting s reference hold now there standing (OfLifting q at) e = lifted_stays s reference hold now there standing q at e
-keeps_lifting s reference hold now there standing entry e = still (with_hold s reference (lifted_at now hold)) entry e
+keeps_lifting s reference hold now there standing entry e = still (state_with_hold s reference (lifted_at now hold)) entry e
 
 -- of each part its bytes may be dropped, and nothing else
-pub keeps_dropping : (s : State) (today : ℕ) → KeepsRecords s (without_due s today)
-keeps_dropping s today (OfPart key part) e = (OfPart key (dropped_if_due s.holds today key part), get-map_keyed part_cmp part_exact (dropped_if_due s.holds today) s.parts key ∙ ap (option_map (dropped_if_due s.holds today key)) e, by (is_due s.holds today key part))
+pub keeps_dropping : (s : State) (today : ℕ) → KeepsRecords s (state_without_due s today)
+keeps_dropping s today (OfPart key part) e = (OfPart key (part_dropped_if_due s.holds today key part), get-map_keyed part_cmp part_exact (part_dropped_if_due s.holds today) s.parts key ∙ ap (option_map (part_dropped_if_due s.holds today key)) e, by (is_due_part s.holds today key part))
   where
     by : (b : Bool) → IsKeptAs (OfPart key part) (OfPart key (cond b (without_bytes part) part))
     by true = inr refl
     by false = inl refl
-keeps_dropping s today entry e = still (without_due s today) entry e
+keeps_dropping s today entry e = still (state_without_due s today) entry e
 
 -- what a purge does
-pub purges : (s : State) (now : ℕ) (reply : Reply) (new : State) → step s Purge now ≡ Accept reply new → (record { entry = OfPurge (count_due s (day_of now)); is_repeat = false } ≡ reply) × (without_due s (day_of now) ≡ new)
+pub purges : (s : State) (now : ℕ) (reply : Reply) (new : State) → step s Purge now ≡ Accept reply new → (record { entry = OfPurge (count_due s (day_of now)); is_repeat = false } ≡ reply) × (state_without_due s (day_of now) ≡ new)
 purges s now reply new e = accept_inj _ _ _ _ (step_accepts s Purge now reply new e).1
 
 pub step_keeps : (s : State) (c : Command) (now : ℕ) (reply : Reply) (new : State) → step s c now ≡ Accept reply new → KeepsRecords s new
@@ -95,12 +94,12 @@ step_keeps s (Register tld day) now reply new e = by (first_day_of s tld) refl (
     by : (o : Option ℕ) → first_day_of s tld ≡ o → registered s tld day now o ≡ Accept reply new → KeepsRecords s new
     by (Some kept) at e = subst (KeepsRecords s) (accept_inj _ _ _ _ e).1 (keeps_itself s)
     by None at e = subst (KeepsRecords s) (accept_inj _ _ _ _ e).1 (keeps_registering s tld day at)
-step_keeps s (Receive text bytes) now reply new e = let r = receives s text bytes now reply new e in by r (recorded s r.name) refl r.outcome
+step_keeps s (Receive text bytes) now reply new e = let r = receives s text bytes now reply new e in by r (part_under_name s r.name) refl r.outcome
   where
-    by : (r : Receives s text bytes now reply new) (o : Option Part) → recorded s r.name ≡ o → answered s r.name bytes now o ≡ Accept reply new → KeepsRecords s new
+    by : (r : Receives s text bytes now reply new) (o : Option Part) → part_under_name s r.name ≡ o → answered s r.name bytes now o ≡ Accept reply new → KeepsRecords s new
     by r (Some kept) at e = subst (KeepsRecords s) (accept_inj _ _ _ _ e).1 (keeps_itself s)
     by r None at e = subst (KeepsRecords s) (accept_inj _ _ _ _ e).1 (keeps_adding s (key_of r.name) _
-        (place_is_empty s text r.name r.named at (ap (λ o. is_none o && list_any (λ place. has_other_kind r.name.kind (part_in s r.name place)) places) (sym at) ∙ r.none.kind)))
+        (place_is_empty s text r.name r.named at (ap (λ o. is_none o && list_any (λ place. has_other_kind r.name.kind (revision_part s r.name place)) part_numbers) (sym at) ∙ r.none.kind)))
 step_keeps s (Statement stated) now reply new e = let r = accepts_statement s stated now reply new e in by (kept_verdict s stated) r.outcome
   where
     by : (o : Option (NoticeKey × Notice)) → stated_by s stated now o ≡ Accept reply new → KeepsRecords s new
@@ -131,7 +130,7 @@ step_keeps s Purge now reply new e = subst (KeepsRecords s) (purges s now reply 
 pub nothing_is_removed : NothingIsRemoved
 nothing_is_removed old command now = by (step old command now) refl
   where
-    by : (r : Outcome) → step old command now ≡ r → KeepsRecords old (state_of old r)
+    by : (r : Step) → step old command now ≡ r → KeepsRecords old (state_of old r)
     by (Refuse q) e = keeps_itself old
     by (Accept reply new) e = step_keeps old command now reply new e
 
@@ -200,14 +199,14 @@ pub record KeepsAbsence (s : State) (tld : List ℕ) (day : ℕ) (entry : Record
   pub kept : NoticeKey × Notice
   pub found : absence_of s tld day ≡ Some kept
   pub made : entry ≡ OfNotice kept.0 kept.1
-  pub registry : is_unknown s tld ≡ false
+  pub registry : is_tld_unregistered s tld ≡ false
 
 -- what is kept of a release that was accepted
 pub record KeepsRelease (s : State) (reference tld : List ℕ) (reason : Ground) (entry : Record) : Type 0 where
   pub kept : kept_in.Release
   pub found : kept_release s reference tld reason ≡ Some kept
   pub made : entry ≡ OfRelease reference kept
-  pub registry : is_unknown s tld ≡ false
+  pub registry : is_tld_unregistered s tld ≡ false
 
 -- what is kept of a hold that was accepted: it was told as it was then
 pub record KeepsHold (s : State) (reference tld : List ℕ) (day : ℕ) (entry : Record) : Type 0 where
@@ -216,22 +215,22 @@ pub record KeepsHold (s : State) (reference tld : List ℕ) (day : ℕ) (entry :
   pub found : kept_hold s reference tld day ≡ Some kept
   pub made : entry ≡ OfHold reference told
   pub same : IsKeptHold told kept
-  pub registry : is_unknown s tld ≡ false
+  pub registry : is_tld_unregistered s tld ≡ false
 
 -- what a verdict that is kept tells: the parts are as stated, it is the one of the revision, and it has the id
-pub kept_tells : (s : State) (st : statement.Statement) (kept : NoticeKey × Notice) → kept_verdict s st ≡ Some kept → (are_as_stated s st ≡ true) × (verdict_told s st ≡ Some kept) × (has_id st.id kept.1.kind ≡ true)
-kept_tells s st kept e = by (are_as_stated s st) refl e
+pub kept_tells : (s : State) (st : statement.Statement) (kept : NoticeKey × Notice) → kept_verdict s st ≡ Some kept → (are_parts_as_stated s st ≡ true) × (recorded_verdict s st ≡ Some kept) × (has_id st.id kept.1.kind ≡ true)
+kept_tells s st kept e = by (are_parts_as_stated s st) refl e
   where
     by_id : (o : Option (NoticeKey × Notice)) → option_and_then (if_of_id st.id) o ≡ Some kept → (o ≡ Some kept) × (has_id st.id kept.1.kind ≡ true)
     by_id None e = cc
     by_id (Some found) e = let h = cond_some (has_id st.id found.1.kind) found kept e in (ap Some h.1, ap (λ (x : NoticeKey × Notice). has_id st.id x.1.kind) (sym h.1) ∙ h.0)
 
-    by : (b : Bool) → are_as_stated s st ≡ b → (if b then option_and_then (if_of_id st.id) (verdict_told s st) else None) ≡ Some kept → (are_as_stated s st ≡ true) × (verdict_told s st ≡ Some kept) × (has_id st.id kept.1.kind ≡ true)
-    by true t e = let h = by_id (verdict_told s st) e in (t, h.0, h.1)
+    by : (b : Bool) → are_parts_as_stated s st ≡ b → (if b then option_and_then (if_of_id st.id) (recorded_verdict s st) else None) ≡ Some kept → (are_parts_as_stated s st ≡ true) × (recorded_verdict s st ≡ Some kept) × (has_id st.id kept.1.kind ≡ true)
+    by true t e = let h = by_id (recorded_verdict s st) e in (t, h.0, h.1)
     by false t e = cc
 
-pub kept_of : (s : State) (st : statement.Statement) (kept : NoticeKey × Notice) → are_as_stated s st ≡ true → verdict_told s st ≡ Some kept → has_id st.id kept.1.kind ≡ true → kept_verdict s st ≡ Some kept
-kept_of s st kept as_stated told has = ap (λ b. if b then option_and_then (if_of_id st.id) (verdict_told s st) else None) as_stated ∙ ap (option_and_then (if_of_id st.id)) told ∙ ap (λ b. if b then Some kept else None) has
+pub kept_of : (s : State) (st : statement.Statement) (kept : NoticeKey × Notice) → are_parts_as_stated s st ≡ true → recorded_verdict s st ≡ Some kept → has_id st.id kept.1.kind ≡ true → kept_verdict s st ≡ Some kept
+kept_of s st kept as_stated told has = ap (λ b. if b then option_and_then (if_of_id st.id) (recorded_verdict s st) else None) as_stated ∙ ap (option_and_then (if_of_id st.id)) told ∙ ap (λ b. if b then Some kept else None) has
 
 -- the first notice of a day that passes a test is one of the day's
 pub first_is_there : (s : State) (tld : List ℕ) (day : ℕ) (test : NoticeKind → Bool) (found : NoticeKey × Notice) → list.find (is_notice_of tld day test) (entries s.notices) ≡ Some found
@@ -241,25 +240,25 @@ first_is_there s tld day test found e = (
   any_of_found (is_notice_of tld day test) (is_notice_of tld day test) (entries s.notices) found e (passes_found (is_notice_of tld day test) (entries s.notices) found e),
 )
 
-pub told_is_there : (s : State) (st : statement.Statement) (kept : NoticeKey × Notice) → verdict_told s st ≡ Some kept → (get s.notices kept.0 ≡ Some kept.1) × (has_verdict s st ≡ true)
+pub told_is_there : (s : State) (st : statement.Statement) (kept : NoticeKey × Notice) → recorded_verdict s st ≡ Some kept → (get s.notices kept.0 ≡ Some kept.1) × (has_verdict s st ≡ true)
 told_is_there s st kept e = first_is_there s st.tld st.day (is_verdict_of st.rev) kept e
 
 -- parts at the same places, of the same kinds, are as stated alike
-pub as_stated_alike : (s t : State) (st : statement.Statement) → ((place : ℕ) → is_some (part_in t (first_part st) place) ≡ is_some (part_in s (first_part st) place))
-    → ((place : ℕ) → has_other_kind st.kind (part_in t (first_part st) place) ≡ has_other_kind st.kind (part_in s (first_part st) place)) → are_as_stated t st ≡ are_as_stated s st
-as_stated_alike s t st there kinds = λ i. not (list_any (λ place. kinds place i) places)
-    && not ((count_by (λ place. there place i) places == 0) || not (count_by (λ place. there place i) places == st.parts))
+pub as_stated_alike : (s t : State) (st : statement.Statement) → ((place : ℕ) → is_some (revision_part t (first_part st) place) ≡ is_some (revision_part s (first_part st) place))
+    → ((place : ℕ) → has_other_kind st.kind (revision_part t (first_part st) place) ≡ has_other_kind st.kind (revision_part s (first_part st) place)) → are_parts_as_stated t st ≡ are_parts_as_stated s st
+as_stated_alike s t st there kinds = λ i. not (list_any (λ place. kinds place i) part_numbers)
+    && not ((count_by (λ place. there place i) part_numbers == 0) || not (count_by (λ place. there place i) part_numbers == st.parts))
 
-pub same_as_stated : (s t : State) (st : statement.Statement) → ((place : ℕ) → part_in t (first_part st) place ≡ part_in s (first_part st) place) → are_as_stated t st ≡ are_as_stated s st
+pub same_as_stated : (s t : State) (st : statement.Statement) → ((place : ℕ) → revision_part t (first_part st) place ≡ revision_part s (first_part st) place) → are_parts_as_stated t st ≡ are_parts_as_stated s st
 same_as_stated s t st e = as_stated_alike s t st (λ place. ap is_some (e place)) (λ place. ap (has_other_kind st.kind) (e place))
 
 -- a part of another revision is no part of this one
-pub part_elsewhere : (s : State) (key : PartKey) (part : Part) (st : statement.Statement) → ((key.tld ≡ st.tld) → (key.day ≡ st.day) → (key.rev ≡ st.rev) → ⊥) → (place : ℕ) → part_in (with_part s key part) (first_part st) place ≡ part_in s (first_part st) place
-part_elsewhere s key part st other place = get-insert part_total s.parts key part (at_place (key_of (first_part st)) place) ∙ by (at_place (key_of (first_part st)) place) (λ e. e) (eq_by_cmp part_cmp (at_place (key_of (first_part st)) place) key) refl
+pub part_elsewhere : (s : State) (key : PartKey) (part : Part) (st : statement.Statement) → ((key.tld ≡ st.tld) → (key.day ≡ st.day) → (key.rev ≡ st.rev) → ⊥) → (place : ℕ) → revision_part (state_with_part s key part) (first_part st) place ≡ revision_part s (first_part st) place
+part_elsewhere s key part st other place = get-insert part_total s.parts key part (key_with_part (key_of (first_part st)) place) ∙ by (key_with_part (key_of (first_part st)) place) (λ e. e) (eq_by_cmp part_cmp (key_with_part (key_of (first_part st)) place) key) refl
   where
-    by : (q : PartKey) → (q ≡ key → at_place (key_of (first_part st)) place ≡ key) → (b : Bool) → eq_by_cmp part_cmp q key ≡ b → cond b (Some part) (get s.parts q) ≡ get s.parts q
+    by : (q : PartKey) → (q ≡ key → key_with_part (key_of (first_part st)) place ≡ key) → (b : Bool) → eq_by_cmp part_cmp q key ≡ b → cond b (Some part) (get s.parts q) ≡ get s.parts q
     by q is true t =
-        let same : at_place (key_of (first_part st)) place ≡ key = is (part_exact q key ((Equal-is (part_cmp q key)).0 t)) in
+        let same : key_with_part (key_of (first_part st)) place ≡ key = is (part_exact q key ((Equal-is (part_cmp q key)).0 t)) in
         absurd (other (ap (λ (k : PartKey). k.tld) (sym same)) (ap (λ (k : PartKey). k.day) (sym same)) (ap (λ (k : PartKey). k.rev) (sym same)))
     by q is false t = refl
 
@@ -280,13 +279,13 @@ pub record Continues (s new : State) : Type 0 where
 pub continues_itself : (s : State) → Continues s s
 continues_itself s = record { records = keeps_itself s; verdicts = λ st kept e. e; absences = λ tld day kept e. e }
 
-pub continues_adding : (s : State) (text bytes : List ℕ) (now : ℕ) (name : Name) → NoneStands s name bytes now → recorded s name ≡ None → KeepsRecords s (with_part s (key_of name) (received_part name bytes now)) → Continues s (with_part s (key_of name) (received_part name bytes now))
+pub continues_adding : (s : State) (text bytes : List ℕ) (now : ℕ) (name : Name) → NoneStands s name bytes now → part_under_name s name ≡ None → KeepsRecords s (state_with_part s (key_of name) (received_part name bytes now)) → Continues s (state_with_part s (key_of name) (received_part name bytes now))
 continues_adding s text bytes now name none at records = record {
   records = records;
   verdicts = λ st kept e.
       let h = kept_tells s st kept e in
-      kept_of (with_part s (key_of name) (received_part name bytes now)) st kept
-      (same_as_stated s (with_part s (key_of name) (received_part name bytes now)) st (part_elsewhere s (key_of name) (received_part name bytes now) st (elsewhere st (told_is_there s st kept h.1).1)) ∙ h.0) h.1 h.2;
+      kept_of (state_with_part s (key_of name) (received_part name bytes now)) st kept
+      (same_as_stated s (state_with_part s (key_of name) (received_part name bytes now)) st (part_elsewhere s (key_of name) (received_part name bytes now) st (elsewhere st (told_is_there s st kept h.1).1)) ∙ h.0) h.1 h.2;
   absences = λ tld day kept e. e;
 }
   where
@@ -297,39 +296,39 @@ continues_adding s text bytes now name none at records = record {
     elsewhere st has a b c = let same : has_notice s.notices name.tld name.day (is_verdict_of name.rev) ≡ has_verdict s st = (λ i. has_notice s.notices (a i) (b i) (is_verdict_of (c i))) in
         let clash : true ≡ false = sym has ∙ sym same ∙ unstated in cc
 
-pub continues_releasing : (s : State) (reference : List ℕ) (release : kept_in.Release) → get s.releases reference ≡ None → Continues s (with_release s reference release)
+pub continues_releasing : (s : State) (reference : List ℕ) (release : kept_in.Release) → get s.releases reference ≡ None → Continues s (state_with_release s reference release)
 continues_releasing s reference release none = record { records = keeps_releasing s reference release none; verdicts = λ st kept e. e; absences = λ tld day kept e. e }
 
-pub continues_holding : (s : State) (reference : List ℕ) (hold : kept_in.Hold) → KeepsRecords s (with_hold s reference hold) → Continues s (with_hold s reference hold)
+pub continues_holding : (s : State) (reference : List ℕ) (hold : kept_in.Hold) → KeepsRecords s (state_with_hold s reference hold) → Continues s (state_with_hold s reference hold)
 continues_holding s reference hold records = record { records = records; verdicts = λ st kept e. e; absences = λ tld day kept e. e }
 
 -- a part without its bytes is of its kind
-pub kind_stays : (holds : FinMap text_cmp kept_in.Hold) (today : ℕ) (key : PartKey) (part : Part) → (dropped_if_due holds today key part).kind ≡ part.kind
-kind_stays holds today key part = by (is_due holds today key part)
+pub kind_stays : (holds : FinMap text_cmp kept_in.Hold) (today : ℕ) (key : PartKey) (part : Part) → (part_dropped_if_due holds today key part).kind ≡ part.kind
+kind_stays holds today key part = by (is_due_part holds today key part)
   where
     by : (b : Bool) → (cond b (without_bytes part) part).kind ≡ part.kind
     by true = refl
     by false = refl
 
-pub continues_dropping : (s : State) (today : ℕ) → Continues s (without_due s today)
+pub continues_dropping : (s : State) (today : ℕ) → Continues s (state_without_due s today)
 continues_dropping s today = record {
   records = keeps_dropping s today;
   verdicts = λ st kept e.
       let h = kept_tells s st kept e in
-      kept_of (without_due s today) st kept (as_stated_alike s (without_due s today) st
-      (λ place. ap is_some (after st place) ∙ there (at_place (key_of (first_part st)) place) (part_in s (first_part st) place))
-      (λ place. ap (has_other_kind st.kind) (after st place) ∙ of_kind st.kind (at_place (key_of (first_part st)) place) (part_in s (first_part st) place)) ∙ h.0) h.1 h.2;
+      kept_of (state_without_due s today) st kept (as_stated_alike s (state_without_due s today) st
+      (λ place. ap is_some (after st place) ∙ there (key_with_part (key_of (first_part st)) place) (revision_part s (first_part st) place))
+      (λ place. ap (has_other_kind st.kind) (after st place) ∙ of_kind st.kind (key_with_part (key_of (first_part st)) place) (revision_part s (first_part st) place)) ∙ h.0) h.1 h.2;
   absences = λ tld day kept e. e;
 }
   where
-    after : (st : statement.Statement) (place : ℕ) → part_in (without_due s today) (first_part st) place ≡ option_map (dropped_if_due s.holds today (at_place (key_of (first_part st)) place)) (part_in s (first_part st) place)
-    after st place = get-map_keyed part_cmp part_exact (dropped_if_due s.holds today) s.parts (at_place (key_of (first_part st)) place)
+    after : (st : statement.Statement) (place : ℕ) → revision_part (state_without_due s today) (first_part st) place ≡ option_map (part_dropped_if_due s.holds today (key_with_part (key_of (first_part st)) place)) (revision_part s (first_part st) place)
+    after st place = get-map_keyed part_cmp part_exact (part_dropped_if_due s.holds today) s.parts (key_with_part (key_of (first_part st)) place)
 
-    there : (key : PartKey) (o : Option Part) → is_some (option_map (dropped_if_due s.holds today key) o) ≡ is_some o
+    there : (key : PartKey) (o : Option Part) → is_some (option_map (part_dropped_if_due s.holds today key) o) ≡ is_some o
     there key None = refl
     there key (Some part) = refl
 
-    of_kind : (kind : Kind) (key : PartKey) (o : Option Part) → has_other_kind kind (option_map (dropped_if_due s.holds today key) o) ≡ has_other_kind kind o
+    of_kind : (kind : Kind) (key : PartKey) (o : Option Part) → has_other_kind kind (option_map (part_dropped_if_due s.holds today key) o) ≡ has_other_kind kind o
     of_kind kind key None = refl
     of_kind kind key (Some part) = ap (λ k. not (is_same_kind k kind)) (kind_stays s.holds today key part)
 
@@ -341,7 +340,7 @@ pub record IsFirst (s : State) (tld : List ℕ) (notice : Notice) : Type 0 where
 -- what was found before is found still, where a new notice is the first that tells the same
 pub found_still : (s : State) (tld : List ℕ) (notice : Notice) (test : NoticeKind → Bool) → (test notice.kind ≡ true → has_notice s.notices tld notice.day test ≡ false)
     → (other : List ℕ) (day : ℕ) (found : NoticeKey × Notice) → list.find (is_notice_of other day test) (entries s.notices) ≡ Some found
-    → list.find (is_notice_of other day test) (entries (with_notice s (next_key s.notices tld) notice).notices) ≡ Some found
+    → list.find (is_notice_of other day test) (entries (state_with_notice s (next_key s.notices tld) notice).notices) ≡ Some found
 found_still s tld notice test first other day found e =
     find_insert notice_total s.notices (next_key s.notices tld) notice (next_is_new s.notices tld) (is_notice_of other day test) (miss (is_notice_of other day test (next_key s.notices tld, notice)) refl) ∙ e
   where
@@ -354,12 +353,12 @@ found_still s tld notice test first other day found e =
         let there : has_notice s.notices tld notice.day test ≡ true = (λ i. has_notice s.notices (a i) (b i) test) ∙ (first_is_there s other day test found e).1 in
         let clash : true ≡ false = sym there ∙ first y.1 in cc
 
-pub continues_noticing : (s : State) (tld : List ℕ) (notice : Notice) → IsFirst s tld notice → Continues s (with_notice s (next_key s.notices tld) notice)
+pub continues_noticing : (s : State) (tld : List ℕ) (notice : Notice) → IsFirst s tld notice → Continues s (state_with_notice s (next_key s.notices tld) notice)
 continues_noticing s tld notice first = record {
   records = keeps_noticing s (next_key s.notices tld) notice (next_is_new s.notices tld);
   verdicts = λ st kept e.
       let h = kept_tells s st kept e in
-      kept_of (with_notice s (next_key s.notices tld) notice) st kept h.0 (found_still s tld notice (is_verdict_of st.rev) (first.verdict st.rev) st.tld st.day kept h.1) h.2;
+      kept_of (state_with_notice s (next_key s.notices tld) notice) st kept h.0 (found_still s tld notice (is_verdict_of st.rev) (first.verdict st.rev) st.tld st.day kept h.1) h.2;
   absences = λ other day kept e. found_still s tld notice is_absence first.absence other day kept e;
 }
 
@@ -398,12 +397,12 @@ step_continues s (Register tld day) now reply new e = record { records = step_ke
     absent : (other : List ℕ) (at : ℕ) (kept : NoticeKey × Notice) → absence_of s other at ≡ Some kept → (o : Option ℕ) → registered s tld day now o ≡ Accept reply new → absence_of new other at ≡ Some kept
     absent other at kept h (Some first) e = subst (λ t. absence_of t other at ≡ Some kept) (accept_inj _ _ _ _ e).1 h
     absent other at kept h None e = subst (λ t. absence_of t other at ≡ Some kept) (accept_inj _ _ _ _ e).1 h
-step_continues s (Receive text bytes) now reply new e = let r = receives s text bytes now reply new e in by r (recorded s r.name) refl r.outcome
+step_continues s (Receive text bytes) now reply new e = let r = receives s text bytes now reply new e in by r (part_under_name s r.name) refl r.outcome
   where
-    by : (r : Receives s text bytes now reply new) (o : Option Part) → recorded s r.name ≡ o → answered s r.name bytes now o ≡ Accept reply new → Continues s new
+    by : (r : Receives s text bytes now reply new) (o : Option Part) → part_under_name s r.name ≡ o → answered s r.name bytes now o ≡ Accept reply new → Continues s new
     by r (Some kept) at e = subst (Continues s) (accept_inj _ _ _ _ e).1 (continues_itself s)
     by r None at e = subst (Continues s) (accept_inj _ _ _ _ e).1 (continues_adding s text bytes now r.name r.none at (keeps_adding s (key_of r.name) _
-        (place_is_empty s text r.name r.named at (ap (λ o. is_none o && list_any (λ place. has_other_kind r.name.kind (part_in s r.name place)) places) (sym at) ∙ r.none.kind))))
+        (place_is_empty s text r.name r.named at (ap (λ o. is_none o && list_any (λ place. has_other_kind r.name.kind (revision_part s r.name place)) part_numbers) (sym at) ∙ r.none.kind))))
 step_continues s (Statement st) now reply new e = let r = accepts_statement s st now reply new e in by r (kept_verdict s st) refl r.outcome
   where
     by : (r : IsStated s st now reply new) (o : Option (NoticeKey × Notice)) → kept_verdict s st ≡ o → stated_by s st now o ≡ Accept reply new → Continues s new

@@ -7,8 +7,8 @@ use Rattle.extent_map.specs.declared.extent.Extent.{Extent}
 use Rattle.vault_volume.specs.Image.{bytes_at}
 use Rattle.vault_volume.specs.Extents.{IsExtentOf, AreApart, block_count, blocks_of}
 use Rattle.vault_volume.specs.Head.{head_of}
-use Rattle.custody_records.specs.declared.damage.Damage as rows_damage
-use Rattle.custody_records.specs.declared.damage.Damage.TheVariants as form
+use Rattle.custody_records.specs.declared.damage.RowDamage as rows_damage
+use Rattle.custody_records.specs.declared.damage.RowDamage.TheVariants as form
 use Rattle.custody_records.specs.Keys.{PartKey, NoticeKey}
 use Rattle.custody_records.specs.Records.{Records}
 use Rattle.custody_records.specs.Rows.{MetaRow, Rows, first_meta}
@@ -16,8 +16,8 @@ use Rattle.custody_records.specs.Form.{Form, NoVault, OutOfForm, InForm, form_of
 use Rattle.custody_machine.specs.declared.damage.Damage.{Damage}
 use Rattle.custody_machine.specs.declared.damage.Damage.TheVariants.{NoRecord, Head, Volume, Schema, Form as FormDamage, Extent as ExtentDamage, Overlap, Link, Digest}
 use Rattle.custody_machine.specs.State.{State}
-use Rattle.custody_machine.specs.Stored.{ForExtents, AreExtents, AreInRange, AreOnce, AreLinked, state_in, Stands}
-use Rattle.custody_machine.specs.Damage.{IsRowOf, IsDamaged, damage_number, NoneBefore, IsFirstDamage, IsRefinement}
+use Rattle.custody_machine.specs.StoredState.{ForExtents, AreExtents, HaveExtentsInRange, HaveBlocksOnce, AreLinked, state_in, StandsFor}
+use Rattle.custody_machine.specs.Damage.{IsRowOf, IsDamaged, damage_number, NoDamageBefore, IsFirstDamage, IsRefinement}
 use Rattle.custody_machine.proofs.SameValues.{text_decides, key_decides, notice_key_decides}
 use Rattle.custody_records.proofs.FormLemmas.{InForm-injective}
 use Rattle.custody_machine.proofs.Forms.{IsRecordsOf, meta_in_form, row_in_form}
@@ -69,10 +69,10 @@ stable_key j k denied = stable _ (key_decides j k) denied
 stable_notice_key : (j k : NoticeKey) → ¬ (¬ (j ≡ k)) → j ≡ k
 stable_notice_key j k denied = stable _ (notice_key_decides j k) denied
 
-stable_range : (records : Records) → ¬ (¬ AreInRange records) → AreInRange records
+stable_range : (records : Records) → ¬ (¬ HaveExtentsInRange records) → HaveExtentsInRange records
 stable_range records denied key part at = stable_extents records.blocks part.len part.extents (λ out. denied (λ h. out (h key part at)))
 
-stable_once : (records : Records) → ¬ (¬ AreOnce records) → AreOnce records
+stable_once : (records : Records) → ¬ (¬ HaveBlocksOnce records) → HaveBlocksOnce records
 stable_once records denied = record {
   within = λ key part at. stable_apart_of part.extents (λ out. denied (λ h. out (h.within key part at)));
   between = λ j k p q b at_j at_k in_p in_q. stable_key j k (λ out. denied (λ h. out (h.between j k p q b at_j at_k in_p in_q)));
@@ -97,7 +97,7 @@ stable_linked records denied = record {
 -- ---- damaged: no state
 
 -- the volume of whole records is that of the row
-volume_stands : (rows : Rows) (image : List ℕ) (state : State) → Stands rows image state → (meta : MetaRow) (number : ℕ) → first_meta rows ≡ Some meta → bytes_at image 0 4096 ≡ head_of number → IsRowOf meta number image
+volume_stands : (rows : Rows) (image : List ℕ) (state : State) → StandsFor rows image state → (meta : MetaRow) (number : ℕ) → first_meta rows ≡ Some meta → bytes_at image 0 4096 ≡ head_of number → IsRowOf meta number image
 volume_stands rows image state s meta number is head =
     let row = meta_in_form rows s.records s.in_form in
     let same : row.0 ≡ meta = one row.0 meta (first_meta rows) row.1 is in
@@ -109,10 +109,10 @@ volume_stands rows image state s meta number is head =
     one : (a b : MetaRow) (o : Option MetaRow) → o ≡ Some a → o ≡ Some b → a ≡ b
     one a b o p q = cc
 
-not_both : (form : Form) (damage : rows_damage.Damage) (records : Records) → form ≡ OutOfForm damage → form ≡ InForm records → ⊥
+not_both : (form : Form) (damage : rows_damage.RowDamage) (records : Records) → form ≡ OutOfForm damage → form ≡ InForm records → ⊥
 not_both form damage records p q = cc
 
-pub damaged_stands : (damage : Damage) (rows : Rows) (image : List ℕ) (state : State) → IsDamaged damage rows image → ¬ Stands rows image state
+pub damaged_stands : (damage : Damage) (rows : Rows) (image : List ℕ) (state : State) → IsDamaged damage rows image → ¬ StandsFor rows image state
 damaged_stands NoRecord rows image state none s = let row = meta_in_form rows s.records s.in_form in denied row.0 (first_meta rows) row.1 none
   where
     denied : (a : MetaRow) (o : Option MetaRow) → o ≡ Some a → o ≡ None → ⊥
@@ -121,8 +121,8 @@ damaged_stands Head rows image state denied s = let m = head_in_range s.records.
 damaged_stands Volume rows image state d s = d.5 (volume_stands rows image state s d.0 d.1 d.3 d.4)
 damaged_stands Schema rows image state out s = not_both _ form.Schema s.records out s.in_form
 damaged_stands FormDamage rows image state out s = not_both _ form.Form s.records out s.in_form
-damaged_stands ExtentDamage rows image state d s = d.2 (subst AreInRange (InForm-injective s.records d.0 (sym s.in_form ∙ d.1)) s.good.whole.extents)
-damaged_stands Overlap rows image state d s = d.2 (subst AreOnce (InForm-injective s.records d.0 (sym s.in_form ∙ d.1)) s.good.whole.once)
+damaged_stands ExtentDamage rows image state d s = d.2 (subst HaveExtentsInRange (InForm-injective s.records d.0 (sym s.in_form ∙ d.1)) s.good.whole.extents)
+damaged_stands Overlap rows image state d s = d.2 (subst HaveBlocksOnce (InForm-injective s.records d.0 (sym s.in_form ∙ d.1)) s.good.whole.once)
 damaged_stands Link rows image state d s = d.2 (subst AreLinked (InForm-injective s.records d.0 (sym s.in_form ∙ d.1)) s.good.whole.linked)
 damaged_stands Digest rows image state none s = absurd none
 
@@ -141,7 +141,7 @@ module _ (rows : Rows) (image : List ℕ) (undamaged : (damage : Damage) → ¬ 
     size = stable _ (Decides-eqb (length image) (4096 * records.blocks)) (λ other.
         let m = head_in_range records.number in undamaged Volume (row.0, m.0, m.1, row.1, head ∙ sym m.2, λ of. other (of.size ∙ ap (λ n. 4096 * n) row.2.blocks)))
 
-    in_form_stands : (state : State) × Stands rows image state
+    in_form_stands : (state : State) × StandsFor rows image state
     in_form_stands = (
       state_in records image,
       record {
@@ -159,14 +159,14 @@ module _ (rows : Rows) (image : List ℕ) (undamaged : (damage : Damage) → ¬ 
       },
     )
 
-  undamaged_stands : (state : State) × Stands rows image state
+  undamaged_stands : (state : State) × StandsFor rows image state
   undamaged_stands = by (form_of rows) refl
     where
       by_meta : (o : Option MetaRow) → first_meta rows ≡ o → form_of rows ≡ NoVault → ⊥
       by_meta None none e = undamaged NoRecord none
       by_meta (Some meta) some e = row_in_form rows meta some e
 
-      by : (f : Form) → form_of rows ≡ f → (state : State) × Stands rows image state
+      by : (f : Form) → form_of rows ≡ f → (state : State) × StandsFor rows image state
       by NoVault e = absurd (by_meta (first_meta rows) refl e)
       by (OutOfForm form.Schema) e = absurd (undamaged Schema e)
       by (OutOfForm form.Form) e = absurd (undamaged FormDamage e)
@@ -192,11 +192,11 @@ one_of_number : (a b : Damage) → damage_number a ≡ damage_number b → a ≡
 one_of_number a b e = let same : Some a ≡ Some b = sym (at_its_number a) ∙ ap (slice_get in_order) e ∙ at_its_number b in cc
 
 -- nothing is before the first
-pub none_before_all : (rows : Rows) (image : List ℕ) → NoneBefore NoRecord rows image
+pub none_before_all : (rows : Rows) (image : List ℕ) → NoDamageBefore NoRecord rows image
 none_before_all rows image earlier lt = absurd (omega arith)
 
 -- and one step further, where the next is not true
-pub none_before_next : (damage next : Damage) (rows : Rows) (image : List ℕ) → damage_number next ≡ suc (damage_number damage) → NoneBefore damage rows image → ¬ IsDamaged damage rows image → NoneBefore next rows image
+pub none_before_next : (damage next : Damage) (rows : Rows) (image : List ℕ) → damage_number next ≡ suc (damage_number damage) → NoDamageBefore damage rows image → ¬ IsDamaged damage rows image → NoDamageBefore next rows image
 none_before_next damage next rows image follows before none earlier lt wrong =
     let not_before : ¬ (damage_number earlier < damage_number damage) = λ lt. before earlier lt wrong in
     let same : damage_number earlier ≡ damage_number damage = omega arith in

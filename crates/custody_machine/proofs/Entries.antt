@@ -1,7 +1,7 @@
 -- One more entry of a map, as tests of its entries see it; and the numbers of notices.
 use Rattle.std.proofs.lemmas.Bool.Decides.{Decides-eqb}
 use Rattle.std.proofs.Common.{◌≡◌, ◌==◌, is_some, ℕ, suc, ◌<◌, ◌≤◌, List, [], ◌∷◌, Some, None, Bool, true, false, ◌||◌, ◌&&◌, refl, sym, ◌∙◌, ap, subst, cond, arith}
-use Rattle.std.specs.Prelude.{T, max}
+use Rattle.std.specs.Prelude.{T, max, bytes_eq}
 use Rattle.std.specs.List as list
 use Rattle.std.specs.List.{filter, list_any}
 use Rattle.std.specs.Ordering.{is_eq, is_lt, ordering_reverse}
@@ -12,8 +12,7 @@ use Rattle.std.specs.FinMap.{FinMap, IsAntisymmetric, entries, entries_sorted, e
 use Rattle.std.specs.FinMap.Entries.{below_all, by_order}
 use Rattle.custody_records.specs.Keys.{NoticeKey, notice_cmp}
 use Rattle.custody_records.specs.Records.{Notice}
-use Rattle.custody_records.specs.Orders.{notice_exact, notice_total}
-use Rattle.custody_machine.specs.Names.{is_same_text}
+use Rattle.custody_records.specs.inside.Orders.{notice_exact, notice_total}
 use Rattle.custody_machine.specs.Machine.{greatest_number, next_number, next_key}
 use Rattle.custody_machine.proofs.SameValues.{text_decides}
 
@@ -188,7 +187,7 @@ module _ {K X : Type 0} {R : K → K → Ordering} (o : IsTotalOrder R) (m : Fin
 -- ---- numbers of notices
 
 abbrev of_tld : List ℕ → NoticeKey × Notice → Bool
-of_tld tld entry = is_same_text entry.0.tld tld
+of_tld tld entry = bytes_eq entry.0.tld tld
 
 max_above : (a b : ℕ) → (a ≤ max a b) × (b ≤ max a b)
 max_above a b = (omega arith, omega arith)

@@ -1,24 +1,23 @@
 -- What is fetched is one of four answers, each where it is so; and of records that belong together it is a part that is held.
 use Rattle.std.proofs.Common.{◌≡◌, inl, inr, ℕ, List, Contains, Option, Some, None, Bool, true, false, ◌&&◌, if◌then◌else◌, refl, sym, ◌∙◌, ap, subst, Result, Ok, Err}
-use Rattle.std.specs.Prelude.{option_map}
+use Rattle.std.specs.Prelude.{option_map, bytes_eq}
 use Rattle.std.specs.FinMap.{get}
 use Rattle.std.specs.List.{list_all}
 use Rattle.std.specs.Option.{option_and_then}
 use Rattle.std.proofs.lemmas.List.Elements.{All-contains}
 use Rattle.std.proofs.lemmas.List.Sums.{AllPass-from_list_all}
-use Rattle.deposit_name.specs.declared.faults.NameError.{NameError}
-use Rattle.deposit_name.specs.Name.{Name}
+use Rattle.deposit_name.specs.declared.errors.NameError.{NameError}
+use Rattle.deposit_name.specs.Name.{Name, is_same_kind}
 use Rattle.deposit_verify.specs.Verdict.{contains_text}
 use Rattle.deposit_verify.proofs.HeaderDecided.{contains_decides}
 use Rattle.custody_records.specs.Keys.{part_cmp}
 use Rattle.custody_records.specs.Records.{PartRecord, Release, Records, key_of}
 use Rattle.custody_machine.specs.declared.answers.Refusal.TheVariants.{DroppedAfterKeeping, NotInRelease, ReleaseUnknown}
-use Rattle.custody_machine.specs.Names.{is_same_text, read_name}
-use Rattle.custody_machine.specs.SameValues.{is_same_kind}
+use Rattle.custody_machine.specs.NameReading.{read_name}
 use Rattle.custody_machine.specs.State.{State, Part, Content, Held, Dropped}
-use Rattle.custody_machine.specs.Machine.{recorded, of_kind, is_dropped, is_gone, bytes_held, bytes_in}
-use Rattle.custody_machine.specs.Stored.{AreLinked, is_part_of, names_part, part_of, state_in}
-use Rattle.custody_machine.specs.Fetched.{part_named, unless_dropped, handed_over, fetched, ReleasesName, IsFetching, FetchesOne, FetchesHeld}
+use Rattle.custody_machine.specs.Machine.{part_under_name, part_of_kind, is_dropped, are_bytes_dropped, bytes_held, bytes_in}
+use Rattle.custody_machine.specs.StoredState.{AreLinked, is_part_of, is_name_of_part, part_of, state_in}
+use Rattle.custody_machine.specs.FetchResult.{part_named, bytes_unless_dropped, release_result, fetch_result, ReleasesName, IsFetching, FetchesOne, FetchesHeld}
 use Rattle.custody_machine.proofs.MapValues.{get-map_values}
 
 -- ---- one of four
@@ -44,7 +43,7 @@ module _ (state : State) (reference text : List ℕ) where
 
   unknown_one : get state.releases reference ≡ None → IsFetching state reference text
   unknown_one is =
-      let at : fetched state reference text ≡ Err ReleaseUnknown = ap (λ o. handed_over state o text) is in record {
+      let at : fetch_result state reference text ≡ Err ReleaseUnknown = ap (λ o. release_result state o text) is in record {
         unknown = (λ _. is, λ _. at);
         not_in = (λ e. cc, λ h. absurd (not_none h.0 h.1 is));
         dropped = (λ e. cc, λ h. absurd (not_none h.0.0 h.0.1 is));
@@ -54,7 +53,7 @@ module _ (state : State) (reference text : List ℕ) where
 
   lacking_one : (release : Release) → get state.releases reference ≡ Some release → contains_text release.names text ≡ false → IsFetching state reference text
   lacking_one release is e =
-      let at : fetched state reference text ≡ Err NotInRelease = ap (λ o. handed_over state o text) is ∙ ap (λ b. if b then unless_dropped part else Err NotInRelease) e in
+      let at : fetch_result state reference text ≡ Err NotInRelease = ap (λ o. release_result state o text) is ∙ ap (λ b. if b then bytes_unless_dropped part else Err NotInRelease) e in
       let other : ReleasesName state reference text → ⊥ = λ h. lacks release e (subst (λ (r : Release). Contains r.names text) (is_one h.0 release h.1 is) h.2) in record {
         unknown = (λ f. cc, λ none. absurd (not_none release is none));
         not_in = (λ _. (release, is, lacks release e), λ _. at);
@@ -67,15 +66,15 @@ module _ (state : State) (reference text : List ℕ) where
     names : ReleasesName state reference text
     names = (release, is, has)
 
-    listed : fetched state reference text ≡ unless_dropped part
-    listed = ap (λ o. handed_over state o text) is ∙ ap (λ b. if b then unless_dropped part else Err NotInRelease) ((contains_decides release.names text).1 has)
+    listed : fetch_result state reference text ≡ bytes_unless_dropped part
+    listed = ap (λ o. release_result state o text) is ∙ ap (λ b. if b then bytes_unless_dropped part else Err NotInRelease) ((contains_decides release.names text).1 has)
 
     without : (other : Release) → get state.releases reference ≡ Some other → (¬ Contains other.names text) → ⊥
     without other at none = none (subst (λ (r : Release). Contains r.names text) (is_one release other is at) has)
 
     gone_one : is_dropped part ≡ true → IsFetching state reference text
     gone_one gone =
-        let at : fetched state reference text ≡ Err DroppedAfterKeeping = listed ∙ ap (λ b. if b then Err DroppedAfterKeeping else Ok (bytes_held part)) gone in record {
+        let at : fetch_result state reference text ≡ Err DroppedAfterKeeping = listed ∙ ap (λ b. if b then Err DroppedAfterKeeping else Ok (bytes_held part)) gone in record {
           unknown = (λ f. cc, λ none. absurd (not_none release is none));
           not_in = (λ f. cc, λ h. absurd (without h.0 h.1 h.2));
           dropped = (λ _. (names, gone), λ _. at);
@@ -88,7 +87,7 @@ module _ (state : State) (reference text : List ℕ) where
 
     held_one : is_dropped part ≡ false → IsFetching state reference text
     held_one there =
-        let at : fetched state reference text ≡ Ok (bytes_held part) = listed ∙ ap (λ b. if b then Err DroppedAfterKeeping else Ok (bytes_held part)) there in record {
+        let at : fetch_result state reference text ≡ Ok (bytes_held part) = listed ∙ ap (λ b. if b then Err DroppedAfterKeeping else Ok (bytes_held part)) there in record {
           unknown = (λ f. cc, λ none. absurd (not_none release is none));
           not_in = (λ f. cc, λ h. absurd (without h.0 h.1 h.2));
           dropped = (λ f. cc, λ h. absurd (both h.1));
@@ -117,7 +116,7 @@ fetches_one state reference text = by_release state reference text (get state.re
 -- ---- a part that is held
 
 -- a name that a release may have is that of a recorded part, of its kind
-pub named_part : (records : Records) (tld text : List ℕ) → names_part records tld (read_name text) ≡ true
+pub named_part : (records : Records) (tld text : List ℕ) → is_name_of_part records tld (read_name text) ≡ true
     → (name : Name) × (part : PartRecord) × (read_name text ≡ Ok name) × (get records.parts (key_of name) ≡ Some part) × (is_same_kind part.kind name.kind ≡ true)
 named_part records tld text e = by (read_name text) refl e
   where
@@ -130,25 +129,25 @@ named_part records tld text e = by (read_name text) refl e
     at name is None there e = cc
     at name is (Some part) there e = (name, part, is, there, e)
 
-    by : (r : Result Name NameError) → read_name text ≡ r → names_part records tld r ≡ true
+    by : (r : Result Name NameError) → read_name text ≡ r → is_name_of_part records tld r ≡ true
         → (name : Name) × (part : PartRecord) × (read_name text ≡ Ok name) × (get records.parts (key_of name) ≡ Some part) × (is_same_kind part.kind name.kind ≡ true)
     by (Err fault) is e = cc
-    by (Ok name) is e = at name is (get records.parts (key_of name)) refl (behind (is_same_text name.tld tld) (is_part_of name.kind (get records.parts (key_of name))) e)
+    by (Ok name) is e = at name is (get records.parts (key_of name)) refl (behind (bytes_eq name.tld tld) (is_part_of name.kind (get records.parts (key_of name))) e)
 
 -- each name of a release of linked records is one
 pub released_part : (records : Records) (reference text : List ℕ) (release : Release) → AreLinked records → get records.releases reference ≡ Some release → Contains release.names text
     → (name : Name) × (part : PartRecord) × (read_name text ≡ Ok name) × (get records.parts (key_of name) ≡ Some part) × (is_same_kind part.kind name.kind ≡ true)
 released_part records reference text release linked at has =
-    named_part records release.tld text (passes (λ text. names_part records release.tld (read_name text)) release.names text (linked.released reference release at) has)
+    named_part records release.tld text (passes (λ text. is_name_of_part records release.tld (read_name text)) release.names text (linked.released reference release at) has)
   where
     passes : (test : List ℕ → Bool) (xs : List (List ℕ)) (x : List ℕ) → list_all test xs ≡ true → Contains xs x → test x ≡ true
     passes test xs x all has = All-contains (λ y. test y ≡ true) xs x (AllPass-from_list_all test xs all) has
 
 -- and is recorded so in their state
 pub recorded_part : (records : Records) (image : List ℕ) (name : Name) (part : PartRecord) → get records.parts (key_of name) ≡ Some part → is_same_kind part.kind name.kind ≡ true
-    → recorded (state_in records image) name ≡ Some (part_of image part)
+    → part_under_name (state_in records image) name ≡ Some (part_of image part)
 recorded_part records image name part at same =
-    ap (λ o. option_and_then (of_kind name.kind) o) (get-map_values part_cmp (part_of image) records.parts (key_of name) ∙ ap (option_map (part_of image)) at)
+    ap (λ o. option_and_then (part_of_kind name.kind) o) (get-map_values part_cmp (part_of image) records.parts (key_of name) ∙ ap (option_map (part_of image)) at)
     ∙ ap (λ b. if b then Some (part_of image part) else None) same
 
 pub fetches_held : FetchesHeld
@@ -156,13 +155,13 @@ fetches_held records image reference text bytes linked e =
     let state : State = state_in records image in
     let held = ((fetches_one state reference text).held bytes).0 e in
     let named = released_part records reference text held.0.0 linked held.0.1 held.0.2 in
-    let is : recorded state named.0 ≡ Some (part_of image named.1) = recorded_part records image named.0 named.1 named.3 named.4 in
+    let is : part_under_name state named.0 ≡ Some (part_of image named.1) = recorded_part records image named.0 named.1 named.3 named.4 in
     let there : part_named state (read_name text) ≡ Some (part_of image named.1) = ap (part_named state) named.2 ∙ is in
     (named.0, part_of image named.1, named.2, is, by (part_of image named.1) (ap is_dropped (sym there) ∙ held.1) (ap bytes_held (sym there) ∙ held.2))
   where
-    by : (part : Part) → is_gone part.content ≡ false → bytes_in part.content ≡ bytes → part.content ≡ Held bytes
+    by : (part : Part) → are_bytes_dropped part.content ≡ false → bytes_in part.content ≡ bytes → part.content ≡ Held bytes
     by part whole same = in_content part.content whole same
       where
-        in_content : (content : Content) → is_gone content ≡ false → bytes_in content ≡ bytes → content ≡ Held bytes
+        in_content : (content : Content) → are_bytes_dropped content ≡ false → bytes_in content ≡ bytes → content ≡ Held bytes
         in_content (Held kept) whole same = ap Held same
         in_content (Dropped len) whole same = cc

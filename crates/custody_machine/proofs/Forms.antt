@@ -3,11 +3,11 @@ use Rattle.std.specs.Prelude.{slice_get}
 use Rattle.std.proofs.Common.{◌≡◌, List, [], ◌∷◌, Option, Some, None, Bool, true, false, ◌&&◌, if◌then◌else◌, refl, ◌∙◌, ap}
 use Rattle.std.specs.Str.{bytes_eq}
 use Rattle.std.proofs.lemmas.Slice.Eq.{bytes_eq-Decides}
-use Rattle.custody_records.specs.declared.damage.Damage.TheVariants as damage
+use Rattle.custody_records.specs.declared.damage.RowDamage.TheVariants as damage
 use Rattle.custody_records.specs.Records.{Records}
 use Rattle.custody_records.specs.Rows.{MetaRow, Rows, first_meta}
 use Rattle.custody_records.specs.Form.{NoVault, OutOfForm, InForm, form_of, form_after, records_in, in_form_or, is_meta, is_number, number_in, natural, is_within, has_holds, is_schema}
-use Rattle.custody_records.specs.Written.{digits_of}
+use Rattle.custody_records.specs.RowsOfRecords.{digits_of}
 use Rattle.custody_records.proofs.FormLemmas.{in_form_has}
 
 -- the number and the blocks of the volume are those of the row of `meta`

@@ -1,4 +1,5 @@
 -- A new release, as one change of the records: what one tells that is accepted and no repeat, and that records belong together with it.
+use Rattle.std.specs.Prelude.{bytes_eq}
 use Rattle.std.proofs.Common.{◌≡◌, inl, ℕ, ◌-◌, ◌<◌, ◌^◌, List, [], ◌∷◌, Option, Some, None, Bool, true, false, not, ◌&&◌, refl, sym, ◌∙◌, ap, subst, is_some, is_none, cond}
 use Rattle.std.specs.List.{cons_option, filter_map}
 use Rattle.std.specs.FinMap.{FinMap, entries, get, insert, get-insert}
@@ -10,14 +11,13 @@ use Rattle.vault_volume.proofs.ImageLemmas.{same_in}
 use Rattle.custody_records.specs.Keys.{PartKey, part_cmp, text_cmp}
 use Rattle.custody_records.specs.Records.{PartRecord, Records, name_of}
 use Rattle.custody_records.specs.Records as recorded_in
-use Rattle.custody_records.specs.Orders.{text_total}
+use Rattle.custody_records.specs.inside.Orders.{text_total}
 use Rattle.custody_machine.specs.MapValues.{map_entries}
-use Rattle.custody_machine.specs.Names.{is_same_text}
 use Rattle.custody_machine.specs.Machine as machine
-use Rattle.custody_machine.specs.Machine.{Release, OfRelease, Accept, step, is_gone}
-use Rattle.custody_machine.specs.Releases.{AreRecorded, held_name, new_release}
-use Rattle.custody_machine.specs.Stored.{AreWhole, IsGood, content_of, part_of, state_in}
-use Rattle.custody_machine.specs.Rulings.{AddsRelease, Makes, Decides}
+use Rattle.custody_machine.specs.Machine.{Release, OfRelease, Accept, step, are_bytes_dropped}
+use Rattle.custody_machine.specs.Releases.{AreRecordedNames, held_record_name, release_of_records}
+use Rattle.custody_machine.specs.StoredState.{AreWhole, AreWholeOnVolume, content_of, part_of, state_in}
+use Rattle.custody_machine.specs.Rulings.{AddsRelease, GoRuling, Decides}
 use Rattle.custody_machine.specs.Custody.{IsInOrder}
 use Rattle.custody_machine.proofs.MapValues.{entries-map_values}
 use Rattle.custody_machine.proofs.Released.{accepts_release}
@@ -27,19 +27,19 @@ use Rattle.custody_machine.proofs.Composed.{IsChange, named_used, head_used}
 
 module _ (i : List ℕ) (tld : List ℕ) where
   -- a part is held where it has extents
-  is_held : (len : ℕ) (o : Option (List Extent)) → not (is_gone (content_of i len o)) ≡ is_some o
+  is_held : (len : ℕ) (o : Option (List Extent)) → not (are_bytes_dropped (content_of i len o)) ≡ is_some o
   is_held len None = refl
   is_held len (Some extents) = refl
 
-  same_name : (entry : PartKey × PartRecord) → machine.held_name tld (entry.0, part_of i entry.1) ≡ held_name tld entry
-  same_name entry = ap (λ b. cond (is_same_text entry.0.tld tld && b) (Some (name_text (name_of entry.0 entry.1.kind))) None) (is_held entry.1.len entry.1.extents)
+  same_name : (entry : PartKey × PartRecord) → machine.held_name tld (entry.0, part_of i entry.1) ≡ held_record_name tld entry
+  same_name entry = ap (λ b. cond (bytes_eq entry.0.tld tld && b) (Some (name_text (name_of entry.0 entry.1.kind))) None) (is_held entry.1.len entry.1.extents)
 
-  same_names : (es : List (PartKey × PartRecord)) → filter_map (machine.held_name tld) (map_entries (part_of i) es) ≡ filter_map (held_name tld) es
+  same_names : (es : List (PartKey × PartRecord)) → filter_map (machine.held_name tld) (map_entries (part_of i) es) ≡ filter_map (held_record_name tld) es
   same_names [] = refl
   same_names (e ∷ es) = λ j. cons_option (same_name e j) (same_names es j)
 
 -- the release that the state of records makes is theirs
-pub release_in : (records : Records) (i tld : List ℕ) (reason : Ground) (now : ℕ) → machine.new_release (state_in records i) tld reason now ≡ new_release records tld reason now
+pub release_in : (records : Records) (i tld : List ℕ) (reason : Ground) (now : ℕ) → machine.new_release (state_in records i) tld reason now ≡ release_of_records records tld reason now
 release_in records i tld reason now =
     ap (λ names. record { tld = tld; reason = reason; at = now; names = names })
     (ap (filter_map (machine.held_name tld)) (entries-map_values part_cmp (part_of i) records.parts) ∙ same_names i tld (entries records.parts))
@@ -54,7 +54,7 @@ inserted_release m k release P new old q r at = by (eq_by_cmp text_cmp q k) (sym
     by true e = let is : release ≡ r = cc in subst P is new
     by false e = old q r e
 
-module _ (records : Records) (whole : AreWhole records) (reference : List ℕ) (release : recorded_in.Release) (known : is_some (get records.registries release.tld) ≡ true) (names : AreRecorded records release.tld release.names) where
+module _ (records : Records) (whole : AreWhole records) (reference : List ℕ) (release : recorded_in.Release) (known : is_some (get records.registries release.tld) ≡ true) (names : AreRecordedNames records release.tld release.names) where
   pub whole-with_release : AreWhole (recorded_in.with_release records reference release)
   whole-with_release = let l = whole.linked in record {
     extents = whole.extents;
@@ -64,7 +64,7 @@ module _ (records : Records) (whole : AreWhole records) (reference : List ℕ) (
       notice_registry = l.notice_registry;
       release_registry = inserted_release records.releases reference release (λ r. is_some (get records.registries r.tld) ≡ true) known l.release_registry;
       hold_registry = l.hold_registry;
-      released = inserted_release records.releases reference release (λ r. AreRecorded records r.tld r.names) names l.released;
+      released = inserted_release records.releases reference release (λ r. AreRecordedNames records r.tld r.names) names l.released;
       series = l.series;
       numbers = l.numbers;
       verdict_parts = l.verdict_parts;
@@ -76,7 +76,7 @@ module _ (records : Records) (whole : AreWhole records) (reference : List ℕ) (
   }
 
   module _ (i : List ℕ) (size failures failures_then : ℕ) (free : ℕ → Type 0) (order : IsInOrder records size failures free) where
-    pub release_changes : IsGood records i → IsChange records i free (recorded_in.with_release records reference release) i free
+    pub release_changes : AreWholeOnVolume records i → IsChange records i free (recorded_in.with_release records reference release) i free
     release_changes good = record {
       good = record { whole = whole-with_release; volume = record { head = good.volume.head; size = good.volume.size } };
       keeps = record { kept = λ key part at. (part, at, inl refl); digests = λ key has. has };
@@ -91,10 +91,10 @@ module _ (records : Records) (whole : AreWhole records) (reference : List ℕ) (
 
 -- ---- a release that is made
 
-module _ (records : Records) (i : List ℕ) (reference tld : List ℕ) (reason : Ground) (now : ℕ) (d : Decides (Makes (AddsRelease reference tld reason)) records (Release reference tld reason) now) where
+module _ (records : Records) (i : List ℕ) (reference tld : List ℕ) (reason : Ground) (now : ℕ) (d : Decides (GoRuling (AddsRelease reference tld reason)) records (Release reference tld reason) now) where
   pub release_accepted : step (state_in records i) (Release reference tld reason) now
-      ≡ Accept (record { entry = OfRelease reference (new_release records tld reason now); is_repeat = false }) (state_in (recorded_in.with_release records reference (new_release records tld reason now)) i)
-  release_accepted = d.1 i ∙ ap (λ release. machine.released (state_in records i) reference release) (release_in records i tld reason now)
+      ≡ Accept (record { entry = OfRelease reference (release_of_records records tld reason now); is_repeat = false }) (state_in (recorded_in.with_release records reference (release_of_records records tld reason now)) i)
+  release_accepted = d.1 i ∙ ap (λ release. machine.release_step (state_in records i) reference release) (release_in records i tld reason now)
 
   -- its registry is known
   pub release_known : is_some (get records.registries tld) ≡ true

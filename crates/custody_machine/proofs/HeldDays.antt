@@ -4,12 +4,12 @@ use Rattle.std.specs.FinMap.{FinMap, get, insert, get-insert}
 use Rattle.std.specs.Ordering.{eq_by_cmp}
 use Rattle.vault_volume.proofs.ImageLemmas.{same_in}
 use Rattle.custody_records.specs.Keys.{text_cmp}
-use Rattle.custody_records.specs.Orders.{text_total}
+use Rattle.custody_records.specs.inside.Orders.{text_total}
 use Rattle.custody_records.specs.Records as recorded_in
 use Rattle.custody_records.specs.Records.{Records, lifted_at, new_hold}
-use Rattle.custody_machine.specs.Machine.{Hold, Lift, OfHold, OfLifting, Accept, lifted, step}
-use Rattle.custody_machine.specs.Stored.{AreWhole, IsGood, state_in}
-use Rattle.custody_machine.specs.Rulings.{AddsHold, LiftsHold, Makes, Decides}
+use Rattle.custody_machine.specs.Machine.{Hold, Lift, OfHold, OfLifting, Accept, lift_step, step}
+use Rattle.custody_machine.specs.StoredState.{AreWhole, AreWholeOnVolume, state_in}
+use Rattle.custody_machine.specs.Rulings.{AddsHold, LiftsHold, GoRuling, Decides}
 use Rattle.custody_machine.specs.Custody.{IsInOrder}
 use Rattle.custody_machine.proofs.Holding.{accepts_hold}
 use Rattle.custody_machine.proofs.Composed.{IsChange, named_used, head_used}
@@ -46,7 +46,7 @@ module _ (records : Records) (whole : AreWhole records) (reference : List ℕ) (
   }
 
   module _ (i : List ℕ) (size failures failures_then : ℕ) (free : ℕ → Type 0) (order : IsInOrder records size failures free) where
-    pub hold_changes : IsGood records i → IsChange records i free (recorded_in.with_hold records reference hold) i free
+    pub hold_changes : AreWholeOnVolume records i → IsChange records i free (recorded_in.with_hold records reference hold) i free
     hold_changes good = record {
       good = record { whole = whole-with_hold; volume = record { head = good.volume.head; size = good.volume.size } };
       keeps = record { kept = λ key part at. (part, at, inl refl); digests = λ key has. has };
@@ -61,7 +61,7 @@ module _ (records : Records) (whole : AreWhole records) (reference : List ℕ) (
 
 -- ---- a hold that is made
 
-module _ (records : Records) (i : List ℕ) (reference tld : List ℕ) (day now : ℕ) (d : Decides (Makes (AddsHold reference tld day)) records (Hold reference tld day) now) where
+module _ (records : Records) (i : List ℕ) (reference tld : List ℕ) (day now : ℕ) (d : Decides (GoRuling (AddsHold reference tld day)) records (Hold reference tld day) now) where
   pub hold_accepted : step (state_in records i) (Hold reference tld day) now
       ≡ Accept (record { entry = OfHold reference (new_hold tld day now); is_repeat = false }) (state_in (recorded_in.with_hold records reference (new_hold tld day now)) i)
   hold_accepted = d.1 i
@@ -76,10 +76,10 @@ module _ (records : Records) (i : List ℕ) (reference tld : List ℕ) (day now 
 
 -- ---- a hold that is lifted
 
-module _ (records : Records) (i : List ℕ) (reference : List ℕ) (now : ℕ) (d : Decides (Makes (LiftsHold reference)) records (Lift reference) now) where
+module _ (records : Records) (i : List ℕ) (reference : List ℕ) (now : ℕ) (d : Decides (GoRuling (LiftsHold reference)) records (Lift reference) now) where
   pub lift_accepted : step (state_in records i) (Lift reference) now
       ≡ Accept (record { entry = OfLifting reference now; is_repeat = false }) (state_in (recorded_in.with_hold records reference (lifted_at now d.0.1)) i)
-  lift_accepted = d.1 i ∙ ap (lifted (state_in records i) reference now) d.0.2
+  lift_accepted = d.1 i ∙ ap (lift_step (state_in records i) reference now) d.0.2
 
   -- its registry is known
   pub lift_known : AreWhole records → is_some (get records.registries d.0.1.tld) ≡ true

@@ -7,11 +7,11 @@ use Rattle.std.specs.Option.{option_and_then}
 use Rattle.std.specs.Ordering.{eq_by_cmp}
 use Rattle.std.proofs.lemmas.Option.{cond_some}
 use Rattle.custody_records.specs.Keys.{text_cmp}
-use Rattle.custody_records.specs.Orders.{text_exact, text_total}
+use Rattle.custody_records.specs.inside.Orders.{text_exact, text_total}
 use Rattle.custody_records.specs.Records as records
 use Rattle.custody_records.specs.Records.{lifted_at, new_hold}
 use Rattle.custody_machine.specs.State.{State}
-use Rattle.custody_machine.specs.Machine.{Hold, Lift, OfHold, OfLifting, Refusal, RegistryUnknown, DateOutOfRange, HoldReferenceUsed, Reply, Outcome, Accept, is_unknown, is_beyond, hold_of, is_held_day, if_held_day, kept_hold, lifting_of, hold_tests, first_standing, unless_kept, held, lifted, with_hold, step}
+use Rattle.custody_machine.specs.Machine.{Hold, Lift, OfHold, OfLifting, Refusal, RegistryUnknown, DateOutOfRange, HoldReferenceUsed, Reply, Step, Accept, is_tld_unregistered, is_day_outside, hold_of, is_held_day, if_held_day, kept_hold, lifting_of, hold_tests, first_refusal, unless_kept, hold_step, lift_step, state_with_hold, step}
 use Rattle.custody_machine.specs.Retries.{IsKeptAs, StillHas}
 use Rattle.custody_machine.proofs.Accepting.{insert_here, insert_new, none_head, step_accepts}
 
@@ -19,12 +19,12 @@ use Rattle.custody_machine.proofs.Accepting.{insert_here, insert_new, none_head,
 
 -- none of the refusals of a hold stands
 pub record NoneStandsTo (s : State) (reference tld : List ℕ) (day now : ℕ) : Type 0 where
-  pub registry : is_unknown s tld ≡ false
-  pub date : (is_none (kept_hold s reference tld day) && is_beyond s tld day now) ≡ false
+  pub registry : is_tld_unregistered s tld ≡ false
+  pub date : (is_none (kept_hold s reference tld day) && is_day_outside s tld day now) ≡ false
   pub used : (is_some (hold_of s reference) && is_none (kept_hold s reference tld day)) ≡ false
 
 module _ (s : State) (reference tld : List ℕ) (day now : ℕ) where
-  pub none_stand_to : first_standing (hold_tests s reference tld day now) ≡ None → NoneStandsTo s reference tld day now
+  pub none_stand_to : first_refusal (hold_tests s reference tld day now) ≡ None → NoneStandsTo s reference tld day now
   none_stand_to e =
       let b = none_head _ RegistryUnknown _ e in
       let c = none_head _ DateOutOfRange _ b.1 in
@@ -38,12 +38,12 @@ hold_refusals a b c = cond a (Some RegistryUnknown) (cond b (Some DateOutOfRange
 three_none : (a b c : Bool) → a ≡ false → b ≡ false → c ≡ false → hold_refusals a b c ≡ None
 three_none a b c p q r = rw (p, q, r) refl
 
-pub find_none_to : (s : State) (reference tld : List ℕ) (day now : ℕ) → NoneStandsTo s reference tld day now → first_standing (hold_tests s reference tld day now) ≡ None
+pub find_none_to : (s : State) (reference tld : List ℕ) (day now : ℕ) → NoneStandsTo s reference tld day now → first_refusal (hold_tests s reference tld day now) ≡ None
 find_none_to s reference tld day now h = three_none _ _ _ h.registry h.date h.used
 
--- the outcome of a hold, by the one that is kept
-abbrev pub held_by : State → List ℕ → List ℕ → ℕ → ℕ → Option records.Hold → Outcome
-held_by s reference tld day now o = unless_kept s (option_map (OfHold reference) o) (held s reference (new_hold tld day now))
+-- the step of a hold, by the one that is kept
+abbrev pub held_by : State → List ℕ → List ℕ → ℕ → ℕ → Option records.Hold → Step
+held_by s reference tld day now o = unless_kept s (option_map (OfHold reference) o) (hold_step s reference (new_hold tld day now))
 
 -- what acceptance of a hold tells
 pub record IsHeld (s : State) (reference tld : List ℕ) (day now : ℕ) (reply : Reply) (new : State) : Type 0 where
@@ -54,9 +54,9 @@ pub accepts_hold : (s : State) (reference tld : List ℕ) (day now : ℕ) (reply
 accepts_hold s reference tld day now reply new e =
     let h = step_accepts s (Hold reference tld day) now reply new e in record { none = none_stand_to s reference tld day now h.0; outcome = h.1 }
 
--- the outcome of a lifting of a hold, by when it was lifted
-abbrev pub lifted_by : State → List ℕ → ℕ → records.Hold → Option ℕ → Outcome
-lifted_by s reference now hold o = unless_kept s (option_map (OfLifting reference) o) (lifted s reference now (Some hold))
+-- the step of a lifting of a hold, by when it was lifted
+abbrev pub lifted_by : State → List ℕ → ℕ → records.Hold → Option ℕ → Step
+lifted_by s reference now hold o = unless_kept s (option_map (OfLifting reference) o) (lift_step s reference now (Some hold))
 
 -- what acceptance of a lifting tells
 pub record IsLifted (s : State) (reference : List ℕ) (now : ℕ) (reply : Reply) (new : State) : Type 0 where
@@ -67,7 +67,7 @@ pub record IsLifted (s : State) (reference : List ℕ) (now : ℕ) (reply : Repl
 pub accepts_lift : (s : State) (reference : List ℕ) (now : ℕ) (reply : Reply) (new : State) → step s (Lift reference) now ≡ Accept reply new → IsLifted s reference now reply new
 accepts_lift s reference now reply new e = by (hold_of s reference) refl (step_accepts s (Lift reference) now reply new e).1
   where
-    by : (o : Option records.Hold) → hold_of s reference ≡ o → unless_kept s (option_map (OfLifting reference) (option_and_then (λ (hold : records.Hold). hold.lifted) o)) (lifted s reference now o) ≡ Accept reply new → IsLifted s reference now reply new
+    by : (o : Option records.Hold) → hold_of s reference ≡ o → unless_kept s (option_map (OfLifting reference) (option_and_then (λ (hold : records.Hold). hold.lifted) o)) (lift_step s reference now o) ≡ Accept reply new → IsLifted s reference now reply new
     by None at e = cc
     by (Some hold) at e = record { hold = hold; at = at; outcome = e }
 
@@ -127,19 +127,19 @@ as_hold reference a b (inr p) = inr (p.0, p.1, ap (OfHold reference) p.2)
 -- ---- one hold more
 
 module _ (s : State) (reference : List ℕ) (hold : records.Hold) (none : get s.holds reference ≡ None) where
-  pub hold_stays : (q : List ℕ) (x : records.Hold) → get s.holds q ≡ Some x → StillHas (with_hold s reference hold) (OfHold q x)
+  pub hold_stays : (q : List ℕ) (x : records.Hold) → get s.holds q ≡ Some x → StillHas (state_with_hold s reference hold) (OfHold q x)
   hold_stays q x e = (OfHold q x, insert_new text_total s.holds reference hold q x none e, inl refl)
 
-  pub lifting_stays : (q : List ℕ) (at : ℕ) → lifting_of s q ≡ Some at → StillHas (with_hold s reference hold) (OfLifting q at)
+  pub lifting_stays : (q : List ℕ) (at : ℕ) → lifting_of s q ≡ Some at → StillHas (state_with_hold s reference hold) (OfLifting q at)
   lifting_stays q at e =
       let h = lifting_has s q at e in
-      (OfLifting q at, lifting_is (with_hold s reference hold) q h.0 (insert_new text_total s.holds reference hold q h.0 none h.1) ∙ h.2, refl)
+      (OfLifting q at, lifting_is (state_with_hold s reference hold) q h.0 (insert_new text_total s.holds reference hold q h.0 none h.1) ∙ h.2, refl)
 
 -- ---- a hold that is lifted
 
 module _ (s : State) (reference : List ℕ) (hold : records.Hold) (now : ℕ) (there : get s.holds reference ≡ Some hold) (standing : hold.lifted ≡ None) where
   abbrev then : State
-  then = with_hold s reference (lifted_at now hold)
+  then = state_with_hold s reference (lifted_at now hold)
 
   got : (q : List ℕ) → get then.holds q ≡ cond (eq_by_cmp text_cmp q reference) (Some (lifted_at now hold)) (get s.holds q)
   got q = get-insert text_total s.holds reference (lifted_at now hold) q

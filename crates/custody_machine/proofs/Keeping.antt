@@ -7,7 +7,8 @@ use Rattle.std.specs.FinMap.{entries, get}
 use Rattle.std.proofs.lemmas.Bool.Decides.{Decides-eqb}
 use Rattle.schedule.specs.Schedule.{day_of}
 use Rattle.deposit_name.specs.declared.kinds.Kind.{Kind}
-use Rattle.deposit_name.specs.Name.{Name}
+use Rattle.deposit_name.specs.Name.{Name, is_same_kind}
+use Rattle.deposit_name.proofs.KindLemmas.{same_kind_decides}
 use Rattle.deposit_verify.specs.declared.verdict.Verdict.{Verdict}
 use Rattle.deposit_verify.specs.declared.verdict.Verdict.TheVariants.{Pass, Fail}
 use Rattle.desk.specs.declared.notices.NoticeKind.{NoticeKind}
@@ -15,13 +16,12 @@ use Rattle.desk.specs.declared.notices.NoticeKind.TheVariants.{Receipt, Failure,
 use Rattle.custody_records.specs.Keys.{NoticeKey}
 use Rattle.custody_records.specs.Records as kept_in
 use Rattle.custody_records.specs.Records.{Notice, key_of, lifted_at, new_hold}
-use Rattle.custody_machine.specs.Names.{read_name}
-use Rattle.custody_machine.specs.SameValues.{is_same_kind}
+use Rattle.custody_machine.specs.NameReading.{read_name}
 use Rattle.custody_machine.specs.State.{State, Part, Held, is_notice_of, has_notice}
-use Rattle.custody_machine.specs.Machine.{HoldUnknown, unless_kept, lifted, Check, Release, Hold, Lift, Purge, OfRelease, OfHold, OfLifting, OfPurge, hold_of, is_held_day, kept_hold, lifting_of, with_hold, is_on, kept_release, new_release, has_ground, without_bytes, count_due, absence_of, absence_notice, is_absence, is_beyond, is_verdict, OfNotice, is_outside, has_part_of_other_kind, differ_in_number, has_later_receipt, first_part, if_made, has_id, is_verdict_of, verdict_told, has_verdict, has_dropped_part, are_as_stated, kept_verdict, with_notice, next_key, verdict_notice, notice_kind, verdict_on, Command, Register, Receive, Statement, Refusal, DroppedAfterKeeping, Record, OfRegistry, OfPart, Reply, Refuse, Accept, first_day_of, part_at, recorded, is_held_with_other, holds_other, is_dropped, is_gone, refusal_of, with_release, received_part, kept, step, reads, read_by, HasRecord, receive_tests, named_tests, first_standing, verdict_keys}
-use Rattle.custody_machine.specs.Retries.{Key, OfTld, OfName, OfRevision, OfDay, OfReference, OfHolding, OfLift, key, are_same_keys, has_same_key, asked, IsDroppedSince, IsKeptAs, StillHas, KeepsRecords, RepliesAreRecords, IsOfCommand}
-use Rattle.custody_machine.proofs.SameValues.{text_decides, kind_decides, ground_decides}
-use Rattle.custody_records.specs.Orders.{text_total, part_total, notice_total}
+use Rattle.custody_machine.specs.Machine.{HoldUnknown, unless_kept, lift_step, Check, Release, Hold, Lift, Purge, OfRelease, OfHold, OfLifting, OfPurge, hold_of, is_held_day, kept_hold, lifting_of, state_with_hold, is_on_ground, kept_release, new_release, has_ground, without_bytes, count_due, absence_of, absence_notice, is_absence, is_day_outside, is_verdict, OfNotice, is_outside, has_part_of_other_kind, has_other_count, has_later_receipt, first_part, keys_if_made, has_id, is_verdict_of, recorded_verdict, has_verdict, has_dropped_part, are_parts_as_stated, kept_verdict, state_with_notice, next_key, verdict_notice, notice_kind, verdict_on, Command, Register, Receive, Statement, Refusal, DroppedAfterKeeping, Record, OfRegistry, OfPart, Reply, Refuse, Accept, first_day_of, part_at, part_under_name, is_held_with_other, has_other_bytes, is_dropped, are_bytes_dropped, refusal_of, state_with_release, received_part, kept_record, step, deciding_keys, compared_keys, HasRecord, receive_tests, named_tests, first_refusal, verdict_keys}
+use Rattle.custody_machine.specs.Retries.{CommandKey, OfTld, OfName, OfRevision, OfDay, OfReleaseReference, OfHoldReference, OfLiftReference, command_key, are_same_keys, has_same_key, compared_command, IsDroppedSince, IsKeptAs, StillHas, KeepsRecords, RepliesAreRecords, IsOfCommand}
+use Rattle.custody_machine.proofs.SameValues.{text_decides, ground_decides}
+use Rattle.custody_records.specs.inside.Orders.{text_total, part_total, notice_total}
 use Rattle.custody_machine.proofs.Entries.{passes_found, none_found, find_new, next_is_new}
 use Rattle.custody_machine.proofs.Stated.{find_none_of, stated_by, IsStated, accepts_statement}
 use Rattle.custody_machine.proofs.Checked.{find_none_on, missed_by, IsChecked, accepts_check}
@@ -92,7 +92,7 @@ keeps_on s new (Receive text bytes) entry k h =
     }
 
 kind_itself : (kind : Kind) → is_same_kind kind kind ≡ true
-kind_itself kind = (kind_decides kind kind).1 refl
+kind_itself kind = (same_kind_decides kind kind).1 refl
 
 -- what a command makes is kept
 pub accepted_is_kept : (s : State) (c : Command) (now : ℕ) (reply : Reply) (new : State) → step s c now ≡ Accept reply new → Keeps new c reply.entry
@@ -103,9 +103,9 @@ accepted_is_kept s (Register tld day) now reply new e = by (first_day_of s tld) 
         (kept, ap (λ (n : State). first_day_of n tld) (sym h.1) ∙ at, ap (λ (r : Reply). r.entry) (sym h.0))
     by None at e = let h = accept_inj _ _ _ _ e in
         (day, ap (λ (n : State). first_day_of n tld) (sym h.1) ∙ insert_here text_total s.registries tld day, ap (λ (r : Reply). r.entry) (sym h.0))
-accepted_is_kept s (Receive text bytes) now reply new e = let r = receives s text bytes now reply new e in by r (recorded s r.name) refl r.outcome
+accepted_is_kept s (Receive text bytes) now reply new e = let r = receives s text bytes now reply new e in by r (part_under_name s r.name) refl r.outcome
   where
-    by : (r : Receives s text bytes now reply new) (o : Option Part) → recorded s r.name ≡ o → answered s r.name bytes now o ≡ Accept reply new → KeepsPart new text bytes reply.entry
+    by : (r : Receives s text bytes now reply new) (o : Option Part) → part_under_name s r.name ≡ o → answered s r.name bytes now o ≡ Accept reply new → KeepsPart new text bytes reply.entry
     by r (Some kept) at e = let h = accept_inj _ _ _ _ e in let is = recorded_is s r.name kept at in
         subst (λ (n : State). KeepsPart n text bytes reply.entry) h.1 (record {
           name = r.name;
@@ -113,7 +113,7 @@ accepted_is_kept s (Receive text bytes) now reply new e = let r = receives s tex
           kept = kept;
           named = r.named;
           made = ap (λ (r : Reply). r.entry) (sym h.0);
-          content = held_bytes kept bytes (ap (holds_other bytes) (sym at) ∙ r.none.bytes) (ap is_dropped (sym at) ∙ r.none.dropped);
+          content = held_bytes kept bytes (ap (has_other_bytes bytes) (sym at) ∙ r.none.bytes) (ap is_dropped (sym at) ∙ r.none.dropped);
           kind = is.1;
           registry = r.none.registry;
           size = r.none.size;
@@ -145,7 +145,7 @@ accepted_is_kept s (Statement st) now reply new e = let r = accepts_statement s 
     by r None at e = let h = accept_inj _ _ _ _ e in
         subst (λ (n : State). KeepsVerdict n st reply.entry) h.1 (record {
           kept = (next_key s.notices st.tld, verdict_notice st (verdict_on s st) now);
-          found = kept_of (with_notice s (next_key s.notices st.tld) (verdict_notice st (verdict_on s st) now)) st (next_key s.notices st.tld, verdict_notice st (verdict_on s st) now) (λ i. not (r.none.kind i) && not (r.none.number i))
+          found = kept_of (state_with_notice s (next_key s.notices st.tld) (verdict_notice st (verdict_on s st) now)) st (next_key s.notices st.tld, verdict_notice st (verdict_on s st) now) (λ i. not (r.none.kind i) && not (r.none.number i))
               (find_new notice_total s.notices (next_key s.notices st.tld) (verdict_notice st (verdict_on s st) now) (next_is_new s.notices st.tld) (is_verdict_on st) passes (none_found (is_verdict_on st) (entries s.notices) (unstated_of s st now r.none at))) (verdict_id st (verdict_on s st));
           made = ap (λ (q : Reply). q.entry) (sym h.0);
           registry = r.none.registry;
@@ -167,7 +167,7 @@ accepted_is_kept s (Check tld day) now reply new e = let r = accepts_check s tld
         })
 accepted_is_kept s (Release reference tld reason) now reply new e = let r = accepts_release s reference tld reason now reply new e in by r (kept_release s reference tld reason) refl r.outcome
   where
-    on : is_on tld reason (new_release s tld reason now) ≡ true
+    on : is_on_ground tld reason (new_release s tld reason now) ≡ true
     on = λ i. (text_decides tld tld).1 refl i && (ground_decides reason reason).1 refl i
 
     by : (r : IsReleased s reference tld reason now reply new) (o : Option kept_in.Release) → kept_release s reference tld reason ≡ o → released_by s reference tld reason now o ≡ Accept reply new → KeepsRelease new reference tld reason reply.entry
@@ -176,7 +176,7 @@ accepted_is_kept s (Release reference tld reason) now reply new e = let r = acce
     by r None at e = let h = accept_inj _ _ _ _ e in
         subst (λ (n : State). KeepsRelease n reference tld reason reply.entry) h.1 (record {
           kept = new_release s tld reason now;
-          found = kept_release_of (with_release s reference (new_release s tld reason now)) reference tld reason (new_release s tld reason now) (insert_here text_total s.releases reference (new_release s tld reason now)) on;
+          found = kept_release_of (state_with_release s reference (new_release s tld reason now)) reference tld reason (new_release s tld reason now) (insert_here text_total s.releases reference (new_release s tld reason now)) on;
           made = ap (λ (q : Reply). q.entry) (sym h.0);
           registry = r.none.registry;
         })
@@ -192,7 +192,7 @@ accepted_is_kept s (Hold reference tld day) now reply new e = let r = accepts_ho
         subst (λ (n : State). KeepsHold n reference tld day reply.entry) h.1 (record {
           told = new_hold tld day now;
           kept = new_hold tld day now;
-          found = kept_hold_of (with_hold s reference (new_hold tld day now)) reference tld day (new_hold tld day now) (insert_here text_total s.holds reference (new_hold tld day now)) on;
+          found = kept_hold_of (state_with_hold s reference (new_hold tld day now)) reference tld day (new_hold tld day now) (insert_here text_total s.holds reference (new_hold tld day now)) on;
           made = ap (λ (q : Reply). q.entry) (sym h.0);
           same = inl refl;
           registry = r.none.registry;
@@ -203,7 +203,7 @@ accepted_is_kept s (Lift reference) now reply new e = let r = accepts_lift s ref
     by r (Some moment) at e = let h = accept_inj _ _ _ _ e in
         (moment, ap (λ (n : State). lifting_of n reference) (sym h.1) ∙ lifting_is s reference r.hold r.at ∙ at, ap (λ (q : Reply). q.entry) (sym h.0))
     by r None at e = let h = accept_inj _ _ _ _ e in
-        (now, ap (λ (n : State). lifting_of n reference) (sym h.1) ∙ lifting_is (with_hold s reference (lifted_at now r.hold)) reference (lifted_at now r.hold) (lifted_here s reference r.hold now r.at at), ap (λ (q : Reply). q.entry) (sym h.0))
+        (now, ap (λ (n : State). lifting_of n reference) (sym h.1) ∙ lifting_is (state_with_hold s reference (lifted_at now r.hold)) reference (lifted_at now r.hold) (lifted_here s reference r.hold now r.at at), ap (λ (q : Reply). q.entry) (sym h.0))
 accepted_is_kept s Purge now reply new e = (count_due s (day_of now), ap (λ (q : Reply). q.entry) (sym (purges s now reply new e).0))
 
 -- the record that a reply shows is that of the state
@@ -213,9 +213,9 @@ replies_are_records old new (Register tld day) now reply e = by (first_day_of ol
     by : (o : Option ℕ) → first_day_of old tld ≡ o → registered old tld day now o ≡ Accept reply new → HasRecord new reply.entry
     by (Some kept) at e = let h = accept_inj _ _ _ _ e in subst (λ (r : Reply). HasRecord new r.entry) h.0 (ap (λ (n : State). first_day_of n tld) (sym h.1) ∙ at)
     by None at e = let h = accept_inj _ _ _ _ e in subst (λ (r : Reply). HasRecord new r.entry) h.0 (ap (λ (n : State). first_day_of n tld) (sym h.1) ∙ insert_here text_total old.registries tld day)
-replies_are_records old new (Receive text bytes) now reply e = let r = receives old text bytes now reply new e in by r (recorded old r.name) refl r.outcome
+replies_are_records old new (Receive text bytes) now reply e = let r = receives old text bytes now reply new e in by r (part_under_name old r.name) refl r.outcome
   where
-    by : (r : Receives old text bytes now reply new) (o : Option Part) → recorded old r.name ≡ o → answered old r.name bytes now o ≡ Accept reply new → HasRecord new reply.entry
+    by : (r : Receives old text bytes now reply new) (o : Option Part) → part_under_name old r.name ≡ o → answered old r.name bytes now o ≡ Accept reply new → HasRecord new reply.entry
     by r (Some kept) at e = let h = accept_inj _ _ _ _ e in subst (λ (q : Reply). HasRecord new q.entry) h.0 (ap (λ (n : State). part_at n (key_of r.name)) (sym h.1) ∙ (recorded_is old r.name kept at).0)
     by r None at e = let h = accept_inj _ _ _ _ e in subst (λ (q : Reply). HasRecord new q.entry) h.0 (ap (λ (n : State). part_at n (key_of r.name)) (sym h.1) ∙ insert_here part_total old.parts (key_of r.name) (received_part r.name bytes now))
 replies_are_records old new (Statement st) now reply e = let r = accepts_statement old st now reply new e in by (kept_verdict old st) refl r.outcome
@@ -254,7 +254,7 @@ replies_are_records old new Purge now reply e = subst (λ (q : Reply). HasRecord
 pub kept_is_there : (s : State) (c : Command) (entry : Record) → Keeps s c entry → IsOfCommand c entry × StillHas s entry
 kept_is_there s (Register tld day) entry h = subst (λ e. IsOfCommand (Register tld day) e × StillHas s e) (sym h.2) (refl, still s (OfRegistry tld h.0) h.1)
 kept_is_there s (Receive text bytes) entry h = subst (λ e. IsOfCommand (Receive text bytes) e × StillHas s e) (sym h.made)
-    ((h.name, h.named, refl, (kind_decides h.part.kind h.name.kind).0 h.kind, h.content), (OfPart (key_of h.name) h.kept, h.at, by h.same))
+    ((h.name, h.named, refl, (same_kind_decides h.part.kind h.name.kind).0 h.kind, h.content), (OfPart (key_of h.name) h.kept, h.at, by h.same))
   where
     by : IsKeptPart h.part h.kept → IsKeptAs (OfPart (key_of h.name) h.part) (OfPart (key_of h.name) h.kept)
     by (inl p) = inl (ap (OfPart (key_of h.name)) p)
@@ -300,15 +300,15 @@ kept_kind part kept kind (inl p) e = ap (λ (q : Part). is_same_kind q.kind kind
 kept_kind part kept kind (inr p) e = ap (λ (q : Part). is_same_kind q.kind kind) p ∙ e
 
 -- what has no key has the key of none
-other_than_none : (k : Option Key) → are_same_keys k None ≡ false
+other_than_none : (k : Option CommandKey) → are_same_keys k None ≡ false
 other_than_none None = refl
 other_than_none (Some (OfTld a)) = refl
 other_than_none (Some (OfName a)) = refl
 other_than_none (Some (OfRevision a d r)) = refl
 other_than_none (Some (OfDay a d)) = refl
-other_than_none (Some (OfReference a)) = refl
-other_than_none (Some (OfHolding a)) = refl
-other_than_none (Some (OfLift a)) = refl
+other_than_none (Some (OfReleaseReference a)) = refl
+other_than_none (Some (OfHoldReference a)) = refl
+other_than_none (Some (OfLiftReference a)) = refl
 
 -- A command with the key of one that was accepted changes nothing, and makes nothing else, where it is accepted.
 pub same_key_is_kept : (s : State) (c d : Command) (entry : Record) (now : ℕ) (reply : Reply) (new : State) → Keeps s c entry → has_same_key d c ≡ true → step s d now ≡ Accept reply new → Keeps s d entry × (new ≡ s)
@@ -321,9 +321,9 @@ same_key_is_kept s (Receive text bytes) (Receive other others) entry now reply n
     let is : other ≡ text = (text_decides other text).0 same in
     let r = receives s other others now reply new e in
     let name : r.name ≡ h.name = one_name other text r.name h.name is r.named h.named in
-    let at : recorded s r.name ≡ Some h.kept = ap (recorded s) name ∙ recorded_of s h.name h.kept h.at (kept_kind h.part h.kept h.name.kind h.same h.kind) in
+    let at : part_under_name s r.name ≡ Some h.kept = ap (part_under_name s) name ∙ recorded_of s h.name h.kept h.at (kept_kind h.part h.kept h.name.kind h.same h.kind) in
     let outcome : answered s r.name others now (Some h.kept) ≡ Accept reply new = ap (answered s r.name others now) (sym at) ∙ r.outcome in
-    let held : h.kept.content ≡ Held others = held_bytes h.kept others (ap (holds_other others) (sym at) ∙ r.none.bytes) (ap is_dropped (sym at) ∙ r.none.dropped) in (
+    let held : h.kept.content ≡ Held others = held_bytes h.kept others (ap (has_other_bytes others) (sym at) ∙ r.none.bytes) (ap is_dropped (sym at) ∙ r.none.dropped) in (
       record {
         name = h.name;
         part = h.part;
@@ -353,15 +353,15 @@ same_key_is_kept s (Statement st) (Statement other) entry now reply new h same e
     let c : other.rev ≡ st.rev = (Decides-eqb other.rev st.rev).0 y.1 in
     let tells = kept_tells s st h.kept h.found in
     let r = accepts_statement s other now reply new e in
-    let told : verdict_told s other ≡ Some h.kept = (λ i. list.find (is_notice_of (a i) (b i) (is_verdict_of (c i))) (entries s.notices)) ∙ tells.1 in
+    let told : recorded_verdict s other ≡ Some h.kept = (λ i. list.find (is_notice_of (a i) (b i) (is_verdict_of (c i))) (entries s.notices)) ∙ tells.1 in
     by r told (kept_verdict s other) refl r.outcome
   where
     one : (p q : NoticeKey × Notice) (o : Option (NoticeKey × Notice)) → o ≡ Some p → o ≡ Some q → p ≡ q
     one p q o x y = cc
 
-    by : (r : IsStated s other now reply new) → verdict_told s other ≡ Some h.kept → (o : Option (NoticeKey × Notice)) → kept_verdict s other ≡ o → stated_by s other now o ≡ Accept reply new → KeepsVerdict s other entry × (new ≡ s)
+    by : (r : IsStated s other now reply new) → recorded_verdict s other ≡ Some h.kept → (o : Option (NoticeKey × Notice)) → kept_verdict s other ≡ o → stated_by s other now o ≡ Accept reply new → KeepsVerdict s other entry × (new ≡ s)
     by r told (Some kept) at e = let is = accept_inj _ _ _ _ e in
-        (record { kept = h.kept; found = at ∙ ap Some (one kept h.kept (verdict_told s other) (kept_tells s other kept at).1 told); made = h.made; registry = r.none.registry }, sym is.1)
+        (record { kept = h.kept; found = at ∙ ap Some (one kept h.kept (recorded_verdict s other) (kept_tells s other kept at).1 told); made = h.made; registry = r.none.registry }, sym is.1)
     by r told None at e = let clash : true ≡ false = sym (told_is_there s other h.kept told).1 ∙ unstated_of s other now r.none at in cc
 same_key_is_kept s (Check tld day) (Check other later) entry now reply new h same e =
     let x = and_both _ _ same in
@@ -380,8 +380,8 @@ same_key_is_kept s (Release reference tld reason) (Release other of on) entry no
     one p q o x y = cc
 
     by : other ≡ reference → get s.releases other ≡ Some h.kept → (r : IsReleased s other of on now reply new) (o : Option kept_in.Release) → kept_release s other of on ≡ o → released_by s other of on now o ≡ Accept reply new → KeepsRelease s other of on entry × (new ≡ s)
-    by is there r (Some kept) at e =
-        let same : kept ≡ h.kept = one kept h.kept (get s.releases other) (kept_release_is s other of on kept at).0 there in
+    by is there r (Some kept_record) at e =
+        let same : kept_record ≡ h.kept = one kept_record h.kept (get s.releases other) (kept_release_is s other of on kept_record at).0 there in
         (record { kept = h.kept; found = at ∙ ap Some same; made = h.made ∙ ap (λ t. OfRelease t h.kept) (sym is); registry = r.none.registry }, sym (accept_inj _ _ _ _ e).1)
     by is there r None at e = let clash : Some h.kept ≡ None = sym there ∙ unused_of s other of on now r.none at in cc
 same_key_is_kept s (Hold reference tld day) (Hold other of on) entry now reply new h same e =
@@ -393,8 +393,8 @@ same_key_is_kept s (Hold reference tld day) (Hold other of on) entry now reply n
     one p q o x y = cc
 
     by : other ≡ reference → get s.holds other ≡ Some h.kept → (r : IsHeld s other of on now reply new) (o : Option kept_in.Hold) → kept_hold s other of on ≡ o → held_by s other of on now o ≡ Accept reply new → KeepsHold s other of on entry × (new ≡ s)
-    by is there r (Some kept) at e =
-        let same : kept ≡ h.kept = one kept h.kept (get s.holds other) (kept_hold_is s other of on kept at).0 there in
+    by is there r (Some kept_record) at e =
+        let same : kept_record ≡ h.kept = one kept_record h.kept (get s.holds other) (kept_hold_is s other of on kept_record at).0 there in
         (record { told = h.told; kept = h.kept; found = at ∙ ap Some same; made = h.made ∙ ap (λ t. OfHold t h.told) (sym is); same = h.same; registry = r.none.registry }, sym (accept_inj _ _ _ _ e).1)
     by is there r None at e = let clash : Some h.kept ≡ None = sym there ∙ unheld_of s other of on now r.none at in cc
 same_key_is_kept s (Lift reference) (Lift other) entry now reply new h same e =
@@ -403,27 +403,27 @@ same_key_is_kept s (Lift reference) (Lift other) entry now reply new h same e =
     let r = accepts_lift s other now reply new e in
     let outcome : lifted_by s other now r.hold (Some h.0) ≡ Accept reply new = ap (lifted_by s other now r.hold) (sym (sym (lifting_is s other r.hold r.at) ∙ at)) ∙ r.outcome in
     ((h.0, at, h.2 ∙ ap (λ t. OfLifting t h.0) (sym is)), sym (accept_inj _ _ _ _ outcome).1)
-same_key_is_kept s Purge d entry now reply new h same e = let clash : true ≡ false = sym same ∙ other_than_none (key d) in cc
+same_key_is_kept s Purge d entry now reply new h same e = let clash : true ≡ false = sym same ∙ other_than_none (command_key d) in cc
 same_key_is_kept s c d entry now reply new h same e = cc
 
--- the outcome of a command that asks again
+-- the step of a command that asks again
 abbrev pub Again : State → Command → Record → ℕ → Type 0
 Again s d entry now = (step s d now ≡ Accept (record { entry = entry; is_repeat = true }) s) ⊎ ((step s d now ≡ Refuse DroppedAfterKeeping) × IsDroppedSince s d)
 
 -- What is kept does not rest on what is not compared.
-as_asked : (s : State) (c : Command) (entry : Record) → Keeps s c entry → Keeps s (asked c) entry
+as_asked : (s : State) (c : Command) (entry : Record) → Keeps s c entry → Keeps s (compared_command c) entry
 as_asked s (Register tld day) entry h = h
 as_asked s c entry h = h
 
-of_asked : (s : State) (c : Command) (entry : Record) → Keeps s (asked c) entry → Keeps s c entry
+of_asked : (s : State) (c : Command) (entry : Record) → Keeps s (compared_command c) entry → Keeps s c entry
 of_asked s (Register tld day) entry h = h
 of_asked s c entry h = h
 
-pub kept_again : (s : State) (c d : Command) (entry : Record) → Keeps s c entry → asked c ≡ asked d → Keeps s d entry
+pub kept_again : (s : State) (c d : Command) (entry : Record) → Keeps s c entry → compared_command c ≡ compared_command d → Keeps s d entry
 kept_again s c d entry h again = of_asked s d entry (subst (λ a. Keeps s a entry) again (as_asked s c entry h))
 
 -- What is not compared is no part of a key.
-pub key_of_asked : (c : Command) → key (asked c) ≡ key c
+pub key_of_asked : (c : Command) → command_key (compared_command c) ≡ command_key c
 key_of_asked (Register tld day) = refl
 key_of_asked c = refl
 
@@ -449,32 +449,32 @@ as_now s (Lift reference) entry h = (OfLifting reference h.0, subst (λ e. IsKep
 as_now s Purge entry h = (OfPurge h.0, subst (λ e. IsKeptAs e (OfPurge h.0)) (sym h.1) refl, (h.0, refl), tt)
 
 -- A command with a key of which a record is kept is answered by it, as the state has it, or that its bytes are dropped; and no bytes decide it.
-pub asked_again : (s : State) (d : Command) (entry : Record) (now : ℕ) → is_some (key d) ≡ true → Keeps s d entry → IsAsNow s entry → Again s d entry now × (reads s d now ≡ [])
+pub asked_again : (s : State) (d : Command) (entry : Record) (now : ℕ) → is_some (command_key d) ≡ true → Keeps s d entry → IsAsNow s entry → Again s d entry now × (deciding_keys s d now ≡ [])
 asked_again s Purge entry now keyed h as_is = cc
 asked_again s (Register tld day) entry now keyed h as_is =
     (inl (step_none s (Register tld day) now refl ∙ ap (registered s tld day now) h.1 ∙ ap (λ e. Accept (record { entry = e; is_repeat = true }) s) (sym h.2)), refl)
 asked_again s (Receive text bytes) entry now keyed h as_is = by h.same
   where
-    at : recorded s h.name ≡ Some h.kept
+    at : part_under_name s h.name ≡ Some h.kept
     at = recorded_of s h.name h.kept h.at (kept_kind h.part h.kept h.name.kind h.same h.kind)
 
-    is_new : is_none (recorded s h.name) ≡ false
+    is_new : is_none (part_under_name s h.name) ≡ false
     is_new = ap is_none at
 
-    not_new : (b : Bool) → (is_none (recorded s h.name) && b) ≡ false
+    not_new : (b : Bool) → (is_none (part_under_name s h.name) && b) ≡ false
     not_new b = ap (λ a. a && b) is_new
 
-    refusal_by : (o : Option Refusal) → first_standing (receive_tests s h.name bytes now) ≡ o → refusal_of s (Receive text bytes) now ≡ o
-    refusal_by o e = ap (λ r. first_standing (named_tests s r bytes now)) h.named ∙ e
+    refusal_by : (o : Option Refusal) → first_refusal (receive_tests s h.name bytes now) ≡ o → refusal_of s (Receive text bytes) now ≡ o
+    refusal_by o e = ap (λ r. first_refusal (named_tests s r bytes now)) h.named ∙ e
 
-    reads_by : (o : Option Refusal) → first_standing (receive_tests s h.name bytes now) ≡ o → read_by o (Ok h.name) ≡ [] → reads s (Receive text bytes) now ≡ []
-    reads_by o e none = (λ i. read_by (refusal_by o e i) (h.named i)) ∙ none
+    reads_by : (o : Option Refusal) → first_refusal (receive_tests s h.name bytes now) ≡ o → compared_keys o (Ok h.name) ≡ [] → deciding_keys s (Receive text bytes) now ≡ []
+    reads_by o e none = (λ i. compared_keys (refusal_by o e i) (h.named i)) ∙ none
 
-    by : IsKeptPart h.part h.kept → Again s (Receive text bytes) entry now × (reads s (Receive text bytes) now ≡ [])
+    by : IsKeptPart h.part h.kept → Again s (Receive text bytes) entry now × (deciding_keys s (Receive text bytes) now ≡ [])
     by (inl p) =
         let content : h.kept.content ≡ Held bytes = ap (λ (q : Part). q.content) p ∙ h.content in
-        let other_bytes : holds_other bytes (recorded s h.name) ≡ false = ap (holds_other bytes) at ∙ ap (is_held_with_other bytes) content ∙ ap not ((text_decides bytes bytes).1 refl) in
-        let dropped : is_dropped (recorded s h.name) ≡ false = ap is_dropped at ∙ ap is_gone content in
+        let other_bytes : has_other_bytes bytes (part_under_name s h.name) ≡ false = ap (has_other_bytes bytes) at ∙ ap (is_held_with_other bytes) content ∙ ap not ((text_decides bytes bytes).1 refl) in
+        let dropped : is_dropped (part_under_name s h.name) ≡ false = ap is_dropped at ∙ ap are_bytes_dropped content in
         let none : NoneStands s h.name bytes now = record {
           registry = h.registry;
           date = not_new _;
@@ -492,17 +492,17 @@ asked_again s (Receive text bytes) entry now keyed h as_is = by h.same
           reads_by None nothing refl,
         )
     by (inr p) =
-        let content : is_gone h.kept.content ≡ true = ap (λ (q : Part). is_gone q.content) p in
-        let other_bytes : holds_other bytes (recorded s h.name) ≡ false = ap (holds_other bytes) at ∙ ap (λ (q : Part). is_held_with_other bytes q.content) p in
-        let dropped : is_dropped (recorded s h.name) ≡ true = ap is_dropped at ∙ content in
+        let content : are_bytes_dropped h.kept.content ≡ true = ap (λ (q : Part). are_bytes_dropped q.content) p in
+        let other_bytes : has_other_bytes bytes (part_under_name s h.name) ≡ false = ap (has_other_bytes bytes) at ∙ ap (λ (q : Part). is_held_with_other bytes q.content) p in
+        let dropped : is_dropped (part_under_name s h.name) ≡ true = ap is_dropped at ∙ content in
         let stands = find_dropped s h.name bytes now h.registry (not_new _) h.size other_bytes dropped in
         (inr (step_refuses s (Receive text bytes) now DroppedAfterKeeping (refusal_by (Some DroppedAfterKeeping) stands), (h.name, h.named, dropped)), reads_by (Some DroppedAfterKeeping) stands refl)
 asked_again s (Statement st) entry now keyed h as_is = (
   inl (step_none s (Statement st) now none ∙ ap (stated_by s st now) h.found ∙ ap (λ e. Accept (record { entry = e; is_repeat = true }) s) (sym h.made)),
-  (λ i. if_made (none i) (option_map (λ (e : NoticeKey × Notice). OfNotice e.0 e.1) (h.found i)) (verdict_keys s st)),
+  (λ i. keys_if_made (none i) (option_map (λ (e : NoticeKey × Notice). OfNotice e.0 e.1) (h.found i)) (verdict_keys s st)),
 )
   where
-    tells : (are_as_stated s st ≡ true) × (verdict_told s st ≡ Some h.kept) × (has_id st.id h.kept.1.kind ≡ true)
+    tells : (are_parts_as_stated s st ≡ true) × (recorded_verdict s st ≡ Some h.kept) × (has_id st.id h.kept.1.kind ≡ true)
     tells = kept_tells s st h.kept h.found
 
     not_new : (b : Bool) → (is_none (kept_verdict s st) && b) ≡ false
@@ -518,8 +518,8 @@ asked_again s (Statement st) entry now keyed h as_is = (
       date = not_new (is_outside s (first_part st) now);
       dropped = ap (λ b. not b && has_dropped_part s (first_part st)) (told_is_there s st h.kept tells.1).1;
       stated = not_new (has_verdict s st);
-      kind = false_of (has_part_of_other_kind s (first_part st)) (and_both (not (has_part_of_other_kind s (first_part st))) (not (differ_in_number s st)) tells.0).0;
-      number = false_of (differ_in_number s st) (and_both (not (has_part_of_other_kind s (first_part st))) (not (differ_in_number s st)) tells.0).1;
+      kind = false_of (has_part_of_other_kind s (first_part st)) (and_both (not (has_part_of_other_kind s (first_part st))) (not (has_other_count s st)) tells.0).0;
+      number = false_of (has_other_count s st) (and_both (not (has_part_of_other_kind s (first_part st))) (not (has_other_count s st)) tells.0).1;
       later = not_new (has_later_receipt s st);
     })
 asked_again s (Check tld day) entry now keyed h as_is =
@@ -531,7 +531,7 @@ asked_again s (Check tld day) entry now keyed h as_is =
     none : refusal_of s (Check tld day) now ≡ None
     none = find_none_on s tld day now (record {
       registry = h.registry;
-      date = not_new (is_beyond s tld day now);
+      date = not_new (is_day_outside s tld day now);
       due = not_new (day == day_of now);
       verdict = not_new (has_notice s.notices tld day is_verdict);
     })
@@ -559,11 +559,11 @@ asked_again s (Hold reference tld day) entry now keyed h as_is =
     none : refusal_of s (Hold reference tld day) now ≡ None
     none = find_none_to s reference tld day now (record {
       registry = h.registry;
-      date = ap (λ o. is_none o && is_beyond s tld day now) h.found;
+      date = ap (λ o. is_none o && is_day_outside s tld day now) h.found;
       used = (λ i. is_some (there i) && is_none (h.found i));
     })
 asked_again s (Lift reference) entry now keyed h as_is =
-    (inl (step_none s (Lift reference) now none ∙ ap (λ o. unless_kept s (option_map (OfLifting reference) o) (lifted s reference now (hold_of s reference))) h.1 ∙ ap (λ e. Accept (record { entry = e; is_repeat = true }) s) (sym h.2)), refl)
+    (inl (step_none s (Lift reference) now none ∙ ap (λ o. unless_kept s (option_map (OfLifting reference) o) (lift_step s reference now (hold_of s reference))) h.1 ∙ ap (λ e. Accept (record { entry = e; is_repeat = true }) s) (sym h.2)), refl)
   where
     none : refusal_of s (Lift reference) now ≡ None
     none = ap (λ o. cond (is_none o) (Some HoldUnknown) None) (lifting_has s reference h.0 h.1).1

@@ -7,10 +7,10 @@ use Rattle.custody_records.specs.Keys.{part_cmp}
 use Rattle.custody_records.specs.Records.{Records}
 use Rattle.custody_records.specs.Rows.{Rows}
 use Rattle.custody_machine.specs.State.{State}
-use Rattle.custody_machine.specs.Machine.{Command, after, Answer, Failed, Fault, NoMemory, VolumeFailed, StoreFailed, Closed, Damage, Damaged, Answers}
-use Rattle.custody_machine.specs.History.{IsFoundWithin, MayFind, doubt_of, is_open_after, Pair, Opened, NotOpened, MayOpen, Event, Answered, Rested, ShutDown, StoppedAtRest, StoppedWithin, OpenedWith, Condition, Running, Halted, Stopped, OpensSoundly, Happens, Run, Begins, Found, found, found_after, none_found}
-use Rattle.custody_machine.specs.Stored.{part_of, content_of, state_in, Stands, HasDigests, IsSound, OpensFrom}
-use Rattle.custody_machine.specs.Moves.{Place, Serving, Shut, Left, MayLeave, Finds, MayNotOpen, Moves, MovesAlong, IsBegun, MovesAreHistories, IsIn, PlacesAreRight, fault_told, NoDamageIsTold, ReadsBackAsReceived, FindsOne, ChainsMove}
+use Rattle.custody_machine.specs.Machine.{Command, after, Answer, Failed, Failure, NoMemory, VolumeFailed, StoreFailed, Closed, Damage, Damaged, MayAnswer}
+use Rattle.custody_machine.specs.History.{IsFoundWithin, MayFind, doubt_of, is_open_after, Pair, Opened, NotOpened, MayOpen, Event, Answered, AnsweredOtherCall, ShutDown, StoppedAtRest, StoppedWithin, OpenedWith, Condition, Running, Halted, Stopped, OpensSoundly, Happens, HappensAlong, IsStart, FoundCommands, found, found_after, none_found}
+use Rattle.custody_machine.specs.StoredState.{part_of, content_of, state_in, StandsFor, HasDigests, IsSound, OpensFrom}
+use Rattle.custody_machine.specs.Moves.{Place, Serving, Shut, Left, MayLeave, Finds, MayNotOpen, Moves, MovesAlong, IsBegun, MovesAreHistories, IsInState, PlacesAreRight, reported_failure, NoDamageIsReported, ReadsBackAsReceived, FindsOne, AnswersAreMoves}
 use Rattle.custody_machine.proofs.MapValues.{get-map_values}
 use Rattle.custody_machine.proofs.Histories.{Fits, fits_after, fits_first}
 use Rattle.custody_machine.proofs.Received.{held_as_received}
@@ -21,10 +21,10 @@ use Rattle.custody_machine.proofs.Damages.{damaged_stands}
 abbrev pub pair_of : State → Pair
 pair_of state = record { opens = Some state; is_sound = true }
 
-pub finds_some : (rows : Rows) (image : List ℕ) (state : State) → Stands rows image state → IsSound rows image → Finds rows image (pair_of state)
+pub finds_some : (rows : Rows) (image : List ℕ) (state : State) → StandsFor rows image state → IsSound rows image → Finds rows image (pair_of state)
 finds_some rows image state stands sound = record { opens = stands; sound = λ _. refl; only_sound = λ _. sound }
 
-same_opens : (rows : Rows) (image : List ℕ) (o p : Option State) → MatchOption o ((state : State) → ¬ Stands rows image state) (λ state. Stands rows image state) → MatchOption p ((state : State) → ¬ Stands rows image state) (λ state. Stands rows image state) → o ≡ p
+same_opens : (rows : Rows) (image : List ℕ) (o p : Option State) → MatchOption o ((state : State) → ¬ StandsFor rows image state) (λ state. StandsFor rows image state) → MatchOption p ((state : State) → ¬ StandsFor rows image state) (λ state. StandsFor rows image state) → o ≡ p
 same_opens rows image None None x y = refl
 same_opens rows image None (Some t) x y = absurd (x t y)
 same_opens rows image (Some s) None x y = absurd (y s x)
@@ -54,7 +54,7 @@ Follows (Shut records image doubt) (Halted old entry) = (old ≡ state_in record
 Follows (Shut records image doubt) (Stopped pair) = ⊥
 Follows (Left rows image) (Running state) = ⊥
 Follows (Left rows image) (Halted old doubt) = ⊥
-Follows (Left rows image) (Stopped pair) = (state : State) × Stands rows image state × IsSound rows image × (pair ≡ pair_of state)
+Follows (Left rows image) (Stopped pair) = (state : State) × StandsFor rows image state × IsSound rows image × (pair ≡ pair_of state)
 
 -- an event goes from a condition to one that follows the place
 abbrev Goes : Condition → Event → Place → Type 0
@@ -83,8 +83,8 @@ answered_follows records image state command now answer next follows m = by (is_
     old : state_in records image ≡ state
     old = sym follows.0
 
-    allowed : Answers state command now answer (state_in new later)
-    allowed = subst (λ s. Answers s command now answer (state_in new later)) old m.2
+    allowed : MayAnswer state command now answer (state_in new later)
+    allowed = subst (λ s. MayAnswer s command now answer (state_in new later)) old m.2
 
     by : (b : Bool) → is_open_after answer ≡ b → Goes (Running state) (Answered command now answer) next
     by true e = (
@@ -101,7 +101,7 @@ answered_follows records image state command now answer next follows m = by (is_
 -- each move is an event of the history
 pub move_happens : (place : Place) (condition : Condition) (event : Event) (next : Place) → Follows place condition → Moves place event next → Goes condition event next
 move_happens (Serving records image) (Running state) (Answered command now answer) next follows m = answered_follows records image state command now answer next follows m
-move_happens (Serving records image) (Running state) Rested next follows m =
+move_happens (Serving records image) (Running state) AnsweredOtherCall next follows m =
     (Running state, refl, subst (λ p. Follows p (Running state)) (sym m.3) (follows.0 ∙ sym m.1, sound_from records records image m.0 m.2 follows.1))
 move_happens (Serving records image) (Running state) ShutDown next follows m = (Halted state None, refl, subst (λ p. Follows p (Halted state None)) (sym m) (follows.0, refl, follows.1))
 move_happens (Serving records image) (Running state) (StoppedAtRest pair) next follows m =
@@ -112,7 +112,7 @@ move_happens (Serving records image) (Running state) (StoppedWithin command now 
     (Stopped pair, (subst (λ s. OpensSoundly (IsFoundWithin s command now) pair) (sym follows.0) (opens_soundly records image follows.1 P m.0 m.1 pair m.2 m.3), refl), subst (λ p. Follows p (Stopped pair)) (sym m.4) (follows_left records image follows.1 P m.0 m.1 pair m.2 m.3))
 move_happens (Serving records image) (Running state) (OpenedWith pair answer) next follows m = absurd m
 move_happens (Shut records image doubt) (Halted old entry) (Answered command now answer) next follows m = (Halted old entry, (m.0, refl), subst (λ p. Follows p (Halted old entry)) (sym m.1) follows)
-move_happens (Shut records image doubt) (Halted old entry) Rested next follows m = (Halted old entry, refl, subst (λ p. Follows p (Halted old entry)) (sym m) follows)
+move_happens (Shut records image doubt) (Halted old entry) AnsweredOtherCall next follows m = (Halted old entry, refl, subst (λ p. Follows p (Halted old entry)) (sym m) follows)
 move_happens (Shut records image doubt) (Halted old entry) ShutDown next follows m = (Halted old entry, refl, subst (λ p. Follows p (Halted old entry)) (sym m) follows)
 move_happens (Shut records image doubt) (Halted old entry) (StoppedAtRest pair) next follows m =
     let P : State → Type 0 = MayFind (state_in records image) doubt in (
@@ -128,13 +128,13 @@ move_happens (Shut records image doubt) (Halted old entry) (StoppedWithin comman
     )
 move_happens (Shut records image doubt) (Halted old entry) (OpenedWith pair answer) next follows m = absurd m
 move_happens (Left rows image) (Stopped left) (Answered command now answer) next follows m = absurd m
-move_happens (Left rows image) (Stopped left) Rested next follows m = absurd m
+move_happens (Left rows image) (Stopped left) AnsweredOtherCall next follows m = absurd m
 move_happens (Left rows image) (Stopped left) ShutDown next follows m = absurd m
 move_happens (Left rows image) (Stopped left) (StoppedAtRest pair) next follows m = stopped rows image left pair m.0 m.1 next follows m.2 m.3 m.4
   where
     stopped : (rows : Rows) (image : List ℕ) (left pair : Pair) (others : Rows) (other : List ℕ) (next : Place) → Follows (Left rows image) (Stopped left) → MayLeave (Left rows image) others other → Finds others other pair → next ≡ Left others other → Goes (Stopped left) (StoppedAtRest pair) next
     stopped rows image left pair others other next follows may finds is =
-        let s : Stands rows image follows.0 = follows.1 in
+        let s : StandsFor rows image follows.0 = follows.1 in
         let has : HasDigests image s.records = follows.2 s.records s.in_form in
         let o = may s.records s.in_form s.good in
         let P : State → Type 0 = λ found. found ≡ state_in s.records image in
@@ -143,29 +143,29 @@ move_happens (Left rows image) (Stopped left) (StoppedAtRest pair) next follows 
 move_happens (Left rows image) (Stopped left) (StoppedWithin command now pair) next follows m = absurd m
 move_happens (Left rows image) (Stopped left) (OpenedWith pair (Opened state)) next follows m =
     let finds = m.0 in let r = m.1 in
-    let stands : Stands rows image state = record { records = r.0; in_form = r.1; good = r.2; meaning = r.3 } in
+    let stands : StandsFor rows image state = record { records = r.0; in_form = r.1; good = r.2; meaning = r.3 } in
     let same : pair ≡ pair_of state = finds_one rows image pair (pair_of state) finds (finds_some rows image state stands follows.2) in
     let left_is : left ≡ pair_of state = follows.3 ∙ ap pair_of (stands_for_one rows image follows.0 state follows.1 stands) in
     (Running state, (same ∙ sym left_is, ap (λ (p : Pair). p.opens) same, refl), subst (λ p. Follows p (Running state)) (sym r.4) (r.3, follows.2 r.0 r.1))
-move_happens (Left rows image) (Stopped left) (OpenedWith pair (NotOpened fault)) next follows m = failed rows image left pair fault m.2.0 m.2.1 next follows m.0 m.1 m.2.2 m.2.3
+move_happens (Left rows image) (Stopped left) (OpenedWith pair (NotOpened failure)) next follows m = failed rows image left pair failure m.2.0 m.2.1 next follows m.0 m.1 m.2.2 m.2.3
   where
-    may_open : (rows : Rows) (image : List ℕ) (state : State) (opens : Option State) (fault : Fault) → Stands rows image state → MayNotOpen rows image fault → MayOpen opens (NotOpened fault)
+    may_open : (rows : Rows) (image : List ℕ) (state : State) (opens : Option State) (failure : Failure) → StandsFor rows image state → MayNotOpen rows image failure → MayOpen opens (NotOpened failure)
     may_open rows image state opens NoMemory stands may = tt
     may_open rows image state opens VolumeFailed stands may = tt
     may_open rows image state opens StoreFailed stands may = tt
     may_open rows image state opens Closed stands may = may
     may_open rows image state opens (Damaged damage) stands may = absurd (damaged_stands damage rows image state may.is_true stands)
 
-    failed : (rows : Rows) (image : List ℕ) (left pair : Pair) (fault : Fault) (others : Rows) (other : List ℕ) (next : Place) → Follows (Left rows image) (Stopped left) → Finds rows image pair → MayNotOpen rows image fault → MayLeave (Left rows image) others other → next ≡ Left others other → Goes (Stopped left) (OpenedWith pair (NotOpened fault)) next
-    failed rows image left pair fault others other next follows finds may leaves is =
-        let s : Stands rows image follows.0 = follows.1 in
+    failed : (rows : Rows) (image : List ℕ) (left pair : Pair) (failure : Failure) (others : Rows) (other : List ℕ) (next : Place) → Follows (Left rows image) (Stopped left) → Finds rows image pair → MayNotOpen rows image failure → MayLeave (Left rows image) others other → next ≡ Left others other → Goes (Stopped left) (OpenedWith pair (NotOpened failure)) next
+    failed rows image left pair failure others other next follows finds may leaves is =
+        let s : StandsFor rows image follows.0 = follows.1 in
         let has : HasDigests image s.records = follows.2 s.records s.in_form in
         let o = leaves s.records s.in_form s.good in
         let P : State → Type 0 = λ found. found ≡ state_in s.records image in
         let same : pair ≡ left = finds_one rows image pair (pair_of follows.0) finds (finds_some rows image follows.0 s follows.2) ∙ sym follows.3 in
         let found : pair ≡ pair_of (state_in o.records other) = same ∙ follows.3 ∙ ap pair_of (s.meaning ∙ sym o.state) in (
           Stopped pair,
-          (same, may_open rows image follows.0 pair.opens fault s may, refl),
+          (same, may_open rows image follows.0 pair.opens failure s may, refl),
           subst (λ p. Follows p (Stopped pair)) (sym is) (state_in o.records other, stands_of s.records image P others other o, sound_of s.records image P others other o has, found),
         )
 move_happens (Serving records image) (Halted old entry) event next follows m = absurd follows
@@ -175,14 +175,14 @@ move_happens (Shut records image doubt) (Stopped left) event next follows m = ab
 move_happens (Left rows image) (Running state) event next follows m = absurd follows
 move_happens (Left rows image) (Halted old entry) event next follows m = absurd follows
 
-pub moves_follow : (place : Place) (condition : Condition) (events : List Event) (end : Place) → Follows place condition → MovesAlong place events end → (last : Condition) × Run condition events last × Follows end last
+pub moves_follow : (place : Place) (condition : Condition) (events : List Event) (end : Place) → Follows place condition → MovesAlong place events end → (last : Condition) × HappensAlong condition events last × Follows end last
 moves_follow place condition [] end follows m = (condition, refl, subst (λ p. Follows p condition) (sym m) follows)
 moves_follow place condition (event ∷ events) end follows m =
     let one = move_happens place condition event m.0 follows m.1 in
     let rest = moves_follow m.0 one.0 events end one.2 m.2 in
     (rest.0, (one.0, one.1, rest.1), rest.2)
 
-begun_follows : (first : State) (place : Place) → IsBegun first place → (start : Condition) × Begins first start × Follows place start
+begun_follows : (first : State) (place : Place) → IsBegun first place → (start : Condition) × IsStart first start × Follows place start
 begun_follows first (Serving records image) h = (Running (state_in records image), h.0, (refl, h.1))
 begun_follows first (Shut records image doubt) h = absurd h
 begun_follows first (Left rows image) h = (Stopped (pair_of first), (first, refl, refl, refl), (first, h.0, h.1, refl))
@@ -195,13 +195,13 @@ moves_are_histories first start end events begun m =
 
 -- ---- what holds at each place
 
-is_in : (first : State) (place : Place) (condition : Condition) (f : Found) → Follows place condition → Fits first condition f → IsIn (after first f.commands) place
+is_in : (first : State) (place : Place) (condition : Condition) (f : FoundCommands) → Follows place condition → Fits first condition f → IsInState (after first f.commands) place
 is_in first (Serving records image) (Running state) f follows fits = (sym follows.0 ∙ sym fits.0, follows.1)
 is_in first (Shut records image doubt) (Halted old entry) f follows fits = (sym follows.0 ∙ sym fits.0, follows.2)
 is_in first (Left rows image) (Stopped pair) f follows fits =
     let opens : Some fits.0.0 ≡ Some follows.0 = sym fits.0.1 ∙ ap (λ (p : Pair). p.opens) follows.3 in
     let same : fits.0.0 ≡ follows.0 = cc in
-    (subst (Stands rows image) (sym same ∙ fits.0.2) follows.1, follows.2)
+    (subst (StandsFor rows image) (sym same ∙ fits.0.2) follows.1, follows.2)
 is_in first (Serving records image) (Halted old entry) f follows fits = absurd follows
 is_in first (Serving records image) (Stopped pair) f follows fits = absurd follows
 is_in first (Shut records image doubt) (Running state) f follows fits = absurd follows
@@ -221,7 +221,7 @@ along_split place [] ys end m = (place, refl, m)
 along_split place (x ∷ xs) ys end m = let rest = along_split m.0 xs ys end m.2 in (rest.0, (m.0, m.1, rest.1), rest.2)
 
 -- where no part is damaged, no move tells of damage
-tells_none : (state : State) (place : Place) (event : Event) (next : Place) → IsIn state place → Moves place event next → (damage : Damage) → fault_told event ≢ Some (Damaged damage)
+tells_none : (state : State) (place : Place) (event : Event) (next : Place) → IsInState state place → Moves place event next → (damage : Damage) → reported_failure event ≢ Some (Damaged damage)
 tells_none state (Serving records image) (Answered command now (Failed (Damaged found))) next here m damage told = let cause = m.3 in cause.2 (here.1 cause.0)
 tells_none state (Shut records image doubt) (Answered command now (Failed (Damaged found))) next here m damage told = never m.0
   where
@@ -233,7 +233,7 @@ tells_none state (Serving records image) (OpenedWith pair (NotOpened (Damaged fo
 tells_none state (Shut records image doubt) (OpenedWith pair (NotOpened (Damaged found))) next here m damage told = absurd m
 tells_none state place event next here m damage told = cc
 
-pub no_damage_is_told : (first : State) → NoDamageIsTold first
+pub no_damage_is_told : (first : State) → NoDamageIsReported first
 no_damage_is_told first start end earlier later event damage begun m =
     let parts = along_split start earlier (event ∷ later) end m in
     tells_none (after first (found first earlier)) parts.0 event parts.2.0 (places_are_right first start parts.0 earlier begun parts.1) parts.2.1 damage
@@ -247,7 +247,7 @@ reads_back first start records image events begun m key part extents at is =
 pub finds_one_thing : FindsOne
 finds_one_thing = record { one = finds_one; some = finds_some }
 
-pub chains_move : ChainsMove
+pub chains_move : AnswersAreMoves
 chains_move old new [] [] c = c
 chains_move old new [] (answer ∷ answers) c = absurd c
 chains_move old new (entry ∷ entries) [] c = absurd c

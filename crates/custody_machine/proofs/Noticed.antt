@@ -7,6 +7,8 @@ use Rattle.std.specs.Ordering.{eq_by_cmp}
 use Rattle.std.specs.Cmp.{Equal-is}
 use Rattle.std.specs.Prelude.{nat_lt}
 use Rattle.std.proofs.lemmas.Bool.Decides.{Decides-eqb, Decides-ltb, nat_tests}
+use Rattle.deposit_name.proofs.KindLemmas.{same_kind_decides}
+use Rattle.desk.specs.Standing.{is_receipt}
 use Rattle.extent_map.specs.declared.extent.Extent.{Extent}
 use Rattle.deposit_verify.specs.declared.verdict.Verdict.{Verdict}
 use Rattle.deposit_verify.specs.declared.verdict.Verdict.TheVariants.{Pass, Fail}
@@ -16,14 +18,14 @@ use Rattle.vault_volume.proofs.ImageLemmas.{same_in}
 use Rattle.custody_records.specs.Keys.{PartKey, NoticeKey, notice_cmp}
 use Rattle.custody_records.specs.Records.{PartRecord, Notice, Records, key_of}
 use Rattle.custody_records.specs.Records as recorded_in
-use Rattle.custody_records.specs.Orders.{notice_total, notice_exact}
+use Rattle.custody_records.specs.inside.Orders.{notice_total, notice_exact}
 use Rattle.custody_machine.specs.declared.command.Statement as statement
-use Rattle.custody_machine.specs.State.{places, at_place, is_notice_of, has_notice}
-use Rattle.custody_machine.specs.Machine.{Statement, Check, absence_of, absence_notice, is_absence, OfNotice, Reply, Accept, step, reads, is_receipt, is_failure_of, is_verdict_of, has_other_kind, is_dropped, is_gone, part_in, first_part, has_dropped_part, has_verdict, kept_verdict, next_key, notice_kind, verdict_notice, verdict_on, with_notice, if_made, verdict_keys}
-use Rattle.custody_machine.specs.Stored.{AreLinked, AreWhole, IsGood, AreOfOneDay, part_of, content_of, revision_of, state_in}
-use Rattle.custody_machine.specs.Rulings.{AddsVerdict, AddsAbsence, Makes, Decides}
+use Rattle.custody_machine.specs.State.{part_numbers, key_with_part, is_notice_of, has_notice}
+use Rattle.custody_machine.specs.Machine.{Statement, Check, absence_of, absence_notice, is_absence, OfNotice, Reply, Accept, step, deciding_keys, is_failure_of, is_verdict_of, has_other_kind, is_dropped, are_bytes_dropped, revision_part, first_part, has_dropped_part, has_verdict, kept_verdict, next_key, notice_kind, verdict_notice, verdict_on, state_with_notice, keys_if_made, verdict_keys}
+use Rattle.custody_machine.specs.StoredState.{AreLinked, AreWhole, AreWholeOnVolume, AreOfOneDay, part_of, content_of, revision_of, state_in}
+use Rattle.custody_machine.specs.Rulings.{AddsVerdict, AddsAbsence, GoRuling, Decides}
 use Rattle.custody_machine.specs.Custody.{IsInOrder}
-use Rattle.custody_machine.proofs.SameValues.{text_decides, kind_decides}
+use Rattle.custody_machine.proofs.SameValues.{text_decides}
 use Rattle.custody_machine.proofs.Accepting.{accept_inj, insert_new, step_accepts}
 use Rattle.custody_machine.proofs.Entries.{any_of_get, any_insert_grows, next_is_new, number_before, found_where_any, passes_found, get_found}
 use Rattle.custody_machine.proofs.Stated.{NoneStandsOf, accepts_statement, stated_by, IsStated}
@@ -228,11 +230,11 @@ module _ (records : Records) (whole : AreWhole records) (tld : List ℕ) (notice
   }
 
   module _ (i : List ℕ) where
-    pub good-with_notice : IsGood records i → IsGood (recorded_in.with_notice records (next_key records.notices tld) notice) i
+    pub good-with_notice : AreWholeOnVolume records i → AreWholeOnVolume (recorded_in.with_notice records (next_key records.notices tld) notice) i
     good-with_notice g = record { whole = whole-with_notice; volume = record { head = g.volume.head; size = g.volume.size } }
 
     module _ (size failures failures_then : ℕ) (free : ℕ → Type 0) (order : IsInOrder records size failures free) where
-      pub notice_changes : IsGood records i → IsChange records i free (recorded_in.with_notice records (next_key records.notices tld) notice) i free
+      pub notice_changes : AreWholeOnVolume records i → IsChange records i free (recorded_in.with_notice records (next_key records.notices tld) notice) i free
       notice_changes good = record {
         good = good-with_notice good;
         keeps = record { kept = λ key part at. (part, at, inl refl); digests = λ key has. has };
@@ -247,9 +249,9 @@ module _ (records : Records) (whole : AreWhole records) (tld : List ℕ) (notice
 
 -- ---- the notice of a verdict
 
-module _ (records : Records) (i : List ℕ) (whole : AreWhole records) (st : statement.Statement) (now : ℕ) (d : Decides (Makes (AddsVerdict st)) records (Statement st) now) where
+module _ (records : Records) (i : List ℕ) (whole : AreWhole records) (st : statement.Statement) (now : ℕ) (d : Decides (GoRuling (AddsVerdict st)) records (Statement st) now) where
   stated : IsStated (state_in records i) st now (record { entry = OfNotice (next_key records.notices st.tld) (verdict_notice st (verdict_on (state_in records i) st) now); is_repeat = false })
-      (with_notice (state_in records i) (next_key records.notices st.tld) (verdict_notice st (verdict_on (state_in records i) st) now))
+      (state_with_notice (state_in records i) (next_key records.notices st.tld) (verdict_notice st (verdict_on (state_in records i) st) now))
   stated = accepts_statement (state_in records i) st now _ _ (d.1 i)
 
   pub none_stands : NoneStandsOf (state_in records i) st now
@@ -260,7 +262,7 @@ module _ (records : Records) (i : List ℕ) (whole : AreWhole records) (st : sta
     where
       by : (o : Option (NoticeKey × Notice)) → kept_verdict (state_in records i) st ≡ o
           → stated_by (state_in records i) st now o ≡ Accept (record { entry = OfNotice (next_key records.notices st.tld) (verdict_notice st (verdict_on (state_in records i) st) now); is_repeat = false })
-          (with_notice (state_in records i) (next_key records.notices st.tld) (verdict_notice st (verdict_on (state_in records i) st) now)) → o ≡ None
+          (state_with_notice (state_in records i) (next_key records.notices st.tld) (verdict_notice st (verdict_on (state_in records i) st) now)) → o ≡ None
       by None at e = refl
       by (Some kept) at e = let repeat : true ≡ false = ap (λ (r : Reply). r.is_repeat) (accept_inj _ _ _ _ e).0 in cc
 
@@ -279,14 +281,14 @@ module _ (records : Records) (i : List ℕ) (whole : AreWhole records) (st : sta
       (state_in (recorded_in.with_notice records (next_key records.notices st.tld) (verdict_notice st (verdict_on (state_in records i) st) now)) i)
   verdict_accepted = d.1 i
 
-  pub reads_stated : reads (state_in records i) (Statement st) now ≡ verdict_keys (state_in records i) st
-  reads_stated = λ j. if_made ((step_accepts (state_in records i) (Statement st) now _ _ (d.1 i)).0 j) (option_map (λ (e : NoticeKey × Notice). OfNotice e.0 e.1) (not_kept j)) (verdict_keys (state_in records i) st)
+  pub reads_stated : deciding_keys (state_in records i) (Statement st) now ≡ verdict_keys (state_in records i) st
+  reads_stated = λ j. keys_if_made ((step_accepts (state_in records i) (Statement st) now _ _ (d.1 i)).0 j) (option_map (λ (e : NoticeKey × Notice). OfNotice e.0 e.1) (not_kept j)) (verdict_keys (state_in records i) st)
 
   -- a part of the revision is of the stated kind, and held
-  pub held_at : (place : ℕ) (part : PartRecord) → Contains places place → get records.parts (at_place (key_of (first_part st)) place) ≡ Some part → (part.kind ≡ st.kind) × ((extents : List Extent) × (part.extents ≡ Some extents))
-  held_at place part within at = (kind, held part.extents (none_of (λ place. is_dropped (part_in (state_in records i) (first_part st) place)) places place within dropped))
+  pub held_at : (place : ℕ) (part : PartRecord) → Contains part_numbers place → get records.parts (key_with_part (key_of (first_part st)) place) ≡ Some part → (part.kind ≡ st.kind) × ((extents : List Extent) × (part.extents ≡ Some extents))
+  held_at place part within at = (kind, held part.extents (none_of (λ place. is_dropped (revision_part (state_in records i) (first_part st) place)) part_numbers place within dropped))
     where
-      is : part_in (state_in records i) (first_part st) place ≡ Some (part_of i part)
+      is : revision_part (state_in records i) (first_part st) place ≡ Some (part_of i part)
       is = place_is records i whole (first_part st) place ∙ ap (option_map (part_of i)) at
 
       dropped : has_dropped_part (state_in records i) (first_part st) ≡ false
@@ -297,12 +299,12 @@ module _ (records : Records) (i : List ℕ) (whole : AreWhole records) (st : sta
       same false e = cc
 
       kind : part.kind ≡ st.kind
-      kind = (kind_decides part.kind st.kind).0 (same _ (ap (has_other_kind st.kind) (sym is) ∙ none_of (λ place. has_other_kind st.kind (part_in (state_in records i) (first_part st) place)) places place within none_stands.kind))
+      kind = (same_kind_decides part.kind st.kind).0 (same _ (ap (has_other_kind st.kind) (sym is) ∙ none_of (λ place. has_other_kind st.kind (revision_part (state_in records i) (first_part st) place)) part_numbers place within none_stands.kind))
 
-      held : (o : Option (List Extent)) → is_dropped (part_in (state_in records i) (first_part st) place) ≡ false → (extents : List Extent) × (part.extents ≡ Some extents)
+      held : (o : Option (List Extent)) → is_dropped (revision_part (state_in records i) (first_part st) place) ≡ false → (extents : List Extent) × (part.extents ≡ Some extents)
       held o not_dropped = by part.extents refl (ap is_dropped (sym is) ∙ not_dropped)
         where
-          by : (o : Option (List Extent)) → part.extents ≡ o → is_gone (content_of i part.len o) ≡ false → (extents : List Extent) × (part.extents ≡ Some extents)
+          by : (o : Option (List Extent)) → part.extents ≡ o → are_bytes_dropped (content_of i part.len o) ≡ false → (extents : List Extent) × (part.extents ≡ Some extents)
           by None e h = cc
           by (Some extents) e h = (extents, e)
 
@@ -310,7 +312,7 @@ module _ (records : Records) (i : List ℕ) (whole : AreWhole records) (st : sta
   pub first_there : is_some (get records.parts (key_of (first_part st))) ≡ true
   first_there =
       let counted = (or_none _ _ none_stands.number).0 in
-      let taken = first_taken (λ place. is_some (part_in (state_in records i) (first_part st) place)) (closed records i whole (first_part st)) (positive _ counted) in
+      let taken = first_taken (λ place. is_some (revision_part (state_in records i) (first_part st) place)) (closed records i whole (first_part st)) (positive _ counted) in
       some_in (get records.parts (key_of (first_part st))) (ap is_some (sym (place_is records i whole (first_part st) 1)) ∙ taken)
     where
       positive : (n : ℕ) → (n == 0) ≡ false → 0 < n
@@ -355,9 +357,9 @@ module _ (records : Records) (i : List ℕ) (whole : AreWhole records) (st : sta
 
 -- ---- the notice of an absence
 
-module _ (records : Records) (i : List ℕ) (tld : List ℕ) (day now : ℕ) (d : Decides (Makes (AddsAbsence tld day)) records (Check tld day) now) where
+module _ (records : Records) (i : List ℕ) (tld : List ℕ) (day now : ℕ) (d : Decides (GoRuling (AddsAbsence tld day)) records (Check tld day) now) where
   checked : IsChecked (state_in records i) tld day now (record { entry = OfNotice (next_key records.notices tld) (absence_notice day now); is_repeat = false })
-      (with_notice (state_in records i) (next_key records.notices tld) (absence_notice day now))
+      (state_with_notice (state_in records i) (next_key records.notices tld) (absence_notice day now))
   checked = accepts_check (state_in records i) tld day now _ _ (d.1 i)
 
   not_missed : absence_of (state_in records i) tld day ≡ None
@@ -365,7 +367,7 @@ module _ (records : Records) (i : List ℕ) (tld : List ℕ) (day now : ℕ) (d 
     where
       by : (o : Option (NoticeKey × Notice)) → absence_of (state_in records i) tld day ≡ o
           → missed_by (state_in records i) tld day now o ≡ Accept (record { entry = OfNotice (next_key records.notices tld) (absence_notice day now); is_repeat = false })
-          (with_notice (state_in records i) (next_key records.notices tld) (absence_notice day now)) → o ≡ None
+          (state_with_notice (state_in records i) (next_key records.notices tld) (absence_notice day now)) → o ≡ None
       by None at e = refl
       by (Some kept) at e = let repeat : true ≡ false = ap (λ (r : Reply). r.is_repeat) (accept_inj _ _ _ _ e).0 in cc
 

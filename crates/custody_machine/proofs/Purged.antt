@@ -1,6 +1,6 @@
 -- What holds of an open custody after the bytes of parts were dropped and their blocks given back.
 use Rattle.std.proofs.Common.{◌≡◌, ◌⊎◌, inl, inr, ⊎_elim, ℕ, suc, ◌+◌, ◌<◌, ◌≤◌, ◌&&◌, List, [], ◌∷◌, Option, Some, None, is_some, Bool, true, false, cond, Result, Ok, Err, refl, sym, ◌∙◌, ap, subst, arith}
-use Rattle.std.specs.Prelude.{All, ◌*◌, length, nat_lt, not, count_by}
+use Rattle.std.specs.Prelude.{All, ◌*◌, length, nat_lt, not, count_by, bytes_eq}
 use Rattle.std.specs.FinMap.{FinMap, entries, same_map}
 use Rattle.std.proofs.lemmas.List.{length-take-le}
 use Rattle.std.specs.List.{fold, list_all}
@@ -8,28 +8,28 @@ use Rattle.std.specs.Option.{option_map}
 use Rattle.std.specs.FinMap.{get}
 use Rattle.std.proofs.lemmas.Bool.{cases_lt}
 use Rattle.deposit_name.specs.declared.kinds.Kind.{Kind}
-use Rattle.deposit_name.specs.declared.faults.NameError.{NameError}
+use Rattle.deposit_name.specs.declared.errors.NameError.{NameError}
 use Rattle.deposit_name.specs.Name.{Name}
 use Rattle.extent_map.specs.declared.extent.Extent.{Extent}
 use Rattle.sha2.specs.Sha256.{sha256}
 use Rattle.schedule.specs.Schedule.{day_of, year_after}
 use Rattle.vault_volume.proofs.ExtentLemmas.{length-bytes_of}
-use Rattle.custody_records.specs.Orders.{part_total, part_exact}
+use Rattle.custody_records.specs.inside.Orders.{part_total, part_exact}
 use Rattle.vault_volume.specs.Image.{DiffersOnlyIn}
 use Rattle.vault_volume.specs.Extents.{IsExtentOf, IsIn, IsInAny, AreApart, GivesBack, bytes_of, part_bytes}
 use Rattle.custody_records.specs.Keys.{text_cmp, PartKey, part_cmp}
 use Rattle.custody_records.specs.Records.{Hold, PartRecord, Records, key_of}
 use Rattle.custody_records.specs.Rows.{Rows}
 use Rattle.custody_records.specs.Form.{form_of, InForm}
-use Rattle.custody_machine.specs.Names.{is_same_text, read_name}
+use Rattle.custody_machine.specs.NameReading.{read_name}
 use Rattle.custody_machine.specs.State.{State, Part, Dropped}
-use Rattle.custody_machine.specs.Stored.{ForExtents, AreNaming, IsNamed, AreExtents, AreWhole, content_of, part_of, is_part_of, names_part, IsGood, IsKeptRecord, KeepsParts, OpensFrom, state_in}
+use Rattle.custody_machine.specs.StoredState.{ForExtents, HaveBlock, IsPartBlock, AreExtents, AreWhole, content_of, part_of, is_part_of, is_name_of_part, AreWholeOnVolume, SameOrDropped, KeepsParts, OpensFrom, state_in}
 use Rattle.custody_machine.specs.Custody.{IsPlaceable, IsInOrder, IsOnVolume}
 use Rattle.custody_records.specs.Purge.{is_on_hold, is_due, dropped_if_due}
 use Rattle.custody_machine.specs.Machine as machine
 use Rattle.custody_machine.specs.Machine.{Purge, OfPurge, Accept, step}
-use Rattle.custody_machine.specs.Rulings.{DropsBytes, Makes, Decides}
-use Rattle.custody_machine.specs.Purge.{without_due, count_due, IsDueBlock}
+use Rattle.custody_machine.specs.Rulings.{DropsBytes, GoRuling, Decides}
+use Rattle.custody_machine.specs.Purge.{records_without_due, count_due_records, IsDueBlock}
 use Rattle.custody_machine.specs.MapValues.{map_entries, map_keyed}
 use Rattle.custody_machine.proofs.MapValues.{get-map_values, entries-map_values, get-map_keyed}
 use Rattle.vault_volume.proofs.ImageLemmas.{same_in}
@@ -77,15 +77,15 @@ kind_kept : (holds : FinMap text_cmp Hold) (today : ℕ) (key : PartKey) (part :
 kind_kept holds today key part = elim (is_due holds today key part) as (λ b. (cond b (record part { extents = None }) part).kind ≡ part.kind) [ true ↦ refl | false ↦ refl ]
 
 -- what a part names then it named before, and is not due
-still_names : (holds : FinMap text_cmp Hold) (today : ℕ) (key : PartKey) (part : PartRecord) (b : ℕ) → AreNaming (dropped_if_due holds today key part).extents b → (is_due holds today key part ≡ false) × AreNaming part.extents b
+still_names : (holds : FinMap text_cmp Hold) (today : ℕ) (key : PartKey) (part : PartRecord) (b : ℕ) → HaveBlock (dropped_if_due holds today key part).extents b → (is_due holds today key part ≡ false) × HaveBlock part.extents b
 still_names holds today key part b names = by (is_due holds today key part) refl names
   where
-    by : (d : Bool) → is_due holds today key part ≡ d → AreNaming (cond d (record part { extents = None }) part).extents b → (is_due holds today key part ≡ false) × AreNaming part.extents b
+    by : (d : Bool) → is_due holds today key part ≡ d → HaveBlock (cond d (record part { extents = None }) part).extents b → (is_due holds today key part ≡ false) × HaveBlock part.extents b
     by true is none = absurd none
     by false is names = (is, names)
 
-names_still : (holds : FinMap text_cmp Hold) (today : ℕ) (key : PartKey) (part : PartRecord) (b : ℕ) → is_due holds today key part ≡ false → AreNaming part.extents b → AreNaming (dropped_if_due holds today key part).extents b
-names_still holds today key part b not_due names = subst (λ d. AreNaming (cond d (record part { extents = None }) part).extents b) (sym not_due) names
+names_still : (holds : FinMap text_cmp Hold) (today : ℕ) (key : PartKey) (part : PartRecord) (b : ℕ) → is_due holds today key part ≡ false → HaveBlock part.extents b → HaveBlock (dropped_if_due holds today key part).extents b
+names_still holds today key part b not_due names = subst (λ d. HaveBlock (cond d (record part { extents = None }) part).extents b) (sym not_due) names
 
 for_kept : (holds : FinMap text_cmp Hold) (today : ℕ) (key : PartKey) (part : PartRecord) (P : List Extent → Type 0) → ForExtents part.extents P → ForExtents (dropped_if_due holds today key part).extents P
 for_kept holds today key part P h = elim (is_due holds today key part) as (λ d. ForExtents (cond d (record part { extents = None }) part).extents P) [ true ↦ tt | false ↦ h ]
@@ -97,7 +97,7 @@ len_kept holds today key part = elim (is_due holds today key part) as (λ b. (co
 
 module _ (today : ℕ) (records : Records) where
   abbrev then : Records
-  then = without_due today records
+  then = records_without_due today records
 
   got : (key : PartKey) → get then.parts key ≡ option_map (dropped_if_due records.holds today key) (get records.parts key)
   got key = get-map_keyed part_cmp part_exact (dropped_if_due records.holds today) records.parts key
@@ -118,7 +118,7 @@ module _ (today : ℕ) (records : Records) where
     where
       by : (o : Option PartRecord) → is_part_of kind (option_map (dropped_if_due records.holds today key) o) ≡ is_part_of kind o
       by None = refl
-      by (Some part) = ap (λ k. Rattle.custody_machine.specs.SameValues.is_same_kind k kind) (kind_kept records.holds today key part)
+      by (Some part) = ap (λ k. Rattle.deposit_name.specs.Name.is_same_kind k kind) (kind_kept records.holds today key part)
 
   some_still : (key : PartKey) → is_some (get then.parts key) ≡ is_some (get records.parts key)
   some_still key = ap is_some (got key) ∙ by (get records.parts key)
@@ -127,9 +127,9 @@ module _ (today : ℕ) (records : Records) where
       by None = refl
       by (Some part) = refl
 
-  names_same : (tld : List ℕ) (r : Result Name NameError) → names_part then tld r ≡ names_part records tld r
+  names_same : (tld : List ℕ) (r : Result Name NameError) → is_name_of_part then tld r ≡ is_name_of_part records tld r
   names_same tld (Err fault) = refl
-  names_same tld (Ok name) = ap (λ b. is_same_text name.tld tld && b) (kind_same name.kind (key_of name))
+  names_same tld (Ok name) = ap (λ b. bytes_eq name.tld tld && b) (kind_same name.kind (key_of name))
 
   -- the records stay whole
   pub whole-without_due : AreWhole records → AreWhole then
@@ -145,8 +145,8 @@ module _ (today : ℕ) (records : Records) where
           let first = was j p has in
           let second = was k q has_too in
           whole.once.between j k first.0 second.0 b first.1 second.1
-          (still_names records.holds today j first.0 b (subst (λ (r : PartRecord). AreNaming r.extents b) first.2 here)).1
-          (still_names records.holds today k second.0 b (subst (λ (r : PartRecord). AreNaming r.extents b) second.2 there)).1;
+          (still_names records.holds today j first.0 b (subst (λ (r : PartRecord). HaveBlock r.extents b) first.2 here)).1
+          (still_names records.holds today k second.0 b (subst (λ (r : PartRecord). HaveBlock r.extents b) second.2 there)).1;
     };
     linked = record {
       part_registry = λ key part has. let old = was key part has in whole.linked.part_registry key old.0 old.1;
@@ -156,8 +156,8 @@ module _ (today : ℕ) (records : Records) where
       released = λ reference release has. (λ i. list_all (λ text. names_same release.tld (read_name text) i) release.names) ∙ whole.linked.released reference release has;
       series = λ key part has n is.
           let old = was key part has in
-          kind_same part.kind _ ∙ ap (λ (p : PartRecord). is_part_of p.kind (get records.parts (Rattle.custody_machine.specs.State.at_place key (suc n)))) old.2
-          ∙ ap (λ k. is_part_of k (get records.parts (Rattle.custody_machine.specs.State.at_place key (suc n)))) (kind_kept records.holds today key old.0) ∙ whole.linked.series key old.0 old.1 n is;
+          kind_same part.kind _ ∙ ap (λ (p : PartRecord). is_part_of p.kind (get records.parts (Rattle.custody_machine.specs.State.key_with_part key (suc n)))) old.2
+          ∙ ap (λ k. is_part_of k (get records.parts (Rattle.custody_machine.specs.State.key_with_part key (suc n)))) (kind_kept records.holds today key old.0) ∙ whole.linked.series key old.0 old.1 n is;
       numbers = whole.linked.numbers;
       verdict_parts = λ key notice rev has is. some_still _ ∙ whole.linked.verdict_parts key notice rev has is;
       one_verdict = whole.linked.one_verdict;
@@ -169,16 +169,16 @@ module _ (today : ℕ) (records : Records) where
 
   -- ---- free blocks: those that were free, and those of the parts that were due
 
-  named_before : (b : ℕ) → IsNamed then b → IsNamed records b
+  named_before : (b : ℕ) → IsPartBlock then b → IsPartBlock records b
   named_before b named =
       let old = was named.0 named.1 named.2 in
-      (named.0, old.0, old.1, (still_names records.holds today named.0 old.0 b (subst (λ (p : PartRecord). AreNaming p.extents b) old.2 named.3)).1)
+      (named.0, old.0, old.1, (still_names records.holds today named.0 old.0 b (subst (λ (p : PartRecord). HaveBlock p.extents b) old.2 named.3)).1)
 
   -- a block of a part that is due is named by no part then
-  due_unnamed : AreWhole records → (b : ℕ) → IsDueBlock today records b → ¬ IsNamed then b
+  due_unnamed : AreWhole records → (b : ℕ) → IsDueBlock today records b → ¬ IsPartBlock then b
   due_unnamed whole b due named =
       let old = was named.0 named.1 named.2 in
-      let kept = still_names records.holds today named.0 old.0 b (subst (λ (p : PartRecord). AreNaming p.extents b) old.2 named.3) in
+      let kept = still_names records.holds today named.0 old.0 b (subst (λ (p : PartRecord). HaveBlock p.extents b) old.2 named.3) in
       let one = whole.once.between due.0 named.0 due.1 old.0 b due.2 old.1 due.4 kept.1 in
       let same : due.1 ≡ old.0 = some_same due.1 old.0 (sym due.2 ∙ ap (get records.parts) one ∙ old.1) in
       let clash : true ≡ false = sym due.3 ∙ (λ i. is_due records.holds today (one i) (same i)) ∙ kept.0 in
@@ -187,7 +187,7 @@ module _ (today : ℕ) (records : Records) where
   due_in_volume : AreWhole records → (b : ℕ) → IsDueBlock today records b → (1 ≤ b) × (b < records.blocks)
   due_in_volume whole b due = by due.1.extents (whole.extents due.0 due.1 due.2) due.4
     where
-      by : (o : Option (List Extent)) → ForExtents o (AreExtents records.blocks due.1.len) → AreNaming o b → (1 ≤ b) × (b < records.blocks)
+      by : (o : Option (List Extent)) → ForExtents o (AreExtents records.blocks due.1.len) → HaveBlock o b → (1 ≤ b) × (b < records.blocks)
       by None range none = absurd none
       by (Some es) range there = in_volume records.blocks es b range.each there
 
@@ -214,7 +214,7 @@ module _ (today : ℕ) (records : Records) where
             (in_range.0, in_range.1, due_unnamed order.whole b due))
             ((gives b).0 is)
 
-        unnamed : (b : ℕ) → IsPlaceable then b → (IsInAny es b → ⊥) → (named : IsNamed records b) (d : Bool) → is_due records.holds today named.0 named.1 ≡ d → ⊥
+        unnamed : (b : ℕ) → IsPlaceable then b → (IsInAny es b → ⊥) → (named : IsPartBlock records b) (d : Bool) → is_due records.holds today named.0 named.1 ≡ d → ⊥
         unnamed b p out named true is = out ((exact b).1 (named.0, named.1, named.2, is, named.3))
         unnamed b p out named false is = p.2 (named.0, dropped_if_due records.holds today named.0 named.1, now named.0 named.1 named.2, names_still records.holds today named.0 named.1 b is named.3)
 
@@ -226,8 +226,8 @@ module _ (today : ℕ) (records : Records) where
 
 -- ---- what a stop leaves of it
 
-is_kept : (holds : FinMap text_cmp Hold) (today : ℕ) (key : PartKey) (part : PartRecord) → IsKeptRecord part (dropped_if_due holds today key part)
-is_kept holds today key part = elim (is_due holds today key part) as (λ d. IsKeptRecord part (cond d (record part { extents = None }) part)) [ true ↦ inr refl | false ↦ inl refl ]
+is_kept : (holds : FinMap text_cmp Hold) (today : ℕ) (key : PartKey) (part : PartRecord) → SameOrDropped part (dropped_if_due holds today key part)
+is_kept holds today key part = elim (is_due holds today key part) as (λ d. SameOrDropped part (cond d (record part { extents = None }) part)) [ true ↦ inr refl | false ↦ inl refl ]
 
 -- a part that is held then was held before, as it is
 still_held : (holds : FinMap text_cmp Hold) (today : ℕ) (key : PartKey) (part : PartRecord) (extents : List Extent) → (dropped_if_due holds today key part).extents ≡ Some extents → dropped_if_due holds today key part ≡ part
@@ -238,7 +238,7 @@ still_held holds today key part extents held = by (is_due holds today key part) 
     by false is e = ap (λ d. cond d (record part { extents = None }) part) is
 
 -- no part's record is lost or changed but by dropping its bytes
-pub keeps-without_due : (today : ℕ) (records : Records) (image : List ℕ) → KeepsParts records image (without_due today records) image
+pub keeps-without_due : (today : ℕ) (records : Records) (image : List ℕ) → KeepsParts records image (records_without_due today records) image
 keeps-without_due today records image = record {
   kept = λ key part at. (dropped_if_due records.holds today key part, now today records key part at, is_kept records.holds today key part);
   digests = λ key has part extents at held.
@@ -247,18 +247,18 @@ keeps-without_due today records image = record {
       subst (λ (p : PartRecord). sha256 (part_bytes image extents p.len) ≡ p.digest) (sym same) (has old.0 extents old.1 (ap (λ (p : PartRecord). p.extents) (sym same) ∙ held));
 }
 
-module _ (today : ℕ) (records : Records) (image : List ℕ) (good : IsGood records image) (size failures : ℕ) (free : ℕ → Type 0) (order : IsInOrder records size failures free) where
-  good_then : IsGood (without_due today records) image
+module _ (today : ℕ) (records : Records) (image : List ℕ) (good : AreWholeOnVolume records image) (size failures : ℕ) (free : ℕ → Type 0) (order : IsInOrder records size failures free) where
+  good_then : AreWholeOnVolume (records_without_due today records) image
   good_then = record { whole = whole-without_due today records order.whole; volume = record { head = good.volume.head; size = good.volume.size } }
 
   -- Rows of after the commit, with an image that differs in blocks that were free before it alone, open as the records after it.
-  pub purge_opens : (P : State → Type 0) (r : Rows) (j : List ℕ) → form_of r ≡ InForm (without_due today records) → DiffersOnlyIn free image j → P (state_in (without_due today records) image) → OpensFrom records image P r j
+  pub purge_opens : (P : State → Type 0) (r : Rows) (j : List ℕ) → form_of r ≡ InForm (records_without_due today records) → DiffersOnlyIn free image j → P (state_in (records_without_due today records) image) → OpensFrom records image P r j
   purge_opens P r j is differs p =
-      opens_later (without_due today records) free image good_then (λ b named. named_used records size failures free order b (named_before today records b named)) (head_used records size failures free order)
+      opens_later (records_without_due today records) free image good_then (λ b named. named_used records size failures free order b (named_before today records b named)) (head_used records size failures free order)
       records image P r j (keeps-without_due today records image) is differs p
 
   -- where blocks are given back, a stop leaves all but the blocks that are free then as they are read
-  pub purged_image : (left : List ℕ → Type 0) → IsOnVolume records image free left → (es : List Extent) (later : ℕ → Type 0) → GivesBack free es later → IsOnVolume (without_due today records) image later left
+  pub purged_image : (left : List ℕ → Type 0) → IsOnVolume records image free left → (es : List Extent) (later : ℕ → Type 0) → GivesBack free es later → IsOnVolume (records_without_due today records) image later left
   purged_image left on es later gives = record {
     volume = record { head = good.volume.head; size = good.volume.size };
     elsewhere = λ c h.
@@ -276,47 +276,47 @@ length-content blocks i long len (Some es) range =
     let counts = range.counts in
     length-take-le len (bytes_of i es) (omega (arith, whole, counts))
 
-due_same : (i : List ℕ) (holds : FinMap text_cmp Hold) (today : ℕ) (key : PartKey) (part : PartRecord) → machine.is_due holds today key (part_of i part) ≡ is_due holds today key part
+due_same : (i : List ℕ) (holds : FinMap text_cmp Hold) (today : ℕ) (key : PartKey) (part : PartRecord) → machine.is_due_part holds today key (part_of i part) ≡ is_due holds today key part
 due_same i holds today key part = by part.extents
   where
-    by : (o : Option (List Extent)) → (not (machine.is_gone (content_of i part.len o)) && (nat_lt (year_after (day_of part.received)) today && not (is_on_hold holds key))) ≡ (is_some o && (nat_lt (year_after (day_of part.received)) today && not (is_on_hold holds key)))
+    by : (o : Option (List Extent)) → (not (machine.are_bytes_dropped (content_of i part.len o)) && (nat_lt (year_after (day_of part.received)) today && not (is_on_hold holds key))) ≡ (is_some o && (nat_lt (year_after (day_of part.received)) today && not (is_on_hold holds key)))
     by None = refl
     by (Some es) = refl
 
-dropped_same : (i : List ℕ) (holds : FinMap text_cmp Hold) (today : ℕ) (key : PartKey) (part : PartRecord) → machine.content_len (content_of i part.len part.extents) ≡ part.len → machine.dropped_if_due holds today key (part_of i part) ≡ part_of i (dropped_if_due holds today key part)
+dropped_same : (i : List ℕ) (holds : FinMap text_cmp Hold) (today : ℕ) (key : PartKey) (part : PartRecord) → machine.content_len (content_of i part.len part.extents) ≡ part.len → machine.part_dropped_if_due holds today key (part_of i part) ≡ part_of i (dropped_if_due holds today key part)
 dropped_same i holds today key part long = ap (λ b. cond b (machine.without_bytes (part_of i part)) (part_of i part)) (due_same i holds today key part) ∙ by (is_due holds today key part)
   where
     by : (b : Bool) → cond b (machine.without_bytes (part_of i part)) (part_of i part) ≡ part_of i (cond b (record part { extents = None }) part)
     by true = ap (λ n. record { kind = part.kind; received = part.received; content = Dropped n }) long
     by false = refl
 
-module _ (records : Records) (i : List ℕ) (good : IsGood records i) (today : ℕ) where
-  parts_then : map_keyed (machine.dropped_if_due records.holds today) (state_in records i).parts ≡ (state_in (without_due today records) i).parts
+module _ (records : Records) (i : List ℕ) (good : AreWholeOnVolume records i) (today : ℕ) where
+  parts_then : map_keyed (machine.part_dropped_if_due records.holds today) (state_in records i).parts ≡ (state_in (records_without_due today records) i).parts
   parts_then = same_map part_total part_exact _ _ (λ key.
-      get-map_keyed part_cmp part_exact (machine.dropped_if_due records.holds today) (state_in records i).parts key
-      ∙ ap (option_map (machine.dropped_if_due records.holds today key)) (get-map_values part_cmp (part_of i) records.parts key)
+      get-map_keyed part_cmp part_exact (machine.part_dropped_if_due records.holds today) (state_in records i).parts key
+      ∙ ap (option_map (machine.part_dropped_if_due records.holds today key)) (get-map_values part_cmp (part_of i) records.parts key)
       ∙ by key (get records.parts key) refl
-      ∙ sym (get-map_values part_cmp (part_of i) (without_due today records).parts key ∙ ap (option_map (part_of i)) (got today records key)))
+      ∙ sym (get-map_values part_cmp (part_of i) (records_without_due today records).parts key ∙ ap (option_map (part_of i)) (got today records key)))
     where
-      by : (key : PartKey) (o : Option PartRecord) → get records.parts key ≡ o → option_map (machine.dropped_if_due records.holds today key) (option_map (part_of i) o) ≡ option_map (part_of i) (option_map (dropped_if_due records.holds today key) o)
+      by : (key : PartKey) (o : Option PartRecord) → get records.parts key ≡ o → option_map (machine.part_dropped_if_due records.holds today key) (option_map (part_of i) o) ≡ option_map (part_of i) (option_map (dropped_if_due records.holds today key) o)
       by key None at = refl
       by key (Some part) at = ap Some (dropped_same i records.holds today key part (length-content records.blocks i good.volume.size part.len part.extents (good.whole.extents key part at)))
 
-  pub state_then : machine.without_due (state_in records i) today ≡ state_in (without_due today records) i
+  pub state_then : machine.state_without_due (state_in records i) today ≡ state_in (records_without_due today records) i
   state_then = ap (λ parts. record (state_in records i) { parts = parts }) parts_then
 
-  pub count_then : machine.count_due (state_in records i) today ≡ count_due today records
-  count_then = ap (count_by (λ (e : PartKey × Part). machine.is_due records.holds today e.0 e.1)) (entries-map_values part_cmp (part_of i) records.parts) ∙ by 0 (entries records.parts)
+  pub count_then : machine.count_due (state_in records i) today ≡ count_due_records today records
+  count_then = ap (count_by (λ (e : PartKey × Part). machine.is_due_part records.holds today e.0 e.1)) (entries-map_values part_cmp (part_of i) records.parts) ∙ by 0 (entries records.parts)
     where
-      by : (n : ℕ) (es : List (PartKey × PartRecord)) → fold (λ k (e : PartKey × Part). k + cond (machine.is_due records.holds today e.0 e.1) 1 0) n (map_entries (part_of i) es) ≡ fold (λ k (e : PartKey × PartRecord). k + cond (is_due records.holds today e.0 e.1) 1 0) n es
+      by : (n : ℕ) (es : List (PartKey × PartRecord)) → fold (λ k (e : PartKey × Part). k + cond (machine.is_due_part records.holds today e.0 e.1) 1 0) n (map_entries (part_of i) es) ≡ fold (λ k (e : PartKey × PartRecord). k + cond (is_due records.holds today e.0 e.1) 1 0) n es
       by n [] = refl
-      by n (e ∷ es) = ap (λ b. fold (λ k (x : PartKey × Part). k + cond (machine.is_due records.holds today x.0 x.1) 1 0) (n + cond b 1 0) (map_entries (part_of i) es)) (due_same i records.holds today e.0 e.1) ∙ by (n + cond (is_due records.holds today e.0 e.1) 1 0) es
+      by n (e ∷ es) = ap (λ b. fold (λ k (x : PartKey × Part). k + cond (machine.is_due_part records.holds today x.0 x.1) 1 0) (n + cond b 1 0) (map_entries (part_of i) es)) (due_same i records.holds today e.0 e.1) ∙ by (n + cond (is_due records.holds today e.0 e.1) 1 0) es
 
-module _ (records : Records) (i : List ℕ) (good : IsGood records i) (now : ℕ) (d : Decides (Makes DropsBytes) records Purge now) where
+module _ (records : Records) (i : List ℕ) (good : AreWholeOnVolume records i) (now : ℕ) (d : Decides (GoRuling DropsBytes) records Purge now) where
   abbrev after : Records
-  after = without_due (day_of now) records
+  after = records_without_due (day_of now) records
 
-  pub purge_accepted : step (state_in records i) Purge now ≡ Accept (record { entry = OfPurge (count_due (day_of now) records); is_repeat = false }) (state_in after i)
+  pub purge_accepted : step (state_in records i) Purge now ≡ Accept (record { entry = OfPurge (count_due_records (day_of now) records); is_repeat = false }) (state_in after i)
   purge_accepted = d.1 i ∙ (λ j. Accept (record { entry = OfPurge (count_then records i good (day_of now) j); is_repeat = false }) (state_then records i good (day_of now) j))
 
   -- Until blocks are given back, those that were free are all that a stop may have changed.

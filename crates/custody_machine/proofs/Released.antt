@@ -7,17 +7,17 @@ use Rattle.std.proofs.lemmas.Option.{cond_some}
 use Rattle.desk.specs.declared.grounds.Ground.{Ground}
 use Rattle.custody_records.specs.Records as records
 use Rattle.custody_machine.specs.State.{State}
-use Rattle.custody_machine.specs.Machine.{Release, OfRelease, Refusal, RegistryUnknown, GroundDoesNotStand, ReferenceUsed, Reply, Outcome, Accept, is_unknown, release_of, is_on, if_on, kept_release, has_ground, release_tests, first_standing, unless_kept, new_release, released, step}
+use Rattle.custody_machine.specs.Machine.{Release, OfRelease, Refusal, RegistryUnknown, GroundDoesNotStand, ReferenceUsed, Reply, Step, Accept, is_tld_unregistered, release_of, is_on_ground, if_on_ground, kept_release, has_ground, release_tests, first_refusal, unless_kept, new_release, release_step, step}
 use Rattle.custody_machine.proofs.Accepting.{none_head, step_accepts}
 
 -- none of the refusals of a release stands
 pub record NoneStandsFor (s : State) (reference tld : List ℕ) (reason : Ground) (now : ℕ) : Type 0 where
-  pub registry : is_unknown s tld ≡ false
+  pub registry : is_tld_unregistered s tld ≡ false
   pub stands : (is_none (release_of s reference) && not (has_ground s tld reason now)) ≡ false
   pub used : (is_some (release_of s reference) && is_none (kept_release s reference tld reason)) ≡ false
 
 module _ (s : State) (reference tld : List ℕ) (reason : Ground) (now : ℕ) where
-  pub none_stand_for : first_standing (release_tests s reference tld reason now) ≡ None → NoneStandsFor s reference tld reason now
+  pub none_stand_for : first_refusal (release_tests s reference tld reason now) ≡ None → NoneStandsFor s reference tld reason now
   none_stand_for e =
       let b = none_head _ RegistryUnknown _ e in
       let c = none_head _ GroundDoesNotStand _ b.1 in
@@ -31,12 +31,12 @@ release_refusals a b c = cond a (Some RegistryUnknown) (cond b (Some GroundDoesN
 three_none : (a b c : Bool) → a ≡ false → b ≡ false → c ≡ false → release_refusals a b c ≡ None
 three_none a b c p q r = rw (p, q, r) refl
 
-pub find_none_for : (s : State) (reference tld : List ℕ) (reason : Ground) (now : ℕ) → NoneStandsFor s reference tld reason now → first_standing (release_tests s reference tld reason now) ≡ None
+pub find_none_for : (s : State) (reference tld : List ℕ) (reason : Ground) (now : ℕ) → NoneStandsFor s reference tld reason now → first_refusal (release_tests s reference tld reason now) ≡ None
 find_none_for s reference tld reason now h = three_none _ _ _ h.registry h.stands h.used
 
--- the outcome of a release, by the one that is kept
-abbrev pub released_by : State → List ℕ → List ℕ → Ground → ℕ → Option records.Release → Outcome
-released_by s reference tld reason now o = unless_kept s (option_map (OfRelease reference) o) (released s reference (new_release s tld reason now))
+-- the step of a release, by the one that is kept
+abbrev pub released_by : State → List ℕ → List ℕ → Ground → ℕ → Option records.Release → Step
+released_by s reference tld reason now o = unless_kept s (option_map (OfRelease reference) o) (release_step s reference (new_release s tld reason now))
 
 -- what acceptance of a release tells
 pub record IsReleased (s : State) (reference tld : List ℕ) (reason : Ground) (now : ℕ) (reply : Reply) (new : State) : Type 0 where
@@ -48,15 +48,15 @@ accepts_release s reference tld reason now reply new e =
     let h = step_accepts s (Release reference tld reason) now reply new e in record { none = none_stand_for s reference tld reason now h.0; outcome = h.1 }
 
 -- the release that is kept is the one of the reference, of the registry and on the ground
-pub kept_release_is : (s : State) (reference tld : List ℕ) (reason : Ground) (kept : records.Release) → kept_release s reference tld reason ≡ Some kept → (get s.releases reference ≡ Some kept) × (is_on tld reason kept ≡ true)
+pub kept_release_is : (s : State) (reference tld : List ℕ) (reason : Ground) (kept : records.Release) → kept_release s reference tld reason ≡ Some kept → (get s.releases reference ≡ Some kept) × (is_on_ground tld reason kept ≡ true)
 kept_release_is s reference tld reason kept e = by (release_of s reference) e
   where
-    by : (o : Option records.Release) → option_and_then (if_on tld reason) o ≡ Some kept → (o ≡ Some kept) × (is_on tld reason kept ≡ true)
+    by : (o : Option records.Release) → option_and_then (if_on_ground tld reason) o ≡ Some kept → (o ≡ Some kept) × (is_on_ground tld reason kept ≡ true)
     by None e = cc
-    by (Some found) e = let h = cond_some (is_on tld reason found) found kept e in (ap Some h.1, ap (is_on tld reason) (sym h.1) ∙ h.0)
+    by (Some found) e = let h = cond_some (is_on_ground tld reason found) found kept e in (ap Some h.1, ap (is_on_ground tld reason) (sym h.1) ∙ h.0)
 
-pub kept_release_of : (s : State) (reference tld : List ℕ) (reason : Ground) (kept : records.Release) → get s.releases reference ≡ Some kept → is_on tld reason kept ≡ true → kept_release s reference tld reason ≡ Some kept
-kept_release_of s reference tld reason kept at on = ap (option_and_then (if_on tld reason)) at ∙ ap (λ b. cond b (Some kept) None) on
+pub kept_release_of : (s : State) (reference tld : List ℕ) (reason : Ground) (kept : records.Release) → get s.releases reference ≡ Some kept → is_on_ground tld reason kept ≡ true → kept_release s reference tld reason ≡ Some kept
+kept_release_of s reference tld reason kept at on = ap (option_and_then (if_on_ground tld reason)) at ∙ ap (λ b. cond b (Some kept) None) on
 
 -- where no release is kept and none of the refusals stands, the reference is new
 pub unused_of : (s : State) (reference tld : List ℕ) (reason : Ground) (now : ℕ) → NoneStandsFor s reference tld reason now → kept_release s reference tld reason ≡ None → get s.releases reference ≡ None

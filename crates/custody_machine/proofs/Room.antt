@@ -6,15 +6,15 @@ use Rattle.extent_map.proofs.CountLemmas.{has_blocks, lie_above0}
 use Rattle.extent_map.proofs.RunLemmas.{count_over, not_both}
 use Rattle.vault_volume.specs.Extents.{AllIn, AreApart, HasAtLeast, HasCount, HasFewer, block_count}
 use Rattle.custody_records.specs.Keys.{PartKey}
-use Rattle.custody_records.specs.Orders.{part_total}
+use Rattle.custody_records.specs.inside.Orders.{part_total}
 use Rattle.custody_records.specs.Records.{PartRecord, Records, with_part}
-use Rattle.custody_machine.specs.Stored.{ForExtents, AreExtents, AreNaming, AreWhole, IsNamed}
-use Rattle.custody_machine.specs.Custody.{IsPlaceable, HasRoom, IsInOrder}
+use Rattle.custody_machine.specs.StoredState.{ForExtents, AreExtents, HaveBlock, AreWhole, IsPartBlock}
+use Rattle.custody_machine.specs.Custody.{IsPlaceable, HasRoomForBytes, IsInOrder}
 use Rattle.custody_machine.proofs.Accepting.{insert_here}
 use Rattle.custody_machine.proofs.Stored.{part_still}
 
 module _ (records : Records) (size failures : ℕ) (free : ℕ → Type 0) (order : IsInOrder records size failures free) (len : ℕ) where
-  pub no_room : HasFewer free size (block_count len) → ¬ HasRoom records len
+  pub no_room : HasFewer free size (block_count len) → ¬ HasRoomForBytes records len
   no_room few =
       let over = subst (λ n. HasFewer free n (block_count len)) order.blocks few in
       not_both (IsPlaceable records) records.blocks (block_count len) (over.0, count_over free (IsPlaceable records) order.placeable records.blocks over.0 over.1, over.2)
@@ -31,12 +31,12 @@ module _ (records : Records) (size failures : ℕ) (free : ℕ → Type 0) (orde
   lies : AllIn (IsPlaceable records) extents
   lies b within = let inside = lie_above0 records.blocks extents range.each b within in (inside.0, inside.1, λ named. apart named)
     where
-      apart : IsNamed records b → ⊥
+      apart : IsPartBlock records b → ⊥
       apart named =
-          let same = whole.once.between named.0 key named.1 part b (part_still records.parts key part fresh named.0 named.1 named.2) here named.3 (subst (λ o. AreNaming o b) (sym held) within) in
+          let same = whole.once.between named.0 key named.1 part b (part_still records.parts key part fresh named.0 named.1 named.2) here named.3 (subst (λ o. HaveBlock o b) (sym held) within) in
           let clash : Some named.1 ≡ None = sym named.2 ∙ ap (get records.parts) same ∙ fresh in cc
 
-  pub room_for_part : HasRoom records part.len
+  pub room_for_part : HasRoomForBytes records part.len
   room_for_part =
       let over = subst (λ n. HasCount free n count) order.blocks counted in
       subst (HasAtLeast (IsPlaceable records) records.blocks) range.counts

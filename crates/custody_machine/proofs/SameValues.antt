@@ -1,12 +1,12 @@
 -- The tests of sameness decide whether two values are equal.
+use Rattle.std.specs.Prelude.{bytes_eq}
 use Rattle.std.proofs.Common.{◌≡◌, ℕ, List, Bool, refl, sym, ◌∙◌, ap, nat_eq, ◌==◌, Some, None, Option}
 use Rattle.std.specs.Bool.{Decides}
 use Rattle.std.specs.Cmp.Lexicographic.{pointwise_decides, bytes_decides}
 use Rattle.std.specs.FinMap.{FinMap, entries, same_entries_map}
 use Rattle.std.specs.declared.cmp.Ordering.{Ordering}
 use Rattle.std.proofs.lemmas.Bool.Decides.{Decides-eqb, Decides-like, Decides-and}
-use Rattle.deposit_name.specs.declared.kinds.Kind.{Kind}
-use Rattle.deposit_name.specs.Name.{kind_text}
+use Rattle.deposit_name.proofs.KindLemmas.{same_kind_decides}
 use Rattle.desk.specs.Checks.{check_number}
 use Rattle.desk.specs.Grounds.{ground_text}
 use Rattle.desk.specs.declared.checks.Check.{Check}
@@ -15,21 +15,17 @@ use Rattle.desk.specs.declared.notices.NoticeKind.{NoticeKind}
 use Rattle.desk.specs.declared.notices.NoticeKind.TheVariants.{Receipt, Failure, Absence}
 use Rattle.custody_records.specs.Keys.{PartKey, NoticeKey}
 use Rattle.custody_records.specs.Records.{Notice, Release, Hold}
-use Rattle.custody_records.specs.Form.{kind_in, check_in, ground_in}
-use Rattle.custody_machine.specs.Names.{is_same_text}
+use Rattle.custody_records.specs.Form.{check_in, ground_in}
 use Rattle.custody_machine.specs.State.{State, Part, Content, Held, Dropped}
-use Rattle.custody_machine.specs.SameValues.{is_same_ground, is_same_kind, is_same_key, is_same_notice_key, is_same_content, is_same_part, is_same_notice_kind, is_same_notice, is_same_release, is_same_moment, is_same_hold, is_same_map, is_same_state}
-use Rattle.custody_records.proofs.FieldLemmas.{kind_in-kind_text, ground_in-ground_text, check_in-check_number}
+use Rattle.custody_machine.specs.SameValues.{is_same_ground, is_same_key, is_same_notice_key, is_same_content, is_same_part, is_same_notice_kind, is_same_notice, is_same_release, is_same_moment, is_same_hold, is_same_map, is_same_state}
+use Rattle.custody_records.proofs.FieldLemmas.{ground_in-ground_text, check_in-check_number}
 
-pub text_decides : (a b : List ℕ) → Decides (is_same_text a b) (a ≡ b)
+pub text_decides : (a b : List ℕ) → Decides (bytes_eq a b) (a ≡ b)
 text_decides = bytes_decides
 
 -- values that are read back from their texts are equal where these are
 by_text : {X T : Type 0} (text : X → T) (read : T → Option X) → ((x : X) → read (text x) ≡ Some x) → (a b : X) → text a ≡ text b → a ≡ b
 by_text text read back a b e = let both : Some a ≡ Some b = sym (back a) ∙ ap read e ∙ back b in cc
-
-pub kind_decides : (a b : Kind) → Decides (is_same_kind a b) (a ≡ b)
-kind_decides a b = Decides-like _ (by_text kind_text kind_in kind_in-kind_text a b) (ap kind_text) (text_decides (kind_text a) (kind_text b))
 
 check_decides : (a b : Check) → Decides (check_number a == check_number b) (a ≡ b)
 check_decides a b = Decides-like _ (by_text check_number check_in check_in-check_number a b) (ap check_number) (Decides-eqb (check_number a) (check_number b))
@@ -56,7 +52,7 @@ content_decides (Dropped m) (Held b) = (λ e. cc, λ e. cc)
 pub part_decides : (a b : Part) → Decides (is_same_part a b) (a ≡ b)
 part_decides a b = Decides-like _ (λ p i. record { kind = p.0 i; received = p.1.0 i; content = p.1.1 i })
     (λ e. (ap (λ (k : Part). k.kind) e, (ap (λ (k : Part). k.received) e, ap (λ (k : Part). k.content) e)))
-    (Decides-and _ _ (kind_decides a.kind b.kind) (Decides-and _ _ (Decides-eqb a.received b.received) (content_decides a.content b.content)))
+    (Decides-and _ _ (same_kind_decides a.kind b.kind) (Decides-and _ _ (Decides-eqb a.received b.received) (content_decides a.content b.content)))
 
 pub notice_kind_decides : (a b : NoticeKind) → Decides (is_same_notice_kind a b) (a ≡ b)
 notice_kind_decides (Receipt r id) (Receipt s jd) = Decides-like _ (λ p i. Receipt (p.0 i) (p.1 i)) (λ e. (cc, cc)) (Decides-and _ _ (Decides-eqb r s) (text_decides id jd))
@@ -98,8 +94,8 @@ map_decides {K} {X} {R} key value k v m n = Decides-like _ (same_entries_map m n
 pub state_decides : (a b : State) → Decides (is_same_state a b) (a ≡ b)
 state_decides a b = Decides-like _ (λ p i. record { registries = p.0 i; parts = p.1.0 i; notices = p.1.1.0 i; releases = p.1.1.1.0 i; holds = p.1.1.1.1 i })
     (λ e. (ap (λ (k : State). k.registries) e, (ap (λ (k : State). k.parts) e, (ap (λ (k : State). k.notices) e, (ap (λ (k : State). k.releases) e, ap (λ (k : State). k.holds) e)))))
-    (Decides-and _ _ (map_decides is_same_text nat_eq text_decides Decides-eqb a.registries b.registries)
+    (Decides-and _ _ (map_decides bytes_eq nat_eq text_decides Decides-eqb a.registries b.registries)
     (Decides-and _ _ (map_decides is_same_key is_same_part key_decides part_decides a.parts b.parts)
     (Decides-and _ _ (map_decides is_same_notice_key is_same_notice notice_key_decides notice_decides a.notices b.notices)
-    (Decides-and _ _ (map_decides is_same_text is_same_release text_decides release_decides a.releases b.releases)
-    (map_decides is_same_text is_same_hold text_decides hold_decides a.holds b.holds)))))
+    (Decides-and _ _ (map_decides bytes_eq is_same_release text_decides release_decides a.releases b.releases)
+    (map_decides bytes_eq is_same_hold text_decides hold_decides a.holds b.holds)))))

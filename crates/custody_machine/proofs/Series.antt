@@ -1,7 +1,7 @@
 -- The parts of a revision, counted.
 use Rattle.std.proofs.Common.{◌≡◌, ℕ, zero, suc, ◌+◌, ◌<◌, ◌≤◌, Bool, true, false, cond, refl, sym, ◌∙◌, ap, arith, count_by, ◌==◌}
 use Rattle.std.specs.List.{list_any}
-use Rattle.custody_machine.specs.State.{places}
+use Rattle.custody_machine.specs.State.{part_numbers}
 
 module _ (q : ℕ → Bool) (closed : (n : ℕ) → q (suc (suc n)) ≡ true → q (suc n) ≡ true) where
   count_from : ℕ → ℕ → ℕ
@@ -40,12 +40,12 @@ module _ (q : ℕ → Bool) (closed : (n : ℕ) → q (suc (suc n)) ≡ true →
       by true e (suc k) lt rest none = let same : suc (s + suc k) ≡ suc (suc s + k) = omega arith in ap q same ∙ rest k (omega (arith, lt))
       by false e k lt rest none = let zero_left : count_from (suc (suc s)) l ≡ 0 = none e in absurd (omega (arith, lt, zero_left))
 
-  counted : count_by q places ≡ count_from 1 8
+  counted : count_by q part_numbers ≡ count_from 1 8
   unfolding count_from
   counted = omega arith
 
   -- where all places below one are taken and no other is, so is the one before it
-  pub prior_taken : (place n : ℕ) → count_by q places + 1 ≡ place → place ≡ suc (suc n) → (q (suc n) ≡ true) × (n < 8)
+  pub prior_taken : (place n : ℕ) → count_by q part_numbers + 1 ≡ place → place ≡ suc (suc n) → (q (suc n) ≡ true) × (n < 8)
   prior_taken place n e is =
       let lt : n < count_from 1 8 = omega (arith, e, is, counted) in
       let most : count_from 1 8 ≤ 8 = at_most 1 8 in
@@ -53,13 +53,13 @@ module _ (q : ℕ → Bool) (closed : (n : ℕ) → q (suc (suc n)) ≡ true →
       (sym (ap q same) ∙ taken_at 0 8 n lt, omega (arith, lt, most))
 
   -- where some place is taken, the first is
-  pub first_taken : 0 < count_by q places → q 1 ≡ true
+  pub first_taken : 0 < count_by q part_numbers → q 1 ≡ true
   first_taken lt =
       let some : 0 < count_from 1 8 = omega (arith, lt, counted) in
       let same : suc (0 + 0) ≡ 1 = omega arith in
       sym (ap q same) ∙ taken_at 0 8 0 some
 
-pub is_place : (n : ℕ) → n < 8 → list_any (λ place. place == suc n) places ≡ true
+pub is_place : (n : ℕ) → n < 8 → list_any (λ place. place == suc n) part_numbers ≡ true
 is_place zero lt = refl
 is_place (suc zero) lt = refl
 is_place (suc (suc zero)) lt = refl

@@ -5,7 +5,7 @@ use Rattle.custody_records.specs.Keys.{NoticeKey}
 use Rattle.custody_records.specs.Records.{Notice}
 use Rattle.custody_machine.specs.declared.command.Statement as statement
 use Rattle.custody_machine.specs.State.{State}
-use Rattle.custody_machine.specs.Machine.{Statement, Refusal, RegistryUnknown, DateOutOfRange, DroppedAfterKeeping, AlreadyStated, TypeDiffers, PartsDiffer, LaterDayPassed, OfNotice, Reply, Outcome, Accept, is_unregistered, is_outside, first_part, has_part_of_other_kind, has_dropped_part, has_verdict, kept_verdict, differ_in_number, has_later_receipt, statement_tests, first_standing, unless_kept, step, stated_as}
+use Rattle.custody_machine.specs.Machine.{Statement, Refusal, RegistryUnknown, DateOutOfRange, DroppedAfterKeeping, AlreadyStated, TypeDiffers, PartsDiffer, LaterDayPassed, OfNotice, Reply, Step, Accept, is_unregistered, is_outside, first_part, has_part_of_other_kind, has_dropped_part, has_verdict, kept_verdict, has_other_count, has_later_receipt, statement_tests, first_refusal, unless_kept, step, statement_step}
 use Rattle.custody_machine.proofs.Accepting.{none_head, step_accepts}
 
 -- none of the refusals of a statement stands
@@ -15,11 +15,11 @@ pub record NoneStandsOf (s : State) (st : statement.Statement) (now : ℕ) : Typ
   pub dropped : (not (has_verdict s st) && has_dropped_part s (first_part st)) ≡ false
   pub stated : (is_none (kept_verdict s st) && has_verdict s st) ≡ false
   pub kind : has_part_of_other_kind s (first_part st) ≡ false
-  pub number : differ_in_number s st ≡ false
+  pub number : has_other_count s st ≡ false
   pub later : (is_none (kept_verdict s st) && has_later_receipt s st) ≡ false
 
 module _ (s : State) (st : statement.Statement) (now : ℕ) where
-  pub none_stand_of : first_standing (statement_tests s st now) ≡ None → NoneStandsOf s st now
+  pub none_stand_of : first_refusal (statement_tests s st now) ≡ None → NoneStandsOf s st now
   none_stand_of e =
       let b = none_head _ RegistryUnknown _ e in
       let c = none_head _ DateOutOfRange _ b.1 in
@@ -37,12 +37,12 @@ statement_refusals a b c d e f g = cond a (Some RegistryUnknown) (cond b (Some D
 seven_none : (a b c d e f g : Bool) → a ≡ false → b ≡ false → c ≡ false → d ≡ false → e ≡ false → f ≡ false → g ≡ false → statement_refusals a b c d e f g ≡ None
 seven_none a b c d e f g p q r t u v w = rw (p, q, r, t, u, v, w) refl
 
-pub find_none_of : (s : State) (st : statement.Statement) (now : ℕ) → NoneStandsOf s st now → first_standing (statement_tests s st now) ≡ None
+pub find_none_of : (s : State) (st : statement.Statement) (now : ℕ) → NoneStandsOf s st now → first_refusal (statement_tests s st now) ≡ None
 find_none_of s st now h = seven_none _ _ _ _ _ _ _ h.registry h.date h.dropped h.stated h.kind h.number h.later
 
--- the outcome of a statement, by the verdict that is kept
-abbrev pub stated_by : State → statement.Statement → ℕ → Option (NoticeKey × Notice) → Outcome
-stated_by s st now o = unless_kept s (option_map (λ (entry : NoticeKey × Notice). OfNotice entry.0 entry.1) o) (stated_as s st now)
+-- the step of a statement, by the verdict that is kept
+abbrev pub stated_by : State → statement.Statement → ℕ → Option (NoticeKey × Notice) → Step
+stated_by s st now o = unless_kept s (option_map (λ (entry : NoticeKey × Notice). OfNotice entry.0 entry.1) o) (statement_step s st now)
 
 -- what acceptance of a statement tells
 pub record IsStated (s : State) (st : statement.Statement) (now : ℕ) (reply : Reply) (new : State) : Type 0 where

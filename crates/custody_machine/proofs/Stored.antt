@@ -1,13 +1,13 @@
 -- What rows and image stand for, and how it changes with them.
 use Rattle.std.proofs.Common.{◌≡◌, inl, inr, ℕ, suc, ◌-◌, ◌<◌, List, [], ◌∷◌, Option, Some, None, Bool, true, false, ◌&&◌, cond, refl, sym, ◌∙◌, ap, subst, is_some, arith, Ok, Err, Result}
-use Rattle.std.specs.Prelude.{option_map}
+use Rattle.std.specs.Prelude.{option_map, bytes_eq}
 use Rattle.std.specs.List.{list_all}
 use Rattle.std.specs.Ordering.{eq_by_cmp}
 use Rattle.std.specs.Cmp.{Equal-is}
 use Rattle.std.specs.FinMap.{FinMap, get, insert, get-insert, same_map}
 use Rattle.sha2.specs.Sha256.{sha256}
 use Rattle.deposit_name.specs.declared.kinds.Kind.{Kind}
-use Rattle.deposit_name.specs.declared.faults.NameError.{NameError}
+use Rattle.deposit_name.specs.declared.errors.NameError.{NameError}
 use Rattle.deposit_name.specs.Name.{Name}
 use Rattle.extent_map.specs.declared.extent.Extent.{Extent}
 use Rattle.vault_volume.specs.Image.{DiffersOnlyIn}
@@ -17,24 +17,24 @@ use Rattle.custody_records.specs.Keys.{PartKey, part_cmp, text_cmp}
 use Rattle.custody_records.specs.Records.{PartRecord, Records, key_of}
 use Rattle.custody_records.specs.Records as recorded
 use Rattle.custody_records.specs.Rows.{Rows}
-use Rattle.custody_machine.specs.Names.{is_same_text, read_name}
-use Rattle.custody_machine.specs.State.{State, Held, at_place, has_notice}
-use Rattle.custody_machine.specs.Machine.{is_failure_of, with_part}
-use Rattle.custody_machine.specs.Stored.{ForExtents, AreNaming, IsNamed, AreExtents, is_part_of, names_part, AreWhole, IsGood, content_of, part_of, state_in, Stands, HasDigestAt, HasDigests, IsSound, IsKeptRecord, KeepsParts, OpensFrom}
+use Rattle.custody_machine.specs.NameReading.{read_name}
+use Rattle.custody_machine.specs.State.{State, Held, key_with_part, has_notice}
+use Rattle.custody_machine.specs.Machine.{is_failure_of, state_with_part}
+use Rattle.custody_machine.specs.StoredState.{ForExtents, HaveBlock, IsPartBlock, AreExtents, is_part_of, is_name_of_part, AreWhole, AreWholeOnVolume, content_of, part_of, state_in, StandsFor, HasDigestAt, HasDigests, IsSound, SameOrDropped, KeepsParts, OpensFrom}
 use Rattle.custody_machine.proofs.MapValues.{get-map_values, map_values-insert}
-use Rattle.custody_records.specs.Orders.{text_total, part_total, part_exact}
+use Rattle.custody_records.specs.inside.Orders.{text_total, part_total, part_exact}
 use Rattle.custody_machine.proofs.Accepting.{insert_new}
 use Rattle.custody_records.proofs.FormLemmas.{InForm-injective}
 
 -- rows and image determine the state
-pub stands_for_one : (rows : Rows) (image : List ℕ) (a b : State) → Stands rows image a → Stands rows image b → a ≡ b
+pub stands_for_one : (rows : Rows) (image : List ℕ) (a b : State) → StandsFor rows image a → StandsFor rows image b → a ≡ b
 stands_for_one rows image a b s t = s.meaning ∙ ap (λ r. state_in r image) (InForm-injective s.records t.records (sym s.in_form ∙ t.in_form)) ∙ sym t.meaning
 
 -- ---- blocks that no part names
 
-module _ (free : ℕ → Type 0) (records : Records) (old new : List ℕ) (differs : DiffersOnlyIn free old new) (unnamed : (b : ℕ) → IsNamed records b → ¬ free b) where
+module _ (free : ℕ → Type 0) (records : Records) (old new : List ℕ) (differs : DiffersOnlyIn free old new) (unnamed : (b : ℕ) → IsPartBlock records b → ¬ free b) where
   same_bytes : (key : PartKey) (part : PartRecord) (extents : List Extent) → get records.parts key ≡ Some part → part.extents ≡ Some extents → part_bytes old extents part.len ≡ part_bytes new extents part.len
-  same_bytes key part extents at is = part_bytes-same free old new extents part.len differs (λ b within. unnamed b (key, part, at, subst (λ o. AreNaming o b) (sym is) within))
+  same_bytes key part extents at is = part_bytes-same free old new extents part.len differs (λ b within. unnamed b (key, part, at, subst (λ o. HaveBlock o b) (sym is) within))
 
   same_part : (key : PartKey) (part : PartRecord) → get records.parts key ≡ Some part → part_of new part ≡ part_of old part
   same_part key part at = ap (λ c. record { kind = part.kind; received = part.received; content = c }) (by part.extents refl)
@@ -55,7 +55,7 @@ module _ (free : ℕ → Type 0) (records : Records) (old new : List ℕ) (diffe
   pub digest-elsewhere : (key : PartKey) → HasDigestAt old records key → HasDigestAt new records key
   digest-elsewhere key has part extents at is = ap sha256 (sym (same_bytes key part extents at is)) ∙ has part extents at is
 
-  pub good-elsewhere : ¬ free 0 → IsGood records old → IsGood records new
+  pub good-elsewhere : ¬ free 0 → AreWholeOnVolume records old → AreWholeOnVolume records new
   good-elsewhere head g = record {
     whole = g.whole;
     volume = record {
@@ -77,7 +77,7 @@ keeps_on a b c i j k p q = record {
   digests = λ key has. q.digests key (p.digests key has);
 }
   where
-    still : (part one two : PartRecord) → IsKeptRecord part one → IsKeptRecord one two → IsKeptRecord part two
+    still : (part one two : PartRecord) → SameOrDropped part one → SameOrDropped one two → SameOrDropped part two
     still part one two (inl x) (inl y) = inl (y ∙ x)
     still part one two (inl x) (inr y) = inr (y ∙ ap (λ (r : PartRecord). record r { extents = None }) x)
     still part one two (inr x) (inl y) = inr (y ∙ x)
@@ -88,7 +88,7 @@ pub sound_from : (a b : Records) (i j : List ℕ) → KeepsParts a i b j → Has
 sound_from a b i j keeps has key = keeps.digests key (has key)
 
 -- what opens so stands for its state, soundly if it was intact
-pub stands_of : (old : Records) (image : List ℕ) (P : State → Type 0) (rows : Rows) (left : List ℕ) (o : OpensFrom old image P rows left) → Stands rows left (state_in o.records left)
+pub stands_of : (old : Records) (image : List ℕ) (P : State → Type 0) (rows : Rows) (left : List ℕ) (o : OpensFrom old image P rows left) → StandsFor rows left (state_in o.records left)
 stands_of old image P rows left o = record { records = o.records; in_form = o.in_form; good = o.good; meaning = refl }
 
 pub sound_of : (old : Records) (image : List ℕ) (P : State → Type 0) (rows : Rows) (left : List ℕ) → OpensFrom old image P rows left → HasDigests image old → IsSound rows left
@@ -123,7 +123,7 @@ whole-with_registry records tld day whole = let l = whole.linked in record {
   };
 }
 
-pub good-with_registry : (records : Records) (image : List ℕ) (tld : List ℕ) (day : ℕ) → IsGood records image → IsGood (recorded.with_registry records tld day) image
+pub good-with_registry : (records : Records) (image : List ℕ) (tld : List ℕ) (day : ℕ) → AreWholeOnVolume records image → AreWholeOnVolume (recorded.with_registry records tld day) image
 good-with_registry records image tld day g = record { whole = whole-with_registry records tld day g.whole; volume = record { head = g.volume.head; size = g.volume.size } }
 
 pub keeps-with_registry : (records : Records) (image : List ℕ) (tld : List ℕ) (day : ℕ) → KeepsParts records image (recorded.with_registry records tld day) image
@@ -131,7 +131,7 @@ keeps-with_registry records image tld day = record { kept = λ key part at. (par
 
 -- ---- a new part
 
-pub state_in-with_part : (records : Records) (image : List ℕ) (key : PartKey) (part : PartRecord) → state_in (recorded.with_part records key part) image ≡ with_part (state_in records image) key (part_of image part)
+pub state_in-with_part : (records : Records) (image : List ℕ) (key : PartKey) (part : PartRecord) → state_in (recorded.with_part records key part) image ≡ state_with_part (state_in records image) key (part_of image part)
 state_in-with_part records image key part =
     ap (λ ps. record { registries = records.registries; parts = ps; notices = records.notices; releases = records.releases; holds = records.holds })
     (map_values-insert part_cmp (part_of image) part_total part_exact records.parts key part)
@@ -163,9 +163,9 @@ module _ (m : FinMap part_cmp PartRecord) (k : PartKey) (part : PartRecord) (new
       by None at h = cc
       by (Some p) at h = ap (is_part_of kind) (part_still q p at) ∙ h
 
-names_still : (records : Records) (key : PartKey) (part : PartRecord) → get records.parts key ≡ None → (tld : List ℕ) (r : Result Name NameError) → names_part records tld r ≡ true → names_part (recorded.with_part records key part) tld r ≡ true
+names_still : (records : Records) (key : PartKey) (part : PartRecord) → get records.parts key ≡ None → (tld : List ℕ) (r : Result Name NameError) → is_name_of_part records tld r ≡ true → is_name_of_part (recorded.with_part records key part) tld r ≡ true
 names_still records key part new tld (Err fault) h = h
-names_still records key part new tld (Ok name) h = by (is_same_text name.tld tld) h
+names_still records key part new tld (Ok name) h = by (bytes_eq name.tld tld) h
   where
     by : (b : Bool) → (b && is_part_of name.kind (get records.parts (key_of name))) ≡ true → (b && is_part_of name.kind (get (insert records.parts key part) (key_of name))) ≡ true
     by true h = kind_still records.parts key part new name.kind (key_of name) h
@@ -184,10 +184,10 @@ pub record IsInPlace (records : Records) (key : PartKey) (part : PartRecord) (ex
   pub held : part.extents ≡ Some extents
   pub range : AreExtents records.blocks part.len extents
   pub apart : AreApart extents
-  pub unnamed : (b : ℕ) → IsInAny extents b → ¬ IsNamed records b
+  pub unnamed : (b : ℕ) → IsInAny extents b → ¬ IsPartBlock records b
   pub registry : is_some (get records.registries key.tld) ≡ true
   pub fresh : get records.parts key ≡ None
-  pub series : (n : ℕ) → key.part ≡ suc (suc n) → is_part_of part.kind (get records.parts (at_place key (suc n))) ≡ true
+  pub series : (n : ℕ) → key.part ≡ suc (suc n) → is_part_of part.kind (get records.parts (key_with_part key (suc n))) ≡ true
   pub due : 0 < key.rev → has_notice records.notices key.tld key.day (is_failure_of (key.rev - 1)) ≡ true
 
 pub whole-with_part : (records : Records) (key : PartKey) (part : PartRecord) (extents : List Extent) → IsInPlace records key part extents → AreWhole records → AreWhole (recorded.with_part records key part)
@@ -195,9 +195,9 @@ whole-with_part records key part extents p whole = let l = whole.linked in recor
   extents = inserted records.parts key part (λ q r. ForExtents r.extents (AreExtents records.blocks r.len)) (subst (λ o. ForExtents o (AreExtents records.blocks part.len)) (sym p.held) p.range) whole.extents;
   once = record {
     within = inserted records.parts key part (λ q r. ForExtents r.extents AreApart) (subst (λ o. ForExtents o AreApart) (sym p.held) p.apart) whole.once.within;
-    between = λ i j x y b at_i at_j in_x in_y. inserted records.parts key part (λ i x. AreNaming x.extents b → i ≡ j)
-        (λ in_new. inserted records.parts key part (λ j y. AreNaming y.extents b → key ≡ j) (λ _. refl) (λ j y at in_old. absurd (not_both b in_new j y at in_old)) j y at_j in_y)
-        (λ i x at in_old. inserted records.parts key part (λ j y. AreNaming y.extents b → i ≡ j) (λ in_new. absurd (not_both b in_new i x at in_old)) (λ j y at' in_j. whole.once.between i j x y b at at' in_old in_j) j y at_j in_y)
+    between = λ i j x y b at_i at_j in_x in_y. inserted records.parts key part (λ i x. HaveBlock x.extents b → i ≡ j)
+        (λ in_new. inserted records.parts key part (λ j y. HaveBlock y.extents b → key ≡ j) (λ _. refl) (λ j y at in_old. absurd (not_both b in_new j y at in_old)) j y at_j in_y)
+        (λ i x at in_old. inserted records.parts key part (λ j y. HaveBlock y.extents b → i ≡ j) (λ in_new. absurd (not_both b in_new i x at in_old)) (λ j y at' in_j. whole.once.between i j x y b at at' in_old in_j) j y at_j in_y)
         i x at_i in_x;
   };
   linked = record {
@@ -205,11 +205,11 @@ whole-with_part records key part extents p whole = let l = whole.linked in recor
     notice_registry = l.notice_registry;
     release_registry = l.release_registry;
     hold_registry = l.hold_registry;
-    released = λ reference release at. all_still (λ text. names_part records release.tld (read_name text)) (λ text. names_part (recorded.with_part records key part) release.tld (read_name text))
+    released = λ reference release at. all_still (λ text. is_name_of_part records release.tld (read_name text)) (λ text. is_name_of_part (recorded.with_part records key part) release.tld (read_name text))
         (λ text. names_still records key part p.fresh release.tld (read_name text)) release.names (l.released reference release at);
-    series = inserted records.parts key part (λ q r. (n : ℕ) → q.part ≡ suc (suc n) → is_part_of r.kind (get (insert records.parts key part) (at_place q (suc n))) ≡ true)
-        (λ n e. kind_still records.parts key part p.fresh part.kind (at_place key (suc n)) (p.series n e))
-        (λ q r at n e. kind_still records.parts key part p.fresh r.kind (at_place q (suc n)) (l.series q r at n e));
+    series = inserted records.parts key part (λ q r. (n : ℕ) → q.part ≡ suc (suc n) → is_part_of r.kind (get (insert records.parts key part) (key_with_part q (suc n))) ≡ true)
+        (λ n e. kind_still records.parts key part p.fresh part.kind (key_with_part key (suc n)) (p.series n e))
+        (λ q r at n e. kind_still records.parts key part p.fresh r.kind (key_with_part q (suc n)) (l.series q r at n e));
     numbers = l.numbers;
     verdict_parts = λ k notice rev at of. some_still records.parts key part p.fresh (record { tld = k.tld; day = notice.day; rev = rev; part = 1 }) (l.verdict_parts k notice rev at of);
     one_verdict = l.one_verdict;
@@ -219,10 +219,10 @@ whole-with_part records key part extents p whole = let l = whole.linked in recor
   };
 }
   where
-    not_both : (b : ℕ) → AreNaming part.extents b → (k : PartKey) (q : PartRecord) → get records.parts k ≡ Some q → AreNaming q.extents b → ⊥
-    not_both b in_new k q at in_old = p.unnamed b (subst (λ o. AreNaming o b) p.held in_new) (k, q, at, in_old)
+    not_both : (b : ℕ) → HaveBlock part.extents b → (k : PartKey) (q : PartRecord) → get records.parts k ≡ Some q → HaveBlock q.extents b → ⊥
+    not_both b in_new k q at in_old = p.unnamed b (subst (λ o. HaveBlock o b) p.held in_new) (k, q, at, in_old)
 
-pub good-with_part : (records : Records) (image : List ℕ) (key : PartKey) (part : PartRecord) (extents : List Extent) → IsInPlace records key part extents → IsGood records image → IsGood (recorded.with_part records key part) image
+pub good-with_part : (records : Records) (image : List ℕ) (key : PartKey) (part : PartRecord) (extents : List Extent) → IsInPlace records key part extents → AreWholeOnVolume records image → AreWholeOnVolume (recorded.with_part records key part) image
 good-with_part records image key part extents p g = record { whole = whole-with_part records key part extents p g.whole; volume = record { head = g.volume.head; size = g.volume.size } }
 
 -- the parts from before stay, and the new one has its digest

@@ -1,21 +1,63 @@
 -- What a refusal or a failure is told as: one row each.
 use Rattle.std.specs.Prelude.{ℕ, List, ◌++◌, Option, Some, codes}
 use Rattle.custody_machine.specs.declared.answers.Refusal.{Refusal}
-use Rattle.custody_machine.specs.declared.answers.Refusal.TheVariants.{NameRefused, RegistryUnknown, DateOutOfRange, Size, OtherBytes, DroppedAfterKeeping, RevisionNotDue, AlreadyStated, TypeDiffers, PartOutOfOrder, VolumeFull, PartsDiffer, LaterDayPassed, NotYetDue, DayHasVerdict, GroundDoesNotStand, ReferenceUsed, NotInRelease, ReleaseUnknown, HoldReferenceUsed, HoldUnknown}
-use Rattle.custody_machine.specs.declared.answers.Fault.{Fault}
-use Rattle.custody_machine.specs.declared.answers.Fault.TheVariants.{NoMemory, VolumeFailed, StoreFailed, Closed, Damaged}
+use Rattle.custody_machine.specs.declared.answers.Refusal.TheVariants.{
+  NameRefused,
+  RegistryUnknown,
+  DateOutOfRange,
+  Size,
+  OtherBytes,
+  DroppedAfterKeeping,
+  RevisionNotDue,
+  AlreadyStated,
+  TypeDiffers,
+  PartOutOfOrder,
+  VolumeFull,
+  PartsDiffer,
+  LaterDayPassed,
+  NotYetDue,
+  DayHasVerdict,
+  GroundDoesNotStand,
+  ReferenceUsed,
+  NotInRelease,
+  ReleaseUnknown,
+  HoldReferenceUsed,
+  HoldUnknown,
+}
+use Rattle.custody_machine.specs.declared.answers.Failure.{Failure}
+use Rattle.custody_machine.specs.declared.answers.Failure.TheVariants.{
+  NoMemory,
+  VolumeFailed,
+  StoreFailed,
+  Closed,
+  Damaged,
+}
 use Rattle.custody_machine.specs.declared.codes.Code.{Code}
-use Rattle.custody_machine.specs.declared.codes.Status.{Status}
-use Rattle.custody_machine.specs.declared.codes.Status.TheVariants.{Done, Refused, Misused, Failed}
+use Rattle.custody_machine.specs.declared.codes.ExitStatus.{ExitStatus}
+use Rattle.custody_machine.specs.declared.codes.ExitStatus.TheVariants.{
+  Done,
+  Refused,
+  Misused,
+  Failed,
+}
 use Rattle.custody_machine.specs.declared.codes.HttpStatus.{HttpStatus}
-use Rattle.custody_machine.specs.declared.codes.HttpStatus.TheVariants.{BadRequest, NotFound, Conflict, Gone, ContentTooLarge, InternalServerError, ServiceUnavailable, InsufficientStorage}
+use Rattle.custody_machine.specs.declared.codes.HttpStatus.TheVariants.{
+  BadRequest,
+  NotFound,
+  Conflict,
+  Gone,
+  ContentTooLarge,
+  InternalServerError,
+  ServiceUnavailable,
+  InsufficientStorage,
+}
 
 -- the exit status of the program
-abbrev pub status_number : Status → ℕ
-status_number Done = 0
-status_number Refused = 1
-status_number Misused = 2
-status_number Failed = 3
+abbrev pub exit_number : ExitStatus → ℕ
+exit_number Done = 0
+exit_number Refused = 1
+exit_number Misused = 2
+exit_number Failed = 3
 
 -- the status code of a response (RFC 9110, section 15; of the last RFC 4918, section 11.5)
 abbrev pub http_number : HttpStatus → ℕ
@@ -29,10 +71,10 @@ http_number ServiceUnavailable = 503
 http_number InsufficientStorage = 507
 
 -- number and text, how the program ends, and the status of a response where there is one
-pub record Row : Type 0 where
+pub record CodeRow : Type 0 where
   pub number : List ℕ
   pub text : List ℕ
-  pub status : Status
+  pub status : ExitStatus
   pub http : Option HttpStatus
 
 -- number, text, and the status of a response
@@ -59,14 +101,14 @@ refusal_row ReleaseUnknown = (codes "Q19", codes "release unknown", NotFound)
 refusal_row HoldReferenceUsed = (codes "Q20", codes "hold reference used", Conflict)
 refusal_row HoldUnknown = (codes "Q21", codes "hold unknown", NotFound)
 
-abbrev pub fault_row : Fault → List ℕ × List ℕ × HttpStatus
-fault_row NoMemory = (codes "C1", codes "no memory", ServiceUnavailable)
-fault_row VolumeFailed = (codes "C2", codes "volume failed", ServiceUnavailable)
-fault_row StoreFailed = (codes "C3", codes "store failed", ServiceUnavailable)
-fault_row Closed = (codes "C4", codes "closed", ServiceUnavailable)
-fault_row (Damaged damage) = (codes "C5", codes "damaged", InternalServerError)
+abbrev pub failure_row : Failure → List ℕ × List ℕ × HttpStatus
+failure_row NoMemory = (codes "C1", codes "no memory", ServiceUnavailable)
+failure_row VolumeFailed = (codes "C2", codes "volume failed", ServiceUnavailable)
+failure_row StoreFailed = (codes "C3", codes "store failed", ServiceUnavailable)
+failure_row Closed = (codes "C4", codes "closed", ServiceUnavailable)
+failure_row (Damaged damage) = (codes "C5", codes "damaged", InternalServerError)
 
-abbrev pub refusal_code : Refusal → Row
+abbrev pub refusal_code : Refusal → CodeRow
 refusal_code refusal = record {
   number = (refusal_row refusal).0;
   text = (refusal_row refusal).1;
@@ -74,18 +116,18 @@ refusal_code refusal = record {
   http = Some (refusal_row refusal).2;
 }
 
-abbrev pub fault_code : Fault → Row
-fault_code fault = record {
-  number = (fault_row fault).0;
-  text = (fault_row fault).1;
+abbrev pub failure_code : Failure → CodeRow
+failure_code fault = record {
+  number = (failure_row fault).0;
+  text = (failure_row fault).1;
   status = Failed;
-  http = Some (fault_row fault).2;
+  http = Some (failure_row fault).2;
 }
 
 -- the row that a code is
-abbrev pub row_of : Code → Row
-row_of code = record { number = code.number.now; text = code.text.now; status = code.status; http = code.http }
+abbrev pub code_row : Code → CodeRow
+code_row code = record { number = code.number.now; text = code.text.now; status = code.status; http = code.http }
 
 -- number, space, text
-abbrev pub row_text : Row → List ℕ
-row_text row = row.number ++ codes " " ++ row.text
+abbrev pub code_row_text : CodeRow → List ℕ
+code_row_text row = row.number ++ codes " " ++ row.text

@@ -1,5 +1,20 @@
 -- What holds of an open custody, and what its calls do. The volume's and the database's words come as sets: the blocks that are free, and the images and rows that a stop may leave.
-use Rattle.std.specs.Prelude.{◌≡◌, ◌≢◌, ◌⊎◌, ℕ, ◌-◌, ◌<◌, ◌≤◌, ◌^◌, List, length, Some, Bool, true, false}
+use Rattle.std.specs.Prelude.{
+  ◌≡◌,
+  ◌≢◌,
+  ◌⊎◌,
+  ℕ,
+  ◌-◌,
+  ◌<◌,
+  ◌≤◌,
+  ◌^◌,
+  List,
+  length,
+  Some,
+  Bool,
+  true,
+  false,
+}
 use Rattle.sha2.specs.Sha256.{sha256}
 use Rattle.deposit_name.specs.Name.{Name}
 use Rattle.vault_volume.specs.Image.{DiffersOnlyIn}
@@ -7,35 +22,55 @@ use Rattle.vault_volume.specs.Extents.{AreChosen, HasAtLeast, Takes, block_count
 use Rattle.vault_volume.specs.Staged.{StagedPart}
 use Rattle.custody_records.specs.Records.{PartRecord, Records}
 use Rattle.custody_records.specs.Rows.{Rows}
-use Rattle.custody_records.specs.Form.{form_of, InForm, IsCurrent}
+use Rattle.custody_records.specs.Form.{form_of, InForm, HasCurrentSchema}
 use Rattle.custody_machine.specs.declared.damage.Damage.TheVariants.{NoRecord}
 use Rattle.custody_machine.specs.State.{empty}
-use Rattle.custody_machine.specs.Machine.{Command, Register, Receive, Statement, Check, Release, Hold, Lift, Purge, Answer}
-use Rattle.custody_machine.specs.History.{Event, Answered, Rested, ShutDown}
-use Rattle.custody_machine.specs.Stored.{IsNamed, AreWhole, IsVolumeOf}
+use Rattle.custody_machine.specs.Machine.{
+  Command,
+  Register,
+  Receive,
+  Statement,
+  Check,
+  Release,
+  Hold,
+  Lift,
+  Purge,
+  Answer,
+}
+use Rattle.custody_machine.specs.History.{Event, Answered, AnsweredOtherCall, ShutDown}
+use Rattle.custody_machine.specs.StoredState.{IsPartBlock, AreWhole, IsVolumeOf}
 use Rattle.custody_machine.specs.Damage.{IsDamaged}
-use Rattle.custody_machine.specs.Moves.{Place, Serving, Shut, Left, MayLeave, MayLeaveWithin, Moves, IsBegun}
+use Rattle.custody_machine.specs.Moves.{
+  Place,
+  Serving,
+  Shut,
+  Left,
+  MayLeave,
+  MayLeaveWithin,
+  Moves,
+  IsBegun,
+}
 
 -- ---- free blocks
 
 -- a block that may be placed, as the records have it: one that no part names, but block 0
 abbrev pub IsPlaceable : Records → ℕ → Type 0
-IsPlaceable records b = (1 ≤ b) × (b < records.blocks) × (¬ IsNamed records b)
+IsPlaceable records b = (1 ≤ b) × (b < records.blocks) × (¬ IsPartBlock records b)
 
 -- so many bytes can be placed: as many blocks may be as they take
-abbrev pub HasRoom : Records → ℕ → Type 0
-HasRoom records len = HasAtLeast (IsPlaceable records) records.blocks (block_count len)
+abbrev pub HasRoomForBytes : Records → ℕ → Type 0
+HasRoomForBytes records len = HasAtLeast (IsPlaceable records) records.blocks (block_count len)
 
 -- a command's part can be placed
-abbrev pub HasRoomFor : Records → Command → Type 0
-HasRoomFor records (Register tld first_day) = Unit {0}
-HasRoomFor records (Receive name bytes) = HasRoom records (length bytes)
-HasRoomFor records (Statement stated) = Unit {0}
-HasRoomFor records (Check tld day) = Unit {0}
-HasRoomFor records (Release reference tld reason) = Unit {0}
-HasRoomFor records (Hold reference tld day) = Unit {0}
-HasRoomFor records (Lift reference) = Unit {0}
-HasRoomFor records Purge = Unit {0}
+abbrev pub HasRoomForCommand : Records → Command → Type 0
+HasRoomForCommand records (Register tld first_day) = Unit {0}
+HasRoomForCommand records (Receive name bytes) = HasRoomForBytes records (length bytes)
+HasRoomForCommand records (Statement stated) = Unit {0}
+HasRoomForCommand records (Check tld day) = Unit {0}
+HasRoomForCommand records (Release reference tld reason) = Unit {0}
+HasRoomForCommand records (Hold reference tld day) = Unit {0}
+HasRoomForCommand records (Lift reference) = Unit {0}
+HasRoomForCommand records Purge = Unit {0}
 
 -- ---- an open custody
 
@@ -55,7 +90,7 @@ pub record IsOnVolume (records : Records) (image : List ℕ) (free : ℕ → Typ
 pub record IsInStore (records : Records) (rows : Rows) (is_ready : Type 0) (left : Rows → Type 0) : Type 0 where
   pub ready : is_ready
   pub in_form : form_of rows ≡ InForm records
-  pub current : IsCurrent rows
+  pub current : HasCurrentSchema rows
   pub settled : (r : Rows) → left r → r ≡ rows
 
 -- ---- what the calls of volume and database give
@@ -72,14 +107,10 @@ pub record IsPlaced (size : ℕ) (was_free is_free : ℕ → Type 0) (bytes : Li
   pub taken : Takes was_free staged.extents is_free
 
 -- They hold the bytes, and a stop leaves this image.
-pub record IsSettled (old new : List ℕ) (was_free : ℕ → Type 0) (left : List ℕ → Type 0) (bytes : List ℕ) (staged : StagedPart) : Type 0 where
+pub record IsDurable (old new : List ℕ) (was_free : ℕ → Type 0) (left : List ℕ → Type 0) (bytes : List ℕ) (staged : StagedPart) : Type 0 where
   pub holds : part_bytes new staged.extents staged.len ≡ bytes
   pub elsewhere : DiffersOnlyIn was_free old new
   pub settled : (c : List ℕ) → left c → c ≡ new
-
--- the record of a staged part
-abbrev pub staged_record : Name → ℕ → StagedPart → PartRecord
-staged_record name now staged = record { kind = name.kind; received = now; len = staged.len; digest = staged.digest; extents = Some staged.extents }
 
 -- ---- how bytes compare
 
@@ -99,7 +130,7 @@ Compares Broken stored bytes digest = (stored ≢ bytes) × (sha256 stored ≢ d
 -- ---- what a call did
 
 -- What a custody has: its records, and the image that a read of its volume gives.
-pub record Contents : Type 0 where
+pub record RecordsAndImage : Type 0 where
   pub records : Records
   pub image : List ℕ
 
@@ -118,31 +149,31 @@ pub record Leaves (left : LeftByCall) (Within Then : Rows → List ℕ → Type 
   pub at_exit : (rows : Rows) (image : List ℕ) → left.rows_then rows → left.images_then image → Then rows image
 
 -- a custody with these records and this image is at a place, if it is open; and if not, at that of a closed one
-abbrev pub IsAt : Bool → Records → List ℕ → Place → Type 0
-IsAt true records image (Serving there left) = (there ≡ records) × (left ≡ image)
-IsAt true records image (Shut there left doubt) = ⊥
-IsAt true records image (Left rows left) = ⊥
-IsAt false records image (Serving there left) = ⊥
-IsAt false records image (Shut there left doubt) = Unit {0}
-IsAt false records image (Left rows left) = ⊥
+abbrev pub IsAtPlace : Bool → Records → List ℕ → Place → Type 0
+IsAtPlace true records image (Serving there left) = (there ≡ records) × (left ≡ image)
+IsAtPlace true records image (Shut there left doubt) = ⊥
+IsAtPlace true records image (Left rows left) = ⊥
+IsAtPlace false records image (Serving there left) = ⊥
+IsAtPlace false records image (Shut there left doubt) = Unit {0}
+IsAtPlace false records image (Left rows left) = ⊥
 
 -- A command in an open custody: it moves by the answer, and leaves at each moment what its place may.
-pub record Serves (old : Contents) (command : Command) (now : ℕ) (answer : Answer) (is_open : Bool) (new : Contents) (left : LeftByCall) : Type 0 where
+pub record AnswersCommand (old : RecordsAndImage) (command : Command) (now : ℕ) (answer : Answer) (is_open : Bool) (new : RecordsAndImage) (left : LeftByCall) : Type 0 where
   pub next : Place
   pub moves : Moves (Serving old.records old.image) (Answered command now answer) next
-  pub is_at : IsAt is_open new.records new.image next
+  pub is_at : IsAtPlace is_open new.records new.image next
   pub leaves : Leaves left (MayLeaveWithin (Serving old.records old.image) command now) (MayLeave next)
 
 -- a call that is no command, by whether the custody is open after it
-abbrev pub rest_event : Bool → Event
-rest_event true = Rested
-rest_event false = ShutDown
+abbrev pub other_call_event : Bool → Event
+other_call_event true = AnsweredOtherCall
+other_call_event false = ShutDown
 
 -- A call that is no command, in an open custody: it stays as it was or is closed, and leaves at each moment what its place may.
-pub record Rests (old : Contents) (is_open : Bool) (new : Contents) (left : LeftByCall) : Type 0 where
+pub record AnswersOtherCall (old : RecordsAndImage) (is_open : Bool) (new : RecordsAndImage) (left : LeftByCall) : Type 0 where
   pub next : Place
-  pub moves : Moves (Serving old.records old.image) (rest_event is_open) next
-  pub is_at : IsAt is_open new.records new.image next
+  pub moves : Moves (Serving old.records old.image) (other_call_event is_open) next
+  pub is_at : IsAtPlace is_open new.records new.image next
   pub leaves : Leaves left (MayLeave (Serving old.records old.image)) (MayLeave next)
 
 -- what an initialisation over no record may leave: no record still, or what stands for the empty state

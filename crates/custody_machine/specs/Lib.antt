@@ -1,4 +1,4 @@
-pub mod Names
+pub mod NameReading
 pub mod State
 pub mod SameValues
 pub mod Machine
@@ -7,14 +7,14 @@ pub mod Texts
 pub mod History
 pub mod Retries
 pub mod MapValues
-pub mod Stored
+pub mod StoredState
 pub mod Purge
 pub mod Damage
-pub mod Fetched
+pub mod FetchResult
 pub mod Moves
 pub mod Releases
 pub mod Rulings
 pub mod Custody
 pub mod Commands
 pub mod Examples
-pub mod Accepted
+pub mod ExampleLife

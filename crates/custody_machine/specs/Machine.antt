@@ -1,5 +1,5 @@
 -- The machine of commands: what each is answered, and what is kept after it (Specification 2, Part B).
-use Rattle.std.specs.Prelude.{◌≡◌, ◌≢◌, ℕ, suc, ◌+◌, ◌-◌, max, List, [], ◌∷◌, map, length, Option, Some, None, option_map, Bool, true, false, not, ◌&&◌, ◌||◌, if◌then◌else◌, nat_lt, nat_le, ◌==◌, is_some, is_none, unwrap_or, count_by, Result, Ok, Err}
+use Rattle.std.specs.Prelude.{◌≡◌, ◌≢◌, ℕ, suc, ◌+◌, ◌-◌, max, List, [], ◌∷◌, map, length, Option, Some, None, option_map, Bool, true, false, not, ◌&&◌, ◌||◌, if◌then◌else◌, nat_lt, nat_le, ◌==◌, is_some, is_none, unwrap_or, count_by, Result, Ok, Err, bytes_eq}
 use Rattle.std.specs.List.{filter, filter_map, find, flat_map, last_or, list_all, list_any}
 use Rattle.std.specs.Option.{option_and_then}
 use Rattle.std.specs.FinMap.{FinMap, entries, get, insert}
@@ -7,13 +7,17 @@ use Rattle.std.specs.Ordering.{nat_cmp}
 use Rattle.schedule.specs.Schedule.{day_of, year_after}
 use Rattle.deposit_name.specs.declared.kinds.Kind.{Kind}
 use Rattle.deposit_name.specs.declared.kinds.Kind.TheVariants.{Full, Diff, Incr}
-use Rattle.deposit_name.specs.declared.faults.NameError.{NameError}
-use Rattle.deposit_name.specs.Name.{Name, name_text}
-use Rattle.desk.specs.Standing.{ground_stands}
+use Rattle.deposit_name.specs.declared.errors.NameError.{NameError}
+use Rattle.deposit_name.specs.Name.{Name, name_text, is_same_kind}
+use Rattle.desk.specs.Standing.{ground_stands, is_receipt}
 use Rattle.desk.specs.declared.grounds.Ground.{Ground}
 use Rattle.desk.specs.declared.notices.Notice as desk
 use Rattle.desk.specs.declared.notices.NoticeKind.{NoticeKind}
-use Rattle.desk.specs.declared.notices.NoticeKind.TheVariants.{Receipt, Failure, Absence}
+use Rattle.desk.specs.declared.notices.NoticeKind.TheVariants.{
+  Receipt,
+  Failure as FailureNotice,
+  Absence,
+}
 use Rattle.deposit_verify.specs.declared.base.Base.{Base}
 use Rattle.deposit_verify.specs.declared.verdict.Verdict.{Verdict}
 use Rattle.deposit_verify.specs.declared.verdict.Verdict.TheVariants.{Pass, Fail}
@@ -27,16 +31,54 @@ use Rattle.custody_records.specs.Records.{Notice, key_of, lifted_at, name_of, ne
 use Rattle.custody_records.specs.Tables.{is_rising}
 pub use Rattle.custody_machine.specs.declared.damage.Damage.{Damage}
 pub use Rattle.custody_machine.specs.declared.answers.Refusal.{Refusal}
-pub use Rattle.custody_machine.specs.declared.answers.Refusal.TheVariants.{NameRefused, RegistryUnknown, DateOutOfRange, Size, OtherBytes, DroppedAfterKeeping, RevisionNotDue, AlreadyStated, TypeDiffers, PartOutOfOrder, VolumeFull, PartsDiffer, LaterDayPassed, NotYetDue, DayHasVerdict, GroundDoesNotStand, ReferenceUsed, NotInRelease, ReleaseUnknown, HoldReferenceUsed, HoldUnknown}
-pub use Rattle.custody_machine.specs.declared.answers.Fault.{Fault}
-pub use Rattle.custody_machine.specs.declared.answers.Fault.TheVariants.{NoMemory, VolumeFailed, StoreFailed, Closed, Damaged}
+pub use Rattle.custody_machine.specs.declared.answers.Refusal.TheVariants.{
+  NameRefused,
+  RegistryUnknown,
+  DateOutOfRange,
+  Size,
+  OtherBytes,
+  DroppedAfterKeeping,
+  RevisionNotDue,
+  AlreadyStated,
+  TypeDiffers,
+  PartOutOfOrder,
+  VolumeFull,
+  PartsDiffer,
+  LaterDayPassed,
+  NotYetDue,
+  DayHasVerdict,
+  GroundDoesNotStand,
+  ReferenceUsed,
+  NotInRelease,
+  ReleaseUnknown,
+  HoldReferenceUsed,
+  HoldUnknown,
+}
+pub use Rattle.custody_machine.specs.declared.answers.Failure.{Failure}
+pub use Rattle.custody_machine.specs.declared.answers.Failure.TheVariants.{
+  NoMemory,
+  VolumeFailed,
+  StoreFailed,
+  Closed,
+  Damaged,
+}
 use Rattle.custody_machine.specs.declared.damage.Damage.TheVariants.{Digest}
 pub use Rattle.vault_volume.specs.Limits.{max_part_len}
-use Rattle.custody_machine.specs.Names.{is_same_text, read_name}
-use Rattle.custody_machine.specs.SameValues.{is_same_ground, is_same_kind}
+use Rattle.custody_machine.specs.NameReading.{read_name}
+use Rattle.custody_machine.specs.SameValues.{is_same_ground}
 use Rattle.custody_machine.specs.MapValues.{map_keyed}
 use Rattle.custody_machine.specs.declared.command.Statement as statement
-use Rattle.custody_machine.specs.State.{State, Part, Content, Held, Dropped, places, at_place, is_notice_of, has_notice}
+use Rattle.custody_machine.specs.State.{
+  State,
+  Part,
+  Content,
+  Held,
+  Dropped,
+  part_numbers,
+  key_with_part,
+  is_notice_of,
+  has_notice,
+}
 
 -- ---- what is asked and answered
 
@@ -73,9 +115,9 @@ pub record Reply : Type 0 where
   pub entry : Record
   pub is_repeat : Bool
 
-pub data Outcome : Type 0 where
-  Refuse : Refusal → Outcome
-  Accept : Reply → State → Outcome
+pub data Step : Type 0 where
+  Refuse : Refusal → Step
+  Accept : Reply → State → Step
 
 -- ---- the state, as the rules read it
 
@@ -85,70 +127,65 @@ first_day_of state tld = get state.registries tld
 abbrev pub part_at : State → PartKey → Option Part
 part_at state key = get state.parts key
 
-abbrev pub of_kind : Kind → Part → Option Part
-of_kind kind part = if is_same_kind part.kind kind then Some part else None
+abbrev pub part_of_kind : Kind → Part → Option Part
+part_of_kind kind part = if is_same_kind part.kind kind then Some part else None
 
 -- the part that is recorded under a name. The name has a kind: a part of another kind in the same place is not recorded under it
-abbrev pub recorded : State → Name → Option Part
-recorded state name = option_and_then (of_kind name.kind) (part_at state (key_of name))
+abbrev pub part_under_name : State → Name → Option Part
+part_under_name state name = option_and_then (part_of_kind name.kind) (part_at state (key_of name))
 
 -- the part at a place of a name's revision
-abbrev pub part_in : State → Name → ℕ → Option Part
-part_in state name place = part_at state (at_place (key_of name) place)
+abbrev pub revision_part : State → Name → ℕ → Option Part
+revision_part state name place = part_at state (key_with_part (key_of name) place)
 
 abbrev pub has_other_kind : Kind → Option Part → Bool
 has_other_kind kind None = false
 has_other_kind kind (Some part) = not (is_same_kind part.kind kind)
 
-abbrev pub is_receipt : NoticeKind → Bool
-is_receipt (Receipt _ _) = true
-is_receipt (Failure _ _ _) = false
-is_receipt Absence = false
-
 abbrev pub is_receipt_of : ℕ → NoticeKind → Bool
 is_receipt_of rev (Receipt of _) = of == rev
-is_receipt_of rev (Failure _ _ _) = false
+is_receipt_of rev (FailureNotice _ _ _) = false
 is_receipt_of rev Absence = false
 
 abbrev pub is_verdict_of : ℕ → NoticeKind → Bool
 is_verdict_of rev (Receipt of _) = of == rev
-is_verdict_of rev (Failure of _ _) = of == rev
+is_verdict_of rev (FailureNotice of _ _) = of == rev
 is_verdict_of rev Absence = false
 
 abbrev pub is_verdict : NoticeKind → Bool
 is_verdict (Receipt _ _) = true
-is_verdict (Failure _ _ _) = true
+is_verdict (FailureNotice _ _ _) = true
 is_verdict Absence = false
 
 abbrev pub is_absence : NoticeKind → Bool
 is_absence (Receipt _ _) = false
-is_absence (Failure _ _ _) = false
+is_absence (FailureNotice _ _ _) = false
 is_absence Absence = true
 
 abbrev pub is_failure_of : ℕ → NoticeKind → Bool
 is_failure_of rev (Receipt _ _) = false
-is_failure_of rev (Failure of _ _) = of == rev
+is_failure_of rev (FailureNotice of _ _) = of == rev
 is_failure_of rev Absence = false
 
 abbrev pub is_held_with : List ℕ → Content → Bool
-is_held_with bytes (Held kept) = is_same_text kept bytes
+is_held_with bytes (Held kept) = bytes_eq kept bytes
 is_held_with bytes (Dropped _) = false
 
 abbrev pub is_held_with_other : List ℕ → Content → Bool
-is_held_with_other bytes (Held kept) = not (is_same_text kept bytes)
+is_held_with_other bytes (Held kept) = not (bytes_eq kept bytes)
 is_held_with_other bytes (Dropped _) = false
 
-abbrev pub holds_other : List ℕ → Option Part → Bool
-holds_other bytes None = false
-holds_other bytes (Some part) = is_held_with_other bytes part.content
+abbrev pub has_other_bytes : List ℕ → Option Part → Bool
+has_other_bytes bytes None = false
+has_other_bytes bytes (Some part) = is_held_with_other bytes part.content
 
-abbrev pub is_gone : Content → Bool
-is_gone (Held _) = false
-is_gone (Dropped _) = true
+abbrev pub are_bytes_dropped : Content → Bool
+are_bytes_dropped (Held _) = false
+are_bytes_dropped (Dropped _) = true
 
 abbrev pub is_dropped : Option Part → Bool
 is_dropped None = false
-is_dropped (Some part) = is_gone part.content
+is_dropped (Some part) = are_bytes_dropped part.content
 
 -- the bytes of a part, none where they are dropped
 abbrev pub bytes_in : Content → List ℕ
@@ -167,27 +204,27 @@ first_part stated = record { tld = stated.tld; day = stated.day; kind = stated.k
 
 -- how many parts the revision of a name has
 abbrev pub count_parts : State → Name → ℕ
-count_parts state name = count_by (λ place. is_some (part_in state name place)) places
+count_parts state name = count_by (λ place. is_some (revision_part state name place)) part_numbers
 
 abbrev pub has_part_of_other_kind : State → Name → Bool
-has_part_of_other_kind state name = list_any (λ place. has_other_kind name.kind (part_in state name place)) places
+has_part_of_other_kind state name = list_any (λ place. has_other_kind name.kind (revision_part state name place)) part_numbers
 
 abbrev pub has_dropped_part : State → Name → Bool
-has_dropped_part state name = list_any (λ place. is_dropped (part_in state name place)) places
+has_dropped_part state name = list_any (λ place. is_dropped (revision_part state name place)) part_numbers
 
 -- the bytes of the revision's parts, joined in the order of the series
-abbrev pub joined : State → Name → List ℕ
-joined state name = flat_map (λ place. bytes_held (part_in state name place)) places
+abbrev pub joined_bytes : State → Name → List ℕ
+joined_bytes state name = flat_map (λ place. bytes_held (revision_part state name place)) part_numbers
 
 -- a verdict has this id
 abbrev pub has_id : List ℕ → NoticeKind → Bool
-has_id id (Receipt _ of) = is_same_text of id
-has_id id (Failure _ of _) = is_same_text of id
+has_id id (Receipt _ of) = bytes_eq of id
+has_id id (FailureNotice _ of _) = bytes_eq of id
 has_id id Absence = false
 
 -- the verdict on its revision, with its number
-abbrev pub verdict_told : State → statement.Statement → Option (NoticeKey × Notice)
-verdict_told state stated = find (is_notice_of stated.tld stated.day (is_verdict_of stated.rev)) (entries state.notices)
+abbrev pub recorded_verdict : State → statement.Statement → Option (NoticeKey × Notice)
+recorded_verdict state stated = find (is_notice_of stated.tld stated.day (is_verdict_of stated.rev)) (entries state.notices)
 
 abbrev pub if_of_id : List ℕ → NoticeKey × Notice → Option (NoticeKey × Notice)
 if_of_id id entry = if has_id id entry.1.kind then Some entry else None
@@ -196,19 +233,19 @@ abbrev pub has_verdict : State → statement.Statement → Bool
 has_verdict state stated = has_notice state.notices stated.tld stated.day (is_verdict_of stated.rev)
 
 -- the revision has no part, or another number of them than is stated
-abbrev pub differ_in_number : State → statement.Statement → Bool
-differ_in_number state stated = count_parts state (first_part stated) == 0 || not (count_parts state (first_part stated) == stated.parts)
+abbrev pub has_other_count : State → statement.Statement → Bool
+has_other_count state stated = count_parts state (first_part stated) == 0 || not (count_parts state (first_part stated) == stated.parts)
 
 -- the parts are those stated, by their kind and their number
-abbrev pub are_as_stated : State → statement.Statement → Bool
-are_as_stated state stated = not (has_part_of_other_kind state (first_part stated)) && not (differ_in_number state stated)
+abbrev pub are_parts_as_stated : State → statement.Statement → Bool
+are_parts_as_stated state stated = not (has_part_of_other_kind state (first_part stated)) && not (has_other_count state stated)
 
 -- the verdict that was made on the same statement: it has its id
 abbrev pub kept_verdict : State → statement.Statement → Option (NoticeKey × Notice)
-kept_verdict state stated = if are_as_stated state stated then option_and_then (if_of_id stated.id) (verdict_told state stated) else None
+kept_verdict state stated = if are_parts_as_stated state stated then option_and_then (if_of_id stated.id) (recorded_verdict state stated) else None
 
 abbrev pub has_later_receipt : State → statement.Statement → Bool
-has_later_receipt state stated = list_any (λ (entry : NoticeKey × Notice). is_same_text entry.0.tld stated.tld && (nat_lt stated.day entry.1.day && is_receipt entry.1.kind)) (entries state.notices)
+has_later_receipt state stated = list_any (λ (entry : NoticeKey × Notice). bytes_eq entry.0.tld stated.tld && (nat_lt stated.day entry.1.day && is_receipt entry.1.kind)) (entries state.notices)
 
 -- ---- what a check speaks of
 
@@ -222,31 +259,31 @@ abbrev pub release_of : State → List ℕ → Option records.Release
 release_of state reference = get state.releases reference
 
 -- a release is of this registry, on this ground
-abbrev pub is_on : List ℕ → Ground → records.Release → Bool
-is_on tld reason release = is_same_text release.tld tld && is_same_ground release.reason reason
+abbrev pub is_on_ground : List ℕ → Ground → records.Release → Bool
+is_on_ground tld reason release = bytes_eq release.tld tld && is_same_ground release.reason reason
 
-abbrev pub if_on : List ℕ → Ground → records.Release → Option records.Release
-if_on tld reason release = if is_on tld reason release then Some release else None
+abbrev pub if_on_ground : List ℕ → Ground → records.Release → Option records.Release
+if_on_ground tld reason release = if is_on_ground tld reason release then Some release else None
 
 -- the release that was made on the same request
 abbrev pub kept_release : State → List ℕ → List ℕ → Ground → Option records.Release
-kept_release state reference tld reason = option_and_then (if_on tld reason) (release_of state reference)
+kept_release state reference tld reason = option_and_then (if_on_ground tld reason) (release_of state reference)
 
 -- a notice as it was told
 abbrev pub told_notice : NoticeKey × Notice → desk.Notice
 told_notice entry = record { number = entry.0.number; tld = entry.0.tld; day = entry.1.day; at = entry.1.at; kind = entry.1.kind }
 
 -- the notices of a registry, by number
-abbrev pub told_to : FinMap notice_cmp Notice → List ℕ → List desk.Notice
-told_to notices tld = map told_notice (filter (λ (entry : NoticeKey × Notice). is_same_text entry.0.tld tld) (entries notices))
+abbrev pub notices_told_to : FinMap notice_cmp Notice → List ℕ → List desk.Notice
+notices_told_to notices tld = map told_notice (filter (λ (entry : NoticeKey × Notice). bytes_eq entry.0.tld tld) (entries notices))
 
 -- the ground stands by the notices of the registry
 abbrev pub has_ground : State → List ℕ → Ground → ℕ → Bool
-has_ground state tld reason now = ground_stands reason (told_to state.notices tld) now
+has_ground state tld reason now = ground_stands reason (notices_told_to state.notices tld) now
 
 -- the name of a part of the registry whose bytes are held
 abbrev pub held_name : List ℕ → PartKey × Part → Option (List ℕ)
-held_name tld entry = if is_same_text entry.0.tld tld && not (is_gone entry.1.content) then Some (name_text (name_of entry.0 entry.1.kind)) else None
+held_name tld entry = if bytes_eq entry.0.tld tld && not (are_bytes_dropped entry.1.content) then Some (name_text (name_of entry.0 entry.1.kind)) else None
 
 -- the names of all of them, by day, revision and place in the series
 abbrev pub held_names : State → List ℕ → List (List ℕ)
@@ -259,7 +296,7 @@ hold_of state reference = get state.holds reference
 
 -- a hold is of this registry and day
 abbrev pub is_held_day : List ℕ → ℕ → records.Hold → Bool
-is_held_day tld day hold = is_same_text hold.tld tld && hold.day == day
+is_held_day tld day hold = bytes_eq hold.tld tld && hold.day == day
 
 abbrev pub if_held_day : List ℕ → ℕ → records.Hold → Option records.Hold
 if_held_day tld day hold = if is_held_day tld day hold then Some hold else None
@@ -283,79 +320,79 @@ abbrev pub without_bytes : Part → Part
 without_bytes part = record { kind = part.kind; received = part.received; content = Dropped (content_len part.content) }
 
 -- its bytes are held, the last day of their keeping is before this day, and its day is not on hold
-abbrev pub is_due : FinMap text_cmp records.Hold → ℕ → PartKey → Part → Bool
-is_due holds today key part = not (is_gone part.content) && (nat_lt (year_after (day_of part.received)) today && not (is_on_hold holds key))
+abbrev pub is_due_part : FinMap text_cmp records.Hold → ℕ → PartKey → Part → Bool
+is_due_part holds today key part = not (are_bytes_dropped part.content) && (nat_lt (year_after (day_of part.received)) today && not (is_on_hold holds key))
 
-abbrev pub dropped_if_due : FinMap text_cmp records.Hold → ℕ → PartKey → Part → Part
-dropped_if_due holds today key part = if is_due holds today key part then without_bytes part else part
+abbrev pub part_dropped_if_due : FinMap text_cmp records.Hold → ℕ → PartKey → Part → Part
+part_dropped_if_due holds today key part = if is_due_part holds today key part then without_bytes part else part
 
 abbrev pub count_due : State → ℕ → ℕ
-count_due state today = count_by (λ (entry : PartKey × Part). is_due state.holds today entry.0 entry.1) (entries state.parts)
+count_due state today = count_by (λ (entry : PartKey × Part). is_due_part state.holds today entry.0 entry.1) (entries state.parts)
 
 -- ---- deposits that passed
 
 -- the id of a deposit that passed
 abbrev pub passed_id : NoticeKind → Option (List ℕ)
 passed_id (Receipt _ id) = Some id
-passed_id (Failure _ _ _) = None
+passed_id (FailureNotice _ _ _) = None
 passed_id Absence = None
 
 -- the day and the id of a registry's deposit that passed, where a notice tells it
-abbrev pub passed_in : List ℕ → NoticeKey × Notice → Option (ℕ × List ℕ)
-passed_in tld entry = if is_same_text entry.0.tld tld then option_map (λ (id : List ℕ). (entry.1.day, id)) (passed_id entry.1.kind) else None
+abbrev pub passed_deposit : List ℕ → NoticeKey × Notice → Option (ℕ × List ℕ)
+passed_deposit tld entry = if bytes_eq entry.0.tld tld then option_map (λ (id : List ℕ). (entry.1.day, id)) (passed_id entry.1.kind) else None
 
 -- those of a registry, in the order of their notices
-abbrev pub passed_of : FinMap notice_cmp Notice → List ℕ → List (ℕ × List ℕ)
-passed_of notices tld = filter_map (passed_in tld) (entries notices)
+abbrev pub passed_deposits : FinMap notice_cmp Notice → List ℕ → List (ℕ × List ℕ)
+passed_deposits notices tld = filter_map (passed_deposit tld) (entries notices)
 
 -- a revision is a full deposit: its first part is recorded under the name of one (Part A section 5)
 abbrev pub is_full_revision : State → List ℕ → ℕ → ℕ → Bool
-is_full_revision state tld day rev = is_some (recorded state (record { tld = tld; day = day; kind = Full; part = 1; rev = rev }))
+is_full_revision state tld day rev = is_some (part_under_name state (record { tld = tld; day = day; kind = Full; part = 1; rev = rev }))
 
 abbrev pub is_receipt_of_full : State → List ℕ → ℕ → NoticeKind → Bool
 is_receipt_of_full state tld day (Receipt rev _) = is_full_revision state tld day rev
-is_receipt_of_full state tld day (Failure _ _ _) = false
+is_receipt_of_full state tld day (FailureNotice _ _ _) = false
 is_receipt_of_full state tld day Absence = false
 
 -- a notice tells that a full deposit passed
-abbrev pub tells_full : State → NoticeKey × Notice → Bool
-tells_full state entry = is_receipt_of_full state entry.0.tld entry.1.day entry.1.kind
+abbrev pub is_receipt_entry_of_full : State → NoticeKey × Notice → Bool
+is_receipt_entry_of_full state entry = is_receipt_of_full state entry.0.tld entry.1.day entry.1.kind
 
 -- of a registry's deposits that passed, the full ones
-abbrev pub full_of : State → List ℕ → List (ℕ × List ℕ)
-full_of state tld = filter_map (passed_in tld) (filter (tells_full state) (entries state.notices))
+abbrev pub passed_full_deposits : State → List ℕ → List (ℕ × List ℕ)
+passed_full_deposits state tld = filter_map (passed_deposit tld) (filter (is_receipt_entry_of_full state) (entries state.notices))
 
 -- the id of the latest: of one that no other is later than
-abbrev pub latest_of : List (ℕ × List ℕ) → Option (List ℕ)
-latest_of passed = option_map (λ (one : ℕ × List ℕ). one.1) (find (λ (one : ℕ × List ℕ). list_all (λ (other : ℕ × List ℕ). nat_le other.0 one.0) passed) passed)
+abbrev pub latest_id : List (ℕ × List ℕ) → Option (List ℕ)
+latest_id passed = option_map (λ (one : ℕ × List ℕ). one.1) (find (λ (one : ℕ × List ℕ). list_all (λ (other : ℕ × List ℕ). nat_le other.0 one.0) passed) passed)
 
 -- ---- the chain of a deposit
 
 -- a part is the first of a registry's deposit that passed
 abbrev pub is_first_of_passed : State → List ℕ → PartKey × Part → Bool
-is_first_of_passed state tld entry = is_same_text entry.0.tld tld && (entry.0.part == 1 && has_notice state.notices tld entry.0.day (is_receipt_of entry.0.rev))
+is_first_of_passed state tld entry = bytes_eq entry.0.tld tld && (entry.0.part == 1 && has_notice state.notices tld entry.0.day (is_receipt_of entry.0.rev))
 
 -- the names of these parts, by day
-abbrev pub passed_firsts : State → List ℕ → List Name
-passed_firsts state tld = map (λ (entry : PartKey × Part). name_of entry.0 entry.1.kind) (filter (is_first_of_passed state tld) (entries state.parts))
+abbrev pub passed_first_names : State → List ℕ → List Name
+passed_first_names state tld = map (λ (entry : PartKey × Part). name_of entry.0 entry.1.kind) (filter (is_first_of_passed state tld) (entries state.parts))
 
 -- the latest full one
 abbrev pub latest_full : List Name → Option Name
 latest_full names = last_or None (filter (λ (name : Name). is_same_kind name.kind Full) names)
 
-abbrev pub later_than : ℕ → List Name → List Name
-later_than day names = filter (λ (name : Name). nat_lt day name.day) names
+abbrev pub later_names : ℕ → List Name → List Name
+later_names day names = filter (λ (name : Name). nat_lt day name.day) names
 
 -- a differential deposit follows the latest full one and all of later days, an incremental one that full one alone (RFC 8909, section 2)
 abbrev pub chain_of : Kind → List Name → Option Name → List Name
 chain_of kind names None = []
 chain_of Full names (Some full) = []
-chain_of Diff names (Some full) = full ∷ later_than full.day names
+chain_of Diff names (Some full) = full ∷ later_names full.day names
 chain_of Incr names (Some full) = full ∷ []
 
 -- the deposits that a stated one follows, oldest first, each by the name of its first part
 abbrev pub chain_before : State → statement.Statement → List Name
-chain_before state stated = chain_of stated.kind (passed_firsts state stated.tld) (latest_full (passed_firsts state stated.tld))
+chain_before state stated = chain_of stated.kind (passed_first_names state stated.tld) (latest_full (passed_first_names state stated.tld))
 
 -- the same where all their parts are held, and else none
 abbrev pub held_chain : State → statement.Statement → List Name
@@ -363,16 +400,16 @@ held_chain state stated = if list_any (has_dropped_part state) (chain_before sta
 
 -- the keys that there are after them, where they are held and read
 abbrev pub base_of : State → statement.Statement → Option Base
-base_of state stated = base_at (map (joined state) (held_chain state stated))
+base_of state stated = base_at (map (joined_bytes state) (held_chain state stated))
 
 -- what is known of a stated deposit
 abbrev pub known_of : State → statement.Statement → Known
 known_of state stated = record {
   name = first_part stated;
   id = stated.id;
-  latest = latest_of (passed_of state.notices stated.tld);
-  full = latest_of (full_of state stated.tld);
-  passed = map (λ (one : ℕ × List ℕ). one.1) (passed_of state.notices stated.tld);
+  latest = latest_id (passed_deposits state.notices stated.tld);
+  full = latest_id (passed_full_deposits state stated.tld);
+  passed = map (λ (one : ℕ × List ℕ). one.1) (passed_deposits state.notices stated.tld);
   base = base_of state stated;
 }
 
@@ -402,41 +439,41 @@ refusal_number ReleaseUnknown = 19
 refusal_number HoldReferenceUsed = 20
 refusal_number HoldUnknown = 21
 
-abbrev pub is_unknown : State → List ℕ → Bool
-is_unknown state tld = is_none (first_day_of state tld)
+abbrev pub is_tld_unregistered : State → List ℕ → Bool
+is_tld_unregistered state tld = is_none (first_day_of state tld)
 
 -- the day is before the registry's first, or after today
-abbrev pub is_beyond : State → List ℕ → ℕ → ℕ → Bool
-is_beyond state tld day now = nat_lt day (unwrap_or (first_day_of state tld) 0) || nat_lt (day_of now) day
+abbrev pub is_day_outside : State → List ℕ → ℕ → ℕ → Bool
+is_day_outside state tld day now = nat_lt day (unwrap_or (first_day_of state tld) 0) || nat_lt (day_of now) day
 
 -- The tests of the part of a name. Those of the day, of notices and of the revision's parts are for a new name.
 abbrev pub is_unregistered : State → Name → Bool
-is_unregistered state name = is_unknown state name.tld
+is_unregistered state name = is_tld_unregistered state name.tld
 
-abbrev pub is_new : State → Name → Bool
-is_new state name = is_none (recorded state name)
+abbrev pub is_unrecorded_name : State → Name → Bool
+is_unrecorded_name state name = is_none (part_under_name state name)
 
 abbrev pub is_outside : State → Name → ℕ → Bool
-is_outside state name now = is_beyond state name.tld name.day now
+is_outside state name now = is_day_outside state name.tld name.day now
 
 abbrev pub is_out_of_range : State → Name → ℕ → Bool
-is_out_of_range state name now = is_new state name && is_outside state name now
+is_out_of_range state name now = is_unrecorded_name state name && is_outside state name now
 
 abbrev pub is_out_of_size : ℕ → Bool
 is_out_of_size len = len == 0 || nat_lt max_part_len len
 
 -- the day has a receipt, or the revision before has no failure
-abbrev pub is_not_due : State → Name → Bool
-is_not_due state name = is_new state name && (has_notice state.notices name.tld name.day is_receipt || (nat_lt 0 name.rev && not (has_notice state.notices name.tld name.day (is_failure_of (name.rev - 1)))))
+abbrev pub is_revision_not_due : State → Name → Bool
+is_revision_not_due state name = is_unrecorded_name state name && (has_notice state.notices name.tld name.day is_receipt || (nat_lt 0 name.rev && not (has_notice state.notices name.tld name.day (is_failure_of (name.rev - 1)))))
 
 abbrev pub is_stated : State → Name → Bool
-is_stated state name = is_new state name && has_notice state.notices name.tld name.day (is_verdict_of name.rev)
+is_stated state name = is_unrecorded_name state name && has_notice state.notices name.tld name.day (is_verdict_of name.rev)
 
-abbrev pub differs_in_kind : State → Name → Bool
-differs_in_kind state name = is_new state name && has_part_of_other_kind state name
+abbrev pub is_new_beside_other_kind : State → Name → Bool
+is_new_beside_other_kind state name = is_unrecorded_name state name && has_part_of_other_kind state name
 
 abbrev pub is_out_of_order : State → Name → Bool
-is_out_of_order state name = is_new state name && not (count_parts state name + 1 == name.part)
+is_out_of_order state name = is_unrecorded_name state name && not (count_parts state name + 1 == name.part)
 
 -- a refusal, and whether it stands
 abbrev pub Test : Type 0
@@ -447,11 +484,11 @@ receive_tests state name bytes now =
     (RegistryUnknown, is_unregistered state name)
     ∷ (DateOutOfRange, is_out_of_range state name now)
     ∷ (Size, is_out_of_size (length bytes))
-    ∷ (OtherBytes, holds_other bytes (recorded state name))
-    ∷ (DroppedAfterKeeping, is_dropped (recorded state name))
-    ∷ (RevisionNotDue, is_not_due state name)
+    ∷ (OtherBytes, has_other_bytes bytes (part_under_name state name))
+    ∷ (DroppedAfterKeeping, is_dropped (part_under_name state name))
+    ∷ (RevisionNotDue, is_revision_not_due state name)
     ∷ (AlreadyStated, is_stated state name)
-    ∷ (TypeDiffers, differs_in_kind state name)
+    ∷ (TypeDiffers, is_new_beside_other_kind state name)
     ∷ (PartOutOfOrder, is_out_of_order state name)
     ∷ []
 
@@ -467,15 +504,15 @@ statement_tests state stated now =
     ∷ (DroppedAfterKeeping, not (has_verdict state stated) && has_dropped_part state (first_part stated))
     ∷ (AlreadyStated, is_none (kept_verdict state stated) && has_verdict state stated)
     ∷ (TypeDiffers, has_part_of_other_kind state (first_part stated))
-    ∷ (PartsDiffer, differ_in_number state stated)
+    ∷ (PartsDiffer, has_other_count state stated)
     ∷ (LaterDayPassed, is_none (kept_verdict state stated) && has_later_receipt state stated)
     ∷ []
 
 -- The tests of a check. All but the first are for a day without an absence.
 abbrev pub check_tests : State → List ℕ → ℕ → ℕ → List Test
 check_tests state tld day now =
-    (RegistryUnknown, is_unknown state tld)
-    ∷ (DateOutOfRange, is_none (absence_of state tld day) && is_beyond state tld day now)
+    (RegistryUnknown, is_tld_unregistered state tld)
+    ∷ (DateOutOfRange, is_none (absence_of state tld day) && is_day_outside state tld day now)
     ∷ (NotYetDue, is_none (absence_of state tld day) && day == day_of now)
     ∷ (DayHasVerdict, is_none (absence_of state tld day) && has_notice state.notices tld day is_verdict)
     ∷ []
@@ -483,7 +520,7 @@ check_tests state tld day now =
 -- The tests of a release. That of the ground is for a new reference.
 abbrev pub release_tests : State → List ℕ → List ℕ → Ground → ℕ → List Test
 release_tests state reference tld reason now =
-    (RegistryUnknown, is_unknown state tld)
+    (RegistryUnknown, is_tld_unregistered state tld)
     ∷ (GroundDoesNotStand, is_none (release_of state reference) && not (has_ground state tld reason now))
     ∷ (ReferenceUsed, is_some (release_of state reference) && is_none (kept_release state reference tld reason))
     ∷ []
@@ -491,8 +528,8 @@ release_tests state reference tld reason now =
 -- The tests of a hold. That of the day is for one that was not made before.
 abbrev pub hold_tests : State → List ℕ → List ℕ → ℕ → ℕ → List Test
 hold_tests state reference tld day now =
-    (RegistryUnknown, is_unknown state tld)
-    ∷ (DateOutOfRange, is_none (kept_hold state reference tld day) && is_beyond state tld day now)
+    (RegistryUnknown, is_tld_unregistered state tld)
+    ∷ (DateOutOfRange, is_none (kept_hold state reference tld day) && is_day_outside state tld day now)
     ∷ (HoldReferenceUsed, is_some (hold_of state reference) && is_none (kept_hold state reference tld day))
     ∷ []
 
@@ -514,54 +551,54 @@ abbrev pub TestsAreInOrder : Type 0
 TestsAreInOrder = (state : State) (command : Command) (now : ℕ) → is_rising nat_cmp (λ (test : Test). refusal_number test.0) (tests_of state command now) ≡ true
 
 -- the first that stands
-abbrev pub first_standing : List Test → Option Refusal
-first_standing [] = None
-first_standing (test ∷ others) = if test.1 then Some test.0 else first_standing others
+abbrev pub first_refusal : List Test → Option Refusal
+first_refusal [] = None
+first_refusal (test ∷ others) = if test.1 then Some test.0 else first_refusal others
 
 abbrev pub refusal_of : State → Command → ℕ → Option Refusal
-refusal_of state command now = first_standing (tests_of state command now)
+refusal_of state command now = first_refusal (tests_of state command now)
 
 -- ---- repeats
 
-abbrev pub held_with : List ℕ → Part → Option Part
-held_with bytes part = if is_held_with bytes part.content then Some part else None
+abbrev pub if_held_with : List ℕ → Part → Option Part
+if_held_with bytes part = if is_held_with bytes part.content then Some part else None
 
 -- the part that is held under a name with these bytes
-abbrev pub kept_under : State → Result Name NameError → List ℕ → Option Record
-kept_under state (Err fault) bytes = None
-kept_under state (Ok name) bytes = option_map (λ (part : Part). OfPart (key_of name) part) (option_and_then (held_with bytes) (recorded state name))
+abbrev pub kept_part_record : State → Result Name NameError → List ℕ → Option Record
+kept_part_record state (Err fault) bytes = None
+kept_part_record state (Ok name) bytes = option_map (λ (part : Part). OfPart (key_of name) part) (option_and_then (if_held_with bytes) (part_under_name state name))
 
 abbrev pub notice_record : NoticeKey × Notice → Record
 notice_record entry = OfNotice entry.0 entry.1
 
 -- The record that answers a command which is a repeat. Of a registration the first day is not compared, of a part each byte is, and of a statement, of a check, of a release and of a hold all that they say. A lifting that comes again is answered by the first one.
-abbrev pub kept : State → Command → Option Record
-kept state (Register tld first_day) = option_map (λ (day : ℕ). OfRegistry tld day) (first_day_of state tld)
-kept state (Receive text bytes) = kept_under state (read_name text) bytes
-kept state (Statement stated) = option_map notice_record (kept_verdict state stated)
-kept state (Check tld day) = option_map notice_record (absence_of state tld day)
-kept state (Release reference tld reason) = option_map (OfRelease reference) (kept_release state reference tld reason)
-kept state (Hold reference tld day) = option_map (OfHold reference) (kept_hold state reference tld day)
-kept state (Lift reference) = option_map (OfLifting reference) (lifting_of state reference)
-kept state Purge = None
+abbrev pub kept_record : State → Command → Option Record
+kept_record state (Register tld first_day) = option_map (λ (day : ℕ). OfRegistry tld day) (first_day_of state tld)
+kept_record state (Receive text bytes) = kept_part_record state (read_name text) bytes
+kept_record state (Statement stated) = option_map notice_record (kept_verdict state stated)
+kept_record state (Check tld day) = option_map notice_record (absence_of state tld day)
+kept_record state (Release reference tld reason) = option_map (OfRelease reference) (kept_release state reference tld reason)
+kept_record state (Hold reference tld day) = option_map (OfHold reference) (kept_hold state reference tld day)
+kept_record state (Lift reference) = option_map (OfLifting reference) (lifting_of state reference)
+kept_record state Purge = None
 
 -- ---- effects
 
-abbrev pub with_registry : State → List ℕ → ℕ → State
-with_registry state tld first_day = record state { registries = insert state.registries tld first_day }
+abbrev pub state_with_registry : State → List ℕ → ℕ → State
+state_with_registry state tld first_day = record state { registries = insert state.registries tld first_day }
 
-abbrev pub with_part : State → PartKey → Part → State
-with_part state key part = record state { parts = insert state.parts key part }
+abbrev pub state_with_part : State → PartKey → Part → State
+state_with_part state key part = record state { parts = insert state.parts key part }
 
 abbrev pub received_part : Name → List ℕ → ℕ → Part
 received_part name bytes now = record { kind = name.kind; received = now; content = Held bytes }
 
-abbrev pub received : State → Result Name NameError → List ℕ → ℕ → Outcome
-received state (Err fault) bytes now = Refuse (NameRefused fault)
-received state (Ok name) bytes now = Accept (record { entry = OfPart (key_of name) (received_part name bytes now); is_repeat = false }) (with_part state (key_of name) (received_part name bytes now))
+abbrev pub receive_step : State → Result Name NameError → List ℕ → ℕ → Step
+receive_step state (Err fault) bytes now = Refuse (NameRefused fault)
+receive_step state (Ok name) bytes now = Accept (record { entry = OfPart (key_of name) (received_part name bytes now); is_repeat = false }) (state_with_part state (key_of name) (received_part name bytes now))
 
-abbrev pub with_notice : State → NoticeKey → Notice → State
-with_notice state key notice = record state { notices = insert state.notices key notice }
+abbrev pub state_with_notice : State → NoticeKey → Notice → State
+state_with_notice state key notice = record state { notices = insert state.notices key notice }
 
 abbrev pub greatest_number : List (NoticeKey × Notice) → ℕ
 greatest_number [] = 0
@@ -569,12 +606,12 @@ greatest_number (entry ∷ others) = max entry.0.number (greatest_number others)
 
 -- the next number among the notices of a registry
 abbrev pub next_number : FinMap notice_cmp Notice → List ℕ → ℕ
-next_number notices tld = suc (greatest_number (filter (λ (entry : NoticeKey × Notice). is_same_text entry.0.tld tld) (entries notices)))
+next_number notices tld = suc (greatest_number (filter (λ (entry : NoticeKey × Notice). bytes_eq entry.0.tld tld) (entries notices)))
 
 -- a deposit that passes has a receipt, and any other a failure of the least check that fails
 abbrev pub notice_kind : statement.Statement → Verdict → NoticeKind
 notice_kind stated Pass = Receipt stated.rev stated.id
-notice_kind stated (Fail check) = Failure stated.rev stated.id check
+notice_kind stated (Fail check) = FailureNotice stated.rev stated.id check
 
 abbrev pub next_key : FinMap notice_cmp Notice → List ℕ → NoticeKey
 next_key notices tld = record { tld = tld; number = next_number notices tld }
@@ -584,75 +621,75 @@ verdict_notice stated told now = record { day = stated.day; at = now; kind = not
 
 -- the verdict on the deposit whose parts are kept
 abbrev pub verdict_on : State → statement.Statement → Verdict
-verdict_on state stated = verdict (joined state (first_part stated)) (known_of state stated)
+verdict_on state stated = verdict (joined_bytes state (first_part stated)) (known_of state stated)
 
 -- a notice of the verdict is recorded
-abbrev pub noticed : State → NoticeKey → Notice → Outcome
-noticed state key notice = Accept (record { entry = OfNotice key notice; is_repeat = false }) (with_notice state key notice)
+abbrev pub notice_step : State → NoticeKey → Notice → Step
+notice_step state key notice = Accept (record { entry = OfNotice key notice; is_repeat = false }) (state_with_notice state key notice)
 
-abbrev pub stated_as : State → statement.Statement → ℕ → Outcome
-stated_as state stated now = noticed state (next_key state.notices stated.tld) (verdict_notice stated (verdict_on state stated) now)
+abbrev pub statement_step : State → statement.Statement → ℕ → Step
+statement_step state stated now = notice_step state (next_key state.notices stated.tld) (verdict_notice stated (verdict_on state stated) now)
 
 -- the deposit of a day was not received
 abbrev pub absence_notice : ℕ → ℕ → Notice
 absence_notice day now = record { day = day; at = now; kind = Absence }
 
-abbrev pub missed : State → List ℕ → ℕ → ℕ → Outcome
-missed state tld day now = noticed state (next_key state.notices tld) (absence_notice day now)
+abbrev pub check_step : State → List ℕ → ℕ → ℕ → Step
+check_step state tld day now = notice_step state (next_key state.notices tld) (absence_notice day now)
 
-abbrev pub with_release : State → List ℕ → records.Release → State
-with_release state reference release = record state { releases = insert state.releases reference release }
+abbrev pub state_with_release : State → List ℕ → records.Release → State
+state_with_release state reference release = record state { releases = insert state.releases reference release }
 
 -- it lists the parts of the registry that are held
 abbrev pub new_release : State → List ℕ → Ground → ℕ → records.Release
 new_release state tld reason now = record { tld = tld; reason = reason; at = now; names = held_names state tld }
 
-abbrev pub released : State → List ℕ → records.Release → Outcome
-released state reference release = Accept (record { entry = OfRelease reference release; is_repeat = false }) (with_release state reference release)
+abbrev pub release_step : State → List ℕ → records.Release → Step
+release_step state reference release = Accept (record { entry = OfRelease reference release; is_repeat = false }) (state_with_release state reference release)
 
-abbrev pub with_hold : State → List ℕ → records.Hold → State
-with_hold state reference hold = record state { holds = insert state.holds reference hold }
+abbrev pub state_with_hold : State → List ℕ → records.Hold → State
+state_with_hold state reference hold = record state { holds = insert state.holds reference hold }
 
-abbrev pub held : State → List ℕ → records.Hold → Outcome
-held state reference hold = Accept (record { entry = OfHold reference hold; is_repeat = false }) (with_hold state reference hold)
+abbrev pub hold_step : State → List ℕ → records.Hold → Step
+hold_step state reference hold = Accept (record { entry = OfHold reference hold; is_repeat = false }) (state_with_hold state reference hold)
 
 -- the hold stays, with the moment of its lifting
-abbrev pub lifted : State → List ℕ → ℕ → Option records.Hold → Outcome
-lifted state reference now None = Refuse HoldUnknown
-lifted state reference now (Some hold) = Accept (record { entry = OfLifting reference now; is_repeat = false }) (with_hold state reference (lifted_at now hold))
+abbrev pub lift_step : State → List ℕ → ℕ → Option records.Hold → Step
+lift_step state reference now None = Refuse HoldUnknown
+lift_step state reference now (Some hold) = Accept (record { entry = OfLifting reference now; is_repeat = false }) (state_with_hold state reference (lifted_at now hold))
 
 -- each part stays, without its bytes where it is due
-abbrev pub without_due : State → ℕ → State
-without_due state today = record state { parts = map_keyed (dropped_if_due state.holds today) state.parts }
+abbrev pub state_without_due : State → ℕ → State
+state_without_due state today = record state { parts = map_keyed (part_dropped_if_due state.holds today) state.parts }
 
-abbrev pub purged : State → ℕ → Outcome
-purged state now = Accept (record { entry = OfPurge (count_due state (day_of now)); is_repeat = false }) (without_due state (day_of now))
+abbrev pub purge_step : State → ℕ → Step
+purge_step state now = Accept (record { entry = OfPurge (count_due state (day_of now)); is_repeat = false }) (state_without_due state (day_of now))
 
 -- what a command does that is no repeat
-abbrev pub effect : State → Command → ℕ → Outcome
-effect state (Register tld first_day) now = Accept (record { entry = OfRegistry tld first_day; is_repeat = false }) (with_registry state tld first_day)
-effect state (Receive text bytes) now = received state (read_name text) bytes now
-effect state (Statement stated) now = stated_as state stated now
-effect state (Check tld day) now = missed state tld day now
-effect state (Release reference tld reason) now = released state reference (new_release state tld reason now)
-effect state (Hold reference tld day) now = held state reference (new_hold tld day now)
-effect state (Lift reference) now = lifted state reference now (hold_of state reference)
-effect state Purge now = purged state now
+abbrev pub effect : State → Command → ℕ → Step
+effect state (Register tld first_day) now = Accept (record { entry = OfRegistry tld first_day; is_repeat = false }) (state_with_registry state tld first_day)
+effect state (Receive text bytes) now = receive_step state (read_name text) bytes now
+effect state (Statement stated) now = statement_step state stated now
+effect state (Check tld day) now = check_step state tld day now
+effect state (Release reference tld reason) now = release_step state reference (new_release state tld reason now)
+effect state (Hold reference tld day) now = hold_step state reference (new_hold tld day now)
+effect state (Lift reference) now = lift_step state reference now (hold_of state reference)
+effect state Purge now = purge_step state now
 
-abbrev pub unless_kept : State → Option Record → Outcome → Outcome
+abbrev pub unless_kept : State → Option Record → Step → Step
 unless_kept state (Some entry) outcome = Accept (record { entry = entry; is_repeat = true }) state
 unless_kept state None outcome = outcome
 
-abbrev pub unless_refused : Option Refusal → Outcome → Outcome
+abbrev pub unless_refused : Option Refusal → Step → Step
 unless_refused (Some refusal) outcome = Refuse refusal
 unless_refused None outcome = outcome
 
 -- what the state alone decides of a command at a moment
-unfoldable pub step : State → Command → ℕ → Outcome
-step state command now = unless_refused (refusal_of state command now) (unless_kept state (kept state command) (effect state command now))
+unfoldable pub step : State → Command → ℕ → Step
+step state command now = unless_refused (refusal_of state command now) (unless_kept state (kept_record state command) (effect state command now))
 
--- the state after an outcome
-abbrev pub state_of : State → Outcome → State
+-- the state after a step
+abbrev pub state_of : State → Step → State
 state_of old (Refuse _) = old
 state_of old (Accept _ new) = new
 
@@ -660,11 +697,11 @@ abbrev pub state_after : State → Command → ℕ → State
 state_after old command now = state_of old (step old command now)
 
 -- a command with its moment
-abbrev pub Entry : Type 0
-Entry = Command × ℕ
+abbrev pub TimedCommand : Type 0
+TimedCommand = Command × ℕ
 
 -- the state after commands in order, each at its moment
-abbrev pub after : State → List Entry → State
+abbrev pub after : State → List TimedCommand → State
 after state [] = state
 after state (entry ∷ entries) = after (state_after state entry.0 entry.1) entries
 
@@ -673,7 +710,7 @@ after state (entry ∷ entries) = after (state_after state entry.0 entry.1) entr
 pub data Answer : Type 0 where
   Accepted : Reply → Answer
   Refused : Refusal → Answer
-  Failed : Fault → Answer
+  Failed : Failure → Answer
 
 -- a refusal that is found before anything takes memory
 abbrev pub is_early : Refusal → Bool
@@ -683,25 +720,25 @@ is_early DateOutOfRange = true
 is_early Size = true
 is_early _ = false
 
-abbrev pub takes_room : Command → Bool
-takes_room (Register _ _) = false
-takes_room (Receive _ _) = true
-takes_room (Statement _) = false
-takes_room (Check _ _) = false
-takes_room (Release _ _ _) = false
-takes_room (Hold _ _ _) = false
-takes_room (Lift _) = false
-takes_room Purge = false
+abbrev pub has_bytes_to_place : Command → Bool
+has_bytes_to_place (Register _ _) = false
+has_bytes_to_place (Receive _ _) = true
+has_bytes_to_place (Statement _) = false
+has_bytes_to_place (Check _ _) = false
+has_bytes_to_place (Release _ _ _) = false
+has_bytes_to_place (Hold _ _ _) = false
+has_bytes_to_place (Lift _) = false
+has_bytes_to_place Purge = false
 
 -- The one free choice: a new part may be refused for want of room.
-abbrev pub MayRefuse : Command → Outcome → Refusal → Type 0
+abbrev pub MayRefuse : Command → Step → Refusal → Type 0
 MayRefuse command (Refuse least) refusal = refusal ≡ least
-MayRefuse command (Accept reply new) refusal = (refusal ≡ VolumeFull) × (takes_room command ≡ true) × (reply.is_repeat ≡ false)
+MayRefuse command (Accept reply new) refusal = (refusal ≡ VolumeFull) × (has_bytes_to_place command ≡ true) × (reply.is_repeat ≡ false)
 
-abbrev pub read_by : Option Refusal → Result Name NameError → List PartKey
-read_by None read = []
-read_by (Some refusal) (Err fault) = []
-read_by (Some refusal) (Ok name) = if is_other_bytes refusal then key_of name ∷ [] else []
+abbrev pub compared_keys : Option Refusal → Result Name NameError → List PartKey
+compared_keys None read = []
+compared_keys (Some refusal) (Err fault) = []
+compared_keys (Some refusal) (Ok name) = if is_other_bytes refusal then key_of name ∷ [] else []
   where
     is_other_bytes : Refusal → Bool
     is_other_bytes OtherBytes = true
@@ -709,30 +746,30 @@ read_by (Some refusal) (Ok name) = if is_other_bytes refusal then key_of name �
 
 -- the places of the parts of a name's revision
 abbrev pub part_keys : State → Name → List PartKey
-part_keys state name = map (at_place (key_of name)) (filter (λ place. is_some (part_in state name place)) places)
+part_keys state name = map (key_with_part (key_of name)) (filter (λ place. is_some (revision_part state name place)) part_numbers)
 
 -- the places of the parts that a verdict hangs on: those of the stated deposit, and of those that it follows
 abbrev pub verdict_keys : State → statement.Statement → List PartKey
 verdict_keys state stated = flat_map (part_keys state) (first_part stated ∷ held_chain state stated)
 
 -- where the command is made
-abbrev pub if_made : Option Refusal → Option Record → List PartKey → List PartKey
-if_made None None keys = keys
-if_made None (Some entry) keys = []
-if_made (Some refusal) entry keys = []
+abbrev pub keys_if_made : Option Refusal → Option Record → List PartKey → List PartKey
+keys_if_made None None keys = keys
+keys_if_made None (Some entry) keys = []
+keys_if_made (Some refusal) entry keys = []
 
 -- The parts whose bytes decide a command: where other bytes are sent under a name, the part that is kept under it; and where a deposit is verified, its parts and those of the deposits that it follows.
-abbrev pub reads : State → Command → ℕ → List PartKey
-reads state (Register tld first_day) now = []
-reads state (Receive text bytes) now = read_by (refusal_of state (Receive text bytes) now) (read_name text)
-reads state (Statement stated) now = if_made (refusal_of state (Statement stated) now) (kept state (Statement stated)) (verdict_keys state stated)
-reads state (Check tld day) now = []
-reads state (Release reference tld reason) now = []
-reads state (Hold reference tld day) now = []
-reads state (Lift reference) now = []
-reads state Purge now = []
+abbrev pub deciding_keys : State → Command → ℕ → List PartKey
+deciding_keys state (Register tld first_day) now = []
+deciding_keys state (Receive text bytes) now = compared_keys (refusal_of state (Receive text bytes) now) (read_name text)
+deciding_keys state (Statement stated) now = keys_if_made (refusal_of state (Statement stated) now) (kept_record state (Statement stated)) (verdict_keys state stated)
+deciding_keys state (Check tld day) now = []
+deciding_keys state (Release reference tld reason) now = []
+deciding_keys state (Hold reference tld day) now = []
+deciding_keys state (Lift reference) now = []
+deciding_keys state Purge now = []
 
-abbrev pub MayFail : Outcome → List PartKey → Fault → Type 0
+abbrev pub MayFail : Step → List PartKey → Failure → Type 0
 MayFail (Refuse least) read NoMemory = is_early least ≡ false
 MayFail (Refuse least) read VolumeFailed = is_early least ≡ false
 MayFail (Refuse least) read StoreFailed = ⊥
@@ -744,10 +781,10 @@ MayFail outcome read Closed = ⊥
 MayFail outcome read (Damaged damage) = (damage ≡ Digest) × (read ≢ [])
 
 -- what an open custody in the old state may answer, and its state then
-abbrev pub Answers : State → Command → ℕ → Answer → State → Type 0
-Answers old command now (Accepted reply) new = step old command now ≡ Accept reply new
-Answers old command now (Refused refusal) new = MayRefuse command (step old command now) refusal × (new ≡ old)
-Answers old command now (Failed fault) new = MayFail (step old command now) (reads old command now) fault × (new ≡ old)
+abbrev pub MayAnswer : State → Command → ℕ → Answer → State → Type 0
+MayAnswer old command now (Accepted reply) new = step old command now ≡ Accept reply new
+MayAnswer old command now (Refused refusal) new = MayRefuse command (step old command now) refusal × (new ≡ old)
+MayAnswer old command now (Failed failure) new = MayFail (step old command now) (deciding_keys old command now) failure × (new ≡ old)
 
 -- ---- records
 

@@ -1,5 +1,5 @@
 -- What a custody keeps for its registries, over whole byte strings (ICANN Registry Agreement, Specification 2, Part B sections 4 to 7).
-use Rattle.std.specs.Prelude.{ℕ, List, [], ◌∷◌, Bool, ◌==◌, ◌&&◌}
+use Rattle.std.specs.Prelude.{ℕ, List, [], ◌∷◌, Bool, ◌==◌, ◌&&◌, bytes_eq}
 use Rattle.std.specs.List.{list_any}
 use Rattle.std.specs.FinMap as map
 use Rattle.std.specs.FinMap.{FinMap, entries}
@@ -7,7 +7,6 @@ use Rattle.deposit_name.specs.declared.kinds.Kind.{Kind}
 use Rattle.desk.specs.declared.notices.NoticeKind.{NoticeKind}
 use Rattle.custody_records.specs.Keys.{text_cmp, PartKey, part_cmp, NoticeKey, notice_cmp}
 use Rattle.custody_records.specs.Records.{Notice, Release, Hold}
-use Rattle.custody_machine.specs.Names.{is_same_text}
 
 -- what is kept of a part: its bytes, or after the keeping year its length (Part B section 4)
 pub data Content : Type 0 where
@@ -36,16 +35,16 @@ abbrev pub empty : State
 empty = record { registries = map.empty; parts = map.empty; notices = map.empty; releases = map.empty; holds = map.empty }
 
 -- the places in the series of a revision's parts
-abbrev pub places : List ℕ
-places = 1 ∷ 2 ∷ 3 ∷ 4 ∷ 5 ∷ 6 ∷ 7 ∷ 8 ∷ []
+abbrev pub part_numbers : List ℕ
+part_numbers = 1 ∷ 2 ∷ 3 ∷ 4 ∷ 5 ∷ 6 ∷ 7 ∷ 8 ∷ []
 
 -- another place of the same revision
-abbrev pub at_place : PartKey → ℕ → PartKey
-at_place key place = record { tld = key.tld; day = key.day; rev = key.rev; part = place }
+abbrev pub key_with_part : PartKey → ℕ → PartKey
+key_with_part key place = record { tld = key.tld; day = key.day; rev = key.rev; part = place }
 
 -- whether it is a notice of a registry's day, and passes a test
 abbrev pub is_notice_of : List ℕ → ℕ → (NoticeKind → Bool) → NoticeKey × Notice → Bool
-is_notice_of tld day test entry = is_same_text entry.0.tld tld && (entry.1.day == day && test entry.1.kind)
+is_notice_of tld day test entry = bytes_eq entry.0.tld tld && (entry.1.day == day && test entry.1.kind)
 
 -- whether a notice of a registry's day passes a test
 abbrev pub has_notice : FinMap notice_cmp Notice → List ℕ → ℕ → (NoticeKind → Bool) → Bool

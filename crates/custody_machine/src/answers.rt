@@ -52,7 +52,7 @@ pub enum Refusal {
 
 /// Why a command failed.
 #[derive(Clone, Copy, Debug, PartialEq, Eq, Hash)]
-pub enum Fault {
+pub enum Failure {
     /// Memory was refused. Nothing was written.
     NoMemory,
     /// The volume failed. The custody is closed.
@@ -81,16 +81,16 @@ impl fmt::Display for Refusal {
     }
 }
 
-impl fmt::Display for Fault {
+impl fmt::Display for Failure {
     ghost use Rattle.std.specs.Prelude.{Some};
-    ghost use Rattle.custody_machine.specs.Texts.{fault_text};
+    ghost use Rattle.custody_machine.specs.Texts.{failure_text};
 
-    ghost output = { λ e. Some (fault_text e) };
+    ghost output = { λ e. Some (failure_text e) };
 
     fn fmt<W: fmt::Write>(&self, f: &mut fmt::Formatter<W>) -> fmt::Result {
         let code = self.code();
         match self {
-            Fault::Damaged(damage) => write!(f, "{code} {damage}"),
+            Failure::Damaged(damage) => write!(f, "{code} {damage}"),
             _ => write!(f, "{code}"),
         }
     }

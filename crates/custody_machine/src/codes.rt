@@ -1,15 +1,20 @@
 //! What a refusal or a failure is told as: one row each.
-ghost use Rattle.std.specs.Prelude.{◌≡◌, ◌++◌, codes};
-ghost use Rattle.deposit_name.specs.Name.{decimal};
-ghost use Rattle.custody_machine.specs.Codes.{fault_code, http_number, refusal_code, row_of, status_number};
+ghost use Rattle.std.specs.Prelude.{◌≡◌, ◌++◌, codes, decimal};
+ghost use Rattle.custody_machine.specs.Codes.{
+  failure_code,
+  http_number,
+  refusal_code,
+  code_row,
+  exit_number,
+};
 ghost use Rattle.custody_machine.specs.Machine.{refusal_number};
 
-use crate::{Fault, Refusal};
+use crate::{Failure, Refusal};
 use std::fmt;
 
 /// How a call of the program ends.
 #[derive(Clone, Copy, Debug, PartialEq, Eq, Hash)]
-pub enum Status {
+pub enum ExitStatus {
     /// All is done, or help was asked for.
     Done,
     /// What is kept has not changed.
@@ -20,16 +25,16 @@ pub enum Status {
     Failed,
 }
 
-impl Status {
+impl ExitStatus {
     /// The exit status.
     pub fn number(self) -> u8
-        ensures { result ≡ status_number self }
+        ensures { result ≡ exit_number self }
     {
         match self {
-            Status::Done => 0,
-            Status::Refused => 1,
-            Status::Misused => 2,
-            Status::Failed => 3,
+            ExitStatus::Done => 0,
+            ExitStatus::Refused => 1,
+            ExitStatus::Misused => 2,
+            ExitStatus::Failed => 3,
         }
     }
 }
@@ -72,7 +77,7 @@ pub struct Code {
     pub number: &'static str,
     pub text: &'static str,
     /// How the program ends.
-    pub status: Status,
+    pub status: ExitStatus,
     /// The status of a response; nothing is answered so that has none.
     pub http: Option<HttpStatus>,
 }
@@ -80,7 +85,7 @@ pub struct Code {
 impl Refusal {
     /// Its row.
     pub fn code(&self) -> Code
-        ensures row { row_of result ≡ refusal_code self.now }
+        ensures row { code_row result ≡ refusal_code self.now }
         ensures numbered { result.number.now ≡ codes "Q" ++ decimal (refusal_number self.now) }
     {
         let (number, text, http) = match self {
@@ -109,28 +114,28 @@ impl Refusal {
         Code {
             number,
             text,
-            status: Status::Refused,
+            status: ExitStatus::Refused,
             http: Some(http),
         }
     }
 }
 
-impl Fault {
+impl Failure {
     /// Its row.
     pub fn code(&self) -> Code
-        ensures { row_of result ≡ fault_code self.now }
+        ensures { code_row result ≡ failure_code self.now }
     {
         let (number, text, http) = match self {
-            Fault::NoMemory => ("C1", "no memory", HttpStatus::ServiceUnavailable),
-            Fault::VolumeFailed => ("C2", "volume failed", HttpStatus::ServiceUnavailable),
-            Fault::StoreFailed => ("C3", "store failed", HttpStatus::ServiceUnavailable),
-            Fault::Closed => ("C4", "closed", HttpStatus::ServiceUnavailable),
-            Fault::Damaged(_) => ("C5", "damaged", HttpStatus::InternalServerError),
+            Failure::NoMemory => ("C1", "no memory", HttpStatus::ServiceUnavailable),
+            Failure::VolumeFailed => ("C2", "volume failed", HttpStatus::ServiceUnavailable),
+            Failure::StoreFailed => ("C3", "store failed", HttpStatus::ServiceUnavailable),
+            Failure::Closed => ("C4", "closed", HttpStatus::ServiceUnavailable),
+            Failure::Damaged(_) => ("C5", "damaged", HttpStatus::InternalServerError),
         };
         Code {
             number,
             text,
-            status: Status::Failed,
+            status: ExitStatus::Failed,
             http: Some(http),
         }
     }
@@ -138,9 +143,9 @@ impl Fault {
 
 impl fmt::Display for Code {
     ghost use Rattle.std.specs.Prelude.{Some};
-    ghost use Rattle.custody_machine.specs.Codes.{row_of, row_text};
+    ghost use Rattle.custody_machine.specs.Codes.{code_row, code_row_text};
 
-    ghost output = { λ c. Some (row_text (row_of c)) };
+    ghost output = { λ c. Some (code_row_text (code_row c)) };
 
     fn fmt<W: fmt::Write>(&self, f: &mut fmt::Formatter<W>) -> fmt::Result {
         write!(f, "{} {}", self.number, self.text)

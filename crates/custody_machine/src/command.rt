@@ -1,7 +1,7 @@
 //! What a custody is asked.
 ghost use Rattle.std.specs.Prelude.{◌≡◌};
 ghost use Rattle.custody_machine.specs.Commands.{command_of};
-ghost use Rattle.custody_machine.specs.Rulings.{bytes_of};
+ghost use Rattle.custody_machine.specs.Rulings.{command_bytes};
 
 use deposit_name::{DepositId, Kind, Reference, Tld};
 use desk::{Ground, Revision};
@@ -49,7 +49,7 @@ pub enum Command<'a> {
 impl<'a> Command<'a> {
     /// The bytes that it brings.
     pub fn bytes(&self) -> &'a [u8]
-        ensures { result.now ≡ bytes_of (command_of self.now) }
+        ensures { result.now ≡ command_bytes (command_of self.now) }
     {
         match self {
             Command::Receive(_, bytes) => bytes,

@@ -1,15 +1,34 @@
 //! What holds of a custody, over all that may happen to it. The contracts of the calls cite the same
 //! definitions.
-ghost use Rattle.custody_machine.specs.Names.{IsReading};
+ghost use Rattle.custody_machine.specs.NameReading.{IsReading};
 ghost use Rattle.custody_machine.specs.Damage.{IsRefinement};
 ghost use Rattle.custody_machine.specs.State.{State};
-ghost use Rattle.custody_machine.specs.Fetched.{FetchesOne, FetchesHeld};
+ghost use Rattle.custody_machine.specs.FetchResult.{FetchesOne, FetchesHeld};
 ghost use Rattle.custody_machine.specs.Machine.{TestsAreInOrder};
-ghost use Rattle.custody_machine.specs.History.{OpeningsAreRight, NothingIsTakenBack, AcceptedIsFound, HeldAsReceived};
+ghost use Rattle.custody_machine.specs.History.{
+  OpeningsAreRight,
+  NothingIsTakenBack,
+  AcceptedIsFound,
+  HeldAsReceived,
+};
 ghost use Rattle.custody_machine.specs.Examples.{HistoriesHappen};
-ghost use Rattle.custody_machine.specs.Accepted.{CustodyLives};
-ghost use Rattle.custody_machine.specs.Moves.{MovesAreHistories, PlacesAreRight, NoDamageIsTold, ReadsBackAsReceived, FindsOne, ChainsMove};
-ghost use Rattle.custody_machine.specs.Retries.{KeysAreCompared, ActsOnce, RepeatsAreAnswered, NothingIsRemoved, RepliesAreRecords, AcknowledgedIsKept};
+ghost use Rattle.custody_machine.specs.ExampleLife.{CustodyLives};
+ghost use Rattle.custody_machine.specs.Moves.{
+  MovesAreHistories,
+  PlacesAreRight,
+  NoDamageIsReported,
+  ReadsBackAsReceived,
+  FindsOne,
+  AnswersAreMoves,
+};
+ghost use Rattle.custody_machine.specs.Retries.{
+  KeysAreCompared,
+  ActsOnce,
+  RepeatsAreAnswered,
+  NothingIsRemoved,
+  RepliesAreRecords,
+  AcknowledgedIsKept,
+};
 
 use deposit_verify::law_verdict;
 
@@ -46,9 +65,9 @@ pub fn law_histories()
     ensures histories { (first : State) → MovesAreHistories first }
     ensures places { (first : State) → PlacesAreRight first }
     ensures reads_back { (first : State) → ReadsBackAsReceived first }
-    ensures no_damage { (first : State) → NoDamageIsTold first }
+    ensures no_damage { (first : State) → NoDamageIsReported first }
     ensures finds { FindsOne }
-    ensures runs { ChainsMove }
+    ensures runs { AnswersAreMoves }
     // Of the states.
     ensures opens { (first : State) → OpeningsAreRight first }
     ensures again { (first : State) → NothingIsTakenBack first }

@@ -8,8 +8,8 @@ mod command;
 mod damage;
 mod laws;
 
-pub use answers::{Fault, Refusal};
-pub use codes::{Code, HttpStatus, Status};
+pub use answers::{Failure, Refusal};
+pub use codes::{Code, ExitStatus, HttpStatus};
 pub use command::{Command, Statement};
 pub use damage::Damage;
 pub use laws::{

@@ -1,16 +1,16 @@
 -- When a field passes its test, and what a typed reader of the field then answers.
-use Rattle.std.proofs.Common.{◌≡◌, ℕ, pos, ◌*◌, ◌-◌, ◌≤◌, List, [], ◌∷◌, ◌==◌, Bool, true, false, cond, Option, Some, None, refl, sym, ◌∙◌, ap, subst, arith}
+use Rattle.std.proofs.Common.{◌≡◌, ℕ, pos, ◌+◌, ◌*◌, ◌-◌, ◌≤◌, List, [], ◌∷◌, ◌==◌, Bool, true, false, cond, Option, Some, None, refl, sym, ◌∙◌, ap, subst, arith}
 use Rattle.std.specs.Prelude.{IfSome, find}
 use Rattle.std.specs.Str.{bytes_eq, IsUtf8}
 use Rattle.std.proofs.lemmas.Bool.{eqb-true}
 use Rattle.std.proofs.lemmas.Bool.Decides.{nat_tests}
 use Rattle.std.proofs.lemmas.Slice.Eq.{bytes_eq-Decides}
-use Rattle.schedule.specs.Schedule.{IsDay, IsMoment}
+use Rattle.schedule.specs.Schedule.{IsDay, IsMoment, last_day}
 use Rattle.deposit_name.specs.declared.kinds.Kind.{Kind}
 use Rattle.deposit_name.specs.declared.kinds.Kind.TheVariants.{Full, Diff, Incr}
 use Rattle.deposit_name.specs.Identifiers.{is_tld, is_reference, IsTld, IsReference}
 use Rattle.deposit_name.proofs.IdentifierLemmas.{is_tld-IsTld, is_reference-IsReference}
-use Rattle.deposit_name.specs.Name.{kind_text, IsNameDay}
+use Rattle.deposit_name.specs.Name.{kind_text, IsNameDay, first_name_day}
 use Rattle.desk.specs.Checks.{check_number}
 use Rattle.desk.specs.Grounds.{ground_text}
 use Rattle.desk.specs.declared.checks.Check.{Check}
@@ -28,13 +28,13 @@ pub number_passes : (n : ℕ) → is_number n (pos n) ≡ true
 number_passes n = within_passes n n n (omega arith) (omega arith)
 
 pub day_passes : (d : ℕ) → IsDay d → is_day (pos d) ≡ true
-day_passes d h = within_passes 0 2_932_531 d (omega arith) h
+day_passes d h = within_passes 0 last_day d (omega arith) h
 
 pub deposit_day_passes : (d : ℕ) → IsNameDay d → is_deposit_day (pos d) ≡ true
-deposit_day_passes d h = within_passes 10_957 2_932_531 d h.0 h.1
+deposit_day_passes d h = within_passes first_name_day last_day d h.0 h.1
 
 pub moment_passes : (s : ℕ) → IsMoment s → is_moment (pos s) ≡ true
-moment_passes s h = within_passes 0 (86_400 * 2_932_532 - 1) s (omega arith) (omega arith)
+moment_passes s h = within_passes 0 (86_400 * (last_day + 1) - 1) s (omega arith) (omega arith)
 
 -- ---- texts
 

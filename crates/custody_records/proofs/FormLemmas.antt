@@ -9,11 +9,11 @@ use Rattle.std.proofs.lemmas.Slice.Eq.{bytes_eq-Decides}
 use Rattle.hex.specs.Hex.{encode_lower}
 use Rattle.hex.proofs.HexLemmas.{decode_sized-encode_lower}
 use Rattle.vault_volume.proofs.HeadLemmas.{IsBytes-to_be_bytes}
-use Rattle.custody_records.specs.declared.damage.Damage.TheVariants as damage
+use Rattle.custody_records.specs.declared.damage.RowDamage.TheVariants as damage
 use Rattle.custody_records.specs.Keys.{text_cmp, PartKey, part_cmp, NoticeKey, notice_cmp}
 use Rattle.custody_records.specs.Records.{PartRecord, Notice, Release, Hold, Records, new_records, with_registry, with_part, with_notice, with_release, with_hold}
-use Rattle.custody_records.specs.Rows.{MetaRow, RegistryRow, PartRow, NoticeRow, HandoverRow, HoldRow, Rows, with_registry_row, with_part_row, with_notice_row, with_handover_row, with_hold_row, migrated, first_meta, fresh}
-use Rattle.custody_records.specs.Form.{natural, gathered, registry_in, part_in, notice_in, release_in, hold_in, holds_in, has_holds, from_hex, number_in, is_meta, OutOfForm, InForm, all_records, records_in, in_form_or, is_known, form_by, form_of, IsCurrent, IsEarlier}
+use Rattle.custody_records.specs.Rows.{MetaRow, RegistryRow, PartRow, NoticeRow, HandoverRow, HoldRow, Rows, with_registry_row, with_part_row, with_notice_row, with_handover_row, with_hold_row, migrated_rows, first_meta, initial_rows}
+use Rattle.custody_records.specs.Form.{natural, gathered_table, registry_in, part_in, notice_in, release_in, hold_in, holds_in, has_holds, hex_number, number_in, is_meta, OutOfForm, InForm, all_records, records_in, in_form_or, is_known, form_by, form_of, HasCurrentSchema, HasEarlierSchema}
 use Rattle.std.specs.Str.{bytes_eq}
 use Rattle.custody_records.proofs.FieldLemmas.{within_passes}
 use Rattle.custody_records.proofs.Gathered.{gathered_push}
@@ -26,10 +26,10 @@ pub record AreRecords (rows : Rows) (records : Records) : Type 0 where
   pub in_form : is_meta meta ≡ true
   pub number : number_in meta.number ≡ records.number
   pub blocks : natural meta.blocks ≡ records.blocks
-  pub registries : gathered registry_in rows.registries ≡ Some records.registries
-  pub parts : gathered part_in rows.parts ≡ Some records.parts
-  pub notices : gathered notice_in rows.notices ≡ Some records.notices
-  pub releases : gathered release_in rows.handovers ≡ Some records.releases
+  pub registries : gathered_table registry_in rows.registries ≡ Some records.registries
+  pub parts : gathered_table part_in rows.parts ≡ Some records.parts
+  pub notices : gathered_table notice_in rows.notices ≡ Some records.notices
+  pub releases : gathered_table release_in rows.handovers ≡ Some records.releases
   pub holds : holds_in (has_holds meta.schema_no) rows.holds ≡ Some records.holds
 
 -- rows in form stand for one set of records
@@ -41,7 +41,7 @@ InForm-injective a b e = cc
 module _ (number blocks : ℕ) (rows : Rows) (records : Records) (meta : MetaRow) where
   tables : rows.meta ≡ Some (meta ∷ []) → is_known meta ≡ true → is_meta meta ≡ true → number_in meta.number ≡ number → natural meta.blocks ≡ blocks
       → (registries : Option (FinMap text_cmp ℕ)) (parts : Option (FinMap part_cmp PartRecord)) (notices : Option (FinMap notice_cmp Notice)) (releases : Option (FinMap text_cmp Release)) (holds : Option (FinMap text_cmp Hold))
-      → gathered registry_in rows.registries ≡ registries → gathered part_in rows.parts ≡ parts → gathered notice_in rows.notices ≡ notices → gathered release_in rows.handovers ≡ releases → holds_in (has_holds meta.schema_no) rows.holds ≡ holds
+      → gathered_table registry_in rows.registries ≡ registries → gathered_table part_in rows.parts ≡ parts → gathered_table notice_in rows.notices ≡ notices → gathered_table release_in rows.handovers ≡ releases → holds_in (has_holds meta.schema_no) rows.holds ≡ holds
       → in_form_or damage.Form (all_records number blocks registries parts notices releases holds) ≡ InForm records → AreRecords rows records
   tables alone known form n b None parts notices releases holds r p o h t e = cc
   tables alone known form n b (Some registries) None notices releases holds r p o h t e = cc
@@ -168,7 +168,7 @@ module _ (rows : Rows) (records : Records) (was : form_of rows ≡ InForm record
     holds = old.holds;
   })
 
-  pub hold_inserted : (row : HoldRow) (reference : List ℕ) (hold : Hold) → IsCurrent rows → hold_in row ≡ Some (reference, hold) → get records.holds reference ≡ None
+  pub hold_inserted : (row : HoldRow) (reference : List ℕ) (hold : Hold) → HasCurrentSchema rows → hold_in row ≡ Some (reference, hold) → get records.holds reference ≡ None
       → form_of (with_hold_row row rows) ≡ InForm (with_hold records reference hold)
   hold_inserted row reference hold current reads new = in_form_from _ _ (record {
     meta = old.meta;
@@ -188,7 +188,7 @@ module _ (rows : Rows) (records : Records) (was : form_of rows ≡ InForm record
   })
 
   -- The rows of schema 1, as those of schema 2, stand for the same records.
-  pub migrated_in_form : IsEarlier rows → form_of (migrated rows) ≡ InForm records
+  pub migrated_in_form : HasEarlierSchema rows → form_of (migrated_rows rows) ≡ InForm records
   migrated_in_form earlier = in_form_from _ _ (record {
     meta = record old.meta { schema_no = pos 2 };
     alone = ap (option_map (map (λ (row : MetaRow). record row { schema_no = pos 2 }))) old.alone;
@@ -212,9 +212,9 @@ module _ (rows : Rows) (records : Records) (was : form_of rows ≡ InForm record
 -- the digits of a number are read back
 pub number_in-digits : (number : ℕ) → number < 2 ^ 64 → number_in (encode_lower (to_be_bytes w64 number)) ≡ number
 number_in-digits number lt =
-    ap from_hex (decode_sized-encode_lower (to_be_bytes w64 number) 8 refl (IsBytes-to_be_bytes number)) ∙ from_be_bytes-to_be_bytes_8 number lt
+    ap hex_number (decode_sized-encode_lower (to_be_bytes w64 number) 8 refl (IsBytes-to_be_bytes number)) ∙ from_be_bytes-to_be_bytes_8 number lt
 
-pub fresh_in_form : (number blocks : ℕ) → number < 2 ^ 64 → 2 ≤ blocks → blocks ≤ 262_144 → form_of (fresh (encode_lower (to_be_bytes w64 number)) (pos blocks)) ≡ InForm (new_records number blocks)
+pub fresh_in_form : (number blocks : ℕ) → number < 2 ^ 64 → 2 ≤ blocks → blocks ≤ 262_144 → form_of (initial_rows (encode_lower (to_be_bytes w64 number)) (pos blocks)) ≡ InForm (new_records number blocks)
 fresh_in_form number blocks lt low high =
     let digits = encode_lower (to_be_bytes w64 number) in
     let again : encode_lower (to_be_bytes w64 (number_in digits)) ≡ digits = ap (λ (n : ℕ). encode_lower (to_be_bytes w64 n)) (number_in-digits number lt) in

@@ -4,8 +4,8 @@ use Rattle.std.specs.Prelude.{is_some}
 use Rattle.std.specs.Option.{option_and_then}
 use Rattle.std.specs.declared.cmp.Ordering.{Ordering}
 use Rattle.std.specs.FinMap.{FinMap, get, insert, empty}
-use Rattle.custody_records.specs.Rows.{and_then}
-use Rattle.custody_records.specs.Form.{gather, gathered}
+use Rattle.custody_records.specs.Rows.{with_row}
+use Rattle.custody_records.specs.Form.{gather, gathered_table}
 
 -- more rows are gathered after those before
 pub gather_append : {X K R : Type 0} {order : K → K → Ordering} (read : X → Option (K × R)) (so_far : FinMap order R) (rows more : List X)
@@ -33,6 +33,6 @@ gather_push {X} {K} {R} {order} read so_far rows all row key value before reads 
 
 -- a table that is there, and one row more
 pub gathered_push : {X K R : Type 0} {order : K → K → Ordering} (read : X → Option (K × R)) (table : Option (List X)) (all : FinMap order R) (row : X) (key : K) (value : R)
-    → gathered read table ≡ Some all → read row ≡ Some (key, value) → get all key ≡ None → gathered read (and_then row table) ≡ Some (insert all key value)
+    → gathered_table read table ≡ Some all → read row ≡ Some (key, value) → get all key ≡ None → gathered_table read (with_row row table) ≡ Some (insert all key value)
 gathered_push read None all row key value before reads new = cc
 gathered_push read (Some rows) all row key value before reads new = gather_push read empty rows all row key value before reads new

@@ -6,7 +6,7 @@ use Rattle.std.specs.Ordering.{is_lt, is_le, is_eq, ordering_index}
 use Rattle.std.specs.declared.cmp.Ordering.{Ordering}
 use Rattle.std.specs.declared.cmp.Ordering.TheVariants.{Less, Equal, Greater}
 use Rattle.std.proofs.lemmas.Bool.{and_parts, cases_lt}
-use Rattle.custody_records.specs.Tables.{entries_of, is_below_all, is_rising}
+use Rattle.custody_records.specs.Tables.{row_entries, is_below_all, is_rising}
 use Rattle.custody_records.proofs.TableLemmas.{below_at}
 
 not_eq_lt : (o : Ordering) → is_lt o ≡ true → is_eq o ≡ false
@@ -76,13 +76,13 @@ module _ {Row : Type 0} (f : Row → Ordering) where
 
 -- a test of entries, on them and on the rows
 pub filter_entries : {Row K X : Type 0} (key : Row → K) (value : Row → X) (test : K × X → Bool) (rows : List Row)
-    → filter test (entries_of key value rows) ≡ entries_of key value (filter (λ row. test (key row, value row)) rows)
+    → filter test (row_entries key value rows) ≡ row_entries key value (filter (λ row. test (key row, value row)) rows)
 filter_entries key value test [] = refl
 filter_entries {Row} {K} {X} key value test (row ∷ rows) = by (test (key row, value row)) (filter_entries key value test rows)
   where
-    by : (b : Bool) → filter test (entries_of key value rows) ≡ entries_of key value (filter (λ r. test (key r, value r)) rows)
-        → cond b ((key row, value row) ∷ filter test (entries_of key value rows)) (filter test (entries_of key value rows))
-        ≡ entries_of key value (cond b (row ∷ filter (λ r. test (key r, value r)) rows) (filter (λ r. test (key r, value r)) rows))
+    by : (b : Bool) → filter test (row_entries key value rows) ≡ row_entries key value (filter (λ r. test (key r, value r)) rows)
+        → cond b ((key row, value row) ∷ filter test (row_entries key value rows)) (filter test (row_entries key value rows))
+        ≡ row_entries key value (cond b (row ∷ filter (λ r. test (key r, value r)) rows) (filter (λ r. test (key r, value r)) rows))
     by true rest = ap (λ (l : List (K × X)). (key row, value row) ∷ l) rest
     by false rest = rest
 

@@ -1,6 +1,6 @@
 -- The lines of a text, by its line feeds.
 use Rattle.std.proofs.Common.{◌≡◌, ℕ, suc, ◌+◌, ◌<◌, ◌≤◌, take, drop, add-one, subst, List, [], ◌∷◌, ◌++◌, Some, None, Bool, true, false, not, ◌==◌, cond, refl, sym, ◌∙◌, ap, append_assoc, append-nil, length, count_by, arith}
-use Rattle.std.specs.Prelude.{option_map}
+use Rattle.std.specs.Str.{bytes_eq}
 use Rattle.std.specs.List.{list_all, position, position_or_len}
 use Rattle.std.specs.Prelude.{nat_lt}
 use Rattle.std.proofs.lemmas.Bool.Decides.{Decides-ltb, nat_tests}
@@ -8,69 +8,33 @@ use Rattle.std.proofs.lemmas.List.Sums.{sum_by-cons}
 use Rattle.std.proofs.lemmas.Option.{cond_some}
 use Rattle.std.proofs.lemmas.Bool.{and_parts, and_from}
 use Rattle.std.proofs.lemmas.List.Folds.{list_all-append}
+use Rattle.std.proofs.lemmas.Slice.Eq.{bytes_eq-Decides}
 use Rattle.deposit_name.specs.Name.{Name, IsName, name_text, is_name_byte}
 use Rattle.deposit_name.proofs.NameTextLemmas.{name_text-bytes}
-use Rattle.custody_records.specs.Form.{lines_from, lines_in}
+use Rattle.custody_records.specs.Form.{lines_in}
 use Rattle.custody_records.specs.Names.{lines_after, lines_of}
-use Rattle.custody_records.specs.Written.{is_line, text_of}
+use Rattle.custody_records.specs.RowsOfRecords.{is_line, text_of_lines}
 use Rattle.custody_records.proofs.ReadLemmas.{text_of_more}
-
--- ---- a text that ends with a line feed
-
--- the lines of a text to which a line feed is added are its lines
-ended : (line front : List ℕ) → lines_from (front ++ 10 ∷ []) line ≡ Some (lines_after line (front ++ 10 ∷ []))
-ended line [] = refl
-ended line (byte ∷ front) = by (byte == 10) (ended [] front) (ended (line ++ byte ∷ []) front)
-  where
-    rest : List ℕ
-    rest = front ++ 10 ∷ []
-
-    by : (b : Bool) → lines_from rest [] ≡ Some (lines_after [] rest) → lines_from rest (line ++ byte ∷ []) ≡ Some (lines_after (line ++ byte ∷ []) rest)
-        → cond b (option_map (λ lines. line ∷ lines) (lines_from rest [])) (lines_from rest (line ++ byte ∷ [])) ≡ Some (cond b (line ∷ lines_after [] rest) (lines_after (line ++ byte ∷ []) rest))
-    by true here later = ap (option_map (λ lines. line ∷ lines)) here
-    by false here later = later
-
-pub lines_in-ended : (front : List ℕ) → lines_in (front ++ 10 ∷ []) ≡ Some (lines_of (front ++ 10 ∷ []))
-lines_in-ended = ended []
-
--- a text that ends with another byte is none of lines
-cut : (line front : List ℕ) (last : ℕ) → (last == 10) ≡ false → lines_from (front ++ last ∷ []) line ≡ None
-cut line [] last other = ap (λ b. cond b (option_map (λ lines. line ∷ lines) (Some [])) (lines_from [] (line ++ last ∷ []))) other ∙ begun line
-  where
-    begun : (line : List ℕ) → lines_from [] (line ++ last ∷ []) ≡ None
-    begun [] = refl
-    begun (byte ∷ line) = refl
-cut line (byte ∷ front) last other = by (byte == 10) (cut [] front last other) (cut (line ++ byte ∷ []) front last other)
-  where
-    rest : List ℕ
-    rest = front ++ last ∷ []
-
-    by : (b : Bool) → lines_from rest [] ≡ None → lines_from rest (line ++ byte ∷ []) ≡ None → cond b (option_map (λ lines. line ∷ lines) (lines_from rest [])) (lines_from rest (line ++ byte ∷ [])) ≡ None
-    by true here later = ap (option_map (λ lines. line ∷ lines)) here
-    by false here later = later
-
-pub lines_in-cut : (front : List ℕ) (last : ℕ) → (last == 10) ≡ false → lines_in (front ++ last ∷ []) ≡ None
-lines_in-cut = cut []
 
 -- ---- a text and its lines
 
 -- the lines of a text make it again, where it ends with a line feed
-whole : (line front : List ℕ) → text_of (lines_after line (front ++ 10 ∷ [])) ≡ line ++ (front ++ 10 ∷ [])
+whole : (line front : List ℕ) → text_of_lines (lines_after line (front ++ 10 ∷ [])) ≡ line ++ (front ++ 10 ∷ [])
 whole line [] = refl
 whole line (byte ∷ front) = by (byte == 10) refl (whole [] front) (whole (line ++ byte ∷ []) front)
   where
     rest : List ℕ
     rest = front ++ 10 ∷ []
 
-    by : (b : Bool) → (byte == 10) ≡ b → text_of (lines_after [] rest) ≡ rest → text_of (lines_after (line ++ byte ∷ []) rest) ≡ (line ++ byte ∷ []) ++ rest
-        → text_of (cond b (line ∷ lines_after [] rest) (lines_after (line ++ byte ∷ []) rest)) ≡ line ++ (byte ∷ rest)
+    by : (b : Bool) → (byte == 10) ≡ b → text_of_lines (lines_after [] rest) ≡ rest → text_of_lines (lines_after (line ++ byte ∷ []) rest) ≡ (line ++ byte ∷ []) ++ rest
+        → text_of_lines (cond b (line ∷ lines_after [] rest) (lines_after (line ++ byte ∷ []) rest)) ≡ line ++ (byte ∷ rest)
     by true is here later = ap (λ (l : List ℕ). line ++ 10 ∷ l) here ∙ ap (λ b. line ++ b ∷ rest) (sym (same byte is))
       where
         same : (a : ℕ) → (a == 10) ≡ true → a ≡ 10
         same a e = grind arith
     by false is here later = later ∙ append_assoc line (byte ∷ []) rest
 
-pub text_of-lines_of : (front : List ℕ) → text_of (lines_of (front ++ 10 ∷ [])) ≡ front ++ 10 ∷ []
+pub text_of-lines_of : (front : List ℕ) → text_of_lines (lines_of (front ++ 10 ∷ [])) ≡ front ++ 10 ∷ []
 text_of-lines_of = whole []
 
 -- no line has a line feed within it
@@ -156,17 +120,17 @@ lines_of-none text e = by (nat_lt (feed text) (length text)) refl e
     by false is e = no_line [] text (grind (arith, nat_tests))
 
 -- the lines of lines are these
-pub lines_of-text_of : (lines : List (List ℕ)) → list_all is_line lines ≡ true → lines_of (text_of lines) ≡ lines
+pub lines_of-text_of : (lines : List (List ℕ)) → list_all is_line lines ≡ true → lines_of (text_of_lines lines) ≡ lines
 lines_of-text_of [] h = refl
 lines_of-text_of (line ∷ lines) h =
     let both = and_parts (is_line line) (list_all is_line lines) h in
-    lines_of-line line (text_of lines) both.0 ∙ ap (λ (l : List (List ℕ)). line ∷ l) (lines_of-text_of lines both.1)
+    lines_of-line line (text_of_lines lines) both.0 ∙ ap (λ (l : List (List ℕ)). line ∷ l) (lines_of-text_of lines both.1)
 
 -- a line more, behind the text of lines
-pub pushed : (text line longer : List ℕ) → text ≡ text_of (lines_of text) → is_line line ≡ true → longer ≡ text ++ (line ++ 10 ∷ []) → (lines_of longer ≡ lines_of text ++ line ∷ []) × (longer ≡ text_of (lines_of longer))
-pushed text line longer whole one is = (lines, is_text ∙ ap text_of (sym lines))
+pub pushed : (text line longer : List ℕ) → text ≡ text_of_lines (lines_of text) → is_line line ≡ true → longer ≡ text ++ (line ++ 10 ∷ []) → (lines_of longer ≡ lines_of text ++ line ∷ []) × (longer ≡ text_of_lines (lines_of longer))
+pushed text line longer whole one is = (lines, is_text ∙ ap text_of_lines (sym lines))
   where
-    is_text : longer ≡ text_of (lines_of text ++ line ∷ [])
+    is_text : longer ≡ text_of_lines (lines_of text ++ line ∷ [])
     is_text = is ∙ sym (append_assoc text line (10 ∷ [])) ∙ ap (λ t. (t ++ line) ++ 10 ∷ []) whole ∙ sym (text_of_more (lines_of text) line)
 
     all : list_all is_line (lines_of text ++ line ∷ []) ≡ true
@@ -174,6 +138,46 @@ pushed text line longer whole one is = (lines, is_text ∙ ap text_of (sym lines
 
     lines : lines_of longer ≡ lines_of text ++ line ∷ []
     lines = ap lines_of is_text ∙ lines_of-text_of (lines_of text ++ line ∷ []) all
+
+-- ---- a text whose lines are all ended
+
+-- its lines are those that make it again
+lines_in-whole : (text : List ℕ) → text_of_lines (lines_of text) ≡ text → lines_in text ≡ Some (lines_of text)
+lines_in-whole text e = ap (λ b. cond b (Some (lines_of text)) None) ((bytes_eq-Decides (text_of_lines (lines_of text)) text).1 e)
+
+pub lines_in-ended : (front : List ℕ) → lines_in (front ++ 10 ∷ []) ≡ Some (lines_of (front ++ 10 ∷ []))
+lines_in-ended front = lines_in-whole (front ++ 10 ∷ []) (text_of-lines_of front)
+
+pub lines_in-text_of : (lines : List (List ℕ)) → list_all is_line lines ≡ true → lines_in (text_of_lines lines) ≡ Some lines
+lines_in-text_of lines h =
+    let same = lines_of-text_of lines h in
+    lines_in-whole (text_of_lines lines) (ap text_of_lines same) ∙ ap (λ (l : List (List ℕ)). Some l) same
+
+-- the last byte of a text, or another where it has none
+abbrev last_or : ℕ → List ℕ → ℕ
+last_or other [] = other
+last_or other (byte ∷ text) = last_or byte text
+
+last_or-behind : (other : ℕ) (front : List ℕ) (byte : ℕ) (text : List ℕ) → last_or other (front ++ byte ∷ text) ≡ last_or byte text
+last_or-behind other [] byte text = refl
+last_or-behind other (first ∷ front) byte text = last_or-behind first front byte text
+
+last_or-text_of : (lines : List (List ℕ)) → last_or 10 (text_of_lines lines) ≡ 10
+last_or-text_of [] = refl
+last_or-text_of (line ∷ lines) = last_or-behind 10 line 10 (text_of_lines lines) ∙ last_or-text_of lines
+
+-- there are none where a text ends with another byte
+pub lines_in-cut : (front : List ℕ) (last : ℕ) → (last == 10) ≡ false → lines_in (front ++ last ∷ []) ≡ None
+lines_in-cut front last other = by (bytes_eq (text_of_lines (lines_of text)) text) refl
+  where
+    text : List ℕ
+    text = front ++ last ∷ []
+
+    by : (b : Bool) → bytes_eq (text_of_lines (lines_of text)) text ≡ b → cond b (Some (lines_of text)) None ≡ None
+    by true is =
+        let feed_last : last ≡ 10 = sym (last_or-behind 10 front last []) ∙ ap (last_or 10) (sym ((bytes_eq-Decides (text_of_lines (lines_of text)) text).0 is)) ∙ last_or-text_of (lines_of text) in
+        absurd (grind (arith, nat_tests))
+    by false is = refl
 
 -- ---- the line of a name
 

@@ -9,8 +9,8 @@ use Rattle.hex.proofs.HexLemmas.{decode_sized-encode_lower}
 use Rattle.vault_volume.proofs.HeadLemmas.{IsBytes-to_be_bytes}
 use Rattle.custody_records.specs.Rows.{MetaRow}
 use Rattle.custody_records.specs.Form.{natural, is_number, is_within, number_in, is_meta}
-use Rattle.custody_records.specs.Written.{digits_of}
-use Rattle.custody_records.specs.Typed.{meta_of, volume_of}
+use Rattle.custody_records.specs.RowsOfRecords.{digits_of}
+use Rattle.custody_records.specs.TypedRecords.{meta_of, meta_volume}
 use Rattle.custody_records.proofs.FormLemmas.{number_in-digits}
 
 -- the digits of a number are decoded
@@ -33,7 +33,7 @@ number_not_read text apart = by (bytes_eq text (digits_of (number_in text))) ref
     by false e = refl
 
 -- what a row's volume is
-pub volume_of-meta_of : (row : MetaRow) → volume_of (meta_of row) ≡ cond (is_meta row) (Some (number_in row.number, natural row.blocks)) None
+pub volume_of-meta_of : (row : MetaRow) → meta_volume (meta_of row) ≡ cond (is_meta row) (Some (number_in row.number, natural row.blocks)) None
 volume_of-meta_of row = by (is_number 1 row.one) (bytes_eq row.number (digits_of (number_in row.number))) (is_within 2 262_144 row.blocks)
   where
     by : (one digits blocks : Bool) → cond (one && blocks) (option_map {U = ℕ × ℕ} (λ (n : ℕ). (n, natural row.blocks)) (cond digits (Some (number_in row.number)) None)) None ≡ cond (one && (digits && blocks)) (Some (number_in row.number, natural row.blocks)) None

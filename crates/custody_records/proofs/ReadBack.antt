@@ -1,11 +1,9 @@
 -- The row that is written for a record is read back as that record.
-use Rattle.std.proofs.Common.{◌≡◌, ℕ, suc, pos, ◌+◌, ◌<◌, List, [], ◌∷◌, ◌++◌, ◌==◌, length, get_or, Bool, true, false, ◌&&◌, not, cond, Option, Some, None, refl, sym, ◌∙◌, ap, arith, take, append_assoc, append-nil}
+use Rattle.std.proofs.Common.{◌≡◌, ℕ, suc, pos, ◌+◌, ◌<◌, List, [], ◌∷◌, ◌++◌, ◌==◌, length, get_or, true, ◌&&◌, cond, Option, Some, None, refl, sym, ◌∙◌, ap, arith, take}
 use Rattle.std.specs.Prelude.{option_map, All}
-use Rattle.std.specs.List.{list_all}
 use Rattle.std.specs.Str.{bytes_eq}
 use Rattle.std.specs.Option.{option_and_then}
 use Rattle.std.specs.Int.{w32, to_be_bytes}
-use Rattle.std.proofs.lemmas.Bool.{and_parts}
 use Rattle.std.proofs.lemmas.List.{take_more}
 use Rattle.std.proofs.lemmas.Nat.{from_be_bytes-to_be_bytes_4}
 use Rattle.deposit_name.specs.declared.kinds.Kind.{Kind}
@@ -19,9 +17,11 @@ use Rattle.schedule.specs.Schedule.{IsDay, day_of, year_after}
 use Rattle.extent_map.specs.declared.extent.Extent.{Extent}
 use Rattle.custody_records.specs.Keys.{PartKey, NoticeKey}
 use Rattle.custody_records.specs.Records.{PartRecord, Notice, Release, Hold}
-use Rattle.custody_records.specs.Form.{is_number, extents_of, extents_in, registry_in, is_part, part_in, notice_kind_in, notice_in, lines_from, lines_in, release_in, natural, is_lifting, hold_in}
-use Rattle.custody_records.specs.Written.{row_of_registry, blob_of, HasWords, AreWritable, row_of_part, IsPart, row_of_notice, IsNoticeKind, IsNotice, is_line, text_of, row_of_release, IsRelease, row_of_hold, IsLifting, IsHold}
+use Rattle.custody_records.specs.Rows.{greatest_integer}
+use Rattle.custody_records.specs.Form.{is_number, blob_extents, extents_in, registry_in, is_part, part_in, notice_kind_in, notice_in, release_in, natural, is_lifting, hold_in}
+use Rattle.custody_records.specs.RowsOfRecords.{row_of_registry, blob_of, HasWords, AreWritable, row_of_part, IsPart, row_of_notice, IsNoticeKind, IsNotice, row_of_release, IsRelease, row_of_hold, IsLifting, IsHold}
 use Rattle.custody_records.proofs.FieldLemmas.{within_passes, number_passes, day_passes, deposit_day_passes, moment_passes, kind_in-kind_text, ground_in-ground_text, check_in-check_number, check_apart}
+use Rattle.custody_records.proofs.LineLemmas.{lines_in-text_of}
 
 -- ---- registries
 
@@ -30,7 +30,7 @@ registry_read_back tld first_day text day = λ i. cond ((is_tld-IsTld tld).1 tex
 
 -- ---- parts
 
-pub extents_of-blob_of : (extents : List Extent) → All HasWords extents → extents_of (blob_of extents) ≡ Some extents
+pub extents_of-blob_of : (extents : List Extent) → All HasWords extents → blob_extents (blob_of extents) ≡ Some extents
 extents_of-blob_of [] all = refl
 extents_of-blob_of (e ∷ extents) all =
     let here : HasWords e = all 0 e (omega arith) in
@@ -71,29 +71,10 @@ kind_read_back tld number day at Absence h = refl
 
 pub notice_read_back : (key : NoticeKey) (notice : Notice) → IsNotice key notice → notice_in (row_of_notice key notice) ≡ Some (key, notice)
 notice_read_back key notice h =
-    λ i. cond ((is_tld-IsTld key.tld).1 h.tld i && (within_passes 1 9_223_372_036_854_775_807 key.number h.number.0 h.number.1 i && (day_passes notice.day h.day i && moment_passes notice.at h.at i)))
+    λ i. cond ((is_tld-IsTld key.tld).1 h.tld i && (within_passes 1 greatest_integer key.number h.number.0 h.number.1 i && (day_passes notice.day h.day i && moment_passes notice.at h.at i)))
     (option_map (λ (kind : NoticeKind). (key, record { day = notice.day; at = notice.at; kind = kind })) (kind_read_back key.tld key.number notice.day notice.at notice.kind h.kind i)) None
 
 -- ---- releases
-
--- a line and its line feed, before more text
-pub lines_from-line : (front line text : List ℕ) → is_line line ≡ true → lines_from (line ++ 10 ∷ text) front ≡ option_map (λ lines. (front ++ line) ∷ lines) (lines_in text)
-lines_from-line front [] text e = ap (λ (l : List ℕ). option_map (λ lines. l ∷ lines) (lines_in text)) (sym (append-nil front))
-lines_from-line front (byte ∷ line) text e =
-    let both = and_parts (not (byte == 10)) (is_line line) e in
-    ap (λ b. cond b (option_map (λ lines. front ∷ lines) (lines_from (line ++ 10 ∷ text) [])) (lines_from (line ++ 10 ∷ text) (front ++ byte ∷ []))) (off (byte == 10) both.0)
-    ∙ lines_from-line (front ++ byte ∷ []) line text both.1
-    ∙ ap (λ (l : List ℕ). option_map (λ lines. l ∷ lines) (lines_in text)) (append_assoc front (byte ∷ []) line)
-  where
-    off : (b : Bool) → not b ≡ true → b ≡ false
-    off true e = cc
-    off false e = refl
-
-pub lines_in-text_of : (lines : List (List ℕ)) → list_all is_line lines ≡ true → lines_in (text_of lines) ≡ Some lines
-lines_in-text_of [] e = refl
-lines_in-text_of (line ∷ lines) e =
-    let both = and_parts (is_line line) (list_all is_line lines) e in
-    lines_from-line [] line (text_of lines) both.0 ∙ ap (option_map (λ (rest : List (List ℕ)). line ∷ rest)) (lines_in-text_of lines both.1)
 
 pub release_read_back : (reference : List ℕ) (release : Release) → IsRelease reference release → release_in (row_of_release reference release) ≡ Some (reference, release)
 release_read_back reference release h =

@@ -15,13 +15,13 @@ use Rattle.schedule.specs.Schedule.{day_of, year_after}
 use Rattle.extent_map.specs.declared.extent.Extent.{Extent}
 use Rattle.custody_records.specs.Keys.{PartKey, NoticeKey}
 use Rattle.custody_records.specs.Records.{PartRecord, Notice, Release, key_of}
-use Rattle.custody_records.specs.Rows.{PartRow, NoticeRow, HandoverRow}
+use Rattle.custody_records.specs.Rows.{PartRow, NoticeRow, HandoverRow, greatest_integer}
 use Rattle.deposit_name.specs.Identifiers.{is_tld, is_deposit_id, is_reference}
-use Rattle.custody_records.specs.Form.{natural, is_within, is_number, is_day, is_deposit_day, is_moment, kind_in, extents_of, extents_in, is_part, part_key, part_in, check_in, notice_kind_in, notice_in, ground_in, lines_in, release_in}
+use Rattle.custody_records.specs.Form.{natural, is_within, is_number, is_day, is_deposit_day, is_moment, kind_in, blob_extents, extents_in, is_part, part_key, part_in, check_in, notice_kind_in, notice_in, ground_in, lines_in, release_in}
 use Rattle.std.specs.List.{list_all}
 use Rattle.std.proofs.lemmas.List.Folds.{list_all-append}
-use Rattle.custody_records.specs.Written.{is_line, text_of}
-use Rattle.custody_records.specs.Typed.{name_in, received_in}
+use Rattle.custody_records.specs.RowsOfRecords.{is_line, text_of_lines}
+use Rattle.custody_records.specs.TypedRecords.{name_in, received_in}
 
 pub first_false : (a b : Bool) → a ≡ false → (a && b) ≡ false
 first_false a b e = ap (λ t. t && b) e
@@ -67,10 +67,10 @@ module _ (row : NoticeRow) where
   notice_if passes = cond passes (option_map (λ (k : NoticeKind). (record { tld = row.tld; number = natural row.number }, record { day = natural row.day; at = natural row.at; kind = k })) (notice_kind_in row)) None
 
   pub notice_without_tld : is_tld row.tld ≡ false → notice_in row ≡ None
-  notice_without_tld e = ap notice_if (first_false (is_tld row.tld) (is_within 1 9_223_372_036_854_775_807 row.number && (is_day row.day && is_moment row.at)) e)
+  notice_without_tld e = ap notice_if (first_false (is_tld row.tld) (is_within 1 greatest_integer row.number && (is_day row.day && is_moment row.at)) e)
 
-  pub notice_without_number : is_within 1 9_223_372_036_854_775_807 row.number ≡ false → notice_in row ≡ None
-  notice_without_number e = ap notice_if (second_false (is_tld row.tld) (is_within 1 9_223_372_036_854_775_807 row.number && (is_day row.day && is_moment row.at)) (first_false (is_within 1 9_223_372_036_854_775_807 row.number) (is_day row.day && is_moment row.at) e))
+  pub notice_without_number : is_within 1 greatest_integer row.number ≡ false → notice_in row ≡ None
+  notice_without_number e = ap notice_if (second_false (is_tld row.tld) (is_within 1 greatest_integer row.number && (is_day row.day && is_moment row.at)) (first_false (is_within 1 greatest_integer row.number) (is_day row.day && is_moment row.at) e))
 
   -- a failure of a check
   pub failure_in : (check : Check) → is_number 20 row.kind ≡ false → is_number 0 row.kind ≡ false → is_within 0 99 row.rev ≡ true → is_deposit_id row.id ≡ true → check_in (natural row.kind) ≡ Some check
@@ -162,7 +162,7 @@ module _ (row : PartRow) where
 
 -- ---- extents
 
-pub extents_short : (bytes : List ℕ) → length bytes < 8 → extents_of bytes ≡ cond (length bytes == 0) (Some []) None
+pub extents_short : (bytes : List ℕ) → length bytes < 8 → blob_extents bytes ≡ cond (length bytes == 0) (Some []) None
 extents_short [] lt = refl
 extents_short (a ∷ []) lt = refl
 extents_short (a ∷ b ∷ []) lt = refl
@@ -177,7 +177,7 @@ extents_short (a ∷ b ∷ c ∷ d ∷ e ∷ f ∷ g ∷ h ∷ bytes) lt = absur
 abbrev pub word_at : List ℕ → ℕ → ℕ
 word_at bytes i = from_be_bytes w32 (get_or bytes i 0 ∷ get_or bytes (i + 1) 0 ∷ get_or bytes (i + 2) 0 ∷ get_or bytes (i + 3) 0 ∷ [])
 
-pub extents_first : (bytes : List ℕ) → 8 ≤ length bytes → extents_of bytes ≡ option_map (λ (more : List Extent). record { start = word_at bytes 0; count = word_at bytes 4 } ∷ more) (extents_of (drop 8 bytes))
+pub extents_first : (bytes : List ℕ) → 8 ≤ length bytes → blob_extents bytes ≡ option_map (λ (more : List Extent). record { start = word_at bytes 0; count = word_at bytes 4 } ∷ more) (blob_extents (drop 8 bytes))
 extents_first [] le = absurd (omega arith)
 extents_first (a ∷ []) le = absurd (omega arith)
 extents_first (a ∷ b ∷ []) le = absurd (omega arith)
@@ -224,20 +224,20 @@ module _ (row : HandoverRow) where
 
 -- ---- lines
 
-pub text_of_more : (lines : List (List ℕ)) (line : List ℕ) → text_of (lines ++ line ∷ []) ≡ (text_of lines ++ line) ++ 10 ∷ []
+pub text_of_more : (lines : List (List ℕ)) (line : List ℕ) → text_of_lines (lines ++ line ∷ []) ≡ (text_of_lines lines ++ line) ++ 10 ∷ []
 text_of_more [] line = refl
 text_of_more (x ∷ lines) line =
     ap (λ (l : List ℕ). x ++ 10 ∷ l) (text_of_more lines line)
-    ∙ sym (append_assoc x (10 ∷ (text_of lines ++ line)) (10 ∷ []))
-    ∙ ap (λ (l : List ℕ). l ++ 10 ∷ []) (sym (append_assoc x (10 ∷ text_of lines) line))
+    ∙ sym (append_assoc x (10 ∷ (text_of_lines lines ++ line)) (10 ∷ []))
+    ∙ ap (λ (l : List ℕ). l ++ 10 ∷ []) (sym (append_assoc x (10 ∷ text_of_lines lines) line))
 
 map_push : {V : Type 0} (f : V → List ℕ) (xs : List V) (x : V) → map f (xs ++ x ∷ []) ≡ map f xs ++ f x ∷ []
 map_push f [] x = refl
 map_push f (y ∷ xs) x = ap (λ l. f y ∷ l) (map_push f xs x)
 
 -- one line more in a text
-pub text_of_push : {V : Type 0} (bytes : V → List ℕ) (lines : List V) (line : V) → text_of (map bytes (lines ++ line ∷ [])) ≡ (text_of (map bytes lines) ++ bytes line) ++ 10 ∷ []
-text_of_push bytes lines line = ap text_of (map_push bytes lines line) ∙ text_of_more (map bytes lines) (bytes line)
+pub text_of_push : {V : Type 0} (bytes : V → List ℕ) (lines : List V) (line : V) → text_of_lines (map bytes (lines ++ line ∷ [])) ≡ (text_of_lines (map bytes lines) ++ bytes line) ++ 10 ∷ []
+text_of_push bytes lines line = ap text_of_lines (map_push bytes lines line) ∙ text_of_more (map bytes lines) (bytes line)
 
 -- one line more, which has no line feed within it
 pub lines_push : {V : Type 0} (bytes : V → List ℕ) (lines : List V) (line : V) → list_all is_line (map bytes lines) ≡ true → is_line (bytes line) ≡ true → list_all is_line (map bytes (lines ++ line ∷ [])) ≡ true

@@ -12,7 +12,7 @@ use Rattle.std.specs.FinMap.Entries.{find, put, is_sorted, below_all, by_order, 
 use Rattle.std.proofs.lemmas.Bool.{and_parts, cases_lt}
 use Rattle.std.proofs.lemmas.Cmp.{alike_right}
 use Rattle.std.proofs.lemmas.List.Sorted.{searchable_from_sorted}
-use Rattle.custody_records.specs.Tables.{entries_of, is_below_all, is_rising, table_map}
+use Rattle.custody_records.specs.Tables.{row_entries, is_below_all, is_rising, table_map}
 
 -- the row of a key
 abbrev pub row_at : {T K : Type 0} → (K → K → Ordering) → (T → K) → List T → K → Option T
@@ -27,7 +27,7 @@ pub record IsAdded {T K : Type 0} (order : K → K → Ordering) (key : T → K)
   pub above : (i : ℕ) (d : T) → place ≤ i → i < length old → order (key (get_or old i d)) (key row) ≡ Greater
 
 -- whether any entry passes a test is whether any row does
-pub any_entries : {Row K X : Type 0} (key : Row → K) (value : Row → X) (test : K × X → Bool) (rows : List Row) → list.list_any test (entries_of key value rows) ≡ list.list_any (λ row. test (key row, value row)) rows
+pub any_entries : {Row K X : Type 0} (key : Row → K) (value : Row → X) (test : K × X → Bool) (rows : List Row) → list.list_any test (row_entries key value rows) ≡ list.list_any (λ row. test (key row, value row)) rows
 any_entries key value test [] = refl
 any_entries key value test (row ∷ rows) = ap (λ b. test (key row, value row) || b) (any_entries key value test rows)
 
@@ -43,35 +43,35 @@ T_true false h = absurd h
 module _ {Row K : Type 0} (order : K → K → Ordering) (key : Row → K) where
   -- ---- the entries
 
-  below_entries : {X : Type 0} (value : Row → X) (low : K) (rows : List Row) → below_all order low (entries_of key value rows) ≡ is_below_all order key low rows
+  below_entries : {X : Type 0} (value : Row → X) (low : K) (rows : List Row) → below_all order low (row_entries key value rows) ≡ is_below_all order key low rows
   below_entries value low [] = refl
   below_entries value low (row ∷ rows) = ap (λ b. is_lt (order low (key row)) && b) (below_entries value low rows)
 
-  rising_entries : {X : Type 0} (value : Row → X) (rows : List Row) → is_sorted order (entries_of key value rows) ≡ is_rising order key rows
+  rising_entries : {X : Type 0} (value : Row → X) (rows : List Row) → is_sorted order (row_entries key value rows) ≡ is_rising order key rows
   rising_entries value [] = refl
   rising_entries value (row ∷ rows) = λ i. below_entries value (key row) rows i && rising_entries value rows i
 
-  sorted_entries : {X : Type 0} (value : Row → X) (rows : List Row) → is_rising order key rows ≡ true → T (is_sorted order (entries_of key value rows))
+  sorted_entries : {X : Type 0} (value : Row → X) (rows : List Row) → is_rising order key rows ≡ true → T (is_sorted order (row_entries key value rows))
   sorted_entries value rows rising = subst T (sym (rising_entries value rows ∙ rising)) tt
 
   -- the entries of the map are those of the rows
-  pub entries-table_map : {X : Type 0} (value : Row → X) (rows : List Row) → is_rising order key rows ≡ true → entries (table_map order key value rows) ≡ entries_of key value rows
+  pub entries-table_map : {X : Type 0} (value : Row → X) (rows : List Row) → is_rising order key rows ≡ true → entries (table_map order key value rows) ≡ row_entries key value rows
   unfolding table_map
-  entries-table_map value rows rising = entries-from_sorted order (entries_of key value rows) (sorted_entries value rows rising)
+  entries-table_map value rows rising = entries-from_sorted order (row_entries key value rows) (sorted_entries value rows rising)
 
-  find_entries : {X : Type 0} (value : Row → X) (rows : List Row) (sought : K) → find order sought (entries_of key value rows) ≡ option_map value (row_at order key rows sought)
+  find_entries : {X : Type 0} (value : Row → X) (rows : List Row) (sought : K) → find order sought (row_entries key value rows) ≡ option_map value (row_at order key rows sought)
   find_entries value [] sought = refl
   find_entries {X} value (row ∷ rows) sought = by (is_eq (order sought (key row))) (find_entries value rows sought)
     where
-      by : (b : Bool) → find order sought (entries_of key value rows) ≡ option_map value (row_at order key rows sought)
-          → cond b (Some (value row)) (find order sought (entries_of key value rows)) ≡ option_map value (cond b (Some row) (row_at order key rows sought))
+      by : (b : Bool) → find order sought (row_entries key value rows) ≡ option_map value (row_at order key rows sought)
+          → cond b (Some (value row)) (find order sought (row_entries key value rows)) ≡ option_map value (cond b (Some row) (row_at order key rows sought))
       by true rest = refl
       by false rest = rest
 
   -- what the map has is what the row has
   pub get_table : {X : Type 0} (value : Row → X) (rows : List Row) (sought : K) → is_rising order key rows ≡ true → get (table_map order key value rows) sought ≡ option_map value (row_at order key rows sought)
   unfolding table_map
-  get_table value rows sought rising = get-from_sorted order (entries_of key value rows) sought (sorted_entries value rows rising) ∙ find_entries value rows sought
+  get_table value rows sought rising = get-from_sorted order (row_entries key value rows) sought (sorted_entries value rows rising) ∙ find_entries value rows sought
 
   pub empty_table : {X : Type 0} (value : Row → X) → table_map order key value [] ≡ empty
   unfolding table_map
@@ -126,65 +126,65 @@ module _ {Row K : Type 0} (order : K → K → Ordering) (key : Row → K) where
     put_added : {X : Type 0} (value : Row → X) (rows : List Row) (place : ℕ) (row : Row)
         → ((i : ℕ) (d : Row) → i < place → i < length rows → order (key (get_or rows i d)) (key row) ≡ Less)
         → ((i : ℕ) (d : Row) → place ≤ i → i < length rows → order (key (get_or rows i d)) (key row) ≡ Greater)
-        → put order (key row) (value row) (entries_of key value rows) ≡ entries_of key value (list.insert rows place row)
+        → put order (key row) (value row) (row_entries key value rows) ≡ row_entries key value (list.insert rows place row)
     put_added value [] zero row below above = refl
     put_added value [] (suc place) row below above = refl
     put_added value (r ∷ rows) zero row below above =
-        ap (λ x. by_order x ((key row, value row) ∷ (key r, value r) ∷ entries_of key value rows) ((key r, value row) ∷ entries_of key value rows) ((key r, value r) ∷ put order (key row) (value row) (entries_of key value rows))) (turned _ _ Greater (above 0 row (omega arith) (omega arith)))
+        ap (λ x. by_order x ((key row, value row) ∷ (key r, value r) ∷ row_entries key value rows) ((key r, value row) ∷ row_entries key value rows) ((key r, value r) ∷ put order (key row) (value row) (row_entries key value rows))) (turned _ _ Greater (above 0 row (omega arith) (omega arith)))
     put_added value (r ∷ rows) (suc place) row below above =
-        ap (λ x. by_order x ((key row, value row) ∷ (key r, value r) ∷ entries_of key value rows) ((key r, value row) ∷ entries_of key value rows) ((key r, value r) ∷ put order (key row) (value row) (entries_of key value rows))) (turned _ _ Less (below 0 row (omega arith) (omega arith)))
+        ap (λ x. by_order x ((key row, value row) ∷ (key r, value r) ∷ row_entries key value rows) ((key r, value row) ∷ row_entries key value rows) ((key r, value r) ∷ put order (key row) (value row) (row_entries key value rows))) (turned _ _ Less (below 0 row (omega arith) (omega arith)))
         ∙ ap (λ l. (key r, value r) ∷ l) (put_added value rows place row (λ i d lt within. below (suc i) d (omega arith) (omega arith)) (λ i d le within. above (suc i) d (omega arith) (omega arith)))
 
     module _ {old new : List Row} {row : Row} (added : IsAdded order key old new row) (rising : is_rising order key old ≡ true) where
-      entries_added : {X : Type 0} (value : Row → X) → put order (key row) (value row) (entries_of key value old) ≡ entries_of key value new
-      entries_added value = put_added value old added.place row added.below added.above ∙ ap (entries_of key value) (sym added.is)
+      entries_added : {X : Type 0} (value : Row → X) → put order (key row) (value row) (row_entries key value old) ≡ row_entries key value new
+      entries_added value = put_added value old added.place row added.below added.above ∙ ap (row_entries key value) (sym added.is)
 
       -- the keys still rise
       pub rising_added : is_rising order key new ≡ true
-      rising_added = sym (rising_entries (λ r. r) new) ∙ T_true _ (subst (λ es. T (is_sorted order es)) (entries_added (λ r. r)) (is_sorted-put order o (key row) row (entries_of key (λ r. r) old) (sorted_entries (λ r. r) old rising)))
+      rising_added = sym (rising_entries (λ r. r) new) ∙ T_true _ (subst (λ es. T (is_sorted order es)) (entries_added (λ r. r)) (is_sorted-put order o (key row) row (row_entries key (λ r. r) old) (sorted_entries (λ r. r) old rising)))
 
       -- and the map has one entry more
       pub map_added : {X : Type 0} (value : Row → X) → table_map order key value new ≡ insert (table_map order key value old) (key row) (value row)
       unfolding table_map
       map_added value = same_entries_map _ _ (
-          entries-from_sorted order (entries_of key value new) (sorted_entries value new rising_added)
+          entries-from_sorted order (row_entries key value new) (sorted_entries value new rising_added)
           ∙ sym (entries_added value)
-          ∙ sym (entries-insert o (from_sorted (entries_of key value old)) (key row) (value row) ∙ ap (put order (key row) (value row)) (entries-from_sorted order (entries_of key value old) (sorted_entries value old rising))))
+          ∙ sym (entries-insert o (from_sorted (row_entries key value old)) (key row) (value row) ∙ ap (put order (key row) (value row)) (entries-from_sorted order (row_entries key value old) (sorted_entries value old rising))))
 
     -- ---- a row in the place of another
 
     put_replaced : {X : Type 0} (value : Row → X) (rows : List Row) (i : ℕ) (row : Row) → IsAntisymmetric order → is_rising order key rows ≡ true → i < length rows → ((d : Row) → order (key (get_or rows i d)) (key row) ≡ Equal)
-        → put order (key row) (value row) (entries_of key value rows) ≡ entries_of key value (set rows i row)
+        → put order (key row) (value row) (row_entries key value rows) ≡ row_entries key value (set rows i row)
     put_replaced value [] i row exact rising lt same = absurd (omega arith)
     put_replaced value (r ∷ rows) zero row exact rising lt same =
-        ap (λ x. by_order x ((key row, value row) ∷ (key r, value r) ∷ entries_of key value rows) ((key r, value row) ∷ entries_of key value rows) ((key r, value r) ∷ put order (key row) (value row) (entries_of key value rows))) (turned _ _ Equal (same r))
-        ∙ ap (λ k. (k, value row) ∷ entries_of key value rows) (exact (key r) (key row) (same r))
+        ap (λ x. by_order x ((key row, value row) ∷ (key r, value r) ∷ row_entries key value rows) ((key r, value row) ∷ row_entries key value rows) ((key r, value r) ∷ put order (key row) (value row) (row_entries key value rows))) (turned _ _ Equal (same r))
+        ∙ ap (λ k. (k, value row) ∷ row_entries key value rows) (exact (key r) (key row) (same r))
     put_replaced value (r ∷ rows) (suc i) row exact rising lt same =
         let split = and_parts (is_below_all order key (key r) rows) (is_rising order key rows) rising in
         let less : order (key r) (key row) ≡ Less = sym (alike_right o (key (get_or rows i r)) (key row) (key r) (same r)) ∙ below_at (key r) rows i r split.0 (omega arith) in
-        ap (λ x. by_order x ((key row, value row) ∷ (key r, value r) ∷ entries_of key value rows) ((key r, value row) ∷ entries_of key value rows) ((key r, value r) ∷ put order (key row) (value row) (entries_of key value rows))) (turned _ _ Less less)
+        ap (λ x. by_order x ((key row, value row) ∷ (key r, value r) ∷ row_entries key value rows) ((key r, value row) ∷ row_entries key value rows) ((key r, value r) ∷ put order (key row) (value row) (row_entries key value rows))) (turned _ _ Less less)
         ∙ ap (λ l. (key r, value r) ∷ l) (put_replaced value rows i row exact split.1 (omega arith) same)
 
     module _ (exact : IsAntisymmetric order) (old new : List Row) (row : Row) (i : ℕ) (is : new ≡ set old i row) (lt : i < length old) (same : (d : Row) → order (key (get_or old i d)) (key row) ≡ Equal) (rising : is_rising order key old ≡ true) where
-      entries_replaced : {X : Type 0} (value : Row → X) → put order (key row) (value row) (entries_of key value old) ≡ entries_of key value new
-      entries_replaced value = put_replaced value old i row exact rising lt same ∙ ap (entries_of key value) (sym is)
+      entries_replaced : {X : Type 0} (value : Row → X) → put order (key row) (value row) (row_entries key value old) ≡ row_entries key value new
+      entries_replaced value = put_replaced value old i row exact rising lt same ∙ ap (row_entries key value) (sym is)
 
       -- the keys still rise
       pub rising_replaced : is_rising order key new ≡ true
-      rising_replaced = sym (rising_entries (λ r. r) new) ∙ T_true _ (subst (λ es. T (is_sorted order es)) (entries_replaced (λ r. r)) (is_sorted-put order o (key row) row (entries_of key (λ r. r) old) (sorted_entries (λ r. r) old rising)))
+      rising_replaced = sym (rising_entries (λ r. r) new) ∙ T_true _ (subst (λ es. T (is_sorted order es)) (entries_replaced (λ r. r)) (is_sorted-put order o (key row) row (row_entries key (λ r. r) old) (sorted_entries (λ r. r) old rising)))
 
       -- and the map has the row's value at its key
       pub map_replaced : {X : Type 0} (value : Row → X) → table_map order key value new ≡ insert (table_map order key value old) (key row) (value row)
       unfolding table_map
       map_replaced value = same_entries_map _ _ (
-          entries-from_sorted order (entries_of key value new) (sorted_entries value new rising_replaced)
+          entries-from_sorted order (row_entries key value new) (sorted_entries value new rising_replaced)
           ∙ sym (entries_replaced value)
-          ∙ sym (entries-insert o (from_sorted (entries_of key value old)) (key row) (value row) ∙ ap (put order (key row) (value row)) (entries-from_sorted order (entries_of key value old) (sorted_entries value old rising))))
+          ∙ sym (entries-insert o (from_sorted (row_entries key value old)) (key row) (value row) ∙ ap (put order (key row) (value row)) (entries-from_sorted order (row_entries key value old) (sorted_entries value old rising))))
 
 -- ---- a map, as the table of its entries
 
 module _ {K X : Type 0} {R : K → K → Ordering} (m : FinMap R X) where
-  own_entries : (es : List (K × X)) → entries_of (λ (e : K × X). e.0) (λ (e : K × X). e.1) es ≡ es
+  own_entries : (es : List (K × X)) → row_entries (λ (e : K × X). e.0) (λ (e : K × X). e.1) es ≡ es
   own_entries [] = refl
   own_entries (e ∷ es) = ap (λ (l : List (K × X)). e ∷ l) (own_entries es)
 

@@ -1,5 +1,36 @@
 -- What the rows of the tables stand for: whether they are in form, and the records that they make.
-use Rattle.std.specs.Prelude.{◌≡◌, ℕ, ℤ, pos, negsuc, ◌*◌, ◌-◌, List, [], ◌∷◌, ◌++◌, length, Option, Some, None, Bool, true, false, not, ◌&&◌, ◌||◌, ◌==◌, nat_lt, if◌then◌else◌, is_some, option_map, find, Result, Ok, Err}
+use Rattle.std.specs.Prelude.{
+  ◌≡◌,
+  ℕ,
+  ℤ,
+  pos,
+  negsuc,
+  ◌+◌,
+  ◌*◌,
+  ◌-◌,
+  List,
+  [],
+  ◌∷◌,
+  length,
+  Option,
+  Some,
+  None,
+  Bool,
+  true,
+  false,
+  not,
+  ◌&&◌,
+  ◌||◌,
+  ◌==◌,
+  nat_lt,
+  if◌then◌else◌,
+  is_some,
+  option_map,
+  find,
+  Result,
+  Ok,
+  Err,
+}
 use Rattle.std.specs.Option.{option_and_then}
 use Rattle.std.specs.Str.{bytes_eq}
 use Rattle.std.specs.declared.cmp.Ordering.{Ordering}
@@ -7,26 +38,62 @@ use Rattle.std.specs.FinMap.{FinMap, get, insert, empty}
 use Rattle.std.specs.Int.{w32, w64, to_be_bytes, from_be_bytes}
 use Rattle.hex.specs.Hex.{encode_lower, decode_sized}
 use Rattle.hex.specs.declared.FromHexError.{FromHexError}
-use Rattle.schedule.specs.Schedule.{day_of, year_after}
+use Rattle.schedule.specs.Schedule.{day_of, last_day, year_after}
 use Rattle.deposit_name.specs.declared.kinds.Kind.{Kind}
 use Rattle.deposit_name.specs.declared.kinds.Kind.TheVariants.{Full, Diff, Incr}
 use Rattle.deposit_name.specs.Identifiers.{is_tld, is_deposit_id, is_reference}
-use Rattle.deposit_name.specs.Name.{kind_text}
+use Rattle.deposit_name.specs.Name.{first_name_day, kind_text}
 use Rattle.desk.specs.Checks.{check_number}
 use Rattle.desk.specs.Grounds.{ground_text}
 use Rattle.desk.specs.declared.checks.Check.{Check}
-use Rattle.desk.specs.declared.checks.Check.TheVariants.{Frame, Envelope, Name, Statement, Weekday, PrevId, IdTaken, Menu, Files, Table, Counts, References, Deletes}
+use Rattle.desk.specs.declared.checks.Check.TheVariants.{
+  Frame,
+  Envelope,
+  Name,
+  Statement,
+  Weekday,
+  PrevId,
+  IdTaken,
+  Menu,
+  Files,
+  Table,
+  Counts,
+  References,
+  Deletes,
+}
 use Rattle.desk.specs.declared.notices.NoticeKind.{NoticeKind}
 use Rattle.desk.specs.declared.notices.NoticeKind.TheVariants.{Receipt, Failure, Absence}
 use Rattle.desk.specs.declared.grounds.Ground.{Ground}
-use Rattle.desk.specs.declared.grounds.Ground.TheVariants.{Operator, Termination, NoNotices, SundayFailed, FiveFailed, Insolvency, Critical, Order, Audit}
+use Rattle.desk.specs.declared.grounds.Ground.TheVariants.{
+  Operator,
+  Termination,
+  NoNotices,
+  SundayFailed,
+  FiveFailed,
+  Insolvency,
+  Critical,
+  Order,
+  Audit,
+}
 use Rattle.extent_map.specs.declared.extent.Extent.{Extent}
 use Rattle.vault_volume.specs.Limits.{fewest_blocks, most_blocks, max_part_len}
-use Rattle.custody_records.specs.declared.damage.Damage.{Damage}
-use Rattle.custody_records.specs.declared.damage.Damage.TheVariants as damage
+use Rattle.custody_records.specs.declared.damage.RowDamage.{RowDamage}
+use Rattle.custody_records.specs.declared.damage.RowDamage.TheVariants as damage
 use Rattle.custody_records.specs.Keys.{text_cmp, PartKey, part_cmp, NoticeKey, notice_cmp}
+use Rattle.custody_records.specs.Names.{lines_of}
 use Rattle.custody_records.specs.Records.{PartRecord, Notice, Release, Hold, Records}
-use Rattle.custody_records.specs.Rows.{MetaRow, RegistryRow, PartRow, NoticeRow, HandoverRow, HoldRow, Rows, first_meta}
+use Rattle.custody_records.specs.Rows.{
+  MetaRow,
+  RegistryRow,
+  PartRow,
+  NoticeRow,
+  HandoverRow,
+  HoldRow,
+  Rows,
+  first_meta,
+  greatest_integer,
+}
+use Rattle.custody_records.specs.RowsOfRecords.{text_of_lines}
 
 -- ---- fields
 
@@ -45,15 +112,15 @@ is_number n = is_within n n
 
 -- a day from 1970-01-01 to 9998-12-31
 abbrev pub is_day : ℤ → Bool
-is_day = is_within 0 2_932_531
+is_day = is_within 0 last_day
 
 -- the day of a deposit, from 2000-01-01 on
 abbrev pub is_deposit_day : ℤ → Bool
-is_deposit_day = is_within 10_957 2_932_531
+is_deposit_day = is_within first_name_day last_day
 
 -- a moment of these days
 abbrev pub is_moment : ℤ → Bool
-is_moment = is_within 0 (86_400 * 2_932_532 - 1)
+is_moment = is_within 0 (86_400 * (last_day + 1) - 1)
 
 -- ---- a table: each row has its record, and no two rows have one key
 
@@ -73,17 +140,17 @@ abbrev pub kind_in : List ℕ → Option Kind
 kind_in text = find (λ kind. bytes_eq text (kind_text kind)) (Full ∷ Diff ∷ Incr ∷ [])
 
 -- extents, of which start and count are four bytes each, the greatest first
-abbrev pub extents_of : List ℕ → Option (List Extent)
-extents_of [] = Some []
-extents_of (a ∷ b ∷ c ∷ d ∷ e ∷ f ∷ g ∷ h ∷ bytes) =
-    option_map (λ extents. record { start = from_be_bytes w32 (a ∷ b ∷ c ∷ d ∷ []); count = from_be_bytes w32 (e ∷ f ∷ g ∷ h ∷ []) } ∷ extents) (extents_of bytes)
-extents_of _ = None
+abbrev pub blob_extents : List ℕ → Option (List Extent)
+blob_extents [] = Some []
+blob_extents (a ∷ b ∷ c ∷ d ∷ e ∷ f ∷ g ∷ h ∷ bytes) =
+    option_map (λ extents. record { start = from_be_bytes w32 (a ∷ b ∷ c ∷ d ∷ []); count = from_be_bytes w32 (e ∷ f ∷ g ∷ h ∷ []) } ∷ extents) (blob_extents bytes)
+blob_extents _ = None
 
 -- none where the bytes are dropped; else one extent or more
 abbrev pub extents_in : Option (List ℕ) → Option (Option (List Extent))
 extents_in None = Some None
 extents_in (Some []) = None
-extents_in (Some (byte ∷ bytes)) = option_map Some (extents_of (byte ∷ bytes))
+extents_in (Some (byte ∷ bytes)) = option_map Some (blob_extents (byte ∷ bytes))
 
 -- the row's numbers and its digest are in form, and the bytes are kept for a year from the day received (Specification 2, Part B section 4)
 abbrev pub is_part : PartRow → Bool
@@ -117,7 +184,7 @@ notice_kind_in row =
     else None
 
 abbrev pub notice_in : NoticeRow → Option (NoticeKey × Notice)
-notice_in row = if is_tld row.tld && (is_within 1 9_223_372_036_854_775_807 row.number && (is_day row.day && is_moment row.at)) then
+notice_in row = if is_tld row.tld && (is_within 1 greatest_integer row.number && (is_day row.day && is_moment row.at)) then
     option_map (λ (kind : NoticeKind). (record { tld = row.tld; number = natural row.number }, record { day = natural row.day; at = natural row.at; kind = kind })) (notice_kind_in row)
     else None
 
@@ -130,14 +197,9 @@ grounds = Operator ∷ Termination ∷ NoNotices ∷ SundayFailed ∷ FiveFailed
 abbrev pub ground_in : List ℕ → Option Ground
 ground_in text = find (λ reason. bytes_eq text (ground_text reason)) grounds
 
--- the lines of a text, each of which ends with a line feed, after the bytes of the first line
-abbrev pub lines_from : List ℕ → List ℕ → Option (List (List ℕ))
-lines_from [] [] = Some []
-lines_from [] (_ ∷ _) = None
-lines_from (byte ∷ text) line = if byte == 10 then option_map (λ lines. line ∷ lines) (lines_from text []) else lines_from text (line ++ byte ∷ [])
-
+-- the lines of a text, each of which is ended by a line feed
 abbrev pub lines_in : List ℕ → Option (List (List ℕ))
-lines_in text = lines_from text []
+lines_in text = if bytes_eq (text_of_lines (lines_of text)) text then Some (lines_of text) else None
 
 abbrev pub release_in : HandoverRow → Option (List ℕ × Release)
 release_in row = if is_reference row.reference && (is_tld row.tld && is_moment row.at) then
@@ -154,20 +216,20 @@ is_lifting (Some at) = is_moment at
 abbrev pub is_hold : HoldRow → Bool
 is_hold row = is_reference row.reference && (is_tld row.tld && (is_day row.day && (is_moment row.at && is_lifting row.lifted)))
 
-abbrev pub hold_of : HoldRow → Hold
-hold_of row = record { tld = row.tld; day = natural row.day; at = natural row.at; lifted = option_map natural row.lifted }
+abbrev pub hold_of_row : HoldRow → Hold
+hold_of_row row = record { tld = row.tld; day = natural row.day; at = natural row.at; lifted = option_map natural row.lifted }
 
 abbrev pub hold_in : HoldRow → Option (List ℕ × Hold)
-hold_in row = if is_hold row then Some (row.reference, hold_of row) else None
+hold_in row = if is_hold row then Some (row.reference, hold_of_row row) else None
 
 -- ---- the volume
 
-abbrev pub from_hex : Result (List ℕ) FromHexError → ℕ
-from_hex (Ok bytes) = from_be_bytes w64 bytes
-from_hex (Err _) = 0
+abbrev pub hex_number : Result (List ℕ) FromHexError → ℕ
+hex_number (Ok bytes) = from_be_bytes w64 bytes
+hex_number (Err _) = 0
 
 abbrev pub number_in : List ℕ → ℕ
-number_in text = from_hex (decode_sized text 8)
+number_in text = hex_number (decode_sized text 8)
 
 -- one, a number of 16 lower-case hexadecimal digits, and as many blocks as a volume may have
 abbrev pub is_meta : MetaRow → Bool
@@ -178,16 +240,16 @@ is_meta row = is_number 1 row.one && (bytes_eq row.number (encode_lower (to_be_b
 -- what the tables stand for: no vault, rows out of form, or the records of rows in form
 pub data Form : Type 0 where
   NoVault : Form
-  OutOfForm : Damage → Form
+  OutOfForm : RowDamage → Form
   InForm : Records → Form
 
 -- a table that is there
-abbrev pub gathered : {X K R : Type 0} {order : K → K → Ordering} → (X → Option (K × R)) → Option (List X) → Option (FinMap order R)
-gathered {X} {K} {R} {order} read = option_and_then (gather {X = X} {K = K} {R = R} {order = order} read empty)
+abbrev pub gathered_table : {X K R : Type 0} {order : K → K → Ordering} → (X → Option (K × R)) → Option (List X) → Option (FinMap order R)
+gathered_table {X} {K} {R} {order} read = option_and_then (gather {X = X} {K = K} {R = R} {order = order} read empty)
 
 -- schema 2 has a table of holds; schema 1 has none, and its rows stand for records without a hold
 abbrev pub holds_in : (has_holds : Bool) → Option (List HoldRow) → Option (FinMap text_cmp Hold)
-holds_in true rows = gathered hold_in rows
+holds_in true rows = gathered_table hold_in rows
 holds_in false None = Some empty
 holds_in false (Some _) = None
 
@@ -199,9 +261,9 @@ all_records _ _ _ _ _ _ _ = None
 
 abbrev pub records_in : (has_holds : Bool) → ℕ → ℕ → Rows → Option Records
 records_in has_holds number blocks rows =
-    all_records number blocks (gathered registry_in rows.registries) (gathered part_in rows.parts) (gathered notice_in rows.notices) (gathered release_in rows.handovers) (holds_in has_holds rows.holds)
+    all_records number blocks (gathered_table registry_in rows.registries) (gathered_table part_in rows.parts) (gathered_table notice_in rows.notices) (gathered_table release_in rows.handovers) (holds_in has_holds rows.holds)
 
-abbrev pub in_form_or : Damage → Option Records → Form
+abbrev pub in_form_or : RowDamage → Option Records → Form
 in_form_or why None = OutOfForm why
 in_form_or why (Some records) = InForm records
 
@@ -236,9 +298,9 @@ unfoldable pub form_of : Rows → Form
 form_of rows = form_by rows.meta rows
 
 -- the tables are those of the schema with holds
-abbrev pub IsCurrent : Rows → Type 0
-IsCurrent rows = (meta : MetaRow) → first_meta rows ≡ Some meta → has_holds meta.schema_no ≡ true
+abbrev pub HasCurrentSchema : Rows → Type 0
+HasCurrentSchema rows = (meta : MetaRow) → first_meta rows ≡ Some meta → has_holds meta.schema_no ≡ true
 
 -- they are those of the schema without
-abbrev pub IsEarlier : Rows → Type 0
-IsEarlier rows = (meta : MetaRow) → first_meta rows ≡ Some meta → has_holds meta.schema_no ≡ false
+abbrev pub HasEarlierSchema : Rows → Type 0
+HasEarlierSchema rows = (meta : MetaRow) → first_meta rows ≡ Some meta → has_holds meta.schema_no ≡ false

@@ -1,12 +1,12 @@
 pub mod Keys
 pub mod Lines
 pub mod Names
-pub mod Orders
 pub mod Records
 pub mod Rows
 pub mod Form
-pub mod Written
+pub mod RowsOfRecords
 pub mod Purge
 pub mod Tables
-pub mod Typed
-pub mod Held
+pub mod TypedRecords
+pub mod MemoryRecords
+pub mod inside

@@ -1,5 +1,18 @@
 -- The records of parts after the bytes were dropped whose keeping year is over.
-use Rattle.std.specs.Prelude.{ℕ, nat_lt, ◌==◌, Bool, not, ◌&&◌, if◌then◌else◌, List, map, None, is_some, is_none}
+use Rattle.std.specs.Prelude.{
+  ℕ,
+  nat_lt,
+  ◌==◌,
+  Bool,
+  not,
+  ◌&&◌,
+  if◌then◌else◌,
+  List,
+  map,
+  None,
+  is_some,
+  is_none,
+}
 use Rattle.std.specs.FinMap.{FinMap, entries}
 use Rattle.std.specs.List.{list_any}
 use Rattle.std.specs.Str.{bytes_eq}
@@ -8,12 +21,12 @@ use Rattle.custody_records.specs.Keys.{text_cmp, PartKey}
 use Rattle.custody_records.specs.Records.{Hold, PartRecord}
 
 -- a hold of the part's registry and day that is not lifted
-abbrev pub holds_part : PartKey → List ℕ × Hold → Bool
-holds_part key entry = is_none entry.1.lifted && (bytes_eq entry.1.tld key.tld && entry.1.day == key.day)
+abbrev pub is_hold_of_part : PartKey → List ℕ × Hold → Bool
+is_hold_of_part key entry = is_none entry.1.lifted && (bytes_eq entry.1.tld key.tld && entry.1.day == key.day)
 
 -- the part's day is on hold
 abbrev pub is_on_hold : FinMap text_cmp Hold → PartKey → Bool
-is_on_hold holds key = list_any (holds_part key) (entries holds)
+is_on_hold holds key = list_any (is_hold_of_part key) (entries holds)
 
 -- the bytes are held, the last day of their keeping is before this day, and the part's day is not on hold
 abbrev pub is_due : FinMap text_cmp Hold → ℕ → PartKey → PartRecord → Bool

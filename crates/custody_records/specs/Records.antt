@@ -9,7 +9,15 @@ use Rattle.deposit_name.specs.Name.{Name}
 use Rattle.desk.specs.declared.notices.NoticeKind.{NoticeKind}
 use Rattle.desk.specs.declared.grounds.Ground.{Ground}
 use Rattle.extent_map.specs.declared.extent.Extent.{Extent}
-use Rattle.custody_records.specs.Keys.{text_cmp, PartKey, part_cmp, revision_cmp, NoticeKey, notice_cmp}
+use Rattle.vault_volume.specs.Staged.{StagedPart}
+use Rattle.custody_records.specs.Keys.{
+  text_cmp,
+  PartKey,
+  part_cmp,
+  revision_cmp,
+  NoticeKey,
+  notice_cmp,
+}
 
 -- a part: its kind, when it was received, its length and SHA-256, and the extents of its bytes
 pub record PartRecord : Type 0 where
@@ -103,3 +111,7 @@ new_hold tld day now = record { tld = tld; day = day; at = now; lifted = None }
 -- the hold, lifted at a moment
 abbrev pub lifted_at : ℕ → Hold → Hold
 lifted_at now hold = record hold { lifted = Some now }
+
+-- the record of a part of this name that was staged and received at this moment
+abbrev pub staged_record : Name → ℕ → StagedPart → PartRecord
+staged_record name received staged = record { kind = name.kind; received = received; len = staged.len; digest = staged.digest; extents = Some staged.extents }

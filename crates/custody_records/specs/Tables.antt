@@ -6,9 +6,9 @@ use Rattle.std.specs.declared.cmp.Ordering.{Ordering}
 use Rattle.std.specs.FinMap.{FinMap, from_sorted}
 
 -- each row as its key and its value
-abbrev pub entries_of : {T K X : Type 0} → (T → K) → (T → X) → List T → List (K × X)
-entries_of key value [] = []
-entries_of key value (row ∷ rows) = (key row, value row) ∷ entries_of key value rows
+abbrev pub row_entries : {T K X : Type 0} → (T → K) → (T → X) → List T → List (K × X)
+row_entries key value [] = []
+row_entries key value (row ∷ rows) = (key row, value row) ∷ row_entries key value rows
 
 abbrev pub is_below_all : {T K : Type 0} → (K → K → Ordering) → (T → K) → K → List T → Bool
 is_below_all order key low [] = true
@@ -21,7 +21,7 @@ is_rising order key (row ∷ rows) = is_below_all order key (key row) rows && is
 
 -- the map of rows that rise
 unfoldable pub table_map : {T K X : Type 0} (order : K → K → Ordering) → (T → K) → (T → X) → List T → FinMap order X
-table_map order key value rows = from_sorted (entries_of key value rows)
+table_map order key value rows = from_sorted (row_entries key value rows)
 
 -- room for one row more, which is taken without memory
 abbrev pub HasRoom : {T : Type 0} → Vec T Global → Type 0

@@ -1,8 +1,25 @@
 //! Extents as bytes: start and count of each as four bytes each, the greatest first.
-ghost use Rattle.std.specs.Prelude.{◌≡◌, ◌≤◌, ◌<◌, ◌+◌, ◌*◌, ◌==◌, if◌then◌else◌, [], ◌∷◌, ◌++◌, length, option_map, take, IfNone, IfSome, MatchResult};
+ghost use Rattle.std.specs.Prelude.{
+  ◌≡◌,
+  ◌≤◌,
+  ◌<◌,
+  ◌+◌,
+  ◌*◌,
+  ◌==◌,
+  if◌then◌else◌,
+  [],
+  ◌∷◌,
+  ◌++◌,
+  length,
+  option_map,
+  take,
+  IfNone,
+  IfSome,
+  MatchResult,
+};
 ghost use Rattle.std.specs.Int.{w32, to_be_bytes};
-ghost use Rattle.custody_records.specs.Form.{extents_in, extents_of};
-ghost use Rattle.custody_records.specs.Written.{blob_of};
+ghost use Rattle.custody_records.specs.Form.{extents_in, blob_extents};
+ghost use Rattle.custody_records.specs.RowsOfRecords.{blob_of};
 ghost use Rattle.custody_records.specs.declared.errors.RowError.TheVariants.{OutOfForm};
 
 use crate::RowError;
@@ -25,7 +42,7 @@ pub(crate) fn read_extents(
 }
 
 fn read_blob(alloc: Global, bytes: &[u8]) -> Result<Vec<Extent>, RowError>
-    ensures { MatchResult result (λ v. extents_of bytes.now ≡ Some v.items) (λ e. e ≡ OutOfForm → extents_of bytes.now ≡ None) }
+    ensures { MatchResult result (λ v. blob_extents bytes.now ≡ Some v.items) (λ e. e ≡ OutOfForm → blob_extents bytes.now ≡ None) }
 {
     let mut extents = Vec::new(alloc);
     let mut rest = bytes;
@@ -42,8 +59,8 @@ fn read_blob(alloc: Global, bytes: &[u8]) -> Result<Vec<Extent>, RowError>
 
 /// The extent of the first eight bytes, and the bytes after them.
 fn first_extent(bytes: &[u8]) -> Option<(Extent, &[u8])>
-    ensures short { IfNone result (extents_of bytes.now ≡ (if length bytes.now == 0 then Some [] else None)) }
-    ensures first { IfSome result (λ p. extents_of bytes.now ≡ option_map (λ more. p.0 ∷ more) (extents_of p.1.now)) }
+    ensures short { IfNone result (blob_extents bytes.now ≡ (if length bytes.now == 0 then Some [] else None)) }
+    ensures first { IfSome result (λ p. blob_extents bytes.now ≡ option_map (λ more. p.0 ∷ more) (blob_extents p.1.now)) }
     ensures shorter { IfSome result (λ p. length p.1.now < length bytes.now) }
 {
     if bytes.len() < 8 {

@@ -13,13 +13,13 @@ mod meta;
 mod names;
 mod notices;
 mod parts;
-mod purge;
+mod purging;
 mod records;
 mod registries;
 mod releases;
 mod tables;
 
-pub use damage::Damage;
+pub use damage::RowDamage;
 pub use errors::RowError;
 pub use extents::write_blob;
 pub use holds::{Hold, HoldColumns};

@@ -2,8 +2,8 @@
 ghost use Rattle.std.specs.Prelude.{◌≡◌, if◌then◌else◌};
 ghost use Rattle.std.specs.Str.{bytes_eq};
 ghost use Rattle.custody_records.specs.Form.{has_holds, is_schema, number_in};
-ghost use Rattle.custody_records.specs.Written.{digits_of};
-ghost use Rattle.custody_records.specs.Typed.{meta_of, volume_of};
+ghost use Rattle.custody_records.specs.RowsOfRecords.{digits_of};
+ghost use Rattle.custody_records.specs.TypedRecords.{meta_of, meta_volume};
 
 use crate::fields::number_within;
 use vault_volume::{FEWEST_BLOCKS, MOST_BLOCKS};
@@ -47,7 +47,7 @@ impl Meta {
 
     /// The number and the blocks of the volume, where the row is in form.
     pub fn volume(&self) -> Option<(u64, u32)>
-        ensures { result ≡ volume_of self.now }
+        ensures { result ≡ meta_volume self.now }
     {
         if self.one != 1 {
             return None;

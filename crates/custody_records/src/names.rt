@@ -1,10 +1,25 @@
 //! The names of a release as lines of text.
-ghost use Rattle.std.specs.Prelude.{◌≡◌, ◌≤◌, ◌==◌, count_by, length, take, IfOk, MatchResult, OnOk, OnErr, IsTrue, [], ◌∷◌, ◌++◌};
+ghost use Rattle.std.specs.Prelude.{
+  ◌≡◌,
+  ◌≤◌,
+  ◌==◌,
+  count_by,
+  length,
+  take,
+  IfOk,
+  MatchResult,
+  OnOk,
+  OnErr,
+  IsTrue,
+  [],
+  ◌∷◌,
+  ◌++◌,
+};
 ghost use Rattle.std.specs.List.{list_all};
 ghost use Rattle.deposit_name.specs.Name.{IsName, name_text};
 ghost use Rattle.custody_records.specs.Form.{lines_in};
 ghost use Rattle.custody_records.specs.Lines.{lines_left};
-ghost use Rattle.custody_records.specs.Written.{is_line, text_of};
+ghost use Rattle.custody_records.specs.RowsOfRecords.{is_line, text_of_lines};
 ghost use Rattle.custody_records.specs.declared.errors.RowError.TheVariants.{OutOfForm};
 
 use crate::RowError;
@@ -23,13 +38,13 @@ pub struct Names {
 impl Model for Names {
     ghost use Rattle.std.specs.Prelude.{◌≡◌, ℕ, List};
     ghost use Rattle.custody_records.specs.Names.{lines_of};
-    ghost use Rattle.custody_records.specs.Written.{text_of};
+    ghost use Rattle.custody_records.specs.RowsOfRecords.{text_of_lines};
 
     ghost Value = { List (List ℕ) };
 
     ghost view = { λ n. lines_of n.text.items };
 
-    ghost invariant = { λ n. n.text.items ≡ text_of (lines_of n.text.items) };
+    ghost invariant = { λ n. n.text.items ≡ text_of_lines (lines_of n.text.items) };
 }
 
 impl PartialEq for Names {
@@ -37,9 +52,9 @@ impl PartialEq for Names {
     ghost use Rattle.std.specs.Cmp.Rules.{comparing};
     ghost use Rattle.std.specs.Ordering.{on};
     ghost use Rattle.std.specs.Str.{bytes_eq};
-    ghost use Rattle.custody_records.specs.Written.{text_of};
+    ghost use Rattle.custody_records.specs.RowsOfRecords.{text_of_lines};
 
-    ghost eq = { on text_of bytes_eq };
+    ghost eq = { on text_of_lines bytes_eq };
 
     ghost laws = { Prim.search (comparing, rules) };
 
@@ -110,7 +125,7 @@ impl Names {
 
     /// The text of the names, in which each is followed by a line feed.
     pub fn as_text(&self) -> &[u8]
-        ensures text { result.now ≡ text_of self.now }
+        ensures text { result.now ≡ text_of_lines self.now }
         ensures lines { IsTrue (list_all is_line self.now) }
     {
         &self.text

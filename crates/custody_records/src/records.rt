@@ -1,13 +1,35 @@
 //! The records of a custody in memory.
-ghost use Rattle.std.specs.Prelude.{◌≡◌, true, None, IsSome, IfSome, OnOk, OnErr, IsErrOf, option_map, option_copied};
+ghost use Rattle.std.specs.Prelude.{
+  ◌≡◌,
+  true,
+  None,
+  IsSome,
+  IfSome,
+  OnOk,
+  OnErr,
+  IsErrOf,
+  option_map,
+  option_copied,
+};
 ghost use Rattle.std.specs.FinMap.{get, entries};
 ghost use Rattle.custody_records.specs.Purge.{entries_without_due, is_due};
 ghost use Rattle.custody_records.specs.Keys.{text_cmp, part_cmp, notice_cmp};
-ghost use Rattle.custody_records.specs.Tables.{entries_of, is_rising, table_map};
-ghost use Rattle.custody_records.specs.Typed.{registry_key, registry_value, part_place, part_value, notice_key, notice_value, release_key, release_value, hold_key, hold_value};
+ghost use Rattle.custody_records.specs.Tables.{row_entries, is_rising, table_map};
+ghost use Rattle.custody_records.specs.TypedRecords.{
+  registry_key,
+  registry_value,
+  key_of_part,
+  part_value,
+  notice_key,
+  notice_value,
+  release_key,
+  release_value,
+  hold_key,
+  hold_value,
+};
 
-use crate::tables::Table;
-use crate::{Hold, NoticeKey, Part, PartKey, Registry, Release, RowError, purge};
+use crate::tables::SortedRows;
+use crate::{Hold, NoticeKey, Part, PartKey, Registry, Release, RowError, purging};
 use deposit_name::{DepositName, Reference, Tld};
 use desk::{Notice, NoticeKind};
 use schedule::{Day, Sec};
@@ -18,17 +40,38 @@ use std::alloc::{AllocError, Global};
 pub struct Records {
     number: u64,
     blocks: u32,
-    registries: Table<Registry>,
-    parts: Table<Part>,
-    notices: Table<Notice>,
-    releases: Table<Release>,
-    holds: Table<Hold>,
+    registries: SortedRows<Registry>,
+    parts: SortedRows<Part>,
+    notices: SortedRows<Notice>,
+    releases: SortedRows<Release>,
+    holds: SortedRows<Hold>,
 }
 
 impl Records {
-    ghost use Rattle.custody_records.specs.Records.{new_records, notices_of, parts_of, parts_of_revision, with_registry, with_part, with_notice, with_release, with_hold, lifted_at};
-    ghost use Rattle.custody_records.specs.Held.{records_of, HasRegistryRoom, HasPartRoom, HasNoticeRoom, HasReleaseRoom, HasHoldRoom};
-    ghost use Rattle.custody_records.specs.declared.errors.RowError.TheVariants.{OutOfForm, NoMemory};
+    ghost use Rattle.custody_records.specs.Records.{
+      new_records,
+      notices_of,
+      parts_of,
+      parts_of_revision,
+      with_registry,
+      with_part,
+      with_notice,
+      with_release,
+      with_hold,
+      lifted_at,
+    };
+    ghost use Rattle.custody_records.specs.MemoryRecords.{
+      records_of,
+      HasRegistryRoom,
+      HasPartRoom,
+      HasNoticeRoom,
+      HasReleaseRoom,
+      HasHoldRoom,
+    };
+    ghost use Rattle.custody_records.specs.declared.errors.RowError.TheVariants.{
+      OutOfForm,
+      NoMemory,
+    };
 
     /// No records yet, for a volume of this number and so many blocks.
     pub fn new(alloc: Global, number: u64, blocks: u32) -> Records
@@ -37,11 +80,11 @@ impl Records {
         Records {
             number,
             blocks,
-            registries: Table::new(alloc),
-            parts: Table::new(alloc),
-            notices: Table::new(alloc),
-            releases: Table::new(alloc),
-            holds: Table::new(alloc),
+            registries: SortedRows::new(alloc),
+            parts: SortedRows::new(alloc),
+            notices: SortedRows::new(alloc),
+            releases: SortedRows::new(alloc),
+            holds: SortedRows::new(alloc),
         }
     }
 
@@ -70,7 +113,7 @@ impl Records {
     /// The part of that place.
     pub fn part(&self, place: &PartKey) -> Option<&Part>
         ensures found { option_map part_value (option_copied result) ≡ get (records_of self.now).parts place.now }
-        ensures key { IfSome result (λ part. part_place part.now ≡ place.now) }
+        ensures key { IfSome result (λ part. key_of_part part.now ≡ place.now) }
     {
         self.parts.find(place)
     }
@@ -138,22 +181,22 @@ impl Records {
 
     /// The parts, by registry, day, revision and place.
     pub fn parts(&self) -> &[Part]
-        ensures all { (records_of self.now).parts ≡ table_map part_cmp part_place part_value result.now }
-        ensures rising { is_rising part_cmp part_place result.now ≡ true }
+        ensures all { (records_of self.now).parts ≡ table_map part_cmp key_of_part part_value result.now }
+        ensures rising { is_rising part_cmp key_of_part result.now ≡ true }
     {
         self.parts.rows()
     }
 
     /// The parts of a registry, by day, revision and place.
     pub fn parts_of(&self, tld: &Tld) -> &[Part]
-        ensures { entries_of part_place part_value result.now ≡ parts_of (records_of self.now) tld.now }
+        ensures { row_entries key_of_part part_value result.now ≡ parts_of (records_of self.now) tld.now }
     {
         self.parts.group(tld)
     }
 
     /// The parts of the revision of a name, by place.
     pub fn parts_of_revision(&self, name: &DepositName) -> &[Part]
-        ensures { entries_of part_place part_value result.now ≡ parts_of_revision (records_of self.now) name.now }
+        ensures { row_entries key_of_part part_value result.now ≡ parts_of_revision (records_of self.now) name.now }
     {
         self.parts.group(name)
     }
@@ -170,8 +213,8 @@ impl Records {
     /// Adds a part that is not there, without taking memory.
     pub fn add_part(&mut self, part: Part)
         requires room { HasPartRoom self.old }
-        requires new { get (records_of self.old).parts (part_place part) ≡ None }
-        ensures { records_of self.new ≡ with_part (records_of self.old) (part_place part) (part_value part) }
+        requires new { get (records_of self.old).parts (key_of_part part) ≡ None }
+        ensures { records_of self.new ≡ with_part (records_of self.old) (key_of_part part) (part_value part) }
     {
         self.parts.add(part);
     }
@@ -179,9 +222,9 @@ impl Records {
     /// Whether the bytes of a part are held, the last day of their keeping is before today, and its day
     /// is not on hold.
     pub fn is_due(&self, part: &Part, today: Day) -> bool
-        ensures { result ≡ is_due (records_of self.now).holds today (part_place part.now) (part_value part.now) }
+        ensures { result ≡ is_due (records_of self.now).holds today (key_of_part part.now) (part_value part.now) }
     {
-        purge::is_due(part, &self.holds, today)
+        purging::is_due(part, &self.holds, today)
     }
 
     /// Drops the bytes of the parts that are due, without taking memory.
@@ -194,10 +237,10 @@ impl Records {
 
     /// Adds a part, or refuses one that is there.
     pub fn try_add_part(&mut self, part: Part) -> Result<(), RowError>
-        ensures added { OnOk result (records_of self.new ≡ with_part (records_of self.old) (part_place part) (part_value part)) }
-        ensures new { OnOk result (get (records_of self.old).parts (part_place part) ≡ None) }
-        ensures taken { IsErrOf result OutOfForm → IsSome (get (records_of self.old).parts (part_place part)) }
-        ensures no_memory { IsErrOf result NoMemory → (get (records_of self.old).parts (part_place part) ≡ None) × ¬ HasPartRoom self.old }
+        ensures added { OnOk result (records_of self.new ≡ with_part (records_of self.old) (key_of_part part) (part_value part)) }
+        ensures new { OnOk result (get (records_of self.old).parts (key_of_part part) ≡ None) }
+        ensures taken { IsErrOf result OutOfForm → IsSome (get (records_of self.old).parts (key_of_part part)) }
+        ensures no_memory { IsErrOf result NoMemory → (get (records_of self.old).parts (key_of_part part) ≡ None) × ¬ HasPartRoom self.old }
         ensures same { OnErr result (records_of self.new ≡ records_of self.old) }
     {
         self.parts.try_add(part)
@@ -213,7 +256,7 @@ impl Records {
 
     /// The notices of a registry, by number.
     pub fn notices_of(&self, tld: &Tld) -> &[Notice]
-        ensures { entries_of notice_key notice_value result.now ≡ notices_of (records_of self.now) tld.now }
+        ensures { row_entries notice_key notice_value result.now ≡ notices_of (records_of self.now) tld.now }
     {
         self.notices.group(tld)
     }

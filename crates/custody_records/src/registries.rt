@@ -2,8 +2,8 @@
 ghost use Rattle.std.specs.Prelude.{◌≡◌, ℕ, option_map};
 ghost use Rattle.custody_records.specs.Form.{registry_in};
 ghost use Rattle.custody_records.specs.Keys.{text_cmp};
-ghost use Rattle.custody_records.specs.Orders.{text_exact, text_total};
-ghost use Rattle.custody_records.specs.Typed.{registry_entry, registry_key, registry_value};
+ghost use Rattle.custody_records.specs.inside.Orders.{text_exact, text_total};
+ghost use Rattle.custody_records.specs.TypedRecords.{registry_entry, registry_key, registry_value};
 
 use crate::tables::Keyed;
 use deposit_name::Tld;

@@ -1,5 +1,18 @@
 //! A table in memory: rows in the order of their keys, each key once.
-ghost use Rattle.std.specs.Prelude.{◌≡◌, ◌≤◌, length, true, None, IsSome, IfSome, OnOk, OnErr, IsErrOf, option_map, option_copied};
+ghost use Rattle.std.specs.Prelude.{
+  ◌≡◌,
+  ◌≤◌,
+  length,
+  true,
+  None,
+  IsSome,
+  IfSome,
+  OnOk,
+  OnErr,
+  IsErrOf,
+  option_map,
+  option_copied,
+};
 ghost use Rattle.std.specs.Cmp.{IsTotalOrder};
 ghost use Rattle.std.specs.FinMap.{IsAntisymmetric, empty, entries, get, insert};
 ghost use Rattle.std.specs.List.{filter};
@@ -7,7 +20,7 @@ ghost use Rattle.std.specs.List.Sorted.{IsSearchInRange, IsBinarySearchResult};
 ghost use Rattle.std.specs.Ordering.{is_eq, ordering_index};
 ghost use Rattle.std.specs.declared.cmp.Ordering.{Ordering};
 ghost use Rattle.std.specs.declared.cmp.Ordering.TheVariants.{Less};
-ghost use Rattle.custody_records.specs.Tables.{HasRoom, entries_of, is_rising, table_map};
+ghost use Rattle.custody_records.specs.Tables.{HasRoom, row_entries, is_rising, table_map};
 ghost use Rattle.custody_records.specs.declared.errors.RowError.TheVariants.{OutOfForm, NoMemory};
 
 use crate::RowError;
@@ -54,17 +67,17 @@ pub(crate) trait Group<T: Keyed> {
 
 /// Rows in the order of their keys, each key once.
 #[derive(Debug, Drop)]
-pub(crate) struct Table<T: Keyed> {
+pub(crate) struct SortedRows<T: Keyed> {
     pub(crate) rows: Vec<T>,
     ghost rising: { is_rising T.order T.key_of rows.items ≡ true },
 }
 
-impl<T: Keyed> Table<T> {
+impl<T: Keyed> SortedRows<T> {
     /// A table with no row.
-    pub(crate) fn new(alloc: Global) -> Table<T>
+    pub(crate) fn new(alloc: Global) -> SortedRows<T>
         ensures { table_map T.order T.key_of T.value_of result.rows.items ≡ empty }
     {
-        Table {
+        SortedRows {
             rows: Vec::new(alloc),
         }
     }
@@ -98,7 +111,7 @@ impl<T: Keyed> Table<T> {
 
     /// The rows of a group, which stand together.
     pub(crate) fn group<G: Group<T>>(&self, group: &G) -> &[T]
-        ensures { entries_of T.key_of T.value_of result.now ≡ filter (λ e. is_eq (G.place group.now e.0)) (entries (table_map T.order T.key_of T.value_of self.now.rows.items)) }
+        ensures { row_entries T.key_of T.value_of result.now ≡ filter (λ e. is_eq (G.place group.now e.0)) (entries (table_map T.order T.key_of T.value_of self.now.rows.items)) }
     {
         let start = self.rows.partition_point(|row| group.compare(row).is_lt());
         let rest = &self.rows[start..];

@@ -1,4 +1,5 @@
 -- The chain of a deposit as the records tell it is that of their state.
+use Rattle.std.specs.Prelude.{bytes_eq}
 use Rattle.std.proofs.Common.{◌≡◌, ℕ, List, [], ◌∷◌, map, Bool, true, false, ◌&&◌, ◌||◌, refl, sym, ◌∙◌, ap, cond}
 use Rattle.std.specs.List.{filter, list_any}
 use Rattle.std.specs.FinMap.{entries, get}
@@ -8,19 +9,18 @@ use Rattle.deposit_name.specs.Name.{Name}
 use Rattle.custody_records.specs.declared.parts.Part as typed
 use Rattle.custody_records.specs.Keys.{PartKey, part_cmp, text_cmp}
 use Rattle.custody_records.specs.Records.{PartRecord, Records, key_of, name_of, parts_of}
-use Rattle.custody_records.specs.Tables.{entries_of}
-use Rattle.custody_records.specs.Typed.{part_place, part_value}
+use Rattle.custody_records.specs.Tables.{row_entries}
+use Rattle.custody_records.specs.TypedRecords.{key_of_part, part_value}
 use Rattle.custody_records.proofs.GroupLemmas.{filter_entries}
-use Rattle.custody_machine.specs.Names.{is_same_text}
-use Rattle.custody_machine.specs.Machine.{chain_of, has_dropped_part, held_chain, latest_full, passed_firsts}
+use Rattle.custody_machine.specs.Machine.{chain_of, has_dropped_part, held_chain, latest_full, passed_first_names}
 use Rattle.custody_machine.specs.Machine as machine
 use Rattle.custody_machine.specs.declared.command.Statement as stated
-use Rattle.custody_machine.specs.State.{State, Part, at_place, places}
-use Rattle.custody_machine.specs.Stored.{part_of, state_in}
+use Rattle.custody_machine.specs.State.{State, Part, key_with_part, part_numbers}
+use Rattle.custody_machine.specs.StoredState.{part_of, state_in}
 use Rattle.custody_machine.specs.MapValues.{map_entries}
 use Rattle.custody_machine.proofs.MapValues.{entries-map_values}
-use Rattle.custody_rules.specs.Chains.{is_first_of_passed}
-use Rattle.custody_rules.specs.Judged.{is_without_bytes}
+use Rattle.custody_rules.specs.inside.Chains.{is_first_of_passed_in}
+use Rattle.custody_rules.specs.Judging.{is_without_bytes}
 use Rattle.custody_rules.proofs.Judged.{dropped_in_state}
 
 -- one test after another
@@ -39,12 +39,12 @@ module _ (records : Records) (tld : List ℕ) (image : List ℕ) where
 
   -- an entry, of the registry, is that of the first part of a deposit that passed
   abbrev leads : PartKey × PartRecord → Bool
-  leads e = is_first_of_passed records tld (name_in e)
+  leads e = is_first_of_passed_in records tld (name_in e)
 
   abbrev leads_registry : PartKey × PartRecord → Bool
-  leads_registry e = is_same_text e.0.tld tld && leads e
+  leads_registry e = bytes_eq e.0.tld tld && leads e
 
-  names_as_entries : (rows : List typed.Part) → map (λ (p : typed.Part). p.name) rows ≡ map name_in (entries_of part_place part_value rows)
+  names_as_entries : (rows : List typed.Part) → map (λ (p : typed.Part). p.name) rows ≡ map name_in (row_entries key_of_part part_value rows)
   names_as_entries [] = refl
   names_as_entries (p ∷ rows) = ap (λ (l : List Name). p.name ∷ l) (names_as_entries rows)
 
@@ -63,22 +63,22 @@ module _ (records : Records) (tld : List ℕ) (image : List ℕ) where
       by false rest = rest
 
   -- the rows of a registry's parts tell which of its deposits passed
-  pub passed_in_state : (rows : List typed.Part) → entries_of part_place part_value rows ≡ parts_of records tld
-      → map (λ (p : typed.Part). p.name) (filter (λ (p : typed.Part). is_first_of_passed records tld p.name) rows) ≡ passed_firsts (state_in records image) tld
+  pub passed_in_state : (rows : List typed.Part) → row_entries key_of_part part_value rows ≡ parts_of records tld
+      → map (λ (p : typed.Part). p.name) (filter (λ (p : typed.Part). is_first_of_passed_in records tld p.name) rows) ≡ passed_first_names (state_in records image) tld
   passed_in_state rows is =
-      names_as_entries (filter (λ (p : typed.Part). is_first_of_passed records tld p.name) rows)
-      ∙ ap (map name_in) (sym (filter_entries part_place part_value leads rows) ∙ ap (filter leads) is ∙ filter_both (λ (e : PartKey × PartRecord). is_eq (text_cmp e.0.tld tld)) leads (entries records.parts))
+      names_as_entries (filter (λ (p : typed.Part). is_first_of_passed_in records tld p.name) rows)
+      ∙ ap (map name_in) (sym (filter_entries key_of_part part_value leads rows) ∙ ap (filter leads) is ∙ filter_both (λ (e : PartKey × PartRecord). is_eq (text_cmp e.0.tld tld)) leads (entries records.parts))
       ∙ (λ i. map name_in (filter (λ (e : PartKey × PartRecord). is_eq-slice_cmp e.0.tld tld i && leads e) (entries records.parts)))
       ∙ in_state (entries records.parts)
       ∙ ap (λ (es : List (PartKey × Part)). map (λ (e : PartKey × Part). name_of e.0 e.1.kind) (filter (machine.is_first_of_passed (state_in records image) tld) es)) (sym (entries-map_values part_cmp (part_of image) records.parts))
 
 -- the bytes of a part of a chain are dropped, by the records as in their state
 pub any_dropped : (records : Records) (image : List ℕ) (names : List Name)
-    → list_any (λ (n : Name). list_any (λ place. is_without_bytes (get records.parts (at_place (key_of n) place))) places) names ≡ list_any (has_dropped_part (state_in records image)) names
+    → list_any (λ (n : Name). list_any (λ place. is_without_bytes (get records.parts (key_with_part (key_of n) place))) part_numbers) names ≡ list_any (has_dropped_part (state_in records image)) names
 any_dropped records image [] = refl
 any_dropped records image (n ∷ names) = λ i. sym (dropped_in_state records image n) i || any_dropped records image names i
 
 -- the chain by the names of the deposits that passed
-pub chain_is : (s : State) (st : stated.Statement) (names chain : List Name) → names ≡ passed_firsts s st.tld → chain ≡ chain_of st.kind names (latest_full names)
+pub chain_is : (s : State) (st : stated.Statement) (names chain : List Name) → names ≡ passed_first_names s st.tld → chain ≡ chain_of st.kind names (latest_full names)
     → held_chain s st ≡ cond (list_any (has_dropped_part s) chain) [] chain
 chain_is s st names chain passed is = ap (λ (c : List Name). cond (list_any (has_dropped_part s) c) [] c) (sym (is ∙ ap (λ (l : List Name). chain_of st.kind l (latest_full l)) passed))

@@ -7,11 +7,11 @@ use Rattle.schedule.specs.Schedule.{day_of}
 use Rattle.custody_records.specs.Keys.{NoticeKey}
 use Rattle.custody_records.specs.Records.{Notice, Records}
 use Rattle.custody_machine.specs.State.{State, has_notice, is_notice_of}
-use Rattle.custody_machine.specs.Stored.{state_in}
+use Rattle.custody_machine.specs.StoredState.{state_in}
 use Rattle.custody_machine.specs.declared.answers.Refusal.{Refusal}
 use Rattle.custody_machine.specs.declared.answers.Refusal.TheVariants.{RegistryUnknown, DateOutOfRange, NotYetDue, DayHasVerdict, OtherBytes, VolumeFull}
-use Rattle.custody_machine.specs.Machine.{Check, OfNotice, Accept, is_absence, is_verdict, check_tests, first_standing, step}
-use Rattle.custody_machine.specs.Rulings.{AddsAbsence, Refuses, Repeats, Makes, Decides}
+use Rattle.custody_machine.specs.Machine.{Check, OfNotice, Accept, is_absence, is_verdict, check_tests, first_refusal, step}
+use Rattle.custody_machine.specs.Rulings.{AddsAbsence, RefuseRuling, KeptRuling, GoRuling, Decides}
 use Rattle.custody_machine.proofs.Accepting.{step_none, step_refuses}
 use Rattle.custody_machine.proofs.Keeping.{Again, asked_again}
 use Rattle.custody_machine.proofs.Checked.{check_refusals, missed_by}
@@ -22,28 +22,28 @@ absence_in records tld day = find (is_notice_of tld day is_absence) (entries rec
 
 module _ (records : Records) (tld : List ℕ) (day now : ℕ) where
   -- the first refusal of a day without an absence
-  pub first_of_check : (image : List ℕ) (first : ℕ) → get records.registries tld ≡ Some first → absence_in records tld day ≡ None → first_standing (check_tests (state_in records image) tld day now)
+  pub first_of_check : (image : List ℕ) (first : ℕ) → get records.registries tld ≡ Some first → absence_in records tld day ≡ None → first_refusal (check_tests (state_in records image) tld day now)
       ≡ check_refusals false (nat_lt day first || nat_lt (day_of now) day) (day == day_of now) (has_notice records.notices tld day is_verdict)
   first_of_check image first known new = λ i.
       check_refusals (is_none (known i)) (is_none (new i) && (nat_lt day (unwrap_or (known i) 0) || nat_lt (day_of now) day)) (is_none (new i) && day == day_of now) (is_none (new i) && has_notice records.notices tld day is_verdict)
 
-  pub refuses_unknown : get records.registries tld ≡ None → Decides (Refuses RegistryUnknown) records (Check tld day) now
+  pub refuses_unknown : get records.registries tld ≡ None → Decides (RefuseRuling RegistryUnknown) records (Check tld day) now
   refuses_unknown unknown = (λ e. cc, λ e. cc, λ image. step_refuses (state_in records image) (Check tld day) now RegistryUnknown (by _ _ (ap is_none unknown)))
     where
       by : (a : Bool) (rest : Option Refusal) → a ≡ true → cond a (Some RegistryUnknown) rest ≡ Some RegistryUnknown
       by a rest e = ap (λ b. cond b (Some RegistryUnknown) rest) e
 
-  pub refuses_check : (q : Refusal) → q ≢ OtherBytes → q ≢ VolumeFull → ((image : List ℕ) → first_standing (check_tests (state_in records image) tld day now) ≡ Some q) → Decides (Refuses q) records (Check tld day) now
+  pub refuses_check : (q : Refusal) → q ≢ OtherBytes → q ≢ VolumeFull → ((image : List ℕ) → first_refusal (check_tests (state_in records image) tld day now) ≡ Some q) → Decides (RefuseRuling q) records (Check tld day) now
   refuses_check q other full first = (other, full, λ image. step_refuses (state_in records image) (Check tld day) now q (first image))
 
-  pub repeats_check : (first : ℕ) (kept : NoticeKey × Notice) → get records.registries tld ≡ Some first → absence_in records tld day ≡ Some kept → Decides (Repeats (OfNotice kept.0 kept.1)) records (Check tld day) now
+  pub repeats_check : (first : ℕ) (kept : NoticeKey × Notice) → get records.registries tld ≡ Some first → absence_in records tld day ≡ Some kept → Decides (KeptRuling (OfNotice kept.0 kept.1)) records (Check tld day) now
   repeats_check first kept known is = λ image. by (asked_again (state_in records image) (Check tld day) (OfNotice kept.0 kept.1) now refl (record { kept = kept; found = is; made = refl; registry = ap is_none known }) tt).0
     where
       by : {s : State} → Again s (Check tld day) (OfNotice kept.0 kept.1) now → step s (Check tld day) now ≡ Accept (record { entry = OfNotice kept.0 kept.1; is_repeat = true }) s
       by (inl h) = h
       by (inr h) = absurd h.1
 
-  pub makes_absence : absence_in records tld day ≡ None → ((image : List ℕ) → first_standing (check_tests (state_in records image) tld day now) ≡ None) → Decides (Makes (AddsAbsence tld day)) records (Check tld day) now
+  pub makes_absence : absence_in records tld day ≡ None → ((image : List ℕ) → first_refusal (check_tests (state_in records image) tld day now) ≡ None) → Decides (GoRuling (AddsAbsence tld day)) records (Check tld day) now
   makes_absence new none = (refl, λ image. step_none (state_in records image) (Check tld day) now (none image) ∙ ap (missed_by (state_in records image) tld day now) new)
 
 -- ---- the first that stands

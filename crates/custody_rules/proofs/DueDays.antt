@@ -9,10 +9,10 @@ use Rattle.std.proofs.lemmas.Map.Text.{is_eq-slice_cmp}
 use Rattle.desk.specs.declared.notices.Notice as desk
 use Rattle.custody_records.specs.Keys.{NoticeKey, notice_cmp, text_cmp}
 use Rattle.custody_records.specs.Records.{Notice, Records, notices_of}
-use Rattle.custody_records.specs.Tables.{entries_of}
-use Rattle.custody_records.specs.Typed.{notice_key, notice_value}
+use Rattle.custody_records.specs.Tables.{row_entries}
+use Rattle.custody_records.specs.TypedRecords.{notice_key, notice_value}
 use Rattle.custody_machine.specs.State.{has_notice}
-use Rattle.custody_rules.specs.Due.{is_unnoticed}
+use Rattle.custody_rules.specs.DueDays.{is_unnoticed}
 use Rattle.custody_rules.proofs.Tables.{any_entries}
 
 -- ---- one day more
@@ -38,7 +38,7 @@ and_true : (b : Bool) → b ≡ (b && true)
 and_true true = refl
 and_true false = refl
 
-pub noticed_day : (records : Records) (tld : List ℕ) (rows : List desk.Notice) → entries_of notice_key notice_value rows ≡ notices_of records tld → (day : ℕ) → list_any (λ (n : desk.Notice). n.day == day) rows ≡ has_notice records.notices tld day (λ kind. true)
+pub noticed_day : (records : Records) (tld : List ℕ) (rows : List desk.Notice) → row_entries notice_key notice_value rows ≡ notices_of records tld → (day : ℕ) → list_any (λ (n : desk.Notice). n.day == day) rows ≡ has_notice records.notices tld day (λ kind. true)
 noticed_day records tld rows is day =
     any_entries notice_cmp notice_key notice_value (λ (e : NoticeKey × Notice). e.1.day == day) rows ∙ ap (list_any (λ (e : NoticeKey × Notice). e.1.day == day)) is
     ∙ any_filtered (λ (e : NoticeKey × Notice). is_eq (text_cmp e.0.tld tld)) (λ (e : NoticeKey × Notice). e.1.day == day) (entries records.notices)
@@ -46,13 +46,13 @@ noticed_day records tld rows is day =
 
 -- ---- one registry more
 
-rows_push : {Row K X Y : Type 0} (key : Row → K) (value : Row → X) (f : K × X → List Y) (rows : List Row) (row : Row) → flat_map f (entries_of key value (rows ++ row ∷ [])) ≡ flat_map f (entries_of key value rows) ++ f (key row, value row)
+rows_push : {Row K X Y : Type 0} (key : Row → K) (value : Row → X) (f : K × X → List Y) (rows : List Row) (row : Row) → flat_map f (row_entries key value (rows ++ row ∷ [])) ≡ flat_map f (row_entries key value rows) ++ f (key row, value row)
 rows_push key value f [] row = append-nil (f (key row, value row))
 rows_push key value f (r ∷ rows) row =
     ap (λ l. f (key r, value r) ++ l) (rows_push key value f rows row)
-    ∙ sym (append_assoc (f (key r, value r)) (flat_map f (entries_of key value rows)) (f (key row, value row)))
+    ∙ sym (append_assoc (f (key r, value r)) (flat_map f (row_entries key value rows)) (f (key row, value row)))
 
 pub rows_step : {Row K X Y : Type 0} (key : Row → K) (value : Row → X) (f : K × X → List Y) (rows : List Row) (i : ℕ) (row : Row) → i < length rows → row ≡ get_or rows i row
-    → flat_map f (entries_of key value (take (i + 1) rows)) ≡ flat_map f (entries_of key value (take i rows)) ++ f (key row, value row)
+    → flat_map f (row_entries key value (take (i + 1) rows)) ≡ flat_map f (row_entries key value (take i rows)) ++ f (key row, value row)
 rows_step {Row} key value f rows i row lt is =
-    ap (λ (l : List Row). flat_map f (entries_of key value l)) (take_more rows i row lt ∙ ap (λ (r : Row). take i rows ++ r ∷ []) (sym is)) ∙ rows_push key value f (take i rows) row
+    ap (λ (l : List Row). flat_map f (row_entries key value l)) (take_more rows i row lt ∙ ap (λ (r : Row). take i rows ++ r ∷ []) (sym is)) ∙ rows_push key value f (take i rows) row

@@ -6,19 +6,19 @@ use Rattle.std.specs.Option.{option_and_then}
 use Rattle.schedule.specs.Schedule.{day_of}
 use Rattle.custody_records.specs.Records.{Hold, Records}
 use Rattle.custody_machine.specs.State.{State}
-use Rattle.custody_machine.specs.Stored.{state_in}
+use Rattle.custody_machine.specs.StoredState.{state_in}
 use Rattle.custody_machine.specs.declared.answers.Refusal.{Refusal}
 use Rattle.custody_machine.specs.declared.answers.Refusal.TheVariants.{RegistryUnknown, DateOutOfRange, HoldReferenceUsed, HoldUnknown}
-use Rattle.custody_machine.specs.Machine.{Lift, OfHold, OfLifting, Accept, first_standing, hold_of, hold_tests, is_held_day, if_held_day, lifted, step, unless_kept}
+use Rattle.custody_machine.specs.Machine.{Lift, OfHold, OfLifting, Accept, first_refusal, hold_of, hold_tests, is_held_day, if_held_day, lift_step, step, unless_kept}
 use Rattle.custody_machine.specs.Machine as machine
-use Rattle.custody_machine.specs.Rulings.{Refuses, Repeats, Decides, Makes, LiftsHold}
+use Rattle.custody_machine.specs.Rulings.{RefuseRuling, KeptRuling, Decides, GoRuling, LiftsHold}
 use Rattle.custody_machine.proofs.Accepting.{step_none, step_refuses}
 use Rattle.custody_machine.proofs.Holding.{held_by, hold_refusals, kept_hold_of, lifting_is}
 use Rattle.custody_machine.proofs.Keeping.{Again, asked_again}
-use Rattle.custody_rules.specs.Holds.{new_hold_ruling, used_refusal}
+use Rattle.custody_rules.specs.inside.Holds.{new_hold_ruling, used_refusal}
 
 module _ (records : Records) (reference tld : List ℕ) (day now : ℕ) where
-  pub refuses_unknown : get records.registries tld ≡ None → Decides (Refuses RegistryUnknown) records (machine.Hold reference tld day) now
+  pub refuses_unknown : get records.registries tld ≡ None → Decides (RefuseRuling RegistryUnknown) records (machine.Hold reference tld day) now
   refuses_unknown unknown = (λ e. cc, λ e. cc, λ image. step_refuses (state_in records image) (machine.Hold reference tld day) now RegistryUnknown (by _ _ (ap is_none unknown)))
     where
       by : (a : Bool) (rest : Option Refusal) → a ≡ true → cond a (Some RegistryUnknown) rest ≡ Some RegistryUnknown
@@ -29,12 +29,12 @@ module _ (records : Records) (reference tld : List ℕ) (day now : ℕ) where
     is_out = nat_lt day first || nat_lt (day_of now) day
 
     -- the refusals of a reference that is recorded, or new
-    tests_are : (image : List ℕ) (o : Option Hold) → get records.holds reference ≡ o → first_standing (hold_tests (state_in records image) reference tld day now)
+    tests_are : (image : List ℕ) (o : Option Hold) → get records.holds reference ≡ o → first_refusal (hold_tests (state_in records image) reference tld day now)
         ≡ hold_refusals false (is_none (option_and_then (if_held_day tld day) o) && is_out) (is_some o && is_none (option_and_then (if_held_day tld day) o))
     tests_are image o at = λ i. hold_refusals (is_none (known i)) (is_none (option_and_then (if_held_day tld day) (at i)) && (nat_lt day (unwrap_or (known i) 0) || nat_lt (day_of now) day))
         (is_some (at i) && is_none (option_and_then (if_held_day tld day) (at i)))
 
-    pub repeats_hold : (kept : Hold) → get records.holds reference ≡ Some kept → is_held_day tld day kept ≡ true → Decides (Repeats (OfHold reference kept)) records (machine.Hold reference tld day) now
+    pub repeats_hold : (kept : Hold) → get records.holds reference ≡ Some kept → is_held_day tld day kept ≡ true → Decides (KeptRuling (OfHold reference kept)) records (machine.Hold reference tld day) now
     repeats_hold kept at on = λ image. by (asked_again (state_in records image) (machine.Hold reference tld day) (OfHold reference kept) now refl
         (record { told = kept; kept = kept; found = kept_hold_of (state_in records image) reference tld day kept at on; made = refl; same = inl refl; registry = ap is_none known }) at).0
       where
@@ -42,7 +42,7 @@ module _ (records : Records) (reference tld : List ℕ) (day now : ℕ) where
         by (inl h) = h
         by (inr h) = absurd h.1
 
-    pub refuses_used : (kept : Hold) → get records.holds reference ≡ Some kept → is_held_day tld day kept ≡ false → (b : Bool) → b ≡ is_out → Decides (Refuses (used_refusal b)) records (machine.Hold reference tld day) now
+    pub refuses_used : (kept : Hold) → get records.holds reference ≡ Some kept → is_held_day tld day kept ≡ false → (b : Bool) → b ≡ is_out → Decides (RefuseRuling (used_refusal b)) records (machine.Hold reference tld day) now
     refuses_used kept at off true out = (
       λ e. cc,
       λ e. cc,
@@ -71,20 +71,20 @@ module _ (records : Records) (reference tld : List ℕ) (day now : ℕ) where
 -- ---- a lifting
 
 module _ (records : Records) (reference : List ℕ) (now : ℕ) where
-  pub refuses_no_hold : get records.holds reference ≡ None → Decides (Refuses HoldUnknown) records (Lift reference) now
+  pub refuses_no_hold : get records.holds reference ≡ None → Decides (RefuseRuling HoldUnknown) records (Lift reference) now
   refuses_no_hold none = (λ e. cc, λ e. cc, λ image. step_refuses (state_in records image) (Lift reference) now HoldUnknown (ap (λ (o : Option Hold). cond (is_none o) (Some HoldUnknown) None) none))
 
   module _ (kept : Hold) (at : get records.holds reference ≡ Some kept) where
-    pub repeats_lifting : (moment : ℕ) → kept.lifted ≡ Some moment → Decides (Repeats (OfLifting reference moment)) records (Lift reference) now
+    pub repeats_lifting : (moment : ℕ) → kept.lifted ≡ Some moment → Decides (KeptRuling (OfLifting reference moment)) records (Lift reference) now
     repeats_lifting moment was = λ image. by (asked_again (state_in records image) (Lift reference) (OfLifting reference moment) now refl (moment, lifting_is (state_in records image) reference kept at ∙ was, refl) tt).0
       where
         by : {s : State} → Again s (Lift reference) (OfLifting reference moment) now → step s (Lift reference) now ≡ Accept (record { entry = OfLifting reference moment; is_repeat = true }) s
         by (inl h) = h
         by (inr h) = absurd h.1
 
-    pub makes_lifting : kept.lifted ≡ None → Decides (Makes (LiftsHold reference)) records (Lift reference) now
+    pub makes_lifting : kept.lifted ≡ None → Decides (GoRuling (LiftsHold reference)) records (Lift reference) now
     makes_lifting standing = (
       (refl, kept, at, standing),
       λ image. step_none (state_in records image) (Lift reference) now (ap (λ (o : Option Hold). cond (is_none o) (Some HoldUnknown) None) at)
-          ∙ ap (λ (o : Option ℕ). unless_kept (state_in records image) (option_map (OfLifting reference) o) (lifted (state_in records image) reference now (hold_of (state_in records image) reference))) (lifting_is (state_in records image) reference kept at ∙ standing),
+          ∙ ap (λ (o : Option ℕ). unless_kept (state_in records image) (option_map (OfLifting reference) o) (lift_step (state_in records image) reference now (hold_of (state_in records image) reference))) (lifting_is (state_in records image) reference kept at ∙ standing),
     )

@@ -1,6 +1,6 @@
 -- What the records tell of a part is what the machine decides of it, in their state with any image.
 use Rattle.std.proofs.Common.{◌≡◌, ◌≢◌, ℕ, ◌+◌, ◌-◌, List, length, Option, Some, None, Bool, true, false, not, ◌&&◌, ◌||◌, ◌==◌, nat_lt, cond, refl, sym, ◌∙◌, ap, subst, count_by, is_none, Ok}
-use Rattle.std.specs.Prelude.{option_map, is_some, unwrap_or}
+use Rattle.std.specs.Prelude.{option_map, is_some, unwrap_or, bytes_eq}
 use Rattle.std.specs.List.{list_any}
 use Rattle.std.specs.FinMap.{get}
 use Rattle.std.specs.Option.{option_and_then}
@@ -8,73 +8,74 @@ use Rattle.std.proofs.Math.ListN.{replicate}
 use Rattle.std.proofs.lemmas.List.{length-replicate}
 use Rattle.std.proofs.lemmas.Option.{cond_some}
 use Rattle.schedule.specs.Schedule.{day_of}
-use Rattle.deposit_name.specs.declared.faults.NameError.{NameError}
+use Rattle.desk.specs.Standing.{is_receipt}
+use Rattle.deposit_name.specs.declared.errors.NameError.{NameError}
 use Rattle.deposit_name.specs.Fault.{IsFault}
-use Rattle.deposit_name.specs.Name.{Name}
+use Rattle.deposit_name.specs.Name.{Name, is_same_kind}
+use Rattle.deposit_name.proofs.KindLemmas.{same_kind_decides}
 use Rattle.extent_map.specs.declared.extent.Extent.{Extent}
 use Rattle.vault_volume.specs.Extents.{part_bytes}
 use Rattle.custody_records.specs.declared.parts.Part as typed
 use Rattle.custody_records.specs.Keys.{part_cmp}
 use Rattle.custody_records.specs.Records.{PartRecord, Records, key_of}
-use Rattle.custody_records.specs.Typed.{part_value}
-use Rattle.custody_machine.specs.Names.{is_same_text, read_name}
-use Rattle.custody_machine.specs.SameValues.{is_same_kind}
-use Rattle.custody_machine.specs.State.{State, places, at_place, has_notice}
-use Rattle.custody_machine.specs.Stored.{part_of, content_of, state_in}
+use Rattle.custody_records.specs.TypedRecords.{part_value}
+use Rattle.custody_machine.specs.NameReading.{read_name}
+use Rattle.custody_machine.specs.State.{State, part_numbers, key_with_part, has_notice}
+use Rattle.custody_machine.specs.StoredState.{part_of, content_of, state_in}
 use Rattle.custody_machine.specs.declared.answers.Refusal.{Refusal}
 use Rattle.custody_machine.specs.declared.answers.Refusal.TheVariants.{NameRefused, RegistryUnknown, Size, OtherBytes, DroppedAfterKeeping, VolumeFull}
-use Rattle.custody_machine.specs.Machine.{Register, Receive, OfRegistry, OfPart, Accept, Refuse, first_day_of, of_kind, recorded, part_in, has_other_kind, has_dropped_part, is_receipt, is_failure_of, is_verdict_of, is_held_with_other, holds_other, is_gone, is_dropped, max_part_len, refusal_of, step, is_unregistered, is_out_of_range, is_out_of_size, receive_tests, named_tests, first_standing}
-use Rattle.custody_machine.specs.Rulings.{AddsRegistry, AddsPart, Refuses, Repeats, ByBytes, Makes, Decides, DecidesPart}
+use Rattle.custody_machine.specs.Machine.{Register, Receive, OfRegistry, OfPart, Accept, Refuse, first_day_of, part_of_kind, part_under_name, revision_part, has_other_kind, has_dropped_part, is_failure_of, is_verdict_of, is_held_with_other, has_other_bytes, are_bytes_dropped, is_dropped, max_part_len, refusal_of, step, is_unregistered, is_out_of_range, is_out_of_size, receive_tests, named_tests, first_refusal}
+use Rattle.custody_machine.specs.Rulings.{AddsRegistry, AddsPart, RefuseRuling, KeptRuling, CompareRuling, GoRuling, Decides, DecidesPart}
 use Rattle.custody_machine.proofs.MapValues.{get-map_values}
-use Rattle.custody_machine.proofs.SameValues.{text_decides, kind_decides}
+use Rattle.custody_machine.proofs.SameValues.{text_decides}
 use Rattle.custody_machine.proofs.Composed.{register_repeats, register_adds}
 use Rattle.custody_machine.proofs.Accepting.{none_stand, part_refusals, find_none, find_dropped, step_none, step_refuses, step_refuses_text, rules_part, answered, place_is_empty}
-use Rattle.custody_rules.specs.Judged.{if_of_kind, recorded_under, is_of_other_kind, is_without_bytes, IsRecordedUnder}
+use Rattle.custody_rules.specs.Judging.{if_of_kind, part_under, is_of_other_kind, is_without_bytes, IsRecordedUnder}
 
 -- ---- the records in a state
 
 module _ (records : Records) (image : List ℕ) (name : Name) where
-  pub part_in_state : (place : ℕ) → part_in (state_in records image) name place ≡ option_map (part_of image) (get records.parts (at_place (key_of name) place))
-  part_in_state place = get-map_values part_cmp (part_of image) records.parts (at_place (key_of name) place)
+  pub part_in_state : (place : ℕ) → revision_part (state_in records image) name place ≡ option_map (part_of image) (get records.parts (key_with_part (key_of name) place))
+  part_in_state place = get-map_values part_cmp (part_of image) records.parts (key_with_part (key_of name) place)
 
-  pub recorded_in_state : recorded (state_in records image) name ≡ option_map (part_of image) (recorded_under records name)
-  recorded_in_state = ap (option_and_then (of_kind name.kind)) (get-map_values part_cmp (part_of image) records.parts (key_of name)) ∙ by (get records.parts (key_of name))
+  pub recorded_in_state : part_under_name (state_in records image) name ≡ option_map (part_of image) (part_under records name)
+  recorded_in_state = ap (option_and_then (part_of_kind name.kind)) (get-map_values part_cmp (part_of image) records.parts (key_of name)) ∙ by (get records.parts (key_of name))
     where
       if_same : (b : Bool) (part : PartRecord) → cond b (Some (part_of image part)) None ≡ option_map (part_of image) (cond b (Some part) None)
       if_same true part = refl
       if_same false part = refl
 
-      by : (o : Option PartRecord) → option_and_then (of_kind name.kind) (option_map (part_of image) o) ≡ option_map (part_of image) (option_and_then (if_of_kind name.kind) o)
+      by : (o : Option PartRecord) → option_and_then (part_of_kind name.kind) (option_map (part_of image) o) ≡ option_map (part_of image) (option_and_then (if_of_kind name.kind) o)
       by None = refl
       by (Some part) = if_same (is_same_kind part.kind name.kind) part
 
-  pub new_in_state : recorded_under records name ≡ None → recorded (state_in records image) name ≡ None
+  pub new_in_state : part_under records name ≡ None → part_under_name (state_in records image) name ≡ None
   new_in_state new = recorded_in_state ∙ ap (option_map (part_of image)) new
 
-  other_kind_in_state : (place : ℕ) → has_other_kind name.kind (part_in (state_in records image) name place) ≡ is_of_other_kind name.kind (get records.parts (at_place (key_of name) place))
-  other_kind_in_state place = ap (has_other_kind name.kind) (part_in_state place) ∙ by (get records.parts (at_place (key_of name) place))
+  other_kind_in_state : (place : ℕ) → has_other_kind name.kind (revision_part (state_in records image) name place) ≡ is_of_other_kind name.kind (get records.parts (key_with_part (key_of name) place))
+  other_kind_in_state place = ap (has_other_kind name.kind) (part_in_state place) ∙ by (get records.parts (key_with_part (key_of name) place))
     where
       by : (o : Option PartRecord) → has_other_kind name.kind (option_map (part_of image) o) ≡ is_of_other_kind name.kind o
       by None = refl
       by (Some part) = refl
 
-  pub kinds_in_state : list_any (λ place. has_other_kind name.kind (part_in (state_in records image) name place)) places ≡ list_any (λ place. is_of_other_kind name.kind (get records.parts (at_place (key_of name) place))) places
-  kinds_in_state = λ i. list_any (λ place. other_kind_in_state place i) places
+  pub kinds_in_state : list_any (λ place. has_other_kind name.kind (revision_part (state_in records image) name place)) part_numbers ≡ list_any (λ place. is_of_other_kind name.kind (get records.parts (key_with_part (key_of name) place))) part_numbers
+  kinds_in_state = λ i. list_any (λ place. other_kind_in_state place i) part_numbers
 
-  taken_in_state : (place : ℕ) → is_some (part_in (state_in records image) name place) ≡ is_some (get records.parts (at_place (key_of name) place))
-  taken_in_state place = ap is_some (part_in_state place) ∙ by (get records.parts (at_place (key_of name) place))
+  taken_in_state : (place : ℕ) → is_some (revision_part (state_in records image) name place) ≡ is_some (get records.parts (key_with_part (key_of name) place))
+  taken_in_state place = ap is_some (part_in_state place) ∙ by (get records.parts (key_with_part (key_of name) place))
     where
       by : (o : Option PartRecord) → is_some (option_map (part_of image) o) ≡ is_some o
       by None = refl
       by (Some part) = refl
 
-  pub count_in_state : count_by (λ place. is_some (part_in (state_in records image) name place)) places ≡ count_by (λ place. is_some (get records.parts (at_place (key_of name) place))) places
-  count_in_state = λ i. count_by (λ place. taken_in_state place i) places
+  pub count_in_state : count_by (λ place. is_some (revision_part (state_in records image) name place)) part_numbers ≡ count_by (λ place. is_some (get records.parts (key_with_part (key_of name) place))) part_numbers
+  count_in_state = λ i. count_by (λ place. taken_in_state place i) part_numbers
 
-  pub dropped_in_state : has_dropped_part (state_in records image) name ≡ list_any (λ place. is_without_bytes (get records.parts (at_place (key_of name) place))) places
-  dropped_in_state = λ i. list_any (λ place. each place i) places
+  pub dropped_in_state : has_dropped_part (state_in records image) name ≡ list_any (λ place. is_without_bytes (get records.parts (key_with_part (key_of name) place))) part_numbers
+  dropped_in_state = λ i. list_any (λ place. each place i) part_numbers
     where
-      gone : (len : ℕ) (o : Option (List Extent)) → is_gone (content_of image len o) ≡ is_none o
+      gone : (len : ℕ) (o : Option (List Extent)) → are_bytes_dropped (content_of image len o) ≡ is_none o
       gone len None = refl
       gone len (Some extents) = refl
 
@@ -82,26 +83,26 @@ module _ (records : Records) (image : List ℕ) (name : Name) where
       by None = refl
       by (Some part) = gone part.len part.extents
 
-      each : (place : ℕ) → is_dropped (part_in (state_in records image) name place) ≡ is_without_bytes (get records.parts (at_place (key_of name) place))
-      each place = ap is_dropped (part_in_state place) ∙ by (get records.parts (at_place (key_of name) place))
+      each : (place : ℕ) → is_dropped (revision_part (state_in records image) name place) ≡ is_without_bytes (get records.parts (key_with_part (key_of name) place))
+      each place = ap is_dropped (part_in_state place) ∙ by (get records.parts (key_with_part (key_of name) place))
 
 -- ---- a new name
 
 -- where nothing is recorded under the name, in a registry that is known
-first_of_new : (s : State) (name : Name) (bytes : List ℕ) (now first : ℕ) → first_day_of s name.tld ≡ Some first → recorded s name ≡ None → first_standing (receive_tests s name bytes now)
+first_of_new : (s : State) (name : Name) (bytes : List ℕ) (now first : ℕ) → first_day_of s name.tld ≡ Some first → part_under_name s name ≡ None → first_refusal (receive_tests s name bytes now)
     ≡ part_refusals false (nat_lt name.day first || nat_lt (day_of now) name.day) (length bytes == 0 || nat_lt max_part_len (length bytes)) false false
     (has_notice s.notices name.tld name.day is_receipt || (nat_lt 0 name.rev && not (has_notice s.notices name.tld name.day (is_failure_of (name.rev - 1))))) (has_notice s.notices name.tld name.day (is_verdict_of name.rev))
-    (list_any (λ place. has_other_kind name.kind (part_in s name place)) places) (not (count_by (λ place. is_some (part_in s name place)) places + 1 == name.part))
+    (list_any (λ place. has_other_kind name.kind (revision_part s name place)) part_numbers) (not (count_by (λ place. is_some (revision_part s name place)) part_numbers + 1 == name.part))
 first_of_new s name bytes now first known new = λ i.
-    part_refusals (is_none (known i)) (is_none (new i) && (nat_lt name.day (unwrap_or (known i) 0) || nat_lt (day_of now) name.day)) (length bytes == 0 || nat_lt max_part_len (length bytes)) (holds_other bytes (new i)) (is_dropped (new i))
+    part_refusals (is_none (known i)) (is_none (new i) && (nat_lt name.day (unwrap_or (known i) 0) || nat_lt (day_of now) name.day)) (length bytes == 0 || nat_lt max_part_len (length bytes)) (has_other_bytes bytes (new i)) (is_dropped (new i))
     (is_none (new i) && (has_notice s.notices name.tld name.day is_receipt || (nat_lt 0 name.rev && not (has_notice s.notices name.tld name.day (is_failure_of (name.rev - 1)))))) (is_none (new i) && has_notice s.notices name.tld name.day (is_verdict_of name.rev))
-    (is_none (new i) && list_any (λ place. has_other_kind name.kind (part_in s name place)) places) (is_none (new i) && not (count_by (λ place. is_some (part_in s name place)) places + 1 == name.part))
+    (is_none (new i) && list_any (λ place. has_other_kind name.kind (revision_part s name place)) part_numbers) (is_none (new i) && not (count_by (λ place. is_some (revision_part s name place)) part_numbers + 1 == name.part))
 
 -- the first refusal of a new name, as the records have it
-pub first_in_records : (records : Records) (image : List ℕ) (name : Name) (bytes : List ℕ) (len now first : ℕ) → length bytes ≡ len → get records.registries name.tld ≡ Some first → recorded (state_in records image) name ≡ None
-    → first_standing (receive_tests (state_in records image) name bytes now) ≡ part_refusals false (nat_lt name.day first || nat_lt (day_of now) name.day) (len == 0 || nat_lt max_part_len len) false false
+pub first_in_records : (records : Records) (image : List ℕ) (name : Name) (bytes : List ℕ) (len now first : ℕ) → length bytes ≡ len → get records.registries name.tld ≡ Some first → part_under_name (state_in records image) name ≡ None
+    → first_refusal (receive_tests (state_in records image) name bytes now) ≡ part_refusals false (nat_lt name.day first || nat_lt (day_of now) name.day) (len == 0 || nat_lt max_part_len len) false false
     (has_notice records.notices name.tld name.day is_receipt || (nat_lt 0 name.rev && not (has_notice records.notices name.tld name.day (is_failure_of (name.rev - 1))))) (has_notice records.notices name.tld name.day (is_verdict_of name.rev))
-    (list_any (λ place. is_of_other_kind name.kind (get records.parts (at_place (key_of name) place))) places) (not (count_by (λ place. is_some (get records.parts (at_place (key_of name) place))) places + 1 == name.part))
+    (list_any (λ place. is_of_other_kind name.kind (get records.parts (key_with_part (key_of name) place))) part_numbers) (not (count_by (λ place. is_some (get records.parts (key_with_part (key_of name) place))) part_numbers + 1 == name.part))
 first_in_records records image name bytes len now first sized known new =
     first_of_new (state_in records image) name bytes now first known new
     ∙ (λ i. part_refusals false (nat_lt name.day first || nat_lt (day_of now) name.day) (sized i == 0 || nat_lt max_part_len (sized i)) false false
@@ -110,25 +111,25 @@ first_in_records records image name bytes len now first sized known new =
 
 -- ---- what is decided of a text
 
-pub refuses_text : (records : Records) (text : List ℕ) (len now : ℕ) (fault : NameError) → IsFault text fault → DecidesPart (Refuses (NameRefused fault)) records text len now
+pub refuses_text : (records : Records) (text : List ℕ) (len now : ℕ) (fault : NameError) → IsFault text fault → DecidesPart (RefuseRuling (NameRefused fault)) records text len now
 refuses_text records text len now fault is = λ bytes sized. (λ e. cc, λ e. cc, λ image. step_refuses_text (state_in records image) text bytes now fault is)
 
 module _ (records : Records) (text : List ℕ) (name : Name) (len now : ℕ) (named : read_name text ≡ Ok name) where
-  refusal_is : (image bytes : List ℕ) (o : Option Refusal) → first_standing (receive_tests (state_in records image) name bytes now) ≡ o → refusal_of (state_in records image) (Receive text bytes) now ≡ o
-  refusal_is image bytes o first = ap (λ r. first_standing (named_tests (state_in records image) r bytes now)) named ∙ first
+  refusal_is : (image bytes : List ℕ) (o : Option Refusal) → first_refusal (receive_tests (state_in records image) name bytes now) ≡ o → refusal_of (state_in records image) (Receive text bytes) now ≡ o
+  refusal_is image bytes o first = ap (λ r. first_refusal (named_tests (state_in records image) r bytes now)) named ∙ first
 
   -- a refusal that stands first, whatever the image and the bytes
-  pub refuses : (q : Refusal) → q ≢ OtherBytes → q ≢ VolumeFull → ((image bytes : List ℕ) → length bytes ≡ len → first_standing (receive_tests (state_in records image) name bytes now) ≡ Some q) → DecidesPart (Refuses q) records text len now
+  pub refuses : (q : Refusal) → q ≢ OtherBytes → q ≢ VolumeFull → ((image bytes : List ℕ) → length bytes ≡ len → first_refusal (receive_tests (state_in records image) name bytes now) ≡ Some q) → DecidesPart (RefuseRuling q) records text len now
   refuses q other full first = λ bytes sized. (other, full, λ image. step_refuses (state_in records image) (Receive text bytes) now q (refusal_is image bytes (Some q) (first image bytes sized)))
 
-  pub refuses_registry : get records.registries name.tld ≡ None → DecidesPart (Refuses RegistryUnknown) records text len now
+  pub refuses_registry : get records.registries name.tld ≡ None → DecidesPart (RefuseRuling RegistryUnknown) records text len now
   refuses_registry unknown = refuses RegistryUnknown (λ e. cc) (λ e. cc) (λ image bytes sized. by (is_unregistered (state_in records image) name) _ (ap is_none unknown))
     where
       by : (a : Bool) (rest : Option Refusal) → a ≡ true → cond a (Some RegistryUnknown) rest ≡ Some RegistryUnknown
       by a rest e = ap (λ b. cond b (Some RegistryUnknown) rest) e
 
   -- a new name that no refusal stands for
-  pub goes : recorded_under records name ≡ None → ((image bytes : List ℕ) → length bytes ≡ len → first_standing (receive_tests (state_in records image) name bytes now) ≡ None) → DecidesPart (Makes (AddsPart name)) records text len now
+  pub goes : part_under records name ≡ None → ((image bytes : List ℕ) → length bytes ≡ len → first_refusal (receive_tests (state_in records image) name bytes now) ≡ None) → DecidesPart (GoRuling (AddsPart name)) records text len now
   goes new none = λ bytes sized. (
     (named, empty),
     λ image.
@@ -145,13 +146,13 @@ module _ (records : Records) (text : List ℕ) (name : Name) (len now : ℕ) (na
       empty =
           let image = replicate len 0 in
           let stand = none_stand (state_in records image) name image now (none image image (length-replicate len 0)) in
-          let kinds : list_any (λ place. has_other_kind name.kind (part_in (state_in records image) name place)) places ≡ false = ap (λ o. is_none o && list_any (λ place. has_other_kind name.kind (part_in (state_in records image) name place)) places) (sym (new_in_state records image name new)) ∙ stand.kind in
+          let kinds : list_any (λ place. has_other_kind name.kind (revision_part (state_in records image) name place)) part_numbers ≡ false = ap (λ o. is_none o && list_any (λ place. has_other_kind name.kind (revision_part (state_in records image) name place)) part_numbers) (sym (new_in_state records image name new)) ∙ stand.kind in
           place_of image (get records.parts (key_of name)) (sym (get-map_values part_cmp (part_of image) records.parts (key_of name)) ∙ place_is_empty (state_in records image) text name named (new_in_state records image name new) kinds)
 
 -- ---- what is decided of a name that is recorded
 
 module _ (records : Records) (text : List ℕ) (name : Name) (part : typed.Part) (len now : ℕ) (under : IsRecordedUnder records text name part) where
-  recorded_is : (image : List ℕ) → recorded (state_in records image) name ≡ Some (part_of image (part_value part))
+  recorded_is : (image : List ℕ) → part_under_name (state_in records image) name ≡ Some (part_of image (part_value part))
   recorded_is image = recorded_in_state records image name ∙ ap (option_map (part_of image)) under.recorded
 
   known_is : is_none (get records.registries name.tld) ≡ false
@@ -167,25 +168,25 @@ module _ (records : Records) (text : List ℕ) (name : Name) (part : typed.Part)
   size_is : (b : Bool) → (len == 0 || nat_lt max_part_len len) ≡ b → (image bytes : List ℕ) → length bytes ≡ len → is_out_of_size (length bytes) ≡ b
   size_is b e image bytes sized = ap (λ n. n == 0 || nat_lt max_part_len n) sized ∙ e
 
-  pub refuses_size : (len == 0 || nat_lt max_part_len len) ≡ true → DecidesPart (Refuses Size) records text len now
+  pub refuses_size : (len == 0 || nat_lt max_part_len len) ≡ true → DecidesPart (RefuseRuling Size) records text len now
   refuses_size e = refuses records text name len now under.named Size (λ e. cc) (λ e. cc) (λ image bytes sized. by _ _ _ _ _ _ _ _ _ known_is (in_range image bytes) (size_is true e image bytes sized))
     where
       by : (a b c d e f g h i : Bool) → a ≡ false → b ≡ false → c ≡ true → part_refusals a b c d e f g h i ≡ Some Size
       by a b c d e f g h i p q r = rw (p, q, r) refl
 
   module _ (sized_well : (len == 0 || nat_lt max_part_len len) ≡ false) where
-    pub refuses_dropped : (part_value part).extents ≡ None → DecidesPart (Refuses DroppedAfterKeeping) records text len now
+    pub refuses_dropped : (part_value part).extents ≡ None → DecidesPart (RefuseRuling DroppedAfterKeeping) records text len now
     refuses_dropped none = refuses records text name len now under.named DroppedAfterKeeping (λ e. cc) (λ e. cc) (λ image bytes sized.
         find_dropped (state_in records image) name bytes now known_is (in_range image bytes) (size_is false sized_well image bytes sized)
-        (ap (holds_other bytes) (recorded_is image) ∙ ap (λ o. is_held_with_other bytes (content_of image part.len o)) none)
-        (ap is_dropped (recorded_is image) ∙ ap (λ o. is_gone (content_of image part.len o)) none))
+        (ap (has_other_bytes bytes) (recorded_is image) ∙ ap (λ o. is_held_with_other bytes (content_of image part.len o)) none)
+        (ap is_dropped (recorded_is image) ∙ ap (λ o. are_bytes_dropped (content_of image part.len o)) none))
 
     module _ (extents : List Extent) (held : (part_value part).extents ≡ Some extents) where
-      is_other : (image bytes : List ℕ) (b : Bool) → is_same_text (part_bytes image extents part.len) bytes ≡ b → holds_other bytes (recorded (state_in records image) name) ≡ not b
-      is_other image bytes b e = ap (holds_other bytes) (recorded_is image) ∙ ap (λ o. is_held_with_other bytes (content_of image part.len o)) held ∙ ap not e
+      is_other : (image bytes : List ℕ) (b : Bool) → bytes_eq (part_bytes image extents part.len) bytes ≡ b → has_other_bytes bytes (part_under_name (state_in records image) name) ≡ not b
+      is_other image bytes b e = ap (has_other_bytes bytes) (recorded_is image) ∙ ap (λ o. is_held_with_other bytes (content_of image part.len o)) held ∙ ap not e
 
-      is_kept : (image bytes : List ℕ) → is_dropped (recorded (state_in records image) name) ≡ false
-      is_kept image bytes = ap is_dropped (recorded_is image) ∙ ap (λ o. is_gone (content_of image part.len o)) held
+      is_kept : (image bytes : List ℕ) → is_dropped (part_under_name (state_in records image) name) ≡ false
+      is_kept image bytes = ap is_dropped (recorded_is image) ∙ ap (λ o. are_bytes_dropped (content_of image part.len o)) held
 
       accepts : (image bytes : List ℕ) → length bytes ≡ len → part_bytes image extents part.len ≡ bytes
           → step (state_in records image) (Receive text bytes) now ≡ Accept (record { entry = OfPart (key_of name) (part_of image (part_value part)); is_repeat = true }) (state_in records image)
@@ -200,15 +201,15 @@ module _ (records : Records) (text : List ℕ) (name : Name) (part : typed.Part)
             dropped = is_kept image bytes;
             due = ap (λ o. is_none o && (has_notice s.notices name.tld name.day is_receipt || (nat_lt 0 name.rev && not (has_notice s.notices name.tld name.day (is_failure_of (name.rev - 1)))))) (recorded_is image);
             stated = ap (λ o. is_none o && has_notice s.notices name.tld name.day (is_verdict_of name.rev)) (recorded_is image);
-            kind = ap (λ o. is_none o && list_any (λ place. has_other_kind name.kind (part_in s name place)) places) (recorded_is image);
-            order = ap (λ o. is_none o && not (count_by (λ place. is_some (part_in s name place)) places + 1 == name.part)) (recorded_is image);
+            kind = ap (λ o. is_none o && list_any (λ place. has_other_kind name.kind (revision_part s name place)) part_numbers) (recorded_is image);
+            order = ap (λ o. is_none o && not (count_by (λ place. is_some (revision_part s name place)) part_numbers + 1 == name.part)) (recorded_is image);
           }) in
           step_none s (Receive text bytes) now (refusal_is records text name len now under.named image bytes None none) ∙ rules_part s text bytes now name under.named other (is_kept image bytes) ∙ ap (answered s name bytes now) (recorded_is image)
 
-      differs : (image bytes : List ℕ) → part_bytes image extents part.len ≢ bytes → is_same_text (part_bytes image extents part.len) bytes ≡ false
-      differs image bytes other = by (is_same_text (part_bytes image extents part.len) bytes) refl
+      differs : (image bytes : List ℕ) → part_bytes image extents part.len ≢ bytes → bytes_eq (part_bytes image extents part.len) bytes ≡ false
+      differs image bytes other = by (bytes_eq (part_bytes image extents part.len) bytes) refl
         where
-          by : (b : Bool) → is_same_text (part_bytes image extents part.len) bytes ≡ b → b ≡ false
+          by : (b : Bool) → bytes_eq (part_bytes image extents part.len) bytes ≡ b → b ≡ false
           by true e = absurd (other ((text_decides _ _).0 e))
           by false e = refl
 
@@ -226,7 +227,7 @@ module _ (records : Records) (text : List ℕ) (name : Name) (part : typed.Part)
           by : (o : Option PartRecord) → option_and_then (if_of_kind name.kind) o ≡ Some (part_value part) → (part_value part).kind ≡ name.kind
           by None e = cc
           by (Some found) e = let found_is = cond_some (is_same_kind found.kind name.kind) found (part_value part) e in
-              ap (λ (p : PartRecord). p.kind) (sym found_is.1) ∙ (kind_decides found.kind name.kind).0 found_is.0
+              ap (λ (p : PartRecord). p.kind) (sym found_is.1) ∙ (same_kind_decides found.kind name.kind).0 found_is.0
 
       stands_at : get records.parts (key_of name) ≡ Some (part_value part)
       stands_at = by (get records.parts (key_of name)) under.recorded
@@ -238,16 +239,16 @@ module _ (records : Records) (text : List ℕ) (name : Name) (part : typed.Part)
       named_alike : part.name ≡ name
       named_alike = λ i. record { tld = (under.place i).tld; day = (under.place i).day; kind = of_kind_is i; part = (under.place i).part; rev = (under.place i).rev }
 
-      pub compares : DecidesPart (ByBytes part.name (part_value part) extents) records text len now
-      compares = subst (λ n. DecidesPart (ByBytes n (part_value part) extents) records text len now) (sym named_alike) (λ bytes sized. (
+      pub compares : DecidesPart (CompareRuling part.name (part_value part) extents) records text len now
+      compares = subst (λ n. DecidesPart (CompareRuling n (part_value part) extents) records text len now) (sym named_alike) (λ bytes sized. (
         record { named = under.named; recorded = stands_at; kind = of_kind_is; held = held },
         λ image. (λ same. accepts image bytes sized same, λ other. refuses_other image bytes sized other),
       ))
 
 -- ---- what is decided of a registry
 
-pub registry_repeats : (records : Records) (tld : List ℕ) (first_day now kept : ℕ) → get records.registries tld ≡ Some kept → Decides (Repeats (OfRegistry tld kept)) records (Register tld first_day) now
+pub registry_repeats : (records : Records) (tld : List ℕ) (first_day now kept : ℕ) → get records.registries tld ≡ Some kept → Decides (KeptRuling (OfRegistry tld kept)) records (Register tld first_day) now
 registry_repeats records tld first_day now kept at = λ image. register_repeats (state_in records image) tld first_day now kept at
 
-pub registry_is_new : (records : Records) (tld : List ℕ) (first_day now : ℕ) → get records.registries tld ≡ None → Decides (Makes (AddsRegistry tld first_day)) records (Register tld first_day) now
+pub registry_is_new : (records : Records) (tld : List ℕ) (first_day now : ℕ) → get records.registries tld ≡ None → Decides (GoRuling (AddsRegistry tld first_day)) records (Register tld first_day) now
 registry_is_new records tld first_day now new = ((refl, new), λ image. register_adds records image tld first_day now new)

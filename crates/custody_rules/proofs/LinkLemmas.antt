@@ -10,17 +10,17 @@ use Rattle.custody_records.specs.declared.parts.Part.{Part}
 use Rattle.custody_records.specs.declared.holds.Hold as ordered
 use Rattle.custody_records.specs.declared.releases.Release as given
 use Rattle.custody_records.specs.Keys.{PartKey, NoticeKey, text_cmp, part_cmp, notice_cmp}
-use Rattle.custody_records.specs.Orders.{text_total, text_exact, part_total, part_exact, notice_total, notice_exact}
+use Rattle.custody_records.specs.inside.Orders.{text_total, text_exact, part_total, part_exact, notice_total, notice_exact}
 use Rattle.custody_records.specs.Records.{PartRecord, Notice, Release, Hold, Records}
 use Rattle.custody_records.specs.Tables.{is_rising, table_map}
-use Rattle.custody_records.specs.Typed.{part_place, part_value, notice_key, notice_value, release_key, release_value, hold_key, hold_value}
-use Rattle.custody_machine.specs.Names.{read_name}
-use Rattle.custody_machine.specs.State.{at_place, has_notice}
+use Rattle.custody_records.specs.TypedRecords.{key_of_part, part_value, notice_key, notice_value, release_key, release_value, hold_key, hold_value}
+use Rattle.custody_machine.specs.NameReading.{read_name}
+use Rattle.custody_machine.specs.State.{key_with_part, has_notice}
 use Rattle.custody_machine.specs.Machine.{is_failure_of}
-use Rattle.custody_machine.specs.Stored.{AreLinked, is_part_of, names_part, revision_of}
-use Rattle.custody_rules.specs.declared.told.FailedRevision.{FailedRevision}
-use Rattle.custody_rules.specs.Links.{is_part_linked, has_parts, is_notice_linked, is_release_linked, is_hold_linked, each_passes}
-use Rattle.custody_rules.specs.Told.{HaveNoRivals}
+use Rattle.custody_machine.specs.StoredState.{AreLinked, is_part_of, is_name_of_part, revision_of}
+use Rattle.custody_rules.specs.declared.unique_keys.FailedRevision.{FailedRevision}
+use Rattle.custody_rules.specs.inside.Links.{is_part_linked, has_parts, is_notice_linked, is_release_linked, is_hold_linked, each_passes}
+use Rattle.custody_rules.specs.inside.UniqueKeys.{HaveNoRivals}
 use Rattle.custody_rules.proofs.Rivals.{one_verdict, one_receipt, one_absence}
 use Rattle.custody_rules.proofs.Tables.{each_decides, all_rows}
 
@@ -76,12 +76,12 @@ module _ (records : Records) where
   abbrev PartLinks : PartKey → PartRecord → Type 0
   PartLinks key part =
       (is_some (get records.registries key.tld) ≡ true)
-      × (((n : ℕ) → key.part ≡ suc (suc n) → is_part_of part.kind (get records.parts (at_place key (suc n))) ≡ true)
+      × (((n : ℕ) → key.part ≡ suc (suc n) → is_part_of part.kind (get records.parts (key_with_part key (suc n))) ≡ true)
       × (0 < key.rev → has_notice records.notices key.tld key.day (is_failure_of (key.rev - 1)) ≡ true))
 
   part_decides : (key : PartKey) (part : PartRecord) → Decides (is_part_linked records (has_failed records) key part) (PartLinks key part)
   part_decides key part =
-      Decides-and _ _ (itself _) (Decides-and _ _ (before_decides key.part (λ n. is_part_of part.kind (get records.parts (at_place key n)))) (above_zero_decides key.rev _))
+      Decides-and _ _ (itself _) (Decides-and _ _ (before_decides key.part (λ n. is_part_of part.kind (get records.parts (key_with_part key n)))) (above_zero_decides key.rev _))
 
   -- ---- notices
 
@@ -104,7 +104,7 @@ module _ (records : Records) where
   -- ---- releases
 
   abbrev ReleaseLinks : List ℕ → Release → Type 0
-  ReleaseLinks reference release = (is_some (get records.registries release.tld) ≡ true) × (list_all (λ text. names_part records release.tld (read_name text)) release.names ≡ true)
+  ReleaseLinks reference release = (is_some (get records.registries release.tld) ≡ true) × (list_all (λ text. is_name_of_part records release.tld (read_name text)) release.names ≡ true)
 
   release_decides : (reference : List ℕ) (release : Release) → Decides (is_release_linked records release) (ReleaseLinks reference release)
   release_decides reference release = Decides-and _ _ (itself _) (itself _)
@@ -162,10 +162,10 @@ module _ (records : Records) where
 
   -- ---- the rows in memory
 
-  pub parts_pass : (has : FailedRevision → Bool) → ((t : FailedRevision) → has t ≡ has_failed records t) → (parts : List Part) → records.parts ≡ table_map part_cmp part_place part_value parts → is_rising part_cmp part_place parts ≡ true
-      → list_all (λ (p : Part). is_part_linked records has (part_place p) (part_value p)) parts ≡ parts_test
+  pub parts_pass : (has : FailedRevision → Bool) → ((t : FailedRevision) → has t ≡ has_failed records t) → (parts : List Part) → records.parts ≡ table_map part_cmp key_of_part part_value parts → is_rising part_cmp key_of_part parts ≡ true
+      → list_all (λ (p : Part). is_part_linked records has (key_of_part p) (part_value p)) parts ≡ parts_test
   parts_pass has same parts are_parts parts_rise =
-      all_rows part_cmp part_place part_value parts records.parts are_parts parts_rise (λ (e : PartKey × PartRecord). is_part_linked records has e.0 e.1)
+      all_rows part_cmp key_of_part part_value parts records.parts are_parts parts_rise (λ (e : PartKey × PartRecord). is_part_linked records has e.0 e.1)
       ∙ (λ i. each_passes (is_part_linked records (λ t. same t i)) records.parts)
 
   pub releases_pass : (releases : List given.Release) → records.releases ≡ table_map text_cmp release_key release_value releases → is_rising text_cmp release_key releases ≡ true

@@ -1,6 +1,6 @@
 -- The latest of the deposits that passed, and what notices of a registry tell of them.
 use Rattle.std.proofs.Common.{get_or, subst, ◌+◌, ◌≡◌, ℕ, ◌<◌, ◌≤◌, List, [], ◌∷◌, ◌++◌, map, take, Option, Some, None, Bool, true, false, ◌&&◌, refl, sym, ◌∙◌, ap, cond, nat_lt, length, arith}
-use Rattle.std.specs.Prelude.{is_some, nat_le, option_map}
+use Rattle.std.specs.Prelude.{is_some, nat_le, option_map, bytes_eq}
 use Rattle.std.specs.List.{filter, filter_map, cons_option, find, list_all}
 use Rattle.std.specs.FinMap.{entries, get}
 use Rattle.std.specs.Option.{option_and_then}
@@ -8,7 +8,7 @@ use Rattle.std.specs.Ordering.{is_eq}
 use Rattle.std.proofs.lemmas.Bool.Decides.{nat_tests}
 use Rattle.std.proofs.lemmas.List.{take_more, take_all}
 use Rattle.deposit_name.specs.declared.kinds.Kind.TheVariants.{Full}
-use Rattle.deposit_name.specs.Name.{Name}
+use Rattle.deposit_name.specs.Name.{Name, is_same_kind}
 use Rattle.deposit_verify.specs.declared.base.Base.{Base}
 use Rattle.deposit_verify.specs.Known.{Known}
 use Rattle.custody_machine.specs.declared.command.Statement as stated
@@ -19,15 +19,13 @@ use Rattle.desk.specs.declared.notices.NoticeKind.{NoticeKind}
 use Rattle.desk.specs.declared.notices.NoticeKind.TheVariants.{Receipt, Failure, Absence}
 use Rattle.custody_records.specs.Keys.{NoticeKey, text_cmp}
 use Rattle.custody_records.specs.Records.{Notice, PartRecord, Records, key_of, notices_of}
-use Rattle.custody_records.specs.Tables.{entries_of}
-use Rattle.custody_records.specs.Typed.{notice_entry, notice_key, notice_value}
+use Rattle.custody_records.specs.Tables.{row_entries}
+use Rattle.custody_records.specs.TypedRecords.{notice_entry, notice_key, notice_value}
 use Rattle.custody_records.proofs.GroupLemmas.{filter_entries, filter_swap}
-use Rattle.custody_machine.specs.Names.{is_same_text}
-use Rattle.custody_machine.specs.SameValues.{is_same_kind}
-use Rattle.custody_machine.specs.Machine.{first_part, full_of, is_full_revision, is_receipt_of_full, known_of, latest_of, passed_id, passed_in, passed_of, tells_full}
-use Rattle.custody_machine.specs.Stored.{is_part_of, part_of, state_in}
-use Rattle.custody_rules.specs.Judged.{if_of_kind}
-use Rattle.custody_rules.specs.Passed.{is_receipt_of_full_in, later_pair, passed_row, passed_rows, tells_full_in}
+use Rattle.custody_machine.specs.Machine.{first_part, passed_full_deposits, is_full_revision, is_receipt_of_full, known_of, latest_id, passed_id, passed_deposit, passed_deposits, is_receipt_entry_of_full}
+use Rattle.custody_machine.specs.StoredState.{is_part_of, part_of, state_in}
+use Rattle.custody_rules.specs.Judging.{if_of_kind}
+use Rattle.custody_rules.specs.inside.PassedDeposits.{is_receipt_of_full_in, later_pair, passed_deposit_of, passed_deposits_of, tells_full_in}
 use Rattle.custody_rules.proofs.Judged.{recorded_in_state}
 
 -- ---- the latest
@@ -106,8 +104,8 @@ best_found all best h = ap (find (is_latest all)) h.split ∙ search_in h.before
         by true t e rest = ap (λ b. cond b (Some x) (find (is_latest all) (xs ++ best ∷ h.behind))) (off x t) ∙ rest e
         by false t e rest = cc
 
-pub latest_is : (all : List (ℕ × List ℕ)) (latest : Option (ℕ × List ℕ)) → IsLatest all latest → option_map (λ (one : ℕ × List ℕ). one.1) latest ≡ latest_of all
-latest_is all None h = ap latest_of (sym h)
+pub latest_is : (all : List (ℕ × List ℕ)) (latest : Option (ℕ × List ℕ)) → IsLatest all latest → option_map (λ (one : ℕ × List ℕ). one.1) latest ≡ latest_id all
+latest_is all None h = ap latest_id (sym h)
 latest_is all (Some best) h = ap (option_map (λ (one : ℕ × List ℕ). one.1)) (sym (best_found all best h))
 
 -- one more
@@ -142,31 +140,31 @@ later_is all (Some best) next h = by (nat_le next.0 best.0) refl
 -- ---- rows
 
 -- one row more
-pub rows_more : (rows : List desk.Notice) (n : desk.Notice) → passed_rows (rows ++ n ∷ []) ≡ passed_rows rows ++ cons_option (passed_row n) []
-rows_more rows n = filter_map-append passed_row rows (n ∷ [])
+pub rows_more : (rows : List desk.Notice) (n : desk.Notice) → passed_deposits_of (rows ++ n ∷ []) ≡ passed_deposits_of rows ++ cons_option (passed_deposit_of n) []
+rows_more rows n = filter_map-append passed_deposit_of rows (n ∷ [])
 
 -- what an entry tells, of any registry
-abbrev told_by : NoticeKey × Notice → Option (ℕ × List ℕ)
-told_by e = option_map (λ (id : List ℕ). (e.1.day, id)) (passed_id e.1.kind)
+abbrev unique_key_of : NoticeKey × Notice → Option (ℕ × List ℕ)
+unique_key_of e = option_map (λ (id : List ℕ). (e.1.day, id)) (passed_id e.1.kind)
 
-rows_as_entries : (rows : List desk.Notice) → passed_rows rows ≡ filter_map told_by (entries_of notice_key notice_value rows)
+rows_as_entries : (rows : List desk.Notice) → passed_deposits_of rows ≡ filter_map unique_key_of (row_entries notice_key notice_value rows)
 rows_as_entries [] = refl
-rows_as_entries (n ∷ rows) = ap (cons_option (passed_row n)) (rows_as_entries rows)
+rows_as_entries (n ∷ rows) = ap (cons_option (passed_deposit_of n)) (rows_as_entries rows)
 
-of_registry : (tld : List ℕ) (es : List (NoticeKey × Notice)) → filter_map told_by (filter (λ (e : NoticeKey × Notice). is_eq (text_cmp e.0.tld tld)) es) ≡ filter_map (passed_in tld) es
+of_registry : (tld : List ℕ) (es : List (NoticeKey × Notice)) → filter_map unique_key_of (filter (λ (e : NoticeKey × Notice). is_eq (text_cmp e.0.tld tld)) es) ≡ filter_map (passed_deposit tld) es
 of_registry tld [] = refl
-of_registry tld (e ∷ es) = ap (λ b. filter_map told_by (cond b (e ∷ filter (λ (e : NoticeKey × Notice). is_eq (text_cmp e.0.tld tld)) es) (filter (λ (e : NoticeKey × Notice). is_eq (text_cmp e.0.tld tld)) es))) (is_eq-slice_cmp e.0.tld tld)
-    ∙ by (is_same_text e.0.tld tld) (of_registry tld es)
+of_registry tld (e ∷ es) = ap (λ b. filter_map unique_key_of (cond b (e ∷ filter (λ (e : NoticeKey × Notice). is_eq (text_cmp e.0.tld tld)) es) (filter (λ (e : NoticeKey × Notice). is_eq (text_cmp e.0.tld tld)) es))) (is_eq-slice_cmp e.0.tld tld)
+    ∙ by (bytes_eq e.0.tld tld) (of_registry tld es)
   where
-    by : (b : Bool) → filter_map told_by (filter (λ (e : NoticeKey × Notice). is_eq (text_cmp e.0.tld tld)) es) ≡ filter_map (passed_in tld) es
-        → filter_map told_by (cond b (e ∷ filter (λ (e : NoticeKey × Notice). is_eq (text_cmp e.0.tld tld)) es) (filter (λ (e : NoticeKey × Notice). is_eq (text_cmp e.0.tld tld)) es))
-        ≡ cons_option (cond b (told_by e) None) (filter_map (passed_in tld) es)
-    by true rest = ap (cons_option (told_by e)) rest
+    by : (b : Bool) → filter_map unique_key_of (filter (λ (e : NoticeKey × Notice). is_eq (text_cmp e.0.tld tld)) es) ≡ filter_map (passed_deposit tld) es
+        → filter_map unique_key_of (cond b (e ∷ filter (λ (e : NoticeKey × Notice). is_eq (text_cmp e.0.tld tld)) es) (filter (λ (e : NoticeKey × Notice). is_eq (text_cmp e.0.tld tld)) es))
+        ≡ cons_option (cond b (unique_key_of e) None) (filter_map (passed_deposit tld) es)
+    by true rest = ap (cons_option (unique_key_of e)) rest
     by false rest = rest
 
 -- the rows of a registry's notices tell what its notices do
-pub rows_of_registry : (records : Records) (tld : List ℕ) (rows : List desk.Notice) → entries_of notice_key notice_value rows ≡ notices_of records tld → passed_rows rows ≡ passed_of records.notices tld
-rows_of_registry records tld rows is = rows_as_entries rows ∙ ap (filter_map told_by) is ∙ of_registry tld (entries records.notices)
+pub rows_of_registry : (records : Records) (tld : List ℕ) (rows : List desk.Notice) → row_entries notice_key notice_value rows ≡ notices_of records tld → passed_deposits_of rows ≡ passed_deposits records.notices tld
+rows_of_registry records tld rows is = rows_as_entries rows ∙ ap (filter_map unique_key_of) is ∙ of_registry tld (entries records.notices)
 
 -- ---- rows of full deposits
 
@@ -192,59 +190,59 @@ module _ (records : Records) (image : List ℕ) where
   receipt_in_state tld day Absence = refl
 
   -- the rows of full deposits tell what the state does
-  pub full_of_registry : (tld : List ℕ) (rows : List desk.Notice) → entries_of notice_key notice_value rows ≡ notices_of records tld → passed_rows (filter (tells_full_in records) rows) ≡ full_of (state_in records image) tld
+  pub full_of_registry : (tld : List ℕ) (rows : List desk.Notice) → row_entries notice_key notice_value rows ≡ notices_of records tld → passed_deposits_of (filter (tells_full_in records) rows) ≡ passed_full_deposits (state_in records image) tld
   full_of_registry tld rows is =
-      (λ i. passed_rows (filter (λ n. receipt_in_state n.tld n.day n.kind i) rows)) ∙ rows_as_entries (filter (λ n. tells_full (state_in records image) (notice_entry n)) rows)
-      ∙ ap (filter_map told_by) (sym (filter_entries notice_key notice_value (tells_full (state_in records image)) rows) ∙ ap (filter (tells_full (state_in records image))) is
-      ∙ filter_swap (tells_full (state_in records image)) (λ (e : NoticeKey × Notice). is_eq (text_cmp e.0.tld tld)) (entries records.notices)) ∙ of_registry tld (filter (tells_full (state_in records image)) (entries records.notices))
+      (λ i. passed_deposits_of (filter (λ n. receipt_in_state n.tld n.day n.kind i) rows)) ∙ rows_as_entries (filter (λ n. is_receipt_entry_of_full (state_in records image) (notice_entry n)) rows)
+      ∙ ap (filter_map unique_key_of) (sym (filter_entries notice_key notice_value (is_receipt_entry_of_full (state_in records image)) rows) ∙ ap (filter (is_receipt_entry_of_full (state_in records image))) is
+      ∙ filter_swap (is_receipt_entry_of_full (state_in records image)) (λ (e : NoticeKey × Notice). is_eq (text_cmp e.0.tld tld)) (entries records.notices)) ∙ of_registry tld (filter (is_receipt_entry_of_full (state_in records image)) (entries records.notices))
 
 -- ---- a loop over the rows
 
 -- the rows up to the next one, and what they tell
-pub rows_up_to : (rows : List desk.Notice) (i : ℕ) (n : desk.Notice) → i < length rows → get_or rows i n ≡ n → passed_rows (take (i + 1) rows) ≡ passed_rows (take i rows) ++ cons_option (passed_row n) []
-rows_up_to rows i n lt at = ap passed_rows (take_more rows i n lt ∙ ap (λ m. take i rows ++ m ∷ []) at) ∙ rows_more (take i rows) n
+pub rows_up_to : (rows : List desk.Notice) (i : ℕ) (n : desk.Notice) → i < length rows → get_or rows i n ≡ n → passed_deposits_of (take (i + 1) rows) ≡ passed_deposits_of (take i rows) ++ cons_option (passed_deposit_of n) []
+rows_up_to rows i n lt at = ap passed_deposits_of (take_more rows i n lt ∙ ap (λ m. take i rows ++ m ∷ []) at) ∙ rows_more (take i rows) n
 
-pub latest_more : (rows : List desk.Notice) (i : ℕ) (n : desk.Notice) (latest next : Option (ℕ × List ℕ)) → i < length rows → get_or rows i n ≡ n → IsLatest (passed_rows (take i rows)) latest
-    → ((pair : ℕ × List ℕ) → passed_row n ≡ Some pair → next ≡ Some (later_pair latest pair)) → (passed_row n ≡ None → next ≡ latest) → IsLatest (passed_rows (take (i + 1) rows)) next
-latest_more rows i n latest next lt at so_far told nothing = by (passed_row n) refl (rows_up_to rows i n lt at)
+pub latest_more : (rows : List desk.Notice) (i : ℕ) (n : desk.Notice) (latest next : Option (ℕ × List ℕ)) → i < length rows → get_or rows i n ≡ n → IsLatest (passed_deposits_of (take i rows)) latest
+    → ((pair : ℕ × List ℕ) → passed_deposit_of n ≡ Some pair → next ≡ Some (later_pair latest pair)) → (passed_deposit_of n ≡ None → next ≡ latest) → IsLatest (passed_deposits_of (take (i + 1) rows)) next
+latest_more rows i n latest next lt at so_far told nothing = by (passed_deposit_of n) refl (rows_up_to rows i n lt at)
   where
-    by : (o : Option (ℕ × List ℕ)) → passed_row n ≡ o → passed_rows (take (i + 1) rows) ≡ passed_rows (take i rows) ++ cons_option o [] → IsLatest (passed_rows (take (i + 1) rows)) next
-    by None is rest = subst (λ (z : List (ℕ × List ℕ)). IsLatest z next) (sym (rest ∙ nothing_more (passed_rows (take i rows)))) (subst (IsLatest (passed_rows (take i rows))) (sym (nothing is)) so_far)
+    by : (o : Option (ℕ × List ℕ)) → passed_deposit_of n ≡ o → passed_deposits_of (take (i + 1) rows) ≡ passed_deposits_of (take i rows) ++ cons_option o [] → IsLatest (passed_deposits_of (take (i + 1) rows)) next
+    by None is rest = subst (λ (z : List (ℕ × List ℕ)). IsLatest z next) (sym (rest ∙ nothing_more (passed_deposits_of (take i rows)))) (subst (IsLatest (passed_deposits_of (take i rows))) (sym (nothing is)) so_far)
       where
         nothing_more : (xs : List (ℕ × List ℕ)) → xs ++ [] ≡ xs
         nothing_more [] = refl
         nothing_more (x ∷ xs) = ap (λ l. x ∷ l) (nothing_more xs)
-    by (Some pair) is rest = subst (λ (z : List (ℕ × List ℕ)). IsLatest z next) (sym rest) (subst (IsLatest (passed_rows (take i rows) ++ pair ∷ [])) (sym (told pair is)) (later_is (passed_rows (take i rows)) latest pair so_far))
+    by (Some pair) is rest = subst (λ (z : List (ℕ × List ℕ)). IsLatest z next) (sym rest) (subst (IsLatest (passed_deposits_of (take i rows) ++ pair ∷ [])) (sym (told pair is)) (later_is (passed_deposits_of (take i rows)) latest pair so_far))
 
-pub ids_more : (rows : List desk.Notice) (i : ℕ) (n : desk.Notice) (ids next : List (List ℕ)) → i < length rows → get_or rows i n ≡ n → ids ≡ map (λ (one : ℕ × List ℕ). one.1) (passed_rows (take i rows))
-    → ((pair : ℕ × List ℕ) → passed_row n ≡ Some pair → next ≡ ids ++ pair.1 ∷ []) → (passed_row n ≡ None → next ≡ ids) → next ≡ map (λ (one : ℕ × List ℕ). one.1) (passed_rows (take (i + 1) rows))
-ids_more rows i n ids next lt at so_far told nothing = by (passed_row n) refl ∙ ap (map (λ (one : ℕ × List ℕ). one.1)) (sym (rows_up_to rows i n lt at))
+pub ids_more : (rows : List desk.Notice) (i : ℕ) (n : desk.Notice) (ids next : List (List ℕ)) → i < length rows → get_or rows i n ≡ n → ids ≡ map (λ (one : ℕ × List ℕ). one.1) (passed_deposits_of (take i rows))
+    → ((pair : ℕ × List ℕ) → passed_deposit_of n ≡ Some pair → next ≡ ids ++ pair.1 ∷ []) → (passed_deposit_of n ≡ None → next ≡ ids) → next ≡ map (λ (one : ℕ × List ℕ). one.1) (passed_deposits_of (take (i + 1) rows))
+ids_more rows i n ids next lt at so_far told nothing = by (passed_deposit_of n) refl ∙ ap (map (λ (one : ℕ × List ℕ). one.1)) (sym (rows_up_to rows i n lt at))
   where
     map_more : (xs ys : List (ℕ × List ℕ)) → map (λ (one : ℕ × List ℕ). one.1) xs ++ map (λ (one : ℕ × List ℕ). one.1) ys ≡ map (λ (one : ℕ × List ℕ). one.1) (xs ++ ys)
     map_more [] ys = refl
     map_more (x ∷ xs) ys = ap (λ l. x.1 ∷ l) (map_more xs ys)
 
-    by : (o : Option (ℕ × List ℕ)) → passed_row n ≡ o → next ≡ map (λ (one : ℕ × List ℕ). one.1) (passed_rows (take i rows) ++ cons_option (passed_row n) [])
-    by None is = nothing is ∙ so_far ∙ none_more (passed_rows (take i rows)) ∙ ap (λ o. map (λ (one : ℕ × List ℕ). one.1) (passed_rows (take i rows) ++ cons_option o [])) (sym is)
+    by : (o : Option (ℕ × List ℕ)) → passed_deposit_of n ≡ o → next ≡ map (λ (one : ℕ × List ℕ). one.1) (passed_deposits_of (take i rows) ++ cons_option (passed_deposit_of n) [])
+    by None is = nothing is ∙ so_far ∙ none_more (passed_deposits_of (take i rows)) ∙ ap (λ o. map (λ (one : ℕ × List ℕ). one.1) (passed_deposits_of (take i rows) ++ cons_option o [])) (sym is)
       where
         none_more : (xs : List (ℕ × List ℕ)) → map (λ (one : ℕ × List ℕ). one.1) xs ≡ map (λ (one : ℕ × List ℕ). one.1) (xs ++ [])
         none_more [] = refl
         none_more (x ∷ xs) = ap (λ l. x.1 ∷ l) (none_more xs)
-    by (Some pair) is = told pair is ∙ ap (λ l. l ++ pair.1 ∷ []) so_far ∙ map_more (passed_rows (take i rows)) (pair ∷ []) ∙ ap (λ o. map (λ (one : ℕ × List ℕ). one.1) (passed_rows (take i rows) ++ cons_option o [])) (sym is)
+    by (Some pair) is = told pair is ∙ ap (λ l. l ++ pair.1 ∷ []) so_far ∙ map_more (passed_deposits_of (take i rows)) (pair ∷ []) ∙ ap (λ o. map (λ (one : ℕ × List ℕ). one.1) (passed_deposits_of (take i rows) ++ cons_option o [])) (sym is)
 
-pub latest_at_end : (rows : List desk.Notice) (i : ℕ) (latest : Option (ℕ × List ℕ)) → length rows ≤ i → IsLatest (passed_rows (take i rows)) latest → option_map (λ (one : ℕ × List ℕ). one.1) latest ≡ latest_of (passed_rows rows)
-latest_at_end rows i latest end h = latest_is (passed_rows rows) latest (subst (λ l. IsLatest (passed_rows l) latest) (take_all i rows end) h)
+pub latest_at_end : (rows : List desk.Notice) (i : ℕ) (latest : Option (ℕ × List ℕ)) → length rows ≤ i → IsLatest (passed_deposits_of (take i rows)) latest → option_map (λ (one : ℕ × List ℕ). one.1) latest ≡ latest_id (passed_deposits_of rows)
+latest_at_end rows i latest end h = latest_is (passed_deposits_of rows) latest (subst (λ l. IsLatest (passed_deposits_of l) latest) (take_all i rows end) h)
 
 -- what is known of a stated deposit, put together
 pub known_is : (st : stated.Statement) (records : Records) (image : List ℕ) (base : Option Base) (name : Name) (rows full_rows : List desk.Notice) (latest full : Option (List ℕ)) (ids : List (List ℕ)) → name ≡ first_part st
-    → entries_of notice_key notice_value rows ≡ notices_of records st.tld → full_rows ≡ filter (tells_full_in records) rows → latest ≡ latest_of (passed_rows rows) → full ≡ latest_of (passed_rows full_rows)
-    → ids ≡ map (λ (one : ℕ × List ℕ). one.1) (passed_rows rows)
+    → row_entries notice_key notice_value rows ≡ notices_of records st.tld → full_rows ≡ filter (tells_full_in records) rows → latest ≡ latest_id (passed_deposits_of rows) → full ≡ latest_id (passed_deposits_of full_rows)
+    → ids ≡ map (λ (one : ℕ × List ℕ). one.1) (passed_deposits_of rows)
     → ◌≡◌ {A = Known} (record { name = name; id = st.id; latest = latest; full = full; passed = ids; base = base }) (record (known_of (state_in records image) st) { base = base })
 known_is st records image base name rows full_rows latest full ids named is among late latest_full all = λ i. record {
   name = named i;
   id = st.id;
-  latest = (late ∙ ap latest_of (rows_of_registry records st.tld rows is)) i;
-  full = (latest_full ∙ ap (λ l. latest_of (passed_rows l)) among ∙ ap latest_of (full_of_registry records image st.tld rows is)) i;
+  latest = (late ∙ ap latest_id (rows_of_registry records st.tld rows is)) i;
+  full = (latest_full ∙ ap (λ l. latest_id (passed_deposits_of l)) among ∙ ap latest_id (full_of_registry records image st.tld rows is)) i;
   passed = (all ∙ ap (map (λ (one : ℕ × List ℕ). one.1)) (rows_of_registry records st.tld rows is)) i;
   base = base;
 }

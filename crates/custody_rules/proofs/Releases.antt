@@ -1,6 +1,6 @@
 -- What the records tell of a release is what the machine decides of it, in their state with any image; and what it lists.
 use Rattle.std.proofs.Common.{◌≡◌, inl, inr, ℕ, Vec, Global, List, [], ◌∷◌, ◌++◌, Option, Some, None, Bool, true, false, not, ◌&&◌, cond, refl, sym, ◌∙◌, ap, subst, is_none, is_some, map, take, get_or, length, ◌<◌, ◌+◌}
-use Rattle.std.specs.Prelude.{option_map}
+use Rattle.std.specs.Prelude.{option_map, bytes_eq}
 use Rattle.std.specs.List.{cons_option, filter, filter_map, list_all}
 use Rattle.std.specs.FinMap.{entries, get}
 use Rattle.std.specs.Ordering.{is_eq}
@@ -9,37 +9,36 @@ use Rattle.std.proofs.lemmas.Bool.{and_parts, and_from}
 use Rattle.std.proofs.lemmas.List.{take_more}
 use Rattle.std.proofs.lemmas.Map.Text.{is_eq-slice_cmp}
 use Rattle.deposit_name.specs.Name.{IsName, name_text}
+use Rattle.deposit_name.proofs.KindLemmas.{same_kind_decides}
 use Rattle.extent_map.specs.declared.extent.Extent.{Extent}
 use Rattle.desk.specs.Standing.{ground_stands}
 use Rattle.desk.specs.declared.grounds.Ground.{Ground}
 use Rattle.desk.specs.declared.notices.Notice as desk
 use Rattle.custody_records.specs.declared.parts.Part.{Part}
 use Rattle.custody_records.specs.Keys.{NoticeKey, PartKey, part_cmp, text_cmp}
-use Rattle.custody_records.specs.Orders.{part_total, part_exact}
+use Rattle.custody_records.specs.inside.Orders.{part_total, part_exact}
 use Rattle.custody_records.specs.Records as recorded_in
 use Rattle.custody_records.specs.Records.{Notice, PartRecord, Records, notices_of, parts_of}
-use Rattle.custody_records.specs.Tables.{entries_of}
-use Rattle.custody_records.specs.Typed.{notice_key, notice_value, part_place, part_value}
-use Rattle.custody_machine.specs.Names.{is_same_text}
+use Rattle.custody_records.specs.Tables.{row_entries}
+use Rattle.custody_records.specs.TypedRecords.{notice_key, notice_value, key_of_part, part_value}
 use Rattle.custody_machine.specs.State.{State}
-use Rattle.custody_machine.specs.Stored.{is_part_of, names_part, state_in}
+use Rattle.custody_machine.specs.StoredState.{is_part_of, is_name_of_part, state_in}
 use Rattle.custody_machine.specs.declared.answers.Refusal.{Refusal}
 use Rattle.custody_machine.specs.declared.answers.Refusal.TheVariants.{RegistryUnknown, GroundDoesNotStand, ReferenceUsed}
-use Rattle.custody_machine.specs.Machine.{Release, OfRelease, Accept, first_standing, is_on, release_tests, step, told_notice, told_to}
-use Rattle.custody_machine.specs.Releases.{AreRecorded, held_name, held_names}
-use Rattle.custody_machine.specs.Rulings.{AddsRelease, Refuses, Repeats, Makes, Decides}
+use Rattle.custody_machine.specs.Machine.{Release, OfRelease, Accept, first_refusal, is_on_ground, release_tests, step, told_notice, notices_told_to}
+use Rattle.custody_machine.specs.Releases.{AreRecordedNames, held_record_name, held_record_names}
+use Rattle.custody_machine.specs.Rulings.{AddsRelease, RefuseRuling, KeptRuling, GoRuling, Decides}
 use Rattle.custody_machine.proofs.Accepting.{read_of, step_none, step_refuses}
 use Rattle.custody_machine.proofs.Keeping.{Again, asked_again}
 use Rattle.custody_machine.proofs.Released.{kept_release_of, release_refusals, released_by}
-use Rattle.custody_machine.proofs.SameValues.{kind_decides}
-use Rattle.custody_rules.specs.Links.{each_passes}
-use Rattle.custody_rules.specs.Releases.{AreInForm, name_held, names_held}
+use Rattle.custody_rules.specs.inside.Links.{each_passes}
+use Rattle.custody_rules.specs.inside.Releases.{AreInForm, held_part_name, held_part_names}
 use Rattle.custody_rules.proofs.Tables.{all_entries, each_decides}
 
 -- ---- how it is judged
 
 module _ (records : Records) (reference tld : List ℕ) (reason : Ground) (now : ℕ) where
-  pub refuses_unknown : get records.registries tld ≡ None → Decides (Refuses RegistryUnknown) records (Release reference tld reason) now
+  pub refuses_unknown : get records.registries tld ≡ None → Decides (RefuseRuling RegistryUnknown) records (Release reference tld reason) now
   refuses_unknown unknown = (λ e. cc, λ e. cc, λ image. step_refuses (state_in records image) (Release reference tld reason) now RegistryUnknown (by _ _ (ap is_none unknown)))
     where
       by : (a : Bool) (rest : Option Refusal) → a ≡ true → cond a (Some RegistryUnknown) rest ≡ Some RegistryUnknown
@@ -47,12 +46,12 @@ module _ (records : Records) (reference tld : List ℕ) (reason : Ground) (now :
 
   module _ (first : ℕ) (known : get records.registries tld ≡ Some first) where
     -- the refusals of a reference that is recorded, or new
-    tests_are : (image : List ℕ) (o : Option recorded_in.Release) → get records.releases reference ≡ o → first_standing (release_tests (state_in records image) reference tld reason now)
-        ≡ release_refusals false (is_none o && not (ground_stands reason (told_to records.notices tld) now)) (is_some o && is_none (option_and_then (λ (release : recorded_in.Release). cond (is_on tld reason release) (Some release) None) o))
-    tests_are image o at = λ i. release_refusals (is_none (known i)) (is_none (at i) && not (ground_stands reason (told_to records.notices tld) now))
-        (is_some (at i) && is_none (option_and_then (λ (release : recorded_in.Release). cond (is_on tld reason release) (Some release) None) (at i)))
+    tests_are : (image : List ℕ) (o : Option recorded_in.Release) → get records.releases reference ≡ o → first_refusal (release_tests (state_in records image) reference tld reason now)
+        ≡ release_refusals false (is_none o && not (ground_stands reason (notices_told_to records.notices tld) now)) (is_some o && is_none (option_and_then (λ (release : recorded_in.Release). cond (is_on_ground tld reason release) (Some release) None) o))
+    tests_are image o at = λ i. release_refusals (is_none (known i)) (is_none (at i) && not (ground_stands reason (notices_told_to records.notices tld) now))
+        (is_some (at i) && is_none (option_and_then (λ (release : recorded_in.Release). cond (is_on_ground tld reason release) (Some release) None) (at i)))
 
-    pub repeats_release : (kept : recorded_in.Release) → get records.releases reference ≡ Some kept → is_on tld reason kept ≡ true → Decides (Repeats (OfRelease reference kept)) records (Release reference tld reason) now
+    pub repeats_release : (kept : recorded_in.Release) → get records.releases reference ≡ Some kept → is_on_ground tld reason kept ≡ true → Decides (KeptRuling (OfRelease reference kept)) records (Release reference tld reason) now
     repeats_release kept at on = λ image. by (asked_again (state_in records image) (Release reference tld reason) (OfRelease reference kept) now refl
         (record { kept = kept; found = kept_release_of (state_in records image) reference tld reason kept at on; made = refl; registry = ap is_none known }) tt).0
       where
@@ -60,7 +59,7 @@ module _ (records : Records) (reference tld : List ℕ) (reason : Ground) (now :
         by (inl h) = h
         by (inr h) = absurd h.1
 
-    pub refuses_used : (kept : recorded_in.Release) → get records.releases reference ≡ Some kept → is_on tld reason kept ≡ false → Decides (Refuses ReferenceUsed) records (Release reference tld reason) now
+    pub refuses_used : (kept : recorded_in.Release) → get records.releases reference ≡ Some kept → is_on_ground tld reason kept ≡ false → Decides (RefuseRuling ReferenceUsed) records (Release reference tld reason) now
     refuses_used kept at off = (
       λ e. cc,
       λ e. cc,
@@ -68,7 +67,7 @@ module _ (records : Records) (reference tld : List ℕ) (reason : Ground) (now :
           (tests_are image (Some kept) at ∙ ap (λ b. release_refusals false false (is_none (cond b (Some kept) None))) off),
     )
 
-    pub refuses_ground : get records.releases reference ≡ None → ground_stands reason (told_to records.notices tld) now ≡ false → Decides (Refuses GroundDoesNotStand) records (Release reference tld reason) now
+    pub refuses_ground : get records.releases reference ≡ None → ground_stands reason (notices_told_to records.notices tld) now ≡ false → Decides (RefuseRuling GroundDoesNotStand) records (Release reference tld reason) now
     refuses_ground new falls = (
       λ e. cc,
       λ e. cc,
@@ -76,29 +75,29 @@ module _ (records : Records) (reference tld : List ℕ) (reason : Ground) (now :
           (tests_are image None new ∙ ap (λ b. release_refusals false (not b) false) falls),
     )
 
-    pub makes_release : get records.releases reference ≡ None → ground_stands reason (told_to records.notices tld) now ≡ true → Decides (Makes (AddsRelease reference tld reason)) records (Release reference tld reason) now
+    pub makes_release : get records.releases reference ≡ None → ground_stands reason (notices_told_to records.notices tld) now ≡ true → Decides (GoRuling (AddsRelease reference tld reason)) records (Release reference tld reason) now
     makes_release new stands = (
       (refl, new),
       λ image. step_none (state_in records image) (Release reference tld reason) now (tests_are image None new ∙ ap (λ b. release_refusals false (not b) false) stands)
-          ∙ ap (λ (o : Option recorded_in.Release). released_by (state_in records image) reference tld reason now (option_and_then (λ (release : recorded_in.Release). cond (is_on tld reason release) (Some release) None) o)) new,
+          ∙ ap (λ (o : Option recorded_in.Release). released_by (state_in records image) reference tld reason now (option_and_then (λ (release : recorded_in.Release). cond (is_on_ground tld reason release) (Some release) None) o)) new,
     )
 
 -- the rows of a registry's notices are what it was told
-pub rows_told : (records : Records) (tld : List ℕ) (rows : List desk.Notice) → entries_of notice_key notice_value rows ≡ notices_of records tld → rows ≡ told_to records.notices tld
+pub rows_told : (records : Records) (tld : List ℕ) (rows : List desk.Notice) → row_entries notice_key notice_value rows ≡ notices_of records tld → rows ≡ notices_told_to records.notices tld
 rows_told records tld rows is = as_told rows ∙ ap (map told_notice) (is ∙ (λ i. filter (λ (e : NoticeKey × Notice). is_eq-slice_cmp e.0.tld tld i) (entries records.notices)))
   where
-    as_told : (rows : List desk.Notice) → rows ≡ map told_notice (entries_of notice_key notice_value rows)
+    as_told : (rows : List desk.Notice) → rows ≡ map told_notice (row_entries notice_key notice_value rows)
     as_told [] = refl
     as_told (n ∷ rows) = ap (λ (l : List desk.Notice). n ∷ l) (as_told rows)
 
 -- ---- what it lists
 
 -- one part more
-pub names_more : (parts : List Part) (part : Part) → names_held (parts ++ part ∷ []) ≡ names_held parts ++ cons_option (name_held part) []
+pub names_more : (parts : List Part) (part : Part) → held_part_names (parts ++ part ∷ []) ≡ held_part_names parts ++ cons_option (held_part_name part) []
 names_more [] part = refl
-names_more (p ∷ parts) part = by (name_held p) (names_more parts part)
+names_more (p ∷ parts) part = by (held_part_name p) (names_more parts part)
   where
-    by : (o : Option (List ℕ)) → names_held (parts ++ part ∷ []) ≡ names_held parts ++ cons_option (name_held part) [] → cons_option o (names_held (parts ++ part ∷ [])) ≡ cons_option o (names_held parts) ++ cons_option (name_held part) []
+    by : (o : Option (List ℕ)) → held_part_names (parts ++ part ∷ []) ≡ held_part_names parts ++ cons_option (held_part_name part) [] → cons_option o (held_part_names (parts ++ part ∷ [])) ≡ cons_option o (held_part_names parts) ++ cons_option (held_part_name part) []
     by None rest = rest
     by (Some name) rest = ap (λ l. name ∷ l) rest
 
@@ -106,10 +105,10 @@ pub in_form_more : (parts : List Part) (part : Part) → AreInForm parts → (is
 in_form_more [] part all one = (one, tt)
 in_form_more (p ∷ parts) part all one = (all.0, in_form_more parts part all.1 one)
 
-pub next_part : (parts : List Part) (i : ℕ) (part : Part) (names next : List (List ℕ)) → i < length parts → part ≡ get_or parts i part → names ≡ names_held (take i parts) → AreInForm (take i parts)
-    → next ≡ names ++ cons_option (name_held part) [] → (is_some part.extents ≡ true → IsName part.name) → (next ≡ names_held (take (i + 1) parts)) × AreInForm (take (i + 1) parts)
+pub next_part : (parts : List Part) (i : ℕ) (part : Part) (names next : List (List ℕ)) → i < length parts → part ≡ get_or parts i part → names ≡ held_part_names (take i parts) → AreInForm (take i parts)
+    → next ≡ names ++ cons_option (held_part_name part) [] → (is_some part.extents ≡ true → IsName part.name) → (next ≡ held_part_names (take (i + 1) parts)) × AreInForm (take (i + 1) parts)
 next_part parts i part names next lt at so_far in_form more one = (
-  more ∙ ap (λ l. l ++ cons_option (name_held part) []) so_far ∙ sym (names_more (take i parts) part) ∙ ap names_held (sym up_to),
+  more ∙ ap (λ l. l ++ cons_option (held_part_name part) []) so_far ∙ sym (names_more (take i parts) part) ∙ ap held_part_names (sym up_to),
   subst AreInForm (sym up_to) (in_form_more (take i parts) part in_form one),
 )
   where
@@ -121,28 +120,28 @@ abbrev in_entry : PartKey × PartRecord → Option (List ℕ)
 in_entry e = cond (is_some e.1.extents) (Some (name_text (recorded_in.name_of e.0 e.1.kind))) None
 
 -- the rows of a registry's parts list what its release does
-pub rows_held : (records : Records) (tld : List ℕ) (rows : List Part) → entries_of part_place part_value rows ≡ parts_of records tld → names_held rows ≡ held_names records tld
+pub rows_held : (records : Records) (tld : List ℕ) (rows : List Part) → row_entries key_of_part part_value rows ≡ parts_of records tld → held_part_names rows ≡ held_record_names records tld
 rows_held records tld rows is = as_entries rows ∙ ap (filter_map in_entry) is ∙ of_registry (entries records.parts)
   where
     some_items : (o : Option (Vec Extent Global)) → is_some (option_map (λ (v : Vec Extent Global). v.items) o) ≡ is_some o
     some_items None = refl
     some_items (Some extents) = refl
 
-    same : (part : Part) → name_held part ≡ in_entry (part_place part, part_value part)
+    same : (part : Part) → held_part_name part ≡ in_entry (key_of_part part, part_value part)
     same part = ap (λ b. cond b (Some (name_text part.name)) None) (sym (some_items part.extents))
 
-    as_entries : (rows : List Part) → names_held rows ≡ filter_map in_entry (entries_of part_place part_value rows)
+    as_entries : (rows : List Part) → held_part_names rows ≡ filter_map in_entry (row_entries key_of_part part_value rows)
     as_entries [] = refl
     as_entries (part ∷ rows) = λ i. cons_option (same part i) (as_entries rows i)
 
-    of_registry : (es : List (PartKey × PartRecord)) → filter_map in_entry (filter (λ (e : PartKey × PartRecord). is_eq (text_cmp e.0.tld tld)) es) ≡ filter_map (held_name tld) es
+    of_registry : (es : List (PartKey × PartRecord)) → filter_map in_entry (filter (λ (e : PartKey × PartRecord). is_eq (text_cmp e.0.tld tld)) es) ≡ filter_map (held_record_name tld) es
     of_registry [] = refl
     of_registry (e ∷ es) = ap (λ b. filter_map in_entry (cond b (e ∷ filter (λ (e : PartKey × PartRecord). is_eq (text_cmp e.0.tld tld)) es) (filter (λ (e : PartKey × PartRecord). is_eq (text_cmp e.0.tld tld)) es))) (is_eq-slice_cmp e.0.tld tld)
-        ∙ by (is_same_text e.0.tld tld) (of_registry es)
+        ∙ by (bytes_eq e.0.tld tld) (of_registry es)
       where
-        by : (b : Bool) → filter_map in_entry (filter (λ (e : PartKey × PartRecord). is_eq (text_cmp e.0.tld tld)) es) ≡ filter_map (held_name tld) es
+        by : (b : Bool) → filter_map in_entry (filter (λ (e : PartKey × PartRecord). is_eq (text_cmp e.0.tld tld)) es) ≡ filter_map (held_record_name tld) es
             → filter_map in_entry (cond b (e ∷ filter (λ (e : PartKey × PartRecord). is_eq (text_cmp e.0.tld tld)) es) (filter (λ (e : PartKey × PartRecord). is_eq (text_cmp e.0.tld tld)) es))
-            ≡ cons_option (cond (b && is_some e.1.extents) (Some (name_text (recorded_in.name_of e.0 e.1.kind))) None) (filter_map (held_name tld) es)
+            ≡ cons_option (cond (b && is_some e.1.extents) (Some (name_text (recorded_in.name_of e.0 e.1.kind))) None) (filter_map (held_record_name tld) es)
         by true rest = ap (cons_option (in_entry e)) rest
         by false rest = rest
 
@@ -154,37 +153,37 @@ module _ (records : Records) (tld : List ℕ) where
 
   -- a part of the registry is recorded
   abbrev is_there : PartKey × PartRecord → Bool
-  is_there e = is_same_text e.0.tld tld && is_recorded e.0 e.1
+  is_there e = bytes_eq e.0.tld tld && is_recorded e.0 e.1
 
   all_recorded : each_passes is_recorded records.parts ≡ true
   all_recorded = (each_decides part_total part_exact is_recorded (λ key part. is_recorded key part ≡ true) (λ key part. (λ e. e, λ e. e)) records.parts).1
-      (λ key part at. ap (is_part_of part.kind) at ∙ (kind_decides part.kind part.kind).1 refl)
+      (λ key part at. ap (is_part_of part.kind) at ∙ (same_kind_decides part.kind part.kind).1 refl)
 
   of_registry_there : (es : List (PartKey × PartRecord)) → list_all (λ (e : PartKey × PartRecord). is_recorded e.0 e.1) es ≡ true → list_all is_there (filter (λ (e : PartKey × PartRecord). is_eq (text_cmp e.0.tld tld)) es) ≡ true
   of_registry_there [] all = refl
   of_registry_there (e ∷ es) all =
       let both = and_parts (is_recorded e.0 e.1) (list_all (λ (e : PartKey × PartRecord). is_recorded e.0 e.1) es) all in
-      ap (λ b. list_all is_there (cond b (e ∷ rest) rest)) (is_eq-slice_cmp e.0.tld tld) ∙ by (is_same_text e.0.tld tld) refl both.0 (of_registry_there es both.1)
+      ap (λ b. list_all is_there (cond b (e ∷ rest) rest)) (is_eq-slice_cmp e.0.tld tld) ∙ by (bytes_eq e.0.tld tld) refl both.0 (of_registry_there es both.1)
     where
       rest : List (PartKey × PartRecord)
       rest = filter (λ (e : PartKey × PartRecord). is_eq (text_cmp e.0.tld tld)) es
 
-      by : (b : Bool) → is_same_text e.0.tld tld ≡ b → is_recorded e.0 e.1 ≡ true → list_all is_there rest ≡ true → list_all is_there (cond b (e ∷ rest) rest) ≡ true
+      by : (b : Bool) → bytes_eq e.0.tld tld ≡ b → is_recorded e.0 e.1 ≡ true → list_all is_there rest ≡ true → list_all is_there (cond b (e ∷ rest) rest) ≡ true
       by true same one more = and_from _ _ (and_from _ _ same one) more
       by false same one more = more
 
-  rows_there : (rows : List Part) → entries_of part_place part_value rows ≡ parts_of records tld → list_all (λ (part : Part). is_there (part_place part, part_value part)) rows ≡ true
-  rows_there rows is = all_entries part_cmp part_place part_value is_there rows ∙ ap (list_all is_there) is ∙ of_registry_there (entries records.parts) all_recorded
+  rows_there : (rows : List Part) → row_entries key_of_part part_value rows ≡ parts_of records tld → list_all (λ (part : Part). is_there (key_of_part part, part_value part)) rows ≡ true
+  rows_there rows is = all_entries part_cmp key_of_part part_value is_there rows ∙ ap (list_all is_there) is ∙ of_registry_there (entries records.parts) all_recorded
 
-  names_there : (rows : List Part) → AreInForm rows → list_all (λ (part : Part). is_there (part_place part, part_value part)) rows ≡ true → AreRecorded records tld (names_held rows)
+  names_there : (rows : List Part) → AreInForm rows → list_all (λ (part : Part). is_there (key_of_part part, part_value part)) rows ≡ true → AreRecordedNames records tld (held_part_names rows)
   names_there [] in_form there = refl
   names_there (part ∷ rows) in_form there =
-      let both = and_parts (is_there (part_place part, part_value part)) _ there in
+      let both = and_parts (is_there (key_of_part part, part_value part)) _ there in
       by (is_some part.extents) refl both.0 (names_there rows in_form.1 both.1)
     where
-      by : (b : Bool) → is_some part.extents ≡ b → is_there (part_place part, part_value part) ≡ true → AreRecorded records tld (names_held rows) → AreRecorded records tld (cons_option (cond b (Some (name_text part.name)) None) (names_held rows))
-      by true held one more = and_from _ _ (ap (names_part records tld) (read_of (name_text part.name) part.name (in_form.0 held, refl)) ∙ one) more
+      by : (b : Bool) → is_some part.extents ≡ b → is_there (key_of_part part, part_value part) ≡ true → AreRecordedNames records tld (held_part_names rows) → AreRecordedNames records tld (cons_option (cond b (Some (name_text part.name)) None) (held_part_names rows))
+      by true held one more = and_from _ _ (ap (is_name_of_part records tld) (read_of (name_text part.name) part.name (in_form.0 held, refl)) ∙ one) more
       by false held one more = more
 
-  pub rows_recorded : (rows : List Part) → entries_of part_place part_value rows ≡ parts_of records tld → AreInForm rows → AreRecorded records tld (names_held rows)
+  pub rows_recorded : (rows : List Part) → row_entries key_of_part part_value rows ≡ parts_of records tld → AreInForm rows → AreRecordedNames records tld (held_part_names rows)
   rows_recorded rows is in_form = names_there rows in_form (rows_there rows is)

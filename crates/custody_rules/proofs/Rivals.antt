@@ -1,4 +1,5 @@
 -- What the notices in memory tell, and what it says of the records that they stand for.
+use Rattle.std.specs.Prelude.{bytes_eq}
 use Rattle.std.proofs.Common.{◌≡◌, ◌↔◌, ℕ, ◌<◌, List, get_or, Bool, true, false, ◌&&◌, ◌==◌, Option, Some, None, refl, sym, ◌∙◌, ap, subst, arith}
 use Rattle.std.specs.Bool.{Decides}
 use Rattle.std.specs.List.{list_any, slice_get}
@@ -6,23 +7,23 @@ use Rattle.std.specs.FinMap.{get}
 use Rattle.std.proofs.lemmas.Bool.Decides.{Decides-eqb, Decides-and, Decides-like, same_from_decides}
 use Rattle.std.proofs.lemmas.List.Folds.{Any-from_list_any, list_any_at}
 use Rattle.std.proofs.lemmas.Option.{slice_get-get_or, slice_get_within, get_or_from_slice_get}
+use Rattle.desk.specs.Standing.{is_receipt}
 use Rattle.desk.specs.declared.notices.NoticeKind.{NoticeKind}
 use Rattle.desk.specs.declared.notices.NoticeKind.TheVariants.{Receipt, Failure, Absence}
 use Rattle.desk.specs.declared.notices.Notice as desk
 use Rattle.custody_records.specs.Keys.{NoticeKey, notice_cmp}
-use Rattle.custody_records.specs.Orders.{notice_total, notice_exact}
+use Rattle.custody_records.specs.inside.Orders.{notice_total, notice_exact}
 use Rattle.custody_records.specs.Records.{Notice, Records}
 use Rattle.custody_records.specs.Tables.{is_rising, table_map}
-use Rattle.custody_records.specs.Typed.{notice_key, notice_value}
-use Rattle.custody_machine.specs.Names.{is_same_text}
+use Rattle.custody_records.specs.TypedRecords.{notice_key, notice_value}
 use Rattle.custody_machine.specs.State.{has_notice}
-use Rattle.custody_machine.specs.Machine.{is_absence, is_failure_of, is_receipt}
-use Rattle.custody_machine.specs.Stored.{AreLinked, AreOfOneDay, revision_of}
+use Rattle.custody_machine.specs.Machine.{is_absence, is_failure_of}
+use Rattle.custody_machine.specs.StoredState.{AreLinked, AreOfOneDay, revision_of}
 use Rattle.custody_machine.proofs.SameValues.{text_decides}
-use Rattle.custody_rules.specs.declared.told.Subject.{Subject}
-use Rattle.custody_rules.specs.declared.told.ReceivedDay.{ReceivedDay}
-use Rattle.custody_rules.specs.declared.told.FailedRevision.{FailedRevision}
-use Rattle.custody_rules.specs.Told.{HaveNoRivals, AreToldOnce, IsTold, subject_of, day_received, received_day_of, revision_failed, failed_revision_of}
+use Rattle.custody_rules.specs.declared.unique_keys.Subject.{Subject}
+use Rattle.custody_rules.specs.declared.unique_keys.ReceivedDay.{ReceivedDay}
+use Rattle.custody_rules.specs.declared.unique_keys.FailedRevision.{FailedRevision}
+use Rattle.custody_rules.specs.inside.UniqueKeys.{HaveNoRivals, HaveUniqueKeys, IsKeyAmong, subject_of, day_if_receipt, received_day_of, revision_if_failure, failed_revision_of}
 use Rattle.custody_rules.proofs.Tables.{table_has_row, row_in_table, keys_differ, any_rows}
 
 -- ---- what one notice tells
@@ -30,12 +31,12 @@ use Rattle.custody_rules.proofs.Tables.{table_has_row, row_in_table, keys_differ
 some_is : {X : Type 0} (x y : X) → Some x ≡ Some y → x ≡ y
 some_is x y e = cc
 
-receipt_of_day : (tld : List ℕ) (day : ℕ) (kind : NoticeKind) → is_receipt kind ≡ true → day_received tld day kind ≡ Some (record { tld = tld; day = day })
+receipt_of_day : (tld : List ℕ) (day : ℕ) (kind : NoticeKind) → is_receipt kind ≡ true → day_if_receipt tld day kind ≡ Some (record { tld = tld; day = day })
 receipt_of_day tld day (Receipt _ _) e = refl
 receipt_of_day tld day (Failure _ _ _) e = cc
 receipt_of_day tld day Absence e = cc
 
-day_of_receipt : (tld : List ℕ) (day : ℕ) (kind : NoticeKind) (t : ReceivedDay) → day_received tld day kind ≡ Some t → (is_receipt kind ≡ true) × (tld ≡ t.tld) × (day ≡ t.day)
+day_of_receipt : (tld : List ℕ) (day : ℕ) (kind : NoticeKind) (t : ReceivedDay) → day_if_receipt tld day kind ≡ Some t → (is_receipt kind ≡ true) × (tld ≡ t.tld) × (day ≡ t.day)
 day_of_receipt tld day (Receipt _ _) t e = let same = some_is (record { tld = tld; day = day }) t e in (refl, ap (λ (d : ReceivedDay). d.tld) same, ap (λ (d : ReceivedDay). d.day) same)
 day_of_receipt tld day (Failure _ _ _) t e = cc
 day_of_receipt tld day Absence t e = cc
@@ -50,12 +51,12 @@ none_is_absence (Receipt _ _) e = cc
 none_is_absence (Failure _ _ _) e = cc
 none_is_absence Absence e = refl
 
-failure_of_revision : (tld : List ℕ) (day : ℕ) (kind : NoticeKind) (t : FailedRevision) → tld ≡ t.tld → day ≡ t.day → is_failure_of t.rev kind ≡ true → revision_failed tld day kind ≡ Some t
+failure_of_revision : (tld : List ℕ) (day : ℕ) (kind : NoticeKind) (t : FailedRevision) → tld ≡ t.tld → day ≡ t.day → is_failure_of t.rev kind ≡ true → revision_if_failure tld day kind ≡ Some t
 failure_of_revision tld day (Receipt _ _) t at on e = cc
 failure_of_revision tld day (Failure rev _ _) t at on e = let is : rev ≡ t.rev = (Decides-eqb rev t.rev).0 e in λ i. Some (record { tld = at i; day = on i; rev = is i })
 failure_of_revision tld day Absence t at on e = cc
 
-revision_of_failure : (tld : List ℕ) (day : ℕ) (kind : NoticeKind) (t : FailedRevision) → revision_failed tld day kind ≡ Some t → (tld ≡ t.tld) × ((day ≡ t.day) × (is_failure_of t.rev kind ≡ true))
+revision_of_failure : (tld : List ℕ) (day : ℕ) (kind : NoticeKind) (t : FailedRevision) → revision_if_failure tld day kind ≡ Some t → (tld ≡ t.tld) × ((day ≡ t.day) × (is_failure_of t.rev kind ≡ true))
 revision_of_failure tld day (Receipt _ _) t e = cc
 revision_of_failure tld day (Failure rev _ _) t e =
     let same = some_is (record { tld = tld; day = day; rev = rev }) t e in
@@ -76,10 +77,10 @@ failure_about n t e =
     let rev = failure_is_verdict t.rev n.kind is.1.1 in
     λ i. Some (record { tld = tld i; day = day i; rev = rev i })
 
-pub failures_once : (notices : List desk.Notice) → AreToldOnce subject_of notices → AreToldOnce failed_revision_of notices
+pub failures_once : (notices : List desk.Notice) → HaveUniqueKeys subject_of notices → HaveUniqueKeys failed_revision_of notices
 failures_once notices once i j m n t at_i at_j tells_m tells_n = once i j m n (record { tld = t.tld; day = t.day; rev = Some t.rev }) at_i at_j (failure_about m t tells_m) (failure_about n t tells_n)
 
-fails_decides : (n : desk.Notice) (t : FailedRevision) → Decides (is_same_text n.tld t.tld && (n.day == t.day && is_failure_of t.rev n.kind)) (failed_revision_of n ≡ Some t)
+fails_decides : (n : desk.Notice) (t : FailedRevision) → Decides (bytes_eq n.tld t.tld && (n.day == t.day && is_failure_of t.rev n.kind)) (failed_revision_of n ≡ Some t)
 fails_decides n t =
     Decides-like _ (λ h. failure_of_revision n.tld n.day n.kind t h.0 h.1.0 h.1.1) (revision_of_failure n.tld n.day n.kind t)
     (Decides-and _ _ (text_decides n.tld t.tld) (Decides-and _ _ (Decides-eqb n.day t.day) (λ e. e, λ e. e)))
@@ -88,29 +89,29 @@ fails_decides n t =
 
 module _ (records : Records) (rows : List desk.Notice) (is : records.notices ≡ table_map notice_cmp notice_key notice_value rows) (rising : is_rising notice_cmp notice_key rows ≡ true) where
   -- the revisions whose failure they tell are those that have failed
-  pub failures_are : (has : FailedRevision → Bool) → ((t : FailedRevision) → (has t ≡ true) ↔ IsTold failed_revision_of rows t) → (t : FailedRevision) → has t ≡ has_notice records.notices t.tld t.day (is_failure_of t.rev)
-  failures_are has tell t = same_from_decides (has t) (list_any fails rows) (tell t) (there, back) ∙ any_rows notice_cmp notice_key notice_value rows records.notices is rising (λ (e : NoticeKey × Notice). is_same_text e.0.tld t.tld && (e.1.day == t.day && is_failure_of t.rev e.1.kind))
+  pub failures_are : (has : FailedRevision → Bool) → ((t : FailedRevision) → (has t ≡ true) ↔ IsKeyAmong failed_revision_of rows t) → (t : FailedRevision) → has t ≡ has_notice records.notices t.tld t.day (is_failure_of t.rev)
+  failures_are has tell t = same_from_decides (has t) (list_any fails rows) (tell t) (there, back) ∙ any_rows notice_cmp notice_key notice_value rows records.notices is rising (λ (e : NoticeKey × Notice). bytes_eq e.0.tld t.tld && (e.1.day == t.day && is_failure_of t.rev e.1.kind))
     where
       fails : desk.Notice → Bool
-      fails n = is_same_text n.tld t.tld && (n.day == t.day && is_failure_of t.rev n.kind)
+      fails n = bytes_eq n.tld t.tld && (n.day == t.day && is_failure_of t.rev n.kind)
 
-      there : list_any fails rows ≡ true → IsTold failed_revision_of rows t
+      there : list_any fails rows ≡ true → IsKeyAmong failed_revision_of rows t
       there some =
           let one = Any-from_list_any fails rows some in
           record { place = one.0; notice = one.1; at = slice_get-get_or rows one.0 one.1 one.2 ∙ ap Some one.3; tells = (fails_decides one.1 t).0 one.4 }
 
-      back : IsTold failed_revision_of rows t → list_any fails rows ≡ true
+      back : IsKeyAmong failed_revision_of rows t → list_any fails rows ≡ true
       back tells =
           list_any_at fails rows tells.place tells.notice (slice_get_within rows tells.place tells.notice tells.at)
           (ap fails (get_or_from_slice_get rows tells.place tells.notice tells.notice tells.at) ∙ (fails_decides tells.notice t).1 tells.tells)
 
   -- each row of this key and value tells it
   abbrev Tells : {T : Type 0} → (desk.Notice → Option T) → T → NoticeKey → Notice → Type 0
-  Tells told_by t key notice = (n : desk.Notice) → notice_key n ≡ key → notice_value n ≡ notice → told_by n ≡ Some t
+  Tells unique_key_of t key notice = (n : desk.Notice) → notice_key n ≡ key → notice_value n ≡ notice → unique_key_of n ≡ Some t
 
   -- two notices of the records that tell the same are one
-  module _ {T : Type 0} (told_by : desk.Notice → Option T) (once : AreToldOnce told_by rows) (t : T) where
-    one_key : (j k : NoticeKey) (m n : Notice) → get records.notices j ≡ Some m → get records.notices k ≡ Some n → Tells told_by t j m → Tells told_by t k n → j ≡ k
+  module _ {T : Type 0} (unique_key_of : desk.Notice → Option T) (once : HaveUniqueKeys unique_key_of rows) (t : T) where
+    one_key : (j k : NoticeKey) (m n : Notice) → get records.notices j ≡ Some m → get records.notices k ≡ Some n → Tells unique_key_of t j m → Tells unique_key_of t k n → j ≡ k
     one_key j k m n at_j at_k tells_m tells_n =
         let first = table_has_row notice_cmp notice_key notice_value notice_exact rows rising j m (ap (λ notices. get notices j) (sym is) ∙ at_j) in
         let second = table_has_row notice_cmp notice_key notice_value notice_exact rows rising k n (ap (λ notices. get notices k) (sym is) ∙ at_k) in
@@ -129,7 +130,7 @@ module _ (records : Records) (rows : List desk.Notice) (is : records.notices ≡
 
   received : (tld : List ℕ) (day : ℕ) (key : NoticeKey) (notice : Notice) → key.tld ≡ tld → notice.day ≡ day → is_receipt notice.kind ≡ true → Tells received_day_of (record { tld = tld; day = day }) key notice
   received tld day key notice at on of n key_is value_is =
-      (λ i. day_received ((ap (λ (k : NoticeKey). k.tld) key_is ∙ at) i) ((ap (λ (v : Notice). v.day) value_is ∙ on) i) (value_is i).kind) ∙ receipt_of_day tld day notice.kind of
+      (λ i. day_if_receipt ((ap (λ (k : NoticeKey). k.tld) key_is ∙ at) i) ((ap (λ (v : Notice). v.day) value_is ∙ on) i) (value_is i).kind) ∙ receipt_of_day tld day notice.kind of
 
   module _ (only : HaveNoRivals rows) where
     pub one_verdict : (j k : NoticeKey) (m n : Notice) (rev : ℕ) → get records.notices j ≡ Some m → get records.notices k ≡ Some n → AreOfOneDay j m k n → revision_of m.kind ≡ Some rev → revision_of n.kind ≡ Some rev → j ≡ k
@@ -172,7 +173,7 @@ module _ (records : Records) (rows : List desk.Notice) (is : records.notices ≡
         by true e = (Decides-eqb i j).0 e
         by false e = grind (arith, first, second)
 
-    subjects : AreToldOnce subject_of rows
+    subjects : HaveUniqueKeys subject_of rows
     subjects i j m n t at_i at_j tells_m tells_n = one_place i j m n at_i at_j (by (revision_of m.kind) refl)
       where
         same : ◌≡◌ {A = Subject} (record { tld = m.tld; day = m.day; rev = revision_of m.kind }) (record { tld = n.tld; day = n.day; rev = revision_of n.kind })
@@ -189,7 +190,7 @@ module _ (records : Records) (rows : List desk.Notice) (is : records.notices ≡
             let other : revision_of n.kind ≡ Some rev = sym (ap (λ (s : Subject). s.rev) same) ∙ of in
             linked.one_verdict (notice_key m) (notice_key n) (notice_value m) (notice_value n) rev (recorded i m at_i) (recorded j n at_j) day of other
 
-    received_days : AreToldOnce received_day_of rows
+    received_days : HaveUniqueKeys received_day_of rows
     received_days i j m n t at_i at_j tells_m tells_n =
         let of_m = day_of_receipt m.tld m.day m.kind t tells_m in
         let of_n = day_of_receipt n.tld n.day n.kind t tells_n in

@@ -9,30 +9,30 @@ use Rattle.extent_map.specs.declared.extent.Extent.{Extent}
 use Rattle.custody_records.specs.Keys.{NoticeKey}
 use Rattle.custody_records.specs.Records.{Notice, PartRecord, Records, key_of}
 use Rattle.custody_machine.specs.declared.command.Statement as statement
-use Rattle.custody_machine.specs.State.{State, places, at_place, has_notice, is_notice_of}
-use Rattle.custody_machine.specs.Stored.{part_of, content_of, state_in}
+use Rattle.custody_machine.specs.State.{State, part_numbers, key_with_part, has_notice, is_notice_of}
+use Rattle.custody_machine.specs.StoredState.{part_of, content_of, state_in}
 use Rattle.custody_machine.specs.declared.answers.Refusal.{Refusal}
 use Rattle.custody_machine.specs.declared.answers.Refusal.TheVariants.{RegistryUnknown, DateOutOfRange, DroppedAfterKeeping, AlreadyStated, TypeDiffers, PartsDiffer, LaterDayPassed, OtherBytes, VolumeFull}
-use Rattle.custody_machine.specs.Machine.{Statement, OfNotice, Accept, part_in, is_dropped, is_gone, first_part, is_verdict_of, if_of_id, has_dropped_part, differ_in_number, kept_verdict, statement_tests, first_standing, step}
-use Rattle.custody_machine.specs.Rulings.{AddsVerdict, Refuses, Repeats, Makes, Decides}
+use Rattle.custody_machine.specs.Machine.{Statement, OfNotice, Accept, revision_part, is_dropped, are_bytes_dropped, first_part, is_verdict_of, if_of_id, has_dropped_part, has_other_count, kept_verdict, statement_tests, first_refusal, step}
+use Rattle.custody_machine.specs.Rulings.{AddsVerdict, RefuseRuling, KeptRuling, GoRuling, Decides}
 use Rattle.custody_machine.proofs.Accepting.{step_none, step_refuses}
 use Rattle.custody_machine.proofs.Keeping.{Again, asked_again}
 use Rattle.custody_machine.proofs.Stated.{statement_refusals, stated_by}
-use Rattle.custody_rules.specs.Judged.{differ_in, is_later_receipt, is_of_other_kind, is_without_bytes, kept_in}
+use Rattle.custody_rules.specs.Judging.{differs_in_number, is_later_receipt, is_of_other_kind, is_without_bytes, kept_verdict_in}
 use Rattle.custody_rules.proofs.Judged.{kinds_in_state, count_in_state, dropped_in_state}
 
 module _ (records : Records) (st : statement.Statement) (image : List ℕ) where
-  number_in_state : differ_in_number (state_in records image) st ≡ differ_in records st
+  number_in_state : has_other_count (state_in records image) st ≡ differs_in_number records st
   number_in_state = λ i. (count_in_state records image (first_part st) i == 0) || not (count_in_state records image (first_part st) i == st.parts)
 
-  pub kept_in_state : kept_verdict (state_in records image) st ≡ kept_in records st
+  pub kept_in_state : kept_verdict (state_in records image) st ≡ kept_verdict_in records st
   kept_in_state = λ i. if not (kinds_in_state records image (first_part st) i) && not (number_in_state i) then option_and_then (if_of_id st.id) (find (is_notice_of st.tld st.day (is_verdict_of st.rev)) (entries records.notices)) else None
 
   -- the first refusal of a statement that was not made before, as the records have it
-  pub first_of_statement : (now first : ℕ) → get records.registries st.tld ≡ Some first → kept_in records st ≡ None → first_standing (statement_tests (state_in records image) st now)
+  pub first_of_statement : (now first : ℕ) → get records.registries st.tld ≡ Some first → kept_verdict_in records st ≡ None → first_refusal (statement_tests (state_in records image) st now)
       ≡ statement_refusals false (nat_lt st.day first || nat_lt (day_of now) st.day)
-      (not (has_notice records.notices st.tld st.day (is_verdict_of st.rev)) && list_any (λ place. is_without_bytes (get records.parts (at_place (key_of (first_part st)) place))) places)
-      (has_notice records.notices st.tld st.day (is_verdict_of st.rev)) (list_any (λ place. is_of_other_kind st.kind (get records.parts (at_place (key_of (first_part st)) place))) places) (differ_in records st)
+      (not (has_notice records.notices st.tld st.day (is_verdict_of st.rev)) && list_any (λ place. is_without_bytes (get records.parts (key_with_part (key_of (first_part st)) place))) part_numbers)
+      (has_notice records.notices st.tld st.day (is_verdict_of st.rev)) (list_any (λ place. is_of_other_kind st.kind (get records.parts (key_with_part (key_of (first_part st)) place))) part_numbers) (differs_in_number records st)
       (list_any (is_later_receipt st) (entries records.notices))
   first_of_statement now first known new = λ i.
       statement_refusals (is_none (known i)) (is_none (none i) && (nat_lt st.day (unwrap_or (known i) 0) || nat_lt (day_of now) st.day)) (not (has_notice records.notices st.tld st.day (is_verdict_of st.rev)) && dropped_in_state records image (first_part st) i)
@@ -68,21 +68,21 @@ module _ (b c d e f g : Bool) where
 -- ---- what is decided of a statement
 
 module _ (records : Records) (st : statement.Statement) (now : ℕ) where
-  pub refuses_unknown : get records.registries st.tld ≡ None → Decides (Refuses RegistryUnknown) records (Statement st) now
+  pub refuses_unknown : get records.registries st.tld ≡ None → Decides (RefuseRuling RegistryUnknown) records (Statement st) now
   refuses_unknown unknown = (λ e. cc, λ e. cc, λ image. step_refuses (state_in records image) (Statement st) now RegistryUnknown (by _ _ (ap is_none unknown)))
     where
       by : (a : Bool) (rest : Option Refusal) → a ≡ true → cond a (Some RegistryUnknown) rest ≡ Some RegistryUnknown
       by a rest e = ap (λ b. cond b (Some RegistryUnknown) rest) e
 
-  pub refuses_statement : (q : Refusal) → q ≢ OtherBytes → q ≢ VolumeFull → ((image : List ℕ) → first_standing (statement_tests (state_in records image) st now) ≡ Some q) → Decides (Refuses q) records (Statement st) now
+  pub refuses_statement : (q : Refusal) → q ≢ OtherBytes → q ≢ VolumeFull → ((image : List ℕ) → first_refusal (statement_tests (state_in records image) st now) ≡ Some q) → Decides (RefuseRuling q) records (Statement st) now
   refuses_statement q other full first = (other, full, λ image. step_refuses (state_in records image) (Statement st) now q (first image))
 
-  pub repeats_statement : (first : ℕ) (kept : NoticeKey × Notice) → get records.registries st.tld ≡ Some first → kept_in records st ≡ Some kept → Decides (Repeats (OfNotice kept.0 kept.1)) records (Statement st) now
+  pub repeats_statement : (first : ℕ) (kept : NoticeKey × Notice) → get records.registries st.tld ≡ Some first → kept_verdict_in records st ≡ Some kept → Decides (KeptRuling (OfNotice kept.0 kept.1)) records (Statement st) now
   repeats_statement first kept known is = λ image. by (asked_again (state_in records image) (Statement st) (OfNotice kept.0 kept.1) now refl (record { kept = kept; found = kept_in_state records st image ∙ is; made = refl; registry = ap is_none known }) tt).0
     where
       by : {s : State} → Again s (Statement st) (OfNotice kept.0 kept.1) now → step s (Statement st) now ≡ Accept (record { entry = OfNotice kept.0 kept.1; is_repeat = true }) s
       by (inl h) = h
       by (inr h) = absurd h.1
 
-  pub makes_statement : kept_in records st ≡ None → ((image : List ℕ) → first_standing (statement_tests (state_in records image) st now) ≡ None) → Decides (Makes (AddsVerdict st)) records (Statement st) now
+  pub makes_statement : kept_verdict_in records st ≡ None → ((image : List ℕ) → first_refusal (statement_tests (state_in records image) st now) ≡ None) → Decides (GoRuling (AddsVerdict st)) records (Statement st) now
   makes_statement new none = (refl, λ image. step_none (state_in records image) (Statement st) now (none image) ∙ ap (stated_by (state_in records image) st now) (kept_in_state records st image ∙ new))

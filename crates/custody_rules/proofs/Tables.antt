@@ -11,9 +11,9 @@ use Rattle.std.specs.FinMap.{FinMap, IsAntisymmetric, entries, get}
 use Rattle.std.proofs.lemmas.Bool.{and_parts}
 use Rattle.std.proofs.lemmas.Cmp.{tied_itself}
 use Rattle.std.proofs.lemmas.List.Sums.{AllPass-from_list_all, list_all-from_AllPass}
-use Rattle.custody_records.specs.Tables.{entries_of, is_below_all, is_rising, table_map}
+use Rattle.custody_records.specs.Tables.{row_entries, is_below_all, is_rising, table_map}
 use Rattle.custody_records.proofs.TableLemmas.{row_at, get_table, found_at, key_found, below_at, entries-table_map, entries_rise, table_map-entries}
-use Rattle.custody_rules.specs.Links.{each_passes}
+use Rattle.custody_rules.specs.inside.Links.{each_passes}
 
 -- a row of this key and value, and where it stands
 pub record IsRowOf {Row K X : Type 0} (key : Row → K) (value : Row → X) (rows : List Row) (sought : K) (x : X) : Type 0 where
@@ -88,16 +88,16 @@ each_decides {K} {X} {R} total exact test P decides m = (there, back)
         (ap (λ (n : FinMap R X). get n entry.0) (sym (table_map-entries m)) ∙ row_in_table R (λ (e : K × X). e.0) (λ (e : K × X). e.1) total (entries m) (entries_rise m) i d within)))
 
 module _ {Row K X : Type 0} (order : K → K → Ordering) (key : Row → K) (value : Row → X) where
-  pub all_entries : (p : K × X → Bool) (rows : List Row) → list_all (λ row. p (key row, value row)) rows ≡ list_all p (entries_of key value rows)
+  pub all_entries : (p : K × X → Bool) (rows : List Row) → list_all (λ row. p (key row, value row)) rows ≡ list_all p (row_entries key value rows)
   all_entries p [] = refl
   all_entries p (row ∷ rows) = ap (λ b. p (key row, value row) && b) (all_entries p rows)
 
-  pub any_entries : (p : K × X → Bool) (rows : List Row) → list_any (λ row. p (key row, value row)) rows ≡ list_any p (entries_of key value rows)
+  pub any_entries : (p : K × X → Bool) (rows : List Row) → list_any (λ row. p (key row, value row)) rows ≡ list_any p (row_entries key value rows)
   any_entries p [] = refl
   any_entries p (row ∷ rows) = ap (λ b. p (key row, value row) || b) (any_entries p rows)
 
   module _ (rows : List Row) (m : FinMap order X) (is : m ≡ table_map order key value rows) (rising : is_rising order key rows ≡ true) where
-    entries_are : entries_of key value rows ≡ entries m
+    entries_are : row_entries key value rows ≡ entries m
     entries_are = sym (ap entries is ∙ entries-table_map order key value rows rising)
 
     -- a test of each row, or of some row, is that of the map's entries

@@ -9,23 +9,23 @@ use Rattle.std.proofs.lemmas.Cmp.{tied_itself}
 use Rattle.std.proofs.lemmas.Map.Lookups.{CmpEqualImpliesEq}
 use Rattle.std.proofs.lemmas.Option.{slice_get_within}
 use Rattle.desk.specs.declared.notices.Notice.{Notice}
-use Rattle.custody_rules.specs.Told.{IsTold, AreToldOnce}
+use Rattle.custody_rules.specs.inside.UniqueKeys.{IsKeyAmong, HaveUniqueKeys}
 
 -- one of the first so many notices tells it
-pub record IsToldEarly {T : Type 0} (told_by : Notice → Option T) (notices : List Notice) (count : ℕ) (t : T) : Type 0 where
-  pub told : IsTold told_by notices t
+pub record IsToldEarly {T : Type 0} (unique_key_of : Notice → Option T) (notices : List Notice) (count : ℕ) (t : T) : Type 0 where
+  pub told : IsKeyAmong unique_key_of notices t
   pub early : told.place < count
 
-module _ {T : Type 0} (told_by : Notice → Option T) (notices : List Notice) where
+module _ {T : Type 0} (unique_key_of : Notice → Option T) (notices : List Notice) where
   -- no two of the first so many notices tell the same
   abbrev pub AreToldOnceEarly : ℕ → Type 0
-  AreToldOnceEarly count = (i j : ℕ) (m n : Notice) (t : T) → i < count → j < count → slice_get notices i ≡ Some m → slice_get notices j ≡ Some n → told_by m ≡ Some t → told_by n ≡ Some t → i ≡ j
+  AreToldOnceEarly count = (i j : ℕ) (m n : Notice) (t : T) → i < count → j < count → slice_get notices i ≡ Some m → slice_get notices j ≡ Some n → unique_key_of m ≡ Some t → unique_key_of n ≡ Some t → i ≡ j
 
   -- what is gathered is what these tell
   abbrev pub IsGathered : (T → Bool) → ℕ → Type 0
-  IsGathered has count = (t : T) → (has t ≡ true) ↔ IsToldEarly told_by notices count t
+  IsGathered has count = (t : T) → (has t ≡ true) ↔ IsToldEarly unique_key_of notices count t
 
-  pub all_gathered : (has : T → Bool) (count : ℕ) → length notices ≤ count → IsGathered has count → (t : T) → (has t ≡ true) ↔ IsTold told_by notices t
+  pub all_gathered : (has : T → Bool) (count : ℕ) → length notices ≤ count → IsGathered has count → (t : T) → (has t ≡ true) ↔ IsKeyAmong unique_key_of notices t
   all_gathered has count end gathered t = (
     λ is. ((gathered t).0 is).told,
     λ told.
@@ -33,7 +33,7 @@ module _ {T : Type 0} (told_by : Notice → Option T) (notices : List Notice) wh
         (gathered t).1 (record { told = told; early = omega arith }),
   )
 
-  pub all_once : (count : ℕ) → length notices ≤ count → AreToldOnceEarly count → AreToldOnce told_by notices
+  pub all_once : (count : ℕ) → length notices ≤ count → AreToldOnceEarly count → HaveUniqueKeys unique_key_of notices
   all_once count end once i j m n t at_i at_j tells_m tells_n =
       let low_i = slice_get_within notices i m at_i in
       let low_j = slice_get_within notices j n at_j in
@@ -44,15 +44,15 @@ module _ {T : Type 0} (told_by : Notice → Option T) (notices : List Notice) wh
     place_of : (i : ℕ) → i < count + 1 → (i ≡ count) ⊎ (i < count)
     place_of i low = eq-or-lt_of_le (omega arith)
 
-    told_there : (i : ℕ) (n : Notice) → i ≡ count → slice_get notices i ≡ Some n → told_by n ≡ told_by next
-    told_there i n at_next at = ap told_by (let both : Some n ≡ Some next = sym at ∙ ap (slice_get notices) at_next ∙ here in cc)
+    told_there : (i : ℕ) (n : Notice) → i ≡ count → slice_get notices i ≡ Some n → unique_key_of n ≡ unique_key_of next
+    told_there i n at_next at = ap unique_key_of (let both : Some n ≡ Some next = sym at ∙ ap (slice_get notices) at_next ∙ here in cc)
 
-    wider : (t : T) → IsToldEarly told_by notices count t → IsToldEarly told_by notices (count + 1) t
+    wider : (t : T) → IsToldEarly unique_key_of notices count t → IsToldEarly unique_key_of notices (count + 1) t
     wider t early = let low = early.early in record { told = early.told; early = omega arith }
 
     -- nothing is told by it
-    module _ (nothing : told_by next ≡ None) where
-      earlier : (i : ℕ) (n : Notice) (t : T) → i < count + 1 → slice_get notices i ≡ Some n → told_by n ≡ Some t → i < count
+    module _ (nothing : unique_key_of next ≡ None) where
+      earlier : (i : ℕ) (n : Notice) (t : T) → i < count + 1 → slice_get notices i ≡ Some n → unique_key_of n ≡ Some t → i < count
       earlier i n t low at tells = by (place_of i low)
         where
           by : (i ≡ count) ⊎ (i < count) → i < count
@@ -67,8 +67,8 @@ module _ {T : Type 0} (told_by : Notice → Option T) (notices : List Notice) wh
           once i j m n t (earlier i m t low_i at_i tells_m) (earlier j n t low_j at_j tells_n) at_i at_j tells_m tells_n
 
     -- it tells what is gathered already, or is gathered now
-    module _ {cmp : T → T → Ordering} (total : IsTotalOrder cmp) (exact : CmpEqualImpliesEq cmp) (told : T) (tells : told_by next ≡ Some told) (has : T → Bool) (gathered : IsGathered has count) where
-      pub told_twice : has told ≡ true → ¬ AreToldOnce told_by notices
+    module _ {cmp : T → T → Ordering} (total : IsTotalOrder cmp) (exact : CmpEqualImpliesEq cmp) (told : T) (tells : unique_key_of next ≡ Some told) (has : T → Bool) (gathered : IsGathered has count) where
+      pub told_twice : has told ≡ true → ¬ HaveUniqueKeys unique_key_of notices
       told_twice is once =
           let first = (gathered told).0 is in
           let low = first.early in
@@ -79,7 +79,7 @@ module _ {T : Type 0} (told_by : Notice → Option T) (notices : List Notice) wh
         pub once_more : AreToldOnceEarly count → AreToldOnceEarly (count + 1)
         once_more once i j m n t low_i low_j at_i at_j tells_m tells_n = by (place_of i low_i) (place_of j low_j)
           where
-            fresh : (k : ℕ) (l : Notice) → k < count → slice_get notices k ≡ Some l → told_by l ≡ Some told → ⊥
+            fresh : (k : ℕ) (l : Notice) → k < count → slice_get notices k ≡ Some l → unique_key_of l ≡ Some told → ⊥
             fresh k l low at tells_l = let there = (gathered told).1 (record { told = record { place = k; notice = l; at = at; tells = tells_l }; early = low }) in let clash : true ≡ false = sym there ∙ absent in cc
 
             by : (i ≡ count) ⊎ (i < count) → (j ≡ count) ⊎ (j < count) → i ≡ j
@@ -91,12 +91,12 @@ module _ {T : Type 0} (told_by : Notice → Option T) (notices : List Notice) wh
         pub gathered_more : (now_has : T → Bool) → ((t : T) → now_has t ≡ cond (is_at (cmp told) t) true (has t)) → IsGathered now_has (count + 1)
         gathered_more now_has updates t = (λ is. there (is_at (cmp told) t) refl (sym (updates t) ∙ is), back)
           where
-            there : (b : Bool) → is_at (cmp told) t ≡ b → cond b true (has t) ≡ true → IsToldEarly told_by notices (count + 1) t
+            there : (b : Bool) → is_at (cmp told) t ≡ b → cond b true (has t) ≡ true → IsToldEarly unique_key_of notices (count + 1) t
             there true at_told is =
                 record { told = record { place = count; notice = next; at = here; tells = tells ∙ ap Some (exact told t ((Equal-is (cmp told t)).0 at_told)) }; early = omega arith }
             there false other is = wider t ((gathered t).0 is)
 
-            back : IsToldEarly told_by notices (count + 1) t → now_has t ≡ true
+            back : IsToldEarly unique_key_of notices (count + 1) t → now_has t ≡ true
             back e = updates t ∙ by (place_of e.told.place e.early)
               where
                 always : (b : Bool) → cond b true true ≡ true

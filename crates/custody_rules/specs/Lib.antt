@@ -1,13 +1,7 @@
 pub mod Blocks
 pub mod Breaks
-pub mod Chains
-pub mod Due
+pub mod DueDays
 pub mod Fetching
-pub mod Judged
-pub mod Links
-pub mod Orders
-pub mod Passed
-pub mod Releases
+pub mod Judging
 pub mod Rulings
-pub mod Told
-pub mod Holds
+pub mod inside

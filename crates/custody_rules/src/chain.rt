@@ -1,10 +1,17 @@
 //! The deposits that a stated one follows.
 ghost use Rattle.std.specs.Prelude.{◌≡◌, List, ℕ, IfOk};
 ghost use Rattle.std.specs.List.{list_any};
-ghost use Rattle.custody_records.specs.Held.{records_of};
-ghost use Rattle.custody_machine.specs.Machine.{chain_of, has_dropped_part, held_chain, later_than, latest_full, passed_firsts};
-ghost use Rattle.custody_machine.specs.Stored.{state_in};
-ghost use Rattle.custody_rules.specs.Chains.{is_first_of_passed};
+ghost use Rattle.custody_records.specs.MemoryRecords.{records_of};
+ghost use Rattle.custody_machine.specs.Machine.{
+  chain_of,
+  has_dropped_part,
+  held_chain,
+  later_names,
+  latest_full,
+  passed_first_names,
+};
+ghost use Rattle.custody_machine.specs.StoredState.{state_in};
+ghost use Rattle.custody_rules.specs.inside.Chains.{is_first_of_passed_in};
 
 use crate::days::has_receipt_on;
 use crate::revision::has_dropped_part;
@@ -24,7 +31,7 @@ pub fn held_chain(
 ) -> Result<Vec<DepositName>, AllocError>
     ensures { IfOk result (λ chain. (image : List ℕ) → chain.items ≡ held_chain (state_in (records_of records.now) image) statement.now) }
 {
-    let passed = passed_firsts(alloc, records, &statement.tld)?;
+    let passed = passed_first_names(alloc, records, &statement.tld)?;
     let chain = chain_of(alloc, statement.kind, &passed)?;
     if is_any_dropped(records, &chain) {
         Ok(Vec::new(alloc))
@@ -43,24 +50,24 @@ fn is_any_dropped(records: &Records, chain: &[DepositName]) -> bool
 }
 
 /// The first parts of a registry's deposits that passed, by day.
-fn passed_firsts(
+fn passed_first_names(
     alloc: Global,
     records: &Records,
     tld: &Tld,
 ) -> Result<Vec<DepositName>, AllocError>
-    ensures { IfOk result (λ names. (image : List ℕ) → names.items ≡ passed_firsts (state_in (records_of records.now) image) tld.now) }
+    ensures { IfOk result (λ names. (image : List ℕ) → names.items ≡ passed_first_names (state_in (records_of records.now) image) tld.now) }
 {
     records
         .parts_of(tld)
         .iter()
-        .filter(|part| is_first_of_passed(records, tld, &part.name))
+        .filter(|part| is_first_of_passed_in(records, tld, &part.name))
         .map(|part| part.name)
         .collect(alloc)
 }
 
 /// Whether a name is that of the first part of a deposit that passed.
-fn is_first_of_passed(records: &Records, tld: &Tld, name: &DepositName) -> bool
-    ensures { result ≡ is_first_of_passed (records_of records.now) tld.now name.now }
+fn is_first_of_passed_in(records: &Records, tld: &Tld, name: &DepositName) -> bool
+    ensures { result ≡ is_first_of_passed_in (records_of records.now) tld.now name.now }
 {
     name.part == 1 && has_receipt_on(records, tld, name.day, name.rev)
 }
@@ -82,7 +89,7 @@ fn chain_of(
         Kind::Incr => chain.push(full)?,
         Kind::Diff => {
             chain.push(full)?;
-            chain.extend_from_slice(&later_than(alloc, full.day, passed)?)?;
+            chain.extend_from_slice(&later_names(alloc, full.day, passed)?)?;
         }
     }
     Ok(chain)
@@ -98,12 +105,12 @@ fn latest_full(passed: &[DepositName]) -> Option<DepositName>
         .last()
 }
 
-fn later_than(
+fn later_names(
     alloc: Global,
     day: Day,
     passed: &[DepositName],
 ) -> Result<Vec<DepositName>, AllocError>
-    ensures { IfOk result (λ later. later.items ≡ later_than day passed.now) }
+    ensures { IfOk result (λ later. later.items ≡ later_names day passed.now) }
 {
     passed
         .iter()

@@ -1,10 +1,16 @@
 //! The notices of a day.
-ghost use Rattle.std.specs.Prelude.{◌≡◌, ◌==◌, ◌&&◌, find, option_copied, option_map};
+ghost use Rattle.std.specs.Prelude.{◌≡◌, ◌==◌, ◌&&◌, find, option_copied, option_map, bytes_eq};
 ghost use Rattle.std.specs.FinMap.{entries};
-ghost use Rattle.custody_records.specs.Held.{records_of};
-ghost use Rattle.custody_records.specs.Typed.{notice_entry};
-ghost use Rattle.custody_machine.specs.Machine.{is_absence, is_failure_of, is_receipt, is_receipt_of, is_verdict, is_verdict_of};
-ghost use Rattle.custody_machine.specs.Names.{is_same_text};
+ghost use Rattle.desk.specs.Standing.{is_receipt};
+ghost use Rattle.custody_records.specs.MemoryRecords.{records_of};
+ghost use Rattle.custody_records.specs.TypedRecords.{notice_entry};
+ghost use Rattle.custody_machine.specs.Machine.{
+  is_absence,
+  is_failure_of,
+  is_receipt_of,
+  is_verdict,
+  is_verdict_of,
+};
 ghost use Rattle.custody_machine.specs.State.{has_notice, is_notice_of};
 
 use custody_records::Records;
@@ -34,7 +40,7 @@ pub(crate) fn absence_of<'a>(records: &'a Records, tld: &Tld, day: Day) -> Optio
     records
         .notices_of(tld)
         .iter()
-        .find(|notice| is_absence_of(notice, tld, day))
+        .find(|notice| is_absence_of_day(notice, tld, day))
 }
 
 /// Whether a revision has a verdict.
@@ -74,7 +80,7 @@ pub(crate) fn has_receipt(records: &Records, tld: &Tld, day: Day) -> bool
     records
         .notices_of(tld)
         .iter()
-        .any(|notice| is_receipt_of(notice, tld, day))
+        .any(|notice| is_receipt_of_day(notice, tld, day))
 }
 
 /// Whether a day has a receipt or a failure.
@@ -84,7 +90,7 @@ pub(crate) fn has_verdict(records: &Records, tld: &Tld, day: Day) -> bool
     records
         .notices_of(tld)
         .iter()
-        .any(|notice| is_verdict_of(notice, tld, day))
+        .any(|notice| is_verdict_of_day(notice, tld, day))
 }
 
 // ---- one notice
@@ -121,26 +127,26 @@ fn is_failure_of(notice: &Notice, tld: &Tld, day: Day, rev: u8) -> bool
         }
 }
 
-fn is_receipt_of(notice: &Notice, tld: &Tld, day: Day) -> bool
+fn is_receipt_of_day(notice: &Notice, tld: &Tld, day: Day) -> bool
     ensures { result ≡ is_notice_of tld.now day is_receipt (notice_entry notice.now) }
 {
     is_of_day(notice, tld, day) && matches!(notice.kind, NoticeKind::Receipt { .. })
 }
 
-fn is_verdict_of(notice: &Notice, tld: &Tld, day: Day) -> bool
+fn is_verdict_of_day(notice: &Notice, tld: &Tld, day: Day) -> bool
     ensures { result ≡ is_notice_of tld.now day is_verdict (notice_entry notice.now) }
 {
     is_of_day(notice, tld, day) && !matches!(notice.kind, NoticeKind::Absence)
 }
 
-fn is_absence_of(notice: &Notice, tld: &Tld, day: Day) -> bool
+fn is_absence_of_day(notice: &Notice, tld: &Tld, day: Day) -> bool
     ensures { result ≡ is_notice_of tld.now day is_absence (notice_entry notice.now) }
 {
     is_of_day(notice, tld, day) && matches!(notice.kind, NoticeKind::Absence)
 }
 
 fn is_of_day(notice: &Notice, tld: &Tld, day: Day) -> bool
-    ensures { result ≡ (is_same_text notice.now.tld tld.now && notice.now.day == day) }
+    ensures { result ≡ (bytes_eq notice.now.tld tld.now && notice.now.day == day) }
 {
     notice.tld == *tld && notice.day == day
 }

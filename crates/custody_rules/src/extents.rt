@@ -1,10 +1,10 @@
 //! Extents of parts: whether they may hold the parts' bytes.
 ghost use Rattle.std.specs.Prelude.{◌≡◌, ◌↔◌, IsTrue, All, true, false};
 ghost use Rattle.vault_volume.specs.Extents.{blocks_of};
-ghost use Rattle.custody_records.specs.Held.{records_of};
-ghost use Rattle.custody_records.specs.Typed.{part_value};
-ghost use Rattle.custody_machine.specs.Stored.{AreInRange, AreExtents};
-ghost use Rattle.custody_rules.specs.Blocks.{IsInRange, extents_of};
+ghost use Rattle.custody_records.specs.MemoryRecords.{records_of};
+ghost use Rattle.custody_records.specs.TypedRecords.{part_value};
+ghost use Rattle.custody_machine.specs.StoredState.{HaveExtentsInRange, AreExtents};
+ghost use Rattle.custody_rules.specs.Blocks.{IsInRange, part_extents};
 
 use custody_records::{Part, Records};
 use vault_volume::{Extent, blocks_for};
@@ -12,8 +12,8 @@ use vault_volume::{Extent, blocks_for};
 /// Whether the extents of each part lie in the volume, are not empty, have not block 0, and have as
 /// many blocks as its bytes take.
 pub(crate) fn are_in_range(records: &Records) -> bool
-    ensures in_range { result ≡ true → AreInRange (records_of records.now) }
-    ensures broken { result ≡ false → ¬ AreInRange (records_of records.now) }
+    ensures in_range { result ≡ true → HaveExtentsInRange (records_of records.now) }
+    ensures broken { result ≡ false → ¬ HaveExtentsInRange (records_of records.now) }
 {
     all_in_range(records.parts(), records.blocks())
 }
@@ -55,8 +55,8 @@ fn have_blocks(extents: &[Extent], count: u32) -> bool
 }
 
 /// The extents of a part, none where its bytes are dropped.
-pub(crate) fn extents_of(part: &Part) -> &[Extent]
-    ensures { result.now ≡ extents_of part.now }
+pub(crate) fn part_extents(part: &Part) -> &[Extent]
+    ensures { result.now ≡ part_extents part.now }
 {
     match &part.extents {
         Some(extents) => extents,

@@ -2,14 +2,14 @@
 ghost use Rattle.std.specs.Prelude.{◌≡◌, ℕ, List, Err, IfOk, IfErr};
 ghost use Rattle.std.specs.List.{list_any};
 ghost use Rattle.std.specs.Str.{bytes_eq};
-ghost use Rattle.custody_records.specs.Held.{records_of};
+ghost use Rattle.custody_records.specs.MemoryRecords.{records_of};
 ghost use Rattle.custody_records.specs.Records.{PartRecord};
-ghost use Rattle.custody_records.specs.Typed.{part_value};
-ghost use Rattle.custody_machine.specs.Fetched.{fetched};
-ghost use Rattle.custody_machine.specs.Stored.{AreLinked, state_in};
+ghost use Rattle.custody_records.specs.TypedRecords.{part_value};
+ghost use Rattle.custody_machine.specs.FetchResult.{fetch_result};
+ghost use Rattle.custody_machine.specs.StoredState.{AreLinked, state_in};
 ghost use Rattle.custody_rules.specs.Fetching.{HandsOver, IsRecordedAs};
 
-use crate::judging::recorded;
+use crate::judging::part_under;
 use custody_machine::Refusal;
 use custody_records::{Names, Part, Records};
 use deposit_name::{DepositName, Reference};
@@ -24,7 +24,7 @@ pub fn find_released<'a>(
 ) -> Result<(&'a Part, &'a [Extent]), Refusal>
     requires { AreLinked (records_of records.now) }
     ensures found { IfOk result (λ found. HandsOver (records_of records.now) reference.now name.now (part_value found.0.now) found.1.now) }
-    ensures refused { IfErr result (λ refusal. (image : List ℕ) → fetched (state_in (records_of records.now) image) reference.now name.now ≡ Err refusal) }
+    ensures refused { IfErr result (λ refusal. (image : List ℕ) → fetch_result (state_in (records_of records.now) image) reference.now name.now ≡ Err refusal) }
 {
     let Some(release) = records.release(reference) else {
         return Err(Refusal::ReleaseUnknown);
@@ -52,7 +52,7 @@ fn part_named<'a>(records: &'a Records, text: &[u8]) -> &'a Part
     ensures { IsRecordedAs (records_of records.now) text.now (part_value result.now) }
 {
     match DepositName::parse(text) {
-        Ok(name) => match recorded(records, &name) {
+        Ok(name) => match part_under(records, &name) {
             Some(part) => part,
             None => unreachable!(),
         },

@@ -1,29 +1,65 @@
 //! How a command is judged by the records, before any volume is looked at.
-ghost use Rattle.std.specs.Prelude.{◌≡◌, ◌≢◌, ◌≤◌, ◌+◌, ◌-◌, ◌==◌, ◌&&◌, ◌||◌, ℕ, List, Ok, None, Some, not, nat_lt, true, length, find, count_by, is_some, IfSome, option_map, option_copied};
+ghost use Rattle.std.specs.Prelude.{
+  ◌≡◌,
+  ◌≢◌,
+  ◌≤◌,
+  ◌+◌,
+  ◌-◌,
+  ◌==◌,
+  ◌&&◌,
+  ◌||◌,
+  ℕ,
+  List,
+  Ok,
+  None,
+  Some,
+  not,
+  nat_lt,
+  true,
+  length,
+  find,
+  count_by,
+  is_some,
+  IfSome,
+  option_map,
+  option_copied,
+};
 ghost use Rattle.std.specs.List.{list_any};
 ghost use Rattle.std.specs.FinMap.{get};
 ghost use Rattle.schedule.specs.Schedule.{day_of};
+ghost use Rattle.deposit_name.specs.Name.{is_same_kind};
+ghost use Rattle.desk.specs.Standing.{is_receipt};
 ghost use Rattle.custody_records.specs.Records.{key_of};
-ghost use Rattle.custody_records.specs.Held.{records_of};
-ghost use Rattle.custody_records.specs.Typed.{part_place, part_value};
-ghost use Rattle.custody_machine.specs.Names.{is_same_text, read_name};
-ghost use Rattle.custody_machine.specs.SameValues.{is_same_kind};
-ghost use Rattle.custody_machine.specs.State.{places, at_place, has_notice};
-ghost use Rattle.custody_machine.specs.Stored.{state_in};
-ghost use Rattle.custody_machine.specs.Machine.{Register, is_receipt, is_failure_of, is_verdict_of, recorded, max_part_len, receive_tests, first_standing};
-ghost use Rattle.custody_machine.specs.declared.answers.Refusal.TheVariants.{OtherBytes, VolumeFull};
+ghost use Rattle.custody_records.specs.MemoryRecords.{records_of};
+ghost use Rattle.custody_records.specs.TypedRecords.{key_of_part, part_value};
+ghost use Rattle.custody_machine.specs.NameReading.{read_name};
+ghost use Rattle.custody_machine.specs.State.{part_numbers, key_with_part, has_notice};
+ghost use Rattle.custody_machine.specs.StoredState.{state_in};
+ghost use Rattle.custody_machine.specs.Machine.{
+  Register,
+  is_failure_of,
+  is_verdict_of,
+  part_under_name,
+  max_part_len,
+  receive_tests,
+  first_refusal,
+};
+ghost use Rattle.custody_machine.specs.declared.answers.Refusal.TheVariants.{
+  OtherBytes,
+  VolumeFull,
+};
 ghost use Rattle.custody_machine.specs.Commands.{command_of};
 ghost use Rattle.custody_machine.specs.Rulings.{Decides, DecidesPart};
 ghost use Rattle.custody_rules.specs.Rulings.{ruling_of};
-ghost use Rattle.custody_rules.specs.Judged.{recorded_under, is_of_other_kind, RulesRecorded};
+ghost use Rattle.custody_rules.specs.Judging.{part_under, is_of_other_kind, RulesRecordedPart};
 
-use crate::checking::judge_check;
+use crate::check_rules::judge_check;
 use crate::days::{has_failed, has_receipt, has_verdict_on};
-use crate::holding::{judge_hold, judge_lift};
-use crate::releasing::judge_release;
-use crate::revision::{count_parts, has_other_kind, is_of_kind, part_in};
-use crate::stating::judge_statement;
-use crate::{Change, Kept, Ruling};
+use crate::hold_rules::{judge_hold, judge_lift};
+use crate::release_rules::judge_release;
+use crate::revision::{count_parts, has_other_kind, is_of_kind, revision_part};
+use crate::statement_rules::judge_statement;
+use crate::{Change, KeptRecord, Ruling};
 use custody_machine::{Command, Refusal};
 use custody_records::{Part, PartKey, Records, Registry};
 use deposit_name::{DepositName, Kind, Tld};
@@ -46,7 +82,7 @@ pub fn judge<'a>(records: &'a Records, command: &Command<'_>, now: Sec) -> Rulin
         }
         Command::Hold(reference, tld, day) => judge_hold(records, *reference, *tld, *day, now),
         Command::Lift(reference) => judge_lift(records, *reference),
-        Command::Purge => Ruling::Make(Change::Purge),
+        Command::Purge => Ruling::Go(Change::Purge),
     }
 }
 
@@ -54,11 +90,11 @@ fn judge_registry(records: &Records, tld: Tld, first_day: Day) -> Ruling<'_>
     ensures { (now : ℕ) → Decides (ruling_of result) (records_of records.now) (Register tld first_day) now }
 {
     match records.first_day(&tld) {
-        Some(kept) => Ruling::Repeat(Kept::Registry(Registry {
+        Some(kept) => Ruling::Kept(KeptRecord::Registry(Registry {
             tld,
             first_day: kept,
         })),
-        None => Ruling::Make(Change::Registry(Registry { tld, first_day })),
+        None => Ruling::Go(Change::Registry(Registry { tld, first_day })),
     }
 }
 
@@ -78,18 +114,18 @@ fn judge_named<'a>(records: &'a Records, name: &DepositName, len: usize, now: Se
     let Some(first_day) = records.first_day(&name.tld) else {
         return Ruling::Refuse(Refusal::RegistryUnknown);
     };
-    match recorded(records, name) {
+    match part_under(records, name) {
         Some(part) => judge_recorded(part, len),
         None => match refusal_of_new(records, name, first_day, len, now) {
             Some(refusal) => Ruling::Refuse(refusal),
-            None => Ruling::Make(Change::Part(*name)),
+            None => Ruling::Go(Change::Part(*name)),
         },
     }
 }
 
 // A part that is recorded under the name already.
 fn judge_recorded(part: &Part, len: usize) -> Ruling<'_>
-    ensures { RulesRecorded (ruling_of result) part.now len }
+    ensures { RulesRecordedPart (ruling_of result) part.now len }
 {
     if is_out_of_size(len) {
         return Ruling::Refuse(Refusal::Size);
@@ -108,8 +144,8 @@ fn refusal_of_new(
     len: usize,
     now: Sec,
 ) -> Option<Refusal>
-    ensures first { (image bytes : List ℕ) → length bytes ≡ len → get (records_of records.now).registries name.now.tld ≡ Some first_day → recorded (state_in (records_of records.now) image) name.now ≡ None
-        → result ≡ first_standing (receive_tests (state_in (records_of records.now) image) name.now bytes now) }
+    ensures first { (image bytes : List ℕ) → length bytes ≡ len → get (records_of records.now).registries name.now.tld ≡ Some first_day → part_under_name (state_in (records_of records.now) image) name.now ≡ None
+        → result ≡ first_refusal (receive_tests (state_in (records_of records.now) image) name.now bytes now) }
     ensures early { IfSome result (λ refusal. (refusal ≢ OtherBytes) × (refusal ≢ VolumeFull)) }
 {
     if is_outside(name, first_day, now) {
@@ -118,7 +154,7 @@ fn refusal_of_new(
     if is_out_of_size(len) {
         return Some(Refusal::Size);
     }
-    if is_not_due(records, name) {
+    if is_revision_not_due(records, name) {
         return Some(Refusal::RevisionNotDue);
     }
     if is_stated(records, name) {
@@ -146,7 +182,7 @@ fn is_out_of_size(len: usize) -> bool
 }
 
 // The day has a receipt, or the revision before has no failure.
-fn is_not_due(records: &Records, name: &DepositName) -> bool
+fn is_revision_not_due(records: &Records, name: &DepositName) -> bool
     ensures { result ≡ (has_notice (records_of records.now).notices name.now.tld name.now.day is_receipt
         || (nat_lt 0 name.now.rev && not (has_notice (records_of records.now).notices name.now.tld name.now.day (is_failure_of (name.now.rev - 1))))) }
 {
@@ -161,21 +197,21 @@ fn is_stated(records: &Records, name: &DepositName) -> bool
 }
 
 // The part that is recorded under a name: one of another kind in its place is not.
-pub(crate) fn recorded<'a>(records: &'a Records, name: &DepositName) -> Option<&'a Part>
-    ensures found { option_map part_value (option_copied result) ≡ recorded_under (records_of records.now) name.now }
-    ensures key { IfSome result (λ part. part_place part.now ≡ key_of name.now) }
+pub(crate) fn part_under<'a>(records: &'a Records, name: &DepositName) -> Option<&'a Part>
+    ensures found { option_map part_value (option_copied result) ≡ part_under (records_of records.now) name.now }
+    ensures key { IfSome result (λ part. key_of_part part.now ≡ key_of name.now) }
 {
-    part_in(records, &PartKey::of(name), name.part).filter(|part| is_of_kind(part, name.kind))
+    revision_part(records, &PartKey::of(name), name.part).filter(|part| is_of_kind(part, name.kind))
 }
 
 fn differs_in_kind(records: &Records, name: &DepositName) -> bool
-    ensures { result ≡ list_any (λ place. is_of_other_kind name.now.kind (get (records_of records.now).parts (at_place (key_of name.now) place))) places }
+    ensures { result ≡ list_any (λ place. is_of_other_kind name.now.kind (get (records_of records.now).parts (key_with_part (key_of name.now) place))) part_numbers }
 {
     has_other_kind(records, &PartKey::of(name), name.kind)
 }
 
 fn is_out_of_order(records: &Records, name: &DepositName) -> bool
-    ensures { result ≡ not (count_by (λ place. is_some (get (records_of records.now).parts (at_place (key_of name.now) place))) places + 1 == name.now.part) }
+    ensures { result ≡ not (count_by (λ place. is_some (get (records_of records.now).parts (key_with_part (key_of name.now) place))) part_numbers + 1 == name.now.part) }
 {
     count_parts(records, &PartKey::of(name)) + 1 != usize::from(name.part)
 }

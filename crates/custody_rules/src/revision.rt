@@ -2,12 +2,12 @@
 ghost use Rattle.std.specs.Prelude.{◌≡◌, ◌≤◌, IfSome, count_by, is_some, option_copied, option_map};
 ghost use Rattle.std.specs.FinMap.{get};
 ghost use Rattle.std.specs.List.{list_any};
-ghost use Rattle.custody_records.specs.Held.{records_of};
-ghost use Rattle.custody_records.specs.Typed.{part_place, part_value};
-ghost use Rattle.custody_machine.specs.SameValues.{is_same_kind};
-ghost use Rattle.custody_machine.specs.State.{at_place, places};
-ghost use Rattle.custody_machine.specs.Stored.{is_part_of};
-ghost use Rattle.custody_rules.specs.Judged.{is_of_other_kind, is_without_bytes};
+ghost use Rattle.deposit_name.specs.Name.{is_same_kind};
+ghost use Rattle.custody_records.specs.MemoryRecords.{records_of};
+ghost use Rattle.custody_records.specs.TypedRecords.{key_of_part, part_value};
+ghost use Rattle.custody_machine.specs.State.{key_with_part, part_numbers};
+ghost use Rattle.custody_machine.specs.StoredState.{is_part_of};
+ghost use Rattle.custody_rules.specs.Judging.{is_of_other_kind, is_without_bytes};
 
 use custody_records::{Part, PartKey, Records};
 use deposit_name::Kind;
@@ -16,9 +16,9 @@ use deposit_name::Kind;
 const PLACES: [u8; 8] = [1, 2, 3, 4, 5, 6, 7, 8];
 
 /// The part at a place of the revision.
-pub(crate) fn part_in<'a>(records: &'a Records, key: &PartKey, place: u8) -> Option<&'a Part>
-    ensures found { option_map part_value (option_copied result) ≡ get (records_of records.now).parts (at_place key.now place) }
-    ensures key { IfSome result (λ part. part_place part.now ≡ at_place key.now place) }
+pub(crate) fn revision_part<'a>(records: &'a Records, key: &PartKey, place: u8) -> Option<&'a Part>
+    ensures found { option_map part_value (option_copied result) ≡ get (records_of records.now).parts (key_with_part key.now place) }
+    ensures key { IfSome result (λ part. key_of_part part.now ≡ key_with_part key.now place) }
 {
     records.part(&PartKey {
         part: place,
@@ -44,7 +44,7 @@ pub(crate) fn has_part_of(records: &Records, place: &PartKey, kind: Kind) -> boo
 
 /// How many parts the revision has.
 pub(crate) fn count_parts(records: &Records, key: &PartKey) -> usize
-    ensures number { result ≡ count_by (λ place. is_some (get (records_of records.now).parts (at_place key.now place))) places }
+    ensures number { result ≡ count_by (λ place. is_some (get (records_of records.now).parts (key_with_part key.now place))) part_numbers }
     ensures small { result ≤ 8 }
 {
     PLACES
@@ -55,7 +55,7 @@ pub(crate) fn count_parts(records: &Records, key: &PartKey) -> usize
 
 /// Whether a part of the revision is of another kind.
 pub(crate) fn has_other_kind(records: &Records, key: &PartKey, kind: Kind) -> bool
-    ensures { result ≡ list_any (λ place. is_of_other_kind kind (get (records_of records.now).parts (at_place key.now place))) places }
+    ensures { result ≡ list_any (λ place. is_of_other_kind kind (get (records_of records.now).parts (key_with_part key.now place))) part_numbers }
 {
     PLACES
         .iter()
@@ -64,30 +64,30 @@ pub(crate) fn has_other_kind(records: &Records, key: &PartKey, kind: Kind) -> bo
 
 /// Whether the bytes of a part of the revision are dropped.
 pub(crate) fn has_dropped_part(records: &Records, key: &PartKey) -> bool
-    ensures { result ≡ list_any (λ place. is_without_bytes (get (records_of records.now).parts (at_place key.now place))) places }
+    ensures { result ≡ list_any (λ place. is_without_bytes (get (records_of records.now).parts (key_with_part key.now place))) part_numbers }
 {
     PLACES.iter().any(|place| is_dropped(records, key, *place))
 }
 
 fn has_part(records: &Records, key: &PartKey, place: u8) -> bool
-    ensures { result ≡ is_some (get (records_of records.now).parts (at_place key.now place)) }
+    ensures { result ≡ is_some (get (records_of records.now).parts (key_with_part key.now place)) }
 {
-    part_in(records, key, place).is_some()
+    revision_part(records, key, place).is_some()
 }
 
 fn is_other_kind(records: &Records, key: &PartKey, kind: Kind, place: u8) -> bool
-    ensures { result ≡ is_of_other_kind kind (get (records_of records.now).parts (at_place key.now place)) }
+    ensures { result ≡ is_of_other_kind kind (get (records_of records.now).parts (key_with_part key.now place)) }
 {
-    match part_in(records, key, place) {
+    match revision_part(records, key, place) {
         Some(part) => !is_of_kind(part, kind),
         None => false,
     }
 }
 
 fn is_dropped(records: &Records, key: &PartKey, place: u8) -> bool
-    ensures { result ≡ is_without_bytes (get (records_of records.now).parts (at_place key.now place)) }
+    ensures { result ≡ is_without_bytes (get (records_of records.now).parts (key_with_part key.now place)) }
 {
-    match part_in(records, key, place) {
+    match revision_part(records, key, place) {
         Some(part) => part.extents.is_none(),
         None => false,
     }

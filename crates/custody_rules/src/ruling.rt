@@ -12,16 +12,16 @@ pub enum Ruling<'a> {
     /// It is refused.
     Refuse(Refusal),
     /// It is a repeat, and answered by this record.
-    Repeat(Kept<'a>),
+    Kept(KeptRecord<'a>),
     /// A part is held under its name, at these extents: the bytes there decide.
     Compare(&'a Part, &'a [Extent]),
     /// It makes this change, and nothing but room can refuse it.
-    Make(Change),
+    Go(Change),
 }
 
 /// A record that answers a repeat.
 #[derive(Clone, Copy, Debug, PartialEq)]
-pub enum Kept<'a> {
+pub enum KeptRecord<'a> {
     Registry(Registry),
     Notice(Notice),
     Release(&'a Release),

@@ -7,7 +7,7 @@ use Rattle.sqlite.specs.Order.{Row}
 use Rattle.sqlite.specs.Table.{Table}
 use Rattle.sqlite.specs.Schema.{Schema}
 use Rattle.sqlite.specs.Tree.{Trees}
-use Rattle.custody_store.specs.Standing.{AreApart}
+use Rattle.custody_store.specs.StoreState.{HaveOwnTrees}
 use Rattle.sqlite_schema.specs.declared.schema.Action.TheVariants.{NoAction}
 use Rattle.sqlite_schema.specs.declared.schema.Keys.{Keys}
 use Rattle.sqlite_schema.specs.declared.schema.Keys.TheVariants.{Enforced, Deferred, Off}
@@ -83,7 +83,7 @@ either_none Deferred true ref quiet = rw (quiet.0) refl
 either_none Deferred false ref quiet = rw (quiet.1) refl
 either_none Off deletes ref quiet = refl
 
-module _ (schema : Schema) (keys : Keys) (apart : AreApart schema.tables) (t : Table) (has : Has schema.tables t) (quiet : IsQuiet t) where
+module _ (schema : Schema) (keys : Keys) (apart : HaveOwnTrees schema.tables) (t : Table) (has : Has schema.tables t) (quiet : IsQuiet t) where
   -- none acts on its rows
   pub elsewhere : (depth tree : ℕ) (olds news : List Row) (w : Work) → Has (works schema keys depth tree olds news) w → w.child.tree ≢ t.tree
   elsewhere depth tree olds news w h same =

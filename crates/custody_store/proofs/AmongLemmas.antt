@@ -4,14 +4,14 @@ use Rattle.std.specs.List.{AllByRecursion}
 use Rattle.sqlite.specs.Schema.{Schema}
 use Rattle.sqlite.specs.Effect.{Database}
 use Rattle.custody_store.specs.Schema.{record_schema}
-use Rattle.custody_store.specs.Standing.{AreApart, HasAmong, HasTables}
+use Rattle.custody_store.specs.StoreState.{HaveOwnTrees, HasTablesAmongOthers, HasOnlyTables}
 use Rattle.custody_store.proofs.ActionLemmas.{IsQuiet}
 
 -- no reference of theirs acts on them
 pub record_quiet : AllByRecursion IsQuiet record_schema.tables
 record_quiet = (tt, (tt, (((refl, refl), tt), (((refl, refl), tt), (((refl, refl), tt), (((refl, refl), tt), tt))))))
 
-pub record_apart : AreApart record_schema.tables
+pub record_apart : HaveOwnTrees record_schema.tables
 record_apart = (
   (λ e. omega (arith, e), (λ e. omega (arith, e), (λ e. omega (arith, e), (λ e. omega (arith, e), (λ e. omega (arith, e), tt))))),
   (
@@ -26,10 +26,10 @@ record_apart = (
   ),
 )
 
-pub as_made : (db : Database) → HasTables record_schema db → HasAmong record_schema.tables db
+pub as_made : (db : Database) → HasOnlyTables record_schema db → HasTablesAmongOthers record_schema.tables db
 as_made db tables = record {
   begins = ([], ap (λ (t : Schema). t.tables) tables.schema_is);
-  apart = subst (λ (t : Schema). AreApart t.tables) (sym tables.schema_is) record_apart;
+  apart = subst (λ (t : Schema). HaveOwnTrees t.tables) (sym tables.schema_is) record_apart;
   sound = tables.sound;
   ordered = tables.ordered;
 }

@@ -8,7 +8,7 @@ use Rattle.sqlite.specs.State.{State}
 use Rattle.sqlite_catalog.specs.Listing.{IsTableRow}
 use Rattle.custody_store.specs.Schema.{no_schema}
 use Rattle.custody_store.specs.Reading.{rows_in, no_rows}
-use Rattle.custody_store.specs.Standing.{IsBare}
+use Rattle.custody_store.specs.StoreState.{IsBare}
 use Rattle.custody_store.proofs.TableLemmas.{named, named_in}
 
 -- no table is listed

@@ -19,12 +19,12 @@ use Rattle.sqlite.specs.Schema.{Schema}
 use Rattle.custody_store.specs.Schema.{meta_schema, first_schema, record_schema}
 use Rattle.custody_records.specs.Rows.{Rows}
 use Rattle.custody_store.specs.Reading.{rows_in, has_table}
-use Rattle.custody_store.specs.Standing.{Standing, HasTables, HasAmong, AreApart, IsAsMade, IsAtRest, IsReady, HasFirst, HasTablesFirst, BeginsWith, AreOrdered, StandsAs, shown, IsOneCommit, Commits}
-use Rattle.custody_store.specs.Calls.{IsSettled, Runs}
+use Rattle.custody_store.specs.StoreState.{StoreState, HasOnlyTables, HasTablesAmongOthers, HaveOwnTrees, HasSchemaAtRest, IsAtRest, IsReady, HasFirstTables, HasSchemaTablesFirst, SchemaBeginsWith, AreOrdered, SameTablesAndRows, as_store_state, IsOneCommit, Commits}
+use Rattle.custody_store.specs.Calls.{LeavesCommitted, RunsStatement}
 use Rattle.custody_store.proofs.ModeLemmas.{ended, runs_mode}
 use Rattle.custody_store.proofs.StatementLemmas.{IsMeaning, IsMeaningOver, beginning_with}
 
-pub at_rest : (s : State) → IsTrue s.is_open → s.in_transaction ≡ false → s.committed ≡ s.now → IsSettled s → IsAtRest s
+pub at_rest : (s : State) → IsTrue s.is_open → s.in_transaction ≡ false → s.committed ≡ s.now → LeavesCommitted s → IsAtRest s
 at_rest s is_open autocommit committed settled = record {
   is_open = is_open;
   autocommit = autocommit;
@@ -32,31 +32,31 @@ at_rest s is_open autocommit committed settled = record {
   only = λ rows h. h.2 ∙ ap rows_in (settled h.0 is_open h.1 ∙ ap (λ (d : Database). d.trees) committed);
 }
 
-pub ready_at : (s : State) → IsTrue s.is_open → s.in_transaction ≡ false → s.committed ≡ s.now → IsSettled s → HasAmong record_schema.tables s.now → IsReady s
+pub ready_at : (s : State) → IsTrue s.is_open → s.in_transaction ≡ false → s.committed ≡ s.now → LeavesCommitted s → HasTablesAmongOthers record_schema.tables s.now → IsReady s
 ready_at s is_open autocommit committed settled tables = record { rest = at_rest s is_open autocommit committed settled; tables = tables }
 
-first_still : (first : List Table) (old new : State) → IsAtRest new → new.now ≡ old.now → HasFirst first old → HasFirst first new
+first_still : (first : List Table) (old new : State) → IsAtRest new → new.now ≡ old.now → HasFirstTables first old → HasFirstTables first new
 first_still first old new rest now h = record {
   rest = rest;
-  begins = subst (λ (d : Database). BeginsWith first d.schema) (sym now) h.begins;
+  begins = subst (λ (d : Database). SchemaBeginsWith first d.schema) (sym now) h.begins;
   sound = subst IsDatabase (sym now) h.sound;
   ordered = subst (λ (d : Database). AreOrdered first d.trees) (sym now) h.ordered;
 }
 
-tables_still : (old new : State) → IsAtRest new → new.now ≡ old.now → HasTablesFirst old → HasTablesFirst new
+tables_still : (old new : State) → IsAtRest new → new.now ≡ old.now → HasSchemaTablesFirst old → HasSchemaTablesFirst new
 tables_still old new rest now h = (
   first_still first_schema.tables old new rest now h.0,
   λ there. first_still record_schema.tables old new rest now (h.1 (sym (ap (λ (d : Database). has_table (codes "hold") d.schema) now) ∙ there)),
 )
 
 ready_still : (old new : State) → IsAtRest new → new.now ≡ old.now → IsReady old → IsReady new
-ready_still old new rest now ready = record { rest = rest; tables = subst (HasAmong record_schema.tables) (sym now) ready.tables }
+ready_still old new rest now ready = record { rest = rest; tables = subst (HasTablesAmongOthers record_schema.tables) (sym now) ready.tables }
 
-made_still : (schema : Schema) (old new : State) → IsAtRest new → new.now ≡ old.now → IsAsMade schema old → IsAsMade schema new
-made_still schema old new rest now made = record { rest = rest; tables = subst (HasTables schema) (sym now) made.tables }
+made_still : (schema : Schema) (old new : State) → IsAtRest new → new.now ≡ old.now → HasSchemaAtRest schema old → HasSchemaAtRest schema new
+made_still schema old new rest now made = record { rest = rest; tables = subst (HasOnlyTables schema) (sym now) made.tables }
 
 -- the same database, at rest
-pub stands_at : (old new : State) → IsAtRest new → new.now ≡ old.now → StandsAs (shown old) (shown new)
+pub stands_at : (old new : State) → IsAtRest new → new.now ≡ old.now → SameTablesAndRows (as_store_state old) (as_store_state new)
 stands_at old new rest now = record {
   rows = ap (λ (d : Database). rows_in d.trees) now;
   schema = ap (λ (d : Database). d.schema) now;
@@ -69,7 +69,7 @@ stands_at old new rest now = record {
 }
 
 -- a call that changed nothing, or that rolled back
-pub stands : (old new : State) → IsAtRest old → IsSettled new → IsUnchanged old new ⊎ IsRolledBack old new → IsTrue new.is_open → StandsAs (shown old) (shown new)
+pub stands : (old new : State) → IsAtRest old → LeavesCommitted new → IsUnchanged old new ⊎ IsRolledBack old new → IsTrue new.is_open → SameTablesAndRows (as_store_state old) (as_store_state new)
 stands old new was settled (inl same) is_open =
     let now = same.0.now_is in
     stands_at old new (at_rest new is_open (same.0.mode ∙ was.autocommit) (same.0.committed_is ∙ was.committed ∙ sym now) settled) now
@@ -77,7 +77,7 @@ stands old new was settled (inr undone) is_open =
     let both = undone.undone is_open in
     stands_at old new (at_rest new is_open undone.autocommit (both.1 ∙ sym both.0) settled) (both.0 ∙ was.committed)
 
-kept : (old new : State) → IsReady old → IsSettled new → IsUnchanged old new ⊎ IsRolledBack old new → IsTrue new.is_open → IsReady new × (rows_in new.now.trees ≡ rows_in old.now.trees)
+kept : (old new : State) → IsReady old → LeavesCommitted new → IsUnchanged old new ⊎ IsRolledBack old new → IsTrue new.is_open → IsReady new × (rows_in new.now.trees ≡ rows_in old.now.trees)
 kept old new ready settled either is_open = let still = stands old new ready.rest settled either is_open in (still.ready ready, still.rows)
 
 -- honesty goes backwards
@@ -105,24 +105,24 @@ Makes s sql params command db =
 abbrev pub Changes : State → List ℕ → Row → Command → (Rows → Rows) → Type 0
 Changes s sql params command change =
     (tally : Tally) (after : Database) → Does s.step_limit (mode_of s) params s.now (statement_of sql (understood s.now.schema sql)) None command (Ok (tally, after)) → IsDatabase after
-    → (after.schema ≡ s.now.schema) × HasAmong record_schema.tables after × (rows_in after.trees ≡ change (rows_in s.now.trees))
+    → (after.schema ≡ s.now.schema) × HasTablesAmongOthers record_schema.tables after × (rows_in after.trees ≡ change (rows_in s.now.trees))
 
 -- the same tables in the schema that a statement leaves
-pub among_still : (db after : Database) → HasAmong record_schema.tables db → after.schema ≡ db.schema → IsDatabase after → AreOrdered record_schema.tables after.trees → HasAmong record_schema.tables after
+pub among_still : (db after : Database) → HasTablesAmongOthers record_schema.tables db → after.schema ≡ db.schema → IsDatabase after → AreOrdered record_schema.tables after.trees → HasTablesAmongOthers record_schema.tables after
 among_still db after tables same sound ordered = record {
-  begins = subst (BeginsWith record_schema.tables) (sym same) tables.begins;
-  apart = subst (λ (t : Schema). AreApart t.tables) (sym same) tables.apart;
+  begins = subst (SchemaBeginsWith record_schema.tables) (sym same) tables.begins;
+  apart = subst (λ (t : Schema). HaveOwnTrees t.tables) (sym same) tables.apart;
   sound = sound;
   ordered = ordered;
 }
 
 module _ (sql : List ℕ) (params : Row) (command : Command) (means : IsMeaning record_schema.tables sql command) (writes : WritesRows command) where
-  means_in : (schema : Schema) → BeginsWith record_schema.tables schema → IsMeaningOver schema sql command
+  means_in : (schema : Schema) → SchemaBeginsWith record_schema.tables schema → IsMeaningOver schema sql command
   means_in schema begins =
       let is : schema ≡ beginning_with record_schema.tables begins.0 schema.indexes schema.views = ap (λ tables. record schema { tables = tables }) begins.1 in
       subst (λ t. IsMeaningOver t sql command) (sym is) (means begins.0 schema.indexes schema.views)
 
-  commits_as : (s : State) (db : Trees) → BeginsWith record_schema.tables s.now.schema → CommitsBy sql params s db → Makes s sql params command db
+  commits_as : (s : State) (db : Trees) → SchemaBeginsWith record_schema.tables s.now.schema → CommitsBy sql params s db → Makes s sql params command db
   unfolding CommitsBy
   commits_as s db begins h =
       let over = means_in s.now.schema begins in
@@ -139,14 +139,14 @@ module _ (sql : List ℕ) (params : Row) (command : Command) (means : IsMeaning 
       let over = means_in old.now.schema ready.tables.begins in
       writes.runs old new _ params count (runs_as sql params old new old.now.schema refl command over.is over.plain count h)
 
-  module _ (old new : State) (change : Rows → Rows) (effect : IsReady old → Changes old sql params command change) (settled : IsSettled new) (survives : Survives old new (CommitsBy sql params old)) where
-    left : IsReady old → HasCleanDisk new → (rows : Rows) → (shown new).may_leave rows → (shown old).may_leave rows ⊎ (rows ≡ change (rows_in old.now.trees))
+  module _ (old new : State) (change : Rows → Rows) (effect : IsReady old → Changes old sql params command change) (settled : LeavesCommitted new) (survives : Survives old new (CommitsBy sql params old)) where
+    left : IsReady old → HasCleanDisk new → (rows : Rows) → (as_store_state new).may_leave rows → (as_store_state old).may_leave rows ⊎ (rows ≡ change (rows_in old.now.trees))
     left ready clean rows h = elim (survives.crash clean h.0 h.1) [
       | inl before ↦ inl (h.0, before, h.2)
       | inr made ↦ let it = commits_as old h.0 ready.tables.begins made in inr (h.2 ∙ ap rows_in it.4 ∙ (effect ready it.0 it.1 it.2 it.3).2)
     ]
 
-    wrote : {A E : Type 0} (x : A) (count : ℕ) → Executes sql params old new (Ok count) → HasCleanDisk new → IsReady old → IsOneCommit {E = E} (shown old) (shown new) (change (rows_in old.now.trees)) (Ok x)
+    wrote : {A E : Type 0} (x : A) (count : ℕ) → Executes sql params old new (Ok count) → HasCleanDisk new → IsReady old → IsOneCommit {E = E} (as_store_state old) (as_store_state new) (change (rows_in old.now.trees)) (Ok x)
     wrote x count h clean ready =
         let w = written old new count h ready in
         let made = effect ready w.tally new.now w.changed w.sound in
@@ -154,13 +154,13 @@ module _ (sql : List ℕ) (params : Row) (command : Command) (means : IsMeaning 
         let autocommit = w.shown.mode ∙ ready.rest.autocommit in
         record { done = (ready_at new w.shown.is_open autocommit committed settled made.1, made.2); kept = tt; left = left ready clean; schema = λ _. made.0; ended = autocommit }
 
-    failed : {A E : Type 0} (x : E) (e : Error) → Executes sql params old new (Err e) → HasCleanDisk new → IsReady old → IsOneCommit {A = A} (shown old) (shown new) (change (rows_in old.now.trees)) (Err x)
+    failed : {A E : Type 0} (x : E) (e : Error) → Executes sql params old new (Err e) → HasCleanDisk new → IsReady old → IsOneCommit {A = A} (as_store_state old) (as_store_state new) (change (rows_in old.now.trees)) (Err x)
     failed x e h clean ready =
         let whole = fails_whole old new false sql params e h in
         record { done = tt; kept = kept old new ready settled whole; left = left ready clean; schema = λ is_open. (stands old new ready.rest settled whole is_open).schema; ended = ended old new ready.rest.autocommit whole }
 
   -- One statement that writes rows is one commit.
-  pub commits_change : {A E : Type 0} (old new : State) (change : Rows → Rows) (r : Result A E) → (IsReady old → Changes old sql params command change) → Runs sql params old new r → Commits (shown old) (shown new) (change (rows_in old.now.trees)) r
+  pub commits_change : {A E : Type 0} (old new : State) (change : Rows → Rows) (r : Result A E) → (IsReady old → Changes old sql params command change) → RunsStatement sql params old new r → Commits (as_store_state old) (as_store_state new) (change (rows_in old.now.trees)) r
   commits_change old new change (Ok x) effect runs = record {
     trust = trusts old new _ runs.survives;
     mode = runs_mode sql params old new (Ok x) (means [] [] []).changes runs;
@@ -173,19 +173,19 @@ module _ (sql : List ℕ) (params : Row) (command : Command) (means : IsMeaning 
   }
 
 -- where nothing was called
-pub commits_none : {A E : Type 0} (s : State) (after : Rows) (e : E) → Commits {A = A} (shown s) (shown s) after (Err e)
+pub commits_none : {A E : Type 0} (s : State) (after : Rows) (e : E) → Commits {A = A} (as_store_state s) (as_store_state s) after (Err e)
 commits_none s after e = record { trust = λ honest. honest; mode = λ _ autocommit. autocommit; effect = λ _ ready. record { done = tt; kept = λ _. (ready, refl); left = λ rows h. inl h; schema = λ _. refl; ended = ready.rest.autocommit } }
 
-pub commits_err : {A B E F : Type 0} (old new : Standing) (after : Rows) (x : E) (r : Result B F) → IsErr r → Commits {A = A} old new after (Err x) → Commits old new after r
+pub commits_err : {A B E F : Type 0} (old new : StoreState) (after : Rows) (x : E) (r : Result B F) → IsErr r → Commits {A = A} old new after (Err x) → Commits old new after r
 commits_err old new after x (Ok y) is p = absurd (let e = is in cc)
 commits_err old new after x (Err y) is p = record { trust = p.trust; mode = p.mode; effect = λ honest ready. let it = p.effect honest ready in record { done = tt; kept = it.kept; left = it.left; schema = it.schema; ended = it.ended } }
 
-pub commits_ok : {A B E F : Type 0} (old new : Standing) (after : Rows) (x : A) (y : B) → Commits {E = E} old new after (Ok x) → Commits {E = F} old new after (Ok y)
+pub commits_ok : {A B E F : Type 0} (old new : StoreState) (after : Rows) (x : A) (y : B) → Commits {E = E} old new after (Ok x) → Commits {E = F} old new after (Ok y)
 commits_ok old new after x y p = record { trust = p.trust; mode = p.mode; effect = λ honest ready. let it = p.effect honest ready in record { done = it.done; kept = tt; left = it.left; schema = it.schema; ended = it.ended } }
 
-pub runs_err : {A B E F : Type 0} (sql : List ℕ) (params : Row) (old new : State) (x : E) (r : Result B F) → IsErr r → Runs {A = A} sql params old new (Err x) → Runs sql params old new r
+pub runs_err : {A B E F : Type 0} (sql : List ℕ) (params : Row) (old new : State) (x : E) (r : Result B F) → IsErr r → RunsStatement {A = A} sql params old new (Err x) → RunsStatement sql params old new r
 runs_err sql params old new x (Ok y) is p = absurd (let e = is in cc)
 runs_err sql params old new x (Err y) is p = record { settled = p.settled; survives = p.survives; ran = p.ran }
 
-pub runs_ok : {A B E F : Type 0} (sql : List ℕ) (params : Row) (old new : State) (x : A) (y : B) → Runs {E = E} sql params old new (Ok x) → Runs {E = F} sql params old new (Ok y)
+pub runs_ok : {A B E F : Type 0} (sql : List ℕ) (params : Row) (old new : State) (x : A) (y : B) → RunsStatement {E = E} sql params old new (Ok x) → RunsStatement {E = F} sql params old new (Ok y)
 runs_ok sql params old new x y p = record { settled = p.settled; survives = p.survives; ran = p.ran }

@@ -31,10 +31,10 @@ use Rattle.sqlite_keyed.proofs.ListLemmas.{map-map}
 use Rattle.sqlite.specs.Listing.{understood}
 use Rattle.sqlite.proofs.Callers.{statement_of}
 use Rattle.custody_store.specs.Schema.{record_schema, part_table}
-use Rattle.custody_store.specs.Reading.{rows_in, part_row, hold_row}
-use Rattle.custody_store.specs.Dropping.{holds_row, is_due, dropped_row, dropped_if_due, without_due, count_due, is_same_number}
-use Rattle.custody_store.specs.Standing.{HasAmong, BeginsWith, IsReady}
-use Rattle.custody_store.specs.Statements.{drop_due_text, today_only}
+use Rattle.custody_store.specs.Reading.{rows_in, stored_part_row, stored_hold_row}
+use Rattle.custody_store.specs.Dropping.{is_hold_of_row, is_due_row, dropped_row, row_dropped_if_due, rows_without_due, count_due_rows, is_same_number}
+use Rattle.custody_store.specs.StoreState.{HasTablesAmongOthers, SchemaBeginsWith, IsReady}
+use Rattle.custody_store.specs.Statements.{drop_due_text, drop_due_values}
 use Rattle.custody_store.proofs.StatementLemmas.{hold_tests, parts_and_holds, due_tests, dropped_places, drop_due_program, drop_due_is}
 use Rattle.custody_store.proofs.TableLemmas.{rows_among, held_rows}
 use Rattle.custody_store.proofs.HoldLemmas.{IsHoldRow, hold_rows, hold_at}
@@ -66,10 +66,10 @@ record IsPartRow (r : Row) : Type 0 where
 
 -- 1 where the part's day is on hold, and else 0
 abbrev counted_beside : ℕ → Trees → Row → Value
-counted_beside today trees r = Int (pos (min 1 (length (matches trees hold_tests (inner 9 end) (today_only today ∷ r ∷ [])))))
+counted_beside today trees r = Int (pos (min 1 (length (matches trees hold_tests (inner 9 end) (drop_due_values today ∷ r ∷ [])))))
 
 abbrev among : ℕ → Trees → Row → Env
-among today trees r = today_only today ∷ r ∷ (counted_beside today trees r ∷ []) ∷ []
+among today trees r = drop_due_values today ∷ r ∷ (counted_beside today trees r ∷ []) ∷ []
 
 abbrev due : ℕ → Trees → Row → Bool
 due today trees = passes due_tests (among today trees)
@@ -96,7 +96,7 @@ abbrev both : Bool → Bool → Bool
 both a b = a && b
 
 -- a hold of the part's day passes the tests of the statement
-hold_passes : (today : ℕ) (r h : Row) → IsPartRow r → IsHoldRow h → list_all (holds (today_only today ∷ r ∷ h ∷ [])) hold_tests ≡ holds_row (part_row r) (hold_row h)
+hold_passes : (today : ℕ) (r h : Row) → IsPartRow r → IsHoldRow h → list_all (holds (drop_due_values today ∷ r ∷ h ∷ [])) hold_tests ≡ is_hold_of_row (stored_part_row r) (stored_hold_row h)
 hold_passes today r h part hold =
     let tld : is_true (binary (Compare Eq Binary) (column h 2) (column r 1)) ≡ bytes_eq (bytes (column h 2)) (bytes (column r 1)) =
     ap₂ (λ a b. is_true (binary (Compare Eq Binary) a b)) hold.tld_text part.tld_text ∙ is_text (bytes (column h 2)) (bytes (column r 1)) in
@@ -109,19 +109,19 @@ module _ (today : ℕ) (trees : Trees) (held : (h : Row) → Has (trees 9) h →
   abbrev counted_at : Value
   counted_at = counted_beside today trees r
 
-  due_is : due today trees r ≡ is_due (map hold_row (trees 9)) today (part_row r)
+  due_is : due today trees r ≡ is_due_row (map stored_hold_row (trees 9)) today (stored_part_row r)
   due_is =
       let over : is_true (binary (Compare Lt Binary) (column r 7) (Int (pos today))) ≡ int_lt (id_in (column r 7)) (pos today) =
       ap (λ v. is_true (binary (Compare Lt Binary) v (Int (pos today)))) is.keep_int ∙ is_over (id_in (column r 7)) (pos today) in
-      let on_hold = none_counted (λ h. list_all (holds (today_only today ∷ r ∷ h ∷ [])) hold_tests) (λ h. today_only today ∷ r ∷ h ∷ []) (trees 9)
-      ∙ ap not (any_same _ (holds_row (part_row r)) hold_row (trees 9) (λ h k. hold_passes today r h is (held h k))) in
+      let on_hold = none_counted (λ h. list_all (holds (drop_due_values today ∷ r ∷ h ∷ [])) hold_tests) (λ h. drop_due_values today ∷ r ∷ h ∷ []) (trees 9)
+      ∙ ap not (any_same _ (is_hold_of_row (stored_part_row r)) stored_hold_row (trees 9) (λ h k. hold_passes today r h is (held h k))) in
       in_turn (is_true (unary Not (binary (Is Binary) (column r 10) Null))) (is_true (binary (Compare Lt Binary) (column r 7) (Int (pos today)))) (is_true (unary Not counted_at))
       ∙ ap₂ both (is_held (column r 10)) (ap₂ both over on_hold)
 
-  dropped_is : part_row (dropped today trees r) ≡ dropped_row (part_row r)
+  dropped_is : stored_part_row (dropped today trees r) ≡ dropped_row (stored_part_row r)
   dropped_is = rw (is.tld, is.day, is.rev, is.part, is.kind, is.received, is.keep_day, is.len) refl
 
-  part_row_is : part_row (cond (due today trees r) (dropped today trees r) r) ≡ dropped_if_due (map hold_row (trees 9)) today (part_row r)
+  part_row_is : stored_part_row (cond (due today trees r) (dropped today trees r) r) ≡ row_dropped_if_due (map stored_hold_row (trees 9)) today (stored_part_row r)
   part_row_is = elim (cases_Bool (due today trees r)) [
     | inl yes_due ↦ let also = sym due_is ∙ yes_due in rw (yes_due, also) dropped_is
     | inr not_due ↦ let also = sym due_is ∙ not_due in rw (not_due, also) refl
@@ -129,7 +129,7 @@ module _ (today : ℕ) (trees : Trees) (held : (h : Row) → Has (trees 9) h →
 
 -- ---- the whole table
 
-module _ (today : ℕ) (s : State) (tables : HasAmong record_schema.tables s.now) where
+module _ (today : ℕ) (s : State) (tables : HasTablesAmongOthers record_schema.tables s.now) where
   abbrev parts : List Row
   parts = s.now.trees 3
 
@@ -158,13 +158,13 @@ module _ (today : ℕ) (s : State) (tables : HasAmong record_schema.tables s.now
       }
 
   drops : (tally : Tally) (after : Database)
-      → Does s.step_limit (mode_of s) (today_only today) s.now (statement_of drop_due_text (understood s.now.schema drop_due_text)) None (Update 2 drop_due_program) (Ok (tally, after))
+      → Does s.step_limit (mode_of s) (drop_due_values today) s.now (statement_of drop_due_text (understood s.now.schema drop_due_text)) None (Update 2 drop_due_program) (Ok (tally, after))
       → Rewrites record_schema.tables 3 (due today s.now.trees) (dropped today s.now.trees) s.now tally after
   drops tally after does =
-      rewrites record_schema.tables record_quiet s 2 part_at parts_and_holds due_tests dropped_places (today_only today) (among today s.now.trees) (statement_of drop_due_text (understood s.now.schema drop_due_text)) tables.begins tables.apart (inr (inr (inl refl))) (λ others. refl) refl tables.ordered.1.1.0 (λ r. refl) (λ r. refl) tally after does
+      rewrites record_schema.tables record_quiet s 2 part_at parts_and_holds due_tests dropped_places (drop_due_values today) (among today s.now.trees) (statement_of drop_due_text (understood s.now.schema drop_due_text)) tables.begins tables.apart (inr (inr (inl refl))) (λ others. refl) refl tables.ordered.1.1.0 (λ r. refl) (λ r. refl) tally after does
 
   -- the rows after it, and the tables stay as they are made
-  pub changes_due : Changes s drop_due_text (today_only today) (Update 2 drop_due_program) (without_due today)
+  pub changes_due : Changes s drop_due_text (drop_due_values today) (Update 2 drop_due_program) (rows_without_due today)
   changes_due tally after does sound =
       let it = drops tally after does in
       let trees = s.now.trees in
@@ -174,32 +174,32 @@ module _ (today : ℕ) (s : State) (tables : HasAmong record_schema.tables s.now
       let handovers : after.trees 7 ≡ trees 7 = it.others.1.1.1.1.0 (λ e. omega (arith, e)) in
       let holds : after.trees 9 ≡ trees 9 = it.others.1.1.1.1.1.0 (λ e. omega (arith, e)) in
       let was = rows_among trees s.now.schema tables.begins tables.sound in
-      let is = rows_among after.trees after.schema (subst (BeginsWith record_schema.tables) (sym it.schema) tables.begins) sound in
-      let drop = dropped_if_due (map hold_row (trees 9)) today in
-      let read : map part_row (changed_where (due today trees) (dropped today trees) parts) ≡ map drop (map part_row parts) =
-      map-map part_row (λ r. cond (due today trees r) (dropped today trees r) r) parts ∙ map_has _ _ parts (λ r h. part_row_is today trees holds_are r (part_rows r h)) ∙ sym (map-map drop part_row parts) in
-      let more : held_rows after.trees ≡ without_due today (held_rows trees) = rw (meta, registries, notices, handovers, holds, it.here, read) refl in
+      let is = rows_among after.trees after.schema (subst (SchemaBeginsWith record_schema.tables) (sym it.schema) tables.begins) sound in
+      let drop = row_dropped_if_due (map stored_hold_row (trees 9)) today in
+      let read : map stored_part_row (changed_where (due today trees) (dropped today trees) parts) ≡ map drop (map stored_part_row parts) =
+      map-map stored_part_row (λ r. cond (due today trees r) (dropped today trees r) r) parts ∙ map_has _ _ parts (λ r h. part_row_is today trees holds_are r (part_rows r h)) ∙ sym (map-map drop stored_part_row parts) in
+      let more : held_rows after.trees ≡ rows_without_due today (held_rows trees) = rw (meta, registries, notices, handovers, holds, it.here, read) refl in
       let kept = tables.ordered in (
         it.schema,
         among_still s.now after tables it.schema sound (rw (meta, registries, notices, handovers, holds) (kept.0, (kept.1.0, (it.shaped, (kept.1.1.1.0, (kept.1.1.1.1.0, (kept.1.1.1.1.1.0, tt))))))),
-        is ∙ more ∙ sym (ap (without_due today) was),
+        is ∙ more ∙ sym (ap (rows_without_due today) was),
       )
 
   -- how many rows it changed
   counts_due : (tally : Tally) (after : Database)
-      → Does s.step_limit (mode_of s) (today_only today) s.now (statement_of drop_due_text (understood s.now.schema drop_due_text)) None (Update 2 drop_due_program) (Ok (tally, after))
-      → unwrap_or tally.rows 0 ≡ count_due today (rows_in s.now.trees)
+      → Does s.step_limit (mode_of s) (drop_due_values today) s.now (statement_of drop_due_text (understood s.now.schema drop_due_text)) None (Update 2 drop_due_program) (Ok (tally, after))
+      → unwrap_or tally.rows 0 ≡ count_due_rows today (rows_in s.now.trees)
   counts_due tally after does =
       let it = drops tally after does in
       ap (λ o. unwrap_or o 0) it.counted
-      ∙ count_same (due today s.now.trees) (is_due (map hold_row (s.now.trees 9)) today) part_row parts (λ r h. due_is today s.now.trees holds_are r (part_rows r h))
-      ∙ sym (ap (count_due today) (rows_among s.now.trees s.now.schema tables.begins tables.sound))
+      ∙ count_same (due today s.now.trees) (is_due_row (map stored_hold_row (s.now.trees 9)) today) stored_part_row parts (λ r h. due_is today s.now.trees holds_are r (part_rows r h))
+      ∙ sym (ap (count_due_rows today) (rows_among s.now.trees s.now.schema tables.begins tables.sound))
 
 -- the count that the statement answers
 pub drops_count : {E : Type 0} (today : ℕ) (old new : State) (r : Result ℕ E)
-    → (HasCleanDisk new → IfOk r (λ count. Executes drop_due_text (today_only today) old new (Ok count)))
-    → HasCleanDisk new → IsReady old → IfOk r (λ count. count ≡ count_due today (rows_in old.now.trees))
+    → (HasCleanDisk new → IfOk r (λ count. Executes drop_due_text (drop_due_values today) old new (Ok count)))
+    → HasCleanDisk new → IsReady old → IfOk r (λ count. count ≡ count_due_rows today (rows_in old.now.trees))
 drops_count today old new (Err e) h clean ready = tt
 drops_count today old new (Ok count) h clean ready =
-    let w = written drop_due_text (today_only today) (Update 2 drop_due_program) drop_due_is (update_writes 2 drop_due_program) old new count (h clean) ready in
+    let w = written drop_due_text (drop_due_values today) (Update 2 drop_due_program) drop_due_is (update_writes 2 drop_due_program) old new count (h clean) ready in
     w.counted ∙ counts_due today old ready.tables w.tally new.now w.changed

@@ -7,16 +7,16 @@ use Rattle.std.specs.FinMap.{FinMap}
 use Rattle.std.proofs.Math.Bool.{and-false}
 use Rattle.std.proofs.lemmas.Bool.{false≢true, cases_Bool}
 use Rattle.std.proofs.lemmas.List.{drop_more}
-use Rattle.custody_records.specs.declared.damage.Damage.{Damage}
-use Rattle.custody_records.specs.declared.damage.Damage.TheVariants as damage
+use Rattle.custody_records.specs.declared.damage.RowDamage.{RowDamage}
+use Rattle.custody_records.specs.declared.damage.RowDamage.TheVariants as damage
 use Rattle.custody_records.specs.declared.meta.Meta.{Meta}
 use Rattle.custody_records.specs.declared.records.Records.{Records as Held}
-use Rattle.custody_records.specs.Held.{records_of}
+use Rattle.custody_records.specs.MemoryRecords.{records_of}
 use Rattle.custody_records.specs.Keys.{text_cmp, part_cmp, notice_cmp}
 use Rattle.custody_records.specs.Records.{PartRecord, Notice, Release}
 use Rattle.custody_records.specs.Rows.{MetaRow, HoldRow, Rows}
-use Rattle.custody_records.specs.Typed.{meta_of, volume_of}
-use Rattle.custody_records.specs.Form.{natural, number_in, is_schema, has_holds, holds_in, is_meta, is_known, are_none, gather, gathered, all_records, registry_in, part_in, notice_in, release_in, records_in, in_form_or, Form, InForm, OutOfForm, form_after, form_of}
+use Rattle.custody_records.specs.TypedRecords.{meta_of, meta_volume}
+use Rattle.custody_records.specs.Form.{natural, number_in, is_schema, has_holds, holds_in, is_meta, is_known, are_none, gather, gathered_table, all_records, registry_in, part_in, notice_in, release_in, records_in, in_form_or, Form, InForm, OutOfForm, form_after, form_of}
 use Rattle.custody_store.specs.declared.faults.StoreFault.{StoreFault}
 use Rattle.custody_store.specs.declared.faults.StoreFault.TheVariants.{Damaged}
 use Rattle.custody_records.proofs.Gathered.{gather_append}
@@ -56,18 +56,18 @@ mismatch (meta ∷ others) m rest first good apart =
     let known : is_known meta ≡ true = ap (λ (x : Meta). is_schema x.schema_no) same ∙ good in
     let none : holds_in (has_holds meta.schema_no) rest.holds ≡ None = disagree (has_holds meta.schema_no) rest.holds (apart ∙ sym (ap (λ (x : Meta). not (has_holds x.schema_no)) same)) in
     elim (cases_Bool (is_meta meta && are_none others)) [
-      | inl good ↦ rw (known, good, none, no_holds (number_in meta.number) (natural meta.blocks) (gathered registry_in rest.registries) (gathered part_in rest.parts) (gathered notice_in rest.notices) (gathered release_in rest.handovers)) refl
+      | inl good ↦ rw (known, good, none, no_holds (number_in meta.number) (natural meta.blocks) (gathered_table registry_in rest.registries) (gathered_table part_in rest.parts) (gathered_table notice_in rest.notices) (gathered_table release_in rest.handovers)) refl
       | inr bad ↦ rw (known, bad) refl
     ]
 
-pub volume : (metas : List MetaRow) (m : Meta) (v : ℕ × ℕ) (rest : Rows) → option_map meta_of (slice_get metas 0) ≡ Some m → is_schema m.schema_no ≡ true → length metas ≤ 1 → volume_of m ≡ Some v
+pub volume : (metas : List MetaRow) (m : Meta) (v : ℕ × ℕ) (rest : Rows) → option_map meta_of (slice_get metas 0) ≡ Some m → is_schema m.schema_no ≡ true → length metas ≤ 1 → meta_volume m ≡ Some v
     → form_after metas rest ≡ in_form_or damage.Form (records_in (has_holds m.schema_no) v.0 v.1 rest)
 volume [] m v rest first good few some = absurd (let clash = first in cc)
 volume (meta ∷ (other ∷ others)) m v rest first good few some = absurd (omega arith)
 volume (meta ∷ []) m v rest first good few some =
     let same = some_same (meta_of meta) m first in
     let known : is_known meta ≡ true = ap (λ (x : Meta). is_schema x.schema_no) same ∙ good in
-    let in_form = value (is_meta meta) (number_in meta.number, natural meta.blocks) v (sym (volume_of-meta_of meta) ∙ ap volume_of same ∙ some) in
+    let in_form = value (is_meta meta) (number_in meta.number, natural meta.blocks) v (sym (volume_of-meta_of meta) ∙ ap meta_volume same ∙ some) in
     rw (known, in_form.0) (ap (λ (p : ℕ × ℕ). in_form_or damage.Form (records_in (has_holds meta.schema_no) p.0 p.1 rest)) in_form.1 ∙ ap (λ (x : Meta). in_form_or damage.Form (records_in (has_holds x.schema_no) v.0 v.1 rest)) same)
 
 pub form_is : (metas : List MetaRow) (rows : Rows) → rows.meta ≡ Some metas → form_of rows ≡ form_after metas rows
@@ -76,8 +76,8 @@ form_is metas rows is = rw is refl
 
 -- what all rows stand for, where the rows but meta were read
 pub read_form : (form : Form) (read : Rows → Form) (rows : Rows) (r : Result Held StoreFault) → form ≡ read rows
-    → MatchResult r (λ records. (rest : Rows) → read rest ≡ InForm (records_of records)) (λ e. (why : Damage) → e ≡ Damaged why → (rest : Rows) → read rest ≡ OutOfForm why)
-    → MatchResult r (λ records. form ≡ InForm (records_of records)) (λ e. (why : Damage) → e ≡ Damaged why → form ≡ OutOfForm why)
+    → MatchResult r (λ records. (rest : Rows) → read rest ≡ InForm (records_of records)) (λ e. (why : RowDamage) → e ≡ Damaged why → (rest : Rows) → read rest ≡ OutOfForm why)
+    → MatchResult r (λ records. form ≡ InForm (records_of records)) (λ e. (why : RowDamage) → e ≡ Damaged why → form ≡ OutOfForm why)
 read_form form read rows (Ok records) is h = is ∙ h rows
 read_form form read rows (Err e) is h = λ why same. is ∙ h why same rows
 

@@ -15,12 +15,12 @@ use Rattle.sqlite.specs.State.{State}
 use Rattle.sqlite_keyed.proofs.ListLemmas.{map-map}
 use Rattle.sqlite.specs.Listing.{understood}
 use Rattle.sqlite.proofs.Callers.{statement_of}
-use Rattle.custody_records.specs.Rows.{lifted_row, with_lifting}
+use Rattle.custody_records.specs.Rows.{row_with_lifting, with_lifting}
 use Rattle.custody_store.specs.Schema.{record_schema}
-use Rattle.custody_store.specs.Reading.{rows_in, hold_row}
-use Rattle.custody_store.specs.Standing.{HasAmong, BeginsWith, shown, Commits}
-use Rattle.custody_store.specs.Calls.{Runs}
-use Rattle.custody_store.specs.Statements.{lift_text, lifting}
+use Rattle.custody_store.specs.Reading.{rows_in, stored_hold_row}
+use Rattle.custody_store.specs.StoreState.{HasTablesAmongOthers, SchemaBeginsWith, as_store_state, Commits}
+use Rattle.custody_store.specs.Calls.{RunsStatement}
+use Rattle.custody_store.specs.Statements.{lift_text, lift_values}
 use Rattle.custody_store.proofs.StatementLemmas.{lift_tests, lifted_places, lift_program, lift_is}
 use Rattle.custody_store.proofs.TableLemmas.{rows_among, held_rows}
 use Rattle.custody_store.proofs.EditLemmas.{changed_where}
@@ -34,7 +34,7 @@ use Rattle.custody_store.proofs.RowLemmas.{cast_int}
 
 module _ (reference : List ℕ) (at : ℕ) where
   abbrev among : Row → Env
-  among r = lifting reference at ∷ r ∷ []
+  among r = lift_values reference at ∷ r ∷ []
 
   abbrev sought : Row → Bool
   sought = passes lift_tests among
@@ -49,12 +49,12 @@ module _ (reference : List ℕ) (at : ℕ) where
   alone true = refl
   alone false = refl
 
-  sought_is : (r : Row) → IsHoldRow r → sought r ≡ bytes_eq (hold_row r).reference reference
+  sought_is : (r : Row) → IsHoldRow r → sought r ≡ bytes_eq (stored_hold_row r).reference reference
   sought_is r is =
       alone (is_true (binary (Compare Eq Binary) (column r 1) (Text reference)))
       ∙ ap (λ v. is_true (binary (Compare Eq Binary) v (Text reference))) is.reference_text ∙ is_text (bytes (column r 1)) reference
 
-  hold_row_is : (r : Row) → IsHoldRow r → hold_row (cond (sought r) (lifted r) r) ≡ lifted_row reference at (hold_row r)
+  hold_row_is : (r : Row) → IsHoldRow r → stored_hold_row (cond (sought r) (lifted r) r) ≡ row_with_lifting reference at (stored_hold_row r)
   hold_row_is r is = elim (cases_Bool (sought r)) [
     | inl found ↦ let also = sym (sought_is r is) ∙ found in rw (found, also, is.reference, is.tld, is.day, is.at, cast_int (pos at)) refl
     | inr other ↦ let also = sym (sought_is r is) ∙ other in rw (other, also) refl
@@ -63,19 +63,19 @@ module _ (reference : List ℕ) (at : ℕ) where
   -- ---- the whole table
 
   -- the rows after it, and the tables stay as they are made
-  changes_lifted : (s : State) → HasAmong record_schema.tables s.now → Changes s lift_text (lifting reference at) (Update 5 lift_program) (with_lifting reference at)
+  changes_lifted : (s : State) → HasTablesAmongOthers record_schema.tables s.now → Changes s lift_text (lift_values reference at) (Update 5 lift_program) (with_lifting reference at)
   changes_lifted s tables tally after does sound =
       let trees = s.now.trees in
-      let it = rewrites record_schema.tables record_quiet s 5 hold_at (inner 9 end) lift_tests lifted_places (lifting reference at) among (statement_of lift_text (understood s.now.schema lift_text)) tables.begins tables.apart (inr (inr (inr (inr (inr (inl refl)))))) (λ others. refl) refl tables.ordered.1.1.1.1.1.0 (λ r. refl) (λ r. refl) tally after does in
+      let it = rewrites record_schema.tables record_quiet s 5 hold_at (inner 9 end) lift_tests lifted_places (lift_values reference at) among (statement_of lift_text (understood s.now.schema lift_text)) tables.begins tables.apart (inr (inr (inr (inr (inr (inl refl)))))) (λ others. refl) refl tables.ordered.1.1.1.1.1.0 (λ r. refl) (λ r. refl) tally after does in
       let meta : after.trees 0 ≡ trees 0 = it.others.0 (λ e. omega (arith, e)) in
       let registries : after.trees 1 ≡ trees 1 = it.others.1.0 (λ e. omega (arith, e)) in
       let parts : after.trees 3 ≡ trees 3 = it.others.1.1.0 (λ e. omega (arith, e)) in
       let notices : after.trees 5 ≡ trees 5 = it.others.1.1.1.0 (λ e. omega (arith, e)) in
       let handovers : after.trees 7 ≡ trees 7 = it.others.1.1.1.1.0 (λ e. omega (arith, e)) in
       let was = rows_among trees s.now.schema tables.begins tables.sound in
-      let is = rows_among after.trees after.schema (subst (BeginsWith record_schema.tables) (sym it.schema) tables.begins) sound in
-      let read : map hold_row (changed_where sought lifted (trees 9)) ≡ map (lifted_row reference at) (map hold_row (trees 9)) =
-      map-map hold_row (λ r. cond (sought r) (lifted r) r) (trees 9) ∙ map_has _ _ (trees 9) (λ r h. hold_row_is r (hold_rows s.now.schema trees tables.sound (has_front s.now.schema.tables record_schema.tables tables.begins.0 hold_at tables.begins.1 (inr (inr (inr (inr (inr (inl refl))))))) r h)) ∙ sym (map-map (lifted_row reference at) hold_row (trees 9)) in
+      let is = rows_among after.trees after.schema (subst (SchemaBeginsWith record_schema.tables) (sym it.schema) tables.begins) sound in
+      let read : map stored_hold_row (changed_where sought lifted (trees 9)) ≡ map (row_with_lifting reference at) (map stored_hold_row (trees 9)) =
+      map-map stored_hold_row (λ r. cond (sought r) (lifted r) r) (trees 9) ∙ map_has _ _ (trees 9) (λ r h. hold_row_is r (hold_rows s.now.schema trees tables.sound (has_front s.now.schema.tables record_schema.tables tables.begins.0 hold_at tables.begins.1 (inr (inr (inr (inr (inr (inl refl))))))) r h)) ∙ sym (map-map (row_with_lifting reference at) stored_hold_row (trees 9)) in
       let more : held_rows after.trees ≡ with_lifting reference at (held_rows trees) = rw (meta, registries, parts, notices, handovers, it.here, read) refl in
       let kept = tables.ordered in (
         it.schema,
@@ -83,5 +83,5 @@ module _ (reference : List ℕ) (at : ℕ) where
         is ∙ more ∙ sym (ap (with_lifting reference at) was),
       )
 
-  pub lifts : {A E : Type 0} (old new : State) (r : Result A E) → Runs lift_text (lifting reference at) old new r → Commits (shown old) (shown new) (with_lifting reference at (rows_in old.now.trees)) r
-  lifts old new r = commits_change lift_text (lifting reference at) (Update 5 lift_program) lift_is (update_writes 5 lift_program) old new (with_lifting reference at) r (λ ready. changes_lifted old ready.tables)
+  pub lifts : {A E : Type 0} (old new : State) (r : Result A E) → RunsStatement lift_text (lift_values reference at) old new r → Commits (as_store_state old) (as_store_state new) (with_lifting reference at (rows_in old.now.trees)) r
+  lifts old new r = commits_change lift_text (lift_values reference at) (Update 5 lift_program) lift_is (update_writes 5 lift_program) old new (with_lifting reference at) r (λ ready. changes_lifted old ready.tables)

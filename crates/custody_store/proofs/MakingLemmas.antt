@@ -26,9 +26,9 @@ use Rattle.sqlite.proofs.Callers.{one_step}
 use Rattle.sqlite_rules.specs.Action.{Writes as EditWrites}
 use Rattle.sqlite_rules.specs.Edit.{with_rowid}
 use Rattle.custody_store.specs.Schema.{record_schema, meta_table}
-use Rattle.custody_records.specs.Rows.{fresh}
+use Rattle.custody_records.specs.Rows.{initial_rows}
 use Rattle.custody_store.specs.Reading.{rows_in}
-use Rattle.custody_store.specs.Making.{IsMade, none_in}
+use Rattle.custody_store.specs.inside.Making.{HasMadeTables, empty_trees}
 use Rattle.custody_store.specs.Statements.{insert_meta_text}
 use Rattle.custody_store.proofs.StatementLemmas.{meta_source, insert_meta_is, over_schema_2}
 use Rattle.custody_store.proofs.TableLemmas.{rows_held, held_rows, sound_as}
@@ -36,7 +36,7 @@ use Rattle.custody_store.proofs.InsertLemmas.{went, same_value, puts}
 use Rattle.custody_store.proofs.RowLemmas.{cast_null, cast_int, at_tree}
 use Rattle.sqlite_resolve.specs.declared.compiled.Compiled.{Compiled}
 use Rattle.sqlite_resolve.specs.declared.error.CompileError.{CompileError}
-use Rattle.custody_store.specs.Making.{IsMaking, IsTextOf, MakesOf}
+use Rattle.custody_store.specs.inside.Making.{IsMakingTables, IsCreateText, TextMakesTable}
 
 all_push : {X : Type 0} (P : X → Type 0) (xs : List X) (x : X) → AllByRecursion P xs → P x → AllByRecursion P (xs ++ x ∷ [])
 all_push P [] x all h = (h, tt)
@@ -46,12 +46,12 @@ still_are : (rows old new : Trees) (tables : List Table) → KeepsRows tables ol
 still_are rows old new [] kept are = tt
 still_are rows old new (t ∷ tables) kept are = (kept.0 ∙ are.0, still_are rows old new tables kept.1 are.1)
 
-meant : (sql : List ℕ) (table : Table) (r : Result Compiled CompileError) → MakesOf sql table r → (command_of r ≡ CreateTable) × (table_defined_by (statement_of sql r) ≡ Ok table)
+meant : (sql : List ℕ) (table : Table) (r : Result Compiled CompileError) → TextMakesTable sql table r → (command_of r ≡ CreateTable) × (table_defined_by (statement_of sql r) ≡ Ok table)
 meant sql table (Ok c) h = h
 meant sql table (Err e) h = absurd h
 
-pub makes : (sql : List ℕ) (old new : State) (count : ℕ) → ExecutesInside 0 sql [] old new (Ok count) → (schema : Schema) (table : Table) (first : Database) (rows : Trees) → rows (next_tree schema) ≡ [] → IsTextOf schema sql table → IsMaking schema first rows old
-    → IsMaking (created schema table) first rows new
+pub makes : (sql : List ℕ) (old new : State) (count : ℕ) → ExecutesInside 0 sql [] old new (Ok count) → (schema : Schema) (table : Table) (first : Database) (rows : Trees) → rows (next_tree schema) ≡ [] → IsCreateText schema sql table → IsMakingTables schema first rows old
+    → IsMakingTables (created schema table) first rows new
 makes sql old new count h schema table first rows none text making =
     let means = meant sql table (understood schema sql) text.means in
     let w = subst (λ t. Writes old new None CreateTable t [] count) refl (runs_as sql [] old new schema making.schema_is CreateTable means.0 text.plain count h.0) in
@@ -84,7 +84,7 @@ module _ (number : List ℕ) (blocks : ℤ) where
   typed : cast_row (at_tree 0 meta_table) source ≡ source
   typed = rw (cast_int (pos 1), cast_int (pos 2), cast_null, cast_int blocks) refl
 
-  pub puts_meta : (first : Database) (old new : State) (count : ℕ) → IsMaking record_schema first none_in old → ExecutesInside 0 insert_meta_text (Text number ∷ Int blocks ∷ []) old new (Ok count) → IsMade (fresh number blocks) first new
+  pub puts_meta : (first : Database) (old new : State) (count : ℕ) → IsMakingTables record_schema first empty_trees old → ExecutesInside 0 insert_meta_text (Text number ∷ Int blocks ∷ []) old new (Ok count) → HasMadeTables (initial_rows number blocks) first new
   puts_meta first old new count making h =
       let params = Text number ∷ Int blocks ∷ [] in
       let trees = old.now.trees in
@@ -106,7 +106,7 @@ module _ (number : List ℕ) (blocks : ℤ) where
       let holds : new.now.trees 9 ≡ [] = put.tables.1.1.1.1.1.0 (λ e. omega (arith, e)) ∙ empty.1.1.1.1.1.0 in
       let schema : new.now.schema ≡ record_schema = it.schema in
       let now : rows_in new.now.trees ≡ held_rows new.now.trees = rows_held new.now.trees (sound_as record_schema new.now schema w.sound) in
-      let same : held_rows new.now.trees ≡ fresh number blocks = rw (rows, registries, parts, notices, handovers, holds) refl in
+      let same : held_rows new.now.trees ≡ initial_rows number blocks = rw (rows, registries, parts, notices, handovers, holds) refl in
       record {
         is_open = w.shown.is_open;
         inside = h.1.mode;

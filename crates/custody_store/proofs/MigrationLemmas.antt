@@ -19,11 +19,11 @@ use Rattle.sqlite_trees.specs.View.{IsShaped}
 use Rattle.sqlite_rules.specs.Lists.{Has}
 use Rattle.sqlite_rules.proofs.ListLemmas.{all_has}
 use Rattle.sqlite_keyed.proofs.ListLemmas.{map-map}
-use Rattle.custody_records.specs.Rows.{MetaRow, migrated}
+use Rattle.custody_records.specs.Rows.{MetaRow, migrated_rows}
 use Rattle.custody_store.specs.Schema.{first_schema, record_schema, meta_table}
-use Rattle.custody_store.specs.Reading.{rows_in, meta_row}
-use Rattle.custody_store.specs.Making.{IsMaking, IsMade}
-use Rattle.custody_store.specs.Standing.{HasTables, BeginsWith, AreApart}
+use Rattle.custody_store.specs.Reading.{rows_in, stored_meta_row}
+use Rattle.custody_store.specs.inside.Making.{IsMakingTables, HasMadeTables}
+use Rattle.custody_store.specs.StoreState.{HasOnlyTables, SchemaBeginsWith, HaveOwnTrees}
 use Rattle.sqlite.specs.Schema.{Schema}
 use Rattle.custody_store.proofs.AmongLemmas.{record_quiet, record_apart}
 use Rattle.custody_store.specs.Statements.{set_schema_text}
@@ -41,7 +41,7 @@ abbrev pub without_holds : Trees → Trees
 without_holds trees = with_tree trees (next_tree first_schema) []
 
 -- a transaction over schema 1 that has made nothing yet
-pub before_holds : (first : Database) (s : State) → IsMaking first_schema first first.trees s → IsMaking first_schema first (without_holds first.trees) s
+pub before_holds : (first : Database) (s : State) → IsMakingTables first_schema first first.trees s → IsMakingTables first_schema first (without_holds first.trees) s
 before_holds first s making = record {
   is_open = making.is_open;
   inside = making.inside;
@@ -65,21 +65,21 @@ abbrev in_schema_2 : MetaRow → MetaRow
 in_schema_2 row = record row { schema_no = pos 2 }
 
 module _ (trees : Trees) (sound : IsSound record_schema trees) (shaped : IsShaped shape.Table (trees 0)) (r : Row) (has : Has (trees 0) r) where
-  set_is : meta_row (set r) ≡ in_schema_2 (meta_row r)
+  set_is : stored_meta_row (set r) ≡ in_schema_2 (stored_meta_row r)
   set_is =
       let typed = (and_parts _ _ (all_has _ (trees 0) r (sound.obeys.rules Datatype).0 has)).0 in
       let same_rowid : rowid (set r) ≡ rowid r = heir_rowid meta_at set_schema_places alone (trees 0) shaped (λ r. refl) r has in
       rw (same_rowid, cast_int (pos 2), cast_at meta_at r typed 2 _ refl refl refl refl, cast_at meta_at r typed 3 _ refl refl refl refl) refl
 
 -- schema 1 has no rows of holds
-earlier_rows : (first : Database) → HasTables first_schema first → rows_in first.trees ≡ held_beside None first.trees
+earlier_rows : (first : Database) → HasOnlyTables first_schema first → rows_in first.trees ≡ held_beside None first.trees
 earlier_rows first tables =
     let sound = sound_as first_schema first tables.schema_is tables.sound in
     let none : (rows_in first.trees).holds ≡ None = rw (not_there first.trees first_schema (codes "hold") sound holds_apart) refl in
     rows_first first.trees first_schema ([], refl) sound ∙ ap (λ holds. held_beside holds first.trees) none
 
-pub sets_schema : (first : Database) (old new : State) (count : ℕ) → HasTables first_schema first → IsMaking record_schema first (without_holds first.trees) old → ExecutesInside 0 set_schema_text [] old new (Ok count)
-    → IsMade (migrated (rows_in first.trees)) first new
+pub sets_schema : (first : Database) (old new : State) (count : ℕ) → HasOnlyTables first_schema first → IsMakingTables record_schema first (without_holds first.trees) old → ExecutesInside 0 set_schema_text [] old new (Ok count)
+    → HasMadeTables (migrated_rows (rows_in first.trees)) first new
 sets_schema first old new count tables making h =
     let text = statement_of set_schema_text (understood record_schema set_schema_text) in
     let means = over_schema_2 set_schema_is in
@@ -90,8 +90,8 @@ sets_schema first old new count tables making h =
     let after = new.now.trees in
     let up = tables.ordered in
     let shaped : IsShaped shape.Table (trees 0) = subst (IsShaped shape.Table) (sym was.0) up.0 in
-    let begins : BeginsWith record_schema.tables old.now.schema = ([], ap (λ (t : Schema). t.tables) making.schema_is) in
-    let apart = subst (λ (t : Schema). AreApart t.tables) (sym making.schema_is) record_apart in
+    let begins : SchemaBeginsWith record_schema.tables old.now.schema = ([], ap (λ (t : Schema). t.tables) making.schema_is) in
+    let apart = subst (λ (t : Schema). HaveOwnTrees t.tables) (sym making.schema_is) record_apart in
     let it = rewrites record_schema.tables record_quiet old 0 meta_at (inner 0 end) [] set_schema_places [] alone text begins apart (inl refl) (λ others. refl) refl shaped (λ r. refl) (λ r. refl) w.tally new.now w.changed in
     let schema : new.now.schema ≡ record_schema = it.schema ∙ making.schema_is in
     let registries : after 1 ≡ first.trees 1 = it.others.1.0 (λ e. omega (arith, e)) ∙ was.1.0 in
@@ -99,13 +99,13 @@ sets_schema first old new count tables making h =
     let notices : after 5 ≡ first.trees 5 = it.others.1.1.1.0 (λ e. omega (arith, e)) ∙ was.1.1.1.0 in
     let handovers : after 7 ≡ first.trees 7 = it.others.1.1.1.1.0 (λ e. omega (arith, e)) ∙ was.1.1.1.1.0 in
     let holds : after 9 ≡ [] = it.others.1.1.1.1.1.0 (λ e. omega (arith, e)) ∙ was.1.1.1.1.1.0 in
-    let read : map meta_row (after 0) ≡ map in_schema_2 (map meta_row (first.trees 0)) =
-    ap (map meta_row) it.here ∙ map-map meta_row set (trees 0) ∙ map_has _ _ (trees 0) (set_is trees before shaped) ∙ sym (map-map in_schema_2 meta_row (trees 0)) ∙ ap (λ rows. map in_schema_2 (map meta_row rows)) was.0 in
-    let same : held_rows after ≡ migrated (held_beside None first.trees) = rw (registries, parts, notices, handovers, holds, read) refl in
+    let read : map stored_meta_row (after 0) ≡ map in_schema_2 (map stored_meta_row (first.trees 0)) =
+    ap (map stored_meta_row) it.here ∙ map-map stored_meta_row set (trees 0) ∙ map_has _ _ (trees 0) (set_is trees before shaped) ∙ sym (map-map in_schema_2 stored_meta_row (trees 0)) ∙ ap (λ rows. map in_schema_2 (map stored_meta_row rows)) was.0 in
+    let same : held_rows after ≡ migrated_rows (held_beside None first.trees) = rw (registries, parts, notices, handovers, holds, read) refl in
     record {
       is_open = w.shown.is_open;
       inside = h.1.mode;
       committed = h.1.committed_is ∙ making.committed;
       tables = record { schema_is = schema; sound = w.sound; ordered = rw (registries, parts, notices, handovers, holds) (it.shaped, (up.1.0, (up.1.1.0, (up.1.1.1.0, (up.1.1.1.1.0, ((tt, tt), tt)))))) };
-      rows_are = rows_held after (sound_as record_schema new.now schema w.sound) ∙ same ∙ sym (ap migrated (earlier_rows first tables));
+      rows_are = rows_held after (sound_as record_schema new.now schema w.sound) ∙ same ∙ sym (ap migrated_rows (earlier_rows first tables));
     }

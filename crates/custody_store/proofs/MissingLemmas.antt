@@ -14,15 +14,15 @@ use Rattle.sqlite.specs.Table.{Table}
 use Rattle.sqlite_catalog.specs.Listing.{IsTableRow, IsSound}
 use Rattle.sqlite_catalog.proofs.StepLemmas.{same_itself}
 use Rattle.sqlite_schema.specs.Names.{same_name}
-use Rattle.custody_records.specs.declared.damage.Damage.TheVariants as damage
+use Rattle.custody_records.specs.declared.damage.RowDamage.TheVariants as damage
 use Rattle.custody_records.specs.Keys.{text_cmp, part_cmp, notice_cmp}
 use Rattle.custody_records.specs.Records.{PartRecord, Notice, Release, Hold}
 use Rattle.custody_records.specs.Rows.{MetaRow, Rows, first_meta}
-use Rattle.custody_records.specs.Form.{all_records, are_none, form_after, form_of, gathered, is_known, is_meta, notice_in, part_in, records_in, registry_in, OutOfForm}
+use Rattle.custody_records.specs.Form.{all_records, are_none, form_after, form_of, gathered_table, is_known, is_meta, notice_in, part_in, records_in, registry_in, OutOfForm}
 use Rattle.custody_records.proofs.ReadLemmas.{some_same}
 use Rattle.custody_store.specs.Schema.{meta_schema}
 use Rattle.custody_store.specs.Reading.{has_table, rows_in, tree_named}
-use Rattle.custody_store.specs.Standing.{HasFirst, HasTablesFirst, shown, has_all}
+use Rattle.custody_store.specs.StoreState.{HasFirstTables, HasSchemaTablesFirst, as_store_state, has_all_tables}
 use Rattle.custody_store.proofs.FormLemmas.{form_is}
 use Rattle.custody_store.proofs.ReadLemmas.{meta_there}
 use Rattle.custody_store.proofs.TableLemmas.{named, named_in, holds_first}
@@ -66,7 +66,7 @@ abbrev HasNoRecords : Rows → Type 0
 HasNoRecords rows = (with_holds : Bool) (number blocks : ℕ) → records_in with_holds number blocks rows ≡ None
 
 -- one of the four other tables that both schemas have is not there
-lacks_one : (s : State) → HasFirst meta_schema.tables s → has_all (shown s) ≡ false → HasNoRecords (rows_in s.now.trees)
+lacks_one : (s : State) → HasFirstTables meta_schema.tables s → has_all_tables (as_store_state s) ≡ false → HasNoRecords (rows_in s.now.trees)
 lacks_one s at none with_holds number blocks =
     let rows = rows_in s.now.trees in
     let there = meta_there s at in
@@ -75,13 +75,13 @@ lacks_one s at none with_holds number blocks =
     elim (cases_Bool (has_table (codes "registry") s.now.schema)) [
       | inr registry ↦ let is = gone (codes "registry") registry in rw is refl
       | inl registry ↦ elim (cases_Bool (has_table (codes "part") s.now.schema)) [
-        | inr part ↦ let is = gone (codes "part") part in rw is (no_parts number blocks (gathered registry_in rows.registries) _ _ _)
+        | inr part ↦ let is = gone (codes "part") part in rw is (no_parts number blocks (gathered_table registry_in rows.registries) _ _ _)
         | inl part ↦ elim (cases_Bool (has_table (codes "notice") s.now.schema)) [
-          | inr notice ↦ let is = gone (codes "notice") notice in rw is (no_notices number blocks (gathered registry_in rows.registries) (gathered part_in rows.parts) _ _)
+          | inr notice ↦ let is = gone (codes "notice") notice in rw is (no_notices number blocks (gathered_table registry_in rows.registries) (gathered_table part_in rows.parts) _ _)
           | inl notice ↦
               let handover = rw (registry, part, notice) at rest in
               let is = gone (codes "handover") handover in
-              rw is (no_releases number blocks (gathered registry_in rows.registries) (gathered part_in rows.parts) (gathered notice_in rows.notices) _)
+              rw is (no_releases number blocks (gathered_table registry_in rows.registries) (gathered_table part_in rows.parts) (gathered_table notice_in rows.notices) _)
         ]
       ]
     ]
@@ -103,17 +103,17 @@ lacking rows meta first known none = by rows.meta refl first
     by (Some (row ∷ others)) at is = form_is (row ∷ others) rows at ∙ out_of_form rows row others (ap is_known (some_same row meta is) ∙ known) none
 
 -- where meta has a row with a known schema, and another table is not there
-pub missing_form : (s : State) → HasFirst meta_schema.tables s → has_all (shown s) ≡ false → (meta : MetaRow) → first_meta (rows_in s.now.trees) ≡ Some meta → is_known meta ≡ true → form_of (rows_in s.now.trees) ≡ OutOfForm damage.Form
+pub missing_form : (s : State) → HasFirstTables meta_schema.tables s → has_all_tables (as_store_state s) ≡ false → (meta : MetaRow) → first_meta (rows_in s.now.trees) ≡ Some meta → is_known meta ≡ true → form_of (rows_in s.now.trees) ≡ OutOfForm damage.Form
 missing_form s at none meta first known = lacking (rows_in s.now.trees) meta first known (lacks_one s at none)
 
 -- ---- the table of holds
 
 -- without it there are none
-pub holds_missing : (s : State) → HasTablesFirst s → has_table (codes "hold") s.now.schema ≡ false → (rows_in s.now.trees).holds ≡ None
+pub holds_missing : (s : State) → HasSchemaTablesFirst s → has_table (codes "hold") s.now.schema ≡ false → (rows_in s.now.trees).holds ≡ None
 holds_missing s first none = rw (not_there s.now.trees s.now.schema (codes "hold") first.0.sound none) refl
 
 -- there are rows of holds just where the table is there
-pub holds_there : (s : State) → HasTablesFirst s → is_some (rows_in s.now.trees).holds ≡ has_table (codes "hold") s.now.schema
+pub holds_there : (s : State) → HasSchemaTablesFirst s → is_some (rows_in s.now.trees).holds ≡ has_table (codes "hold") s.now.schema
 holds_there s first = elim (cases_Bool (has_table (codes "hold") s.now.schema)) [
   | inl there ↦ let at = first.1 there in rw (there, holds_first s.now.trees s.now.schema at.begins at.sound) refl
   | inr none ↦ rw (none, holds_missing s first none) refl

@@ -29,7 +29,7 @@ use Rattle.sqlite_resolve.specs.Write.{updated}
 use Rattle.sqlite_resolve.specs.Given.{upserts}
 use Rattle.sqlite_resolve.specs.Lowering.{Checked, and_then}
 use Rattle.sqlite_resolve.specs.Compile.{first, compiled, planned, meaning, returning, command, target, new_rows, insert, insert_or, insert_or_abort, update}
-use Rattle.custody_store.specs.Calls.{Runs}
+use Rattle.custody_store.specs.Calls.{RunsStatement}
 
 abbrev is_change : Statement → Bool
 is_change (written.Insert way name columns rows clauses shown) = true
@@ -146,7 +146,7 @@ pub ended : (old new : State) → old.in_transaction ≡ false → IsUnchanged o
 ended old new autocommit (inl same) = same.0.mode ∙ autocommit
 ended old new autocommit (inr undone) = undone.autocommit
 
-pub runs_mode : {A E : Type 0} (sql : List ℕ) (params : Row) (old new : State) (r : Result A E) → is_change_text sql ≡ true → Runs sql params old new r
+pub runs_mode : {A E : Type 0} (sql : List ℕ) (params : Row) (old new : State) (r : Result A E) → is_change_text sql ≡ true → RunsStatement sql params old new r
     → HasCleanDisk new → old.in_transaction ≡ false → new.in_transaction ≡ false
 unfolding ExecutesIn
 runs_mode sql params old new (Ok x) is runs clean mode =

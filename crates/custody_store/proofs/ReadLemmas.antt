@@ -9,7 +9,7 @@ use Rattle.sqlite.specs.Table.{Table}
 use Rattle.sqlite_schema.specs.Names.{same_name}
 use Rattle.custody_store.specs.Schema.{meta_schema, first_schema, record_schema}
 use Rattle.custody_store.specs.Reading.{has_table}
-use Rattle.custody_store.specs.Standing.{Standing, IsReady, IsAsMade, HasFirst, HasTablesFirst, StandsAs, shown, has_all, Reads}
+use Rattle.custody_store.specs.StoreState.{StoreState, IsReady, HasSchemaAtRest, HasFirstTables, HasSchemaTablesFirst, SameTablesAndRows, as_store_state, has_all_tables, ChangesNothing}
 use Rattle.custody_store.proofs.CommitLemmas.{stands_at}
 
 pub on_ok : {A E : Type 0} (r : Result A E) {P : Type 0} → P → OnOk r P
@@ -17,7 +17,7 @@ on_ok (Ok x) p = p
 on_ok (Err e) p = tt
 
 -- no call was made
-pub reads_none : {A E : Type 0} (s : State) (r : Result A E) → Reads (shown s) (shown s) r
+pub reads_none : {A E : Type 0} (s : State) (r : Result A E) → ChangesNothing (as_store_state s) (as_store_state s) r
 reads_none s r = record {
   trust = λ honest. honest;
   mode = λ autocommit. autocommit;
@@ -27,7 +27,7 @@ reads_none s r = record {
 }
 
 -- two calls, one after the other
-stands_then : (a b c : Standing) → StandsAs a b → StandsAs b c → StandsAs a c
+stands_then : (a b c : StoreState) → SameTablesAndRows a b → SameTablesAndRows b c → SameTablesAndRows a c
 stands_then a b c p q = record {
   rows = q.rows ∙ p.rows;
   schema = q.schema ∙ p.schema;
@@ -40,11 +40,11 @@ stands_then a b c p q = record {
 }
 
 -- what a call that answered left
-pub still : {A E : Type 0} (a b : Standing) (x : A) → Reads {E = E} a b (Ok x) → b.IsHonest → a.IsAtRest → StandsAs a b
+pub still : {A E : Type 0} (a b : StoreState) (x : A) → ChangesNothing {E = E} a b (Ok x) → b.IsHonest → a.IsAtRest → SameTablesAndRows a b
 still a b x p honest rest = p.same honest rest (p.still_open honest rest)
 
 -- A call that reads, after one that answered.
-pub reads_then : {A B E F : Type 0} (a b c : Standing) (x : A) (r : Result B F) → Reads {E = E} a b (Ok x) → Reads b c r → Reads a c r
+pub reads_then : {A B E F : Type 0} (a b c : StoreState) (x : A) (r : Result B F) → ChangesNothing {E = E} a b (Ok x) → ChangesNothing b c r → ChangesNothing a c r
 reads_then a b c x r p q = record {
   trust = λ honest. p.trust (q.trust honest);
   mode = λ autocommit. q.mode (p.mode autocommit);
@@ -54,15 +54,15 @@ reads_then a b c x r p q = record {
 }
 
 -- the same call, where another error is told
-pub reads_fails : {A B E F : Type 0} (old new : Standing) (r : Result A E) (f : F) → Reads old new r → Reads {A = B} old new (Err f)
+pub reads_fails : {A B E F : Type 0} (old new : StoreState) (r : Result A E) (f : F) → ChangesNothing old new r → ChangesNothing {A = B} old new (Err f)
 reads_fails old new r f p = record { trust = p.trust; mode = p.mode; commits_nothing = p.commits_nothing; same = p.same; still_open = λ _ _. tt }
 
-pub reads_err : {A B E F : Type 0} (old new : Standing) (r : Result A E) (q : Result B F) → IsErr q → Reads old new r → Reads old new q
+pub reads_err : {A B E F : Type 0} (old new : StoreState) (r : Result A E) (q : Result B F) → IsErr q → ChangesNothing old new r → ChangesNothing old new q
 reads_err old new r (Ok y) is p = absurd (let e = is in cc)
 reads_err old new r (Err f) is p = reads_fails old new r f p
 
 -- or another value answered
-pub reads_answers : {A B E F : Type 0} (old new : Standing) (x : A) (r : Result B F) → Reads {E = E} old new (Ok x) → Reads old new r
+pub reads_answers : {A B E F : Type 0} (old new : StoreState) (x : A) (r : Result B F) → ChangesNothing {E = E} old new (Ok x) → ChangesNothing old new r
 reads_answers old new x r p = record { trust = p.trust; mode = p.mode; commits_nothing = p.commits_nothing; same = p.same; still_open = λ honest rest. on_ok r (p.still_open honest rest) }
 
 -- ---- the tables
@@ -75,7 +75,7 @@ unfolding same_name
 holds_apart = refl
 
 -- the tables of a schema are the first where there are no others
-first_of : (schema : Schema) (s : State) → IsAsMade schema s → HasFirst schema.tables s
+first_of : (schema : Schema) (s : State) → HasSchemaAtRest schema s → HasFirstTables schema.tables s
 first_of schema s ready = record {
   rest = ready.rest;
   begins = ([], ap (λ (t : Schema). t.tables) ready.tables.schema_is ∙ sym (append-nil schema.tables));
@@ -84,7 +84,7 @@ first_of schema s ready = record {
 }
 
 -- the five are the first of the six
-five_of_six : (s : State) → HasFirst record_schema.tables s → HasFirst first_schema.tables s
+five_of_six : (s : State) → HasFirstTables record_schema.tables s → HasFirstTables first_schema.tables s
 five_of_six s at = record {
   rest = at.rest;
   begins = (drop 5 record_schema.tables ++ at.begins.0, at.begins.1);
@@ -92,27 +92,27 @@ five_of_six s at = record {
   ordered = let up = at.ordered in (up.0, (up.1.0, (up.1.1.0, (up.1.1.1.0, (up.1.1.1.1.0, tt)))));
 }
 
-pub first_of_ready : (s : State) → IsReady s → HasTablesFirst s
+pub first_of_ready : (s : State) → IsReady s → HasSchemaTablesFirst s
 first_of_ready s ready =
-    let six : HasFirst record_schema.tables s = record { rest = ready.rest; begins = ready.tables.begins; sound = ready.tables.sound; ordered = ready.tables.ordered } in
+    let six : HasFirstTables record_schema.tables s = record { rest = ready.rest; begins = ready.tables.begins; sound = ready.tables.sound; ordered = ready.tables.ordered } in
     (five_of_six s six, λ _. six)
 
 -- where there is no table of holds, nothing is said of it
-pub first_of_earlier : (s : State) → IsAsMade first_schema s → HasTablesFirst s
+pub first_of_earlier : (s : State) → HasSchemaAtRest first_schema s → HasSchemaTablesFirst s
 first_of_earlier s ready = (
   first_of first_schema s ready,
   λ there. absurd (false≢true (sym (ap (λ (t : Schema). any_named (codes "hold") t.tables) ready.tables.schema_is ∙ holds_apart) ∙ there)),
 )
 
 -- and meta is the first of the five
-pub meta_of_first : (s : State) → HasTablesFirst s → HasFirst meta_schema.tables s
+pub meta_of_first : (s : State) → HasSchemaTablesFirst s → HasFirstTables meta_schema.tables s
 meta_of_first s h = let at = h.0 in record { rest = at.rest; begins = (drop 1 first_schema.tables ++ at.begins.0, at.begins.1); sound = at.sound; ordered = (at.ordered.0, tt) }
 
 has_meta : (others : List Table) → any_named (codes "meta") (meta_schema.tables ++ others) ≡ true
 unfolding same_name
 has_meta others = refl
 
-pub meta_there : (s : State) → HasFirst meta_schema.tables s → has_table (codes "meta") s.now.schema ≡ true
+pub meta_there : (s : State) → HasFirstTables meta_schema.tables s → has_table (codes "meta") s.now.schema ≡ true
 meta_there s at = ap (any_named (codes "meta")) at.begins.1 ∙ has_meta at.begins.0
 
 abbrev all_named : List Table → Bool
@@ -122,5 +122,5 @@ has_all_five : (others : List Table) → all_named (first_schema.tables ++ other
 unfolding same_name
 has_all_five others = refl
 
-pub all_there : (s : State) → HasTablesFirst s → has_all (shown s) ≡ true
+pub all_there : (s : State) → HasSchemaTablesFirst s → has_all_tables (as_store_state s) ≡ true
 all_there s at = ap all_named at.0.begins.1 ∙ has_all_five at.0.begins.0

@@ -18,8 +18,8 @@ use Rattle.sqlite_keyed.proofs.SortLemmas.{sorted_unique}
 use Rattle.sqlite_keyed.proofs.ListLemmas.{ascending-map, ascending_weaker}
 use Rattle.sqlite.specs.Table.{Table}
 use Rattle.custody_records.specs.Rows.{Rows}
-use Rattle.custody_store.specs.Standing.{HasFirst, shown, Reads}
-use Rattle.custody_store.specs.Calls.{Asks}
+use Rattle.custody_store.specs.StoreState.{HasFirstTables, as_store_state, ChangesNothing}
+use Rattle.custody_store.specs.Calls.{RunsQuery}
 use Rattle.custody_store.proofs.StatementLemmas.{in_order, IsSelection, beginning_with}
 use Rattle.custody_store.proofs.CommitLemmas.{stands, trusts}
 use Rattle.custody_store.proofs.QueryLemmas.{is_query_text, query_returns_none, query_commits_nothing}
@@ -58,13 +58,13 @@ module _ (sql : List ℕ) (query : is_query_text sql ≡ true) (old new : State)
       let none = query_returns_none sql old.now.schema query h.0 h.1.is in
       (rw none at h.2).3
 
-  left_as_before : HasCleanDisk new → Survives old new (CommitsShowing sql [] old) → (rows : Rows) → (shown new).may_leave rows → (shown old).may_leave rows
+  left_as_before : HasCleanDisk new → Survives old new (CommitsShowing sql [] old) → (rows : Rows) → (as_store_state new).may_leave rows → (as_store_state old).may_leave rows
   left_as_before clean survives rows h = elim (survives.crash clean h.0 h.1) [
     | inl before ↦ (h.0, before, h.2)
     | inr made ↦ absurd (query_commits_nothing sql [] old h.0 query made)
   ]
 
-pub reads : {A E : Type 0} (sql : List ℕ) (query : is_query_text sql ≡ true) (rows_of : A → List Row) (old new : State) (r : Result A E) → Asks sql rows_of old new r → Reads (shown old) (shown new) r
+pub reads : {A E : Type 0} (sql : List ℕ) (query : is_query_text sql ≡ true) (rows_of : A → List Row) (old new : State) (r : Result A E) → RunsQuery sql rows_of old new r → ChangesNothing (as_store_state old) (as_store_state new) r
 reads sql query rows_of old new (Ok a) asks = record {
   trust = trusts old new _ asks.survives;
   mode = asks.mode;
@@ -86,7 +86,7 @@ module _ (first : List Table) (sql : List ℕ) (tree : ℕ) (project : List Term
   abbrev command : Command
   command = Select (record { lets = []; body = in_order tree project }) names
 
-  pub finds : HasFirst first old → overlay old.now.trees [] tree ≡ old.now.trees tree → IsTable (old.now.trees tree) → (rows : List Row) → Answered sql [] old new rows → rows ≡ map (projected project) (old.now.trees tree)
+  pub finds : HasFirstTables first old → overlay old.now.trees [] tree ≡ old.now.trees tree → IsTable (old.now.trees tree) → (rows : List Row) → Answered sql [] old new rows → rows ≡ map (projected project) (old.now.trees tree)
   finds at low up rows h =
       let schema = old.now.schema in
       let over = means at.begins.0 schema.indexes schema.views in

@@ -18,8 +18,8 @@ use Rattle.sqlite.specs.Schema.{Schema}
 use Rattle.sqlite.specs.Effect.{Database, IsDatabase}
 use Rattle.custody_store.specs.Schema.{meta_schema, first_schema, record_schema}
 use Rattle.custody_records.specs.Rows.{HoldRow, Rows}
-use Rattle.custody_store.specs.Standing.{BeginsWith}
-use Rattle.custody_store.specs.Reading.{meta_row, registry_row, part_row, notice_row, handover_row, hold_row, tree_named, rows_in}
+use Rattle.custody_store.specs.StoreState.{SchemaBeginsWith}
+use Rattle.custody_store.specs.Reading.{stored_meta_row, stored_registry_row, stored_part_row, stored_notice_row, stored_handover_row, stored_hold_row, tree_named, rows_in}
 
 -- a database whose schema is known
 pub sound_as : (schema : Schema) (d : Database) → d.schema ≡ schema → IsDatabase d → IsSound schema d.trees
@@ -34,16 +34,16 @@ find_filtered p q (x ∷ xs) = elim (cases_Bool (p x)) [ inl is ↦ elim (cases_
 -- the rows of the five tables that both schemas have, and these of holds
 abbrev pub held_beside : Option (List HoldRow) → Trees → Rows
 held_beside holds trees = record {
-  meta = Some (map meta_row (trees 0));
-  registries = Some (map registry_row (trees 1));
-  parts = Some (map part_row (trees 3));
-  notices = Some (map notice_row (trees 5));
-  handovers = Some (map handover_row (trees 7));
+  meta = Some (map stored_meta_row (trees 0));
+  registries = Some (map stored_registry_row (trees 1));
+  parts = Some (map stored_part_row (trees 3));
+  notices = Some (map stored_notice_row (trees 5));
+  handovers = Some (map stored_handover_row (trees 7));
   holds = holds;
 }
 
 abbrev pub held_rows : Trees → Rows
-held_rows trees = held_beside (Some (map hold_row (trees 9))) trees
+held_rows trees = held_beside (Some (map stored_hold_row (trees 9))) trees
 
 abbrev pub named_in : List ℕ → List Row → Option ℕ
 named_in name objects = option_map (λ object. number_in (rowid object) - 1) (find (λ object. bytes_eq (bytes (column object 2)) name) objects)
@@ -89,7 +89,7 @@ pub named : (name : List ℕ) (trees : Trees) → tree_named name trees ≡ name
 named name trees = ap (option_map (λ object. number_in (rowid object) - 1)) (find_filtered is_table_row (λ object. bytes_eq (bytes (column object 2)) name) (trees catalog_tree))
 
 -- where the first tables are the five, whatever comes after
-pub rows_first : (trees : Trees) (schema : Schema) → BeginsWith first_schema.tables schema → IsSound schema trees → rows_in trees ≡ held_beside (rows_in trees).holds trees
+pub rows_first : (trees : Trees) (schema : Schema) → SchemaBeginsWith first_schema.tables schema → IsSound schema trees → rows_in trees ≡ held_beside (rows_in trees).holds trees
 rows_first trees schema begins sound =
     let all = are_named begins.0 _ (subst (AllZip IsTableRow (filter is_table_row (trees catalog_tree))) begins.1 sound.lists.listed.tables) in
     let m = named (codes "meta") trees ∙ all.0 in
@@ -100,13 +100,13 @@ rows_first trees schema begins sound =
     rw (m, r, p, n, o)
 
 -- and where that of holds is the sixth
-pub holds_first : (trees : Trees) (schema : Schema) → BeginsWith record_schema.tables schema → IsSound schema trees → (rows_in trees).holds ≡ Some (map hold_row (trees 9))
+pub holds_first : (trees : Trees) (schema : Schema) → SchemaBeginsWith record_schema.tables schema → IsSound schema trees → (rows_in trees).holds ≡ Some (map stored_hold_row (trees 9))
 holds_first trees schema begins sound =
     let held = named (codes "hold") trees ∙ hold_named begins.0 _ (subst (AllZip IsTableRow (filter is_table_row (trees catalog_tree))) begins.1 sound.lists.listed.tables) in
     rw held refl
 
 -- where the first are the six
-pub rows_among : (trees : Trees) (schema : Schema) → BeginsWith record_schema.tables schema → IsSound schema trees → rows_in trees ≡ held_rows trees
+pub rows_among : (trees : Trees) (schema : Schema) → SchemaBeginsWith record_schema.tables schema → IsSound schema trees → rows_in trees ≡ held_rows trees
 rows_among trees schema begins sound =
     rows_first trees schema (drop 5 record_schema.tables ++ begins.0, begins.1) sound
     ∙ ap (λ holds. held_beside holds trees) (holds_first trees schema begins sound)
@@ -115,7 +115,7 @@ pub rows_held : (trees : Trees) → IsSound record_schema trees → rows_in tree
 rows_held trees = rows_among trees record_schema ([], refl)
 
 -- where the first is meta
-pub meta_first : (trees : Trees) (schema : Schema) → BeginsWith meta_schema.tables schema → IsSound schema trees → (rows_in trees).meta ≡ Some (map meta_row (trees 0))
+pub meta_first : (trees : Trees) (schema : Schema) → SchemaBeginsWith meta_schema.tables schema → IsSound schema trees → (rows_in trees).meta ≡ Some (map stored_meta_row (trees 0))
 meta_first trees schema begins sound =
     let m = named (codes "meta") trees ∙ meta_named begins.0 _ (subst (AllZip IsTableRow (filter is_table_row (trees catalog_tree))) begins.1 sound.lists.listed.tables) in
     rw m refl

@@ -7,24 +7,24 @@ use Rattle.sqlite.specs.Store.{Ghosts}
 use Rattle.sqlite.specs.Steps.{FailsToCommit}
 use Rattle.sqlite.specs.State.{HasCleanDisk, Survives, IsRolledBack, Shows}
 use Rattle.sqlite.specs.Held.{Held, state}
-use Rattle.custody_store.specs.Calls.{Statement, AreRun, RunsTogether}
+use Rattle.custody_store.specs.Calls.{SqlStatement, AreRun, RunsTogether}
 
 -- the statements of one list, and then those of another
-pub run_then : {S : Type 0} (g : Ghosts S) (first second : List Statement) (old mid new : Held S) → AreRun g first old mid → AreRun g second mid new → AreRun g (first ++ second) old new
+pub run_then : {S : Type 0} (g : Ghosts S) (first second : List SqlStatement) (old mid new : Held S) → AreRun g first old mid → AreRun g second mid new → AreRun g (first ++ second) old new
 run_then g [] second old mid new same ran = subst (λ h. AreRun g second h new) (sym same) ran
 run_then g (it ∷ first) second old mid new before ran = (before.0, before.1, before.2, run_then g first second before.1 mid new before.3 ran)
 
 -- inside a transaction it stays so
-pub still_inside : {S : Type 0} (g : Ghosts S) (statements : List Statement) (old new : Held S) → IsTrue old.in_transaction → AreRun g statements old new → IsTrue new.in_transaction
+pub still_inside : {S : Type 0} (g : Ghosts S) (statements : List SqlStatement) (old new : Held S) → IsTrue old.in_transaction → AreRun g statements old new → IsTrue new.in_transaction
 still_inside g [] old new inside same = subst (λ h. IsTrue h.in_transaction) same inside
 still_inside g (it ∷ rest) old new inside ran = still_inside g rest ran.1 new ran.2.1.mode ran.3
 
 -- a run inside a transaction commits nothing
-pub keeps_committed : {S : Type 0} (g : Ghosts S) (statements : List Statement) (old new : Held S) → AreRun g statements old new → (state g new).committed ≡ (state g old).committed
+pub keeps_committed : {S : Type 0} (g : Ghosts S) (statements : List SqlStatement) (old new : Held S) → AreRun g statements old new → (state g new).committed ≡ (state g old).committed
 keeps_committed g [] old new same = ap (λ h. (state g h).committed) (sym same)
 keeps_committed g (it ∷ rest) old new ran = keeps_committed g rest ran.1 new ran.3 ∙ ran.2.1.committed_is
 
-module _ {S : Type 0} (g : Ghosts S) (statements : List Statement) (old begun : Held S) (is : begun ≡ record old { in_transaction = true }) where
+module _ {S : Type 0} (g : Ghosts S) (statements : List SqlStatement) (old begun : Held S) (is : begun ≡ record old { in_transaction = true }) where
   pub inside : IsTrue begun.in_transaction
   inside = ap (λ h. h.in_transaction) is
 
@@ -72,7 +72,7 @@ module _ {S : Type 0} (g : Ghosts S) (statements : List Statement) (old begun : 
     })
 
 -- nothing was begun, since a transaction was open
-pub not_begun : {S A E : Type 0} (g : Ghosts S) (statements : List Statement) (old : Held S) (x : E) → IsTrue old.in_transaction → RunsTogether {A = A} g statements old old (Err x)
+pub not_begun : {S A E : Type 0} (g : Ghosts S) (statements : List SqlStatement) (old : Held S) (x : E) → IsTrue old.in_transaction → RunsTogether {A = A} g statements old old (Err x)
 not_begun g statements old x inside = record {
   done = λ clean. tt;
   kept = λ clean autocommit settled. absurd (let a = autocommit in let i = inside in cc);

@@ -37,7 +37,7 @@ use Rattle.sqlite_trees.proofs.ListLemmas.{all-permutation}
 use Rattle.sqlite_keyed.proofs.ListLemmas.{map-map}
 use Rattle.custody_store.proofs.InsertLemmas.{went, same_value}
 use Rattle.custody_store.proofs.RowLemmas.{cast_int}
-use Rattle.custody_store.specs.Standing.{BeginsWith, AreApart}
+use Rattle.custody_store.specs.StoreState.{SchemaBeginsWith, HaveOwnTrees}
 use Rattle.custody_store.proofs.ActionLemmas.{IsQuiet, steps, actions_keep}
 use Rattle.custody_store.proofs.EditLemmas.{changed_where, changed_shaped, edited_is}
 use Rattle.custody_store.proofs.StatementLemmas.{picked, updating}
@@ -145,7 +145,7 @@ heir_rowid t project env table shaped comes r h =
     ap (cast Integer) (comes r ∙ int) ∙ cast_int (id_in (rowid r)) ∙ sym int
 
 pub rewrites : (first : List Table) → AllByRecursion IsQuiet first → (s : State) (at : ℕ) (t : Table) (from : Join) (tests project : List Term) (params : Row) (env : Row → Env) (text : List ℕ)
-    → BeginsWith first s.now.schema → AreApart s.now.schema.tables → Has first t → ((others : List Table) → slice_get (first ++ others) at ≡ Some t)
+    → SchemaBeginsWith first s.now.schema → HaveOwnTrees s.now.schema.tables → Has first t → ((others : List Table) → slice_get (first ++ others) at ≡ Some t)
     → IsEach from tests (overlay s.now.trees []) params (s.now.trees t.tree) env → IsShaped shape.Table (s.now.trees t.tree)
     → ((r : Row) → rowid (shows project env r) ≡ rowid r) → ((r : Row) → rowid (drop 1 (shows project env r)) ≡ rowid r)
     → (tally : Tally) (after : Database) → Does s.step_limit (mode_of s) params s.now text None (Update at (updating from tests project)) (Ok (tally, after))

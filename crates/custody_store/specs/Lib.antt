@@ -1,9 +1,8 @@
 pub mod Schema
 pub mod Reading
-pub mod Standing
+pub mod StoreState
 pub mod Calls
 pub mod Statements
-pub mod Records
-pub mod Making
-pub mod Loaded
+pub mod TypedRows
 pub mod Dropping
+pub mod inside

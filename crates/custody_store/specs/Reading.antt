@@ -1,5 +1,21 @@
 -- The rows that a database holds, by the list of its tables.
-use Rattle.std.specs.Prelude.{ℕ, ℤ, ◌-◌, ◌&&◌, Bool, List, map, find, codes, bytes_eq, Option, Some, None, option_map}
+use Rattle.std.specs.Prelude.{
+  ℕ,
+  ℤ,
+  ◌+◌,
+  ◌-◌,
+  ◌&&◌,
+  Bool,
+  List,
+  map,
+  find,
+  codes,
+  bytes_eq,
+  Option,
+  Some,
+  None,
+  option_map,
+}
 use Rattle.sqlite.specs.declared.types.Value.{Value}
 use Rattle.sqlite.specs.declared.types.Value.TheVariants.{Null, Int, Real, Text, Blob}
 use Rattle.sqlite.specs.Order.{Row, column, bytes}
@@ -10,7 +26,15 @@ use Rattle.sqlite_catalog.specs.Listing.{is_table_row}
 use Rattle.std.specs.List.{list_any}
 use Rattle.sqlite.specs.Schema.{Schema}
 use Rattle.sqlite_schema.specs.Names.{same_name}
-use Rattle.custody_records.specs.Rows.{MetaRow, RegistryRow, PartRow, NoticeRow, HandoverRow, HoldRow, Rows}
+use Rattle.custody_records.specs.Rows.{
+  MetaRow,
+  RegistryRow,
+  PartRow,
+  NoticeRow,
+  HandoverRow,
+  HoldRow,
+  Rows,
+}
 
 abbrev pub bytes_unless_null : Value → Option (List ℕ)
 bytes_unless_null Null = None
@@ -37,61 +61,81 @@ integer_or_null None = Null
 integer_or_null (Some n) = Int n
 
 -- a row of a table is its rowid and then its columns; the key of meta is the rowid
-abbrev pub meta_row : Row → MetaRow
-meta_row row = record { one = id_in (rowid row); schema_no = id_in (column row 2); number = bytes (column row 3); blocks = id_in (column row 4) }
+abbrev pub stored_meta_row : Row → MetaRow
+stored_meta_row row = record { one = id_in (rowid row); schema_no = id_in (column row 2); number = bytes (column row 3); blocks = id_in (column row 4) }
 
-abbrev pub registry_row : Row → RegistryRow
-registry_row row = record { tld = bytes (column row 1); first_day = id_in (column row 2) }
+-- the columns of a registry in a row, from the first of them on
+abbrev pub registry_row_from : ℕ → Row → RegistryRow
+registry_row_from first row = record { tld = bytes (column row first); first_day = id_in (column row (first + 1)) }
 
-abbrev pub part_row : Row → PartRow
-part_row row = record {
-  tld = bytes (column row 1);
-  day = id_in (column row 2);
-  rev = id_in (column row 3);
-  part = id_in (column row 4);
-  kind = bytes (column row 5);
-  received = id_in (column row 6);
-  keep_day = id_in (column row 7);
-  len = id_in (column row 8);
-  sha = bytes (column row 9);
-  extents = bytes_unless_null (column row 10);
+abbrev pub stored_registry_row : Row → RegistryRow
+stored_registry_row = registry_row_from 1
+
+-- the columns of a part in a row, from the first of them on
+abbrev pub part_row_from : ℕ → Row → PartRow
+part_row_from first row = record {
+  tld = bytes (column row first);
+  day = id_in (column row (first + 1));
+  rev = id_in (column row (first + 2));
+  part = id_in (column row (first + 3));
+  kind = bytes (column row (first + 4));
+  received = id_in (column row (first + 5));
+  keep_day = id_in (column row (first + 6));
+  len = id_in (column row (first + 7));
+  sha = bytes (column row (first + 8));
+  extents = bytes_unless_null (column row (first + 9));
 }
 
-abbrev pub notice_row : Row → NoticeRow
-notice_row row = record {
-  tld = bytes (column row 1);
-  number = id_in (column row 2);
-  kind = id_in (column row 3);
-  day = id_in (column row 4);
-  rev = id_in (column row 5);
-  id = bytes (column row 6);
-  at = id_in (column row 7);
+abbrev pub stored_part_row : Row → PartRow
+stored_part_row = part_row_from 1
+
+-- the columns of a notice in a row, from the first of them on
+abbrev pub notice_row_from : ℕ → Row → NoticeRow
+notice_row_from first row = record {
+  tld = bytes (column row first);
+  number = id_in (column row (first + 1));
+  kind = id_in (column row (first + 2));
+  day = id_in (column row (first + 3));
+  rev = id_in (column row (first + 4));
+  id = bytes (column row (first + 5));
+  at = id_in (column row (first + 6));
 }
 
-abbrev pub handover_row : Row → HandoverRow
-handover_row row = record { reference = bytes (column row 1); tld = bytes (column row 2); reason = bytes (column row 3); at = id_in (column row 4); names = bytes (column row 5) }
+abbrev pub stored_notice_row : Row → NoticeRow
+stored_notice_row = notice_row_from 1
 
-abbrev pub hold_row : Row → HoldRow
-hold_row row = record { reference = bytes (column row 1); tld = bytes (column row 2); day = id_in (column row 3); at = id_in (column row 4); lifted = integer_unless_null (column row 5) }
+-- the columns of a handover in a row, from the first of them on
+abbrev pub handover_row_from : ℕ → Row → HandoverRow
+handover_row_from first row = record { reference = bytes (column row first); tld = bytes (column row (first + 1)); reason = bytes (column row (first + 2)); at = id_in (column row (first + 3)); names = bytes (column row (first + 4)) }
 
-abbrev pub lists_table : List ℕ → Row → Bool
-lists_table name object = is_table_row object && bytes_eq (bytes (column object 2)) name
+abbrev pub stored_handover_row : Row → HandoverRow
+stored_handover_row = handover_row_from 1
+
+-- the columns of a hold in a row, from the first of them on
+abbrev pub hold_row_from : ℕ → Row → HoldRow
+hold_row_from first row = record { reference = bytes (column row first); tld = bytes (column row (first + 1)); day = id_in (column row (first + 2)); at = id_in (column row (first + 3)); lifted = integer_unless_null (column row (first + 4)) }
+
+abbrev pub stored_hold_row : Row → HoldRow
+stored_hold_row = hold_row_from 1
+
+abbrev pub is_listing_of_table : List ℕ → Row → Bool
+is_listing_of_table name object = is_table_row object && bytes_eq (bytes (column object 2)) name
 
 -- the number of the tree of the table with this name
 abbrev pub tree_named : List ℕ → Trees → Option ℕ
-tree_named name trees = option_map (λ object. number_in (rowid object) - 1) (find (lists_table name) (trees catalog_tree))
+tree_named name trees = option_map (λ object. number_in (rowid object) - 1) (find (is_listing_of_table name) (trees catalog_tree))
 
 abbrev pub rows_named : {X : Type 0} → (Row → X) → List ℕ → Trees → Option (List X)
 rows_named read name trees = option_map (λ tree. map read (trees tree)) (tree_named name trees)
 
 abbrev pub rows_in : Trees → Rows
 rows_in trees = record {
-  meta = rows_named meta_row (codes "meta") trees;
-  registries = rows_named registry_row (codes "registry") trees;
-  parts = rows_named part_row (codes "part") trees;
-  notices = rows_named notice_row (codes "notice") trees;
-  handovers = rows_named handover_row (codes "handover") trees;
-  holds = rows_named hold_row (codes "hold") trees;
+  meta = rows_named stored_meta_row (codes "meta") trees;
+  registries = rows_named stored_registry_row (codes "registry") trees;
+  parts = rows_named stored_part_row (codes "part") trees;
+  notices = rows_named stored_notice_row (codes "notice") trees;
+  handovers = rows_named stored_handover_row (codes "handover") trees;
+  holds = rows_named stored_hold_row (codes "hold") trees;
 }
 
 -- the rows of a database without tables
@@ -100,38 +144,19 @@ no_rows = record { meta = None; registries = None; parts = None; notices = None;
 
 -- a row that is answered has the columns alone
 abbrev pub answered_registry : Row → RegistryRow
-answered_registry row = record { tld = bytes (column row 0); first_day = id_in (column row 1) }
+answered_registry = registry_row_from 0
 
 abbrev pub answered_part : Row → PartRow
-answered_part row = record {
-  tld = bytes (column row 0);
-  day = id_in (column row 1);
-  rev = id_in (column row 2);
-  part = id_in (column row 3);
-  kind = bytes (column row 4);
-  received = id_in (column row 5);
-  keep_day = id_in (column row 6);
-  len = id_in (column row 7);
-  sha = bytes (column row 8);
-  extents = bytes_unless_null (column row 9);
-}
+answered_part = part_row_from 0
 
 abbrev pub answered_notice : Row → NoticeRow
-answered_notice row = record {
-  tld = bytes (column row 0);
-  number = id_in (column row 1);
-  kind = id_in (column row 2);
-  day = id_in (column row 3);
-  rev = id_in (column row 4);
-  id = bytes (column row 5);
-  at = id_in (column row 6);
-}
+answered_notice = notice_row_from 0
 
 abbrev pub answered_handover : Row → HandoverRow
-answered_handover row = record { reference = bytes (column row 0); tld = bytes (column row 1); reason = bytes (column row 2); at = id_in (column row 3); names = bytes (column row 4) }
+answered_handover = handover_row_from 0
 
 abbrev pub answered_hold : Row → HoldRow
-answered_hold row = record { reference = bytes (column row 0); tld = bytes (column row 1); day = id_in (column row 2); at = id_in (column row 3); lifted = integer_unless_null (column row 4) }
+answered_hold = hold_row_from 0
 
 abbrev pub answered_meta : Row → MetaRow
 answered_meta row = record { one = id_in (column row 0); schema_no = id_in (column row 1); number = bytes (column row 2); blocks = id_in (column row 3) }

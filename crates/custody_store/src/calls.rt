@@ -3,7 +3,7 @@ ghost use Rattle.std.specs.Prelude.{◌≡◌, Ok, IfOk, IfErr};
 ghost use Rattle.sqlite.specs.State.{HasCleanDisk, Executes};
 ghost use Rattle.sqlite.specs.Held.{state};
 ghost use Rattle.sqlite.specs.Values.{bound};
-ghost use Rattle.custody_store.specs.Calls.{Runs, Asks, items_of};
+ghost use Rattle.custody_store.specs.Calls.{RunsStatement, RunsQuery, row_items};
 
 use crate::faults::StoreFault;
 use sqlite::types::ValueRef;
@@ -15,7 +15,7 @@ pub fn run<S: Alter>(
     sql: &str,
     params: &[ValueRef<'_>],
 ) -> Result<(), StoreFault>
-    ensures runs { Runs sql.now (bound params.now) (state S.Store db.old) (state S.Store db.new) result }
+    ensures runs { RunsStatement sql.now (bound params.now) (state S.Store db.old) (state S.Store db.new) result }
     ensures kind { IfErr result (λ e. e ≡ StoreFault.Failed) }
 {
     match db.execute(sql, params) {
@@ -30,7 +30,7 @@ pub fn change<S: Alter>(
     sql: &str,
     params: &[ValueRef<'_>],
 ) -> Result<u64, StoreFault>
-    ensures runs { Runs sql.now (bound params.now) (state S.Store db.old) (state S.Store db.new) result }
+    ensures runs { RunsStatement sql.now (bound params.now) (state S.Store db.old) (state S.Store db.new) result }
     ensures count { HasCleanDisk (state S.Store db.new) → IfOk result (λ count. Executes sql.now (bound params.now) (state S.Store db.old) (state S.Store db.new) (Ok count)) }
     ensures kind { IfErr result (λ e. e ≡ StoreFault.Failed) }
 {
@@ -42,7 +42,7 @@ pub fn change<S: Alter>(
 
 /// Runs one query, and answers all its rows.
 pub fn ask<S: Alter>(db: &mut Connection<S>, sql: &str) -> Result<Vec<Row>, StoreFault>
-    ensures asks { Asks sql.now items_of (state S.Store db.old) (state S.Store db.new) result }
+    ensures asks { RunsQuery sql.now row_items (state S.Store db.old) (state S.Store db.new) result }
     ensures kind { IfErr result (λ e. e ≡ StoreFault.Failed) }
 {
     match db.query_all(sql, &[]) {

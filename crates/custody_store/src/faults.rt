@@ -1,6 +1,6 @@
 ghost use Rattle.std.specs.Prelude.{◌≡◌};
 
-use custody_records::Damage;
+use custody_records::RowDamage;
 use sqlite::Error;
 
 /// Why a call of the store gave no answer.
@@ -9,7 +9,7 @@ pub enum StoreFault {
     /// A call of the database failed or was refused, or there was no memory.
     Failed,
     /// The rows are not those of records.
-    Damaged(Damage),
+    Damaged(RowDamage),
 }
 
 impl From<Error> for StoreFault {

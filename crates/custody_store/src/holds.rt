@@ -4,13 +4,13 @@ ghost use Rattle.custody_records.specs.Form.{hold_in};
 ghost use Rattle.custody_records.specs.Keys.{text_cmp};
 ghost use Rattle.custody_records.specs.Records as specs;
 ghost use Rattle.custody_records.specs.Rows.{HoldRow};
-ghost use Rattle.custody_records.specs.Typed.{hold_row};
+ghost use Rattle.custody_records.specs.TypedRecords.{hold_row};
 ghost use Rattle.custody_store.specs.Reading.{answered_hold};
 
 use crate::calls::ask;
 use crate::columns::{bytes_at, integer_at, integer_or_null_at};
 use crate::faults::StoreFault;
-use crate::stored::Stored;
+use crate::stored_rows::Stored;
 use custody_records::{Hold, HoldColumns, Records, RowError};
 use sqlite::{Alter, Connection, Row};
 use std::alloc::Global;
@@ -36,7 +36,7 @@ impl Stored for Hold {
 
     ghost order = { text_cmp };
 
-    ghost IsThere = { λ s. s.HasTablesFirst × (s.has_table (codes "hold") ≡ true) };
+    ghost IsThere = { λ s. s.HasSchemaTablesFirst × (s.has_table (codes "hold") ≡ true) };
 
     ghost rows_of = { λ rows. rows.holds };
 

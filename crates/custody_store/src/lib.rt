@@ -3,7 +3,7 @@
 
 mod calls;
 mod columns;
-mod create;
+mod creating;
 mod faults;
 mod holds;
 mod loading;
@@ -14,11 +14,11 @@ mod parts;
 mod registries;
 mod releases;
 mod store;
-mod stored;
+mod stored_rows;
 mod tables;
 mod values;
 
 pub use faults::StoreFault;
 pub use meta::find_meta;
 pub use store::Store;
-pub use tables::{has_all, has_any, is_earlier};
+pub use tables::{has_all_tables, has_any_table, has_earlier_tables};

@@ -1,9 +1,21 @@
 //! The row of meta.
-ghost use Rattle.std.specs.Prelude.{◌≡◌, false, codes, map, Ok, Some, None, IfOk, IfErr, option_map, slice_get};
+ghost use Rattle.std.specs.Prelude.{
+  ◌≡◌,
+  false,
+  codes,
+  map,
+  Ok,
+  Some,
+  None,
+  IfOk,
+  IfErr,
+  option_map,
+  slice_get,
+};
 ghost use Rattle.custody_records.specs.Rows.{first_meta};
-ghost use Rattle.custody_records.specs.Typed.{meta_of};
+ghost use Rattle.custody_records.specs.TypedRecords.{meta_of};
 ghost use Rattle.custody_store.specs.Reading.{answered_meta};
-ghost use Rattle.custody_store.specs.Standing.{standing, HasMetaOrNone, Reads};
+ghost use Rattle.custody_store.specs.StoreState.{store_state, HasMetaOrNone, ChangesNothing};
 
 use crate::calls::ask;
 use crate::columns::{bytes_at, integer_at};
@@ -35,9 +47,9 @@ pub fn first_of(rows: &[Row]) -> Option<Meta>
 
 /// The rows of meta, in the order in which they were added.
 pub fn select_meta<S: Alter>(db: &mut Connection<S>) -> Result<Vec<Row>, StoreFault>
-    ensures found { (standing S.Store db.new).IsHonest → (standing S.Store db.old).HasMetaFirst
-        → IfOk result (λ rows. (standing S.Store db.old).rows.meta ≡ Some (map answered_meta rows.items)) }
-    ensures reads { Reads (standing S.Store db.old) (standing S.Store db.new) result }
+    ensures found { (store_state S.Store db.new).IsHonest → (store_state S.Store db.old).HasMetaFirst
+        → IfOk result (λ rows. (store_state S.Store db.old).rows.meta ≡ Some (map answered_meta rows.items)) }
+    ensures reads { ChangesNothing (store_state S.Store db.old) (store_state S.Store db.new) result }
     ensures kind { IfErr result (λ e. e ≡ StoreFault.Failed) }
 {
     ask(
@@ -48,12 +60,12 @@ pub fn select_meta<S: Alter>(db: &mut Connection<S>) -> Result<Vec<Row>, StoreFa
 
 /// The first row of meta, or `None` where there is no table meta or no row in it.
 pub fn find_meta<S: Alter>(db: &mut Connection<S>) -> Result<Option<Meta>, StoreFault>
-    ensures found { (standing S.Store db.new).IsHonest → HasMetaOrNone (standing S.Store db.old)
-        → IfOk result (λ found. found ≡ option_map meta_of (first_meta (standing S.Store db.old).rows)) }
-    ensures reads { Reads (standing S.Store db.old) (standing S.Store db.new) result }
+    ensures found { (store_state S.Store db.new).IsHonest → HasMetaOrNone (store_state S.Store db.old)
+        → IfOk result (λ found. found ≡ option_map meta_of (first_meta (store_state S.Store db.old).rows)) }
+    ensures reads { ChangesNothing (store_state S.Store db.old) (store_state S.Store db.new) result }
     // A row that is there is answered, whatever its fields are.
     ensures kind { IfErr result (λ e. e ≡ StoreFault.Failed) }
-    ensures missing { (standing S.Store db.old).has_table (codes "meta") ≡ false → (result ≡ Ok None) × (db.new ≡ db.old) }
+    ensures missing { (store_state S.Store db.old).has_table (codes "meta") ≡ false → (result ≡ Ok None) × (db.new ≡ db.old) }
 {
     if !has_table(db.schema(), "meta") {
         return Ok(None);

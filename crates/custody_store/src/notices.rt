@@ -4,14 +4,14 @@ ghost use Rattle.custody_records.specs.Form.{notice_in};
 ghost use Rattle.custody_records.specs.Keys.{NoticeKey, notice_cmp};
 ghost use Rattle.custody_records.specs.Records as specs;
 ghost use Rattle.custody_records.specs.Rows.{NoticeRow};
-ghost use Rattle.custody_records.specs.Typed.{notice_row};
-ghost use Rattle.custody_records.specs.Written.{kind_number, kind_rev, kind_id};
+ghost use Rattle.custody_records.specs.TypedRecords.{notice_row};
+ghost use Rattle.custody_records.specs.RowsOfRecords.{kind_number, kind_rev, kind_id};
 ghost use Rattle.custody_store.specs.Reading.{answered_notice};
 
 use crate::calls::ask;
 use crate::columns::{bytes_at, integer_at};
 use crate::faults::StoreFault;
-use crate::stored::Stored;
+use crate::stored_rows::Stored;
 use custody_records::{NoticeColumns, Records, RowError};
 use desk::{Notice, NoticeKind};
 use sqlite::{Alter, Connection, Row};
@@ -71,7 +71,7 @@ impl Stored for Notice {
 
     ghost order = { notice_cmp };
 
-    ghost IsThere = { λ s. s.HasTablesFirst };
+    ghost IsThere = { λ s. s.HasSchemaTablesFirst };
 
     ghost rows_of = { λ rows. rows.notices };
 

@@ -4,13 +4,13 @@ ghost use Rattle.custody_records.specs.Form.{part_in};
 ghost use Rattle.custody_records.specs.Keys.{PartKey, part_cmp};
 ghost use Rattle.custody_records.specs.Records.{PartRecord};
 ghost use Rattle.custody_records.specs.Rows.{PartRow};
-ghost use Rattle.custody_records.specs.Typed.{part_row};
+ghost use Rattle.custody_records.specs.TypedRecords.{part_row};
 ghost use Rattle.custody_store.specs.Reading.{answered_part};
 
 use crate::calls::ask;
 use crate::columns::{bytes_at, bytes_or_null_at, integer_at};
 use crate::faults::StoreFault;
-use crate::stored::Stored;
+use crate::stored_rows::Stored;
 use custody_records::{Part, PartColumns, Records, RowError};
 use sqlite::{Alter, Connection, Row};
 use std::alloc::Global;
@@ -41,7 +41,7 @@ impl Stored for Part {
 
     ghost order = { part_cmp };
 
-    ghost IsThere = { λ s. s.HasTablesFirst };
+    ghost IsThere = { λ s. s.HasSchemaTablesFirst };
 
     ghost rows_of = { λ rows. rows.parts };
 

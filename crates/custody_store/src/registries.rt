@@ -8,7 +8,7 @@ ghost use Rattle.custody_store.specs.Reading.{answered_registry};
 use crate::calls::ask;
 use crate::columns::{bytes_at, integer_at};
 use crate::faults::StoreFault;
-use crate::stored::Stored;
+use crate::stored_rows::Stored;
 use custody_records::{Records, Registry, RowError, read_registry};
 use sqlite::{Alter, Connection, Row};
 use std::alloc::Global;
@@ -22,7 +22,7 @@ impl Stored for Registry {
 
     ghost order = { text_cmp };
 
-    ghost IsThere = { λ s. s.HasTablesFirst };
+    ghost IsThere = { λ s. s.HasSchemaTablesFirst };
 
     ghost rows_of = { λ rows. rows.registries };
 

@@ -4,14 +4,14 @@ ghost use Rattle.custody_records.specs.Form.{release_in};
 ghost use Rattle.custody_records.specs.Keys.{text_cmp};
 ghost use Rattle.custody_records.specs.Records as specs;
 ghost use Rattle.custody_records.specs.Rows.{HandoverRow};
-ghost use Rattle.custody_records.specs.Typed.{handover_row};
+ghost use Rattle.custody_records.specs.TypedRecords.{handover_row};
 ghost use Rattle.custody_store.specs.Reading.{answered_handover};
 ghost use Rattle.desk.specs.Grounds.{ground_text};
 
 use crate::calls::ask;
 use crate::columns::{bytes_at, integer_at};
 use crate::faults::StoreFault;
-use crate::stored::Stored;
+use crate::stored_rows::Stored;
 use custody_records::{Records, Release, ReleaseColumns, RowError};
 use desk::Ground;
 use sqlite::{Alter, Connection, Row};
@@ -45,7 +45,7 @@ impl Stored for Release {
 
     ghost order = { text_cmp };
 
-    ghost IsThere = { λ s. s.HasTablesFirst };
+    ghost IsThere = { λ s. s.HasSchemaTablesFirst };
 
     ghost rows_of = { λ rows. rows.handovers };
 

@@ -1,30 +1,83 @@
 //! The store: a connection with the tables of the records.
-ghost use Rattle.std.specs.Prelude.{◌≡◌, ◌^◌, ◌<◌, ◌≤◌, true, false, pos, Ok, Err, IfOk, IfErr, MatchResult};
+ghost use Rattle.std.specs.Prelude.{
+  ◌≡◌,
+  ◌^◌,
+  ◌<◌,
+  ◌≤◌,
+  true,
+  false,
+  pos,
+  Ok,
+  Err,
+  IfOk,
+  IfErr,
+  MatchResult,
+};
 ghost use Rattle.sqlite.specs.Held.{state};
 ghost use Rattle.sqlite.specs.State.{HasCleanDisk, Executes};
-ghost use Rattle.custody_records.specs.Rows.{fresh, with_registry_row, with_part_row, with_notice_row, with_handover_row, with_hold_row, with_lifting};
+ghost use Rattle.custody_records.specs.Rows.{
+  initial_rows,
+  with_registry_row,
+  with_part_row,
+  with_notice_row,
+  with_handover_row,
+  with_hold_row,
+  with_lifting,
+};
 ghost use Rattle.custody_records.specs.Form.{form_of, InForm, OutOfForm};
-ghost use Rattle.custody_records.specs.Held.{records_of};
-ghost use Rattle.custody_records.specs.declared.damage.Damage.{Damage};
-ghost use Rattle.custody_records.specs.declared.damage.Damage.TheVariants as damage;
-ghost use Rattle.custody_records.specs.Written.{digits_of, row_of_registry};
-ghost use Rattle.custody_store.specs.Calls.{Runs, RunsTogether};
-ghost use Rattle.custody_store.specs.Statements.{founding, migration, insert_registry_text, registry_columns, insert_part_text, part_columns, insert_notice_text, notice_columns, insert_handover_text, handover_columns, insert_hold_text, hold_columns, lift_text, lifting, drop_due_text, today_only};
-ghost use Rattle.custody_store.specs.Dropping.{without_due, count_due};
-ghost use Rattle.custody_store.specs.Records.{staged_row, notice_row_of, release_row_of, hold_row_of};
-ghost use Rattle.custody_store.specs.Standing.{standing, Commits, Founds, Migrates, Reads, has_any, has_all};
+ghost use Rattle.custody_records.specs.MemoryRecords.{records_of};
+ghost use Rattle.custody_records.specs.declared.damage.RowDamage.{RowDamage};
+ghost use Rattle.custody_records.specs.declared.damage.RowDamage.TheVariants as damage;
+ghost use Rattle.custody_records.specs.RowsOfRecords.{digits_of, row_of_registry};
+ghost use Rattle.custody_store.specs.Calls.{RunsStatement, RunsTogether};
+ghost use Rattle.custody_store.specs.Statements.{
+  create_statements,
+  migrate_statements,
+  insert_registry_text,
+  insert_registry_values,
+  insert_part_text,
+  insert_part_values,
+  insert_notice_text,
+  insert_notice_values,
+  insert_handover_text,
+  insert_handover_values,
+  insert_hold_text,
+  insert_hold_values,
+  lift_text,
+  lift_values,
+  drop_due_text,
+  drop_due_values,
+};
+ghost use Rattle.custody_store.specs.Dropping.{rows_without_due, count_due_rows};
+ghost use Rattle.custody_store.specs.TypedRows.{
+  staged_row,
+  typed_notice_row,
+  typed_release_row,
+  typed_hold_row,
+};
+ghost use Rattle.custody_store.specs.StoreState.{
+  store_state,
+  Commits,
+  CreatesTables,
+  Migrates,
+  ChangesNothing,
+  has_any_table,
+  has_all_tables,
+};
 
 use crate::calls::{change, run};
-use crate::create::found;
+use crate::creating::create_all;
 use crate::faults::StoreFault;
 use crate::loading::{read_all, select_all, volume_in};
 use crate::meta::select_meta;
-use crate::migrating::go_over;
+use crate::migrating::migrate_tables;
 use crate::notices::{id_of, number_of, rev_of};
 use crate::releases::ground_of;
-use crate::tables::{has_all, has_any, has_table};
-use crate::values::{blob, day, kept_until, large, moment, moment_or_null, number, small, text};
-use custody_records::{Damage, Hold, Records, Registry, Release, write_blob, write_number};
+use crate::tables::{has_all_tables, has_any_table, has_table};
+use crate::values::{
+    blob, day, keep_day_value, large, moment, moment_or_null, number, small, text,
+};
+use custody_records::{Hold, Records, Registry, Release, RowDamage, write_blob, write_number};
 use deposit_name::{DepositName, Reference};
 use desk::Notice;
 use schedule::{Day, Sec};
@@ -68,32 +121,32 @@ impl<S: Alter> Store<S> {
 
     /// Makes the tables of schema 2, with the number and the blocks of the volume.
     pub fn create(&mut self, number: u64, blocks: u32) -> Result<(), StoreFault>
-        ensures founds { Founds (standing S.Store self.old) (standing S.Store self.new) (fresh (digits_of number) (pos blocks)) result }
-        ensures runs { has_any (standing S.Store self.old) ≡ false → RunsTogether S.Store (founding (digits_of number) blocks) self.old self.new result }
+        ensures founds { CreatesTables (store_state S.Store self.old) (store_state S.Store self.new) (initial_rows (digits_of number) (pos blocks)) result }
+        ensures runs { has_any_table (store_state S.Store self.old) ≡ false → RunsTogether S.Store (create_statements (digits_of number) blocks) self.old self.new result }
         // Where one of the tables is there, it fails, and nothing is done.
-        ensures taken { has_any (standing S.Store self.old) ≡ true → (result ≡ Err StoreFault.Failed) × (self.new ≡ self.old) }
+        ensures taken { has_any_table (store_state S.Store self.old) ≡ true → (result ≡ Err StoreFault.Failed) × (self.new ≡ self.old) }
         ensures kind { IfErr result (λ e. e ≡ StoreFault.Failed) }
     {
-        if has_any(&self.db) {
+        if has_any_table(&self.db) {
             return Err(StoreFault::Failed);
         }
-        found(&mut self.db, &write_number(number), blocks)
+        create_all(&mut self.db, &write_number(number), blocks)
     }
 
     /// Makes tables of schema 1 those of schema 2, and commits it: the table of holds is there then.
     pub fn migrate(&mut self) -> Result<(), StoreFault>
-        ensures migrates { Migrates (standing S.Store self.old) (standing S.Store self.new) result }
-        ensures runs { RunsTogether S.Store migration self.old self.new result }
+        ensures migrates { Migrates (store_state S.Store self.old) (store_state S.Store self.new) result }
+        ensures runs { RunsTogether S.Store migrate_statements self.old self.new result }
         ensures kind { IfErr result (λ e. e ≡ StoreFault.Failed) }
     {
-        go_over(&mut self.db)
+        migrate_tables(&mut self.db)
     }
 
     /// Adds a registry, and commits it.
     pub fn insert_registry(&mut self, registry: &Registry) -> Result<(), StoreFault>
-        ensures commits { Commits (standing S.Store self.old) (standing S.Store self.new)
-            (with_registry_row (row_of_registry registry.now.tld registry.now.first_day) (standing S.Store self.old).rows) result }
-        ensures runs { Runs insert_registry_text (registry_columns (row_of_registry registry.now.tld registry.now.first_day)) (state S.Store self.old) (state S.Store self.new) result }
+        ensures commits { Commits (store_state S.Store self.old) (store_state S.Store self.new)
+            (with_registry_row (row_of_registry registry.now.tld registry.now.first_day) (store_state S.Store self.old).rows) result }
+        ensures runs { RunsStatement insert_registry_text (insert_registry_values (row_of_registry registry.now.tld registry.now.first_day)) (state S.Store self.old) (state S.Store self.new) result }
         ensures kind { IfErr result (λ e. e ≡ StoreFault.Failed) }
     {
         run(
@@ -112,9 +165,9 @@ impl<S: Alter> Store<S> {
         staged: Staged,
     ) -> Result<(Vec<Extent>, u32, [u8; 32]), StoreFault>
         ensures handed { IfOk result (λ t. (t.0.items ≡ staged.extents) × (t.1 ≡ staged.len) × (t.2 ≡ staged.digest)) }
-        ensures commits { Commits (standing S.Store self.old) (standing S.Store self.new)
-            (with_part_row (staged_row name.now received staged) (standing S.Store self.old).rows) result }
-        ensures runs { Runs insert_part_text (part_columns (staged_row name.now received staged)) (state S.Store self.old) (state S.Store self.new) result }
+        ensures commits { Commits (store_state S.Store self.old) (store_state S.Store self.new)
+            (with_part_row (staged_row name.now received staged) (store_state S.Store self.old).rows) result }
+        ensures runs { RunsStatement insert_part_text (insert_part_values (staged_row name.now received staged)) (state S.Store self.old) (state S.Store self.new) result }
         ensures kind { IfErr result (λ e. e ≡ StoreFault.Failed) }
     {
         let (extents, len, digest) = staged.spend();
@@ -130,7 +183,7 @@ impl<S: Alter> Store<S> {
                 small(name.part),
                 text(name.kind.as_bytes()),
                 moment(received),
-                kept_until(received.day()),
+                keep_day_value(received.day()),
                 number(len),
                 blob(&digest),
                 blob(&bytes[..size]),
@@ -141,9 +194,9 @@ impl<S: Alter> Store<S> {
 
     /// Adds a notice, and commits it.
     pub fn insert_notice(&mut self, notice: &Notice) -> Result<(), StoreFault>
-        ensures commits { Commits (standing S.Store self.old) (standing S.Store self.new)
-            (with_notice_row (notice_row_of notice.now) (standing S.Store self.old).rows) result }
-        ensures runs { notice.now.number < 2 ^ 63 → Runs insert_notice_text (notice_columns (notice_row_of notice.now)) (state S.Store self.old) (state S.Store self.new) result }
+        ensures commits { Commits (store_state S.Store self.old) (store_state S.Store self.new)
+            (with_notice_row (typed_notice_row notice.now) (store_state S.Store self.old).rows) result }
+        ensures runs { notice.now.number < 2 ^ 63 → RunsStatement insert_notice_text (insert_notice_values (typed_notice_row notice.now)) (state S.Store self.old) (state S.Store self.new) result }
         // A greater number has no place in a column, and nothing is done.
         ensures large { 2 ^ 63 ≤ notice.now.number → (result ≡ Err StoreFault.Failed) × (self.new ≡ self.old) }
         ensures kind { IfErr result (λ e. e ≡ StoreFault.Failed) }
@@ -168,9 +221,9 @@ impl<S: Alter> Store<S> {
 
     /// Adds a release, and commits it.
     pub fn insert_release(&mut self, release: &Release) -> Result<(), StoreFault>
-        ensures commits { Commits (standing S.Store self.old) (standing S.Store self.new)
-            (with_handover_row (release_row_of release.now) (standing S.Store self.old).rows) result }
-        ensures runs { Runs insert_handover_text (handover_columns (release_row_of release.now)) (state S.Store self.old) (state S.Store self.new) result }
+        ensures commits { Commits (store_state S.Store self.old) (store_state S.Store self.new)
+            (with_handover_row (typed_release_row release.now) (store_state S.Store self.old).rows) result }
+        ensures runs { RunsStatement insert_handover_text (insert_handover_values (typed_release_row release.now)) (state S.Store self.old) (state S.Store self.new) result }
         ensures kind { IfErr result (λ e. e ≡ StoreFault.Failed) }
     {
         run(
@@ -188,9 +241,9 @@ impl<S: Alter> Store<S> {
 
     /// Adds a hold, and commits it.
     pub fn insert_hold(&mut self, hold: &Hold) -> Result<(), StoreFault>
-        ensures commits { Commits (standing S.Store self.old) (standing S.Store self.new)
-            (with_hold_row (hold_row_of hold.now) (standing S.Store self.old).rows) result }
-        ensures runs { Runs insert_hold_text (hold_columns (hold_row_of hold.now)) (state S.Store self.old) (state S.Store self.new) result }
+        ensures commits { Commits (store_state S.Store self.old) (store_state S.Store self.new)
+            (with_hold_row (typed_hold_row hold.now) (store_state S.Store self.old).rows) result }
+        ensures runs { RunsStatement insert_hold_text (insert_hold_values (typed_hold_row hold.now)) (state S.Store self.old) (state S.Store self.new) result }
         ensures kind { IfErr result (λ e. e ≡ StoreFault.Failed) }
     {
         run(
@@ -208,9 +261,9 @@ impl<S: Alter> Store<S> {
 
     /// Writes when the hold of a reference was lifted, and commits it.
     pub fn lift_hold(&mut self, reference: &Reference, at: Sec) -> Result<(), StoreFault>
-        ensures commits { Commits (standing S.Store self.old) (standing S.Store self.new)
-            (with_lifting reference.now at (standing S.Store self.old).rows) result }
-        ensures runs { Runs lift_text (lifting reference.now at) (state S.Store self.old) (state S.Store self.new) result }
+        ensures commits { Commits (store_state S.Store self.old) (store_state S.Store self.new)
+            (with_lifting reference.now at (store_state S.Store self.old).rows) result }
+        ensures runs { RunsStatement lift_text (lift_values reference.now at) (state S.Store self.old) (state S.Store self.new) result }
         ensures kind { IfErr result (λ e. e ≡ StoreFault.Failed) }
     {
         run(
@@ -223,10 +276,10 @@ impl<S: Alter> Store<S> {
     /// Drops the bytes of the parts whose last day of keeping is before today and whose day is not on
     /// hold, and commits it. It answers how many they were. Their records stay.
     pub fn drop_bytes(&mut self, today: Day) -> Result<u64, StoreFault>
-        ensures commits { Commits (standing S.Store self.old) (standing S.Store self.new) (without_due today (standing S.Store self.old).rows) result }
-        ensures runs { Runs drop_due_text (today_only today) (state S.Store self.old) (state S.Store self.new) result }
-        ensures changed { HasCleanDisk (state S.Store self.new) → IfOk result (λ count. Executes drop_due_text (today_only today) (state S.Store self.old) (state S.Store self.new) (Ok count)) }
-        ensures count { (standing S.Store self.new).IsHonest → (standing S.Store self.old).IsReady → IfOk result (λ count. count ≡ count_due today (standing S.Store self.old).rows) }
+        ensures commits { Commits (store_state S.Store self.old) (store_state S.Store self.new) (rows_without_due today (store_state S.Store self.old).rows) result }
+        ensures runs { RunsStatement drop_due_text (drop_due_values today) (state S.Store self.old) (state S.Store self.new) result }
+        ensures changed { HasCleanDisk (state S.Store self.new) → IfOk result (λ count. Executes drop_due_text (drop_due_values today) (state S.Store self.old) (state S.Store self.new) (Ok count)) }
+        ensures count { (store_state S.Store self.new).IsHonest → (store_state S.Store self.old).IsReady → IfOk result (λ count. count ≡ count_due_rows today (store_state S.Store self.old).rows) }
         ensures kind { IfErr result (λ e. e ≡ StoreFault.Failed) }
     {
         change(
@@ -238,15 +291,15 @@ impl<S: Alter> Store<S> {
 
     /// The records, where meta has a row. It fails where meta has none.
     pub fn load(&mut self, alloc: Global) -> Result<Records, StoreFault>
-        ensures found { (standing S.Store self.new).IsHonest → (standing S.Store self.old).HasTablesFirst → MatchResult result
-            (λ records. form_of (standing S.Store self.old).rows ≡ InForm (records_of records))
-            (λ e. (why : Damage) → e ≡ StoreFault.Damaged why → form_of (standing S.Store self.old).rows ≡ OutOfForm why) }
-        ensures reads { Reads (standing S.Store self.old) (standing S.Store self.new) result }
+        ensures found { (store_state S.Store self.new).IsHonest → (store_state S.Store self.old).HasSchemaTablesFirst → MatchResult result
+            (λ records. form_of (store_state S.Store self.old).rows ≡ InForm (records_of records))
+            (λ e. (why : RowDamage) → e ≡ StoreFault.Damaged why → form_of (store_state S.Store self.old).rows ≡ OutOfForm why) }
+        ensures reads { ChangesNothing (store_state S.Store self.old) (store_state S.Store self.new) result }
         // Where a table is not there, the rows are damaged, whatever else is.
-        ensures missing { has_all (standing S.Store self.old) ≡ false → (result ≡ Err (StoreFault.Damaged damage.Form)) × (self.new ≡ self.old) }
+        ensures missing { has_all_tables (store_state S.Store self.old) ≡ false → (result ≡ Err (StoreFault.Damaged damage.Form)) × (self.new ≡ self.old) }
     {
-        if !has_all(&self.db) {
-            return Err(StoreFault::Damaged(Damage::Form));
+        if !has_all_tables(&self.db) {
+            return Err(StoreFault::Damaged(RowDamage::Form));
         }
         let meta = select_meta(&mut self.db)?;
         let has_holds = has_table(self.db.schema(), "hold");

@@ -1,7 +1,12 @@
 //! Which tables a database has.
 ghost use Rattle.std.specs.Prelude.{◌≡◌, ◌||◌, ◌&&◌, codes};
 ghost use Rattle.custody_store.specs.Reading.{has_table};
-ghost use Rattle.custody_store.specs.Standing.{standing, has_any, has_all, is_earlier};
+ghost use Rattle.custody_store.specs.StoreState.{
+  store_state,
+  has_any_table,
+  has_all_tables,
+  has_earlier_tables,
+};
 
 use sqlite::{Alter, Connection};
 use sqlite_schema::names::same_name;
@@ -19,8 +24,8 @@ pub fn has_table(schema: &Schema, name: &str) -> bool
 }
 
 /// Whether one of the six tables is there.
-pub fn has_any<S: Alter>(db: &Connection<S>) -> bool
-    ensures { result ≡ has_any (standing S.Store db.now) }
+pub fn has_any_table<S: Alter>(db: &Connection<S>) -> bool
+    ensures { result ≡ has_any_table (store_state S.Store db.now) }
 {
     let schema = db.schema();
     has_table(schema, "meta")
@@ -32,8 +37,8 @@ pub fn has_any<S: Alter>(db: &Connection<S>) -> bool
 }
 
 /// Whether all five tables are there that both schemas have.
-pub fn has_all<S: Alter>(db: &Connection<S>) -> bool
-    ensures { result ≡ has_all (standing S.Store db.now) }
+pub fn has_all_tables<S: Alter>(db: &Connection<S>) -> bool
+    ensures { result ≡ has_all_tables (store_state S.Store db.now) }
 {
     let schema = db.schema();
     has_table(schema, "meta")
@@ -44,8 +49,8 @@ pub fn has_all<S: Alter>(db: &Connection<S>) -> bool
 }
 
 /// Whether all tables of schema 1 are there, and that of holds is not.
-pub fn is_earlier<S: Alter>(db: &Connection<S>) -> bool
-    ensures { result ≡ is_earlier (standing S.Store db.now) }
+pub fn has_earlier_tables<S: Alter>(db: &Connection<S>) -> bool
+    ensures { result ≡ has_earlier_tables (store_state S.Store db.now) }
 {
-    has_all(db) && !has_table(db.schema(), "hold")
+    has_all_tables(db) && !has_table(db.schema(), "hold")
 }

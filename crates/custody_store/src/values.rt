@@ -67,7 +67,7 @@ pub fn moment_or_null<'v>(s: Option<Sec>) -> ValueRef<'v>
 }
 
 /// The day until which a part is kept that was received on this day.
-pub fn kept_until<'v>(received: Day) -> ValueRef<'v>
+pub fn keep_day_value<'v>(received: Day) -> ValueRef<'v>
     ensures { owned result ≡ Int (pos (year_after received)) }
 {
     ValueRef::Int(keep_until(received))

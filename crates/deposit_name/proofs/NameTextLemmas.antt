@@ -1,5 +1,5 @@
 -- The length and the bytes of a name.
-use Rattle.std.proofs.Common.{◌≡◌, ℕ, ◌+◌, ◌/◌, ◌%◌, ◌<◌, ◌≤◌, true, Bool, List, [], ◌∷◌, ◌++◌, codes, length, refl, ap, ◌∙◌, arith, inl, inr, length-append}
+use Rattle.std.proofs.Common.{◌≡◌, ℕ, ◌+◌, ◌/◌, ◌%◌, ◌<◌, ◌≤◌, true, Bool, List, [], ◌∷◌, ◌++◌, codes, decimal, length, refl, ap, ◌∙◌, arith, inl, inr, length-append}
 use Rattle.std.proofs.lemmas.Bool.{and_parts, and_from}
 use Rattle.std.proofs.lemmas.List.Folds.{list_all-append}
 use Rattle.std.specs.List.{list_all}
@@ -8,7 +8,7 @@ use Rattle.schedule.proofs.ReadingLemmas.{day_text-bytes}
 use Rattle.deposit_name.specs.declared.kinds.Kind.{Kind}
 use Rattle.deposit_name.specs.declared.kinds.Kind.TheVariants.{Full, Diff, Incr}
 use Rattle.deposit_name.specs.Identifiers.{is_tld_byte}
-use Rattle.deposit_name.specs.Name.{Name, IsName, kind_text, decimal, part_text, rev_text, name_text, is_name_byte}
+use Rattle.deposit_name.specs.Name.{Name, IsName, kind_text, part_text, rev_text, name_text, is_name_byte}
 use Rattle.deposit_name.proofs.NameLemmas.{decimal_cases}
 
 -- ---- the length
@@ -24,14 +24,14 @@ length-kind_text Incr = refl
 -- a number below 10 has one digit, and one below 100 at most two
 length-digit : (n : ℕ) → n < 10 → length (decimal n) ≡ 1
 length-digit n h =
-    elim (decimal_cases n) [
+    elim (decimal_cases n (omega arith)) [
       | inl one ↦ ap length one.1
       | inr two ↦ absurd (omega (arith, two.0))
     ]
 
-length-decimal : (n : ℕ) → length (decimal n) ≤ 2
-length-decimal n =
-    elim (decimal_cases n) [
+length-decimal : (n : ℕ) → n ≤ 99 → length (decimal n) ≤ 2
+length-decimal n h =
+    elim (decimal_cases n h) [
       | inl one ↦ let l : length (decimal n) ≡ 1 = ap length one.1 in omega arith
       | inr two ↦ let l : length (decimal n) ≡ 2 = ap length two.1 in omega arith
     ]
@@ -40,7 +40,7 @@ length-decimal n =
 pub length-name_text : (n : Name) → IsName n → length (name_text n) ≤ 91
 length-name_text n h =
     let whole = length_of_ten n.tld (codes "_") (day_text n.day) (codes "_") (kind_text n.kind) (codes "_") (part_text n.part) (codes "_") (rev_text n.rev) (codes ".ryde") in
-    omega (arith, whole, h.tld.length_in, length-kind_text n.kind, length-digit n.part (omega (arith, h.part)), length-decimal n.rev)
+    omega (arith, whole, h.tld.length_in, length-kind_text n.kind, length-digit n.part (omega (arith, h.part)), length-decimal n.rev h.rev)
 
 -- ---- the bytes
 
@@ -73,7 +73,7 @@ kind_in_name Incr = refl
 
 decimal_in_name : (n : ℕ) → n ≤ 99 → InName (decimal n)
 decimal_in_name n h =
-    elim (decimal_cases n) [
+    elim (decimal_cases n h) [
       | inl one ↦ rw one.1 (and_from (is_name_byte (digit n)) true (digit_in_name n one.0) refl)
       | inr two ↦
           let ones : InName (digit (n % 10) ∷ []) = and_from (is_name_byte (digit (n % 10))) true (digit_in_name (n % 10) (omega arith)) refl in

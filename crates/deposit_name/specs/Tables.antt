@@ -2,22 +2,31 @@
 use Rattle.std.specs.Prelude.{ℕ, List, codes, Option, Some, None, if◌then◌else◌, Bool, true, false}
 use Rattle.std.specs.Str.{bytes_eq}
 use Rattle.deposit_name.specs.declared.table.TableName.{TableName}
-use Rattle.deposit_name.specs.declared.table.TableName.TheVariants.{Domain, DomainContacts, DomainStatuses, DomainNameServers, Host, HostAddresses, Contact, Registrar}
+use Rattle.deposit_name.specs.declared.table.TableName.TheVariants.{
+  Domain,
+  DomainContacts,
+  DomainStatuses,
+  DomainNameServers,
+  Host,
+  HostAddresses,
+  Contact,
+  Registrar,
+}
 
 -- the name of a table
-abbrev pub table_text : TableName → List ℕ
-table_text Domain = codes "domain"
-table_text DomainContacts = codes "domainContacts"
-table_text DomainStatuses = codes "domainStatuses"
-table_text DomainNameServers = codes "domainNameServers"
-table_text Host = codes "host"
-table_text HostAddresses = codes "hostAddresses"
-table_text Contact = codes "contact"
-table_text Registrar = codes "registrar"
+abbrev pub table_name_text : TableName → List ℕ
+table_name_text Domain = codes "domain"
+table_name_text DomainContacts = codes "domainContacts"
+table_name_text DomainStatuses = codes "domainStatuses"
+table_name_text DomainNameServers = codes "domainNameServers"
+table_name_text Host = codes "host"
+table_name_text HostAddresses = codes "hostAddresses"
+table_name_text Contact = codes "contact"
+table_name_text Registrar = codes "registrar"
 
 -- the table with that name, as a function of the text
-unfoldable pub table_at : List ℕ → Option TableName
-table_at t =
+unfoldable pub table_of_name : List ℕ → Option TableName
+table_of_name t =
     if bytes_eq t (codes "domain") then Some Domain
     else if bytes_eq t (codes "domainContacts") then Some DomainContacts
     else if bytes_eq t (codes "domainStatuses") then Some DomainStatuses

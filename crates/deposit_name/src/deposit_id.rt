@@ -2,7 +2,7 @@
 ghost use Rattle.std.specs.Prelude.{◌≡◌, ◌↔◌, Some, IfSome, IsTrue, length};
 ghost use Rattle.std.specs.List.{list_all};
 ghost use Rattle.std.specs.Char.{is_ascii_alphanumeric};
-ghost use Rattle.deposit_name.specs.Identifiers.{IsDepositId, is_deposit_id, passing};
+ghost use Rattle.deposit_name.specs.Identifiers.{IsDepositId, is_deposit_id, passing_text};
 
 use crate::ascii::ascii_str;
 use crate::short_text::ShortText;
@@ -36,7 +36,7 @@ impl DepositId {
         ensures text { IfSome result (λ d. (d ≡ t.now) × IsDepositId d) }
         ensures only { IsDepositId t.now → result ≡ Some t.now }
         // The same as a function of the text.
-        ensures value { result ≡ passing is_deposit_id t.now }
+        ensures value { result ≡ passing_text is_deposit_id t.now }
     {
         if is_deposit_id(t) {
             Some(DepositId {

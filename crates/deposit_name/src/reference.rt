@@ -1,7 +1,12 @@
 //! The references of releases.
 ghost use Rattle.std.specs.Prelude.{◌≡◌, ◌↔◌, Some, IfSome, IsTrue, length};
 ghost use Rattle.std.specs.List.{list_all};
-ghost use Rattle.deposit_name.specs.Identifiers.{is_reference_byte, IsReference, is_reference, passing};
+ghost use Rattle.deposit_name.specs.Identifiers.{
+  is_reference_byte,
+  IsReference,
+  is_reference,
+  passing_text,
+};
 
 use crate::ascii::ascii_str;
 use crate::short_text::ShortText;
@@ -35,7 +40,7 @@ impl Reference {
         ensures text { IfSome result (λ r. (r ≡ t.now) × IsReference r) }
         ensures only { IsReference t.now → result ≡ Some t.now }
         // The same as a function of the text.
-        ensures value { result ≡ passing is_reference t.now }
+        ensures value { result ≡ passing_text is_reference t.now }
     {
         if is_reference(t) {
             Some(Reference {

@@ -18,22 +18,22 @@ pub enum TableName {
 
 impl TableName {
     ghost use Rattle.deposit_name.specs.declared.table.TableName.{TableName};
-    ghost use Rattle.deposit_name.specs.Tables.{table_text, table_at, has_deletes};
+    ghost use Rattle.deposit_name.specs.Tables.{table_name_text, table_of_name, has_deletes};
 
     /// The table with that name.
     pub fn parse(t: &str) -> Option<TableName>
-        ensures text { IfSome result (λ n. t.now ≡ table_text n) }
-        ensures only { (n : TableName) → t.now ≡ table_text n → result ≡ Some n }
+        ensures text { IfSome result (λ n. t.now ≡ table_name_text n) }
+        ensures only { (n : TableName) → t.now ≡ table_name_text n → result ≡ Some n }
         // The same as a function of the text.
-        ensures value { result ≡ table_at t.now }
+        ensures value { result ≡ table_of_name t.now }
     {
         TableName::named(t)
     }
 
     // That this is the table with that name, and the only one, follows.
-    #[tactic(auto, unfolding(crate::specs::Tables::table_at))]
+    #[tactic(auto, unfolding(crate::specs::Tables::table_of_name))]
     fn named(t: &str) -> Option<TableName>
-        ensures { result ≡ table_at t.now }
+        ensures { result ≡ table_of_name t.now }
     {
         match t {
             "domain" => Some(TableName::Domain),
@@ -50,7 +50,7 @@ impl TableName {
 
     /// The table's name.
     pub fn as_str(self) -> &'static str
-        ensures { result.now ≡ table_text self }
+        ensures { result.now ≡ table_name_text self }
     {
         match self {
             TableName::Domain => "domain",
@@ -79,9 +79,9 @@ impl TableName {
 }
 
 impl fmt::Display for TableName {
-    ghost use Rattle.deposit_name.specs.Tables.{table_text};
+    ghost use Rattle.deposit_name.specs.Tables.{table_name_text};
 
-    ghost output = { λ t. Some (table_text t) };
+    ghost output = { λ t. Some (table_name_text t) };
 
     fn fmt<W: fmt::Write>(&self, f: &mut fmt::Formatter<W>) -> fmt::Result {
         f.pad(self.as_str())

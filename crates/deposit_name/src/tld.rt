@@ -1,7 +1,7 @@
 //! Top-level domains.
 ghost use Rattle.std.specs.Prelude.{◌≡◌, ◌↔◌, Some, IfSome, IsTrue, length};
 ghost use Rattle.std.specs.List.{list_all};
-ghost use Rattle.deposit_name.specs.Identifiers.{is_tld_byte, IsTld, is_tld, passing};
+ghost use Rattle.deposit_name.specs.Identifiers.{is_tld_byte, IsTld, is_tld, passing_text};
 
 use crate::ascii::ascii_str;
 use crate::short_text::ShortText;
@@ -35,7 +35,7 @@ impl Tld {
         ensures text { IfSome result (λ d. (d ≡ t.now) × IsTld d) }
         ensures only { IsTld t.now → result ≡ Some t.now }
         // The same as a function of the text.
-        ensures value { result ≡ passing is_tld t.now }
+        ensures value { result ≡ passing_text is_tld t.now }
     {
         if is_tld(t) {
             Some(Tld {

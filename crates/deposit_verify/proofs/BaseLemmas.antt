@@ -13,87 +13,88 @@ use Rattle.dnrd_csv.specs.Readers.{IsTableReader}
 use Rattle.envelope.specs.Envelope.{Env, env_text}
 use Rattle.envelope.specs.Readers.{AreReaders, envelope_at, frame_at}
 use Rattle.deposit_verify.specs.declared.base.Base.{Base}
-use Rattle.deposit_verify.specs.Bases.{AreBases, Reading, after_first, after_later, all_then, base_after, base_at, base_of_first, base_then, no_keys, reading_at, reading_behind, reading_of, with_contents}
-use Rattle.deposit_verify.specs.Chain.{Contained, IsBase, IsChain, IsFirst, IsKeyOf, IsLater, IsRead, Named}
+use Rattle.deposit_verify.specs.Bases.{AreBases, DepositReading, after_first, after_later, all_then, base_after, base_at, base_of_first, base_then, no_keys, reading_at, reading_behind, reading_of, reading_with}
+use Rattle.deposit_verify.specs.Chain.{DepositContains, IsBase, IsChain, IsFirstOfChain, IsKeyOf, IsLaterOfChain, IsRead, DepositNames}
 use Rattle.deposit_verify.specs.Checks.{HasMenu}
-use Rattle.deposit_verify.specs.Deposit.{AreFiles, IsDeposit, contents_files, deletes_files, deletes_of, entries_of}
+use Rattle.deposit_verify.specs.Deposit.{AreFiles, IsDeposit, contents_files, deletes_files, deletes_of, all_entries}
 use Rattle.deposit_verify.specs.Keys.{AreKeys, IsContained, IsNamed, keys_in}
 use Rattle.deposit_verify.specs.References.{column}
 use Rattle.deposit_verify.specs.Rows.{rows_under}
 use Rattle.deposit_verify.specs.Tables.{AreReadFrom}
-use Rattle.deposit_verify.specs.Verdict.{contents_at, deleted_at, files_at, has_menu, is_full, keys_after_files, tables_at, with_tables}
+use Rattle.deposit_verify.specs.Verdict.{files_reading_at, deleted_keys_at, files_behind, has_menu, is_full, keys_after_files, tables_at, with_tables}
 use Rattle.deposit_verify.proofs.FilesDecided.{files_are, files_found, some_of, table_decides}
 use Rattle.std.specs.Prelude.{MatchOption, is_some}
 use Rattle.std.proofs.lemmas.Bool.Decides.{not_from_Decides}
 use Rattle.deposit_verify.proofs.ChainLemmas.{all_front, all_last, chain_keys}
 use Rattle.deposit_verify.proofs.CountsDecided.{after_is, deletes_some, deletes_there}
-use Rattle.deposit_verify.proofs.HeaderDecided.{menu_decides, same_kind_decides}
+use Rattle.deposit_name.proofs.KindLemmas.{same_kind_decides}
+use Rattle.deposit_verify.proofs.HeaderDecided.{menu_decides}
 use Rattle.deposit_verify.proofs.KeyCounts.{after_distinct}
 use Rattle.deposit_verify.proofs.Lifted.{OneReading}
 use Rattle.deposit_verify.proofs.Readings.{deleted_are, tables_are, under_once}
 
 -- the deposit is read as this
-pub record IsReading (joined : List ℕ) (r : Reading) : Type 0 where
+pub record IsReading (joined : List ℕ) (r : DepositReading) : Type 0 where
   pub rest : List ℕ
   pub deposit : IsDeposit joined r.envelope rest
   pub menu : HasMenu r.envelope
   pub files : List (List ℕ)
-  pub are : AreFiles (entries_of r.envelope) rest files
+  pub are : AreFiles (all_entries r.envelope) rest files
   pub tables : tables_at r.envelope.contents (contents_files r.envelope files) ≡ Some r.tables
-  pub deleted : deleted_at (deletes_of r.envelope) (deletes_files r.envelope files) ≡ Some r.deleted
+  pub deleted : deleted_keys_at (deletes_of r.envelope) (deletes_files r.envelope files) ≡ Some r.deleted
 
 -- ---- found where it is
 
-behind_tables : (joined : List ℕ) (r : Reading) (v : Env) (rest : List ℕ) (files : List (List ℕ)) → IsDeposit joined v rest → HasMenu v → AreFiles (entries_of v) rest files
-    → (o : Option (List (List (List (List ℕ))))) → tables_at v.contents (contents_files v files) ≡ o → (p : Option (List (List (List (List ℕ))))) → deleted_at (deletes_of v) (deletes_files v files) ≡ p
-    → with_contents v o p ≡ Some r → IsReading joined r
+behind_tables : (joined : List ℕ) (r : DepositReading) (v : Env) (rest : List ℕ) (files : List (List ℕ)) → IsDeposit joined v rest → HasMenu v → AreFiles (all_entries v) rest files
+    → (o : Option (List (List (List (List ℕ))))) → tables_at v.contents (contents_files v files) ≡ o → (p : Option (List (List (List (List ℕ))))) → deleted_keys_at (deletes_of v) (deletes_files v files) ≡ p
+    → reading_with v o p ≡ Some r → IsReading joined r
 behind_tables joined r v rest files d menu are None t p k e = cc e
 behind_tables joined r v rest files d menu are (Some tables) t None k e = cc e
 behind_tables joined r v rest files d menu are (Some tables) t (Some deleted) k e =
-    let same : ◌≡◌ {A = Reading} (record { envelope = v; tables = tables; deleted = deleted }) r = same_Some _ _ e in
+    let same : ◌≡◌ {A = DepositReading} (record { envelope = v; tables = tables; deleted = deleted }) r = same_Some _ _ e in
     subst (IsReading joined) same (record { rest = rest; deposit = d; menu = menu; files = files; are = are; tables = t; deleted = k })
 
-behind_files : (joined : List ℕ) (r : Reading) (v : Env) (rest : List ℕ) → IsDeposit joined v rest → HasMenu v → (o : Option (List (List ℕ))) → files_at (entries_of v) rest ≡ o
-    → with_contents v (with_tables v o).tables (with_tables v o).deleted ≡ Some r → IsReading joined r
+behind_files : (joined : List ℕ) (r : DepositReading) (v : Env) (rest : List ℕ) → IsDeposit joined v rest → HasMenu v → (o : Option (List (List ℕ))) → files_behind (all_entries v) rest ≡ o
+    → reading_with v (with_tables v o).tables (with_tables v o).deleted ≡ Some r → IsReading joined r
 behind_files joined r v rest d menu None f e = cc e
 behind_files joined r v rest d menu (Some files) f e =
-    behind_tables joined r v rest files d menu (files_found (entries_of v) rest files f) (tables_at v.contents (contents_files v files)) refl (deleted_at (deletes_of v) (deletes_files v files)) refl e
+    behind_tables joined r v rest files d menu (files_found (all_entries v) rest files f) (tables_at v.contents (contents_files v files)) refl (deleted_keys_at (deletes_of v) (deletes_files v files)) refl e
 
-behind_menu : (joined : List ℕ) (r : Reading) (v : Env) (rest : List ℕ) → IsDeposit joined v rest → (b : Bool) → has_menu v ≡ b
-    → cond b (with_contents v (contents_at v rest).tables (contents_at v rest).deleted) None ≡ Some r → IsReading joined r
-behind_menu joined r v rest d true menu e = behind_files joined r v rest d ((menu_decides v).0 menu) (files_at (entries_of v) rest) refl e
+behind_menu : (joined : List ℕ) (r : DepositReading) (v : Env) (rest : List ℕ) → IsDeposit joined v rest → (b : Bool) → has_menu v ≡ b
+    → cond b (reading_with v (files_reading_at v rest).tables (files_reading_at v rest).deleted) None ≡ Some r → IsReading joined r
+behind_menu joined r v rest d true menu e = behind_files joined r v rest d ((menu_decides v).0 menu) (files_behind (all_entries v) rest) refl e
 behind_menu joined r v rest d false menu e = cc e
 
 module _ (readers : AreReaders) where
-  behind_envelope : (joined : List ℕ) (r : Reading) (envelope rest : List ℕ) → frame_at joined ≡ Some (envelope, rest) → (o : Option Env) → envelope_at envelope ≡ o → option_and_then (reading_behind rest) o ≡ Some r → IsReading joined r
+  behind_envelope : (joined : List ℕ) (r : DepositReading) (envelope rest : List ℕ) → frame_at joined ≡ Some (envelope, rest) → (o : Option Env) → envelope_at envelope ≡ o → option_and_then (reading_behind rest) o ≡ Some r → IsReading joined r
   behind_envelope joined r envelope rest f None v e = cc e
   behind_envelope joined r envelope rest f (Some v) is e =
       let spelled = (readers.envelope_read envelope v).0 is in
       let framed = (readers.frame_read joined envelope rest).0 f in
       behind_menu joined r v rest (record { in_form = spelled.0; framed = rw spelled.1 at framed }) (has_menu v) refl e
 
-  behind_frame : (joined : List ℕ) (r : Reading) (o : Option (List ℕ × List ℕ)) → frame_at joined ≡ o
+  behind_frame : (joined : List ℕ) (r : DepositReading) (o : Option (List ℕ × List ℕ)) → frame_at joined ≡ o
       → option_and_then (λ (parts : List ℕ × List ℕ). option_and_then (reading_behind parts.1) (envelope_at parts.0)) o ≡ Some r → IsReading joined r
   behind_frame joined r None f e = cc e
   behind_frame joined r (Some parts) f e = behind_envelope joined r parts.0 parts.1 f (envelope_at parts.0) refl e
 
-  pub reading_found : (joined : List ℕ) (r : Reading) → reading_at joined ≡ Some r → IsReading joined r
+  pub reading_found : (joined : List ℕ) (r : DepositReading) → reading_at joined ≡ Some r → IsReading joined r
   unfolding reading_at
   reading_found joined r e = behind_frame joined r (frame_at joined) refl e
 
-  pub reading_is : (joined : List ℕ) (r : Reading) → IsReading joined r → reading_at joined ≡ Some r
+  pub reading_is : (joined : List ℕ) (r : DepositReading) → IsReading joined r → reading_at joined ≡ Some r
   unfolding reading_at
   reading_is joined r h =
       ap (λ (o : Option (List ℕ × List ℕ)). option_and_then (λ (parts : List ℕ × List ℕ). option_and_then (reading_behind parts.1) (envelope_at parts.0)) o) ((readers.frame_read joined (env_text r.envelope) h.rest).1 h.deposit.framed)
       ∙ ap (option_and_then (reading_behind h.rest)) ((readers.envelope_read (env_text r.envelope) r.envelope).1 (h.deposit.in_form, refl))
-      ∙ ap (λ (b : Bool). cond b (with_contents r.envelope (contents_at r.envelope h.rest).tables (contents_at r.envelope h.rest).deleted) None) ((menu_decides r.envelope).1 h.menu)
-      ∙ ap (λ (o : Option (List (List ℕ))). with_contents r.envelope (with_tables r.envelope o).tables (with_tables r.envelope o).deleted) (files_are (entries_of r.envelope) h.rest h.files h.are)
-      ∙ (λ i. with_contents r.envelope (h.tables i) (h.deleted i))
+      ∙ ap (λ (b : Bool). cond b (reading_with r.envelope (files_reading_at r.envelope h.rest).tables (files_reading_at r.envelope h.rest).deleted) None) ((menu_decides r.envelope).1 h.menu)
+      ∙ ap (λ (o : Option (List (List ℕ))). reading_with r.envelope (with_tables r.envelope o).tables (with_tables r.envelope o).deleted) (files_are (all_entries r.envelope) h.rest h.files h.are)
+      ∙ (λ i. reading_with r.envelope (h.tables i) (h.deleted i))
 
-  pub reading_none : (joined : List ℕ) → ((r : Reading) → IsReading joined r → ⊥) → reading_at joined ≡ None
+  pub reading_none : (joined : List ℕ) → ((r : DepositReading) → IsReading joined r → ⊥) → reading_at joined ≡ None
   reading_none joined none = by (reading_at joined) refl
     where
-      by : (o : Option Reading) → reading_at joined ≡ o → o ≡ None
+      by : (o : Option DepositReading) → reading_at joined ≡ o → o ≡ None
       by None e = refl
       by (Some r) e = absurd (none r (reading_found joined r e))
 
@@ -116,7 +117,7 @@ one_envelope one joined v w rest more d e =
     let frames = one.frame joined (env_text w) (env_text v) more rest e.framed d.framed in
     (one.envelope w v e.in_form d.in_form frames.0, frames.1)
 
-pub contained_in : OneReading → (joined : List ℕ) (v : Env) (rest : List ℕ) → IsDeposit joined v rest → (name : TableName) (key : List ℕ) → Contained joined name key ↔ IsContained v rest name key
+pub contained_in : OneReading → (joined : List ℕ) (v : Env) (rest : List ℕ) → IsDeposit joined v rest → (name : TableName) (key : List ℕ) → DepositContains joined name key ↔ IsContained v rest name key
 contained_in one joined v rest d name key = (
   λ h.
       let same = one_envelope one joined v h.0 rest h.1 d h.2 in
@@ -124,7 +125,7 @@ contained_in one joined v rest d name key = (
   λ here. (v, rest, d, here),
 )
 
-pub named_in : OneReading → (joined : List ℕ) (v : Env) (rest : List ℕ) → IsDeposit joined v rest → (name : TableName) (key : List ℕ) → Named joined name key ↔ IsNamed v rest name key
+pub named_in : OneReading → (joined : List ℕ) (v : Env) (rest : List ℕ) → IsDeposit joined v rest → (name : TableName) (key : List ℕ) → DepositNames joined name key ↔ IsNamed v rest name key
 named_in one joined v rest d name key = (
   λ h.
       let same = one_envelope one joined v h.0 rest h.1 d h.2 in
@@ -133,7 +134,7 @@ named_in one joined v rest d name key = (
 )
 
 module _ (reader : IsTableReader) where
-  pub is_read : (joined : List ℕ) (r : Reading) (h : IsReading joined r) → IsRead r.envelope h.rest
+  pub is_read : (joined : List ℕ) (r : DepositReading) (h : IsReading joined r) → IsRead r.envelope h.rest
   is_read joined r h = record {
     menu = h.menu;
     tables = (table_decides reader r.envelope h.rest h.files h.are).0 (ap is_some h.tables);
@@ -141,18 +142,18 @@ module _ (reader : IsTableReader) where
   }
 
   -- whatever is read has a reading
-  has_reading : (joined : List ℕ) (v : Env) (rest : List ℕ) → IsDeposit joined v rest → IsRead v rest → (r : Reading) × IsReading joined r × (r.envelope ≡ v)
+  has_reading : (joined : List ℕ) (v : Env) (rest : List ℕ) → IsDeposit joined v rest → IsRead v rest → (r : DepositReading) × IsReading joined r × (r.envelope ≡ v)
   has_reading joined v rest d read =
       let files = read.tables.0 in
       let are = read.tables.1 in
       let tables = some_of (tables_at v.contents (contents_files v files)) ((table_decides reader v rest files are).1 read.tables) in
-      let deleted = some_of (deleted_at (deletes_of v) (deletes_files v files)) (deletes_some reader v rest files read.menu are read.deletes) in
+      let deleted = some_of (deleted_keys_at (deletes_of v) (deletes_files v files)) (deletes_some reader v rest files read.menu are read.deletes) in
       (record { envelope = v; tables = tables.0; deleted = deleted.0 }, record { rest = rest; deposit = d; menu = read.menu; files = files; are = are; tables = tables.1; deleted = deleted.1 }, refl)
 
 -- ---- the keys after one deposit
 
 -- the tables that are counted
-in_after : (base : Base) (r : Reading) (name : TableName) → IsTrue (has_deletes name) → keys_in (base_after base r) name ≡ keys_after_files r.envelope (keys_in base name) r.tables r.deleted name
+in_after : (base : Base) (r : DepositReading) (name : TableName) → IsTrue (has_deletes name) → keys_in (base_after base r) name ≡ keys_after_files r.envelope (keys_in base name) r.tables r.deleted name
 in_after base r Domain h = refl
 in_after base r DomainContacts h = cc h
 in_after base r DomainStatuses h = cc h
@@ -165,9 +166,9 @@ in_after base r Registrar h = refl
 like_keys : (P Q : List ℕ → Type 0) (keys : List (List ℕ)) → ((key : List ℕ) → P key ↔ Q key) → AreKeys P keys → AreKeys Q keys
 like_keys P Q keys is are = record { once = are.once; same = λ key. (λ has. (is key).0 ((are.same key).0 has), λ q. (are.same key).1 ((is key).1 q)) }
 
-module _ (reader : IsTableReader) (one : OneReading) (joined : List ℕ) (r : Reading) (h : IsReading joined r) where
+module _ (reader : IsTableReader) (one : OneReading) (joined : List ℕ) (r : DepositReading) (h : IsReading joined r) where
   after_keys : (base : Base) (name : TableName) → IsTrue (has_deletes name) → AllPairs (λ x y. x ≢ y) (keys_in base name)
-      → AreKeys (λ key. Contained joined name key ⊎ (Contains (keys_in base name) key × ¬ Named joined name key)) (keys_in (base_after base r) name)
+      → AreKeys (λ key. DepositContains joined name key ⊎ (Contains (keys_in base name) key × ¬ DepositNames joined name key)) (keys_in (base_after base r) name)
   after_keys base name keyed once =
       let v = r.envelope in
       let inside = column 0 (rows_under v.contents r.tables name) in
@@ -206,16 +207,16 @@ none_there HostAddresses key has = absurd (omega (arith, has.1))
 none_there Contact key has = absurd (omega (arith, has.1))
 none_there Registrar key has = absurd (omega (arith, has.1))
 
-chain_more : (chain : List (List ℕ)) (joined : List ℕ) → IsChain chain → IsLater joined → IsChain (chain ++ joined ∷ [])
+chain_more : (chain : List (List ℕ)) (joined : List ℕ) → IsChain chain → IsLaterOfChain joined → IsChain (chain ++ joined ∷ [])
 chain_more [] joined is later = absurd is
-chain_more (first ∷ rest) joined is later = (is.0, All-push IsLater rest joined is.1 later)
+chain_more (first ∷ rest) joined is later = (is.0, All-push IsLaterOfChain rest joined is.1 later)
 
 module _ (readers : AreReaders) (reader : IsTableReader) (one : OneReading) (joined : List ℕ) where
-  first_base : (r : Reading) → IsReading joined r → r.envelope.kind ≡ Full → IsBase (joined ∷ []) (base_after no_keys r)
+  first_base : (r : DepositReading) → IsReading joined r → r.envelope.kind ≡ Full → IsBase (joined ∷ []) (base_after no_keys r)
   first_base r h full = record {
-    chained = ((r.envelope, h.rest, h.deposit, (full, is_read reader joined r h)), All-nil IsLater);
+    chained = ((r.envelope, h.rest, h.deposit, (full, is_read reader joined r h)), All-nil IsLaterOfChain);
     keys = λ name keyed.
-        like_keys (λ key. Contained joined name key ⊎ (Contains (keys_in no_keys name) key × ¬ Named joined name key)) (IsKeyOf (joined ∷ []) name) _
+        like_keys (λ key. DepositContains joined name key ⊎ (Contains (keys_in no_keys name) key × ¬ DepositNames joined name key)) (IsKeyOf (joined ∷ []) name) _
         (λ key. (
           λ some. (chain_keys.one joined name key).1 (elim some [ inl c ↦ c | inr b ↦ absurd (none_there name key b.0) ]),
           λ k. inl ((chain_keys.one joined name key).0 k),
@@ -223,12 +224,12 @@ module _ (readers : AreReaders) (reader : IsTableReader) (one : OneReading) (joi
         (after_keys reader one joined r h no_keys name keyed (none_once name));
   }
 
-  later_base : (r : Reading) → IsReading joined r → r.envelope.kind ≢ Full → (chain : List (List ℕ)) (base : Base) → IsBase chain base → IsBase (chain ++ joined ∷ []) (base_after base r)
+  later_base : (r : DepositReading) → IsReading joined r → r.envelope.kind ≢ Full → (chain : List (List ℕ)) (base : Base) → IsBase chain base → IsBase (chain ++ joined ∷ []) (base_after base r)
   later_base r h partial chain base is = record {
     chained = chain_more chain joined is.chained (r.envelope, h.rest, h.deposit, (partial, is_read reader joined r h));
     keys = λ name keyed.
         let are = is.keys name keyed in
-        like_keys (λ key. Contained joined name key ⊎ (Contains (keys_in base name) key × ¬ Named joined name key)) (IsKeyOf (chain ++ joined ∷ []) name) _
+        like_keys (λ key. DepositContains joined name key ⊎ (Contains (keys_in base name) key × ¬ DepositNames joined name key)) (IsKeyOf (chain ++ joined ∷ []) name) _
         (λ key. (
           λ some. (chain_keys.more chain joined name key).1 (elim some [ inl c ↦ inl c | inr b ↦ inr ((are.same key).0 b.0, b.1) ]),
           λ k. elim ((chain_keys.more chain joined name key).0 k) [ inl c ↦ inl c | inr b ↦ inr ((are.same key).1 b.0, b.1) ],
@@ -237,30 +238,30 @@ module _ (readers : AreReaders) (reader : IsTableReader) (one : OneReading) (joi
   }
 
   -- the keys of a first deposit
-  pub first_law : MatchOption (base_of_first joined) (¬ IsFirst joined) (IsBase (joined ∷ []))
+  pub first_law : MatchOption (base_of_first joined) (¬ IsFirstOfChain joined) (IsBase (joined ∷ []))
   first_law = by (reading_at joined) refl
     where
-      by_kind : (r : Reading) → reading_at joined ≡ Some r → (b : Bool) → is_full r.envelope.kind ≡ b → MatchOption (cond b (Some (base_after no_keys r)) None) (¬ IsFirst joined) (IsBase (joined ∷ []))
+      by_kind : (r : DepositReading) → reading_at joined ≡ Some r → (b : Bool) → is_full r.envelope.kind ≡ b → MatchOption (cond b (Some (base_after no_keys r)) None) (¬ IsFirstOfChain joined) (IsBase (joined ∷ []))
       by_kind r at true full = first_base r (reading_found readers joined r at) ((same_kind_decides r.envelope.kind Full).0 full)
       by_kind r at false partial = λ first.
           let h = reading_found readers joined r at in
           let same = one_envelope one joined r.envelope first.0 h.rest first.1 h.deposit first.2 in
           not_from_Decides _ (same_kind_decides r.envelope.kind Full) partial (ap (λ (v : Env). v.kind) (sym same.0) ∙ first.3.0)
 
-      by : (o : Option Reading) → reading_at joined ≡ o → MatchOption (option_and_then after_first o) (¬ IsFirst joined) (IsBase (joined ∷ []))
+      by : (o : Option DepositReading) → reading_at joined ≡ o → MatchOption (option_and_then after_first o) (¬ IsFirstOfChain joined) (IsBase (joined ∷ []))
       by None at = λ first.
           let there = has_reading reader joined first.0 first.1 first.2 first.3.1 in
-          let clash : ◌≡◌ {A = Option Reading} (Some there.0) None = sym (reading_is readers joined there.0 there.1) ∙ at in cc clash
+          let clash : ◌≡◌ {A = Option DepositReading} (Some there.0) None = sym (reading_is readers joined there.0 there.1) ∙ at in cc clash
       by (Some r) at = by_kind r at (is_full r.envelope.kind) refl
 
   -- and after a later one
-  pub later_law : (base : Base) → MatchOption (base_then base joined) (¬ IsLater joined) (λ next. IsLater joined × ((chain : List (List ℕ)) → IsBase chain base → IsBase (chain ++ joined ∷ []) next))
+  pub later_law : (base : Base) → MatchOption (base_then base joined) (¬ IsLaterOfChain joined) (λ next. IsLaterOfChain joined × ((chain : List (List ℕ)) → IsBase chain base → IsBase (chain ++ joined ∷ []) next))
   later_law base = by (reading_at joined) refl
     where
       Follows : Base → Type 0
-      Follows next = IsLater joined × ((chain : List (List ℕ)) → IsBase chain base → IsBase (chain ++ joined ∷ []) next)
+      Follows next = IsLaterOfChain joined × ((chain : List (List ℕ)) → IsBase chain base → IsBase (chain ++ joined ∷ []) next)
 
-      by_kind : (r : Reading) → reading_at joined ≡ Some r → (b : Bool) → is_full r.envelope.kind ≡ b → MatchOption (cond b None (Some (base_after base r))) (¬ IsLater joined) Follows
+      by_kind : (r : DepositReading) → reading_at joined ≡ Some r → (b : Bool) → is_full r.envelope.kind ≡ b → MatchOption (cond b None (Some (base_after base r))) (¬ IsLaterOfChain joined) Follows
       by_kind r at true full = λ later.
           let h = reading_found readers joined r at in
           let same = one_envelope one joined r.envelope later.0 h.rest later.1 h.deposit later.2 in
@@ -270,10 +271,10 @@ module _ (readers : AreReaders) (reader : IsTableReader) (one : OneReading) (joi
           let other = not_from_Decides _ (same_kind_decides r.envelope.kind Full) partial in
           ((r.envelope, h.rest, h.deposit, (other, is_read reader joined r h)), λ chain is. later_base r h other chain base is)
 
-      by : (o : Option Reading) → reading_at joined ≡ o → MatchOption (option_and_then (after_later base) o) (¬ IsLater joined) Follows
+      by : (o : Option DepositReading) → reading_at joined ≡ o → MatchOption (option_and_then (after_later base) o) (¬ IsLaterOfChain joined) Follows
       by None at = λ later.
           let there = has_reading reader joined later.0 later.1 later.2 later.3.1 in
-          let clash : ◌≡◌ {A = Option Reading} (Some there.0) None = sym (reading_is readers joined there.0 there.1) ∙ at in cc clash
+          let clash : ◌≡◌ {A = Option DepositReading} (Some there.0) None = sym (reading_is readers joined there.0 there.1) ∙ at in cc clash
       by (Some r) at = by_kind r at (is_full r.envelope.kind) refl
 
 -- ---- the functions, by what was read
@@ -281,19 +282,19 @@ module _ (readers : AreReaders) (reader : IsTableReader) (one : OneReading) (joi
 pub first_none : (joined : List ℕ) → None ≡ reading_at joined → base_of_first joined ≡ None
 first_none joined at = ap (option_and_then after_first) (sym at)
 
-pub first_partial : (joined : List ℕ) (r : Reading) → Some r ≡ reading_at joined → is_full r.envelope.kind ≡ false → base_of_first joined ≡ None
+pub first_partial : (joined : List ℕ) (r : DepositReading) → Some r ≡ reading_at joined → is_full r.envelope.kind ≡ false → base_of_first joined ≡ None
 first_partial joined r at partial = ap (option_and_then after_first) (sym at) ∙ ap (λ (b : Bool). cond b (Some (base_after no_keys r)) None) partial
 
-pub first_full : (joined : List ℕ) (r : Reading) → Some r ≡ reading_at joined → is_full r.envelope.kind ≡ true → base_of_first joined ≡ Some (base_after no_keys r)
+pub first_full : (joined : List ℕ) (r : DepositReading) → Some r ≡ reading_at joined → is_full r.envelope.kind ≡ true → base_of_first joined ≡ Some (base_after no_keys r)
 first_full joined r at full = ap (option_and_then after_first) (sym at) ∙ ap (λ (b : Bool). cond b (Some (base_after no_keys r)) None) full
 
 pub later_none : (base : Base) (joined : List ℕ) → None ≡ reading_at joined → base_then base joined ≡ None
 later_none base joined at = ap (option_and_then (after_later base)) (sym at)
 
-pub later_full : (base : Base) (joined : List ℕ) (r : Reading) → Some r ≡ reading_at joined → is_full r.envelope.kind ≡ true → base_then base joined ≡ None
+pub later_full : (base : Base) (joined : List ℕ) (r : DepositReading) → Some r ≡ reading_at joined → is_full r.envelope.kind ≡ true → base_then base joined ≡ None
 later_full base joined r at full = ap (option_and_then (after_later base)) (sym at) ∙ ap (λ (b : Bool). cond b None (Some (base_after base r))) full
 
-pub later_partial : (base : Base) (joined : List ℕ) (r : Reading) → Some r ≡ reading_at joined → is_full r.envelope.kind ≡ false → base_then base joined ≡ Some (base_after base r)
+pub later_partial : (base : Base) (joined : List ℕ) (r : DepositReading) → Some r ≡ reading_at joined → is_full r.envelope.kind ≡ false → base_then base joined ≡ Some (base_after base r)
 later_partial base joined r at partial = ap (option_and_then (after_later base)) (sym at) ∙ ap (λ (b : Bool). cond b None (Some (base_after base r))) partial
 
 pub at_one : (joined : List ℕ) → base_at (joined ∷ []) ≡ base_of_first joined
@@ -302,15 +303,15 @@ at_one joined = refl
 
 -- ---- the keys of a whole chain
 
-chain_front : (first : List ℕ) (xs : List (List ℕ)) (joined : List ℕ) → IsChain (first ∷ (xs ++ joined ∷ [])) → IsChain (first ∷ xs) × IsLater joined
-chain_front first xs joined is = ((is.0, all_front IsLater xs joined is.1), all_last IsLater xs joined is.1)
+chain_front : (first : List ℕ) (xs : List (List ℕ)) (joined : List ℕ) → IsChain (first ∷ (xs ++ joined ∷ [])) → IsChain (first ∷ xs) × IsLaterOfChain joined
+chain_front first xs joined is = ((is.0, all_front IsLaterOfChain xs joined is.1), all_last IsLaterOfChain xs joined is.1)
 
 module _ (readers : AreReaders) (reader : IsTableReader) (one : OneReading) where
   next_some : (chain : List (List ℕ)) (joined : List ℕ) (found : Option Base) → ((b : Base) → found ≡ Some b → IsBase chain b)
       → (b : Base) → option_and_then (λ (base : Base). base_then base joined) found ≡ Some b → IsBase (chain ++ joined ∷ []) b
   next_some chain joined None ok b e = cc e
   next_some chain joined (Some base) ok b e =
-      let law = subst (λ (o : Option Base). MatchOption o (¬ IsLater joined) (λ next. IsLater joined × ((chain : List (List ℕ)) → IsBase chain base → IsBase (chain ++ joined ∷ []) next))) e (later_law readers reader one joined base) in
+      let law = subst (λ (o : Option Base). MatchOption o (¬ IsLaterOfChain joined) (λ next. IsLaterOfChain joined × ((chain : List (List ℕ)) → IsBase chain base → IsBase (chain ++ joined ∷ []) next))) e (later_law readers reader one joined base) in
       law.1 chain (ok base refl)
 
   all_some : (later : List (List ℕ)) (chain : List (List ℕ)) (found : Option Base) → ((b : Base) → found ≡ Some b → IsBase chain b) → (base : Base) → all_then found later ≡ Some base → IsBase (chain ++ later) base
@@ -323,7 +324,7 @@ module _ (readers : AreReaders) (reader : IsTableReader) (one : OneReading) wher
       → option_and_then (λ (base : Base). base_then base joined) found ≡ None → ¬ IsChain (first ∷ (xs ++ joined ∷ []))
   next_none first xs joined None without e = λ is. without refl (chain_front first xs joined is).0
   next_none first xs joined (Some base) without e =
-      let law = subst (λ (o : Option Base). MatchOption o (¬ IsLater joined) (λ next. IsLater joined × ((chain : List (List ℕ)) → IsBase chain base → IsBase (chain ++ joined ∷ []) next))) e (later_law readers reader one joined base) in
+      let law = subst (λ (o : Option Base). MatchOption o (¬ IsLaterOfChain joined) (λ next. IsLaterOfChain joined × ((chain : List (List ℕ)) → IsBase chain base → IsBase (chain ++ joined ∷ []) next))) e (later_law readers reader one joined base) in
       λ is. law (chain_front first xs joined is).1
 
   all_none : (later : List (List ℕ)) (first : List ℕ) (xs : List (List ℕ)) (found : Option Base) → (found ≡ None → ¬ IsChain (first ∷ xs)) → all_then found later ≡ None → ¬ IsChain (first ∷ (xs ++ later))
@@ -337,14 +338,14 @@ module _ (readers : AreReaders) (reader : IsTableReader) (one : OneReading) wher
   bases_some [] base e = cc e
   bases_some (first ∷ later) base e =
       all_some later (first ∷ []) (base_of_first first)
-      (λ b is. subst (λ (o : Option Base). MatchOption o (¬ IsFirst first) (IsBase (first ∷ []))) is (first_law readers reader one first)) base e
+      (λ b is. subst (λ (o : Option Base). MatchOption o (¬ IsFirstOfChain first) (IsBase (first ∷ []))) is (first_law readers reader one first)) base e
 
   bases_none : (chain : List (List ℕ)) → base_at chain ≡ None → ¬ IsChain chain
   unfolding base_at
   bases_none [] e = λ is. is
   bases_none (first ∷ later) e =
       all_none later first [] (base_of_first first)
-      (λ is chained. subst (λ (o : Option Base). MatchOption o (¬ IsFirst first) (IsBase (first ∷ []))) is (first_law readers reader one first) chained.0) e
+      (λ is chained. subst (λ (o : Option Base). MatchOption o (¬ IsFirstOfChain first) (IsBase (first ∷ []))) is (first_law readers reader one first) chained.0) e
 
   pub are_bases : AreBases
   are_bases = record { some = bases_some; none = bases_none }

@@ -2,7 +2,7 @@
 use Rattle.std.proofs.Common.{◌≡◌, ◌⊎◌, ◌++◌, ◌∷◌, ◌∙◌, [], ℕ, All, List, ap, append_assoc, inl, inr, refl, subst, sym}
 use Rattle.std.proofs.lemmas.List.Elements.{All-cons, All-head, All-nil, All-push, All-tail}
 use Rattle.deposit_name.specs.declared.table.TableName.{TableName}
-use Rattle.deposit_verify.specs.Chain.{AreChainKeys, Contained, IsKeyOf, Named}
+use Rattle.deposit_verify.specs.Chain.{AreChainKeys, DepositContains, IsKeyOf, DepositNames}
 
 pub all_front : (P : List ℕ → Type 0) (xs : List (List ℕ)) (y : List ℕ) → All P (xs ++ y ∷ []) → All P xs
 all_front P [] y all = All-nil P
@@ -37,33 +37,33 @@ ends (c ∷ cs) (b ∷ bs) after joined last e =
     ]
 
 module _ (name : TableName) (key : List ℕ) where
-  one_there : (joined : List ℕ) → IsKeyOf (joined ∷ []) name key → Contained joined name key
+  one_there : (joined : List ℕ) → IsKeyOf (joined ∷ []) name key → DepositContains joined name key
   one_there joined h = elim (ends [] h.0 h.2 joined h.1 h.3) [
-    | inl same ↦ subst (λ (d : List ℕ). Contained d name key) same.0 h.4
+    | inl same ↦ subst (λ (d : List ℕ). DepositContains d name key) same.0 h.4
     | inr later ↦ absurd (not_empty h.0 h.1 later.0 later.1)
   ]
 
-  one_back : (joined : List ℕ) → Contained joined name key → IsKeyOf (joined ∷ []) name key
-  one_back joined has = ([], joined, [], refl, has, All-nil (λ d. ¬ Named d name key))
+  one_back : (joined : List ℕ) → DepositContains joined name key → IsKeyOf (joined ∷ []) name key
+  one_back joined has = ([], joined, [], refl, has, All-nil (λ d. ¬ DepositNames d name key))
 
-  more_there : (chain : List (List ℕ)) (joined : List ℕ) → IsKeyOf (chain ++ joined ∷ []) name key → Contained joined name key ⊎ (IsKeyOf chain name key × ¬ Named joined name key)
+  more_there : (chain : List (List ℕ)) (joined : List ℕ) → IsKeyOf (chain ++ joined ∷ []) name key → DepositContains joined name key ⊎ (IsKeyOf chain name key × ¬ DepositNames joined name key)
   more_there chain joined h = elim (ends chain h.0 h.2 joined h.1 h.3) [
-    | inl same ↦ inl (subst (λ (d : List ℕ). Contained d name key) same.0 h.4)
+    | inl same ↦ inl (subst (λ (d : List ℕ). DepositContains d name key) same.0 h.4)
     | inr later ↦
-        let all = subst (λ (after : List (List ℕ)). All (λ d. ¬ Named d name key) after) later.2 h.5 in
-        inr ((h.0, h.1, later.0, later.1, h.4, all_front (λ d. ¬ Named d name key) later.0 joined all), all_last (λ d. ¬ Named d name key) later.0 joined all)
+        let all = subst (λ (after : List (List ℕ)). All (λ d. ¬ DepositNames d name key) after) later.2 h.5 in
+        inr ((h.0, h.1, later.0, later.1, h.4, all_front (λ d. ¬ DepositNames d name key) later.0 joined all), all_last (λ d. ¬ DepositNames d name key) later.0 joined all)
   ]
 
-  more_back : (chain : List (List ℕ)) (joined : List ℕ) → Contained joined name key ⊎ (IsKeyOf chain name key × ¬ Named joined name key) → IsKeyOf (chain ++ joined ∷ []) name key
-  more_back chain joined (inl has) = (chain, joined, [], refl, has, All-nil (λ d. ¬ Named d name key))
+  more_back : (chain : List (List ℕ)) (joined : List ℕ) → DepositContains joined name key ⊎ (IsKeyOf chain name key × ¬ DepositNames joined name key) → IsKeyOf (chain ++ joined ∷ []) name key
+  more_back chain joined (inl has) = (chain, joined, [], refl, has, All-nil (λ d. ¬ DepositNames d name key))
   more_back chain joined (inr h) =
       let k = h.0 in
-      (k.0, k.1, k.2 ++ joined ∷ [], ap (λ (xs : List (List ℕ)). xs ++ joined ∷ []) k.3 ∙ append_assoc k.0 (k.1 ∷ k.2) (joined ∷ []), k.4, All-push (λ d. ¬ Named d name key) k.2 joined k.5 h.1)
+      (k.0, k.1, k.2 ++ joined ∷ [], ap (λ (xs : List (List ℕ)). xs ++ joined ∷ []) k.3 ∙ append_assoc k.0 (k.1 ∷ k.2) (joined ∷ []), k.4, All-push (λ d. ¬ DepositNames d name key) k.2 joined k.5 h.1)
 
-  names : (joined : List ℕ) → Contained joined name key → Named joined name key
+  names : (joined : List ℕ) → DepositContains joined name key → DepositNames joined name key
   names joined has = (has.0, has.1, has.2, inl has.3)
 
-  same_there : (chain : List (List ℕ)) (joined : List ℕ) → (¬ Named joined name key) → Contained joined name key ⊎ (IsKeyOf chain name key × ¬ Named joined name key) → IsKeyOf chain name key
+  same_there : (chain : List (List ℕ)) (joined : List ℕ) → (¬ DepositNames joined name key) → DepositContains joined name key ⊎ (IsKeyOf chain name key × ¬ DepositNames joined name key) → IsKeyOf chain name key
   same_there chain joined none (inl has) = absurd (none (names joined has))
   same_there chain joined none (inr h) = h.0
 

@@ -2,7 +2,7 @@
 use Rattle.std.proofs.lemmas.List.Elements.{All-more, All-same}
 use Rattle.std.proofs.Common.{All, subst, ◌≤◌, ◌≡◌, ◌<◌, ◌+◌, ◌++◌, ◌∷◌, ◌∙◌, [], Bor, List, ℕ, ap, arith, get_or, length, sym, take}
 use Rattle.std.proofs.lemmas.List.{get_or-map, length-map, map-append, take_more, take_all}
-use Rattle.deposit_verify.specs.Index.{texts_of}
+use Rattle.dnrd_csv.specs.inside.RowKeys.{borrowed_texts}
 use Rattle.deposit_verify.specs.References.{column}
 
 pub length-column : (i : ℕ) (rows : List (List (List ℕ))) → length (column i rows) ≡ length rows
@@ -18,7 +18,7 @@ column_more i rows n inside =
     ∙ ap (λ (t : List ℕ). take n (column i rows) ++ t ∷ []) (get_or-column i rows n [] inside)
 
 -- the texts of keys, and one more key
-pub texts_more : (keys : List (Bor (List ℕ))) (key : Bor (List ℕ)) → texts_of (keys ++ key ∷ []) ≡ texts_of keys ++ key.now ∷ []
+pub texts_more : (keys : List (Bor (List ℕ))) (key : Bor (List ℕ)) → borrowed_texts (keys ++ key ∷ []) ≡ borrowed_texts keys ++ key.now ∷ []
 texts_more keys key = map-append (λ k. k.now) keys (key ∷ [])
 
 -- what holds of a column, one row more at a time

@@ -18,13 +18,14 @@ use Rattle.dnrd_csv.specs.Table.{IsTable, columns_of, key_columns_of}
 use Rattle.dnrd_csv.proofs.Decided.{all_decides, zip_decides}
 use Rattle.envelope.specs.Envelope.{Env}
 use Rattle.envelope.specs.declared.envelope.FileEntry.{FileEntry}
-use Rattle.deposit_verify.specs.Checks.{AreCounts, HasMenu, HasTables, counted_tables}
-use Rattle.deposit_verify.specs.Deposit.{AreFiles, contents_files, deletes_files, deletes_of, entries_of, HasFiles, IsFileOf, IsKeyFile, IsTableFile, IsTableOf}
+use Rattle.deposit_verify.specs.Checks.{AreRowCounts, HasMenu, HasTables, counted_tables}
+use Rattle.deposit_verify.specs.Deposit.{AreFiles, contents_files, deletes_files, deletes_of, all_entries, HasFiles, IsFileOf, IsKeyFile, IsTableFile, IsTableOf}
 use Rattle.deposit_verify.specs.References.{AreKeysOf, AreKeysOrEmpty, AreReferencesKept, column}
 use Rattle.deposit_verify.specs.Tables.{AreReadAs, table_of}
-use Rattle.deposit_verify.specs.Verdict.{are_counts, are_keys, are_keys_or_empty, are_references_kept, contains_text, files_at, is_file_of, is_key_file, of_full, rows_at, tables_at, with_tables}
+use Rattle.deposit_verify.specs.Verdict.{are_row_counts, are_keys_of, are_keys_or_empty, are_references_kept, contains_text, files_behind, is_file_of, is_key_file, passes_if_full, rows_at, tables_at, with_tables}
 use Rattle.deposit_verify.proofs.CutLemmas.{same_file}
-use Rattle.deposit_verify.proofs.HeaderDecided.{contains_decides, implies_decides, same_kind_decides}
+use Rattle.deposit_name.proofs.KindLemmas.{same_kind_decides}
+use Rattle.deposit_verify.proofs.HeaderDecided.{contains_decides, implies_decides}
 use Rattle.deposit_verify.proofs.Judged.{AreRead, only_tables, under_names}
 use Rattle.deposit_verify.proofs.Uniques.{OneText, same_files}
 
@@ -40,11 +41,11 @@ file_decides entry file =
     Decides-like _ (λ h. record { length_right = h.0; digest_right = h.1 }) (λ h. (h.length_right, h.digest_right))
     (Decides-and _ _ (Decides-eqb (length file) entry.length) (bytes_eq-Decides (sha256 file) entry.sha256))
 
-pub files_found : (entries : List FileEntry) (bytes : List ℕ) (files : List (List ℕ)) → files_at entries bytes ≡ Some files → AreFiles entries bytes files
+pub files_found : (entries : List FileEntry) (bytes : List ℕ) (files : List (List ℕ)) → files_behind entries bytes ≡ Some files → AreFiles entries bytes files
 files_found [] [] [] e = record { joined = refl; each = tt }
 files_found [] [] (file ∷ files) e = cc e
 files_found [] (byte ∷ bytes) files e = cc e
-files_found (entry ∷ entries) bytes files e = by (is_file_of entry file) refl (files_at entries rest) refl e (files_found entries rest)
+files_found (entry ∷ entries) bytes files e = by (is_file_of entry file) refl (files_behind entries rest) refl e (files_found entries rest)
   where
     file : List ℕ
     file = take entry.length bytes
@@ -52,8 +53,8 @@ files_found (entry ∷ entries) bytes files e = by (is_file_of entry file) refl 
     rest : List ℕ
     rest = drop entry.length bytes
 
-    by : (b : Bool) → is_file_of entry file ≡ b → (o : Option (List (List ℕ))) → files_at entries rest ≡ o
-        → cond b (option_map (λ (fs : List (List ℕ)). file ∷ fs) o) None ≡ Some files → ((fs : List (List ℕ)) → files_at entries rest ≡ Some fs → AreFiles entries rest fs) → AreFiles (entry ∷ entries) bytes files
+    by : (b : Bool) → is_file_of entry file ≡ b → (o : Option (List (List ℕ))) → files_behind entries rest ≡ o
+        → cond b (option_map (λ (fs : List (List ℕ)). file ∷ fs) o) None ≡ Some files → ((fs : List (List ℕ)) → files_behind entries rest ≡ Some fs → AreFiles entries rest fs) → AreFiles (entry ∷ entries) bytes files
     by true test None found e more = cc e
     by true test (Some others) found e more =
         let are = more others found in
@@ -64,28 +65,28 @@ files_found (entry ∷ entries) bytes files e = by (is_file_of entry file) refl 
         })
     by false test o found e more = cc e
 
-pub files_are : (entries : List FileEntry) (bytes : List ℕ) (files : List (List ℕ)) → AreFiles entries bytes files → files_at entries bytes ≡ Some files
-files_are [] bytes [] are = ap (files_at []) are.joined
+pub files_are : (entries : List FileEntry) (bytes : List ℕ) (files : List (List ℕ)) → AreFiles entries bytes files → files_behind entries bytes ≡ Some files
+files_are [] bytes [] are = ap (files_behind []) are.joined
 files_are [] bytes (file ∷ files) are = absurd are.each
 files_are (entry ∷ entries) bytes [] are = absurd are.each
 files_are (entry ∷ entries) bytes (file ∷ files) are =
     let same = same_file file (concat files) bytes entry.length are.joined are.each.0.length_right in
     let with_file : List ℕ → List ℕ → Option (List (List ℕ)) =
-    λ front rest. cond (is_file_of entry front) (option_map (λ (fs : List (List ℕ)). front ∷ fs) (files_at entries rest)) None in
+    λ front rest. cond (is_file_of entry front) (option_map (λ (fs : List (List ℕ)). front ∷ fs) (files_behind entries rest)) None in
     (λ i. with_file (same.0 i) (same.1 i))
-    ∙ ap (λ b. cond b (option_map (λ (fs : List (List ℕ)). file ∷ fs) (files_at entries (concat files))) None) ((file_decides entry file).1 are.each.0)
+    ∙ ap (λ b. cond b (option_map (λ (fs : List (List ℕ)). file ∷ fs) (files_behind entries (concat files))) None) ((file_decides entry file).1 are.each.0)
     ∙ ap (option_map (λ (fs : List (List ℕ)). file ∷ fs)) (files_are entries (concat files) files (record { joined = refl; each = are.each.1 }))
 
-pub files_decide : (v : Env) (rest : List ℕ) → Decides (is_some (files_at (entries_of v) rest)) (HasFiles v rest (λ files. Unit {0}))
+pub files_decide : (v : Env) (rest : List ℕ) → Decides (is_some (files_behind (all_entries v) rest)) (HasFiles v rest (λ files. Unit {0}))
 files_decide v rest = (
-  λ e. let there = some_of (files_at (entries_of v) rest) e in (there.0, files_found (entries_of v) rest there.0 there.1, tt),
-  λ has. ap is_some (files_are (entries_of v) rest has.0 has.1),
+  λ e. let there = some_of (files_behind (all_entries v) rest) e in (there.0, files_found (all_entries v) rest there.0 there.1, tt),
+  λ has. ap is_some (files_are (all_entries v) rest has.0 has.1),
 )
 
 -- what is said of the files of a deposit, whose files these are
-in_files : (v : Env) (rest : List ℕ) (files : List (List ℕ)) → AreFiles (entries_of v) rest files → (P : List (List ℕ) → Type 0) (test : Bool) → Decides test (P files) → Decides test (HasFiles v rest P)
+in_files : (v : Env) (rest : List ℕ) (files : List (List ℕ)) → AreFiles (all_entries v) rest files → (P : List (List ℕ) → Type 0) (test : Bool) → Decides test (P files) → Decides test (HasFiles v rest P)
 in_files v rest files are P test decides =
-    Decides-like test (λ p. (files, are, p)) (λ has. subst P (same_files (entries_of v) rest has.0 files has.1 are) has.2) decides
+    Decides-like test (λ p. (files, are, p)) (λ has. subst P (same_files (all_entries v) rest has.0 files has.1 are) has.2) decides
 
 -- ---- their tables
 
@@ -132,11 +133,11 @@ module _ (reader : IsTableReader) where
           each first are zero d inside = first
           each first are (suc i) d inside = are.each i d (omega (arith, inside))
 
-  pub table_decides : (v : Env) (rest : List ℕ) (files : List (List ℕ)) → AreFiles (entries_of v) rest files
+  pub table_decides : (v : Env) (rest : List ℕ) (files : List (List ℕ)) → AreFiles (all_entries v) rest files
       → Decides (is_some (with_tables v (Some files)).tables) (HasFiles v rest (λ fs. AllZip IsTableFile v.contents (contents_files v fs)))
   table_decides v rest files are = in_files v rest files are (λ fs. AllZip IsTableFile v.contents (contents_files v fs)) _ (tables_decide v.contents (contents_files v files))
 
-  pub deletes_decide : (v : Env) (rest : List ℕ) (files : List (List ℕ)) → AreFiles (entries_of v) rest files
+  pub deletes_decide : (v : Env) (rest : List ℕ) (files : List (List ℕ)) → AreFiles (all_entries v) rest files
       → Decides (pointwise is_key_file (deletes_of v) (deletes_files v files)) (HasFiles v rest (λ fs. AllZip IsKeyFile (deletes_of v) (deletes_files v fs)))
   deletes_decide v rest files are =
       in_files v rest files are (λ fs. AllZip IsKeyFile (deletes_of v) (deletes_files v fs)) _
@@ -145,9 +146,9 @@ module _ (reader : IsTableReader) where
   -- ---- counts and references
 
   -- what is said of the tables of a full deposit that passes the check of its tables
-  pub full_decides : OneText → (v : Env) (rest : List ℕ) (files : List (List ℕ)) → HasMenu v → AreFiles (entries_of v) rest files
+  pub full_decides : OneText → (v : Env) (rest : List ℕ) (files : List (List ℕ)) → HasMenu v → AreFiles (all_entries v) rest files
       → HasFiles v rest (λ fs. AllZip IsTableFile v.contents (contents_files v fs)) → (P : (TableName → List (List (List ℕ))) → Type 0) (test : (TableName → List (List (List ℕ))) → Bool)
-      → ((tables : TableName → List (List (List ℕ))) → Decides (test tables) (P tables)) → Decides (of_full v (with_tables v (Some files)) test) (v.kind ≡ Full → HasTables v rest P)
+      → ((tables : TableName → List (List (List ℕ))) → Decides (test tables) (P tables)) → Decides (passes_if_full v (with_tables v (Some files)) test) (v.kind ≡ Full → HasTables v rest P)
   full_decides one v rest files menu are all P test decides = implies_decides _ _ (same_kind_decides v.kind Full) by
     where
       by : v.kind ≡ Full → Decides (test (table_of (unwrap_or (tables_at v.contents (contents_files v files)) []))) (HasTables v rest P)
@@ -157,7 +158,7 @@ module _ (reader : IsTableReader) where
           Decides-at _ _ (ap (λ o. test (table_of (unwrap_or o []))) there.1)
           (Decides-like _ (λ p. (files, are, (table_of there.0, under_names v rest files there.0 read full, p))) (only_tables one v rest files there.0 read full P) (decides (table_of there.0)))
 
-keys_decide : (rows : List (List (List ℕ))) (texts : List (List ℕ)) → Decides (are_keys rows texts) (AreKeysOf rows texts)
+keys_decide : (rows : List (List (List ℕ))) (texts : List (List ℕ)) → Decides (are_keys_of rows texts) (AreKeysOf rows texts)
 keys_decide rows texts = all_decides (contains_text (column 0 rows)) (Contains (column 0 rows)) (contains_decides (column 0 rows)) texts
 
 pub unless_decides : {P Q : Type 0} (a b : Bool) → Decides a P → Decides b Q → Decides (a || b) (¬ P → Q)
@@ -169,7 +170,7 @@ keys_or_empty_decide rows texts =
     all_decides (λ text. bytes_eq text [] || contains_text (column 0 rows) text) (λ text. text ≢ [] → Contains (column 0 rows) text)
     (λ text. unless_decides _ _ (bytes_eq-Decides text []) (contains_decides (column 0 rows) text)) texts
 
-pub counts_decide : (v : Env) (tables : TableName → List (List (List ℕ))) → Decides (are_counts v.count tables) (AreCounts v.count tables)
+pub counts_decide : (v : Env) (tables : TableName → List (List (List ℕ))) → Decides (are_row_counts v.count tables) (AreRowCounts v.count tables)
 counts_decide v tables = bytes_eq-Decides (map (λ c. c.count) v.count) (map (λ name. length (tables name)) counted_tables)
 
 pub references_decide : (tables : TableName → List (List (List ℕ))) → Decides (are_references_kept tables) (AreReferencesKept tables)

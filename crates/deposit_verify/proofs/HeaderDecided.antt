@@ -1,5 +1,5 @@
 -- The tests of what an envelope says decide the checks from that of the name to that of the menu.
-use Rattle.std.specs.Prelude.{◌%◌, is_none}
+use Rattle.std.specs.Prelude.{IsTrue, is_none}
 use Rattle.std.proofs.Common.{◌≡◌, ◌<◌, ◌==◌, ◌+◌, ◌||◌, ◌∷◌, ◌∙◌, [], ℕ, zero, suc, Bool, true, false, not, List, Option, Some, None, Contains, ap, arith, get_or, map, refl, sym}
 use Rattle.std.specs.Bool.{Decides}
 use Rattle.std.specs.Cmp.Lexicographic.{pointwise}
@@ -10,10 +10,11 @@ use Rattle.std.proofs.lemmas.Bool.Decides.{Decides-and, Decides-by_or, Decides-e
 use Rattle.std.proofs.lemmas.List.Elements.{Decides-contains}
 use Rattle.std.proofs.lemmas.Option.{same_Some}
 use Rattle.std.proofs.lemmas.Slice.Eq.{bytes_eq-Decides, slice_eq-Decides}
-use Rattle.schedule.specs.Schedule.{IsSunday}
+use Rattle.schedule.specs.Schedule.{is_sunday}
 use Rattle.deposit_name.specs.Name.{Name}
 use Rattle.deposit_name.specs.declared.kinds.Kind.{Kind}
 use Rattle.deposit_name.specs.declared.kinds.Kind.TheVariants.{Full, Diff, Incr}
+use Rattle.deposit_name.proofs.KindLemmas.{same_kind_decides}
 use Rattle.deposit_name.specs.declared.table.TableName.{TableName}
 use Rattle.deposit_name.specs.declared.table.TableName.TheVariants.{Domain}
 use Rattle.envelope.specs.Envelope.{Env}
@@ -21,7 +22,7 @@ use Rattle.deposit_verify.specs.Checks.{AgreesWithName, FollowsFull, FollowsPass
 use Rattle.deposit_verify.specs.Places.{all_tables, table_place}
 use Rattle.deposit_verify.specs.Deposit.{deletes_of}
 use Rattle.deposit_verify.specs.Known.{Known}
-use Rattle.deposit_verify.specs.Verdict.{agrees_with_name, contains_text, follows_full, follows_passed, has_contents, has_menu, increase, is_full, is_same_id, is_same_kind, stand_in_order}
+use Rattle.deposit_verify.specs.Verdict.{agrees_with_name, contains_text, follows_full, follows_passed, has_contents, has_menu, is_increasing, is_full, is_same_id, stand_in_order}
 use Rattle.deposit_verify.proofs.Judged.{all_tables_right}
 
 -- a fact that is asked only where another holds
@@ -29,24 +30,13 @@ pub implies_decides : {P Q : Type 0} (a b : Bool) → Decides a P → (P → Dec
 implies_decides true b p q = let q = q (p.0 refl) in (λ e _. q.0 e, λ f. q.1 (f (p.0 refl)))
 implies_decides false b p q = (λ _ h. absurd (not_from_Decides false p refl h), λ _. refl)
 
-pub same_kind_decides : (one other : Kind) → Decides (is_same_kind one other) (one ≡ other)
-same_kind_decides Full Full = (λ _. refl, λ _. refl)
-same_kind_decides Full Diff = (λ e. cc e, λ e. cc e)
-same_kind_decides Full Incr = (λ e. cc e, λ e. cc e)
-same_kind_decides Diff Full = (λ e. cc e, λ e. cc e)
-same_kind_decides Diff Diff = (λ _. refl, λ _. refl)
-same_kind_decides Diff Incr = (λ e. cc e, λ e. cc e)
-same_kind_decides Incr Full = (λ e. cc e, λ e. cc e)
-same_kind_decides Incr Diff = (λ e. cc e, λ e. cc e)
-same_kind_decides Incr Incr = (λ _. refl, λ _. refl)
-
 pub name_decides : (v : Env) (name : Name) → Decides (agrees_with_name v name) (AgreesWithName v name)
 name_decides v name =
     Decides-like _ (λ h. record { kind = h.0; tld = h.1.0; day = h.1.1.0; resend = h.1.1.1 }) (λ h. (h.kind, (h.tld, (h.day, h.resend))))
     (Decides-and _ _ (same_kind_decides v.kind name.kind) (Decides-and _ _ (bytes_eq-Decides v.tld name.tld) (Decides-and _ _ (Decides-eqb v.watermark name.day) (Decides-eqb v.resend name.rev))))
 
-pub weekday_decides : (v : Env) → Decides (not (v.watermark % 7 == 3) || is_full v.kind) (IsSunday v.watermark → v.kind ≡ Full)
-weekday_decides v = implies_decides _ _ (Decides-eqb (v.watermark % 7) 3) (λ _. same_kind_decides v.kind Full)
+pub weekday_decides : (v : Env) → Decides (not (is_sunday v.watermark) || is_full v.kind) (IsTrue (is_sunday v.watermark) → v.kind ≡ Full)
+weekday_decides v = implies_decides _ _ (λ e. e, λ e. e) (λ _. same_kind_decides v.kind Full)
 
 none_decides : {X : Type 0} (o : Option X) → Decides (is_none o) (o ≡ None)
 none_decides None = (λ _. refl, λ _. refl)
@@ -83,7 +73,7 @@ contains_decides texts text =
 texts_decide : (one other : List (List ℕ)) → Decides (pointwise bytes_eq one other) (one ≡ other)
 texts_decide one other = slice_eq-Decides bytes_eq-Decides one other (pointwise bytes_eq one other) refl
 
-increase_decides : (ns : List ℕ) → Decides (increase ns) (IsStrictlyIncreasing ns)
+increase_decides : (ns : List ℕ) → Decides (is_increasing ns) (IsStrictlyIncreasing ns)
 increase_decides [] = (λ _ k inside. absurd (omega (arith, inside)), λ _. refl)
 increase_decides (n ∷ []) = (λ _ k inside. absurd (omega (arith, inside)), λ _. refl)
 increase_decides (m ∷ n ∷ ns) = Decides-like _ there back (Decides-and _ _ (Decides-ltb m n) (increase_decides (n ∷ ns)))

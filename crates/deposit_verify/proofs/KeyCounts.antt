@@ -14,7 +14,8 @@ use Rattle.std.proofs.lemmas.List.Filters.{length-filter_more}
 use Rattle.std.proofs.lemmas.List.Kept.{AllPairs-filter}
 use Rattle.std.proofs.lemmas.Map.Made.{AllPairs-from_IsDistinct, IsDistinct-from_AllPairs, alike_from_same, distinct_count-from_IsDistinct, is_member-Decides, is_member-filter, length-from_keys}
 use Rattle.std.proofs.lemmas.Slice.Eq.{bytes_eq-Decides}
-use Rattle.deposit_verify.specs.Index.{items_of, texts_of}
+use Rattle.dnrd_csv.specs.inside.RowKeys.{borrowed_texts}
+use Rattle.deposit_verify.specs.inside.SortedKeys.{owned_texts}
 use Rattle.deposit_verify.specs.Keys.{IsNumberOf}
 use Rattle.deposit_verify.specs.Rows.{keys_after}
 use Rattle.deposit_verify.proofs.Lists.{text_at}
@@ -42,12 +43,12 @@ not_true true e = cc e
 not_true false e = refl
 
 -- a filter of texts that stand in memory of their own
-pub filter-items : (p : List ℕ → Bool) (keys : List (Vec ℕ Global)) → filter p (items_of keys) ≡ items_of (filter (λ key. p key.items) keys)
+pub filter-items : (p : List ℕ → Bool) (keys : List (Vec ℕ Global)) → filter p (owned_texts keys) ≡ owned_texts (filter (λ key. p key.items) keys)
 filter-items p [] = refl
 filter-items p (k ∷ ks) = by (p k.items) (filter-items p ks)
   where
-    by : (b : Bool) → filter p (items_of ks) ≡ items_of (filter (λ (key : Vec ℕ Global). p key.items) ks)
-        → cond b (k.items ∷ filter p (items_of ks)) (filter p (items_of ks)) ≡ items_of (cond b (k ∷ filter (λ (key : Vec ℕ Global). p key.items) ks) (filter (λ (key : Vec ℕ Global). p key.items) ks))
+    by : (b : Bool) → filter p (owned_texts ks) ≡ owned_texts (filter (λ (key : Vec ℕ Global). p key.items) ks)
+        → cond b (k.items ∷ filter p (owned_texts ks)) (filter p (owned_texts ks)) ≡ owned_texts (cond b (k ∷ filter (λ (key : Vec ℕ Global). p key.items) ks) (filter (λ (key : Vec ℕ Global). p key.items) ks))
     by true e = ap (λ (ts : List (List ℕ)). k.items ∷ ts) e
     by false e = e
 
@@ -171,27 +172,27 @@ members_after before contained deleted key = (there, back)
 -- ---- one key after the other
 
 pub count_more : (named : List (List ℕ)) (keys : List (Vec ℕ Global)) (i n m : ℕ) (key : Vec ℕ Global) (b : Bool) → i < length keys → key ≡ get_or keys i key → b ≡ unnamed named key.items
-    → n ≡ length (filter (unnamed named) (take i (items_of keys))) → m ≡ cond b (n + 1) n → m ≡ length (filter (unnamed named) (take (i + 1) (items_of keys)))
+    → n ≡ length (filter (unnamed named) (take i (owned_texts keys))) → m ≡ cond b (n + 1) n → m ≡ length (filter (unnamed named) (take (i + 1) (owned_texts keys)))
 count_more named keys i n m key b inside at is before after =
-    let placed : i < length (items_of keys) = omega (arith, length-map keys (λ (k : Vec ℕ Global). k.items)) in
-    let here : get_or (items_of keys) i [] ≡ key.items = get_or-map (λ (k : Vec ℕ Global). k.items) keys i key [] inside ∙ ap (λ (k : Vec ℕ Global). k.items) (sym at) in
-    let tested : unnamed named (get_or (items_of keys) i []) ≡ b = ap (unnamed named) here ∙ sym is in
-    after ∙ step b n ∙ ap (λ t. n + cond t 1 0) (sym tested) ∙ ap (λ k. k + cond (unnamed named (get_or (items_of keys) i [])) 1 0) before
-    ∙ sym (length-filter_more (unnamed named) (items_of keys) i [] placed)
+    let placed : i < length (owned_texts keys) = omega (arith, length-map keys (λ (k : Vec ℕ Global). k.items)) in
+    let here : get_or (owned_texts keys) i [] ≡ key.items = get_or-map (λ (k : Vec ℕ Global). k.items) keys i key [] inside ∙ ap (λ (k : Vec ℕ Global). k.items) (sym at) in
+    let tested : unnamed named (get_or (owned_texts keys) i []) ≡ b = ap (unnamed named) here ∙ sym is in
+    after ∙ step b n ∙ ap (λ t. n + cond t 1 0) (sym tested) ∙ ap (λ k. k + cond (unnamed named (get_or (owned_texts keys) i [])) 1 0) before
+    ∙ sym (length-filter_more (unnamed named) (owned_texts keys) i [] placed)
   where
     step : (b : Bool) (n : ℕ) → cond b (n + 1) n ≡ n + cond b 1 0
     step true n = refl
     step false n = omega arith
 
 pub add_more : (keys : List (Vec ℕ Global)) (old : List (List ℕ)) (added : List (Bor (List ℕ))) (i : ℕ) (b : Bor (List ℕ)) (key : Vec ℕ Global) → i < length added
-    → items_of keys ≡ old ++ take i (texts_of added) → key.items ≡ (get_or added i b).now → items_of (keys ++ key ∷ []) ≡ old ++ take (i + 1) (texts_of added)
+    → owned_texts keys ≡ old ++ take i (borrowed_texts added) → key.items ≡ (get_or added i b).now → owned_texts (keys ++ key ∷ []) ≡ old ++ take (i + 1) (borrowed_texts added)
 add_more keys old added i b key inside before same =
-    let placed : i < length (texts_of added) = omega (arith, length-map added (λ (t : Bor (List ℕ)). t.now)) in
+    let placed : i < length (borrowed_texts added) = omega (arith, length-map added (λ (t : Bor (List ℕ)). t.now)) in
     map-append (λ (k : Vec ℕ Global). k.items) keys (key ∷ [])
     ∙ ap (λ (ts : List (List ℕ)). ts ++ key.items ∷ []) before
-    ∙ append_assoc old (take i (texts_of added)) (key.items ∷ [])
-    ∙ ap (λ (t : List ℕ). old ++ (take i (texts_of added) ++ t ∷ [])) (same ∙ sym (text_at added i b inside))
-    ∙ ap (λ (ts : List (List ℕ)). old ++ ts) (sym (take_more (texts_of added) i [] placed))
+    ∙ append_assoc old (take i (borrowed_texts added)) (key.items ∷ [])
+    ∙ ap (λ (t : List ℕ). old ++ (take i (borrowed_texts added) ++ t ∷ [])) (same ∙ sym (text_at added i b inside))
+    ∙ ap (λ (ts : List (List ℕ)). old ++ ts) (sym (take_more (borrowed_texts added) i [] placed))
 
 -- the first of keys are each once
 pairs_take : (R : List ℕ → List ℕ → Type 0) (n : ℕ) (xs : List (List ℕ)) → AllPairs R xs → AllPairs R (take n xs)

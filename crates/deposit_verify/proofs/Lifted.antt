@@ -4,7 +4,7 @@ use Rattle.desk.specs.declared.checks.Check.{Check}
 use Rattle.desk.specs.declared.checks.Check.TheVariants as check
 use Rattle.envelope.specs.Frame.{IsFrame}
 use Rattle.envelope.specs.Envelope.{Env, IsEnvelope, env_text}
-use Rattle.deposit_verify.specs.Checks.{Holds, IsLeast, IsLeastFailing, Says}
+use Rattle.deposit_verify.specs.Checks.{PassesCheck, IsLeast, IsLeastFailing, CheckSays}
 use Rattle.deposit_verify.specs.Deposit.{IsDeposit}
 use Rattle.deposit_verify.specs.Known.{Known}
 use Rattle.deposit_verify.specs.declared.verdict.Verdict.{Verdict}
@@ -16,13 +16,13 @@ pub record OneReading : Type 0 where
   pub frame : (t a b x y : List ℕ) → IsFrame t a x → IsFrame t b y → (a ≡ b) × (x ≡ y)
 
 -- a deposit is read in one way
-says_same : OneReading → (joined : List ℕ) (k : Known) (v w : Env) (rest more : List ℕ) → IsDeposit joined v rest → IsDeposit joined w more → (c : Check) → Says w more k c → Says v rest k c
+says_same : OneReading → (joined : List ℕ) (k : Known) (v w : Env) (rest more : List ℕ) → IsDeposit joined v rest → IsDeposit joined w more → (c : Check) → CheckSays w more k c → CheckSays v rest k c
 says_same one joined k v w rest more d e c says =
     let frames = one.frame joined (env_text w) (env_text v) more rest e.framed d.framed in
     let envelopes = one.envelope w v e.in_form d.in_form frames.0 in
-    subst (λ (r : List ℕ). Says v r k c) frames.1 (subst (λ (x : Env). Says x more k c) envelopes says)
+    subst (λ (r : List ℕ). CheckSays v r k c) frames.1 (subst (λ (x : Env). CheckSays x more k c) envelopes says)
 
-pub says_holds : (joined : List ℕ) (k : Known) (v : Env) (rest : List ℕ) → IsDeposit joined v rest → (c : Check) → Says v rest k c → Holds joined k c
+pub says_holds : (joined : List ℕ) (k : Known) (v : Env) (rest : List ℕ) → IsDeposit joined v rest → (c : Check) → CheckSays v rest k c → PassesCheck joined k c
 says_holds joined k v rest d check.Frame says = (env_text v, rest, d.framed)
 says_holds joined k v rest d check.Envelope says = (v, rest, d, says)
 says_holds joined k v rest d check.Name says = (v, rest, d, says)
@@ -37,7 +37,7 @@ says_holds joined k v rest d check.Counts says = (v, rest, d, says)
 says_holds joined k v rest d check.References says = (v, rest, d, says)
 says_holds joined k v rest d check.Deletes says = (v, rest, d, says)
 
-pub holds_says : OneReading → (joined : List ℕ) (k : Known) (v : Env) (rest : List ℕ) → IsDeposit joined v rest → (c : Check) → Holds joined k c → Says v rest k c
+pub holds_says : OneReading → (joined : List ℕ) (k : Known) (v : Env) (rest : List ℕ) → IsDeposit joined v rest → (c : Check) → PassesCheck joined k c → CheckSays v rest k c
 holds_says one joined k v rest d check.Frame holds = tt
 holds_says one joined k v rest d check.Envelope holds = says_same one joined k v holds.0 rest holds.1 d holds.2 check.Envelope holds.3
 holds_says one joined k v rest d check.Name holds = says_same one joined k v holds.0 rest holds.1 d holds.2 check.Name holds.3
@@ -52,11 +52,11 @@ holds_says one joined k v rest d check.Counts holds = says_same one joined k v h
 holds_says one joined k v rest d check.References holds = says_same one joined k v holds.0 rest holds.1 d holds.2 check.References holds.3
 holds_says one joined k v rest d check.Deletes holds = says_same one joined k v holds.0 rest holds.1 d holds.2 check.Deletes holds.3
 
-pub least_failing : OneReading → (joined : List ℕ) (k : Known) (v : Env) (rest : List ℕ) → IsDeposit joined v rest → (c : Check) → IsLeastFailing (Says v rest k) c → IsLeastFailing (Holds joined k) c
+pub least_failing : OneReading → (joined : List ℕ) (k : Known) (v : Env) (rest : List ℕ) → IsDeposit joined v rest → (c : Check) → IsLeastFailing (CheckSays v rest k) c → IsLeastFailing (PassesCheck joined k) c
 least_failing one joined k v rest d c least =
     (λ holds. least.0 (holds_says one joined k v rest d c holds), λ lower less. says_holds joined k v rest d lower (least.1 lower less))
 
-pub least : OneReading → (joined : List ℕ) (k : Known) (v : Env) (rest : List ℕ) → IsDeposit joined v rest → (verdict : Verdict) → IsLeast (Says v rest k) verdict → IsLeast (Holds joined k) verdict
+pub least : OneReading → (joined : List ℕ) (k : Known) (v : Env) (rest : List ℕ) → IsDeposit joined v rest → (verdict : Verdict) → IsLeast (CheckSays v rest k) verdict → IsLeast (PassesCheck joined k) verdict
 least one joined k v rest d Pass all = λ c. says_holds joined k v rest d c (all c)
 least one joined k v rest d (Fail c) failing = least_failing one joined k v rest d c failing
 

@@ -4,8 +4,8 @@ use Rattle.std.specs.List.{AllZip}
 use Rattle.std.proofs.lemmas.Bool.Decides.{eqb_tells}
 use Rattle.deposit_name.specs.declared.table.TableName.TheVariants.{Domain}
 use Rattle.envelope.specs.declared.envelope.FileEntry.{FileEntry}
-use Rattle.deposit_verify.specs.Index.{texts_of}
 use Rattle.std.proofs.lemmas.List.{get_or-map, get_or_default, take_all, take_more}
+use Rattle.dnrd_csv.specs.inside.RowKeys.{borrowed_texts}
 
 -- one element more is the same
 pub same_more : {X : Type 0} (xs ys : List X) (i : ℕ) (d : X) → i < length xs → i < length ys → take i xs ≡ take i ys → get_or xs i d ≡ get_or ys i d → take (i + 1) xs ≡ take (i + 1) ys
@@ -63,16 +63,16 @@ abbrev pub no_entry : FileEntry
 no_entry = record { length = 0; name = Domain; sha256 = [] }
 
 -- the text at a place
-pub text_at : (keys : List (Bor (List ℕ))) (i : ℕ) (d : Bor (List ℕ)) → i < length keys → get_or (texts_of keys) i [] ≡ (get_or keys i d).now
+pub text_at : (keys : List (Bor (List ℕ))) (i : ℕ) (d : Bor (List ℕ)) → i < length keys → get_or (borrowed_texts keys) i [] ≡ (get_or keys i d).now
 text_at keys i d inside = get_or-map (λ k. k.now) keys i d [] inside
 
 -- a fact of an entry and its file, whatever stands for what is not there
 pub file_at : (R : FileEntry → List ℕ → Type 0) (entries : List FileEntry) (files : List (Bor (List ℕ))) (i : ℕ) (d : FileEntry) (b : Bor (List ℕ)) → i < length entries → i < length files
-    → R (get_or entries i d) (get_or files i b).now → (e : FileEntry) → R (get_or entries i e) (get_or (texts_of files) i [])
+    → R (get_or entries i d) (get_or files i b).now → (e : FileEntry) → R (get_or entries i e) (get_or (borrowed_texts files) i [])
 file_at R entries files i d b inside within h e =
     let text = subst (λ (f : List ℕ). R (get_or entries i d) f) (sym (text_at files i b within)) h in
-    subst (λ (x : FileEntry). R x (get_or (texts_of files) i [])) (get_or_default entries i d e inside) text
+    subst (λ (x : FileEntry). R x (get_or (borrowed_texts files) i [])) (get_or_default entries i d e inside) text
 
 pub file_from : (R : FileEntry → List ℕ → Type 0) (entries : List FileEntry) (files : List (Bor (List ℕ))) (i : ℕ) (d : FileEntry) (b : Bor (List ℕ)) → i < length files
-    → R (get_or entries i d) (get_or (texts_of files) i []) → R (get_or entries i d) (get_or files i b).now
+    → R (get_or entries i d) (get_or (borrowed_texts files) i []) → R (get_or entries i d) (get_or files i b).now
 file_from R entries files i d b within h = subst (λ (f : List ℕ). R (get_or entries i d) f) (text_at files i b within) h

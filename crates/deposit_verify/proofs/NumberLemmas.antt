@@ -12,9 +12,9 @@ use Rattle.envelope.specs.Envelope.{Env}
 use Rattle.envelope.specs.declared.envelope.Count.{Count}
 use Rattle.envelope.specs.declared.envelope.FileEntry.{FileEntry}
 use Rattle.deposit_verify.specs.declared.base.Base.{Base}
-use Rattle.deposit_verify.specs.Chain.{Contained, IsBase, IsKeyOf, IsRead, Named}
+use Rattle.deposit_verify.specs.Chain.{DepositContains, IsBase, IsKeyOf, IsRead, DepositNames}
 use Rattle.deposit_verify.specs.Checks.{AreKeyCounts, HasTables, counted_tables}
-use Rattle.deposit_verify.specs.Deposit.{AreFiles, AreTables, HasEnvelope, IsDeposit, IsTableOf, contents_files, entries_of}
+use Rattle.deposit_verify.specs.Deposit.{AreFiles, AreTables, HasEnvelope, IsDeposit, IsTableOf, contents_files, all_entries}
 use Rattle.deposit_verify.specs.Keys.{AreKeys, IsKeyAfter, IsNumberOf, keys_in}
 use Rattle.deposit_verify.specs.Numbers.{AreChainNumbers, numbers_in}
 use Rattle.deposit_verify.specs.Places.{table_place}
@@ -79,10 +79,10 @@ are_under es fs ts apart count read =
 
 module _ (reader : IsTableReader) (one : OneReading) (joined : List ℕ) (base : Base) (is : IsBase (joined ∷ []) base) (v : Env) (rest : List ℕ) (deposit : IsDeposit joined v rest) (read : IsRead v rest) where
   -- the keys of a chain of one are as many as the rows of its table
-  rows_number : (files : List (List ℕ)) → AreFiles (entries_of v) rest files → (tables : List (List (List (List ℕ)))) → tables_at v.contents (contents_files v files) ≡ Some tables → (name : TableName) → IsTrue (has_deletes name)
+  rows_number : (files : List (List ℕ)) → AreFiles (all_entries v) rest files → (tables : List (List (List (List ℕ)))) → tables_at v.contents (contents_files v files) ≡ Some tables → (name : TableName) → IsTrue (has_deletes name)
       → length (keys_in base name) ≡ length (rows_under v.contents tables name)
   rows_number files are tables whole name keyed =
-      same_number (IsKeyOf (joined ∷ []) name) (Contained joined name) (keys_in base name) (column 0 (rows_under v.contents tables name)) (is.keys name keyed)
+      same_number (IsKeyOf (joined ∷ []) name) (DepositContains joined name) (keys_in base name) (column 0 (rows_under v.contents tables name)) (is.keys name keyed)
       (record {
         once = under_once reader name keyed v.contents (contents_files v files) tables whole;
         same = λ key.
@@ -117,7 +117,7 @@ one_numbers reader one joined base is =
     (first.0, first.1, first.2, tables_numbered reader one joined base is first.0 first.1 first.2 first.3.1)
 
 -- a deposit that names no key leaves the numbers
-same_numbers : (chain : List (List ℕ)) (joined : List ℕ) (before after : Base) → IsBase chain before → IsBase (chain ++ joined ∷ []) after → ((name : TableName) (key : List ℕ) → ¬ Named joined name key)
+same_numbers : (chain : List (List ℕ)) (joined : List ℕ) (before after : Base) → IsBase chain before → IsBase (chain ++ joined ∷ []) after → ((name : TableName) (key : List ℕ) → ¬ DepositNames joined name key)
     → numbers_in after ≡ numbers_in before
 same_numbers chain joined before after was is none =
     numbers_agree (λ name. length (keys_in after name)) (λ name. length (keys_in before name))

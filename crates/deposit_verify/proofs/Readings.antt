@@ -17,13 +17,13 @@ use Rattle.dnrd_csv.specs.declared.form.Form.{Form}
 use Rattle.envelope.specs.Envelope.{Env}
 use Rattle.envelope.specs.declared.envelope.FileEntry.{FileEntry}
 use Rattle.deposit_verify.specs.Checks.{HasContents, HasMenu, StandInOrder}
-use Rattle.deposit_verify.specs.Deposit.{AreFiles, contents_files, deletes_files, deletes_of, entries_of}
+use Rattle.deposit_verify.specs.Deposit.{AreFiles, contents_files, deletes_files, deletes_of, all_entries}
 use Rattle.deposit_verify.specs.Keys.{AnyZip, HasKey}
 use Rattle.deposit_verify.specs.Places.{all_tables, table_place}
 use Rattle.deposit_verify.specs.References.{column}
 use Rattle.deposit_verify.specs.Rows.{rows_under}
 use Rattle.deposit_verify.specs.Tables.{AreCountable, AreKeysReadAs, AreReadAs, AreReadFrom}
-use Rattle.deposit_verify.specs.Verdict.{deleted_at, each_at, key_rows_at, rows_at, tables_at}
+use Rattle.deposit_verify.specs.Verdict.{deleted_keys_at, rows_of_each, key_rows_at, rows_at, tables_at}
 use Rattle.deposit_verify.proofs.Columns.{get_or-column, length-column}
 use Rattle.deposit_verify.proofs.HeaderDecided.{order_decides, same_place}
 use Rattle.deposit_verify.proofs.Judged.{files_parted}
@@ -36,22 +36,22 @@ Rows = List (List (List ℕ))
 -- ---- the functions
 
 each_are : (read : FileEntry → List ℕ → Option Rows) (entries : List FileEntry) (files : List (List ℕ)) (tables : List Rows) → length tables ≡ length entries → length files ≡ length entries
-    → ((i : ℕ) (e : FileEntry) → i < length entries → read (get_or entries i e) (get_or files i []) ≡ Some (get_or tables i [])) → each_at read entries files ≡ Some tables
+    → ((i : ℕ) (e : FileEntry) → i < length entries → read (get_or entries i e) (get_or files i []) ≡ Some (get_or tables i [])) → rows_of_each read entries files ≡ Some tables
 each_are read [] [] [] n m each = refl
 each_are read [] [] (t ∷ ts) n m each = absurd (omega arith)
 each_are read [] (f ∷ fs) ts n m each = absurd (omega arith)
 each_are read (e ∷ es) [] ts n m each = absurd (omega arith)
 each_are read (e ∷ es) (f ∷ fs) [] n m each = absurd (omega arith)
 each_are read (e ∷ es) (f ∷ fs) (t ∷ ts) n m each =
-    ap (λ (o : Option Rows). option_and_then (λ (rows : Rows). option_map (λ (others : List Rows). rows ∷ others) (each_at read es fs)) o) (each 0 e (omega arith))
+    ap (λ (o : Option Rows). option_and_then (λ (rows : Rows). option_map (λ (others : List Rows). rows ∷ others) (rows_of_each read es fs)) o) (each 0 e (omega arith))
     ∙ ap (option_map (λ (others : List Rows). t ∷ others)) (each_are read es fs ts (omega arith) (omega arith) (λ i d inside. each (suc i) d (omega arith)))
 
 each_parts : (read : FileEntry → List ℕ → Option Rows) (e : FileEntry) (es : List FileEntry) (f : List ℕ) (fs : List (List ℕ)) (t : Rows) (ts : List Rows)
-    → each_at read (e ∷ es) (f ∷ fs) ≡ Some (t ∷ ts) → (read e f ≡ Some t) × (each_at read es fs ≡ Some ts)
-each_parts read e es f fs t ts whole = by (read e f) refl (each_at read es fs) refl whole
+    → rows_of_each read (e ∷ es) (f ∷ fs) ≡ Some (t ∷ ts) → (read e f ≡ Some t) × (rows_of_each read es fs ≡ Some ts)
+each_parts read e es f fs t ts whole = by (read e f) refl (rows_of_each read es fs) refl whole
   where
-    by : (o : Option Rows) → read e f ≡ o → (p : Option (List Rows)) → each_at read es fs ≡ p
-        → option_and_then (λ (rows : Rows). option_map (λ (others : List Rows). rows ∷ others) p) o ≡ Some (t ∷ ts) → (read e f ≡ Some t) × (each_at read es fs ≡ Some ts)
+    by : (o : Option Rows) → read e f ≡ o → (p : Option (List Rows)) → rows_of_each read es fs ≡ p
+        → option_and_then (λ (rows : Rows). option_map (λ (others : List Rows). rows ∷ others) p) o ≡ Some (t ∷ ts) → (read e f ≡ Some t) × (rows_of_each read es fs ≡ Some ts)
     by None is p are same = cc same
     by (Some rows) is None are same = cc same
     by (Some rows) is (Some others) are same =
@@ -60,22 +60,22 @@ each_parts read e es f fs t ts whole = by (read e f) refl (each_at read es fs) r
         let rest : others ≡ ts = cc both in
         (is ∙ ap Some first, are ∙ ap Some rest)
 
-each_nothing : (read : FileEntry → List ℕ → Option Rows) (e : FileEntry) (es : List FileEntry) (f : List ℕ) (fs : List (List ℕ)) → each_at read (e ∷ es) (f ∷ fs) ≡ Some [] → ⊥
-each_nothing read e es f fs whole = by (read e f) (each_at read es fs) whole
+each_nothing : (read : FileEntry → List ℕ → Option Rows) (e : FileEntry) (es : List FileEntry) (f : List ℕ) (fs : List (List ℕ)) → rows_of_each read (e ∷ es) (f ∷ fs) ≡ Some [] → ⊥
+each_nothing read e es f fs whole = by (read e f) (rows_of_each read es fs) whole
   where
     by : (o : Option Rows) (p : Option (List Rows)) → option_and_then (λ (rows : Rows). option_map (λ (others : List Rows). rows ∷ others) p) o ≡ Some [] → ⊥
     by None p same = cc same
     by (Some rows) None same = cc same
     by (Some rows) (Some others) same = let both : rows ∷ others ≡ [] = same_Some _ _ same in cc both
 
-pub tables_are : IsTableReader → (v : Env) (rest : List ℕ) (files : List (List ℕ)) (tables : List Rows) → AreFiles (entries_of v) rest files → AreReadAs v.contents (contents_files v files) tables
+pub tables_are : IsTableReader → (v : Env) (rest : List ℕ) (files : List (List ℕ)) (tables : List Rows) → AreFiles (all_entries v) rest files → AreReadAs v.contents (contents_files v files) tables
     → tables_at v.contents (contents_files v files) ≡ Some tables
 tables_are reader v rest files tables are read =
     each_are rows_at v.contents (contents_files v files) tables read.count (files_parted v rest files are).1
     (λ i e inside. (reader.some _ _ _ _).1 (read.each i e inside))
 
-pub deleted_are : IsTableReader → (v : Env) (rest : List ℕ) (files : List (List ℕ)) (deleted : List (List (List ℕ))) → AreFiles (entries_of v) rest files → AreKeysReadAs (deletes_of v) (deletes_files v files) deleted
-    → deleted_at (deletes_of v) (deletes_files v files) ≡ Some (map key_rows deleted)
+pub deleted_are : IsTableReader → (v : Env) (rest : List ℕ) (files : List (List ℕ)) (deleted : List (List (List ℕ))) → AreFiles (all_entries v) rest files → AreKeysReadAs (deletes_of v) (deletes_files v files) deleted
+    → deleted_keys_at (deletes_of v) (deletes_files v files) ≡ Some (map key_rows deleted)
 deleted_are reader v rest files deleted are read =
     each_are key_rows_at (deletes_of v) (deletes_files v files) (map key_rows deleted) (length-map deleted key_rows ∙ read.count) (files_parted v rest files are).2
     (λ i e inside. (reader.some _ _ _ _).1 (read.each i e inside) ∙ ap Some (sym (get_or-map key_rows deleted i [] [] (omega (arith, inside, read.count)))))
@@ -120,7 +120,7 @@ module _ (read : FileEntry → List ℕ → Option Rows) (Reads : TableName → 
   later_place n (e ∷ es) (f ∷ fs) all (inl here) = subst (λ (m : TableName). n < table_place m) here.0 all.0
   later_place n (e ∷ es) (f ∷ fs) all (inr there) = later_place n es fs all.1 there
 
-  pub key_there : (es : List FileEntry) (fs : List (List ℕ)) (ts : List Rows) → AreApart es → each_at read es fs ≡ Some ts → AnyZip (HasKey Reads name key) es fs → Contains (column 0 (rows_under es ts name)) key
+  pub key_there : (es : List FileEntry) (fs : List (List ℕ)) (ts : List Rows) → AreApart es → rows_of_each read es fs ≡ Some ts → AnyZip (HasKey Reads name key) es fs → Contains (column 0 (rows_under es ts name)) key
   key_there [] fs ts apart whole any = absurd any
   key_there (e ∷ es) [] ts apart whole any = absurd any
   key_there (e ∷ es) (f ∷ fs) [] apart whole any = absurd (each_nothing read e es f fs whole)
@@ -139,13 +139,13 @@ module _ (read : FileEntry → List ℕ → Option Rows) (Reads : TableName → 
   nothing : Contains {X = List ℕ} [] key → ⊥
   nothing has = absurd (omega (arith, has.1))
 
-  pub key_back : (es : List FileEntry) (fs : List (List ℕ)) (ts : List Rows) → each_at read es fs ≡ Some ts → Contains (column 0 (rows_under es ts name)) key → AnyZip (HasKey Reads name key) es fs
+  pub key_back : (es : List FileEntry) (fs : List (List ℕ)) (ts : List Rows) → rows_of_each read es fs ≡ Some ts → Contains (column 0 (rows_under es ts name)) key → AnyZip (HasKey Reads name key) es fs
   key_back [] fs ts whole has = absurd (nothing has)
   key_back (e ∷ es) [] ts whole has = cc whole
   key_back (e ∷ es) (f ∷ fs) [] whole has = absurd (nothing has)
   key_back (e ∷ es) (f ∷ fs) (t ∷ ts) whole has = by (table_place e.name == table_place name) refl has (key_back es fs ts parts.1)
     where
-      parts : (read e f ≡ Some t) × (each_at read es fs ≡ Some ts)
+      parts : (read e f ≡ Some t) × (rows_of_each read es fs ≡ Some ts)
       parts = each_parts read e es f fs t ts whole
 
       by : (b : Bool) → (table_place e.name == table_place name) ≡ b → Contains (column 0 (cond b t (rows_under es ts name))) key

@@ -11,7 +11,8 @@ use Rattle.std.proofs.lemmas.List.{get_or-map, length-map}
 use Rattle.std.proofs.lemmas.List.Sorted.{Contains-permutation, IsPermutation-map, IsPermutation-sym, searchable_from_sorted}
 use Rattle.std.proofs.lemmas.Map.Text.{is_eq-slice_cmp}
 use Rattle.std.proofs.lemmas.Slice.Eq.{bytes_eq-Decides}
-use Rattle.deposit_verify.specs.Index.{text_cmp, texts_of}
+use Rattle.dnrd_csv.specs.inside.RowKeys.{borrowed_texts}
+use Rattle.deposit_verify.specs.inside.SortedKeys.{borrowed_text_cmp}
 
 pub same_text : (one other : List ℕ) → slice_cmp nat_cmp one other ≡ Equal → one ≡ other
 same_text one other equal = (bytes_eq-Decides one other).0 (sym (is_eq-slice_cmp one other) ∙ ap is_eq equal)
@@ -23,20 +24,20 @@ equal_not_above : (one other : List ℕ) → one ≡ other → slice_cmp nat_cmp
 equal_not_above one other same greater = cc (is_eq-slice_cmp one other, (bytes_eq-Decides one other).1 same, ap is_eq greater)
 
 -- what is found is a key
-pub found_is_key : (keys : List (Bor (List ℕ))) (text : Bor (List ℕ)) (i : ℕ) → i < length keys → text_cmp (get_or keys i text) text ≡ Equal → Contains (texts_of keys) text.now
+pub found_is_key : (keys : List (Bor (List ℕ))) (text : Bor (List ℕ)) (i : ℕ) → i < length keys → borrowed_text_cmp (get_or keys i text) text ≡ Equal → Contains (borrowed_texts keys) text.now
 found_is_key keys text i inside equal =
-    let placed : i < length (texts_of keys) = omega (arith, length-map keys (λ (k : Bor (List ℕ)). k.now)) in
+    let placed : i < length (borrowed_texts keys) = omega (arith, length-map keys (λ (k : Bor (List ℕ)). k.now)) in
     (i, placed, get_or-map (λ k. k.now) keys i text text.now inside ∙ same_text _ _ equal)
 
 -- a key that stands at a place
-pub key_at : (keys : List (Bor (List ℕ))) (text : Bor (List ℕ)) (h : Contains (texts_of keys) text.now) → (h.0 < length keys) × ((get_or keys h.0 text).now ≡ text.now)
+pub key_at : (keys : List (Bor (List ℕ))) (text : Bor (List ℕ)) (h : Contains (borrowed_texts keys) text.now) → (h.0 < length keys) × ((get_or keys h.0 text).now ≡ text.now)
 key_at keys text h =
     let inside : h.0 < length keys = omega (arith, length-map keys (λ (k : Bor (List ℕ)). k.now), h.1) in
     (inside, sym (get_or-map (λ k. k.now) keys h.0 text text.now inside) ∙ h.2)
 
 -- a search among keys in order finds a key exactly if it is there
-pub search_decides : (keys : List (Bor (List ℕ))) (text : Bor (List ℕ)) (r : Result ℕ ℕ) → IsSorted text_cmp keys → IsSearchInRange r (length keys)
-    → IsBinarySearchResult (λ y. text_cmp y text) keys r → IsTrue (is_ok r) ↔ Contains (texts_of keys) text.now
+pub search_decides : (keys : List (Bor (List ℕ))) (text : Bor (List ℕ)) (r : Result ℕ ℕ) → IsSorted borrowed_text_cmp keys → IsSearchInRange r (length keys)
+    → IsBinarySearchResult (λ y. borrowed_text_cmp y text) keys r → IsTrue (is_ok r) ↔ Contains (borrowed_texts keys) text.now
 search_decides keys text (Ok i) sorted inside at = (λ _. found_is_key keys text i inside (at text), λ _. search rules)
 search_decides keys text (Err i) sorted inside at = (
   λ e. search rules,
@@ -50,7 +51,7 @@ search_decides keys text (Err i) sorted inside at = (
 )
 
 -- keys in another order have the same texts
-pub permuted_texts : (keys sorted : List (Bor (List ℕ))) → IsPermutation keys sorted → (text : List ℕ) → Contains (texts_of sorted) text ↔ Contains (texts_of keys) text
+pub permuted_texts : (keys sorted : List (Bor (List ℕ))) → IsPermutation keys sorted → (text : List ℕ) → Contains (borrowed_texts sorted) text ↔ Contains (borrowed_texts keys) text
 permuted_texts keys sorted moved text =
     let there = IsPermutation-map (λ (k : Bor (List ℕ)). k.now) keys sorted moved in
     (Contains-permutation _ _ text (IsPermutation-sym _ _ there), Contains-permutation _ _ text there)

@@ -3,10 +3,10 @@ use Rattle.std.proofs.lemmas.List.{get_or-map, length-map}
 use Rattle.std.proofs.Common.{◌-◌, map, refl, zero, suc, ◌≡◌, ◌<◌, ◌≤◌, ◌+◌, ◌++◌, ◌∷◌, ◌∙◌, [], Bor, List, ℕ, ap, arith, get_or, length, subst, sym}
 use Rattle.std.proofs.Math.ListN.{get_or-append}
 use Rattle.std.proofs.Math.Seq.{get_or-append_seam}
+use Rattle.dnrd_csv.specs.inside.RowKeys.{borrowed_texts}
 use Rattle.deposit_name.specs.declared.table.TableName.{TableName}
 use Rattle.envelope.specs.declared.envelope.FileEntry.{FileEntry}
 use Rattle.deposit_verify.specs.Places.{all_tables, table_place}
-use Rattle.deposit_verify.specs.Index.{texts_of}
 use Rattle.deposit_verify.proofs.Lists.{below_next, file_at}
 
 -- what the files below a place are read as
@@ -14,10 +14,10 @@ abbrev pub AreReadBelow : {X : Type 0} → (FileEntry → List ℕ → X → Typ
 AreReadBelow R none entries files tables i = (k : ℕ) (e : FileEntry) → k < i → R (get_or entries k e) (get_or files k []) (get_or tables k none)
 
 pub read_more : {X : Type 0} (R : FileEntry → List ℕ → X → Type 0) (none : X) (entries : List FileEntry) (files : List (Bor (List ℕ))) (tables : List X) (rows : X) (i : ℕ) (d : FileEntry) (b : Bor (List ℕ))
-    → length tables ≡ i → i < length entries → i < length files → AreReadBelow R none entries (texts_of files) tables i → R (get_or entries i d) (get_or files i b).now rows
-    → AreReadBelow R none entries (texts_of files) (tables ++ rows ∷ []) (i + 1)
+    → length tables ≡ i → i < length entries → i < length files → AreReadBelow R none entries (borrowed_texts files) tables i → R (get_or entries i d) (get_or files i b).now rows
+    → AreReadBelow R none entries (borrowed_texts files) (tables ++ rows ∷ []) (i + 1)
 read_more {X} R none entries files tables rows i d b count inside within before here = λ k e below.
-    let At : ℕ → FileEntry → X → Type 0 = λ k e rows. R (get_or entries k e) (get_or (texts_of files) k []) rows in
+    let At : ℕ → FileEntry → X → Type 0 = λ k e rows. R (get_or entries k e) (get_or (borrowed_texts files) k []) rows in
     let last : get_or (tables ++ rows ∷ []) i none ≡ rows = ap (λ (n : ℕ). get_or (tables ++ rows ∷ []) n none) (sym count) ∙ get_or-append_seam tables rows [] none in
     below_next (λ (k : ℕ). (e : FileEntry) → At k e (get_or (tables ++ rows ∷ []) k none)) i
     (λ k below e. subst (At k e) (sym (get_or-append tables (rows ∷ []) none k (omega (arith, below, count)))) (before k e below))

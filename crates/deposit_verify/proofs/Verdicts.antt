@@ -4,7 +4,7 @@ use Rattle.std.proofs.lemmas.Bool.Decides.{eqb_tells, leb_tells}
 use Rattle.desk.specs.Checks.{check_number}
 use Rattle.desk.specs.declared.checks.Check.{Check}
 use Rattle.desk.specs.declared.checks.Check.TheVariants.{Frame, Envelope, Name, Statement, Weekday, PrevId, IdTaken, Menu, Files, Table, Counts, References, Deletes}
-use Rattle.deposit_verify.specs.Checks.{Below, IsLeast}
+use Rattle.deposit_verify.specs.Checks.{PassesBelow, IsLeast}
 use Rattle.deposit_verify.specs.declared.verdict.Verdict.{Verdict}
 use Rattle.deposit_verify.specs.declared.verdict.Verdict.TheVariants.{Pass, Fail}
 
@@ -33,7 +33,7 @@ pub same_check : (c d : Check) → check_number c ≡ check_number d → c ≡ d
 same_check c d same = sym (numbered_right c) ∙ ap (λ (n : ℕ). get_or numbered n Frame) same ∙ numbered_right d
 
 -- no check is below the first
-pub below_none : (P : Check → Type 0) → Below P 1
+pub below_none : (P : Check → Type 0) → PassesBelow P 1
 below_none P Frame h = absurd (omega arith)
 below_none P Envelope h = absurd (omega arith)
 below_none P Name h = absurd (omega arith)
@@ -49,14 +49,14 @@ below_none P References h = absurd (omega arith)
 below_none P Deletes h = absurd (omega arith)
 
 -- one check more
-pub below_more : (P : Check → Type 0) (c : Check) → Below P (check_number c) → P c → Below P (check_number c + 1)
+pub below_more : (P : Check → Type 0) (c : Check) → PassesBelow P (check_number c) → P c → PassesBelow P (check_number c + 1)
 below_more P c before here d h = elim (eqb_tells (check_number d) (check_number c)) [
   | inl same ↦ subst P (sym (same_check d c same.1)) here
   | inr other ↦ before d (omega (arith, h, other.1))
 ]
 
 -- all checks
-pub below_all : (P : Check → Type 0) → Below P 14 → (c : Check) → P c
+pub below_all : (P : Check → Type 0) → PassesBelow P 14 → (c : Check) → P c
 below_all P all Frame = all Frame (omega arith)
 below_all P all Envelope = all Envelope (omega arith)
 below_all P all Name = all Name (omega arith)

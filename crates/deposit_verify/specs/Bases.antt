@@ -1,35 +1,53 @@
 -- The keys of a chain of deposits as a function of their bytes. Only its law is used: `AreBases`, which says it by `IsBase`.
-use Rattle.std.specs.Prelude.{◌≡◌, ℕ, List, [], ◌∷◌, Option, Some, None, if◌then◌else◌, fold, map, option_and_then}
+use Rattle.std.specs.Prelude.{
+  ◌≡◌,
+  ℕ,
+  List,
+  [],
+  ◌∷◌,
+  Option,
+  Some,
+  None,
+  if◌then◌else◌,
+  fold,
+  map,
+  option_and_then,
+}
 use Rattle.dnrd_csv.specs.Text.{key_rows}
-use Rattle.deposit_name.specs.declared.table.TableName.TheVariants.{Domain, Host, Contact, Registrar}
+use Rattle.deposit_name.specs.declared.table.TableName.TheVariants.{
+  Domain,
+  Host,
+  Contact,
+  Registrar,
+}
 use Rattle.deposit_name.specs.declared.table.TableName.{TableName}
 use Rattle.envelope.specs.Envelope.{Env}
 use Rattle.envelope.specs.Readers.{envelope_at, frame_at}
 use Rattle.deposit_verify.specs.declared.base.Base.{Base}
 use Rattle.deposit_verify.specs.Chain.{IsBase, IsChain}
 use Rattle.deposit_verify.specs.Keys.{keys_in}
-use Rattle.deposit_verify.specs.Verdict.{contents_at, has_menu, is_full, keys_after_files}
+use Rattle.deposit_verify.specs.Verdict.{files_reading_at, has_menu, is_full, keys_after_files}
 
 -- a deposit as it is read
-pub record Reading : Type 0 where
+pub record DepositReading : Type 0 where
   pub envelope : Env
   pub tables : List (List (List (List ℕ)))
   pub deleted : List (List (List (List ℕ)))
 
-abbrev pub with_contents : Env → Option (List (List (List (List ℕ)))) → Option (List (List (List (List ℕ)))) → Option Reading
-with_contents v None deleted = None
-with_contents v (Some tables) None = None
-with_contents v (Some tables) (Some deleted) = Some (record { envelope = v; tables = tables; deleted = deleted })
+abbrev pub reading_with : Env → Option (List (List (List (List ℕ)))) → Option (List (List (List (List ℕ)))) → Option DepositReading
+reading_with v None deleted = None
+reading_with v (Some tables) None = None
+reading_with v (Some tables) (Some deleted) = Some (record { envelope = v; tables = tables; deleted = deleted })
 
-abbrev pub reading_behind : List ℕ → Env → Option Reading
-reading_behind rest v = if has_menu v then with_contents v (contents_at v rest).tables (contents_at v rest).deleted else None
+abbrev pub reading_behind : List ℕ → Env → Option DepositReading
+reading_behind rest v = if has_menu v then reading_with v (files_reading_at v rest).tables (files_reading_at v rest).deleted else None
 
 -- the same of what stands in memory
-abbrev pub reading_of : Env → List (List (List (List ℕ))) → List (List (List ℕ)) → Reading
+abbrev pub reading_of : Env → List (List (List (List ℕ))) → List (List (List ℕ)) → DepositReading
 reading_of v tables deleted = record { envelope = v; tables = tables; deleted = map key_rows deleted }
 
 -- the deposit as it is read, where it is
-unfoldable pub reading_at : List ℕ → Option Reading
+unfoldable pub reading_at : List ℕ → Option DepositReading
 reading_at joined = option_and_then (λ parts. option_and_then (reading_behind parts.1) (envelope_at parts.0)) (frame_at joined)
 
 -- no keys
@@ -37,10 +55,10 @@ abbrev pub no_keys : Base
 no_keys = record { contacts = []; domains = []; hosts = []; registrars = [] }
 
 -- the keys of a table after a deposit
-abbrev pub table_after : Base → Reading → TableName → List (List ℕ)
+abbrev pub table_after : Base → DepositReading → TableName → List (List ℕ)
 table_after base r name = keys_after_files r.envelope (keys_in base name) r.tables r.deleted name
 
-abbrev pub base_after : Base → Reading → Base
+abbrev pub base_after : Base → DepositReading → Base
 base_after base r = record {
   contacts = table_after base r Contact;
   domains = table_after base r Domain;
@@ -49,10 +67,10 @@ base_after base r = record {
 }
 
 -- the keys after the first deposit of a chain, and after a later one
-abbrev pub after_first : Reading → Option Base
+abbrev pub after_first : DepositReading → Option Base
 after_first r = if is_full r.envelope.kind then Some (base_after no_keys r) else None
 
-abbrev pub after_later : Base → Reading → Option Base
+abbrev pub after_later : Base → DepositReading → Option Base
 after_later base r = if is_full r.envelope.kind then None else Some (base_after base r)
 
 abbrev pub base_of_first : List ℕ → Option Base

@@ -1,13 +1,37 @@
 -- The thirteen checks of a deposit, each said by what the deposit reads as, and the verdict.
-use Rattle.std.specs.Prelude.{◌≡◌, ◌≢◌, ◌<◌, ⊤, ℕ, List, [], ◌∷◌, Contains, IfSome, Option, Some, None, codes, length, map, take}
+use Rattle.std.specs.Prelude.{
+  ◌≡◌,
+  ◌≢◌,
+  ◌<◌,
+  ⊤,
+  ℕ,
+  List,
+  [],
+  ◌∷◌,
+  Contains,
+  IfSome,
+  IsTrue,
+  Option,
+  Some,
+  None,
+  codes,
+  length,
+  map,
+  take,
+}
 use Rattle.std.specs.List.{AllZip}
 use Rattle.std.specs.List.Sorted.{IsStrictlyIncreasing}
-use Rattle.schedule.specs.Schedule.{IsSunday}
+use Rattle.schedule.specs.Schedule.{is_sunday}
 use Rattle.deposit_name.specs.Name.{Name}
 use Rattle.deposit_name.specs.declared.kinds.Kind.{Kind}
 use Rattle.deposit_name.specs.declared.kinds.Kind.TheVariants.{Full, Diff, Incr}
 use Rattle.deposit_name.specs.declared.table.TableName.{TableName}
-use Rattle.deposit_name.specs.declared.table.TableName.TheVariants.{Domain, Host, Contact, Registrar}
+use Rattle.deposit_name.specs.declared.table.TableName.TheVariants.{
+  Domain,
+  Host,
+  Contact,
+  Registrar,
+}
 use Rattle.desk.specs.Checks.{check_number}
 use Rattle.desk.specs.declared.checks.Check.{Check}
 use Rattle.desk.specs.declared.checks.Check.TheVariants as check
@@ -18,7 +42,15 @@ use Rattle.deposit_verify.specs.declared.verdict.Verdict.{Verdict}
 use Rattle.deposit_verify.specs.declared.verdict.Verdict.TheVariants.{Pass, Fail}
 use Rattle.deposit_verify.specs.Known.{Known}
 use Rattle.deposit_verify.specs.declared.base.Base.{Base}
-use Rattle.deposit_verify.specs.Deposit.{AreTables, HasDeletes, HasEnvelope, HasFiles, IsTableFile, contents_files, deletes_of}
+use Rattle.deposit_verify.specs.Deposit.{
+  AreTables,
+  HasDeletes,
+  HasEnvelope,
+  HasFiles,
+  IsTableFile,
+  contents_files,
+  deletes_of,
+}
 use Rattle.deposit_verify.specs.Keys.{IsKeyAfter, IsNumberOf, keys_in}
 use Rattle.deposit_verify.specs.Places.{all_tables, table_place}
 use Rattle.deposit_verify.specs.References.{AreReferencesKept}
@@ -82,8 +114,8 @@ abbrev pub HasTables : Env → List ℕ → ((TableName → List (List (List ℕ
 HasTables v rest P = HasFiles v rest (λ files. (tables : TableName → List (List (List ℕ))) × AreTables v.contents (contents_files v files) tables × P tables)
 
 -- the header's counts, in the order of the counted tables, are the numbers of their rows
-abbrev pub AreCounts : List Count → (TableName → List (List (List ℕ))) → Type 0
-AreCounts counts tables = map (λ c. c.count) counts ≡ map (λ name. length (tables name)) counted_tables
+abbrev pub AreRowCounts : List Count → (TableName → List (List (List ℕ))) → Type 0
+AreRowCounts counts tables = map (λ c. c.count) counts ≡ map (λ name. length (tables name)) counted_tables
 
 -- they are the numbers of the keys that there are after the deposit, where these are there before it
 abbrev pub AreKeyCounts : Env → List ℕ → Base → Type 0
@@ -96,33 +128,33 @@ AreChainCounts v rest known = IfSome known.base (λ base. HasDeletes v rest → 
 -- ---- the checks
 
 -- what a check says of the deposit that has this envelope, and these bytes behind it
-abbrev pub Says : Env → List ℕ → Known → Check → Type 0
-Says v rest known check.Frame = ⊤
-Says v rest known check.Envelope = ⊤
-Says v rest known check.Name = AgreesWithName v known.name
-Says v rest known check.Statement = v.id ≡ known.id
-Says v rest known check.Weekday = IsSunday v.watermark → v.kind ≡ Full
-Says v rest known check.PrevId = FollowsPassed v.kind v.prev_id known
-Says v rest known check.IdTaken = ¬ Contains known.passed v.id
-Says v rest known check.Menu = HasMenu v
-Says v rest known check.Files = HasFiles v rest (λ files. ⊤)
-Says v rest known check.Table = HasFiles v rest (λ files. AllZip IsTableFile v.contents (contents_files v files))
-Says v rest known check.Counts = (v.kind ≡ Full → HasTables v rest (AreCounts v.count)) × (v.kind ≢ Full → AreChainCounts v rest known)
-Says v rest known check.References = v.kind ≡ Full → HasTables v rest AreReferencesKept
-Says v rest known check.Deletes = HasDeletes v rest
+abbrev pub CheckSays : Env → List ℕ → Known → Check → Type 0
+CheckSays v rest known check.Frame = ⊤
+CheckSays v rest known check.Envelope = ⊤
+CheckSays v rest known check.Name = AgreesWithName v known.name
+CheckSays v rest known check.Statement = v.id ≡ known.id
+CheckSays v rest known check.Weekday = IsTrue (is_sunday v.watermark) → v.kind ≡ Full
+CheckSays v rest known check.PrevId = FollowsPassed v.kind v.prev_id known
+CheckSays v rest known check.IdTaken = ¬ Contains known.passed v.id
+CheckSays v rest known check.Menu = HasMenu v
+CheckSays v rest known check.Files = HasFiles v rest (λ files. ⊤)
+CheckSays v rest known check.Table = HasFiles v rest (λ files. AllZip IsTableFile v.contents (contents_files v files))
+CheckSays v rest known check.Counts = (v.kind ≡ Full → HasTables v rest (AreRowCounts v.count)) × (v.kind ≢ Full → AreChainCounts v rest known)
+CheckSays v rest known check.References = v.kind ≡ Full → HasTables v rest AreReferencesKept
+CheckSays v rest known check.Deletes = HasDeletes v rest
 
 -- the deposit passes a check
-abbrev pub Holds : List ℕ → Known → Check → Type 0
-Holds joined known check.Frame = (envelope : List ℕ) × (rest : List ℕ) × IsFrame joined envelope rest
-Holds joined known c = HasEnvelope joined (λ v rest. Says v rest known c)
+abbrev pub PassesCheck : List ℕ → Known → Check → Type 0
+PassesCheck joined known check.Frame = (envelope : List ℕ) × (rest : List ℕ) × IsFrame joined envelope rest
+PassesCheck joined known c = HasEnvelope joined (λ v rest. CheckSays v rest known c)
 
 -- each check below this one holds
-abbrev pub Below : (Check → Type 0) → ℕ → Type 0
-Below P n = (c : Check) → check_number c < n → P c
+abbrev pub PassesBelow : (Check → Type 0) → ℕ → Type 0
+PassesBelow P n = (c : Check) → check_number c < n → P c
 
 -- this check is the least that fails
 abbrev pub IsLeastFailing : (Check → Type 0) → Check → Type 0
-IsLeastFailing P c = (¬ P c) × Below P (check_number c)
+IsLeastFailing P c = (¬ P c) × PassesBelow P (check_number c)
 
 -- the verdict names the least check that fails, or is a pass where none does
 abbrev pub IsLeast : (Check → Type 0) → Verdict → Type 0
@@ -130,4 +162,4 @@ IsLeast P Pass = (c : Check) → P c
 IsLeast P (Fail c) = IsLeastFailing P c
 
 abbrev pub IsVerdict : List ℕ → Known → Verdict → Type 0
-IsVerdict joined known v = IsLeast (Holds joined known) v
+IsVerdict joined known v = IsLeast (PassesCheck joined known) v

@@ -18,8 +18,8 @@ abbrev pub deletes_of : Env → List FileEntry
 deletes_of v = unwrap_or v.deletes []
 
 -- all files, in the order in which they stand
-abbrev pub entries_of : Env → List FileEntry
-entries_of v = v.contents ++ deletes_of v
+abbrev pub all_entries : Env → List FileEntry
+all_entries v = v.contents ++ deletes_of v
 
 -- the file has the length and the digest of its entry
 pub record IsFileOf (entry : FileEntry) (file : List ℕ) : Type 0 where
@@ -33,7 +33,7 @@ pub record AreFiles (entries : List FileEntry) (bytes : List ℕ) (files : List 
 
 -- the bytes behind the envelope are its files, of which this holds
 abbrev pub HasFiles : Env → List ℕ → (List (List ℕ) → Type 0) → Type 0
-HasFiles v rest P = (files : List (List ℕ)) × AreFiles (entries_of v) rest files × P files
+HasFiles v rest P = (files : List (List ℕ)) × AreFiles (all_entries v) rest files × P files
 
 -- of all files, those of contents and those of deletes
 abbrev pub contents_files : Env → List (List ℕ) → List (List ℕ)
@@ -51,12 +51,12 @@ abbrev pub IsTableFile : FileEntry → List ℕ → Type 0
 IsTableFile entry file = (rows : List (List (List ℕ))) × IsTableOf entry.name file rows
 
 -- the file is one of deleted keys of a table: one column, with the rules of tables
-abbrev pub AreKeysOf : TableName → List ℕ → List (List (List ℕ)) → Type 0
-AreKeysOf name file keys = IsTable (take 1 (columns_of name)) 1 file keys
+abbrev pub IsKeyFileOf : TableName → List ℕ → List (List (List ℕ)) → Type 0
+IsKeyFileOf name file keys = IsTable (take 1 (columns_of name)) 1 file keys
 
 -- the file is one of deleted keys of the table that its entry names
 abbrev pub IsKeyFile : FileEntry → List ℕ → Type 0
-IsKeyFile entry file = (keys : List (List (List ℕ))) × AreKeysOf entry.name file keys
+IsKeyFile entry file = (keys : List (List (List ℕ))) × IsKeyFileOf entry.name file keys
 
 -- each file of deleted keys is one
 abbrev pub HasDeletes : Env → List ℕ → Type 0

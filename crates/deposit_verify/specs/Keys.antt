@@ -1,11 +1,27 @@
 -- The keys that a deposit names, and those that there are after it (RFC 8909, section 5.1: what is deleted, and what is contained).
 use Rattle.std.specs.Prelude.{◌≡◌, ◌≢◌, ◌↔◌, ◌⊎◌, ℕ, List, [], ◌∷◌, AllPairs, Contains, length}
 use Rattle.deposit_name.specs.declared.table.TableName.{TableName}
-use Rattle.deposit_name.specs.declared.table.TableName.TheVariants.{Domain, DomainContacts, DomainStatuses, DomainNameServers, Host, HostAddresses, Contact, Registrar}
+use Rattle.deposit_name.specs.declared.table.TableName.TheVariants.{
+  Domain,
+  DomainContacts,
+  DomainStatuses,
+  DomainNameServers,
+  Host,
+  HostAddresses,
+  Contact,
+  Registrar,
+}
 use Rattle.envelope.specs.Envelope.{Env}
 use Rattle.envelope.specs.declared.envelope.FileEntry.{FileEntry}
 use Rattle.deposit_verify.specs.declared.base.Base.{Base}
-use Rattle.deposit_verify.specs.Deposit.{AreKeysOf, HasFiles, IsTableOf, contents_files, deletes_files, deletes_of}
+use Rattle.deposit_verify.specs.Deposit.{
+  IsKeyFileOf,
+  HasFiles,
+  IsTableOf,
+  contents_files,
+  deletes_files,
+  deletes_of,
+}
 use Rattle.deposit_verify.specs.References.{column}
 
 -- the keys of a table that is counted
@@ -35,7 +51,7 @@ IsContained v rest name key = HasFiles v rest (λ files. AnyZip (HasKey IsTableO
 
 -- the deposit deletes the key
 abbrev pub IsDeleted : Env → List ℕ → TableName → List ℕ → Type 0
-IsDeleted v rest name key = HasFiles v rest (λ files. AnyZip (HasKey AreKeysOf name key) (deletes_of v) (deletes_files v files))
+IsDeleted v rest name key = HasFiles v rest (λ files. AnyZip (HasKey IsKeyFileOf name key) (deletes_of v) (deletes_files v files))
 
 -- the deposit names the key
 abbrev pub IsNamed : Env → List ℕ → TableName → List ℕ → Type 0

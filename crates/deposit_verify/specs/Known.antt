@@ -14,5 +14,5 @@ pub record Known : Type 0 where
   pub base : Option Base
 
 -- the same without where it lies in memory
-abbrev pub known : About → Known
-known about = record { name = about.name; id = about.id; latest = about.latest; full = about.full; passed = about.passed.items; base = about.base }
+abbrev pub known_in : About → Known
+known_in about = record { name = about.name; id = about.id; latest = about.latest; full = about.full; passed = about.passed.items; base = about.base }

@@ -6,8 +6,8 @@ pub mod References
 pub mod Keys
 pub mod Checks
 pub mod Chain
-pub mod Index
 pub mod Tables
 pub mod Verdict
 pub mod Bases
 pub mod Numbers
+pub mod inside

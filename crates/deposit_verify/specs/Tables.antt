@@ -1,9 +1,24 @@
 -- Tables as they were read, for private clauses.
-use Rattle.std.specs.Prelude.{◌≡◌, ◌≢◌, ◌<◌, ℕ, List, [], All, AllPairs, IsTrue, Option, Some, None, length, slice_index_or}
+use Rattle.std.specs.Prelude.{
+  ◌≡◌,
+  ◌≢◌,
+  ◌<◌,
+  ℕ,
+  List,
+  [],
+  All,
+  AllPairs,
+  IsTrue,
+  Option,
+  Some,
+  None,
+  length,
+  slice_index_or,
+}
 use Rattle.std.specs.List.{AllZip}
 use Rattle.deposit_name.specs.declared.table.TableName.{TableName}
 use Rattle.deposit_name.specs.Tables.{has_deletes}
-use Rattle.dnrd_csv.specs.Table.{HaveColumns, columns_of}
+use Rattle.dnrd_csv.specs.Table.{HaveWidth, columns_of}
 use Rattle.dnrd_csv.specs.Text.{key_rows}
 use Rattle.envelope.specs.declared.envelope.Count.{Count}
 use Rattle.envelope.specs.declared.envelope.FileEntry.{FileEntry}
@@ -11,10 +26,19 @@ use Rattle.deposit_name.specs.declared.kinds.Kind.TheVariants.{Full}
 use Rattle.desk.specs.declared.checks.Check.{Check}
 use Rattle.desk.specs.declared.checks.Check.TheVariants as check
 use Rattle.envelope.specs.Envelope.{Env}
-use Rattle.deposit_verify.specs.Checks.{AreCounts}
+use Rattle.deposit_verify.specs.Checks.{AreRowCounts}
 use Rattle.deposit_verify.specs.Places.{table_place}
 use Rattle.deposit_verify.specs.References.{AreReferencesKept, column}
-use Rattle.deposit_verify.specs.Deposit.{AreFiles, AreKeysOf, IsKeyFile, IsTableOf, contents_files, deletes_files, deletes_of, entries_of}
+use Rattle.deposit_verify.specs.Deposit.{
+  AreFiles,
+  IsKeyFileOf,
+  IsKeyFile,
+  IsTableOf,
+  contents_files,
+  deletes_files,
+  deletes_of,
+  all_entries,
+}
 use Rattle.deposit_verify.specs.Rows.{rows_under}
 
 -- the tables that the files were read as
@@ -30,23 +54,23 @@ HasNoTable entries files =
 -- the keys that the files were read as
 pub record AreKeysReadAs (entries : List FileEntry) (files : List (List ℕ)) (keys : List (List (List ℕ))) : Type 0 where
   pub count : length keys ≡ length entries
-  pub each : (i : ℕ) (e : FileEntry) → i < length entries → AreKeysOf (slice_index_or entries i e).name (slice_index_or files i []) (key_rows (slice_index_or keys i []))
+  pub each : (i : ℕ) (e : FileEntry) → i < length entries → IsKeyFileOf (slice_index_or entries i e).name (slice_index_or files i []) (key_rows (slice_index_or keys i []))
 
 -- what was read of the bytes behind an envelope: the tables of contents, and the deleted keys
 pub record AreReadFrom (v : Env) (rest : List ℕ) (tables : List (List (List (List ℕ)))) (deleted : List (List (List ℕ))) : Type 0 where
   pub files : List (List ℕ)
-  pub are : AreFiles (entries_of v) rest files
+  pub are : AreFiles (all_entries v) rest files
   pub tables_read : AreReadAs v.contents (contents_files v files) tables
   pub deleted_read : AreKeysReadAs (deletes_of v) (deletes_files v files) deleted
 
 -- what was not read of them
-abbrev pub Unread : Env → List ℕ → Check → Type 0
-Unread v rest check.Files = (files : List (List ℕ)) → ¬ AreFiles (entries_of v) rest files
-Unread v rest check.Table = (files : List (List ℕ)) × AreFiles (entries_of v) rest files × HasNoTable v.contents (contents_files v files)
-Unread v rest check.Deletes =
-    (files : List (List ℕ)) × AreFiles (entries_of v) rest files × (tables : List (List (List (List ℕ)))) × AreReadAs v.contents (contents_files v files) tables
+abbrev pub IsUnread : Env → List ℕ → Check → Type 0
+IsUnread v rest check.Files = (files : List (List ℕ)) → ¬ AreFiles (all_entries v) rest files
+IsUnread v rest check.Table = (files : List (List ℕ)) × AreFiles (all_entries v) rest files × HasNoTable v.contents (contents_files v files)
+IsUnread v rest check.Deletes =
+    (files : List (List ℕ)) × AreFiles (all_entries v) rest files × (tables : List (List (List (List ℕ)))) × AreReadAs v.contents (contents_files v files) tables
     × ¬ AllZip IsKeyFile (deletes_of v) (deletes_files v files)
-Unread v rest c = ⊥
+IsUnread v rest c = ⊥
 
 -- tables and deleted keys whose keys can be counted
 pub record AreCountable (v : Env) (tables : List (List (List (List ℕ)))) (deleted : List (List (List ℕ))) : Type 0 where
@@ -62,13 +86,13 @@ table_of tables name = slice_index_or tables (table_place name) []
 -- eight tables, in the order of a deposit, each with its columns
 pub record AreAllTables (tables : List (List (List (List ℕ)))) : Type 0 where
   pub eight : length tables ≡ 8
-  pub columns_right : (name : TableName) → HaveColumns (columns_of name) (table_of tables name)
+  pub columns_right : (name : TableName) → HaveWidth (length (columns_of name)) (table_of tables name)
 
 -- of the checks of counts and references, the first that fails of a full deposit with these counts and tables, if one does
 abbrev pub FullSays : List Count → List (List (List (List ℕ))) → Option Check → Type 0
-FullSays counts tables None = AreCounts counts (table_of tables) × AreReferencesKept (table_of tables)
-FullSays counts tables (Some check.Counts) = ¬ AreCounts counts (table_of tables)
-FullSays counts tables (Some check.References) = AreCounts counts (table_of tables) × (¬ AreReferencesKept (table_of tables))
+FullSays counts tables None = AreRowCounts counts (table_of tables) × AreReferencesKept (table_of tables)
+FullSays counts tables (Some check.Counts) = ¬ AreRowCounts counts (table_of tables)
+FullSays counts tables (Some check.References) = AreRowCounts counts (table_of tables) × (¬ AreReferencesKept (table_of tables))
 FullSays counts tables (Some c) = ⊥
 
 -- the same of any deposit

@@ -1,12 +1,38 @@
 //! The keys of a chain of deposits.
-ghost use Rattle.std.specs.Prelude.{◌≡◌, ◌↔◌, ◌++◌, ◌∷◌, [], true, ℕ, List, Some, None, IfOk, IfSome, IsTrue, MatchOption, OnOk, if◌then◌else◌, map, option_map};
+ghost use Rattle.std.specs.Prelude.{
+  ◌≡◌,
+  ◌↔◌,
+  ◌++◌,
+  ◌∷◌,
+  [],
+  true,
+  ℕ,
+  List,
+  Some,
+  None,
+  IfOk,
+  IfSome,
+  IsTrue,
+  MatchOption,
+  OnOk,
+  if◌then◌else◌,
+  map,
+  option_map,
+};
 ghost use Rattle.std.specs.Set.{distinct_count};
 ghost use Rattle.std.specs.Str.{bytes_eq};
 ghost use Rattle.deposit_name.specs.Tables.{has_deletes};
 ghost use Rattle.dnrd_csv.specs.Text.{key_rows};
-ghost use Rattle.envelope.specs.Envelope.{view};
-ghost use Rattle.deposit_verify.specs.Bases.{base_after, base_at, base_then, no_keys, reading_at, reading_of};
-ghost use Rattle.deposit_verify.specs.Chain.{IsBase, IsFirst, IsLater};
+ghost use Rattle.envelope.specs.Envelope.{env_of};
+ghost use Rattle.deposit_verify.specs.Bases.{
+  base_after,
+  base_at,
+  base_then,
+  no_keys,
+  reading_at,
+  reading_of,
+};
+ghost use Rattle.deposit_verify.specs.Chain.{IsBase, IsFirstOfChain, IsLaterOfChain};
 ghost use Rattle.deposit_verify.specs.Tables.{AreCountable};
 ghost use Rattle.deposit_verify.specs.Verdict.{are_key_counts, is_full, keys_after_files};
 
@@ -14,7 +40,7 @@ use crate::files_read::{FilesRead, deletes_of, read_files};
 use crate::key_set::KeySet;
 use crate::keys::sorted_texts;
 use crate::menu::has_menu;
-use crate::naming::{contained_keys, deleted_keys};
+use crate::named_keys::{contained_keys, deleted_keys};
 use crate::verdict::NoMemory;
 use deposit_name::{Kind, TableName};
 use dnrd_csv::law_table_reader;
@@ -33,7 +59,7 @@ pub struct Base {
 
 // A deposit that is read whole.
 #[derive(Drop)]
-struct Whole {
+struct WholeDeposit {
     envelope: Envelope,
     files: FilesRead,
 }
@@ -48,12 +74,12 @@ fn is_full(envelope: &Envelope) -> bool
 }
 
 // Reads a deposit, where it is read.
-fn read_whole(alloc: Global, joined: &[u8]) -> Result<Option<Whole>, NoMemory>
+fn read_whole(alloc: Global, joined: &[u8]) -> Result<Option<WholeDeposit>, NoMemory>
     ensures value { IfOk result (λ read. option_map
-        (λ whole. reading_of (view whole.envelope) whole.files.tables.items whole.files.deleted.items) read
+        (λ whole. reading_of (env_of whole.envelope) whole.files.tables.items whole.files.deleted.items) read
         ≡ reading_at joined.now) }
     ensures countable { IfOk result (λ read. IfSome read
-        (λ whole. AreCountable (view whole.envelope) whole.files.tables.items whole.files.deleted.items)) }
+        (λ whole. AreCountable (env_of whole.envelope) whole.files.tables.items whole.files.deleted.items)) }
 {
     law_one_reading();
     law_readers();
@@ -70,7 +96,7 @@ fn read_whole(alloc: Global, joined: &[u8]) -> Result<Option<Whole>, NoMemory>
         return Ok(None);
     }
     match read_files(alloc, &envelope, frame.rest)? {
-        Ok(files) => Ok(Some(Whole { envelope, files })),
+        Ok(files) => Ok(Some(WholeDeposit { envelope, files })),
         Err(_) => Ok(None),
     }
 }
@@ -83,10 +109,10 @@ fn count_after(
     files: &FilesRead,
     name: TableName,
 ) -> Result<usize, AllocError>
-    requires files { AreCountable (view envelope.now) files.now.tables.items files.now.deleted.items }
+    requires files { AreCountable (env_of envelope.now) files.now.tables.items files.now.deleted.items }
     requires name { has_deletes name ≡ true }
     ensures { IfOk result (λ count. count ≡ distinct_count bytes_eq
-        (keys_after_files (view envelope.now) keys.now files.now.tables.items
+        (keys_after_files (env_of envelope.now) keys.now files.now.tables.items
         (map key_rows files.now.deleted.items) name)) }
 {
     let contained = contained_keys(alloc, &envelope.contents, &files.tables, name)?;
@@ -103,10 +129,10 @@ fn change(
     files: &FilesRead,
     name: TableName,
 ) -> Result<(), AllocError>
-    requires files { AreCountable (view envelope.now) files.now.tables.items files.now.deleted.items }
+    requires files { AreCountable (env_of envelope.now) files.now.tables.items files.now.deleted.items }
     requires name { has_deletes name ≡ true }
     ensures { OnOk result (keys.new
-        ≡ keys_after_files (view envelope.now) keys.old files.now.tables.items
+        ≡ keys_after_files (env_of envelope.now) keys.old files.now.tables.items
         (map key_rows files.now.deleted.items) name) }
 {
     let contained = contained_keys(alloc, &envelope.contents, &files.tables, name)?;
@@ -122,7 +148,7 @@ impl Base {
     ///
     /// Want of memory, and nothing else.
     pub fn of_full(alloc: Global, joined: &[u8]) -> Result<Option<Base>, NoMemory>
-        ensures base { IfOk result (λ base. MatchOption base (¬ IsFirst joined.now) (IsBase (joined.now ∷ []))) }
+        ensures base { IfOk result (λ base. MatchOption base (¬ IsFirstOfChain joined.now) (IsBase (joined.now ∷ []))) }
         // It is the one that is a function of the same.
         ensures computed { IfOk result (λ base. base ≡ base_at (joined.now ∷ [])) }
     {
@@ -147,7 +173,7 @@ impl Base {
     ///
     /// Want of memory, and nothing else.
     pub fn then(&mut self, alloc: Global, joined: &[u8]) -> Result<bool, NoMemory>
-        ensures read { IfOk result (λ is. IsTrue is ↔ IsLater joined.now) }
+        ensures read { IfOk result (λ is. IsTrue is ↔ IsLaterOfChain joined.now) }
         ensures base { IfOk result (λ is. IsTrue is → (chain : List (List ℕ)) → IsBase chain self.old
             → IsBase (chain ++ joined.now ∷ []) self.new) }
         // They are those that are a function of the same.
@@ -184,9 +210,9 @@ impl Base {
         envelope: &Envelope,
         files: &FilesRead,
     ) -> Result<(), AllocError>
-        requires { AreCountable (view envelope.now) files.now.tables.items files.now.deleted.items }
+        requires { AreCountable (env_of envelope.now) files.now.tables.items files.now.deleted.items }
         ensures { OnOk result (self.new ≡ base_after self.old
-            (reading_of (view envelope.now) files.now.tables.items files.now.deleted.items)) }
+            (reading_of (env_of envelope.now) files.now.tables.items files.now.deleted.items)) }
     {
         change(
             alloc,
@@ -213,8 +239,8 @@ impl Base {
         envelope: &Envelope,
         files: &FilesRead,
     ) -> Result<bool, AllocError>
-        requires { AreCountable (view envelope.now) files.now.tables.items files.now.deleted.items }
-        ensures { IfOk result (λ has. has ≡ are_key_counts (view envelope.now) self.now
+        requires { AreCountable (env_of envelope.now) files.now.tables.items files.now.deleted.items }
+        ensures { IfOk result (λ has. has ≡ are_key_counts (env_of envelope.now) self.now
             files.now.tables.items (map key_rows files.now.deleted.items)) }
     {
         let [contact, domain, host, registrar] = envelope.header.count.as_slice() else {

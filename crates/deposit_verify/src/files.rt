@@ -1,8 +1,8 @@
 //! The files behind an envelope.
 ghost use Rattle.std.specs.Prelude.{◌≡◌, ℕ, List, IfOk, MatchOption};
-ghost use Rattle.envelope.specs.Envelope.{view};
-ghost use Rattle.deposit_verify.specs.Deposit.{AreFiles, entries_of};
-ghost use Rattle.deposit_verify.specs.Index.{texts_of};
+ghost use Rattle.dnrd_csv.specs.inside.RowKeys.{borrowed_texts};
+ghost use Rattle.envelope.specs.Envelope.{env_of};
+ghost use Rattle.deposit_verify.specs.Deposit.{AreFiles, all_entries};
 
 use envelope::{Envelope, FileEntry};
 use sha2::{Digest, Sha256};
@@ -10,7 +10,7 @@ use std::alloc::{AllocError, Global};
 
 /// The entries of all files, in the order in which the files stand.
 pub fn all_entries(alloc: Global, envelope: &Envelope) -> Result<Vec<FileEntry>, AllocError>
-    ensures { IfOk result (λ entries. entries.items ≡ entries_of (view envelope.now)) }
+    ensures { IfOk result (λ entries. entries.items ≡ all_entries (env_of envelope.now)) }
 {
     let mut entries = Vec::new(alloc);
     entries.extend_from_slice(&envelope.contents)?;
@@ -28,7 +28,7 @@ pub fn cut_files<'d>(
 ) -> Result<Option<Vec<&'d [u8]>>, AllocError>
     ensures { IfOk result (λ cut. MatchOption cut
         ((files : List (List ℕ)) → ¬ AreFiles entries.now bytes.now files)
-        (λ files. AreFiles entries.now bytes.now (texts_of files.items))) }
+        (λ files. AreFiles entries.now bytes.now (borrowed_texts files.items))) }
 {
     let mut files = Vec::with_capacity(alloc, entries.len())?;
     let mut rest = bytes;

@@ -1,9 +1,9 @@
 //! What is read behind an envelope.
 ghost use Rattle.std.specs.Prelude.{◌≡◌, IfOk, MatchResult};
-ghost use Rattle.envelope.specs.Envelope.{IsEnvelope, view};
+ghost use Rattle.envelope.specs.Envelope.{IsEnvelope, env_of};
 ghost use Rattle.deposit_verify.specs.Checks.{HasMenu};
 ghost use Rattle.deposit_verify.specs.Deposit.{deletes_of};
-ghost use Rattle.deposit_verify.specs.Tables.{AreReadFrom, Unread};
+ghost use Rattle.deposit_verify.specs.Tables.{AreReadFrom, IsUnread};
 
 use crate::files::{all_entries, cut_files};
 use crate::tables::{read_key_files, read_tables};
@@ -24,7 +24,7 @@ pub struct FilesRead {
 
 /// The entries of the files of deleted keys.
 pub fn deletes_of(envelope: &Envelope) -> &[FileEntry]
-    ensures { result.now ≡ deletes_of (view envelope.now) }
+    ensures { result.now ≡ deletes_of (env_of envelope.now) }
 {
     match &envelope.deletes {
         Some(deletes) => deletes.as_slice(),
@@ -38,11 +38,11 @@ pub fn read_files(
     envelope: &Envelope,
     rest: &[u8],
 ) -> Result<Result<FilesRead, Check>, NoMemory>
-    requires form { IsEnvelope (view envelope.now) }
-    requires menu { HasMenu (view envelope.now) }
+    requires form { IsEnvelope (env_of envelope.now) }
+    requires menu { HasMenu (env_of envelope.now) }
     ensures { IfOk result (λ read. MatchResult read
-        (λ files. AreReadFrom (view envelope.now) rest.now files.tables.items files.deleted.items)
-        (Unread (view envelope.now) rest.now)) }
+        (λ files. AreReadFrom (env_of envelope.now) rest.now files.tables.items files.deleted.items)
+        (IsUnread (env_of envelope.now) rest.now)) }
 {
     let entries = all_entries(alloc, envelope)?;
     let Some(files) = cut_files(alloc, &entries, rest)? else {

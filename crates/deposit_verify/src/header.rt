@@ -1,10 +1,17 @@
 //! What an envelope says, against what is known of its deposit.
 ghost use Rattle.std.specs.Prelude.{◌≡◌, ◌↔◌, IsTrue, Contains, MatchOption, ℕ, List, Some};
-ghost use Rattle.envelope.specs.Envelope.{view};
-ghost use Rattle.schedule.specs.Schedule.{IsSunday};
+ghost use Rattle.envelope.specs.Envelope.{env_of};
+ghost use Rattle.schedule.specs.Schedule.{is_sunday};
 ghost use Rattle.deposit_name.specs.declared.kinds.Kind.TheVariants.{Full};
-ghost use Rattle.deposit_verify.specs.Checks.{AgreesWithName, Below, FollowsFull, FollowsPassed, IsLeastFailing, Says};
-ghost use Rattle.deposit_verify.specs.Known.{known};
+ghost use Rattle.deposit_verify.specs.Checks.{
+  AgreesWithName,
+  PassesBelow,
+  FollowsFull,
+  FollowsPassed,
+  IsLeastFailing,
+  CheckSays,
+};
+ghost use Rattle.deposit_verify.specs.Known.{known_in};
 
 use crate::about::About;
 use crate::menu::has_menu;
@@ -14,7 +21,7 @@ use envelope::Envelope;
 use schedule::is_sunday;
 
 fn agrees_with_name(envelope: &Envelope, name: &DepositName) -> bool
-    ensures { IsTrue result ↔ AgreesWithName (view envelope.now) name.now }
+    ensures { IsTrue result ↔ AgreesWithName (env_of envelope.now) name.now }
 {
     envelope.kind == name.kind
         && envelope.header.tld == name.tld
@@ -24,7 +31,7 @@ fn agrees_with_name(envelope: &Envelope, name: &DepositName) -> bool
 
 // Whether a deposit of a Sunday is a full one (Specification 2, Part A section 2).
 fn is_full_on_sunday(envelope: &Envelope) -> bool
-    ensures { IsTrue result ↔ (IsSunday envelope.now.watermark → envelope.now.kind ≡ Full) }
+    ensures { IsTrue result ↔ (IsTrue (is_sunday envelope.now.watermark) → envelope.now.kind ≡ Full) }
 {
     !is_sunday(envelope.watermark) || envelope.kind == Kind::Full
 }
@@ -50,7 +57,7 @@ fn follows_full(prev_id: Option<DepositId>, full: Option<DepositId>) -> bool
 }
 
 fn follows_passed(envelope: &Envelope, about: &About) -> bool
-    ensures { IsTrue result ↔ FollowsPassed envelope.now.kind envelope.now.prev_id (known about.now) }
+    ensures { IsTrue result ↔ FollowsPassed envelope.now.kind envelope.now.prev_id (known_in about.now) }
 {
     match envelope.kind {
         Kind::Full => envelope.prev_id.is_none(),
@@ -67,8 +74,8 @@ fn has_passed(id: DepositId, passed: &[DepositId]) -> bool
 
 /// Of the checks from that of the name to that of the menu, the first that the envelope fails.
 pub fn header_fault(envelope: &Envelope, about: &About) -> Option<Check>
-    ensures { (rest : List ℕ) → MatchOption result (Below (Says (view envelope.now) rest (known about.now)) 9)
-        (IsLeastFailing (Says (view envelope.now) rest (known about.now))) }
+    ensures { (rest : List ℕ) → MatchOption result (PassesBelow (CheckSays (env_of envelope.now) rest (known_in about.now)) 9)
+        (IsLeastFailing (CheckSays (env_of envelope.now) rest (known_in about.now))) }
 {
     if !agrees_with_name(envelope, &about.name) {
         return Some(Check::Name);

@@ -1,9 +1,23 @@
 //! Sets of keys.
-ghost use Rattle.std.specs.Prelude.{◌≡◌, ◌≤◌, ℕ, List, ◌++◌, IfOk, OnOk, filter, length, map, not, take};
+ghost use Rattle.std.specs.Prelude.{
+  ◌≡◌,
+  ◌≤◌,
+  ℕ,
+  List,
+  ◌++◌,
+  IfOk,
+  OnOk,
+  filter,
+  length,
+  map,
+  not,
+  take,
+};
 ghost use Rattle.std.specs.List.Sorted.{IsSorted};
 ghost use Rattle.std.specs.Set.{is_member};
 ghost use Rattle.std.specs.Str.{bytes_eq};
-ghost use Rattle.deposit_verify.specs.Index.{items_of, text_cmp, texts_of};
+ghost use Rattle.dnrd_csv.specs.inside.RowKeys.{borrowed_texts};
+ghost use Rattle.deposit_verify.specs.inside.SortedKeys.{owned_texts, borrowed_text_cmp};
 
 use crate::keys::has_key;
 use std::alloc::{AllocError, Global};
@@ -17,27 +31,27 @@ pub(crate) struct KeySet {
 
 impl Model for KeySet {
     ghost use Rattle.std.specs.Prelude.{◌≢◌, ℕ, List, AllPairs};
-    ghost use Rattle.deposit_verify.specs.Index.{items_of};
+    ghost use Rattle.deposit_verify.specs.inside.SortedKeys.{owned_texts};
 
     ghost Value = { List (List ℕ) };
 
-    ghost view = { λ s. items_of s.keys.items };
+    ghost view = { λ s. owned_texts s.keys.items };
 
-    ghost invariant = { λ s. AllPairs (λ one other. one ≢ other) (items_of s.keys.items) };
+    ghost invariant = { λ s. AllPairs (λ one other. one ≢ other) (owned_texts s.keys.items) };
 }
 
 fn is_unnamed(key: &[u8], named: &[&[u8]]) -> bool
-    requires { IsSorted text_cmp named.now }
-    ensures { result ≡ not (is_member bytes_eq (texts_of named.now) key.now) }
+    requires { IsSorted borrowed_text_cmp named.now }
+    ensures { result ≡ not (is_member bytes_eq (borrowed_texts named.now) key.now) }
 {
     !has_key(named, key)
 }
 
 // How many keys are not named.
 fn count_unnamed(keys: &[Vec<u8>], named: &[&[u8]]) -> usize
-    requires { IsSorted text_cmp named.now }
+    requires { IsSorted borrowed_text_cmp named.now }
     ensures count { result
-        ≡ length (filter (λ key. not (is_member bytes_eq (texts_of named.now) key)) (items_of keys.now)) }
+        ≡ length (filter (λ key. not (is_member bytes_eq (borrowed_texts named.now) key)) (owned_texts keys.now)) }
     ensures most { result ≤ length keys.now }
 {
     let mut count: usize = 0;
@@ -51,14 +65,14 @@ fn count_unnamed(keys: &[Vec<u8>], named: &[&[u8]]) -> usize
 
 // Takes the named keys out.
 fn drop_named(keys: &mut Vec<Vec<u8>>, named: &[&[u8]])
-    requires { IsSorted text_cmp named.now }
-    ensures { items_of keys.new.items
-        ≡ filter (λ key. not (is_member bytes_eq (texts_of named.now) key)) (items_of keys.old.items) }
+    requires { IsSorted borrowed_text_cmp named.now }
+    ensures { owned_texts keys.new.items
+        ≡ filter (λ key. not (is_member bytes_eq (borrowed_texts named.now) key)) (owned_texts keys.old.items) }
 {
     keys.retain(|key| is_unnamed(key.as_slice(), named));
 }
 
-fn owned(alloc: Global, text: &[u8]) -> Result<Vec<u8>, AllocError>
+fn owned_copy(alloc: Global, text: &[u8]) -> Result<Vec<u8>, AllocError>
     ensures { IfOk result (λ copy. copy.items ≡ text.now) }
 {
     let mut copy = Vec::with_capacity(alloc, text.len())?;
@@ -68,11 +82,11 @@ fn owned(alloc: Global, text: &[u8]) -> Result<Vec<u8>, AllocError>
 
 // Adds keys behind the others, or where memory is refused the first of them.
 fn add_keys(keys: &mut Vec<Vec<u8>>, alloc: Global, added: &[&[u8]]) -> Result<(), AllocError>
-    ensures all { OnOk result (items_of keys.new.items ≡ items_of keys.old.items ++ texts_of added.now) }
-    ensures some { (n : ℕ) × (items_of keys.new.items ≡ items_of keys.old.items ++ take n (texts_of added.now)) }
+    ensures all { OnOk result (owned_texts keys.new.items ≡ owned_texts keys.old.items ++ borrowed_texts added.now) }
+    ensures some { (n : ℕ) × (owned_texts keys.new.items ≡ owned_texts keys.old.items ++ take n (borrowed_texts added.now)) }
 {
     for i in 0..added.len() {
-        keys.push(owned(alloc, added[i])?)?;
+        keys.push(owned_copy(alloc, added[i])?)?;
     }
     Ok(())
 }
@@ -93,12 +107,12 @@ impl KeySet {
 
     /// How many keys there are after a deposit that contains some, and names others.
     pub fn count_after(&self, contained: &[&[u8]], named: &[&[u8]]) -> usize
-        requires once { AllPairs (λ one other. one ≢ other) (texts_of contained.now) }
-        requires among { (text : List ℕ) → Contains (texts_of contained.now) text
-            → Contains (texts_of named.now) text }
-        requires sorted { IsSorted text_cmp named.now }
+        requires once { AllPairs (λ one other. one ≢ other) (borrowed_texts contained.now) }
+        requires among { (text : List ℕ) → Contains (borrowed_texts contained.now) text
+            → Contains (borrowed_texts named.now) text }
+        requires sorted { IsSorted borrowed_text_cmp named.now }
         ensures { result
-            ≡ distinct_count bytes_eq (keys_after self.now (texts_of contained.now) (texts_of named.now)) }
+            ≡ distinct_count bytes_eq (keys_after self.now (borrowed_texts contained.now) (borrowed_texts named.now)) }
     {
         count_unnamed(&self.keys, named) + contained.len()
     }
@@ -110,12 +124,12 @@ impl KeySet {
         contained: &[&[u8]],
         named: &[&[u8]],
     ) -> Result<(), AllocError>
-        requires once { AllPairs (λ one other. one ≢ other) (texts_of contained.now) }
-        requires among { (text : List ℕ) → Contains (texts_of contained.now) text
-            → Contains (texts_of named.now) text }
-        requires sorted { IsSorted text_cmp named.now }
+        requires once { AllPairs (λ one other. one ≢ other) (borrowed_texts contained.now) }
+        requires among { (text : List ℕ) → Contains (borrowed_texts contained.now) text
+            → Contains (borrowed_texts named.now) text }
+        requires sorted { IsSorted borrowed_text_cmp named.now }
         ensures { OnOk result (self.new
-            ≡ keys_after self.old (texts_of contained.now) (texts_of named.now)) }
+            ≡ keys_after self.old (borrowed_texts contained.now) (borrowed_texts named.now)) }
     {
         drop_named(&mut self.keys, named);
         add_keys(&mut self.keys, alloc, contained)

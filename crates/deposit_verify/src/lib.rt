@@ -10,7 +10,7 @@ mod key_set;
 mod keys;
 mod laws;
 mod menu;
-mod naming;
+mod named_keys;
 mod places;
 mod references;
 mod tables;

@@ -1,8 +1,14 @@
 //! The menu of a deposit: its objects, and the files that belong to them.
 ghost use Rattle.std.specs.Prelude.{◌≡◌, ◌<◌, ◌↔◌, [], IsTrue, get_or, map, length};
-ghost use Rattle.envelope.specs.Envelope.{view};
+ghost use Rattle.envelope.specs.Envelope.{env_of};
 ghost use Rattle.deposit_verify.specs.Deposit.{deletes_of};
-ghost use Rattle.deposit_verify.specs.Checks.{HasContents, HasMenu, StandInOrder, counted_uris, object_uris};
+ghost use Rattle.deposit_verify.specs.Checks.{
+  HasContents,
+  HasMenu,
+  StandInOrder,
+  counted_uris,
+  object_uris,
+};
 ghost use Rattle.deposit_verify.specs.Places.{all_tables};
 
 use crate::places::table_place;
@@ -89,7 +95,7 @@ fn has_contents(kind: Kind, files: &[FileEntry]) -> bool
 }
 
 fn has_deletes_in_order(envelope: &Envelope) -> bool
-    ensures { IsTrue result ↔ StandInOrder (map (λ f. f.name) (deletes_of (view envelope.now))) }
+    ensures { IsTrue result ↔ StandInOrder (map (λ f. f.name) (deletes_of (env_of envelope.now))) }
 {
     match &envelope.deletes {
         Some(deletes) => stand_in_order(deletes),
@@ -99,7 +105,7 @@ fn has_deletes_in_order(envelope: &Envelope) -> bool
 
 /// Whether the menu, the counted objects and the names of the files are those of the deposit's kind.
 pub fn has_menu(envelope: &Envelope) -> bool
-    ensures { IsTrue result ↔ HasMenu (view envelope.now) }
+    ensures { IsTrue result ↔ HasMenu (env_of envelope.now) }
 {
     are_object_uris(&envelope.menu.object_uris)
         && are_counted_uris(&envelope.header.count)

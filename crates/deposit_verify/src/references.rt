@@ -1,8 +1,17 @@
 //! Whether whatever an object names is there.
 ghost use Rattle.std.specs.Prelude.{◌<◌, ◌↔◌, IfOk, IsTrue, length};
 ghost use Rattle.dnrd_csv.specs.Table.{columns_of};
-ghost use Rattle.deposit_verify.specs.Index.{AreSortedKeys};
-ghost use Rattle.deposit_verify.specs.References.{AreKeysOf, AreKeysOrEmpty, AreReferencesKept, ContactsAreThere, DomainsAreThere, HostsAreThere, RegistrarsAreThere, column as texts_in};
+ghost use Rattle.deposit_verify.specs.inside.SortedKeys.{AreSortedKeys};
+ghost use Rattle.deposit_verify.specs.References.{
+  AreKeysOf,
+  AreKeysOrEmpty,
+  AreReferencesKept,
+  ContactsAreThere,
+  DomainsAreThere,
+  HostsAreThere,
+  RegistrarsAreThere,
+  column as texts_in,
+};
 ghost use Rattle.deposit_verify.specs.Tables.{AreAllTables, table_of};
 
 use crate::keys::{has_key, sorted_keys};
@@ -24,7 +33,13 @@ fn keys_of<'t>(
 }
 
 // Whether each text of a column is a key of a table, whose keys are given in ascending order.
-fn are_keys(tables: &[Rows], of: TableName, keys: &[&[u8]], name: TableName, column: usize) -> bool
+fn are_keys_of(
+    tables: &[Rows],
+    of: TableName,
+    keys: &[&[u8]],
+    name: TableName,
+    column: usize,
+) -> bool
     requires tables { AreAllTables tables.now }
     requires keys { AreSortedKeys keys.now (table_of tables.now of) }
     requires column { column < length (columns_of name) }
@@ -69,9 +84,9 @@ fn registrars_are_there(alloc: Global, tables: &[Rows]) -> Result<bool, AllocErr
     let of = TableName::Registrar;
     let keys = keys_of(alloc, tables, of)?;
     Ok(
-        are_keys(tables, of, &keys, TableName::Domain, 3)
-            && are_keys(tables, of, &keys, TableName::Host, 2)
-            && are_keys(tables, of, &keys, TableName::Contact, 2),
+        are_keys_of(tables, of, &keys, TableName::Domain, 3)
+            && are_keys_of(tables, of, &keys, TableName::Host, 2)
+            && are_keys_of(tables, of, &keys, TableName::Contact, 2),
     )
 }
 
@@ -83,7 +98,7 @@ fn contacts_are_there(alloc: Global, tables: &[Rows]) -> Result<bool, AllocError
     let keys = keys_of(alloc, tables, of)?;
     Ok(
         are_keys_or_empty(tables, of, &keys, TableName::Domain, 2)
-            && are_keys(tables, of, &keys, TableName::DomainContacts, 2),
+            && are_keys_of(tables, of, &keys, TableName::DomainContacts, 2),
     )
 }
 
@@ -94,9 +109,9 @@ fn domains_are_there(alloc: Global, tables: &[Rows]) -> Result<bool, AllocError>
     let of = TableName::Domain;
     let keys = keys_of(alloc, tables, of)?;
     Ok(
-        are_keys(tables, of, &keys, TableName::DomainContacts, 0)
-            && are_keys(tables, of, &keys, TableName::DomainStatuses, 0)
-            && are_keys(tables, of, &keys, TableName::DomainNameServers, 0),
+        are_keys_of(tables, of, &keys, TableName::DomainContacts, 0)
+            && are_keys_of(tables, of, &keys, TableName::DomainStatuses, 0)
+            && are_keys_of(tables, of, &keys, TableName::DomainNameServers, 0),
     )
 }
 
@@ -107,8 +122,8 @@ fn hosts_are_there(alloc: Global, tables: &[Rows]) -> Result<bool, AllocError>
     let of = TableName::Host;
     let keys = keys_of(alloc, tables, of)?;
     Ok(
-        are_keys(tables, of, &keys, TableName::DomainNameServers, 1)
-            && are_keys(tables, of, &keys, TableName::HostAddresses, 0),
+        are_keys_of(tables, of, &keys, TableName::DomainNameServers, 1)
+            && are_keys_of(tables, of, &keys, TableName::HostAddresses, 0),
     )
 }
 

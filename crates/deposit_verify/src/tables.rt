@@ -1,10 +1,10 @@
 //! Reading the files of a deposit as tables.
 ghost use Rattle.std.specs.Prelude.{◌≡◌, true, ℕ, List, All, IfOk, IsTrue, MatchOption, length};
 ghost use Rattle.std.specs.List.{AllZip};
+ghost use Rattle.dnrd_csv.specs.inside.RowKeys.{borrowed_texts};
 ghost use Rattle.deposit_name.specs.Tables.{has_deletes};
 ghost use Rattle.dnrd_csv.specs.Text.{key_rows};
-ghost use Rattle.deposit_verify.specs.Deposit.{AreKeysOf, IsKeyFile, IsTableOf};
-ghost use Rattle.deposit_verify.specs.Index.{texts_of};
+ghost use Rattle.deposit_verify.specs.Deposit.{IsKeyFileOf, IsKeyFile, IsTableOf};
 ghost use Rattle.deposit_verify.specs.Tables.{AreKeysReadAs, AreReadAs, HasNoTable};
 
 use crate::verdict::NoMemory;
@@ -32,8 +32,8 @@ pub fn read_tables(
     files: &[&[u8]],
 ) -> Result<Option<Vec<Rows>>, NoMemory>
     requires { length files.now ≡ length entries.now }
-    ensures { IfOk result (λ read. MatchOption read (HasNoTable entries.now (texts_of files.now))
-        (λ tables. AreReadAs entries.now (texts_of files.now) tables.items)) }
+    ensures { IfOk result (λ read. MatchOption read (HasNoTable entries.now (borrowed_texts files.now))
+        (λ tables. AreReadAs entries.now (borrowed_texts files.now) tables.items)) }
 {
     let mut tables = Vec::with_capacity(alloc, entries.len())?;
     for i in 0..entries.len() {
@@ -49,7 +49,7 @@ pub fn read_tables(
 fn keys_of(alloc: Global, name: TableName, file: &[u8]) -> Result<Option<Keys>, NoMemory>
     requires { has_deletes name ≡ true }
     ensures { IfOk result (λ read. MatchOption read
-        ((rows : List (List (List ℕ))) → ¬ AreKeysOf name file.now rows) (λ keys. AreKeysOf name file.now (key_rows keys))) }
+        ((rows : List (List (List ℕ))) → ¬ IsKeyFileOf name file.now rows) (λ keys. IsKeyFileOf name file.now (key_rows keys))) }
 {
     match read_keys(alloc, name, file) {
         Ok(keys) => Ok(Some(keys)),
@@ -66,8 +66,8 @@ pub fn read_key_files(
 ) -> Result<Option<Vec<Keys>>, NoMemory>
     requires count { length files.now ≡ length entries.now }
     requires named { All (λ entry. IsTrue (has_deletes entry.name)) entries.now }
-    ensures { IfOk result (λ read. MatchOption read (¬ AllZip IsKeyFile entries.now (texts_of files.now))
-        (λ keys. AreKeysReadAs entries.now (texts_of files.now) keys.items)) }
+    ensures { IfOk result (λ read. MatchOption read (¬ AllZip IsKeyFile entries.now (borrowed_texts files.now))
+        (λ keys. AreKeysReadAs entries.now (borrowed_texts files.now) keys.items)) }
 {
     let mut all = Vec::with_capacity(alloc, entries.len())?;
     for i in 0..entries.len() {

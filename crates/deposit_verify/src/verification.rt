@@ -1,10 +1,35 @@
 //! The verdict on a deposit.
-ghost use Rattle.std.specs.Prelude.{◌≡◌, ◌||◌, ℕ, List, Some, IfOk, IsTrue, MatchOption, map, length, ◌↔◌};
-ghost use Rattle.envelope.specs.Envelope.{IsEnvelope, view};
+ghost use Rattle.std.specs.Prelude.{
+  ◌≡◌,
+  ◌||◌,
+  ℕ,
+  List,
+  Some,
+  IfOk,
+  IsTrue,
+  MatchOption,
+  map,
+  length,
+  ◌↔◌,
+};
+ghost use Rattle.envelope.specs.Envelope.{IsEnvelope, env_of};
 ghost use Rattle.deposit_name.specs.declared.kinds.Kind.TheVariants.{Full};
-ghost use Rattle.deposit_verify.specs.Checks.{AreCounts, Below, HasMenu, IsLeast, IsVerdict, Says};
-ghost use Rattle.deposit_verify.specs.Known.{Known, known};
-ghost use Rattle.deposit_verify.specs.Tables.{AreAllTables, AreCountable, FullSays, TablesSay, table_of};
+ghost use Rattle.deposit_verify.specs.Checks.{
+  AreRowCounts,
+  PassesBelow,
+  HasMenu,
+  IsLeast,
+  IsVerdict,
+  CheckSays,
+};
+ghost use Rattle.deposit_verify.specs.Known.{Known, known_in};
+ghost use Rattle.deposit_verify.specs.Tables.{
+  AreAllTables,
+  AreCountable,
+  FullSays,
+  TablesSay,
+  table_of,
+};
 ghost use Rattle.deposit_verify.specs.Verdict.{chain_counts, is_full, verdict};
 ghost use Rattle.dnrd_csv.specs.Text.{key_rows};
 
@@ -22,9 +47,9 @@ use envelope::{Count, EnvError, Envelope, law_one_reading, read_envelope, split_
 use std::alloc::{AllocError, Global};
 
 // Whether counts are the numbers of rows of their tables.
-fn are_counts(counts: &[Count], tables: &[Rows]) -> bool
+fn are_row_counts(counts: &[Count], tables: &[Rows]) -> bool
     requires { length tables.now ≡ 8 }
-    ensures { IsTrue result ↔ AreCounts counts.now (table_of tables.now) }
+    ensures { IsTrue result ↔ AreRowCounts counts.now (table_of tables.now) }
 {
     match counts {
         [contact, domain, host, registrar] => {
@@ -44,7 +69,7 @@ fn tables_fault(
     tables: &[Rows],
 ) -> Result<Option<Check>, NoMemory>
     requires { envelope.now.kind ≡ Full → AreAllTables tables.now }
-    ensures { IfOk result (TablesSay (view envelope.now) tables.now) }
+    ensures { IfOk result (TablesSay (env_of envelope.now) tables.now) }
 {
     match envelope.kind {
         Kind::Diff | Kind::Incr => Ok(None),
@@ -56,7 +81,7 @@ fn full_fault(alloc: Global, counts: &[Count], tables: &[Rows]) -> Result<Option
     requires { AreAllTables tables.now }
     ensures { IfOk result (FullSays counts.now tables.now) }
 {
-    if !are_counts(counts, tables) {
+    if !are_row_counts(counts, tables) {
         return Ok(Some(Check::Counts));
     }
     if !are_references_kept(alloc, tables)? {
@@ -72,9 +97,9 @@ fn has_chain_counts(
     files: &FilesRead,
     base: &Option<Base>,
 ) -> Result<bool, AllocError>
-    requires { AreCountable (view envelope.now) files.now.tables.items files.now.deleted.items }
+    requires { AreCountable (env_of envelope.now) files.now.tables.items files.now.deleted.items }
     ensures { IfOk result (λ has. has ≡ (is_full envelope.now.kind
-        || chain_counts (view envelope.now) base.now files.now.tables.items (Some (map key_rows files.now.deleted.items)))) }
+        || chain_counts (env_of envelope.now) base.now files.now.tables.items (Some (map key_rows files.now.deleted.items)))) }
 {
     match (envelope.kind, base) {
         (Kind::Full, _) | (_, None) => Ok(true),
@@ -89,10 +114,10 @@ fn judge_files(
     rest: &[u8],
     base: &Option<Base>,
 ) -> Result<Verdict, NoMemory>
-    requires form { IsEnvelope (view envelope.now) }
-    requires menu { HasMenu (view envelope.now) }
-    ensures { IfOk result (λ verdict. (k : Known) → k.base ≡ base.now → Below (Says (view envelope.now) rest.now k) 9
-        → IsLeast (Says (view envelope.now) rest.now k) verdict) }
+    requires form { IsEnvelope (env_of envelope.now) }
+    requires menu { HasMenu (env_of envelope.now) }
+    ensures { IfOk result (λ verdict. (k : Known) → k.base ≡ base.now → PassesBelow (CheckSays (env_of envelope.now) rest.now k) 9
+        → IsLeast (CheckSays (env_of envelope.now) rest.now k) verdict) }
 {
     law_one_text();
     law_table_reader();
@@ -116,9 +141,9 @@ fn judge_files(
 /// Want of memory, and nothing else.
 pub fn verify(alloc: Global, joined: &[u8], about: &About) -> Result<Verdict, NoMemory>
     // The verdict names the least of the thirteen checks that fails, or is a pass where none does.
-    ensures least { IfOk result (IsVerdict joined.now (known about.now)) }
+    ensures least { IfOk result (IsVerdict joined.now (known_in about.now)) }
     // It is the one that is a function of the same.
-    ensures computed { IfOk result (λ v. v ≡ verdict joined.now (known about.now)) }
+    ensures computed { IfOk result (λ v. v ≡ verdict joined.now (known_in about.now)) }
 {
     law_one_reading();
     law_verdict();

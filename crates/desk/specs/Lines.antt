@@ -1,5 +1,18 @@
 -- The report of a registry: one line a notice.
-use Rattle.std.specs.Prelude.{◌-◌, ◌≤◌, ℕ, List, ◌++◌, codes, decimal, flat_map, length, replicate, take, Option}
+use Rattle.std.specs.Prelude.{
+  ◌-◌,
+  ◌≤◌,
+  ℕ,
+  List,
+  ◌++◌,
+  codes,
+  decimal,
+  flat_map,
+  length,
+  replicate,
+  take,
+  Option,
+}
 use Rattle.std.specs.Io.KnownBytes.{Appends}
 use Rattle.schedule.specs.Text.{day_text, moment_text, two_digits}
 use Rattle.desk.specs.Checks.{check_text}
@@ -8,18 +21,18 @@ use Rattle.desk.specs.declared.notices.NoticeKind.{NoticeKind}
 use Rattle.desk.specs.declared.notices.NoticeKind.TheVariants.{Receipt, Failure, Absence}
 
 -- a text in so many places, with spaces before it
-abbrev pub right_in : ℕ → List ℕ → List ℕ
-right_in width text = replicate (width - length text) 32 ++ text
+abbrev pub right_aligned_text : ℕ → List ℕ → List ℕ
+right_aligned_text width text = replicate (width - length text) 32 ++ text
 
 -- and with spaces behind it
-abbrev pub left_in : ℕ → List ℕ → List ℕ
-left_in width text = text ++ replicate (width - length text) 32
+abbrev pub left_aligned_text : ℕ → List ℕ → List ℕ
+left_aligned_text width text = text ++ replicate (width - length text) 32
 
 -- what a notice tells
-abbrev pub kind_text : NoticeKind → List ℕ
-kind_text (Receipt rev id) = codes "RECEIPT"
-kind_text (Failure rev id check) = codes "FAILURE-" ++ check_text check
-kind_text Absence = codes "ABSENCE"
+abbrev pub notice_kind_text : NoticeKind → List ℕ
+notice_kind_text (Receipt rev id) = codes "RECEIPT"
+notice_kind_text (Failure rev id check) = codes "FAILURE-" ++ check_text check
+notice_kind_text Absence = codes "ABSENCE"
 
 -- the resend number of its deposit
 abbrev pub revision_text : NoticeKind → List ℕ
@@ -36,15 +49,15 @@ id_text Absence = codes "-"
 -- the line of a notice: its number, what it tells, the day, the resend number and the id of the deposit, when it was made, and the registry
 abbrev pub line : Notice → List ℕ
 line n =
-    right_in 8 (decimal n.number) ++ codes " " ++ left_in 10 (kind_text n.kind) ++ codes " " ++ day_text n.day ++ codes " "
-    ++ revision_text n.kind ++ codes " " ++ left_in 13 (id_text n.kind) ++ codes " " ++ moment_text n.at ++ codes " " ++ n.tld ++ codes "\n"
+    right_aligned_text 8 (decimal n.number) ++ codes " " ++ left_aligned_text 10 (notice_kind_text n.kind) ++ codes " " ++ day_text n.day ++ codes " "
+    ++ revision_text n.kind ++ codes " " ++ left_aligned_text 13 (id_text n.kind) ++ codes " " ++ moment_text n.at ++ codes " " ++ n.tld ++ codes "\n"
 
 -- the parts of a line, for private clauses
-abbrev pub head_text : Notice → List ℕ
-head_text n = right_in 8 (decimal n.number) ++ codes " " ++ left_in 10 (kind_text n.kind) ++ codes " " ++ day_text n.day
+abbrev pub line_head_text : Notice → List ℕ
+line_head_text n = right_aligned_text 8 (decimal n.number) ++ codes " " ++ left_aligned_text 10 (notice_kind_text n.kind) ++ codes " " ++ day_text n.day
 
-abbrev pub deposit_text : NoticeKind → List ℕ
-deposit_text kind = codes " " ++ revision_text kind ++ codes " " ++ left_in 13 (id_text kind)
+abbrev pub line_deposit_text : NoticeKind → List ℕ
+line_deposit_text kind = codes " " ++ revision_text kind ++ codes " " ++ left_aligned_text 13 (id_text kind)
 
 -- all lines in order
 abbrev pub report_text : List Notice → List ℕ

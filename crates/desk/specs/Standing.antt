@@ -1,6 +1,20 @@
 -- When a ground of a release stands (Specification 2, Part B section 6), by the notices of a registry.
-use Rattle.std.specs.Prelude.{◌+◌, ◌%◌, ◌==◌, ◌&&◌, ℕ, Bool, true, false, List, count_by, nat_le, nat_lt, not}
+use Rattle.std.specs.Prelude.{
+  ◌+◌,
+  ◌==◌,
+  ◌&&◌,
+  ℕ,
+  Bool,
+  true,
+  false,
+  List,
+  count_by,
+  nat_le,
+  nat_lt,
+  not,
+}
 use Rattle.std.specs.List.{list_any}
+use Rattle.schedule.specs.Schedule.{is_sunday}
 use Rattle.desk.specs.declared.grounds.Ground.{Ground}
 use Rattle.desk.specs.declared.grounds.Ground.TheVariants as reason
 use Rattle.desk.specs.declared.notices.Notice.{Notice}
@@ -12,10 +26,6 @@ abbrev pub is_receipt : NoticeKind → Bool
 is_receipt (Receipt rev id) = true
 is_receipt (Failure rev id check) = false
 is_receipt Absence = false
-
--- day 0, 1970-01-01, is a Thursday
-abbrev pub is_sunday : ℕ → Bool
-is_sunday day = day % 7 == 3
 
 -- the deposit of a day failed or is absent
 abbrev pub is_loss : Notice → Bool
@@ -30,12 +40,12 @@ abbrev pub is_sunday_lost : List Notice → Notice → Bool
 is_sunday_lost notices n = is_loss n && (is_sunday n.day && not (list_any (is_made_good_by n) notices))
 
 -- thirty days, in seconds
-abbrev pub month : ℕ
-month = 2_592_000
+abbrev pub thirty_days : ℕ
+thirty_days = 2_592_000
 
 -- a notice of the thirty days up to now tells that a deposit of another day failed or is absent
 abbrev pub is_recent_loss : ℕ → Notice → Bool
-is_recent_loss now n = is_loss n && (not (is_sunday n.day) && (nat_le n.at now && nat_le now (n.at + month)))
+is_recent_loss now n = is_loss n && (not (is_sunday n.day) && (nat_le n.at now && nat_le now (n.at + thirty_days)))
 
 abbrev pub ground_stands : Ground → List Notice → ℕ → Bool
 ground_stands reason.SundayFailed notices now = list_any (is_sunday_lost notices) notices

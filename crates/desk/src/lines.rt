@@ -1,7 +1,28 @@
 //! The lines of a report.
-ghost use Rattle.std.specs.Prelude.{◌≡◌, ◌+◌, ◌-◌, ◌≤◌, ◌++◌, ℕ, length, replicate, take, drop, codes};
+ghost use Rattle.std.specs.Prelude.{
+  ◌≡◌,
+  ◌+◌,
+  ◌-◌,
+  ◌≤◌,
+  ◌++◌,
+  ℕ,
+  length,
+  replicate,
+  take,
+  drop,
+  codes,
+};
 ghost use Rattle.schedule.specs.Text.{two_digits};
-ghost use Rattle.desk.specs.Lines.{deposit_text, head_text, id_text, kind_text, left_in, line, revision_text, right_in};
+ghost use Rattle.desk.specs.Lines.{
+  line_deposit_text,
+  line_head_text,
+  id_text,
+  notice_kind_text,
+  left_aligned_text,
+  line,
+  revision_text,
+  right_aligned_text,
+};
 
 use crate::notices::{Notice, NoticeKind};
 use itoa::Buffer;
@@ -34,8 +55,8 @@ fn put_spaces(out: &mut [u8; 160], at: usize, count: usize) -> usize
 fn put_right(out: &mut [u8; 160], at: usize, width: usize, text: &[u8]) -> usize
     requires room { at + width + length text.now ≤ 160 }
     requires narrow { width ≤ 13 }
-    ensures end { result ≡ at + length (right_in width text.now) }
-    ensures text { take result out.new ≡ take at out.old ++ right_in width text.now }
+    ensures end { result ≡ at + length (right_aligned_text width text.now) }
+    ensures text { take result out.new ≡ take at out.old ++ right_aligned_text width text.now }
 {
     let at = put_spaces(out, at, width.saturating_sub(text.len()));
     put(out, at, text)
@@ -45,8 +66,8 @@ fn put_right(out: &mut [u8; 160], at: usize, width: usize, text: &[u8]) -> usize
 fn put_left(out: &mut [u8; 160], at: usize, width: usize, text: &[u8]) -> usize
     requires room { at + width + length text.now ≤ 160 }
     requires narrow { width ≤ 13 }
-    ensures end { result ≡ at + length (left_in width text.now) }
-    ensures text { take result out.new ≡ take at out.old ++ left_in width text.now }
+    ensures end { result ≡ at + length (left_aligned_text width text.now) }
+    ensures text { take result out.new ≡ take at out.old ++ left_aligned_text width text.now }
 {
     let at = put(out, at, text);
     put_spaces(out, at, width.saturating_sub(text.len()))
@@ -54,8 +75,8 @@ fn put_left(out: &mut [u8; 160], at: usize, width: usize, text: &[u8]) -> usize
 
 fn put_kind(out: &mut [u8; 160], at: usize, kind: NoticeKind) -> usize
     requires { at + 20 ≤ 160 }
-    ensures end { result ≡ at + length (left_in 10 (kind_text kind)) }
-    ensures text { take result out.new ≡ take at out.old ++ left_in 10 (kind_text kind) }
+    ensures end { result ≡ at + length (left_aligned_text 10 (notice_kind_text kind)) }
+    ensures text { take result out.new ≡ take at out.old ++ left_aligned_text 10 (notice_kind_text kind) }
     ensures most { result ≤ at + 10 }
 {
     match kind {
@@ -85,8 +106,8 @@ fn put_revision(out: &mut [u8; 160], at: usize, kind: NoticeKind) -> usize
 
 fn put_id(out: &mut [u8; 160], at: usize, kind: NoticeKind) -> usize
     requires { at + 26 ≤ 160 }
-    ensures end { result ≡ at + length (left_in 13 (id_text kind)) }
-    ensures text { take result out.new ≡ take at out.old ++ left_in 13 (id_text kind) }
+    ensures end { result ≡ at + length (left_aligned_text 13 (id_text kind)) }
+    ensures text { take result out.new ≡ take at out.old ++ left_aligned_text 13 (id_text kind) }
     ensures most { result ≤ at + 13 }
 {
     match kind {
@@ -99,8 +120,8 @@ fn put_id(out: &mut [u8; 160], at: usize, kind: NoticeKind) -> usize
 
 // What a line begins with: the number of the notice, what it tells, and the day.
 fn put_head(out: &mut [u8; 160], notice: &Notice) -> usize
-    ensures end { result ≡ length (head_text notice.now) }
-    ensures text { take result out.new ≡ head_text notice.now }
+    ensures end { result ≡ length (line_head_text notice.now) }
+    ensures text { take result out.new ≡ line_head_text notice.now }
     ensures most { result ≤ 42 }
 {
     let mut digits = Buffer::new();
@@ -114,8 +135,8 @@ fn put_head(out: &mut [u8; 160], notice: &Notice) -> usize
 // Behind it, of which deposit it is.
 fn put_deposit(out: &mut [u8; 160], at: usize, notice: &Notice) -> usize
     requires { at ≤ 42 }
-    ensures end { result ≡ at + length (deposit_text notice.now.kind) }
-    ensures text { take result out.new ≡ take at out.old ++ deposit_text notice.now.kind }
+    ensures end { result ≡ at + length (line_deposit_text notice.now.kind) }
+    ensures text { take result out.new ≡ take at out.old ++ line_deposit_text notice.now.kind }
     ensures most { result ≤ at + 18 }
 {
     let end = put(out, at, b" ");

@@ -1,11 +1,18 @@
 //! When the grounds of releases stand.
 ghost use Rattle.std.specs.Prelude.{◌≡◌, count_by};
 ghost use Rattle.std.specs.List.{list_any};
-ghost use Rattle.desk.specs.Standing.{ground_stands, is_loss, is_made_good_by, is_receipt, is_recent_loss, is_sunday, is_sunday_lost};
+ghost use Rattle.desk.specs.Standing.{
+  ground_stands,
+  is_loss,
+  is_made_good_by,
+  is_receipt,
+  is_recent_loss,
+  is_sunday_lost,
+};
 
 use crate::grounds::Ground;
 use crate::notices::{Notice, NoticeKind};
-use schedule::{Day, Sec};
+use schedule::{Sec, is_sunday};
 
 /// Thirty days, in seconds.
 const MONTH: i64 = 2_592_000;
@@ -20,12 +27,6 @@ fn is_loss(notice: &Notice) -> bool
     ensures { result ≡ is_loss notice.now }
 {
     !is_receipt(notice.kind)
-}
-
-fn is_sunday(day: Day) -> bool
-    ensures { result ≡ is_sunday day }
-{
-    schedule::is_sunday(day)
 }
 
 fn is_made_good_by(notice: &Notice, later: &Notice) -> bool

@@ -20,8 +20,8 @@ use Rattle.dnrd_csv.specs.declared.form.Form.{Form}
 use Rattle.dnrd_csv.specs.declared.form.Form.TheVariants as form
 use Rattle.dnrd_csv.specs.Form.{HasForm, IsAddressByte, IsDigit, IsGurid, IsHostNameByte, IsId, IsIdByte, IsRoidByte, IsStatusByte, IsTextOfBytes}
 use Rattle.dnrd_csv.specs.FormTests.{has_form, is_address_byte, is_digit, is_gurid, is_host_name_byte, is_id, is_id_byte, is_moment_of, is_moment_text, is_roid_byte, is_status_byte, is_text_of_bytes, second_at}
-use Rattle.dnrd_csv.specs.Readers.{are_distinct, has_forms, is_row, is_table, is_text_of}
-use Rattle.dnrd_csv.specs.Table.{HaveForms, HaveKeys, IsTable}
+use Rattle.dnrd_csv.specs.Readers.{are_distinct, have_forms, is_row, is_table, is_text_of}
+use Rattle.dnrd_csv.specs.Table.{HaveForms, HaveDistinctKeys, IsTable}
 use Rattle.dnrd_csv.specs.Text.{IsRow, IsTextOf, byte_order_mark, table_text}
 use Rattle.dnrd_csv.proofs.KeyLemmas.{same_key, same_key-Decides}
 
@@ -130,7 +130,7 @@ text_of_decides bytes rows =
     Decides-like _ (λ h. record { rows_in_form = h.0; unmarked = h.1.0; text = h.1.1 }) (λ h. (h.rows_in_form, (h.unmarked, h.text)))
     (Decides-and _ _ (all_decides is_row IsRow row_decides rows) (Decides-and _ _ (unmarked_decides bytes) (bytes_eq-Decides bytes (table_text rows))))
 
-forms_decide : (columns : List Form) (rows : List (List (List ℕ))) → Decides (has_forms columns rows) (HaveForms columns rows)
+forms_decide : (columns : List Form) (rows : List (List (List ℕ))) → Decides (have_forms columns rows) (HaveForms columns rows)
 forms_decide columns rows = all_decides (λ row. pointwise has_form columns row) (λ row. AllZip HasForm columns row) (λ row. zip_decides has_form HasForm form_decides columns row) rows
 
 -- ---- keys
@@ -149,7 +149,7 @@ unfolding IsDistinct
 distinct_decides [] = (λ _. tt, λ _. refl)
 distinct_decides (key ∷ keys) = Decides-and _ _ (apart_decides key keys) (distinct_decides keys)
 
-keys_decide : (key : ℕ) (rows : List (List (List ℕ))) → Decides (are_distinct (map (take key) rows)) (HaveKeys key rows)
+keys_decide : (key : ℕ) (rows : List (List (List ℕ))) → Decides (are_distinct (map (take key) rows)) (HaveDistinctKeys key rows)
 keys_decide key rows =
     let keys = map (take key) rows in
     Decides-like _ (AllPairs-from_IsDistinct same_key-Decides keys) (IsDistinct-from_AllPairs same_key-Decides keys) (distinct_decides keys)

@@ -4,8 +4,8 @@ use Rattle.std.specs.List.{AllByRecursion}
 use Rattle.std.proofs.lemmas.List.{length-drop, length-take, take-append-drop}
 use Rattle.std.proofs.lemmas.List.Elements.{All-from_recursion, recursion_from_All}
 use Rattle.std.proofs.Math.Nat.{mul-mod_left}
-use Rattle.dnrd_csv.specs.Fields.{AreRowsOf}
-use Rattle.dnrd_csv.specs.Rows.{rows_from}
+use Rattle.dnrd_csv.specs.inside.Fields.{AreRowsOf}
+use Rattle.dnrd_csv.specs.inside.Rows.{rows_from}
 use Rattle.dnrd_csv.specs.Text.{IsRow}
 use Rattle.dnrd_csv.proofs.RowLemmas.{flat, flat_len}
 

@@ -19,7 +19,7 @@ use Rattle.std.proofs.lemmas.List.Quantifiers.{all_pairs_push}
 use Rattle.std.proofs.lemmas.Map.Text.{is_eq-slice_cmp}
 use Rattle.std.proofs.lemmas.Slice.Eq.{bytes_eq-Decides, slice_eq-Decides}
 use Rattle.std.proofs.Math.Seq.{take-append_seam}
-use Rattle.dnrd_csv.specs.Keys.{Ascend, key_cmp, keys_of, padded, texts_of}
+use Rattle.dnrd_csv.specs.inside.RowKeys.{Ascend, key_cmp, keys_of, padded_key, borrowed_texts}
 
 -- whether two keys are the same texts
 abbrev pub same_key : List (List ℕ) → List (List ℕ) → Bool
@@ -39,7 +39,7 @@ pub key_order : IsTotalOrder key_cmp
 key_order = lists_total nat_list_cmp_total
 
 -- borrowed keys compare as their texts
-pub by_texts : (xs ys : List (Bor (List ℕ))) → slice_cmp field_cmp xs ys ≡ key_cmp (texts_of xs) (texts_of ys)
+pub by_texts : (xs ys : List (Bor (List ℕ))) → slice_cmp field_cmp xs ys ≡ key_cmp (borrowed_texts xs) (borrowed_texts ys)
 by_texts [] [] = refl
 by_texts [] (y ∷ ys) = refl
 by_texts (x ∷ xs) [] = refl
@@ -63,22 +63,22 @@ same_texts (x ∷ xs) (y ∷ ys) = is_eq-then (slice_cmp nat_cmp x y) (key_cmp x
 abbrev pub plain_keys : ℕ → List (List (List ℕ)) → List (List (List ℕ))
 plain_keys key rows = map (take key) rows
 
-unpadded : (key : ℕ) (one : List (List ℕ)) → length one ≡ key → key ≤ 3 → take key (padded one) ≡ one
+unpadded : (key : ℕ) (one : List (List ℕ)) → length one ≡ key → key ≤ 3 → take key (padded_key one) ≡ one
 unpadded key one len most =
     take-take key 3 (one ++ [] ∷ [] ∷ []) most
     ∙ ap (λ (n : ℕ). take n (one ++ [] ∷ [] ∷ [])) (sym len)
     ∙ take-append_seam one ([] ∷ [] ∷ [])
 
 pub length-keys_of : (key : ℕ) (rows : List (List (List ℕ))) → length (keys_of key rows) ≡ length rows
-length-keys_of key rows = length-map (plain_keys key rows) padded ∙ length-map rows (take key)
+length-keys_of key rows = length-map (plain_keys key rows) padded_key ∙ length-map rows (take key)
 
-pub key_at : (key : ℕ) (rows : List (List (List ℕ))) (i : ℕ) (d : List (List ℕ)) → i < length rows → get_or (keys_of key rows) i d ≡ padded (take key (get_or rows i []))
+pub key_at : (key : ℕ) (rows : List (List (List ℕ))) (i : ℕ) (d : List (List ℕ)) → i < length rows → get_or (keys_of key rows) i d ≡ padded_key (take key (get_or rows i []))
 key_at key rows i d inside =
     let mapped : i < length (plain_keys key rows) = omega (arith, length-map rows (take key)) in
-    get_or-map padded (plain_keys key rows) i [] d mapped ∙ ap padded (get_or-map (take key) rows i [] [] inside)
+    get_or-map padded_key (plain_keys key rows) i [] d mapped ∙ ap padded_key (get_or-map (take key) rows i [] [] inside)
 
 -- one more key
-pub keys_more : (key : ℕ) (rows : List (List (List ℕ))) (i : ℕ) → i < length rows → take (i + 1) (keys_of key rows) ≡ take i (keys_of key rows) ++ padded (take key (get_or rows i [])) ∷ []
+pub keys_more : (key : ℕ) (rows : List (List (List ℕ))) (i : ℕ) → i < length rows → take (i + 1) (keys_of key rows) ≡ take i (keys_of key rows) ++ padded_key (take key (get_or rows i [])) ∷ []
 keys_more key rows i inside =
     let mapped : i < length (keys_of key rows) = omega (arith, length-keys_of key rows) in
     take_more (keys_of key rows) i [] mapped
@@ -87,11 +87,11 @@ keys_more key rows i inside =
 -- keys that differ when padded differ
 pub plain_differ : (key : ℕ) (rows : List (List (List ℕ))) → AllPairs (λ one other. one ≢ other) (keys_of key rows) → AllPairs (λ one other. one ≢ other) (plain_keys key rows)
 plain_differ key rows differ i j d below inside same =
-    let later : j < length (keys_of key rows) = omega (arith, length-map (plain_keys key rows) padded) in
+    let later : j < length (keys_of key rows) = omega (arith, length-map (plain_keys key rows) padded_key) in
     let first : i < length (plain_keys key rows) = omega arith in
-    let at_i = get_or-map padded (plain_keys key rows) i d (padded d) first in
-    let at_j = get_or-map padded (plain_keys key rows) j d (padded d) inside in
-    differ i j (padded d) below later (at_i ∙ ap padded same ∙ sym at_j)
+    let at_i = get_or-map padded_key (plain_keys key rows) i d (padded_key d) first in
+    let at_j = get_or-map padded_key (plain_keys key rows) j d (padded_key d) inside in
+    differ i j (padded_key d) below later (at_i ∙ ap padded_key same ∙ sym at_j)
 
 plain_len : (key : ℕ) (rows : List (List (List ℕ))) (i : ℕ) → All (λ row. key ≤ length row) rows → i < length rows → length (get_or (plain_keys key rows) i []) ≡ key
 plain_len key rows i within inside =
@@ -105,8 +105,8 @@ padded_differ key rows most within differ i j d below inside same =
     let first : i < length rows = omega arith in
     let plain_i : i < length (plain_keys key rows) = omega (arith, length-map rows (take key)) in
     let plain_j : j < length (plain_keys key rows) = omega (arith, length-map rows (take key)) in
-    let at_i = get_or-map padded (plain_keys key rows) i [] d plain_i in
-    let at_j = get_or-map padded (plain_keys key rows) j [] d plain_j in
+    let at_i = get_or-map padded_key (plain_keys key rows) i [] d plain_i in
+    let at_j = get_or-map padded_key (plain_keys key rows) j [] d plain_j in
     let one = unpadded key (get_or (plain_keys key rows) i []) (plain_len key rows i within first) most in
     let other = unpadded key (get_or (plain_keys key rows) j []) (plain_len key rows j within later) most in
     differ i j [] below plain_j (sym one ∙ ap (take key) (sym at_i ∙ same ∙ at_j) ∙ other)
@@ -144,8 +144,8 @@ is_less Equal e = cc e
 is_less Greater e = cc e
 
 -- one more borrowed key
-pub texts_more : (keys : List (List (Bor (List ℕ)))) (key : List (Bor (List ℕ))) → map texts_of (keys ++ key ∷ []) ≡ map texts_of keys ++ texts_of key ∷ []
-texts_more keys key = map-append texts_of keys (key ∷ [])
+pub texts_more : (keys : List (List (Bor (List ℕ)))) (key : List (Bor (List ℕ))) → map borrowed_texts (keys ++ key ∷ []) ≡ map borrowed_texts keys ++ borrowed_texts key ∷ []
+texts_more keys key = map-append borrowed_texts keys (key ∷ [])
 
 -- of two keys that differ, the one that is not above is below
 below_if : (order back : Ordering) → back ≡ ordering_reverse order → is_lt back ≡ false → (order ≡ Equal → ⊥) → order ≡ Less
@@ -157,39 +157,39 @@ same_if : (one other : List (List ℕ)) → key_cmp one other ≡ Equal → one 
 same_if one other equal = (same_key-Decides one other).0 (sym (same_texts one other) ∙ ap is_eq equal)
 
 -- keys in order that differ ascend
-pub rises : (keys : List (List (Bor (List ℕ)))) → IsSorted (slice_cmp field_cmp) keys → AllPairs (λ one other. one ≢ other) (map texts_of keys) → Ascend (map texts_of keys)
+pub rises : (keys : List (List (Bor (List ℕ)))) → IsSorted (slice_cmp field_cmp) keys → AllPairs (λ one other. one ≢ other) (map borrowed_texts keys) → Ascend (map borrowed_texts keys)
 rises keys sorted apart i j d below inside =
-    let later : j < length keys = omega (arith, length-map keys texts_of) in
+    let later : j < length keys = omega (arith, length-map keys borrowed_texts) in
     let first : i < length keys = omega (arith, below) in
-    let up : IsSortedBy (λ x y. is_lt (key_cmp (texts_of x) (texts_of y))) keys =
+    let up : IsSortedBy (λ x y. is_lt (key_cmp (borrowed_texts x) (borrowed_texts y))) keys =
     λ k e low high. ap is_lt (sym (by_texts (get_or keys (k + 1) e) (get_or keys k e))) ∙ sorted k e low high in
-    let one = texts_of (get_or keys i []) in
-    let other = texts_of (get_or keys j []) in
-    let at_one : get_or (map texts_of keys) i d ≡ one = get_or-map texts_of keys i [] d first in
-    let at_other : get_or (map texts_of keys) j d ≡ other = get_or-map texts_of keys j [] d later in
-    let not_above = sorted_far (λ x y. is_lt (key_cmp (texts_of x) (texts_of y))) (ranks_by key_order texts_of) keys up i j [] (omega (arith, below)) later in
+    let one = borrowed_texts (get_or keys i []) in
+    let other = borrowed_texts (get_or keys j []) in
+    let at_one : get_or (map borrowed_texts keys) i d ≡ one = get_or-map borrowed_texts keys i [] d first in
+    let at_other : get_or (map borrowed_texts keys) j d ≡ other = get_or-map borrowed_texts keys j [] d later in
+    let not_above = sorted_far (λ x y. is_lt (key_cmp (borrowed_texts x) (borrowed_texts y))) (ranks_by key_order borrowed_texts) keys up i j [] (omega (arith, below)) later in
     let less = below_if (key_cmp one other) (key_cmp other one) (key_order.antisymm other one) not_above (λ equal. apart i j d below inside (at_one ∙ same_if one other equal ∙ sym at_other)) in
-    ap (λ (k : List (List ℕ)). key_cmp k (get_or (map texts_of keys) j d)) at_one ∙ ap (key_cmp one) at_other ∙ less
+    ap (λ (k : List (List ℕ)). key_cmp k (get_or (map borrowed_texts keys) j d)) at_one ∙ ap (key_cmp one) at_other ∙ less
 
 differ : (same : Bool) → (same ≡ true → ⊥) → same ≡ false
 differ true apart = absurd (apart refl)
 differ false apart = refl
 
 -- keys that differ do so in each order
-pub permuted_differ : (keys moved : List (List (Bor (List ℕ)))) → IsPermutation keys moved → AllPairs (λ one other. one ≢ other) (map texts_of keys) → AllPairs (λ one other. one ≢ other) (map texts_of moved)
+pub permuted_differ : (keys moved : List (List (Bor (List ℕ)))) → IsPermutation keys moved → AllPairs (λ one other. one ≢ other) (map borrowed_texts keys) → AllPairs (λ one other. one ≢ other) (map borrowed_texts moved)
 permuted_differ keys moved there apart =
-    let texts = map texts_of keys in
+    let texts = map borrowed_texts keys in
     let distinct : IsDistinct same_key texts =
     IsDistinct-from_apart same_key texts (λ i j d below inside. differ _ (λ same. apart i j d below inside ((same_key-Decides (get_or texts i d) (get_or texts j d)).0 same))) in
-    AllPairs-from_IsDistinct same_key-Decides (map texts_of moved)
-    (IsDistinct-IsPermutation same_key same_key-laws.symm texts (map texts_of moved) (IsPermutation-map texts_of keys moved there) distinct)
+    AllPairs-from_IsDistinct same_key-Decides (map borrowed_texts moved)
+    (IsDistinct-IsPermutation same_key same_key-laws.symm texts (map borrowed_texts moved) (IsPermutation-map borrowed_texts keys moved there) distinct)
 
 -- two borrowed keys compare as the texts at their places
 pub places_compare : (keys : List (List (Bor (List ℕ)))) (i j : ℕ) (d e : List (Bor (List ℕ))) (order : Ordering) → i < length keys → j < length keys
-    → order ≡ slice_cmp field_cmp (get_or keys i d) (get_or keys j e) → order ≡ key_cmp (get_or (map texts_of keys) i []) (get_or (map texts_of keys) j [])
+    → order ≡ slice_cmp field_cmp (get_or keys i d) (get_or keys j e) → order ≡ key_cmp (get_or (map borrowed_texts keys) i []) (get_or (map borrowed_texts keys) j [])
 places_compare keys i j d e order first later compared =
-    let at_i : get_or (map texts_of keys) i [] ≡ texts_of (get_or keys i d) = get_or-map texts_of keys i d [] first in
-    let at_j : get_or (map texts_of keys) j [] ≡ texts_of (get_or keys j e) = get_or-map texts_of keys j e [] later in
+    let at_i : get_or (map borrowed_texts keys) i [] ≡ borrowed_texts (get_or keys i d) = get_or-map borrowed_texts keys i d [] first in
+    let at_j : get_or (map borrowed_texts keys) j [] ≡ borrowed_texts (get_or keys j e) = get_or-map borrowed_texts keys j e [] later in
     compared ∙ by_texts (get_or keys i d) (get_or keys j e)
-    ∙ ap (λ (k : List (List ℕ)). key_cmp k (texts_of (get_or keys j e))) (sym at_i)
-    ∙ ap (key_cmp (get_or (map texts_of keys) i [])) (sym at_j)
+    ∙ ap (λ (k : List (List ℕ)). key_cmp k (borrowed_texts (get_or keys j e))) (sym at_i)
+    ∙ ap (key_cmp (get_or (map borrowed_texts keys) i [])) (sym at_j)

@@ -10,7 +10,7 @@ use Rattle.csv.specs.declared.parser.State.{State}
 use Rattle.csv.specs.declared.reader.Reader.{Reader}
 use Rattle.csv.proofs.ReadFacts.{rows-end, rows-more}
 use Rattle.csv.specs.declared.parser.State.TheVariants as st
-use Rattle.dnrd_csv.specs.Reading.{IsAt}
+use Rattle.dnrd_csv.specs.inside.RowReading.{IsAtRow}
 use Rattle.dnrd_csv.specs.Text.{IsRow, IsTextOf, byte_order_mark, row_text, table_text}
 use Rattle.dnrd_csv.proofs.SpellingLemmas.{reads_row}
 
@@ -117,7 +117,7 @@ record Gives (new : Reader (Bor (List ℕ))) (fields : List (List ℕ)) (text : 
   state_is : read.1 ≡ new.state
   left_is : read.2 ≡ left
 
-read_is : (old new : Reader (Bor (List ℕ))) (fields : List (List ℕ)) (text : List ℕ) → IsAt old text → ReadRecord (λ s. Some s.now) old new true fields
+read_is : (old new : Reader (Bor (List ℕ))) (fields : List (List ℕ)) (text : List ℕ) → IsAtRow old text → ReadRecord (λ s. Some s.now) old new true fields
     → Gives new fields text
 unfolding Reached
 read_is old new fields text at read =
@@ -128,7 +128,7 @@ read_is old new fields text at read =
     record { read = p; left = left; source = source; found = is; fields_are = same; state_is = state; left_is = tail }
 
 -- a row at the front is what is read
-pub read_front : (old new : Reader (Bor (List ℕ))) (fields : List (List ℕ)) (text : List ℕ) → IsAt old text → ReadRecord (λ s. Some s.now) old new true fields
+pub read_front : (old new : Reader (Bor (List ℕ))) (fields : List (List ℕ)) (text : List ℕ) → IsAtRow old text → ReadRecord (λ s. Some s.now) old new true fields
     → (row : List (List ℕ)) (tail : List ℕ) → IsRow row → text ≡ row_text row ++ tail → fields ≡ row
 unfolding fields_read
 read_front old new fields text at read row tail is_row is =
@@ -137,8 +137,8 @@ read_front old new fields text at read row tail is_row is =
     given.fields_are ∙ ap fields_read joined
 
 -- a read of the row at the front stands after it
-pub at_next : (old new : Reader (Bor (List ℕ))) (fields : List (List ℕ)) (text rest : List ℕ) → IsAt old text → ReadRecord (λ s. Some s.now) old new true fields
-    → took_first new ≡ true → IsRow fields → text ≡ row_text fields ++ rest → IsAt new rest
+pub at_next : (old new : Reader (Bor (List ℕ))) (fields : List (List ℕ)) (text rest : List ℕ) → IsAtRow old text → ReadRecord (λ s. Some s.now) old new true fields
+    → took_first new ≡ true → IsRow fields → text ≡ row_text fields ++ rest → IsAtRow new rest
 unfolding left_read state_read
 at_next old new fields text rest at read first row is =
     let given = read_is old new fields text at read in
@@ -152,7 +152,7 @@ at_next old new fields text rest at read first row is =
     }
 
 -- where no record is read, no row stands at the front
-pub none_read : (old new : Reader (Bor (List ℕ))) (fields : List (List ℕ)) (text : List ℕ) → IsAt old text → ReadRecord (λ s. Some s.now) old new false fields
+pub none_read : (old new : Reader (Bor (List ℕ))) (fields : List (List ℕ)) (text : List ℕ) → IsAtRow old text → ReadRecord (λ s. Some s.now) old new false fields
     → (row : List (List ℕ)) (tail : List ℕ) → IsRow row → text ≢ row_text row ++ tail
 none_read old new fields text at read row tail is_row is =
     let none = rows-end (λ (s : Bor (List ℕ)). Some s.now) old new fields default_config text at.config at.source read in

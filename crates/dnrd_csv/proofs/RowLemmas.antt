@@ -6,7 +6,7 @@ use Rattle.std.proofs.lemmas.List.{append-nil, drop-drop, get_or-drop, get_or-ta
 use Rattle.std.proofs.lemmas.List.Elements.{recursion_from_All}
 use Rattle.std.proofs.Math.Seq.{drop-append_seam, take-append_seam}
 use Rattle.csv.specs.Records.{field_at}
-use Rattle.dnrd_csv.specs.Rows.{rows_from}
+use Rattle.dnrd_csv.specs.inside.Rows.{rows_from}
 use Rattle.dnrd_csv.specs.Text.{key_rows}
 
 -- all fields of some rows

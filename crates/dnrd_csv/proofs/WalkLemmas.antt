@@ -8,10 +8,11 @@ use Rattle.csv.specs.declared.reader.Reader.{Reader}
 use Rattle.std.specs.Prelude.{◌==◌, IsUtf8, map, nat_eq}
 use Rattle.std.proofs.lemmas.Bool.{ne_eqb}
 use Rattle.std.proofs.Math.Seq.{get_or-append_seam}
-use Rattle.dnrd_csv.specs.declared.error.TableError.{TableError}
-use Rattle.dnrd_csv.specs.declared.error.TableError.TheVariants as fault
-use Rattle.dnrd_csv.specs.Reading.{HaveWidth, IsAt, RefusesRow, RefusesRows}
-use Rattle.dnrd_csv.specs.Rows.{rows_from}
+use Rattle.dnrd_csv.specs.declared.errors.TableError.{TableError}
+use Rattle.dnrd_csv.specs.declared.errors.TableError.TheVariants as fault
+use Rattle.dnrd_csv.specs.inside.RowReading.{IsAtRow, RefusesRow, RefusesRows}
+use Rattle.dnrd_csv.specs.inside.Rows.{rows_from}
+use Rattle.dnrd_csv.specs.Table.{HaveWidth}
 use Rattle.dnrd_csv.specs.Text.{IsRow, IsTextOf, byte_order_mark, field_text, row_text, table_text}
 use Rattle.dnrd_csv.proofs.Records.{not_rows}
 use Rattle.dnrd_csv.proofs.RowLemmas.{flat, flat_cut, flat_len, flat-push}
@@ -22,7 +23,7 @@ pub record Walked (text : List ℕ) (width : ℕ) (reader : Reader (Bor (List �
   pub all : List (List (List ℕ))
   pub in_form : All IsRow all
   pub text_is : text ≡ table_text all ++ rest
-  pub at : IsAt reader rest
+  pub at : IsAtRow reader rest
   pub counted : count ≡ length all
   pub short : count + length rest ≤ length text
   pub partial : partial_of fields ≡ []
@@ -43,7 +44,7 @@ wide_before width all row wide = (
 -- one more row
 pub walked_more : (text : List ℕ) (width : ℕ) (reader next : Reader (Bor (List ℕ))) (fields more : Row) (count : ℕ) (even still : Bool) (rest after : List ℕ) (row : List (List ℕ))
     → Walked text width reader fields count even rest
-    → IsRow row → rest ≡ row_text row ++ after → IsAt next after → partial_of more ≡ []
+    → IsRow row → rest ≡ row_text row ++ after → IsAtRow next after → partial_of more ≡ []
     → (still ≡ true → (even ≡ true) × (length row ≡ width) × (fields_of more ≡ fields_of fields ++ row))
     → (still ≡ false → (even ≡ false) ⊎ (length row ≢ width))
     → Walked text width next more (count + 1) still after
@@ -69,7 +70,7 @@ walked_more text width reader next fields more count even still rest after row w
 }
 
 -- no row has been read
-pub walked_none : (text : List ℕ) (width : ℕ) (reader : Reader (Bor (List ℕ))) (fields : Row) → IsAt reader text → fields_of fields ≡ [] → partial_of fields ≡ []
+pub walked_none : (text : List ℕ) (width : ℕ) (reader : Reader (Bor (List ℕ))) (fields : Row) → IsAtRow reader text → fields_of fields ≡ [] → partial_of fields ≡ []
     → Walked text width reader fields 0 true text
 walked_none text width reader fields at empty partial = record {
   all = [];

@@ -4,10 +4,10 @@ use Rattle.std.proofs.Common.{◌≡◌, ◌<◌, ◌+◌, ◌++◌, ◌∷◌, 
 use Rattle.std.specs.List.{join_with_byte}
 use Rattle.std.proofs.lemmas.Bool.{cases_Bool, ne_eqb}
 use Rattle.std.proofs.lemmas.List.{append-nil, map-append, take_more}
-use Rattle.dnrd_csv.specs.Text.{doubled, field_text, row_text, table_text}
+use Rattle.dnrd_csv.specs.Text.{escaped_field, field_text, row_text, table_text}
 
-doubled-append : (xs ys : List ℕ) → doubled (xs ++ ys) ≡ doubled xs ++ doubled ys
-unfolding doubled
+doubled-append : (xs ys : List ℕ) → escaped_field (xs ++ ys) ≡ escaped_field xs ++ escaped_field ys
+unfolding escaped_field
 doubled-append [] ys = refl
 doubled-append (byte ∷ xs) ys = elim (cases_Bool (byte == 34)) [
   | inl quote ↦ rw quote (ap (λ (t : List ℕ). 34 ∷ 34 ∷ t) (doubled-append xs ys))
@@ -15,8 +15,8 @@ doubled-append (byte ∷ xs) ys = elim (cases_Bool (byte == 34)) [
 ]
 
 -- one more byte of a quoted field
-pub doubled_more : (field : List ℕ) (i d : ℕ) → i < length field → doubled (take (i + 1) field) ≡ doubled (take i field) ++ doubled (get_or field i d ∷ [])
-doubled_more field i d inside = ap doubled (take_more field i d inside) ∙ doubled-append (take i field) (get_or field i d ∷ [])
+pub doubled_more : (field : List ℕ) (i d : ℕ) → i < length field → escaped_field (take (i + 1) field) ≡ escaped_field (take i field) ++ escaped_field (get_or field i d ∷ [])
+doubled_more field i d inside = ap escaped_field (take_more field i d inside) ∙ doubled-append (take i field) (get_or field i d ∷ [])
 
 -- the comma after some fields
 abbrev lead : List (List ℕ) → List ℕ

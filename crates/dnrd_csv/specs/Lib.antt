@@ -1,10 +1,7 @@
 pub mod ErrorText
-pub mod Fields
 pub mod Form
 pub mod FormTests
-pub mod Reading
-pub mod Rows
 pub mod Table
-pub mod Keys
 pub mod Readers
 pub mod Text
+pub mod inside

@@ -1,5 +1,24 @@
 -- The rows of a table as a function of its file's bytes (RFC 4180, section 2; the CSV model of RFC 9022). Only its law is used: `IsTableReader`, which says it by `IsTable`.
-use Rattle.std.specs.Prelude.{◌≡◌, ◌↔◌, ◌&&◌, not, ℕ, Bool, true, false, List, [], ◌∷◌, Option, Some, None, if◌then◌else◌, map, nat_eq, take}
+use Rattle.std.specs.Prelude.{
+  ◌≡◌,
+  ◌↔◌,
+  ◌&&◌,
+  not,
+  ℕ,
+  Bool,
+  true,
+  false,
+  List,
+  [],
+  ◌∷◌,
+  Option,
+  Some,
+  None,
+  if◌then◌else◌,
+  map,
+  nat_eq,
+  take,
+}
 use Rattle.std.specs.Cmp.Lexicographic.{pointwise}
 use Rattle.std.specs.List.{list_all, starts_with}
 use Rattle.std.specs.Str.{bytes_eq, is_utf8}
@@ -21,8 +40,8 @@ abbrev pub is_text_of : List ℕ → List (List (List ℕ)) → Bool
 is_text_of bytes rows = list_all is_row rows && (not (starts_with nat_eq bytes byte_order_mark) && bytes_eq bytes (table_text rows))
 
 -- each row has a field for each column, in its form
-abbrev pub has_forms : List Form → List (List (List ℕ)) → Bool
-has_forms columns rows = list_all (λ row. pointwise has_form columns row) rows
+abbrev pub have_forms : List Form → List (List (List ℕ)) → Bool
+have_forms columns rows = list_all (λ row. pointwise has_form columns row) rows
 
 -- no two keys are the same
 abbrev pub are_distinct : List (List (List ℕ)) → Bool
@@ -32,7 +51,7 @@ are_distinct (key ∷ keys) = list_all (λ other. not (pointwise bytes_eq key ot
 -- the bytes are the text of these rows of these columns, of which the first ones are the key
 abbrev pub is_table : List Form → ℕ → List ℕ → List (List (List ℕ)) → Bool
 is_table columns key bytes rows =
-    is_utf8 bytes && (is_text_of bytes rows && (has_forms columns rows && are_distinct (map (take key) rows)))
+    is_utf8 bytes && (is_text_of bytes rows && (have_forms columns rows && are_distinct (map (take key) rows)))
 
 -- the rows of these columns whose text the bytes are: those that a reader of CSV finds, where they are a table
 unfoldable pub table_at : List Form → ℕ → List ℕ → Option (List (List (List ℕ)))

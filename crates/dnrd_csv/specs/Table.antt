@@ -1,8 +1,8 @@
 -- What a table is, and which fault a file has (the CSV model of RFC 9022).
 use Rattle.std.specs.Prelude.{◌≡◌, ◌≢◌, ℕ, List, [], ◌∷◌, All, AllPairs, IsUtf8, length, map, take}
 use Rattle.std.specs.List.{AllZip}
-use Rattle.dnrd_csv.specs.declared.error.TableError.{TableError}
-use Rattle.dnrd_csv.specs.declared.error.TableError.TheVariants as fault
+use Rattle.dnrd_csv.specs.declared.errors.TableError.{TableError}
+use Rattle.dnrd_csv.specs.declared.errors.TableError.TheVariants as fault
 use Rattle.dnrd_csv.specs.declared.form.Form.{Form}
 use Rattle.dnrd_csv.specs.declared.form.Form.TheVariants as form
 use Rattle.deposit_name.specs.declared.table.TableName.{TableName}
@@ -32,31 +32,31 @@ key_columns_of table.HostAddresses = 3
 key_columns_of table.Contact = 1
 key_columns_of table.Registrar = 1
 
--- each row has a field for each column
-abbrev pub HaveColumns : List Form → List (List (List ℕ)) → Type 0
-HaveColumns columns rows = All (λ row. length row ≡ length columns) rows
+-- each row has so many fields
+abbrev pub HaveWidth : ℕ → List (List (List ℕ)) → Type 0
+HaveWidth width rows = All (λ row. length row ≡ width) rows
 
 -- each field is in the form of its column
 abbrev pub HaveForms : List Form → List (List (List ℕ)) → Type 0
 HaveForms columns rows = All (λ row. AllZip HasForm columns row) rows
 
 -- no two rows have one key
-abbrev pub HaveKeys : ℕ → List (List (List ℕ)) → Type 0
-HaveKeys key rows = AllPairs (λ one other. one ≢ other) (map (take key) rows)
+abbrev pub HaveDistinctKeys : ℕ → List (List (List ℕ)) → Type 0
+HaveDistinctKeys key rows = AllPairs (λ one other. one ≢ other) (map (take key) rows)
 
 -- the bytes are the text of these rows of these columns, of which the first ones are the key
 pub record IsTable (columns : List Form) (key : ℕ) (bytes : List ℕ) (rows : List (List (List ℕ))) : Type 0 where
   pub utf8 : IsUtf8 bytes
   pub text : IsTextOf bytes rows
-  pub columns_right : HaveColumns columns rows
+  pub columns_right : HaveWidth (length columns) rows
   pub forms_right : HaveForms columns rows
-  pub keys_right : HaveKeys key rows
+  pub keys_right : HaveDistinctKeys key rows
 
 -- the first fault over the whole file, or one of memory
-abbrev pub Refuses : List Form → ℕ → List ℕ → TableError → Type 0
-Refuses columns key bytes fault.NotUtf8 = ¬ IsUtf8 bytes
-Refuses columns key bytes fault.NotRows = IsUtf8 bytes × ((rows : List (List (List ℕ))) → ¬ IsTextOf bytes rows)
-Refuses columns key bytes fault.ColumnCount = IsUtf8 bytes × (rows : List (List (List ℕ))) × IsTextOf bytes rows × ¬ HaveColumns columns rows
-Refuses columns key bytes fault.FieldForm = IsUtf8 bytes × (rows : List (List (List ℕ))) × IsTextOf bytes rows × HaveColumns columns rows × ¬ HaveForms columns rows
-Refuses columns key bytes fault.DuplicateKey = IsUtf8 bytes × (rows : List (List (List ℕ))) × IsTextOf bytes rows × HaveColumns columns rows × HaveForms columns rows × ¬ HaveKeys key rows
-Refuses columns key bytes fault.OutOfMemory = Unit {0}
+abbrev pub RefusesTableFile : List Form → ℕ → List ℕ → TableError → Type 0
+RefusesTableFile columns key bytes fault.NotUtf8 = ¬ IsUtf8 bytes
+RefusesTableFile columns key bytes fault.NotRows = IsUtf8 bytes × ((rows : List (List (List ℕ))) → ¬ IsTextOf bytes rows)
+RefusesTableFile columns key bytes fault.ColumnCount = IsUtf8 bytes × (rows : List (List (List ℕ))) × IsTextOf bytes rows × ¬ HaveWidth (length columns) rows
+RefusesTableFile columns key bytes fault.FieldForm = IsUtf8 bytes × (rows : List (List (List ℕ))) × IsTextOf bytes rows × HaveWidth (length columns) rows × ¬ HaveForms columns rows
+RefusesTableFile columns key bytes fault.DuplicateKey = IsUtf8 bytes × (rows : List (List (List ℕ))) × IsTextOf bytes rows × HaveWidth (length columns) rows × HaveForms columns rows × ¬ HaveDistinctKeys key rows
+RefusesTableFile columns key bytes fault.OutOfMemory = Unit {0}

@@ -1,5 +1,22 @@
 -- The one text of a list of rows (RFC 4180, section 2, with one choice wherever it leaves two).
-use Rattle.std.specs.Prelude.{◌≡◌, ◌≢◌, ◌==◌, ◌||◌, ℕ, Bool, false, List, [], ◌∷◌, ◌++◌, All, map, flat_map, nat_eq, if◌then◌else◌}
+use Rattle.std.specs.Prelude.{
+  ◌≡◌,
+  ◌≢◌,
+  ◌==◌,
+  ◌||◌,
+  ℕ,
+  Bool,
+  false,
+  List,
+  [],
+  ◌∷◌,
+  ◌++◌,
+  All,
+  map,
+  flat_map,
+  nat_eq,
+  if◌then◌else◌,
+}
 use Rattle.std.specs.List.{join_with_byte, list_any, starts_with}
 
 -- a comma, a quote, a carriage return or a line feed
@@ -7,13 +24,13 @@ abbrev pub calls_for_quotes : ℕ → Bool
 calls_for_quotes byte = (byte == 44) || (byte == 34) || (byte == 13) || (byte == 10)
 
 -- a field with its quotes doubled
-unfoldable pub doubled : List ℕ → List ℕ
-doubled [] = []
-doubled (byte ∷ rest) = if byte == 34 then 34 ∷ 34 ∷ doubled rest else byte ∷ doubled rest
+unfoldable pub escaped_field : List ℕ → List ℕ
+escaped_field [] = []
+escaped_field (byte ∷ rest) = if byte == 34 then 34 ∷ 34 ∷ escaped_field rest else byte ∷ escaped_field rest
 
 -- a field, in quotes exactly if one of its bytes calls for them
 abbrev pub field_text : List ℕ → List ℕ
-field_text field = if list_any calls_for_quotes field then 34 ∷ (doubled field ++ 34 ∷ []) else field
+field_text field = if list_any calls_for_quotes field then 34 ∷ (escaped_field field ++ 34 ∷ []) else field
 
 -- the fields joined by commas, then a line feed
 abbrev pub row_text : List (List ℕ) → List ℕ

@@ -1,18 +1,18 @@
 //! The comma-separated tables of a deposit (the CSV model of RFC 9022), each in its one spelling.
 #![tactic(auto)]
 
-mod checks;
-mod error;
+mod errors;
 mod form;
 mod keys;
 mod laws;
 mod layout;
 mod reading;
+mod row_checks;
 mod rows;
 mod spelling;
 mod table;
 
-pub use crate::error::TableError;
+pub use crate::errors::TableError;
 pub use crate::form::Form;
 pub use crate::keys::Keys;
 pub use crate::laws::{law_one_text, law_table_reader};

@@ -1,11 +1,33 @@
 //! Reading rows in their one spelling.
-ghost use Rattle.std.specs.Prelude.{◌≡◌, ◌≢◌, ◌⊎◌, ◌↔◌, ◌++◌, [], true, false, ℕ, List, All, IfErr, IfOk, IfSome, IsSome, IsTrue, IsUtf8, OnOk, length, nat_eq};
+ghost use Rattle.std.specs.Prelude.{
+  ◌≡◌,
+  ◌≢◌,
+  ◌⊎◌,
+  ◌↔◌,
+  ◌++◌,
+  [],
+  true,
+  false,
+  ℕ,
+  List,
+  All,
+  IfErr,
+  IfOk,
+  IfSome,
+  IsSome,
+  IsTrue,
+  IsUtf8,
+  OnOk,
+  length,
+  nat_eq,
+};
 ghost use Rattle.std.specs.List.{starts_with};
 ghost use Rattle.csv.specs.Records.{fields_of, partial_of};
-ghost use Rattle.dnrd_csv.specs.Reading.{HaveWidth, IsAt, RefusesRow, RefusesRows};
+ghost use Rattle.dnrd_csv.specs.inside.RowReading.{IsAtRow, RefusesRow, RefusesRows};
+ghost use Rattle.dnrd_csv.specs.Table.{HaveWidth};
 ghost use Rattle.dnrd_csv.specs.Text.{IsRow, IsTextOf, byte_order_mark, row_text};
 
-use crate::error::TableError;
+use crate::errors::TableError;
 use crate::rows::Rows;
 use crate::spelling::{field_at, write_row};
 use csv::{ByteRecord, Reader, ReaderBuilder};
@@ -53,10 +75,10 @@ fn next_row<'t>(
     spelled: &mut Vec<u8>,
     text: &'t [u8],
 ) -> Result<&'t [u8], TableError>
-    requires { IsAt reader.old text.now }
+    requires { IsAtRow reader.old text.now }
     ensures row { IfOk result (λ _. IsRow (fields_of row.new)) }
     ensures text { IfOk result (λ rest. text.now ≡ row_text (fields_of row.new) ++ rest.now) }
-    ensures at { IfOk result (λ rest. IsAt reader.new rest.now) }
+    ensures at { IfOk result (λ rest. IsAtRow reader.new rest.now) }
     ensures refused { IfErr result (λ fault. RefusesRow text.now fault) }
 {
     let found = reader.read_byte_record(row)?;

@@ -1,8 +1,27 @@
 //! The rows of a file.
-ghost use Rattle.std.specs.Prelude.{◌≡◌, ◌≢◌, ◌*◌, ◌<◌, ◌++◌, ◌==◌, ◌↔◌, [], ℕ, List, All, IfNone, IfSome, IsTrue, OnOk, flat_map, get_or, length};
+ghost use Rattle.std.specs.Prelude.{
+  ◌≡◌,
+  ◌≢◌,
+  ◌*◌,
+  ◌<◌,
+  ◌++◌,
+  ◌==◌,
+  ◌↔◌,
+  [],
+  ℕ,
+  List,
+  All,
+  IfNone,
+  IfSome,
+  IsTrue,
+  OnOk,
+  flat_map,
+  get_or,
+  length,
+};
 ghost use Rattle.csv.specs.Records.{fields_of};
-ghost use Rattle.dnrd_csv.specs.Fields.{AreRowsOf};
-ghost use Rattle.dnrd_csv.specs.Reading.{HaveWidth};
+ghost use Rattle.dnrd_csv.specs.inside.Fields.{AreRowsOf};
+ghost use Rattle.dnrd_csv.specs.Table.{HaveWidth};
 ghost use Rattle.dnrd_csv.specs.Text.{IsRow, key_rows, table_text};
 
 use crate::spelling::{field_at, write_row};
@@ -23,15 +42,15 @@ impl Model for Rows {
 
     ghost Value = { List (List (List ℕ)) };
 
-    ghost use Rattle.dnrd_csv.specs.Rows.{AreKept, rows_kept};
+    ghost use Rattle.dnrd_csv.specs.inside.Rows.{HasInsideRows, inside_rows};
 
-    ghost view = { rows_kept };
+    ghost view = { inside_rows };
 
-    ghost invariant = { AreKept };
+    ghost invariant = { HasInsideRows };
 }
 
 impl Rows {
-    ghost use Rattle.dnrd_csv.specs.Rows.{rows_from};
+    ghost use Rattle.dnrd_csv.specs.inside.Rows.{rows_from};
 
     /// The rows of so many fields each.
     pub(crate) fn new(fields: ByteRecord, width: usize, count: usize) -> Rows

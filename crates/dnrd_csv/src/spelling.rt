@@ -1,8 +1,23 @@
 //! Writing fields and rows in their one spelling.
-ghost use Rattle.std.specs.Prelude.{◌≡◌, ◌+◌, ◌<◌, ◌≤◌, ◌==◌, ◌++◌, ◌∷◌, [], OnOk, drop, get_or, if◌then◌else◌, length, take};
+ghost use Rattle.std.specs.Prelude.{
+  ◌≡◌,
+  ◌+◌,
+  ◌<◌,
+  ◌≤◌,
+  ◌==◌,
+  ◌++◌,
+  ◌∷◌,
+  [],
+  OnOk,
+  drop,
+  get_or,
+  if◌then◌else◌,
+  length,
+  take,
+};
 ghost use Rattle.std.specs.List.{list_any};
 ghost use Rattle.csv.specs.Records.{fields_of};
-ghost use Rattle.dnrd_csv.specs.Text.{calls_for_quotes, doubled, field_text, row_text};
+ghost use Rattle.dnrd_csv.specs.Text.{calls_for_quotes, escaped_field, field_text, row_text};
 
 use csv::ByteRecord;
 use std::alloc::AllocError;
@@ -31,9 +46,9 @@ fn is_quoted(field: &[u8]) -> bool
 }
 
 // Writes a byte of a quoted field.
-#[tactic(auto, unfolding(crate::specs::Text::doubled))]
-fn write_doubled(byte: u8, out: &mut Vec<u8>) -> Result<(), AllocError>
-    ensures { OnOk result (out.new.items ≡ out.old.items ++ doubled (byte ∷ [])) }
+#[tactic(auto, unfolding(crate::specs::Text::escaped_field))]
+fn write_escaped(byte: u8, out: &mut Vec<u8>) -> Result<(), AllocError>
+    ensures { OnOk result (out.new.items ≡ out.old.items ++ escaped_field (byte ∷ [])) }
 {
     if byte == b'"' {
         return out.extend_from_slice(b"\"\"");
@@ -51,7 +66,7 @@ pub fn write_field(field: &[u8], out: &mut Vec<u8>) -> Result<(), AllocError>
     }
     out.push(b'"')?;
     for byte in field {
-        write_doubled(*byte, out)?;
+        write_escaped(*byte, out)?;
     }
     out.push(b'"')?;
     Ok(())

@@ -1,15 +1,27 @@
 //! Reading and writing tables, and files of deleted keys.
-ghost use Rattle.std.specs.Prelude.{◌≡◌, ◌≤◌, true, ℕ, List, All, IfErr, IfOk, MatchResult, length, take};
+ghost use Rattle.std.specs.Prelude.{
+  ◌≡◌,
+  ◌≤◌,
+  true,
+  ℕ,
+  List,
+  All,
+  IfErr,
+  IfOk,
+  MatchResult,
+  length,
+  take,
+};
 ghost use Rattle.deposit_name.specs.Tables.{has_deletes};
-ghost use Rattle.dnrd_csv.specs.Table.{IsTable, Refuses, columns_of, key_columns_of};
+ghost use Rattle.dnrd_csv.specs.Table.{IsTable, RefusesTableFile, columns_of, key_columns_of};
 ghost use Rattle.dnrd_csv.specs.Text.{key_rows, table_text};
 
-use crate::checks::{have_forms, have_keys};
-use crate::error::TableError;
+use crate::errors::TableError;
 use crate::form::Form;
 use crate::keys::Keys;
 use crate::layout::{columns, key_columns};
 use crate::reading::read_rows;
+use crate::row_checks::{have_distinct_keys, have_forms};
 use crate::rows::Rows;
 use deposit_name::TableName;
 use std::alloc::{AllocError, Global};
@@ -32,13 +44,13 @@ fn read_columns(
     requires most { key ≤ 3 }
     requires within { key ≤ length columns.now }
     ensures ok { IfOk result (λ rows. IsTable columns.now key text.now rows) }
-    ensures refused { IfErr result (λ fault. Refuses columns.now key text.now fault) }
+    ensures refused { IfErr result (λ fault. RefusesTableFile columns.now key text.now fault) }
 {
     let rows = read_rows(alloc, text, columns.len())?;
     if !have_forms(columns, &rows) {
         return Err(TableError::FieldForm);
     }
-    if !have_keys(alloc, key, &rows)? {
+    if !have_distinct_keys(alloc, key, &rows)? {
         return Err(TableError::DuplicateKey);
     }
     Ok(rows)
@@ -54,7 +66,7 @@ pub fn read_table(alloc: Global, name: TableName, text: &[u8]) -> Result<Table, 
     ensures name { IfOk result (λ table. table.name ≡ name) }
     ensures ok { IfOk result (λ table. IsTable (columns_of name) (key_columns_of name) text.now table.rows) }
     // The refusal is the first that stands.
-    ensures refused { IfErr result (λ fault. Refuses (columns_of name) (key_columns_of name) text.now fault) }
+    ensures refused { IfErr result (λ fault. RefusesTableFile (columns_of name) (key_columns_of name) text.now fault) }
     // What is the text of rows in form is accepted as these rows, unless memory runs out.
     ensures only { (rows : List (List (List ℕ))) → IsTable (columns_of name) (key_columns_of name) text.now rows
         → MatchResult result (λ table. table.rows ≡ rows) (λ fault. fault ≡ TableError.OutOfMemory) }
@@ -71,7 +83,7 @@ pub fn read_table(alloc: Global, name: TableName, text: &[u8]) -> Result<Table, 
 pub fn read_keys(alloc: Global, name: TableName, text: &[u8]) -> Result<Keys, TableError>
     requires { has_deletes name ≡ true }
     ensures ok { IfOk result (λ keys. IsTable (take 1 (columns_of name)) 1 text.now (key_rows keys)) }
-    ensures refused { IfErr result (λ fault. Refuses (take 1 (columns_of name)) 1 text.now fault) }
+    ensures refused { IfErr result (λ fault. RefusesTableFile (take 1 (columns_of name)) 1 text.now fault) }
     ensures only { (rows : List (List (List ℕ))) → IsTable (take 1 (columns_of name)) 1 text.now rows
         → MatchResult result (λ keys. key_rows keys ≡ rows) (λ fault. fault ≡ TableError.OutOfMemory) }
 {

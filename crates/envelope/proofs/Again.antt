@@ -12,7 +12,7 @@ use Rattle.schedule.specs.Reading.{day_at}
 use Rattle.schedule.specs.Schedule.{IsDay}
 use Rattle.schedule.specs.Text.{day_text}
 use Rattle.schedule.proofs.ReadingLemmas.{day_at-day_text, length-day_text}
-use Rattle.deposit_name.specs.Identifiers.{passing, IsTld, is_tld, IsDepositId, is_deposit_id}
+use Rattle.deposit_name.specs.Identifiers.{passing_text, IsTld, is_tld, IsDepositId, is_deposit_id}
 use Rattle.deposit_name.proofs.IdentifierLemmas.{is_tld-IsTld, is_deposit_id-IsDepositId}
 use Rattle.deposit_name.proofs.TableLemmas.{table_at-table_text}
 use Rattle.deposit_name.specs.Tables.{has_deletes}
@@ -24,8 +24,8 @@ use Rattle.serde_json.specs.View.{items_of}
 use Rattle.envelope.specs.Uri.{is_uri}
 use Rattle.envelope.specs.declared.envelope.FileEntry.{FileEntry}
 use Rattle.envelope.specs.declared.envelope.Count.{Count}
-use Rattle.envelope.specs.Envelope.{Env, IsFile, IsCount, AreDeletes, FitsKind, IsEnvelope, kind_text}
-use Rattle.envelope.specs.Reading.{◌>>=◌, number_at, text_at, digest_at, file_at, uri_at, each_at, count_at, counts_of, few, files_at, uris_at, counts_at, kind_at, deleted_at, deletes_at, id_at, prev_id_at, watermark_at, tld_at, header_at, menu_at, resend_at, env_at}
+use Rattle.envelope.specs.Envelope.{Env, IsFile, IsCount, AreDeletes, FitsKind, IsEnvelope, file_length_max, type_text}
+use Rattle.envelope.specs.JsonReading.{◌>>=◌, number_at, text_at, digest_at, file_at, uri_at, each_at, count_at, counts_of, short_list, files_at, uris_at, counts_at, kind_at, deletes_member_at, deletes_at, id_at, prev_id_at, watermark_at, tld_at, header_at, menu_at, resend_at, env_at}
 use Rattle.envelope.proofs.Values.{members_from, file_data, files_data, count_pair, counts_data, header_data, uris_data, menu_data, watermark_data, whole, env_data}
 
 if_true : {A : Type 0} (b : Bool) (x : A) → b ≡ true → cond b (Some x) None ≡ Some x
@@ -39,7 +39,7 @@ text_again : (name : List ℕ) (d : Data) (t : List ℕ) → get name d ≡ Some
 unfolding text_at
 text_again name d t e = ap (option_and_then as_str) e
 
-kind_again : (k : Kind) → kind_at (kind_text k) ≡ Some k
+kind_again : (k : Kind) → kind_at (type_text k) ≡ Some k
 unfolding kind_at
 kind_again Full = refl
 kind_again Diff = refl
@@ -50,7 +50,7 @@ digest_again f h = ap result_ok (decode_sized-encode_lower f.sha256 32 h.digest 
 
 file_again : (f : FileEntry) → IsFile f → file_at (file_data f) ≡ Some f
 unfolding file_at text_at
-file_again f h = rw (number_again 8388608 f.length h.small, table_at-table_text f.name, digest_again f h) refl
+file_again f h = rw (number_again file_length_max f.length h.small, table_at-table_text f.name, digest_again f h) refl
 
 each_again : {X : Type 0} (f : Data → Option X) (g : X → Data) (xs : List X) → AllByRecursion (λ x. f (g x) ≡ Some x) xs → each_at f (items_of (map g xs)) ≡ Some xs
 unfolding each_at
@@ -62,13 +62,13 @@ weaker : {X : Type 0} (P Q : X → Type 0) → ((x : X) → P x → Q x) → (xs
 weaker P Q h [] p = tt
 weaker P Q h (x ∷ xs) p = (h x p.0, weaker P Q h xs p.1)
 
-few_again : {X : Type 0} (limit : ℕ) (xs : List X) → length xs ≤ limit → few limit xs ≡ Some xs
+few_again : {X : Type 0} (limit : ℕ) (xs : List X) → length xs ≤ limit → short_list limit xs ≡ Some xs
 few_again limit xs h = if_true _ xs (le-leb (length xs) limit h)
 
 files_again : (limit : ℕ) (fs : List FileEntry) → length fs ≤ limit → All IsFile fs → files_at limit (files_data fs) ≡ Some fs
 unfolding files_at
 files_again limit fs small h =
-    ap (λ o. o >>= λ gs. few limit gs) (each_again file_at file_data fs (weaker IsFile (λ f. file_at (file_data f) ≡ Some f) file_again fs (recursion_from_All IsFile fs h)))
+    ap (λ o. o >>= λ gs. short_list limit gs) (each_again file_at file_data fs (weaker IsFile (λ f. file_at (file_data f) ≡ Some f) file_again fs (recursion_from_All IsFile fs h)))
     ∙ few_again limit fs small
 
 uri_again : (u : List ℕ) → IsTrue (is_uri u) → uri_at (string u) ≡ Some u
@@ -78,9 +78,9 @@ uri_again u h = if_true (is_uri u) u h
 uris_again : (us : List (List ℕ)) → 1 ≤ length us → length us ≤ 16 → All (λ u. IsTrue (is_uri u)) us → uris_at (uris_data us) ≡ Some us
 unfolding uris_at
 uris_again us some small h =
-    ap (λ o. o >>= λ vs. cond (nat_le 1 (length vs)) (few 16 vs) None)
+    ap (λ o. o >>= λ vs. cond (nat_le 1 (length vs)) (short_list 16 vs) None)
     (each_again uri_at string us (weaker (λ u. IsTrue (is_uri u)) (λ u. uri_at (string u) ≡ Some u) uri_again us (recursion_from_All (λ u. IsTrue (is_uri u)) us h)))
-    ∙ ap (λ b. cond b (few 16 us) None) (le-leb 1 (length us) some) ∙ few_again 16 us small
+    ∙ ap (λ b. cond b (short_list 16 us) None) (le-leb 1 (length us) some) ∙ few_again 16 us small
 
 count_again : (c : Count) → IsCount c → count_at c.uri (number (unsigned c.count)) ≡ Some c
 unfolding count_at
@@ -98,7 +98,7 @@ each_count_again (c ∷ cs) h =
 
 counts_again : (cs : List Count) → length cs ≤ 16 → All IsCount cs → counts_at (counts_data cs) ≡ Some cs
 unfolding counts_at
-counts_again cs small h = ap (λ o. o >>= λ xs. few 16 xs) (each_count_again cs (recursion_from_All IsCount cs h)) ∙ few_again 16 cs small
+counts_again cs small h = ap (λ o. o >>= λ xs. short_list 16 xs) (each_count_again cs (recursion_from_All IsCount cs h)) ∙ few_again 16 cs small
 
 tld_again : (cs : List Count) (t : List ℕ) → IsTld t → tld_at (header_data cs t) ≡ Some t
 unfolding tld_at text_at
@@ -179,7 +179,7 @@ all_named : (ds : List FileEntry) → AllByRecursion (λ f. IsTrue (has_deletes 
 all_named [] h = refl
 all_named (f ∷ ds) h = and_from _ _ h.0 (all_named ds h.1)
 
-deleted_again : (ds : List FileEntry) (d : Data) → AreDeletes ds → get (codes "deletes") d ≡ Some (files_data ds) → deleted_at d ≡ Some (Some ds)
+deleted_again : (ds : List FileEntry) (d : Data) → AreDeletes ds → get (codes "deletes") d ≡ Some (files_data ds) → deletes_member_at d ≡ Some (Some ds)
 deleted_again ds d h e =
     ap (λ o. o >>= λ x. files_at 4 x >>= λ fs. cond (list_all (λ f. has_deletes f.name) fs) (Some (Some fs)) None) e
     ∙ ap (λ o. o >>= λ fs. cond (list_all (λ f. has_deletes f.name) fs) (Some (Some fs)) None) (files_again 4 ds h.few h.files)
@@ -196,7 +196,7 @@ deletes_again Incr (Some ds) d h e = deleted_again ds d h e
 
 id_again : (name : List ℕ) (d : Data) (t : List ℕ) → get name d ≡ Some (string t) → IsDepositId t → id_at name d ≡ Some t
 unfolding id_at
-id_again name d t e h = ap (λ o. o >>= λ x. passing is_deposit_id x) (text_again name d t e) ∙ if_true (is_deposit_id t) t ((is_deposit_id-IsDepositId t).1 h)
+id_again name d t e h = ap (λ o. o >>= λ x. passing_text is_deposit_id x) (text_again name d t e) ∙ if_true (is_deposit_id t) t ((is_deposit_id-IsDepositId t).1 h)
 
 prev_again : (o : Option (List ℕ)) (d : Data) → get (codes "prevId") d ≡ option_map string o → IfSome o IsDepositId → prev_id_at d ≡ Some o
 unfolding prev_id_at
@@ -224,13 +224,13 @@ env_again v h =
     let p = option_map string v.prev_id in
     let m = menu_data v.object_uris in
     let r = number (unsigned v.resend) in
-    let k = string (kind_text v.kind) in
+    let k = string (type_text v.kind) in
     let w = watermark_data v.watermark in
     let d = whole c ds hd i p m r k w in
     rw (
       get_contents c ds hd i p m r k w,
       files_again 8 v.contents h.contents_few h.contents,
-      text_again (codes "type") d (kind_text v.kind) (get_kind c ds hd i p m r k w),
+      text_again (codes "type") d (type_text v.kind) (get_kind c ds hd i p m r k w),
       kind_again v.kind,
       deletes_again v.kind v.deletes d h.deletes (get_deletes c ds hd i p m r k w),
       get_header c ds hd i p m r k w,

@@ -7,14 +7,14 @@ use Rattle.std.specs.Map.{keys_of}
 use Rattle.std.specs.String.{string_cmp}
 use Rattle.std.specs.Cmp.Lexicographic.{slice_cmp}
 use Rattle.std.specs.Ordering.{nat_cmp}
-use Rattle.deposit_name.specs.Identifiers.{passing}
+use Rattle.deposit_name.specs.Identifiers.{passing_text}
 use Rattle.envelope.specs.Uri.{is_uri}
 use Rattle.std.proofs.lemmas.List.{append-nil, drop_more, drop_all}
 use Rattle.serde_json.specs.Data.{Data}
 use Rattle.serde_json.specs.View.{view, items_view, members_view}
 use Rattle.serde_json.specs.declared.value.Value.{Value}
 use Rattle.envelope.specs.declared.envelope.Count.{Count}
-use Rattle.envelope.specs.Reading.{◌>>=◌, each_at, counts_of, count_at, number_at}
+use Rattle.envelope.specs.JsonReading.{◌>>=◌, each_at, counts_of, count_at, number_at}
 
 -- what was read before, and what is still read
 abbrev pub with_front : {X : Type 0} → List X → Option (List X) → Option (List X)
@@ -75,7 +75,7 @@ unfolding counts_of
 counts_done front total so_far = sym so_far ∙ nothing_more front
 
 -- a count that was read has its name's URI
-passing_is : (test : List ℕ → Bool) (k u : List ℕ) → passing test k ≡ Some u → u ≡ k
+passing_is : (test : List ℕ → Bool) (k u : List ℕ) → passing_text test k ≡ Some u → u ≡ k
 passing_is test k u e = sym (cond_some (test k) k u e).1
 
 count_parts : (o : Option (List ℕ)) (m : Option ℕ) (x : Count) → Some x ≡ (o >>= λ u. m >>= λ n. Some (record { uri = u; count = n })) → o ≡ Some x.uri
@@ -85,7 +85,7 @@ count_parts (Some u) (Some n) x e = ap Some (ap (λ c. c.uri) (same_Some (record
 
 pub count_at-uri : (k : List ℕ) (d : Data) (x : Count) → Some x ≡ count_at k d → x.uri ≡ k
 unfolding count_at
-count_at-uri k d x e = passing_is is_uri k x.uri (count_parts (passing is_uri k) (number_at 4294967295 d) x e)
+count_at-uri k d x e = passing_is is_uri k x.uri (count_parts (passing_text is_uri k) (number_at 4294967295 d) x e)
 
 -- the names of a map rise
 above : (k : String Global) (es : List Entry) → AllByRecursion (λ y. string_cmp k y ≡ Less) (keys_of es) → AllByRecursion (λ y. slice_cmp nat_cmp (string_bytes k) y ≡ Less) (map (λ e. string_bytes e.0) es)

@@ -11,6 +11,7 @@ use Rattle.std.proofs.lemmas.Bool.Decides.{Decides-and, Decides-by_and, Decides-
 use Rattle.std.proofs.lemmas.List.{get_or_default, get_or_past}
 use Rattle.std.proofs.lemmas.List.Elements.{All-from_recursion, recursion_from_All}
 use Rattle.hex.specs.Hex.{IsBytes}
+use Rattle.schedule.specs.Schedule.{last_day}
 use Rattle.deposit_name.specs.Identifiers.{IsDepositId}
 use Rattle.deposit_name.specs.Tables.{has_deletes}
 use Rattle.deposit_name.specs.declared.kinds.Kind.{Kind}
@@ -19,8 +20,8 @@ use Rattle.deposit_name.proofs.IdentifierLemmas.{is_tld-IsTld, is_deposit_id-IsD
 use Rattle.envelope.specs.Uri.{is_uri}
 use Rattle.envelope.specs.declared.envelope.FileEntry.{FileEntry}
 use Rattle.envelope.specs.declared.envelope.Count.{Count}
-use Rattle.envelope.specs.Envelope.{AreDeletes, Env, FitsKind, IsCount, IsEnvelope, IsFile, Rises}
-use Rattle.envelope.specs.Readers.{are_counts, are_deletes, are_files, are_uris, fits_kind, is_count, is_envelope, is_file, is_prev_id, rise}
+use Rattle.envelope.specs.Envelope.{AreDeletes, Env, FitsKind, IsCount, IsEnvelope, IsFile, UrisRise, file_length_max}
+use Rattle.envelope.specs.Readers.{are_counts, are_deletes, are_files, are_uris, fits_kind, is_count, is_envelope, is_file, is_prev_id, are_rising_texts}
 
 itself : (b : Bool) → Decides b (IsTrue b)
 itself b = (λ e. e, λ e. e)
@@ -46,7 +47,7 @@ bytes_decide bytes = Decides-like _ whole (λ h k d inside. at k d inside (h k))
 file_decides : (f : FileEntry) → Decides (is_file f) (IsFile f)
 file_decides f =
     Decides-like _ (λ h. record { small = h.0; digest = h.1.0; bytes = h.1.1 }) (λ h. (h.small, (h.digest, h.bytes)))
-    (Decides-and _ _ (most_decides f.length 8388608) (Decides-and _ _ (Decides-eqb (length f.sha256) 32) (bytes_decide f.sha256)))
+    (Decides-and _ _ (most_decides f.length file_length_max) (Decides-and _ _ (Decides-eqb (length f.sha256) 32) (bytes_decide f.sha256)))
 
 files_decide : (most : ℕ) (fs : List FileEntry) → Decides (are_files most fs) ((length fs ≤ most) × All IsFile fs)
 files_decide most fs = Decides-and _ _ (most_decides (length fs) most) (all_decides is_file IsFile file_decides fs)
@@ -73,7 +74,7 @@ less_decides Less = (λ _. refl, λ _. refl)
 less_decides Equal = (λ e. cc e, λ e. cc e)
 less_decides Greater = (λ e. cc e, λ e. cc e)
 
-rise_decides : (texts : List (List ℕ)) → Decides (rise texts) (IsStrictlySortedBy (slice_cmp nat_cmp) texts)
+rise_decides : (texts : List (List ℕ)) → Decides (are_rising_texts texts) (IsStrictlySortedBy (slice_cmp nat_cmp) texts)
 unfolding IsStrictlySortedBy
 rise_decides [] = (λ _. tt, λ _. refl)
 rise_decides (text ∷ texts) = Decides-and _ _ (
@@ -81,7 +82,7 @@ rise_decides (text ∷ texts) = Decides-and _ _ (
     (all_decides (λ later. is_lt (slice_cmp nat_cmp text later)) (λ later. slice_cmp nat_cmp text later ≡ Less) (λ later. less_decides (slice_cmp nat_cmp text later)) texts)
     ) (rise_decides texts)
 
-counts_decide : (cs : List Count) → Decides (are_counts cs) ((length cs ≤ 16) × (All IsCount cs × Rises cs))
+counts_decide : (cs : List Count) → Decides (are_counts cs) ((length cs ≤ 16) × (All IsCount cs × UrisRise cs))
 counts_decide cs = Decides-and _ _ (most_decides (length cs) 16) (Decides-and _ _ (all_decides is_count IsCount count_decides cs) (rise_decides (map (λ c. c.uri) cs)))
 
 prev_id_decides : (id : Option (List ℕ)) → Decides (is_prev_id id) (IfSome id IsDepositId)
@@ -116,4 +117,4 @@ envelope_decides v =
     ))
     (Decides-and _ _ (files_decide 8 v.contents) (Decides-and _ _ (kind_decides v.kind v.deletes) (Decides-and _ _ (counts_decide v.count)
     (Decides-and _ _ (is_tld-IsTld v.tld) (Decides-and _ _ (is_deposit_id-IsDepositId v.id) (Decides-and _ _ (prev_id_decides v.prev_id)
-    (Decides-and _ _ (uris_decide v.object_uris) (Decides-and _ _ (most_decides v.resend 99) (most_decides v.watermark 2_932_531)))))))))
+    (Decides-and _ _ (uris_decide v.object_uris) (Decides-and _ _ (most_decides v.resend 99) (most_decides v.watermark last_day)))))))))

@@ -15,7 +15,7 @@ use Rattle.schedule.specs.Schedule.{IsDay}
 use Rattle.schedule.specs.Text.{day_text, is_day_byte}
 use Rattle.schedule.proofs.ReadingLemmas.{day_text-bytes}
 use Rattle.deposit_name.specs.Identifiers.{IsTld, is_tld_byte, IsDepositId}
-use Rattle.deposit_name.specs.Tables.{table_text}
+use Rattle.deposit_name.specs.Tables.{table_name_text}
 use Rattle.deposit_name.specs.declared.table.TableName.{TableName}
 use Rattle.deposit_name.specs.declared.table.TableName.TheVariants.{Domain, DomainContacts, DomainStatuses, DomainNameServers, Host, HostAddresses, Contact, Registrar}
 use Rattle.deposit_name.specs.declared.kinds.Kind.{Kind}
@@ -28,7 +28,7 @@ use Rattle.serde_json.specs.Written.{outline, items_outline, members_outline, co
 use Rattle.envelope.specs.Uri.{is_uri, is_uri_byte}
 use Rattle.envelope.specs.declared.envelope.FileEntry.{FileEntry}
 use Rattle.envelope.specs.declared.envelope.Count.{Count}
-use Rattle.envelope.specs.Envelope.{Env, IsFile, IsCount, Rises, FitsKind, IsEnvelope, kind_text, env_text}
+use Rattle.envelope.specs.Envelope.{Env, IsFile, IsCount, UrisRise, FitsKind, IsEnvelope, type_text, env_text}
 use Rattle.envelope.proofs.Plain.{is_plain, Plain, plain_byte, plain_from, plain_append, utf8_from_ascii}
 use Rattle.envelope.proofs.Canonical.{names, Rising, IsCanonical, AreCanonical, HaveCanonical, read_compact, compact_ascii}
 use Rattle.envelope.proofs.Values.{members_from, file_data, files_data, count_pair, counts_data, header_data, menu_data, watermark_data, whole, env_data, PlainFile, PlainEnv, env_compact}
@@ -92,7 +92,7 @@ plain_uri t h = plain_from is_uri_byte uri_byte t (and_parts _ _ h).1
 plain_day : (d : ℕ) → IsDay d → Plain (day_text d)
 plain_day d h = plain_from is_day_byte day_byte (day_text d) (day_text-bytes d h)
 
-plain_table : (t : TableName) → Plain (table_text t)
+plain_table : (t : TableName) → Plain (table_name_text t)
 plain_table Domain = refl
 plain_table DomainContacts = refl
 plain_table DomainStatuses = refl
@@ -102,7 +102,7 @@ plain_table HostAddresses = refl
 plain_table Contact = refl
 plain_table Registrar = refl
 
-plain_kind : (k : Kind) → Plain (kind_text k)
+plain_kind : (k : Kind) → Plain (type_text k)
 plain_kind Full = refl
 plain_kind Diff = refl
 plain_kind Incr = refl
@@ -188,7 +188,7 @@ file_canonical : (f : FileEntry) → IsFile f → IsCanonical (file_data f)
 file_canonical f h =
     let q = plain_file f h in
     let small : f.length < 2 ^ 64 = omega (arith, h.small) in
-    (rising (names (members_from ((codes "length", number (unsigned f.length)) ∷ (codes "name", string (table_text f.name)) ∷ (codes "sha256", string (encode_lower f.sha256)) ∷ []))) refl, (refl, small, (refl, q.name, (refl, q.sha256, tt))))
+    (rising (names (members_from ((codes "length", number (unsigned f.length)) ∷ (codes "name", string (table_name_text f.name)) ∷ (codes "sha256", string (encode_lower f.sha256)) ∷ []))) refl, (refl, small, (refl, q.name, (refl, q.sha256, tt))))
 
 files_canonical : (fs : List FileEntry) → AllByRecursion IsFile fs → AreCanonical (items_of (map file_data fs))
 files_canonical [] h = tt
@@ -202,14 +202,14 @@ counts_have : (cs : List Count) → AllByRecursion IsCount cs → HaveCanonical 
 counts_have [] h = tt
 counts_have (c ∷ cs) h = let small : c.count < 2 ^ 64 = omega (arith, h.0.count) in (plain_uri c.uri h.0.uri, small, counts_have cs h.1)
 
-counts_canonical : (cs : List Count) → Rises cs → All IsCount cs → IsCanonical (counts_data cs)
+counts_canonical : (cs : List Count) → UrisRise cs → All IsCount cs → IsCanonical (counts_data cs)
 counts_canonical cs order h = (subst Rising (sym (count_names cs)) order, counts_have cs (recursion_from_All IsCount cs h))
 
 uris_canonical : (us : List (List ℕ)) → AllByRecursion (λ u. IsTrue (is_uri u)) us → AreCanonical (items_of (map string us))
 uris_canonical [] h = tt
 uris_canonical (u ∷ us) h = (plain_uri u h.0, uris_canonical us h.1)
 
-header_canonical : (cs : List Count) (t : List ℕ) → Rises cs → All IsCount cs → IsTld t → IsCanonical (header_data cs t)
+header_canonical : (cs : List Count) (t : List ℕ) → UrisRise cs → All IsCount cs → IsTld t → IsCanonical (header_data cs t)
 header_canonical cs t order h ht = (rising (codes "count" ∷ codes "tld" ∷ []) refl, (refl, counts_canonical cs order h, (refl, plain_tld t ht, tt)))
 
 menu_canonical : (us : List (List ℕ)) → All (λ u. IsTrue (is_uri u)) us → IsCanonical (menu_data us)
@@ -245,7 +245,7 @@ env_canonical v h =
     let resend : v.resend < 2 ^ 64 = omega (arith, h.resend) in
     let q = plain_env v h in
     whole_canonical (files_data v.contents) (option_map files_data v.deletes) (header_data v.count v.tld) (string v.id) (option_map string v.prev_id) (menu_data v.object_uris)
-    (number (unsigned v.resend)) (string (kind_text v.kind)) (watermark_data v.watermark)
+    (number (unsigned v.resend)) (string (type_text v.kind)) (watermark_data v.watermark)
     (files_canonical v.contents (recursion_from_All IsFile v.contents h.contents)) (deletes_canonical v.kind v.deletes h.deletes)
     (header_canonical v.count v.tld h.count_order h.counts h.tld) q.id (prev_canonical v.prev_id h.prev_id) (menu_canonical v.object_uris h.object_uris) resend q.kind q.watermark
 
@@ -286,7 +286,7 @@ prev_shallow (Some t) = omega arith
 env_depth : (v : Env) → tree.depth (outline (env_data v)) ≤ 127
 env_depth v =
     whole_depth (files_data v.contents) (option_map files_data v.deletes) (header_data v.count v.tld) (string v.id) (option_map string v.prev_id) (menu_data v.object_uris)
-    (number (unsigned v.resend)) (string (kind_text v.kind)) (watermark_data v.watermark)
+    (number (unsigned v.resend)) (string (type_text v.kind)) (watermark_data v.watermark)
     (omega (arith, files_depth v.contents)) (deletes_shallow v.deletes) (omega (arith, counts_depth v.count)) (omega arith) (prev_shallow v.prev_id) (omega (arith, uris_depth v.object_uris)) (omega arith) (omega arith) (omega arith)
 
 -- ---- the text of an envelope in form

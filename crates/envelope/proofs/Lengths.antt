@@ -11,7 +11,7 @@ use Rattle.hex.proofs.HexLemmas.{length-encode_with}
 use Rattle.schedule.specs.Text.{day_text}
 use Rattle.schedule.proofs.ReadingLemmas.{length-day_text}
 use Rattle.deposit_name.specs.Identifiers.{IsDepositId}
-use Rattle.deposit_name.specs.Tables.{table_text}
+use Rattle.deposit_name.specs.Tables.{table_name_text}
 use Rattle.deposit_name.specs.declared.table.TableName.{TableName}
 use Rattle.deposit_name.specs.declared.table.TableName.TheVariants.{Domain, DomainContacts, DomainStatuses, DomainNameServers, Host, HostAddresses, Contact, Registrar}
 use Rattle.deposit_name.specs.declared.kinds.Kind.{Kind}
@@ -19,17 +19,17 @@ use Rattle.deposit_name.specs.declared.kinds.Kind.TheVariants.{Full, Diff, Incr}
 use Rattle.envelope.specs.Uri.{is_uri, is_uri_byte}
 use Rattle.envelope.specs.declared.envelope.FileEntry.{FileEntry}
 use Rattle.envelope.specs.declared.envelope.Count.{Count}
-use Rattle.envelope.specs.Envelope.{Env, IsFile, IsCount, FitsKind, IsEnvelope, quoted, member_text, object_text, array_text, file_text, count_member, count_text, files_text, header_text, menu_text, kind_text, later, later_if, env_text, text_max}
+use Rattle.envelope.specs.Envelope.{Env, IsFile, IsCount, FitsKind, IsEnvelope, quoted_text, member_text, object_text, array_text, file_text, count_member, counts_text, files_text, header_text, menu_text, type_text, later_member, later_member_if, env_text, text_max}
 
 -- ---- the parts of a text
 
-length-quoted : (s : List ℕ) → length (quoted s) ≡ length s + 2
+length-quoted : (s : List ℕ) → length (quoted_text s) ≡ length s + 2
 length-quoted s = omega (arith, length-append s (34 ∷ []))
 
 length-member : (m : List ℕ × List ℕ) → length (member_text m) ≡ length m.0 + length m.1 + 3
-length-member m = omega (arith, length-append (quoted m.0) (58 ∷ m.1), length-quoted m.0)
+length-member m = omega (arith, length-append (quoted_text m.0) (58 ∷ m.1), length-quoted m.0)
 
-length-later : (name text : List ℕ) → length (later name text) ≡ length name + length text + 4
+length-later : (name text : List ℕ) → length (later_member name text) ≡ length name + length text + 4
 length-later name text = omega (arith, length-member (name, text))
 
 -- the bytes of some members with their commas
@@ -63,7 +63,7 @@ list_most P text h xs p =
 
 -- ---- the parts of an envelope
 
-table_most : (t : TableName) → length (table_text t) ≤ 17
+table_most : (t : TableName) → length (table_name_text t) ≤ 17
 table_most Domain = omega arith
 table_most DomainContacts = omega arith
 table_most DomainStatuses = omega arith
@@ -79,8 +79,8 @@ uri_most u h = leb-true (length u) 64 (and_parts (nat_le 1 (length u)) (nat_le (
 file_most : (f : FileEntry) → IsFile f → length (file_text f) < 128
 file_most f h =
     let n = length-decimal-le 7 f.length (omega arith) (omega (arith, h.small)) (omega (arith, h.small)) in
-    let members : List (List ℕ × List ℕ) = (codes "length", decimal f.length) ∷ (codes "name", quoted (table_text f.name)) ∷ (codes "sha256", quoted (encode_lower f.sha256)) ∷ [] in
-    omega (arith, object_most members, n, length-quoted (table_text f.name), table_most f.name, length-quoted (encode_lower f.sha256), length-encode_with lower_digits f.sha256, h.digest)
+    let members : List (List ℕ × List ℕ) = (codes "length", decimal f.length) ∷ (codes "name", quoted_text (table_name_text f.name)) ∷ (codes "sha256", quoted_text (encode_lower f.sha256)) ∷ [] in
+    omega (arith, object_most members, n, length-quoted (table_name_text f.name), table_most f.name, length-quoted (encode_lower f.sha256), length-encode_with lower_digits f.sha256, h.digest)
 
 files_most : (fs : List FileEntry) → All IsFile fs → length (files_text fs) ≤ 2 + 128 * length fs
 files_most fs h = omega (arith, list_most IsFile file_text file_most fs h)
@@ -90,30 +90,30 @@ count_most c h =
     let n = length-decimal-le 10 c.count (omega arith) (omega (arith, h.count)) (omega (arith, h.count)) in
     omega (arith, length-member (c.uri, decimal c.count), uri_most c.uri h.uri, n)
 
-counts_most : (cs : List Count) → All IsCount cs → length (count_text cs) ≤ 2 + 128 * length cs
+counts_most : (cs : List Count) → All IsCount cs → length (counts_text cs) ≤ 2 + 128 * length cs
 counts_most cs h =
     omega (arith, length-append (join_with_byte 44 (map count_member cs)) (125 ∷ []), items_most (map count_member cs) (each_short IsCount count_member count_most cs (recursion_from_All IsCount cs h)), length-map cs count_member)
 
-uris_most : (us : List (List ℕ)) → All (λ u. IsTrue (is_uri u)) us → length (array_text (map quoted us)) ≤ 2 + 128 * length us
-uris_most us h = omega (arith, list_most (λ u. IsTrue (is_uri u)) quoted (λ u g. omega (arith, length-quoted u, uri_most u g)) us h)
+uris_most : (us : List (List ℕ)) → All (λ u. IsTrue (is_uri u)) us → length (array_text (map quoted_text us)) ≤ 2 + 128 * length us
+uris_most us h = omega (arith, list_most (λ u. IsTrue (is_uri u)) quoted_text (λ u g. omega (arith, length-quoted u, uri_most u g)) us h)
 
 header_most : (cs : List Count) (tld : List ℕ) → All IsCount cs → length (header_text cs tld) ≤ 22 + 128 * length cs + length tld
-header_most cs tld h = omega (arith, object_most ((codes "count", count_text cs) ∷ (codes "tld", quoted tld) ∷ []), counts_most cs h, length-quoted tld)
+header_most cs tld h = omega (arith, object_most ((codes "count", counts_text cs) ∷ (codes "tld", quoted_text tld) ∷ []), counts_most cs h, length-quoted tld)
 
 menu_most : (us : List (List ℕ)) → All (λ u. IsTrue (is_uri u)) us → length (menu_text us) ≤ 32 + 128 * length us
-menu_most us h = omega (arith, object_most ((codes "objURI", array_text (map quoted us)) ∷ (codes "version", quoted (codes "1.0")) ∷ []), uris_most us h)
+menu_most us h = omega (arith, object_most ((codes "objURI", array_text (map quoted_text us)) ∷ (codes "version", quoted_text (codes "1.0")) ∷ []), uris_most us h)
 
-deletes_most : (k : Kind) (o : Option (List FileEntry)) → FitsKind k o → length (later_if (codes "deletes") files_text o) ≤ 600
+deletes_most : (k : Kind) (o : Option (List FileEntry)) → FitsKind k o → length (later_member_if (codes "deletes") files_text o) ≤ 600
 deletes_most k None h = omega arith
 deletes_most Full (Some ds) h = absurd h
 deletes_most Diff (Some ds) h = omega (arith, length-later (codes "deletes") (files_text ds), files_most ds h.files, h.few)
 deletes_most Incr (Some ds) h = omega (arith, length-later (codes "deletes") (files_text ds), files_most ds h.files, h.few)
 
-prev_most : (o : Option (List ℕ)) → IfSome o IsDepositId → length (later_if (codes "prevId") quoted o) ≤ 30
+prev_most : (o : Option (List ℕ)) → IfSome o IsDepositId → length (later_member_if (codes "prevId") quoted_text o) ≤ 30
 prev_most None h = omega arith
-prev_most (Some i) h = omega (arith, length-later (codes "prevId") (quoted i), length-quoted i, h.length_in.1)
+prev_most (Some i) h = omega (arith, length-later (codes "prevId") (quoted_text i), length-quoted i, h.length_in.1)
 
-kind_most : (k : Kind) → length (kind_text k) ≤ 4
+kind_most : (k : Kind) → length (type_text k) ≤ 4
 kind_most Full = omega arith
 kind_most Diff = omega arith
 kind_most Incr = omega arith
@@ -128,15 +128,15 @@ pub env_most : (v : Env) → IsEnvelope v → length (env_text v) ≤ text_max
 unfolding env_text
 env_most v h =
     let contents = member_text (codes "contents", files_text v.contents) in
-    let deletes = later_if (codes "deletes") files_text v.deletes in
-    let header = later (codes "header") (header_text v.count v.tld) in
-    let id = later (codes "id") (quoted v.id) in
-    let prev = later_if (codes "prevId") quoted v.prev_id in
-    let menu = later (codes "rdeMenu") (menu_text v.object_uris) in
-    let resend = later (codes "resend") (decimal v.resend) in
-    let kind = later (codes "type") (quoted (kind_text v.kind)) in
+    let deletes = later_member_if (codes "deletes") files_text v.deletes in
+    let header = later_member (codes "header") (header_text v.count v.tld) in
+    let id = later_member (codes "id") (quoted_text v.id) in
+    let prev = later_member_if (codes "prevId") quoted_text v.prev_id in
+    let menu = later_member (codes "rdeMenu") (menu_text v.object_uris) in
+    let resend = later_member (codes "resend") (decimal v.resend) in
+    let kind = later_member (codes "type") (quoted_text (type_text v.kind)) in
     let moment = day_text v.watermark ++ codes "T00:00:00Z" in
-    let watermark = later (codes "watermark") (quoted moment) in
+    let watermark = later_member (codes "watermark") (quoted_text moment) in
     let front : length (contents ++ (deletes ++ (header ++ (id ++ prev)))) ≤ 5000 = omega (
       arith,
       length-five contents deletes header id prev,
@@ -148,7 +148,7 @@ env_most v h =
       header_most v.count v.tld h.counts,
       h.count_few,
       h.tld.length_in.1,
-      length-later (codes "id") (quoted v.id),
+      length-later (codes "id") (quoted_text v.id),
       length-quoted v.id,
       h.id.length_in.1,
       prev_most v.prev_id h.prev_id,
@@ -162,10 +162,10 @@ env_most v h =
       h.object_uris_few,
       length-later (codes "resend") (decimal v.resend),
       n,
-      length-later (codes "type") (quoted (kind_text v.kind)),
-      length-quoted (kind_text v.kind),
+      length-later (codes "type") (quoted_text (type_text v.kind)),
+      length-quoted (type_text v.kind),
       kind_most v.kind,
-      length-later (codes "watermark") (quoted moment),
+      length-later (codes "watermark") (quoted_text moment),
       length-quoted moment,
       length-append (day_text v.watermark) (codes "T00:00:00Z"),
       length-day_text v.watermark,

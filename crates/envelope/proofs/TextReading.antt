@@ -10,8 +10,8 @@ use Rattle.std.proofs.Math.Nat.{pow-succ'}
 use Rattle.serde_json.specs.Read.{read}
 use Rattle.envelope.specs.Envelope.{Env, IsEnvelope, env_text}
 use Rattle.envelope.specs.Frame.{IsFrame, fixed_digits, frame, with_length}
-use Rattle.envelope.specs.Reading.{◌>>=◌, env_at}
-use Rattle.envelope.specs.Readers.{AreReaders, after_head, after_length, envelope_at, frame_at, length_shown, number_shown, parts_shown, spelled}
+use Rattle.envelope.specs.JsonReading.{◌>>=◌, env_at}
+use Rattle.envelope.specs.Readers.{AreReaders, after_head, after_length, envelope_at, frame_at, length_shown, number_shown, parts_shown, spelled_env}
 use Rattle.envelope.proofs.Again.{env_again}
 use Rattle.envelope.proofs.Digits.{length-fixed_digits, without_length}
 use Rattle.envelope.proofs.FormDecided.{envelope_decides}
@@ -61,7 +61,7 @@ frame_is text parts = (
 
 -- ---- envelopes
 
-spelled_some : (text : List ℕ) (v w : Env) → spelled text v ≡ Some w → IsEnvelope w × (text ≡ env_text w)
+spelled_some : (text : List ℕ) (v w : Env) → spelled_env text v ≡ Some w → IsEnvelope w × (text ≡ env_text w)
 spelled_some text v w e =
     let found = cond_some _ _ _ e in
     let tests = and_parts _ _ found.0 in
@@ -70,14 +70,14 @@ spelled_some text v w e =
 envelope_some : (text : List ℕ) (v : Env) → envelope_at text ≡ Some v → IsEnvelope v × (text ≡ env_text v)
 unfolding envelope_at
 envelope_some text v e =
-    option_and_then_some (λ value. env_at value >>= spelled text) (read text) v e (λ value _ more.
-    option_and_then_some (spelled text) (env_at value) v more (λ w _ last. spelled_some text w v last))
+    option_and_then_some (λ value. env_at value >>= spelled_env text) (read text) v e (λ value _ more.
+    option_and_then_some (spelled_env text) (env_at value) v more (λ w _ last. spelled_some text w v last))
 
 envelope_is : (text : List ℕ) (v : Env) → IsEnvelope v × (text ≡ env_text v) → envelope_at text ≡ Some v
 unfolding envelope_at
 envelope_is text v is =
-    ap (option_and_then (λ value. env_at value >>= spelled text)) (ap read is.1 ∙ env_reads v is.0)
-    ∙ ap (option_and_then (spelled text)) (env_again v is.0)
+    ap (option_and_then (λ value. env_at value >>= spelled_env text)) (ap read is.1 ∙ env_reads v is.0)
+    ∙ ap (option_and_then (spelled_env text)) (env_again v is.0)
     ∙ ap (λ b. cond b (Some v) None) (and_from _ _ ((envelope_decides v).1 is.0) ((bytes_eq-Decides text (env_text v)).1 is.1))
 
 -- ---- both

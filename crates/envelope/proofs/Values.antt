@@ -4,14 +4,14 @@ use Rattle.std.specs.Prelude.{IfSome}
 use Rattle.std.specs.List.{AllByRecursion, list_all, join_with_byte, flat_map}
 use Rattle.hex.specs.Hex.{encode_lower}
 use Rattle.schedule.specs.Text.{day_text}
-use Rattle.deposit_name.specs.Tables.{table_text}
+use Rattle.deposit_name.specs.Tables.{table_name_text}
 use Rattle.json.specs.Print as print
 use Rattle.serde_json.specs.Data.{unsigned, Data, number, string, array, object, Members, no_members, member}
 use Rattle.serde_json.specs.View.{items_of}
 use Rattle.serde_json.specs.Written.{compact_text, items_text, members_text}
 use Rattle.envelope.specs.declared.envelope.FileEntry.{FileEntry}
 use Rattle.envelope.specs.declared.envelope.Count.{Count}
-use Rattle.envelope.specs.Envelope.{Env, quoted, array_text, member_text, object_text, file_text, files_text, count_member, count_text, header_text, menu_text, kind_text, later, later_if, env_text}
+use Rattle.envelope.specs.Envelope.{Env, quoted_text, array_text, member_text, object_text, file_text, files_text, count_member, counts_text, header_text, menu_text, type_text, later_member, later_member_if, env_text}
 use Rattle.std.proofs.lemmas.Bool.{and_parts, and_from}
 use Rattle.envelope.proofs.Plain.{Plain, is_plain, quoted_plain}
 
@@ -80,7 +80,7 @@ object_compact (m ∷ ms) h =
 -- ---- the parts
 
 abbrev pub file_members : FileEntry → List (List ℕ × Data)
-file_members f = (codes "length", number (unsigned f.length)) ∷ (codes "name", string (table_text f.name)) ∷ (codes "sha256", string (encode_lower f.sha256)) ∷ []
+file_members f = (codes "length", number (unsigned f.length)) ∷ (codes "name", string (table_name_text f.name)) ∷ (codes "sha256", string (encode_lower f.sha256)) ∷ []
 
 abbrev pub file_data : FileEntry → Data
 file_data f = object (members_from (file_members f))
@@ -130,13 +130,13 @@ whole contents deletes header id prev menu resend kind watermark = object (membe
 abbrev pub env_data : Env → Data
 env_data v =
     whole (files_data v.contents) (option_map files_data v.deletes) (header_data v.count v.tld) (string v.id) (option_map string v.prev_id) (menu_data v.object_uris)
-    (number (unsigned v.resend)) (string (kind_text v.kind)) (watermark_data v.watermark)
+    (number (unsigned v.resend)) (string (type_text v.kind)) (watermark_data v.watermark)
 
 -- ---- their texts
 
 -- the strings of the parts need no escape
 pub record PlainFile (f : FileEntry) : Type 0 where
-  pub name : Plain (table_text f.name)
+  pub name : Plain (table_name_text f.name)
   pub sha256 : Plain (encode_lower f.sha256)
 
 pub record PlainEnv (v : Env) : Type 0 where
@@ -147,13 +147,13 @@ pub record PlainEnv (v : Env) : Type 0 where
   pub id : Plain v.id
   pub prev_id : IfSome v.prev_id Plain
   pub object_uris : AllByRecursion Plain v.object_uris
-  pub kind : Plain (kind_text v.kind)
+  pub kind : Plain (type_text v.kind)
   pub watermark : Plain (day_text v.watermark ++ codes "T00:00:00Z")
 
 file_compact : (f : FileEntry) → PlainFile f → compact_text (file_data f) ≡ file_text f
 file_compact f h =
     object_compact (file_members f) refl
-    ∙ ap₂ (λ a b. object_text ((codes "length", decimal f.length) ∷ (codes "name", a) ∷ (codes "sha256", b) ∷ [])) (quoted_plain (table_text f.name) h.name) (quoted_plain (encode_lower f.sha256) h.sha256)
+    ∙ ap₂ (λ a b. object_text ((codes "length", decimal f.length) ∷ (codes "name", a) ∷ (codes "sha256", b) ∷ [])) (quoted_plain (table_name_text f.name) h.name) (quoted_plain (encode_lower f.sha256) h.sha256)
 
 each_file : (fs : List FileEntry) → AllByRecursion PlainFile fs → map compact_text (map file_data fs) ≡ map file_text fs
 each_file [] h = refl
@@ -170,7 +170,7 @@ each_count : (cs : List Count) → texts (map count_pair cs) ≡ map count_membe
 each_count [] = refl
 each_count (c ∷ cs) = ap (λ ts. count_member c ∷ ts) (each_count cs)
 
-counts_compact : (cs : List Count) → AllByRecursion (λ c. Plain c.uri) cs → compact_text (counts_data cs) ≡ count_text cs
+counts_compact : (cs : List Count) → AllByRecursion (λ c. Plain c.uri) cs → compact_text (counts_data cs) ≡ counts_text cs
 counts_compact cs h = object_compact (map count_pair cs) (count_names cs h) ∙ ap (λ ts. 123 ∷ (join_with_byte 44 ts ++ 125 ∷ [])) (each_count cs)
 
 header_compact : (cs : List Count) (tld : List ℕ) → AllByRecursion (λ c. Plain c.uri) cs → Plain tld → compact_text (header_data cs tld) ≡ header_text cs tld
@@ -178,7 +178,7 @@ header_compact cs tld hc ht =
     object_compact (header_members cs tld) refl
     ∙ ap₂ (λ a b. object_text ((codes "count", a) ∷ (codes "tld", b) ∷ [])) (counts_compact cs hc) (quoted_plain tld ht)
 
-each_uri : (us : List (List ℕ)) → AllByRecursion Plain us → map compact_text (map string us) ≡ map quoted us
+each_uri : (us : List (List ℕ)) → AllByRecursion Plain us → map compact_text (map string us) ≡ map quoted_text us
 each_uri [] h = refl
 each_uri (u ∷ us) h = ap₂ (λ t ts. t ∷ ts) (quoted_plain u h.0) (each_uri us h.1)
 
@@ -216,14 +216,14 @@ chain_neither a c d f g h i =
 abbrev whole_text : List ℕ → Option (List ℕ) → List ℕ → List ℕ → Option (List ℕ) → List ℕ → List ℕ → List ℕ → List ℕ → List ℕ
 whole_text contents deletes header id prev menu resend kind watermark =
     (123 ∷ (member_text (codes "contents", contents)
-    ++ (later_if (codes "deletes") (λ t. t) deletes
-    ++ (later (codes "header") header
-    ++ (later (codes "id") id
-    ++ later_if (codes "prevId") (λ t. t) prev)))))
-    ++ (later (codes "rdeMenu") menu
-    ++ (later (codes "resend") resend
-    ++ (later (codes "type") kind
-    ++ (later (codes "watermark") watermark
+    ++ (later_member_if (codes "deletes") (λ t. t) deletes
+    ++ (later_member (codes "header") header
+    ++ (later_member (codes "id") id
+    ++ later_member_if (codes "prevId") (λ t. t) prev)))))
+    ++ (later_member (codes "rdeMenu") menu
+    ++ (later_member (codes "resend") resend
+    ++ (later_member (codes "type") kind
+    ++ (later_member (codes "watermark") watermark
     ++ 125 ∷ []))))
 
 abbrev mt : List ℕ → Data → List ℕ
@@ -242,28 +242,28 @@ whole_compact contents (Some deletes) header id None menu resend kind watermark 
 whole_compact contents (Some deletes) header id (Some prev) menu resend kind watermark =
     object_compact (whole_members contents (Some deletes) header id (Some prev) menu resend kind watermark) refl ∙ chain (mt (codes "contents") contents) (mt (codes "deletes") deletes) (mt (codes "header") header) (mt (codes "id") id) (mt (codes "prevId") prev) (mt (codes "rdeMenu") menu) (mt (codes "resend") resend) (mt (codes "type") kind) (mt (codes "watermark") watermark)
 
-same_deletes : (o : Option (List FileEntry)) → IfSome o (AllByRecursion PlainFile) → later_if (codes "deletes") (λ t. t) (option_map compact_text (option_map files_data o)) ≡ later_if (codes "deletes") files_text o
+same_deletes : (o : Option (List FileEntry)) → IfSome o (AllByRecursion PlainFile) → later_member_if (codes "deletes") (λ t. t) (option_map compact_text (option_map files_data o)) ≡ later_member_if (codes "deletes") files_text o
 same_deletes None h = refl
-same_deletes (Some fs) h = ap (later (codes "deletes")) (files_compact fs h)
+same_deletes (Some fs) h = ap (later_member (codes "deletes")) (files_compact fs h)
 
-same_prev : (o : Option (List ℕ)) → IfSome o Plain → later_if (codes "prevId") (λ t. t) (option_map compact_text (option_map string o)) ≡ later_if (codes "prevId") quoted o
+same_prev : (o : Option (List ℕ)) → IfSome o Plain → later_member_if (codes "prevId") (λ t. t) (option_map compact_text (option_map string o)) ≡ later_member_if (codes "prevId") quoted_text o
 same_prev None h = refl
-same_prev (Some t) h = ap (later (codes "prevId")) (quoted_plain t h)
+same_prev (Some t) h = ap (later_member (codes "prevId")) (quoted_plain t h)
 
 -- the envelope's text is the compact text of its value
 pub env_compact : (v : Env) → PlainEnv v → compact_text (env_data v) ≡ env_text v
 unfolding env_text
 env_compact v h =
     whole_compact (files_data v.contents) (option_map files_data v.deletes) (header_data v.count v.tld) (string v.id) (option_map string v.prev_id) (menu_data v.object_uris)
-    (number (unsigned v.resend)) (string (kind_text v.kind)) (watermark_data v.watermark)
+    (number (unsigned v.resend)) (string (type_text v.kind)) (watermark_data v.watermark)
     ∙ (λ i.
     (123 ∷ (member_text (codes "contents", files_compact v.contents h.contents i)
     ++ (same_deletes v.deletes h.deletes i
-    ++ (later (codes "header") (header_compact v.count v.tld h.counts h.tld i)
-    ++ (later (codes "id") (quoted_plain v.id h.id i)
+    ++ (later_member (codes "header") (header_compact v.count v.tld h.counts h.tld i)
+    ++ (later_member (codes "id") (quoted_plain v.id h.id i)
     ++ same_prev v.prev_id h.prev_id i)))))
-    ++ (later (codes "rdeMenu") (menu_compact v.object_uris h.object_uris i)
-    ++ (later (codes "resend") (decimal v.resend)
-    ++ (later (codes "type") (quoted_plain (kind_text v.kind) h.kind i)
-    ++ (later (codes "watermark") (quoted_plain (day_text v.watermark ++ codes "T00:00:00Z") h.watermark i)
+    ++ (later_member (codes "rdeMenu") (menu_compact v.object_uris h.object_uris i)
+    ++ (later_member (codes "resend") (decimal v.resend)
+    ++ (later_member (codes "type") (quoted_plain (type_text v.kind) h.kind i)
+    ++ (later_member (codes "watermark") (quoted_plain (day_text v.watermark ++ codes "T00:00:00Z") h.watermark i)
     ++ 125 ∷ [])))))

@@ -1,5 +1,28 @@
 -- What an envelope says, when it is in form, and its one text.
-use Rattle.std.specs.Prelude.{◌≡◌, ◌≤◌, ◌<◌, ◌^◌, ℕ, zero, suc, List, [], ◌∷◌, ◌++◌, length, map, codes, decimal, Option, Some, None, option_map, IfSome, IsTrue, All}
+use Rattle.std.specs.Prelude.{
+  ◌≡◌,
+  ◌≤◌,
+  ◌<◌,
+  ◌^◌,
+  ℕ,
+  zero,
+  suc,
+  List,
+  [],
+  ◌∷◌,
+  ◌++◌,
+  length,
+  map,
+  codes,
+  decimal,
+  Option,
+  Some,
+  None,
+  option_map,
+  IfSome,
+  IsTrue,
+  All,
+}
 use Rattle.std.specs.Cmp.Lexicographic.{slice_cmp}
 use Rattle.std.specs.List.{join_with_byte}
 use Rattle.std.specs.List.Sorted.{IsStrictlySortedBy}
@@ -8,7 +31,7 @@ use Rattle.hex.specs.Hex.{encode_lower, IsBytes}
 use Rattle.schedule.specs.Schedule.{IsDay}
 use Rattle.schedule.specs.Text.{day_text}
 use Rattle.deposit_name.specs.Identifiers.{IsTld, IsDepositId}
-use Rattle.deposit_name.specs.Tables.{table_text, has_deletes}
+use Rattle.deposit_name.specs.Tables.{table_name_text, has_deletes}
 use Rattle.deposit_name.specs.declared.kinds.Kind.{Kind}
 use Rattle.deposit_name.specs.declared.kinds.Kind.TheVariants.{Full, Diff, Incr}
 use Rattle.envelope.specs.Uri.{is_uri}
@@ -31,8 +54,8 @@ pub record Env : Type 0 where
   pub kind : Kind
   pub watermark : ℕ
 
-abbrev pub view : Envelope → Env
-view e = record {
+abbrev pub env_of : Envelope → Env
+env_of e = record {
   contents = e.contents.items;
   deletes = option_map (λ d. d.items) e.deletes;
   count = e.header.count.items;
@@ -47,8 +70,12 @@ view e = record {
 
 -- ---- in form
 
+-- the most bytes of a file: 8 MiB
+abbrev pub file_length_max : ℕ
+file_length_max = 8_388_608
+
 pub record IsFile (f : FileEntry) : Type 0 where
-  pub small : f.length ≤ 8388608
+  pub small : f.length ≤ file_length_max
   pub digest : length f.sha256 ≡ 32
   pub bytes : IsBytes f.sha256
 
@@ -57,8 +84,8 @@ pub record IsCount (c : Count) : Type 0 where
   pub count : c.count < 2 ^ 32
 
 -- the URIs rise in byte order
-abbrev pub Rises : List Count → Type 0
-Rises cs = IsStrictlySortedBy (slice_cmp nat_cmp) (map (λ c. c.uri) cs)
+abbrev pub UrisRise : List Count → Type 0
+UrisRise cs = IsStrictlySortedBy (slice_cmp nat_cmp) (map (λ c. c.uri) cs)
 
 -- files whose keys a deposit may delete
 pub record AreDeletes (ds : List FileEntry) : Type 0 where
@@ -81,7 +108,7 @@ pub record IsEnvelope (v : Env) : Type 0 where
   pub deletes : FitsKind v.kind v.deletes
   pub count_few : length v.count ≤ 16
   pub counts : All IsCount v.count
-  pub count_order : Rises v.count
+  pub count_order : UrisRise v.count
   pub tld : IsTld v.tld
   pub id : IsDepositId v.id
   pub prev_id : IfSome v.prev_id IsDepositId
@@ -96,7 +123,7 @@ pub record IsEnvelope (v : Env) : Type 0 where
 pub record IsHeader (h : Header) : Type 0 where
   pub few : length h.count.items ≤ 16
   pub counts : All IsCount h.count.items
-  pub order : Rises h.count.items
+  pub order : UrisRise h.count.items
   pub tld : IsTld h.tld
 
 pub record IsMenu (m : Menu) : Type 0 where
@@ -107,8 +134,8 @@ pub record IsMenu (m : Menu) : Type 0 where
 -- ---- the text
 
 -- a string that needs no escape
-abbrev pub quoted : List ℕ → List ℕ
-quoted s = 34 ∷ (s ++ 34 ∷ [])
+abbrev pub quoted_text : List ℕ → List ℕ
+quoted_text s = 34 ∷ (s ++ 34 ∷ [])
 
 -- what stands before the item at index i
 abbrev pub comma_before : ℕ → List ℕ
@@ -120,7 +147,7 @@ array_text items = 91 ∷ (join_with_byte 44 items ++ 93 ∷ [])
 
 -- a member: its name, and the text of its value
 abbrev pub member_text : List ℕ × List ℕ → List ℕ
-member_text m = quoted m.0 ++ 58 ∷ m.1
+member_text m = quoted_text m.0 ++ 58 ∷ m.1
 
 abbrev pub object_text : List (List ℕ × List ℕ) → List ℕ
 object_text members = 123 ∷ (join_with_byte 44 (map member_text members) ++ 125 ∷ [])
@@ -128,56 +155,56 @@ object_text members = 123 ∷ (join_with_byte 44 (map member_text members) ++ 12
 abbrev pub file_text : FileEntry → List ℕ
 file_text f = object_text (
     (codes "length", decimal f.length)
-    ∷ (codes "name", quoted (table_text f.name))
-    ∷ (codes "sha256", quoted (encode_lower f.sha256))
+    ∷ (codes "name", quoted_text (table_name_text f.name))
+    ∷ (codes "sha256", quoted_text (encode_lower f.sha256))
     ∷ [])
 
 abbrev pub count_member : Count → List ℕ
 count_member c = member_text (c.uri, decimal c.count)
 
-abbrev pub count_text : List Count → List ℕ
-count_text cs = 123 ∷ (join_with_byte 44 (map count_member cs) ++ 125 ∷ [])
+abbrev pub counts_text : List Count → List ℕ
+counts_text cs = 123 ∷ (join_with_byte 44 (map count_member cs) ++ 125 ∷ [])
 
-abbrev pub kind_text : Kind → List ℕ
-kind_text Full = codes "FULL"
-kind_text Diff = codes "DIFF"
-kind_text Incr = codes "INCR"
+abbrev pub type_text : Kind → List ℕ
+type_text Full = codes "FULL"
+type_text Diff = codes "DIFF"
+type_text Incr = codes "INCR"
 
 -- the list of the files
 abbrev pub files_text : List FileEntry → List ℕ
 files_text fs = array_text (map file_text fs)
 
 abbrev pub header_text : List Count → List ℕ → List ℕ
-header_text count tld = object_text ((codes "count", count_text count) ∷ (codes "tld", quoted tld) ∷ [])
+header_text count tld = object_text ((codes "count", counts_text count) ∷ (codes "tld", quoted_text tld) ∷ [])
 
 abbrev pub menu_text : List (List ℕ) → List ℕ
-menu_text uris = object_text ((codes "objURI", array_text (map quoted uris)) ∷ (codes "version", quoted (codes "1.0")) ∷ [])
+menu_text uris = object_text ((codes "objURI", array_text (map quoted_text uris)) ∷ (codes "version", quoted_text (codes "1.0")) ∷ [])
 
 -- a member behind another
-abbrev pub later : List ℕ → List ℕ → List ℕ
-later name text = 44 ∷ member_text (name, text)
+abbrev pub later_member : List ℕ → List ℕ → List ℕ
+later_member name text = 44 ∷ member_text (name, text)
 
 -- the same, where there is a value
-abbrev pub later_if : {A : Type 0} → List ℕ → (A → List ℕ) → Option A → List ℕ
-later_if name text None = []
-later_if name text (Some x) = later name (text x)
+abbrev pub later_member_if : {A : Type 0} → List ℕ → (A → List ℕ) → Option A → List ℕ
+later_member_if name text None = []
+later_member_if name text (Some x) = later_member name (text x)
 
 -- the members up to `prevId`
 abbrev pub front_text : Env → List ℕ
 front_text v =
     123 ∷ (member_text (codes "contents", files_text v.contents)
-    ++ (later_if (codes "deletes") files_text v.deletes
-    ++ (later (codes "header") (header_text v.count v.tld)
-    ++ (later (codes "id") (quoted v.id)
-    ++ later_if (codes "prevId") quoted v.prev_id))))
+    ++ (later_member_if (codes "deletes") files_text v.deletes
+    ++ (later_member (codes "header") (header_text v.count v.tld)
+    ++ (later_member (codes "id") (quoted_text v.id)
+    ++ later_member_if (codes "prevId") quoted_text v.prev_id))))
 
 -- the members from `rdeMenu` on, and the end
 abbrev pub back_text : Env → List ℕ
 back_text v =
-    later (codes "rdeMenu") (menu_text v.object_uris)
-    ++ (later (codes "resend") (decimal v.resend)
-    ++ (later (codes "type") (quoted (kind_text v.kind))
-    ++ (later (codes "watermark") (quoted (day_text v.watermark ++ codes "T00:00:00Z"))
+    later_member (codes "rdeMenu") (menu_text v.object_uris)
+    ++ (later_member (codes "resend") (decimal v.resend)
+    ++ (later_member (codes "type") (quoted_text (type_text v.kind))
+    ++ (later_member (codes "watermark") (quoted_text (day_text v.watermark ++ codes "T00:00:00Z"))
     ++ 125 ∷ [])))
 
 -- the one text of an envelope: compact JSON, whose members are in byte order of their names

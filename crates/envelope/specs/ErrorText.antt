@@ -2,8 +2,8 @@
 use Rattle.std.specs.Prelude.{ℕ, List, codes}
 use Rattle.envelope.specs.declared.frame.FrameError.{FrameError}
 use Rattle.envelope.specs.declared.frame.FrameError.TheVariants.{Head, Digits, Short}
-use Rattle.envelope.specs.declared.error.EnvError.{EnvError}
-use Rattle.envelope.specs.declared.error.EnvError.TheVariants.{Spelling, Memory}
+use Rattle.envelope.specs.declared.errors.EnvError.{EnvError}
+use Rattle.envelope.specs.declared.errors.EnvError.TheVariants.{Spelling, Memory}
 
 abbrev pub frame_error_text : FrameError → List ℕ
 frame_error_text Head = codes "F1"

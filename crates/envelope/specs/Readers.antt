@@ -1,10 +1,39 @@
 -- Frame and envelope as functions of a text (RFC 8909, section 5.1). Only their law is used: `AreReaders`, which says them by `IsFrame`, and by `IsEnvelope` and `env_text`.
-use Rattle.std.specs.Prelude.{◌≡◌, ◌≢◌, ◌↔◌, ◌==◌, ◌&&◌, ◌+◌, ◌*◌, ◌-◌, ◌^◌, ℕ, Bool, true, false, List, [], ◌∷◌, fold, length, map, take, drop, Option, Some, None, if◌then◌else◌, nat_le, nat_lt}
+use Rattle.std.specs.Prelude.{
+  ◌≡◌,
+  ◌≢◌,
+  ◌↔◌,
+  ◌==◌,
+  ◌&&◌,
+  ◌+◌,
+  ◌*◌,
+  ◌-◌,
+  ◌^◌,
+  ℕ,
+  Bool,
+  true,
+  false,
+  List,
+  [],
+  ◌∷◌,
+  fold,
+  length,
+  map,
+  take,
+  drop,
+  Option,
+  Some,
+  None,
+  if◌then◌else◌,
+  nat_le,
+  nat_lt,
+}
 use Rattle.std.specs.Cmp.Lexicographic.{slice_cmp}
 use Rattle.std.specs.List.{list_all}
 use Rattle.std.specs.Ordering.{is_lt, nat_cmp}
 use Rattle.std.specs.Str.{bytes_eq}
 use Rattle.serde_json.specs.Read.{read}
+use Rattle.schedule.specs.Schedule.{last_day}
 use Rattle.deposit_name.specs.Identifiers.{is_tld, is_deposit_id}
 use Rattle.deposit_name.specs.Tables.{has_deletes}
 use Rattle.deposit_name.specs.declared.kinds.Kind.{Kind}
@@ -12,9 +41,9 @@ use Rattle.deposit_name.specs.declared.kinds.Kind.TheVariants.{Full, Diff, Incr}
 use Rattle.envelope.specs.Uri.{is_uri}
 use Rattle.envelope.specs.declared.envelope.FileEntry.{FileEntry}
 use Rattle.envelope.specs.declared.envelope.Count.{Count}
-use Rattle.envelope.specs.Envelope.{Env, IsEnvelope, env_text}
-use Rattle.envelope.specs.Frame.{IsFrame, frame, head}
-use Rattle.envelope.specs.Reading.{◌>>=◌, env_at}
+use Rattle.envelope.specs.Envelope.{Env, IsEnvelope, env_text, file_length_max}
+use Rattle.envelope.specs.Frame.{IsFrame, frame, frame_head}
+use Rattle.envelope.specs.JsonReading.{◌>>=◌, env_at}
 
 -- ---- the frame
 
@@ -24,7 +53,7 @@ number_shown digits = fold (λ number digit. number * 10 + (digit - 48)) 0 digit
 
 -- what stands behind the head, and behind the eight digits and their line feed
 abbrev pub after_head : List ℕ → List ℕ
-after_head text = drop (length head) text
+after_head text = drop (length frame_head) text
 
 abbrev pub after_length : List ℕ → List ℕ
 after_length text = drop 9 (after_head text)
@@ -47,7 +76,7 @@ frame_at text =
 -- ---- an envelope in form, as a test
 
 abbrev pub is_file : FileEntry → Bool
-is_file f = nat_le f.length 8388608 && (length f.sha256 == 32 && list_all (λ byte. nat_lt byte 256) f.sha256)
+is_file f = nat_le f.length file_length_max && (length f.sha256 == 32 && list_all (λ byte. nat_lt byte 256) f.sha256)
 
 abbrev pub are_files : ℕ → List FileEntry → Bool
 are_files most fs = nat_le (length fs) most && list_all is_file fs
@@ -67,12 +96,12 @@ abbrev pub is_count : Count → Bool
 is_count c = is_uri c.uri && nat_lt c.count (2 ^ 32)
 
 -- each text is below all after it
-abbrev pub rise : List (List ℕ) → Bool
-rise [] = true
-rise (text ∷ texts) = list_all (λ later. is_lt (slice_cmp nat_cmp text later)) texts && rise texts
+abbrev pub are_rising_texts : List (List ℕ) → Bool
+are_rising_texts [] = true
+are_rising_texts (text ∷ texts) = list_all (λ later. is_lt (slice_cmp nat_cmp text later)) texts && are_rising_texts texts
 
 abbrev pub are_counts : List Count → Bool
-are_counts cs = nat_le (length cs) 16 && (list_all is_count cs && rise (map (λ c. c.uri) cs))
+are_counts cs = nat_le (length cs) 16 && (list_all is_count cs && are_rising_texts (map (λ c. c.uri) cs))
 
 abbrev pub is_prev_id : Option (List ℕ) → Bool
 is_prev_id None = true
@@ -84,19 +113,19 @@ are_uris uris = nat_le 1 (length uris) && (nat_le (length uris) 16 && list_all i
 abbrev pub is_envelope : Env → Bool
 is_envelope v =
     are_files 8 v.contents && (fits_kind v.kind v.deletes && (are_counts v.count && (is_tld v.tld && (is_deposit_id v.id
-    && (is_prev_id v.prev_id && (are_uris v.object_uris && (nat_le v.resend 99 && nat_le v.watermark 2_932_531)))))))
+    && (is_prev_id v.prev_id && (are_uris v.object_uris && (nat_le v.resend 99 && nat_le v.watermark last_day)))))))
 
 -- ---- the envelope
 
 -- the envelope that a JSON value stands for, where it is in form and the text is its one text
-abbrev pub spelled : List ℕ → Env → Option Env
-spelled text v = if is_envelope v && bytes_eq text (env_text v) then Some v else None
+abbrev pub spelled_env : List ℕ → Env → Option Env
+spelled_env text v = if is_envelope v && bytes_eq text (env_text v) then Some v else None
 
 unfoldable pub envelope_at : List ℕ → Option Env
 envelope_at text = do
   value ← read text
   v ← env_at value
-  spelled text v
+  spelled_env text v
 
 -- Frame and envelope are read from their one text, and none from other texts.
 pub record AreReaders : Type 0 where

@@ -1,5 +1,25 @@
 //! Reading an envelope: the JSON value of the text, the envelope that the value stands for, its text, and the comparison.
-ghost use Rattle.std.specs.Prelude.{◌≡◌, ◌-◌, ◌≤◌, ◌<◌, ◌^◌, ℕ, List, Option, Some, None, Ok, option_map, IfSome, IfOk, IsUtf8, IsTrue, IsErrOf, All, length};
+ghost use Rattle.std.specs.Prelude.{
+  ◌≡◌,
+  ◌-◌,
+  ◌≤◌,
+  ◌<◌,
+  ◌^◌,
+  ℕ,
+  List,
+  Option,
+  Some,
+  None,
+  Ok,
+  option_map,
+  IfSome,
+  IfOk,
+  IsUtf8,
+  IsTrue,
+  IsErrOf,
+  All,
+  length,
+};
 ghost use Rattle.serde_json.specs.View.{items_view, members_view};
 ghost use Rattle.serde_json.specs.Read.{read};
 ghost use Rattle.serde_json.specs.View as json;
@@ -9,12 +29,47 @@ ghost use Rattle.deposit_name.specs.Identifiers.{IsTld, IsDepositId};
 ghost use Rattle.schedule.specs.Reading.{day_at};
 ghost use Rattle.schedule.specs.Schedule.{IsDay};
 ghost use Rattle.envelope.specs.Uri.{is_uri};
-ghost use Rattle.envelope.specs.Envelope.{Env, IsFile, IsCount, FitsKind, Rises, IsHeader, IsMenu, IsEnvelope, view, env_text, text_max};
-ghost use Rattle.envelope.specs.declared.error.EnvError.TheVariants.{Spelling};
-ghost use Rattle.envelope.specs.Reading.{Gives, number_at, text_at, digest_at, file_at, uri_at, each_at, counts_of, files_at, uris_at, counts_at, kind_at, deletes_at, id_at, prev_id_at, watermark_at, count_at, header_at, tld_at, menu_at, resend_at, env_at};
+ghost use Rattle.envelope.specs.Envelope.{
+  Env,
+  IsFile,
+  IsCount,
+  FitsKind,
+  UrisRise,
+  IsHeader,
+  IsMenu,
+  IsEnvelope,
+  env_of,
+  env_text,
+  text_max,
+};
+ghost use Rattle.envelope.specs.declared.errors.EnvError.TheVariants.{Spelling};
+ghost use Rattle.envelope.specs.JsonReading.{
+  GivesReading,
+  number_at,
+  text_at,
+  digest_at,
+  file_at,
+  uri_at,
+  each_at,
+  counts_of,
+  files_at,
+  uris_at,
+  counts_at,
+  kind_at,
+  deletes_at,
+  id_at,
+  prev_id_at,
+  watermark_at,
+  count_at,
+  header_at,
+  tld_at,
+  menu_at,
+  resend_at,
+  env_at,
+};
 
 use crate::envelope::{Count, Envelope, FileEntry, Header, Menu};
-use crate::error::EnvError;
+use crate::errors::EnvError;
 use crate::uri::Uri;
 use crate::writing::write_envelope;
 use deposit_name::{DepositId, Kind, TableName, Tld};
@@ -39,7 +94,7 @@ const OBJECT_URIS_MAX: usize = 16;
 
 const RESEND_MAX: u64 = 99;
 
-#[tactic(auto, unfolding(crate::specs::Reading::number_at))]
+#[tactic(auto, unfolding(crate::specs::JsonReading::number_at))]
 fn number_of(value: &Value, limit: u64) -> Option<u64>
     ensures value { result ≡ number_at limit (json.view value.now) }
     ensures small { IfSome result (λ n. n ≤ limit) }
@@ -48,14 +103,14 @@ fn number_of(value: &Value, limit: u64) -> Option<u64>
     if n <= limit { Some(n) } else { None }
 }
 
-#[tactic(auto, unfolding(crate::specs::Reading::text_at))]
+#[tactic(auto, unfolding(crate::specs::JsonReading::text_at))]
 fn text_of<'v>(value: &'v Value, name: &str) -> Option<&'v str>
     ensures { option_map (λ t. t.now) result ≡ text_at name.now (json.view value.now) }
 {
     value.get(name)?.as_str()
 }
 
-#[tactic(auto, unfolding(crate::specs::Reading::file_at))]
+#[tactic(auto, unfolding(crate::specs::JsonReading::file_at))]
 fn file_of(value: &Value) -> Option<FileEntry>
     ensures value { result ≡ file_at (json.view value.now) }
     ensures valid { IfSome result IsFile }
@@ -70,7 +125,7 @@ fn file_of(value: &Value) -> Option<FileEntry>
     })
 }
 
-#[tactic(auto, unfolding(crate::specs::Reading::uri_at))]
+#[tactic(auto, unfolding(crate::specs::JsonReading::uri_at))]
 fn uri_of(value: &Value) -> Option<Uri>
     ensures value { result ≡ uri_at (json.view value.now) }
     ensures valid { IfSome result (λ u. IsTrue (is_uri u)) }
@@ -78,7 +133,7 @@ fn uri_of(value: &Value) -> Option<Uri>
     Uri::parse(value.as_str()?.as_bytes())
 }
 
-#[tactic(auto, unfolding(crate::specs::Reading::id_at))]
+#[tactic(auto, unfolding(crate::specs::JsonReading::id_at))]
 fn id_of(value: &Value, name: &str) -> Option<DepositId>
     ensures value { result ≡ id_at name.now (json.view value.now) }
     ensures valid { IfSome result IsDepositId }
@@ -86,7 +141,7 @@ fn id_of(value: &Value, name: &str) -> Option<DepositId>
     DepositId::parse(text_of(value, name)?.as_bytes())
 }
 
-#[tactic(auto, unfolding(crate::specs::Reading::prev_id_at))]
+#[tactic(auto, unfolding(crate::specs::JsonReading::prev_id_at))]
 fn prev_id_of(value: &Value) -> Option<Option<DepositId>>
     ensures value { result ≡ prev_id_at (json.view value.now) }
     ensures valid { IfSome result (λ p. IfSome p IsDepositId) }
@@ -98,7 +153,7 @@ fn prev_id_of(value: &Value) -> Option<Option<DepositId>>
     Some(Some(id))
 }
 
-#[tactic(auto, unfolding(crate::specs::Reading::kind_at))]
+#[tactic(auto, unfolding(crate::specs::JsonReading::kind_at))]
 fn kind_of(t: &str) -> Option<Kind>
     ensures { result ≡ kind_at t.now }
 {
@@ -110,7 +165,7 @@ fn kind_of(t: &str) -> Option<Kind>
     }
 }
 
-#[tactic(auto, unfolding(crate::specs::Reading::watermark_at))]
+#[tactic(auto, unfolding(crate::specs::JsonReading::watermark_at))]
 fn watermark_of(value: &Value) -> Option<Day>
     ensures value { result ≡ watermark_at (json.view value.now) }
     ensures valid { IfSome result IsDay }
@@ -119,9 +174,9 @@ fn watermark_of(value: &Value) -> Option<Day>
     read_day(t.get(..10).unwrap_or(t))
 }
 
-#[tactic(auto, unfolding(crate::specs::Reading::files_at))]
+#[tactic(auto, unfolding(crate::specs::JsonReading::files_at))]
 fn files_of(alloc: Global, value: &Value, limit: usize) -> Result<Vec<FileEntry>, EnvError>
-    ensures value { Gives (λ v. v.items) result (files_at limit (json.view value.now)) }
+    ensures value { GivesReading (λ v. v.items) result (files_at limit (json.view value.now)) }
     ensures few { IfOk result (λ v. length v.items ≤ limit) }
     ensures valid { IfOk result (λ v. All IsFile v.items) }
 {
@@ -134,7 +189,7 @@ fn files_of(alloc: Global, value: &Value, limit: usize) -> Result<Vec<FileEntry>
 }
 
 fn each_file(alloc: Global, items: &[Value]) -> Result<Vec<FileEntry>, EnvError>
-    ensures value { Gives (λ v. v.items) result (each_at file_at (items_view items.now)) }
+    ensures value { GivesReading (λ v. v.items) result (each_at file_at (items_view items.now)) }
     ensures valid { IfOk result (λ v. All IsFile v.items) }
 {
     let mut files = Vec::new(alloc);
@@ -147,9 +202,9 @@ fn each_file(alloc: Global, items: &[Value]) -> Result<Vec<FileEntry>, EnvError>
     Ok(files)
 }
 
-#[tactic(auto, unfolding(crate::specs::Reading::uris_at))]
+#[tactic(auto, unfolding(crate::specs::JsonReading::uris_at))]
 fn uris_of(alloc: Global, value: &Value) -> Result<Vec<Uri>, EnvError>
-    ensures value { Gives (λ v. v.items) result (uris_at (json.view value.now)) }
+    ensures value { GivesReading (λ v. v.items) result (uris_at (json.view value.now)) }
     ensures some { IfOk result (λ v. 1 ≤ length v.items) }
     ensures few { IfOk result (λ v. length v.items ≤ 16) }
     ensures valid { IfOk result (λ v. All (λ u. IsTrue (is_uri u)) v.items) }
@@ -163,7 +218,7 @@ fn uris_of(alloc: Global, value: &Value) -> Result<Vec<Uri>, EnvError>
 }
 
 fn each_uri(alloc: Global, items: &[Value]) -> Result<Vec<Uri>, EnvError>
-    ensures value { Gives (λ v. v.items) result (each_at uri_at (items_view items.now)) }
+    ensures value { GivesReading (λ v. v.items) result (each_at uri_at (items_view items.now)) }
     ensures valid { IfOk result (λ v. All (λ u. IsTrue (is_uri u)) v.items) }
 {
     let mut uris = Vec::new(alloc);
@@ -176,12 +231,12 @@ fn each_uri(alloc: Global, items: &[Value]) -> Result<Vec<Uri>, EnvError>
     Ok(uris)
 }
 
-#[tactic(auto, unfolding(crate::specs::Reading::counts_at))]
+#[tactic(auto, unfolding(crate::specs::JsonReading::counts_at))]
 fn list_counts(alloc: Global, value: &Value) -> Result<Vec<Count>, EnvError>
-    ensures value { Gives (λ v. v.items) result (counts_at (json.view value.now)) }
+    ensures value { GivesReading (λ v. v.items) result (counts_at (json.view value.now)) }
     ensures few { IfOk result (λ v. length v.items ≤ 16) }
     ensures valid { IfOk result (λ v. All IsCount v.items) }
-    ensures order { IfOk result (λ v. Rises v.items) }
+    ensures order { IfOk result (λ v. UrisRise v.items) }
 {
     let members = value.as_object().ok_or(EnvError::Spelling)?;
     let counts = each_count(alloc, members)?;
@@ -191,7 +246,7 @@ fn list_counts(alloc: Global, value: &Value) -> Result<Vec<Count>, EnvError>
     Ok(counts)
 }
 
-#[tactic(auto, unfolding(crate::specs::Reading::count_at))]
+#[tactic(auto, unfolding(crate::specs::JsonReading::count_at))]
 fn count_of(name: &str, value: &Value) -> Option<Count>
     ensures value { result ≡ count_at name.now (json.view value.now) }
     ensures valid { IfSome result IsCount }
@@ -202,9 +257,9 @@ fn count_of(name: &str, value: &Value) -> Option<Count>
 }
 
 fn each_count(alloc: Global, members: &Map<String, Value>) -> Result<Vec<Count>, EnvError>
-    ensures value { Gives (λ v. v.items) result (counts_of (members_view members.now.entries)) }
+    ensures value { GivesReading (λ v. v.items) result (counts_of (members_view members.now.entries)) }
     ensures valid { IfOk result (λ v. All IsCount v.items) }
-    ensures order { IfOk result (λ v. Rises v.items) }
+    ensures order { IfOk result (λ v. UrisRise v.items) }
 {
     let mut counts = Vec::new(alloc);
     for (name, value) in members.iter() {
@@ -216,9 +271,9 @@ fn each_count(alloc: Global, members: &Map<String, Value>) -> Result<Vec<Count>,
     Ok(counts)
 }
 
-#[tactic(auto, unfolding(crate::specs::Reading::deletes_at))]
+#[tactic(auto, unfolding(crate::specs::JsonReading::deletes_at))]
 fn deletes_of(alloc: Global, value: &Value, kind: Kind) -> Result<Option<Vec<FileEntry>>, EnvError>
-    ensures value { Gives (option_map (λ v. v.items)) result (deletes_at kind (json.view value.now)) }
+    ensures value { GivesReading (option_map (λ v. v.items)) result (deletes_at kind (json.view value.now)) }
     ensures valid { IfOk result (λ d. FitsKind kind (option_map (λ v. v.items) d)) }
 {
     match kind {
@@ -241,9 +296,9 @@ fn have_deletes(files: &[FileEntry]) -> bool
     files.iter().all(|f| f.name.has_deletes())
 }
 
-#[tactic(auto, unfolding(crate::specs::Reading::header_at))]
+#[tactic(auto, unfolding(crate::specs::JsonReading::header_at))]
 fn header_of(alloc: Global, value: &Value) -> Result<Header, EnvError>
-    ensures value { Gives (λ h. (h.count.items, h.tld)) result (header_at (json.view value.now)) }
+    ensures value { GivesReading (λ h. (h.count.items, h.tld)) result (header_at (json.view value.now)) }
     ensures valid { IfOk result IsHeader }
 {
     let counts = value.get("count").ok_or(EnvError::Spelling)?;
@@ -252,7 +307,7 @@ fn header_of(alloc: Global, value: &Value) -> Result<Header, EnvError>
     Ok(Header { count, tld })
 }
 
-#[tactic(auto, unfolding(crate::specs::Reading::tld_at))]
+#[tactic(auto, unfolding(crate::specs::JsonReading::tld_at))]
 fn tld_of(value: &Value) -> Option<Tld>
     ensures value { result ≡ tld_at (json.view value.now) }
     ensures valid { IfSome result IsTld }
@@ -260,9 +315,9 @@ fn tld_of(value: &Value) -> Option<Tld>
     Tld::parse(text_of(value, "tld")?.as_bytes())
 }
 
-#[tactic(auto, unfolding(crate::specs::Reading::menu_at))]
+#[tactic(auto, unfolding(crate::specs::JsonReading::menu_at))]
 fn menu_of(alloc: Global, value: &Value) -> Result<Menu, EnvError>
-    ensures value { Gives (λ m. m.object_uris.items) result (menu_at (json.view value.now)) }
+    ensures value { GivesReading (λ m. m.object_uris.items) result (menu_at (json.view value.now)) }
     ensures valid { IfOk result IsMenu }
 {
     let uris = value.get("objURI").ok_or(EnvError::Spelling)?;
@@ -274,9 +329,9 @@ fn menu_of(alloc: Global, value: &Value) -> Result<Menu, EnvError>
 /// before any memory is taken.
 pub fn read_envelope(alloc: Global, t: &[u8]) -> Result<Envelope, EnvError>
     // What is read is in form, and the text is its one text.
-    ensures found { IfOk result (λ e. IsEnvelope (view e) × (t.now ≡ env_text (view e))) }
+    ensures found { IfOk result (λ e. IsEnvelope (env_of e) × (t.now ≡ env_text (env_of e))) }
     // The text of each envelope in form is read as it, unless memory runs out.
-    ensures only { (v : Env) → IsEnvelope v → t.now ≡ env_text v → Gives view result (Some v) }
+    ensures only { (v : Env) → IsEnvelope v → t.now ≡ env_text v → GivesReading env_of result (Some v) }
     // What is too long for any envelope is told so, however little memory there is.
     ensures long { text_max < length t.now → IsErrOf result Spelling }
 {
@@ -294,7 +349,7 @@ pub fn read_envelope(alloc: Global, t: &[u8]) -> Result<Envelope, EnvError>
 
 // The JSON value of a text.
 fn value_of(alloc: Global, t: &[u8]) -> Result<Value, EnvError>
-    ensures { IsUtf8 t.now → Gives json.view result (read t.now) }
+    ensures { IsUtf8 t.now → GivesReading json.view result (read t.now) }
 {
     match Value::from_slice(alloc, t) {
         Ok(value) => Ok(value),
@@ -303,10 +358,10 @@ fn value_of(alloc: Global, t: &[u8]) -> Result<Value, EnvError>
     }
 }
 
-#[tactic(auto, unfolding(crate::specs::Reading::env_at))]
+#[tactic(auto, unfolding(crate::specs::JsonReading::env_at))]
 fn envelope_of(alloc: Global, value: &Value) -> Result<Envelope, EnvError>
-    ensures value { Gives view result (env_at (json.view value.now)) }
-    ensures valid { IfOk result (λ e. IsEnvelope (view e)) }
+    ensures value { GivesReading env_of result (env_at (json.view value.now)) }
+    ensures valid { IfOk result (λ e. IsEnvelope (env_of e)) }
 {
     let list = value.get("contents").ok_or(EnvError::Spelling)?;
     let contents = files_of(alloc, list, CONTENTS_MAX)?;
@@ -334,7 +389,7 @@ fn envelope_of(alloc: Global, value: &Value) -> Result<Envelope, EnvError>
     })
 }
 
-#[tactic(auto, unfolding(crate::specs::Reading::resend_at))]
+#[tactic(auto, unfolding(crate::specs::JsonReading::resend_at))]
 fn resend_of(value: &Value) -> Option<u8>
     ensures value { result ≡ resend_at (json.view value.now) }
     ensures valid { IfSome result (λ n. n ≤ 99) }

@@ -1,7 +1,7 @@
 //! URIs.
 ghost use Rattle.std.specs.Prelude.{◌≡◌, IsTrue, IfSome};
 ghost use Rattle.std.specs.List.{list_all};
-ghost use Rattle.deposit_name.specs.Identifiers.{passing};
+ghost use Rattle.deposit_name.specs.Identifiers.{passing_text};
 ghost use Rattle.envelope.specs.Uri.{is_uri, is_uri_byte};
 
 use deposit_name::ShortText;
@@ -29,7 +29,7 @@ impl Model for Uri {
 impl Uri {
     /// The URI with that text.
     pub fn parse(t: &[u8]) -> Option<Uri>
-        ensures value { result ≡ passing is_uri t.now }
+        ensures value { result ≡ passing_text is_uri t.now }
         ensures in_form { IfSome result (λ u. IsTrue (is_uri u)) }
     {
         if is_uri(t) {

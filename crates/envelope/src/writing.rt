@@ -1,8 +1,40 @@
 //! Writing the one text of an envelope.
-ghost use Rattle.std.specs.Prelude.{◌≡◌, ◌++◌, ◌∷◌, [], List, codes, decimal, map, OnOk, IfOk, Some, None, option_map};
+ghost use Rattle.std.specs.Prelude.{
+  ◌≡◌,
+  ◌++◌,
+  ◌∷◌,
+  [],
+  List,
+  codes,
+  decimal,
+  map,
+  OnOk,
+  IfOk,
+  Some,
+  None,
+  option_map,
+};
 ghost use Rattle.schedule.specs.Text.{day_text};
 ghost use Rattle.hex.specs.Hex.{encode_lower};
-ghost use Rattle.envelope.specs.Envelope.{view, quoted, array_text, object_text, file_text, count_member, count_text, files_text, header_text, menu_text, later, later_if, kind_text, comma_before, front_text, back_text, env_text};
+ghost use Rattle.envelope.specs.Envelope.{
+  env_of,
+  quoted_text,
+  array_text,
+  object_text,
+  file_text,
+  count_member,
+  counts_text,
+  files_text,
+  header_text,
+  menu_text,
+  later_member,
+  later_member_if,
+  type_text,
+  comma_before,
+  front_text,
+  back_text,
+  env_text,
+};
 
 use crate::envelope::{Count, Envelope, FileEntry, Header, Menu};
 use crate::uri::Uri;
@@ -13,7 +45,7 @@ use std::alloc::{AllocError, Global};
 /// The one text of an envelope: compact JSON without escapes, whose members are in byte order of their names.
 #[tactic(auto, unfolding(crate::specs::Envelope::env_text))]
 pub fn write_envelope(alloc: Global, e: &Envelope) -> Result<Vec<u8>, AllocError>
-    ensures { IfOk result (λ t. t.items ≡ env_text (view e.now)) }
+    ensures { IfOk result (λ t. t.items ≡ env_text (env_of e.now)) }
 {
     let mut out = Vec::new(alloc);
     put_front(&mut out, e)?;
@@ -23,7 +55,7 @@ pub fn write_envelope(alloc: Global, e: &Envelope) -> Result<Vec<u8>, AllocError
 
 // The members up to `prevId`.
 fn put_front(out: &mut Vec<u8>, e: &Envelope) -> Result<(), AllocError>
-    ensures { OnOk result (out.new.items ≡ out.old.items ++ front_text (view e.now)) }
+    ensures { OnOk result (out.new.items ≡ out.old.items ++ front_text (env_of e.now)) }
 {
     out.extend_from_slice(b"{\"contents\":")?;
     put_files(out, &e.contents)?;
@@ -35,7 +67,7 @@ fn put_front(out: &mut Vec<u8>, e: &Envelope) -> Result<(), AllocError>
 
 // The members from `rdeMenu` on, and the end.
 fn put_back(out: &mut Vec<u8>, e: &Envelope) -> Result<(), AllocError>
-    ensures { OnOk result (out.new.items ≡ out.old.items ++ back_text (view e.now)) }
+    ensures { OnOk result (out.new.items ≡ out.old.items ++ back_text (env_of e.now)) }
 {
     put_menu(out, &e.menu)?;
     put_resend(out, e.resend)?;
@@ -47,7 +79,7 @@ fn put_back(out: &mut Vec<u8>, e: &Envelope) -> Result<(), AllocError>
 
 fn put_deletes(out: &mut Vec<u8>, deletes: &Option<Vec<FileEntry>>) -> Result<(), AllocError>
     ensures { OnOk result (out.new.items ≡ out.old.items
-        ++ later_if (codes "deletes") files_text (option_map (λ d. d.items) deletes.now)) }
+        ++ later_member_if (codes "deletes") files_text (option_map (λ d. d.items) deletes.now)) }
 {
     if let Some(files) = deletes {
         out.extend_from_slice(b",\"deletes\":")?;
@@ -58,7 +90,7 @@ fn put_deletes(out: &mut Vec<u8>, deletes: &Option<Vec<FileEntry>>) -> Result<()
 
 fn put_header(out: &mut Vec<u8>, header: &Header) -> Result<(), AllocError>
     ensures { OnOk result (out.new.items ≡ out.old.items
-        ++ later (codes "header") (header_text header.now.count.items header.now.tld)) }
+        ++ later_member (codes "header") (header_text header.now.count.items header.now.tld)) }
 {
     out.extend_from_slice(b",\"header\":{\"count\":")?;
     put_counts(out, &header.count)?;
@@ -69,7 +101,7 @@ fn put_header(out: &mut Vec<u8>, header: &Header) -> Result<(), AllocError>
 }
 
 fn put_id(out: &mut Vec<u8>, id: &DepositId) -> Result<(), AllocError>
-    ensures { OnOk result (out.new.items ≡ out.old.items ++ later (codes "id") (quoted id.now)) }
+    ensures { OnOk result (out.new.items ≡ out.old.items ++ later_member (codes "id") (quoted_text id.now)) }
 {
     out.extend_from_slice(b",\"id\":")?;
     put_quoted(out, id.as_bytes())
@@ -77,7 +109,7 @@ fn put_id(out: &mut Vec<u8>, id: &DepositId) -> Result<(), AllocError>
 
 fn put_prev_id(out: &mut Vec<u8>, prev_id: &Option<DepositId>) -> Result<(), AllocError>
     ensures { OnOk result (out.new.items
-        ≡ out.old.items ++ later_if (codes "prevId") quoted prev_id.now) }
+        ≡ out.old.items ++ later_member_if (codes "prevId") quoted_text prev_id.now) }
 {
     if let Some(id) = prev_id {
         out.extend_from_slice(b",\"prevId\":")?;
@@ -88,7 +120,7 @@ fn put_prev_id(out: &mut Vec<u8>, prev_id: &Option<DepositId>) -> Result<(), All
 
 fn put_menu(out: &mut Vec<u8>, menu: &Menu) -> Result<(), AllocError>
     ensures { OnOk result (out.new.items
-        ≡ out.old.items ++ later (codes "rdeMenu") (menu_text menu.now.object_uris.items)) }
+        ≡ out.old.items ++ later_member (codes "rdeMenu") (menu_text menu.now.object_uris.items)) }
 {
     out.extend_from_slice(b",\"rdeMenu\":{\"objURI\":")?;
     put_uris(out, &menu.object_uris)?;
@@ -99,7 +131,7 @@ fn put_menu(out: &mut Vec<u8>, menu: &Menu) -> Result<(), AllocError>
 
 fn put_resend(out: &mut Vec<u8>, resend: u8) -> Result<(), AllocError>
     ensures { OnOk result (out.new.items
-        ≡ out.old.items ++ later (codes "resend") (decimal resend)) }
+        ≡ out.old.items ++ later_member (codes "resend") (decimal resend)) }
 {
     out.extend_from_slice(b",\"resend\":")?;
     put_number(out, u32::from(resend))
@@ -107,15 +139,15 @@ fn put_resend(out: &mut Vec<u8>, resend: u8) -> Result<(), AllocError>
 
 fn put_kind(out: &mut Vec<u8>, kind: Kind) -> Result<(), AllocError>
     ensures { OnOk result (out.new.items
-        ≡ out.old.items ++ later (codes "type") (quoted (kind_text kind))) }
+        ≡ out.old.items ++ later_member (codes "type") (quoted_text (type_text kind))) }
 {
     out.extend_from_slice(b",\"type\":")?;
-    put_quoted(out, kind_text(kind).as_bytes())
+    put_quoted(out, type_text(kind).as_bytes())
 }
 
 fn put_watermark(out: &mut Vec<u8>, day: Day) -> Result<(), AllocError>
     ensures { OnOk result (out.new.items ≡ out.old.items
-        ++ later (codes "watermark") (quoted (day_text day ++ codes "T00:00:00Z"))) }
+        ++ later_member (codes "watermark") (quoted_text (day_text day ++ codes "T00:00:00Z"))) }
 {
     out.extend_from_slice(b",\"watermark\":\"")?;
     out.extend_from_slice(&write_day(day))?;
@@ -124,8 +156,8 @@ fn put_watermark(out: &mut Vec<u8>, day: Day) -> Result<(), AllocError>
     Ok(())
 }
 
-fn kind_text(kind: Kind) -> &'static str
-    ensures { result.now ≡ kind_text kind }
+fn type_text(kind: Kind) -> &'static str
+    ensures { result.now ≡ type_text kind }
 {
     match kind {
         Kind::Full => "FULL",
@@ -135,7 +167,7 @@ fn kind_text(kind: Kind) -> &'static str
 }
 
 fn put_quoted(out: &mut Vec<u8>, t: &[u8]) -> Result<(), AllocError>
-    ensures { OnOk result (out.new.items ≡ out.old.items ++ quoted t.now) }
+    ensures { OnOk result (out.new.items ≡ out.old.items ++ quoted_text t.now) }
 {
     out.push(b'"')?;
     out.extend_from_slice(t)?;
@@ -165,7 +197,7 @@ fn put_file(out: &mut Vec<u8>, f: &FileEntry) -> Result<(), AllocError>
 }
 
 fn put_digest(out: &mut Vec<u8>, sha256: &[u8; 32]) -> Result<(), AllocError>
-    ensures { OnOk result (out.new.items ≡ out.old.items ++ quoted (encode_lower sha256.now)) }
+    ensures { OnOk result (out.new.items ≡ out.old.items ++ quoted_text (encode_lower sha256.now)) }
 {
     let digits = hex::encode(*out.allocator(), sha256)?;
     put_quoted(out, digits.as_bytes())
@@ -184,7 +216,7 @@ fn put_files(out: &mut Vec<u8>, files: &[FileEntry]) -> Result<(), AllocError>
 }
 
 fn put_uris(out: &mut Vec<u8>, uris: &[Uri]) -> Result<(), AllocError>
-    ensures { OnOk result (out.new.items ≡ out.old.items ++ array_text (map quoted uris.now)) }
+    ensures { OnOk result (out.new.items ≡ out.old.items ++ array_text (map quoted_text uris.now)) }
 {
     out.push(b'[')?;
     for (i, uri) in uris.iter().enumerate() {
@@ -196,7 +228,7 @@ fn put_uris(out: &mut Vec<u8>, uris: &[Uri]) -> Result<(), AllocError>
 }
 
 fn put_counts(out: &mut Vec<u8>, counts: &[Count]) -> Result<(), AllocError>
-    ensures { OnOk result (out.new.items ≡ out.old.items ++ count_text counts.now) }
+    ensures { OnOk result (out.new.items ≡ out.old.items ++ counts_text counts.now) }
 {
     out.push(b'{')?;
     for (i, count) in counts.iter().enumerate() {

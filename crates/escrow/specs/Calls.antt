@@ -5,7 +5,7 @@ use Rattle.vault_volume.specs.declared.volume.Volume as volume
 use Rattle.vault_volume.specs.declared.file.FileVolume.{FileVolume}
 use Rattle.sqlite.specs.Files.{over_files}
 use Rattle.agent_cli.specs.Faults.{IsStatusOf}
-use Rattle.agent_cli.specs.Order.{Answers, Asks}
+use Rattle.agent_cli.specs.Order.{AnswersReading, ReadsWords}
 use Rattle.agent_cli.specs.declared.order.Order.{Order}
 use Rattle.agent_cli.specs.declared.order.WordFault.{WordFault}
 use Rattle.escrow.specs.Folder.{IsObeyed}
@@ -13,11 +13,11 @@ use Rattle.escrow.specs.declared.files.OpenFolder.{OpenFolder}
 
 -- the words of a call ask for an order
 abbrev pub AskFor : List Text → Order → Type 0
-AskFor words order = Answers (Asks words) (Ok order)
+AskFor words order = AnswersReading (ReadsWords words) (Ok order)
 
 -- they are no order, and this is why; or there is no memory to read them
 abbrev pub AreFaulty : List Text → WordFault → Type 0
-AreFaulty words fault = Answers (Asks words) (Err fault)
+AreFaulty words fault = AnswersReading (ReadsWords words) (Err fault)
 
 -- `remaining` is what a file tells of its bytes.
 module _ {R : Type 0} (g : volume.Ghosts FileVolume) (remaining : R → Option (List ℕ)) where

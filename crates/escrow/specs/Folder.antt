@@ -1,52 +1,71 @@
 -- What an order does over the two files of a folder.
-use Rattle.std.specs.Prelude.{◌≡◌, ℕ, List, [], Option, None, Some, true, false, take, IfSome, MatchOption}
+use Rattle.std.specs.Prelude.{
+  ◌≡◌,
+  ℕ,
+  List,
+  [],
+  Option,
+  None,
+  Some,
+  true,
+  false,
+  take,
+  IfSome,
+  MatchOption,
+}
 use Rattle.vault_volume.specs.declared.volume.Volume as volume
 use Rattle.vault_volume.specs.declared.file.FileVolume.{FileVolume}
-use Rattle.vault_volume.specs.File.{is_made_anew}
+use Rattle.vault_volume.specs.File.{is_new_file}
 use Rattle.sqlite.specs.Store.{Ghosts}
 use Rattle.sqlite.specs.Held.{Held}
 use Rattle.sqlite.specs.State.{State}
-use Rattle.answer_lines.specs.Printed.{Writer}
+use Rattle.answer_lines.specs.Printing.{Writer}
 use Rattle.agent_cli.specs.Order.{meaning, named_moment}
 use Rattle.agent_cli.specs.declared.order.Order.{Order}
 use Rattle.agent_cli.specs.declared.order.Order.TheVariants as order
-use Rattle.escrow.specs.Served.{HasListened, IsBegun, IsCarriedOut, IsNotMade, IsNotOpened}
+use Rattle.escrow.specs.VaultCalls.{
+  HasServedConnections,
+  HasPrintedReady,
+  IsCarriedOut,
+  HasPrintedInitError,
+  HasPrintedOpenFailure,
+}
 
 -- a database has no table, no index and no view
 abbrev pub ListsNothing : State → Type 0
 ListsNothing s = (s.now.schema.tables ≡ []) × (s.now.schema.indexes ≡ []) × (s.now.schema.views ≡ [])
 
 -- what is read of the file that a `put` names: its first bytes, where it tells them, and of no file nothing
-abbrev pub IsPart : {R : Type 0} → (R → Option (List ℕ)) → Option R → List ℕ → Type 0
-IsPart remaining None bytes = bytes ≡ []
-IsPart remaining (Some file) bytes = IfSome (remaining file) (λ all. bytes ≡ take 1048577 all)
+abbrev pub IsPartRead : {R : Type 0} → (R → Option (List ℕ)) → Option R → List ℕ → Type 0
+IsPartRead remaining None bytes = bytes ≡ []
+IsPartRead remaining (Some file) bytes = IfSome (remaining file) (λ all. bytes ≡ take 1048577 all)
 
 -- Over the volume and the database of a folder: the status of an order, what is to be closed where there is a vault, and
 -- what is printed.
 module _ {S : Type 0} (g : volume.Ghosts FileVolume) (database : Ghosts S) (volume : FileVolume) (db : Held S) (status : ℕ) (vault : Option (FileVolume × Held S)) (output errors : Writer) where
   -- the files were made, a new volume with so many blocks, and an agent with this number was begun over them, or none
-  pub record Inits (blocks number : ℕ) : Type 0 where
-    pub size : is_made_anew volume ≡ true → g.size volume ≡ blocks
-    pub ends : MatchOption vault (IsNotMade g database volume db status output errors) (λ v. IsBegun g database volume db blocks number status v.0 v.1 output errors)
+  pub record InitsFolder (blocks number : ℕ) : Type 0 where
+    pub size : is_new_file volume ≡ true → g.size volume ≡ blocks
+    pub ends : MatchOption vault (HasPrintedInitError g database volume db status output errors) (λ v. HasPrintedReady g database volume db blocks number status v.0 v.1 output errors)
 
   -- the files were found, and the order was carried out over them at its moment, or no agent was opened
-  pub record Works (order : Order) (bytes : List ℕ) : Type 0 where
+  pub record ActsInFolder (order : Order) (bytes : List ℕ) : Type 0 where
     pub now : ℕ
-    pub found : is_made_anew volume ≡ false
+    pub found : is_new_file volume ≡ false
     pub moment : IfSome (named_moment (meaning order)) (λ named. now ≡ named)
-    pub ends : MatchOption vault (IsNotOpened g database volume db status output errors) (λ v. IsCarriedOut g database volume db order bytes now status v.0 v.1 output errors)
+    pub ends : MatchOption vault (HasPrintedOpenFailure g database volume db status output errors) (λ v. IsCarriedOut g database volume db order bytes now status v.0 v.1 output errors)
 
   -- the files were found, and so many connections at most were answered at this port, or no agent was opened
-  pub record Listens (port requests : ℕ) (given : Option ℕ) : Type 0 where
-    pub found : is_made_anew volume ≡ false
-    pub ends : MatchOption vault (IsNotOpened g database volume db status output errors) (λ v. HasListened g database volume db port given requests status v.0 v.1 output)
+  pub record ServesFolder (port requests : ℕ) (given : Option ℕ) : Type 0 where
+    pub found : is_new_file volume ≡ false
+    pub ends : MatchOption vault (HasPrintedOpenFailure g database volume db status output errors) (λ v. HasServedConnections g database volume db port given requests status v.0 v.1 output)
 
   -- each order does its own; the bytes of a `put` are those that were read
-  abbrev pub IsDone : (List ℕ → Type 0) → Order → Type 0
-  IsDone IsRead (order.Init folder blocks number) = Inits blocks number
-  IsDone IsRead (order.Put folder file now) = (bytes : List ℕ) × IsRead bytes × Works (order.Put folder file now) bytes
-  IsDone IsRead (order.Serve folder port requests now) = Listens port requests now
-  IsDone IsRead other = Works other []
+  abbrev pub IsOrderDone : (List ℕ → Type 0) → Order → Type 0
+  IsOrderDone IsRead (order.Init folder blocks number) = InitsFolder blocks number
+  IsOrderDone IsRead (order.Put folder file now) = (bytes : List ℕ) × IsRead bytes × ActsInFolder (order.Put folder file now) bytes
+  IsOrderDone IsRead (order.Serve folder port requests now) = ServesFolder port requests now
+  IsOrderDone IsRead other = ActsInFolder other []
 
 -- an order was done over a volume and a database, with this status
 pub record IsObeyed {S R : Type 0} (g : volume.Ghosts FileVolume) (database : Ghosts S) (remaining : R → Option (List ℕ)) (volume : FileVolume) (db : Held S) (order : Order) (status : ℕ) : Type 0 where
@@ -54,4 +73,4 @@ pub record IsObeyed {S R : Type 0} (g : volume.Ghosts FileVolume) (database : Gh
   pub output : Writer
   pub errors : Writer
   pub part : Option R
-  pub done : IsDone g database volume db status vault output errors (IsPart remaining part) order
+  pub done : IsOrderDone g database volume db status vault output errors (IsPartRead remaining part) order

@@ -1,4 +1,4 @@
 pub mod Calls
 pub mod Errors
 pub mod Folder
-pub mod Served
+pub mod VaultCalls

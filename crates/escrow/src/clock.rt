@@ -1,7 +1,7 @@
 //! The clock of the machine.
 ghost use Rattle.std.specs.Prelude.{◌≡◌, IfErr};
 
-use crate::error::ProgramError;
+use crate::errors::ProgramError;
 use http_serve::moment_of;
 use schedule::Sec;
 

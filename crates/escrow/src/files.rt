@@ -1,19 +1,19 @@
 //! The files: the two of a vault's folder, and the file that is put.
 ghost use Rattle.std.specs.Prelude.{◌≡◌, ◌++◌, true, false, codes, string_bytes, IfErr, IfOk};
 ghost use Rattle.vault_volume.specs.declared.file.FileVolume.{FileVolume};
-ghost use Rattle.vault_volume.specs.File.{is_made_anew};
+ghost use Rattle.vault_volume.specs.File.{is_new_file};
 ghost use Rattle.sqlite.specs.Held.{state};
-ghost use Rattle.custody_store.specs.Standing.{standing, HasMetaOrNone, has_any};
+ghost use Rattle.custody_store.specs.StoreState.{store_state, HasMetaOrNone, has_any_table};
 ghost use Rattle.custody.specs.Opening.{HasNoRecord};
 ghost use Rattle.escrow.specs.Errors.{IsOfVault, IsOpenError};
-ghost use Rattle.escrow.specs.Folder.{IsPart, ListsNothing};
+ghost use Rattle.escrow.specs.Folder.{IsPartRead, ListsNothing};
 
-use crate::error::ProgramError;
-use crate::vault::Ended;
+use crate::errors::ProgramError;
+use crate::vault_calls::CallEnd;
 use agent_cli::Order;
 use custody::has_record;
-use custody_machine::Fault;
-use custody_store::has_any;
+use custody_machine::Failure;
+use custody_store::has_any_table;
 use sqlite::{Alter, Connection, Error, ErrorCode, File, FileStore};
 use std::alloc::{AllocError, Global};
 use std::fs;
@@ -31,7 +31,7 @@ pub struct OpenFolder {
 }
 
 /// How an order over the files of a folder ended.
-pub type EndedFolder = Ended<FileVolume, FileStore<File>>;
+pub type FolderCallEnd = CallEnd<FileVolume, FileStore<File>>;
 
 /// One byte more than a part may have: of a longer file no more is read, and it is refused for its size.
 const READ_BYTES: u64 = 1_048_577;
@@ -55,7 +55,7 @@ pub fn read_part<R: Read + Drop>(
     path: &str,
     part: Option<R>,
 ) -> Result<Vec<u8>, ProgramError>
-    ensures read { IfOk result (λ bytes. IsPart R.remaining part bytes.items) }
+    ensures read { IfOk result (λ bytes. IsPartRead R.remaining part bytes.items) }
     ensures error { IfErr result IsOfVault }
 {
     let mut bytes = Vec::new(alloc);
@@ -69,10 +69,10 @@ pub fn read_part<R: Read + Drop>(
 }
 
 /// Opens the two files of a folder, which have to be there.
-pub fn find(rt: &HostRuntime, folder: &str) -> Result<OpenFolder, ProgramError>
+pub fn open_folder(rt: &HostRuntime, folder: &str) -> Result<OpenFolder, ProgramError>
     ensures failures { IfOk result (λ files. ⟦<FileVolume as Volume>⟧.failures files.volume ≡ 0) }
     // It makes no volume.
-    ensures found { IfOk result (λ files. is_made_anew files.volume ≡ false) }
+    ensures found { IfOk result (λ files. is_new_file files.volume ≡ false) }
     ensures error { IfErr result IsOfVault }
 {
     find_folder(rt, folder)?;
@@ -82,9 +82,13 @@ pub fn find(rt: &HostRuntime, folder: &str) -> Result<OpenFolder, ProgramError>
 }
 
 /// Makes the two files of a folder. A volume of which the database has a record is left as it is.
-pub fn make(rt: &HostRuntime, folder: &str, blocks: u32) -> Result<OpenFolder, ProgramError>
+pub fn create_folder(
+    rt: &HostRuntime,
+    folder: &str,
+    blocks: u32,
+) -> Result<OpenFolder, ProgramError>
     ensures failures { IfOk result (λ files. ⟦<FileVolume as Volume>⟧.failures files.volume ≡ 0) }
-    ensures size { IfOk result (λ files. is_made_anew files.volume ≡ true → ⟦<FileVolume as Volume>⟧.size files.volume ≡ blocks) }
+    ensures size { IfOk result (λ files. is_new_file files.volume ≡ true → ⟦<FileVolume as Volume>⟧.size files.volume ≡ blocks) }
     ensures error { IfErr result IsOfVault }
 {
     find_folder(rt, folder)?;
@@ -119,21 +123,21 @@ fn with_volume<S: Alter + Drop>(
 ) -> Result<(FileVolume, Connection<S>), ProgramError>
     ensures failures { IfOk result (λ files. ⟦<FileVolume as Volume>⟧.failures files.0 ≡ 0) }
     // A volume is made anew only where none of the six tables is there, and nothing else is listed.
-    ensures new { IfOk result (λ files. is_made_anew files.0 ≡ true → has_any (standing S.Store db) ≡ false) }
-    ensures bare { IfOk result (λ files. is_made_anew files.0 ≡ true → ListsNothing (state S.Store db)) }
+    ensures new { IfOk result (λ files. is_new_file files.0 ≡ true → has_any_table (store_state S.Store db) ≡ false) }
+    ensures bare { IfOk result (λ files. is_new_file files.0 ≡ true → ListsNothing (state S.Store db)) }
     // So it has no record of one.
-    ensures made { HasMetaOrNone (standing S.Store db) → IfOk result (λ files. (standing S.Store files.1).IsHonest
-        → is_made_anew files.0 ≡ true → HasNoRecord (standing S.Store db).rows) }
-    ensures size { IfOk result (λ files. is_made_anew files.0 ≡ true → ⟦<FileVolume as Volume>⟧.size files.0 ≡ blocks) }
+    ensures made { HasMetaOrNone (store_state S.Store db) → IfOk result (λ files. (store_state S.Store files.1).IsHonest
+        → is_new_file files.0 ≡ true → HasNoRecord (store_state S.Store db).rows) }
+    ensures size { IfOk result (λ files. is_new_file files.0 ≡ true → ⟦<FileVolume as Volume>⟧.size files.0 ≡ blocks) }
     ensures error { IfErr result IsOfVault }
 {
     let mut db = db;
-    let is_new = is_empty(&db) && !has_any(&db);
+    let is_new = is_empty(&db) && !has_any_table(&db);
     let volume = match has_record(&mut db) {
         Ok(true) => open_volume(rt, folder)?,
         Ok(false) if is_new => create_volume(rt, folder, blocks)?,
-        Ok(false) => return Err(ProgramError::Fault(Fault::StoreFailed)),
-        Err(fault) => return Err(ProgramError::Fault(fault)),
+        Ok(false) => return Err(ProgramError::Failure(Failure::StoreFailed)),
+        Err(failure) => return Err(ProgramError::Failure(failure)),
     };
     Ok((volume, db))
 }
@@ -152,10 +156,10 @@ fn is_empty<S: Alter>(db: &Connection<S>) -> bool
 
 /// Closes the files of a vault, and answers the exit status. What was acknowledged is kept also where
 /// the database's log cannot be copied.
-pub fn close(ended: EndedFolder) -> u8
+pub fn close(ended: FolderCallEnd) -> u8
     ensures { result ≡ ended.status }
 {
-    let Ended { status, vault } = ended;
+    let CallEnd { status, vault } = ended;
     if let Some((volume, db)) = vault {
         let _ = db.close();
         drop(volume);
@@ -216,7 +220,7 @@ fn volume_path(alloc: Global, folder: &str) -> Result<String, AllocError>
 
 fn open_volume(rt: &HostRuntime, folder: &str) -> Result<FileVolume, ProgramError>
     ensures failures { IfOk result (λ volume. ⟦<FileVolume as Volume>⟧.failures volume ≡ 0) }
-    ensures found { IfOk result (λ volume. is_made_anew volume ≡ false) }
+    ensures found { IfOk result (λ volume. is_new_file volume ≡ false) }
     ensures error { IfErr result IsOfVault }
 {
     let path = volume_path(rt.alloc(), folder)?;
@@ -262,7 +266,7 @@ fn open_error(alloc: Global, path: &str, error: Error) -> ProgramError
         Error::SqliteFailure(ErrorCode::CannotOpen) => {
             ProgramError::of_file(alloc, path, "unable to open database file")
         }
-        Error::SqliteFailure(ErrorCode::OutOfMemory) => ProgramError::Fault(Fault::NoMemory),
-        _ => ProgramError::Fault(Fault::StoreFailed),
+        Error::SqliteFailure(ErrorCode::OutOfMemory) => ProgramError::Failure(Failure::NoMemory),
+        _ => ProgramError::Failure(Failure::StoreFailed),
     }
 }

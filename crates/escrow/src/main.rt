@@ -1,38 +1,48 @@
 //! The program `escrow`: a registry data escrow agent over the two files of a folder.
 #![tactic(auto)]
 
-ghost use Rattle.std.specs.Prelude.{◌≡◌, ◌⊎◌, IfErr, IfOk, IfSome, MatchResult, OnOk, map, string_bytes};
+ghost use Rattle.std.specs.Prelude.{
+  ◌≡◌,
+  ◌⊎◌,
+  IfErr,
+  IfOk,
+  IfSome,
+  MatchResult,
+  OnOk,
+  map,
+  string_bytes,
+};
 ghost use Rattle.std.specs.Process.{exit_status};
 ghost use Rattle.sqlite.specs.Files.{over_files};
 ghost use Rattle.std.specs.Io.KnownBytes.{Appends};
-ghost use Rattle.answer_lines.specs.Printed.{Begins, IsUnused};
+ghost use Rattle.answer_lines.specs.Printing.{WritesBeginning, IsUnused};
 ghost use Rattle.agent_cli.specs.Faults.{IsStatusOf};
 ghost use Rattle.agent_cli.specs.Order.{meaning, named_moment};
 ghost use Rattle.agent_cli.specs.declared.order.Order.{Order};
 ghost use Rattle.escrow.specs.Calls.{AskFor, EndsCall, IsObeyedInFolder};
-ghost use Rattle.escrow.specs.Errors.{IsFailure, IsTold, error_line};
-ghost use Rattle.escrow.specs.Folder.{IsDone, IsPart, Works};
+ghost use Rattle.escrow.specs.Errors.{IsProgramFailure, IsErrorPrinted, error_line};
+ghost use Rattle.escrow.specs.Folder.{IsOrderDone, IsPartRead, ActsInFolder};
 ghost use Rattle.escrow.specs.declared.files.OpenFolder.{OpenFolder};
 
 mod clock;
-mod error;
+mod errors;
 mod files;
 mod streams;
 mod terminal;
-mod vault;
+mod vault_calls;
 
 use agent_cli::{Order, WordFault, order_of};
-use answer_lines::{WriteFailed, fault_bytes, write_whole};
-use custody_machine::{Fault, Status};
-use error::ProgramError;
-use files::{EndedFolder, close, find, make, open_part, read_part};
+use answer_lines::{WriteFailed, failure_bytes, write_whole};
+use custody_machine::{ExitStatus, Failure};
+use errors::ProgramError;
+use files::{FolderCallEnd, close, create_folder, open_folder, open_part, read_part};
 use schedule::Sec;
 use std::env;
 use std::io::{self, BufWriter, Read, Write};
 use std::process::ExitCode;
 use streams::hold_streams;
 use terminal::Terminal;
-use vault::{begin, listen, serve};
+use vault_calls::{init_vault, open_and_act, serve};
 use vault_volume::{FileVolume, Volume};
 
 /// Prints the text of words that are no order, help among them, and answers the status.
@@ -45,35 +55,35 @@ fn tell_words(rt: &HostRuntime, fault: &WordFault) -> u8
     };
     match printed {
         Ok(()) => fault.status(),
-        Err(_) => Status::Failed.number(),
+        Err(_) => ExitStatus::Failed.number(),
     }
 }
 
 /// Writes the line of an error.
 fn write_error<E: Write>(error: &ProgramError, err: &mut E) -> Result<(), WriteFailed>
     ensures whole { OnOk result (Appends (E.contents err.old) (E.contents err.new) (error_line error.now)) }
-    ensures begun { Begins (record { before = E.contents err.old; after = E.contents err.new }) (error_line error.now) }
+    ensures begun { WritesBeginning (record { before = E.contents err.old; after = E.contents err.new }) (error_line error.now) }
 {
     match error {
         ProgramError::Words => write_whole(b"error: an argument is no text\n", err),
         ProgramError::File(line) => write_whole(line.as_bytes(), err),
         ProgramError::Clock => write_whole(b"clock failed\n", err),
-        ProgramError::Fault(fault) => write_whole(&fault_bytes(fault), err),
+        ProgramError::Failure(failure) => write_whole(&failure_bytes(failure), err),
     }
 }
 
 /// Prints the line of an error, and answers the status.
 fn tell_error<E: Write>(error: &ProgramError, err: &mut E) -> u8
-    ensures { IsTold error.now result (record { before = E.contents err.old; after = E.contents err.new }) }
+    ensures { IsErrorPrinted error.now result (record { before = E.contents err.old; after = E.contents err.new }) }
 {
     match write_error(error, err) {
         Ok(()) => error.status(),
-        Err(WriteFailed) => Status::Failed.number(),
+        Err(WriteFailed) => ExitStatus::Failed.number(),
     }
 }
 
 /// The moment that the words name, or else that of the clock.
-fn moment(rt: &HostRuntime, order: &Order<'_>) -> Result<Sec, ProgramError>
+fn moment_of(rt: &HostRuntime, order: &Order<'_>) -> Result<Sec, ProgramError>
     ensures named { IfSome (named_moment (meaning order.now)) (λ now. result ≡ Ok now) }
     ensures found { IfOk result (λ now. IfSome (named_moment (meaning order.now)) (λ moment. now ≡ moment)) }
     ensures error { IfErr result (λ error. error ≡ ProgramError.Clock) }
@@ -85,22 +95,22 @@ fn moment(rt: &HostRuntime, order: &Order<'_>) -> Result<Sec, ProgramError>
 }
 
 /// Carries out an order on the vault of a folder, at its moment.
-fn work<W: Write, E: Write>(
+fn act_in_folder<W: Write, E: Write>(
     rt: &HostRuntime,
     folder: &str,
     order: &Order<'_>,
     file: &[u8],
     out: &mut W,
     err: &mut E,
-) -> Result<EndedFolder, ProgramError>
-    ensures done { IfOk result (λ ended. (files : OpenFolder) × Works ⟦<FileVolume as Volume>⟧ over_files files.volume files.db ended.status ended.vault (record { before = W.contents out.old; after = W.contents out.new }) (record { before = E.contents err.old; after = E.contents err.new }) order.now file.now) }
-    ensures error { IfErr result IsFailure }
+) -> Result<FolderCallEnd, ProgramError>
+    ensures done { IfOk result (λ ended. (files : OpenFolder) × ActsInFolder ⟦<FileVolume as Volume>⟧ over_files files.volume files.db ended.status ended.vault (record { before = W.contents out.old; after = W.contents out.new }) (record { before = E.contents err.old; after = E.contents err.new }) order.now file.now) }
+    ensures error { IfErr result IsProgramFailure }
 {
-    let now = moment(rt, order)?;
-    let found = find(rt, folder)?;
+    let now = moment_of(rt, order)?;
+    let found = open_folder(rt, folder)?;
     let files = (found.volume, found.db);
     let mut progress = Terminal::of(rt, order);
-    Ok(serve(rt.alloc(), files, order, file, now, out, err, &mut progress))
+    Ok(open_and_act(rt.alloc(), files, order, file, now, out, err, &mut progress))
 }
 
 /// Carries out an order over the files of its folder, which are to be closed then. `part` is the file that
@@ -111,9 +121,9 @@ fn carry_out<R: Read + Drop, W: Write, E: Write>(
     part: Option<R>,
     out: &mut W,
     err: &mut E,
-) -> Result<EndedFolder, ProgramError>
-    ensures done { IfOk result (λ ended. (files : OpenFolder) × IsDone ⟦<FileVolume as Volume>⟧ over_files files.volume files.db ended.status ended.vault (record { before = W.contents out.old; after = W.contents out.new }) (record { before = E.contents err.old; after = E.contents err.new }) (IsPart R.remaining part) order.now) }
-    ensures error { IfErr result IsFailure }
+) -> Result<FolderCallEnd, ProgramError>
+    ensures done { IfOk result (λ ended. (files : OpenFolder) × IsOrderDone ⟦<FileVolume as Volume>⟧ over_files files.volume files.db ended.status ended.vault (record { before = W.contents out.old; after = W.contents out.new }) (record { before = E.contents err.old; after = E.contents err.new }) (IsPartRead R.remaining part) order.now) }
+    ensures error { IfErr result IsProgramFailure }
 {
     match order {
         Order::Init {
@@ -121,13 +131,13 @@ fn carry_out<R: Read + Drop, W: Write, E: Write>(
             blocks,
             number,
         } => {
-            let made = make(rt, folder, *blocks)?;
+            let made = create_folder(rt, folder, *blocks)?;
             let files = (made.volume, made.db);
-            Ok(begin(rt.alloc(), files, *blocks, *number, out, err))
+            Ok(init_vault(rt.alloc(), files, *blocks, *number, out, err))
         }
         Order::Put { folder, file, .. } => {
             let bytes = read_part(rt.alloc(), file, part)?;
-            work(rt, folder, order, &bytes, out, err)
+            act_in_folder(rt, folder, order, &bytes, out, err)
         }
         Order::Register { folder, .. }
         | Order::Verify { folder, .. }
@@ -139,16 +149,16 @@ fn carry_out<R: Read + Drop, W: Write, E: Write>(
         | Order::Fetch { folder, .. }
         | Order::Report { folder, .. }
         | Order::State { folder }
-        | Order::Audit { folder } => work(rt, folder, order, &[], out, err),
+        | Order::Audit { folder } => act_in_folder(rt, folder, order, &[], out, err),
         Order::Serve {
             folder,
             port,
             requests,
             now,
         } => {
-            let found = find(rt, folder)?;
+            let found = open_folder(rt, folder)?;
             let files = (found.volume, found.db);
-            Ok(listen(rt, files, *port, *requests, *now, out, err))
+            Ok(serve(rt, files, *port, *requests, *now, out, err))
         }
     }
 }
@@ -156,12 +166,12 @@ fn carry_out<R: Read + Drop, W: Write, E: Write>(
 /// Carries out an order, closes the files of its folder, and answers its status.
 fn obey(rt: &HostRuntime, order: &Order<'_>) -> Result<u8, ProgramError>
     ensures done { IfOk result (IsObeyedInFolder ⟦<FileVolume as Volume>⟧ ⟦<std::fs::File as Read>⟧.remaining order.now) }
-    ensures error { IfErr result IsFailure }
+    ensures error { IfErr result IsProgramFailure }
 {
     let _streams = hold_streams(rt)?;
     let part = open_part(rt, order)?;
-    let mut out = BufWriter::new(rt.alloc(), io::writer(rt)).map_err(|_| ProgramError::Fault(
-        Fault::NoMemory,
+    let mut out = BufWriter::new(rt.alloc(), io::writer(rt)).map_err(|_| ProgramError::Failure(
+        Failure::NoMemory,
     ))?;
     let ended = carry_out(rt, order, part, &mut out, &mut rt.stderr())?;
     Ok(close(ended))
@@ -170,7 +180,7 @@ fn obey(rt: &HostRuntime, order: &Order<'_>) -> Result<u8, ProgramError>
 /// Does what the words of a call ask for, and answers the status. The first of them is the program's name.
 fn call(rt: &HostRuntime, words: &[String]) -> Result<u8, ProgramError>
     ensures done { IfOk result (EndsCall ⟦<FileVolume as Volume>⟧ ⟦<std::fs::File as Read>⟧.remaining (map string_bytes words.now)) }
-    ensures error { IfErr result (λ error. IsFailure error × ((order : Order) × AskFor (map string_bytes words.now) order)) }
+    ensures error { IfErr result (λ error. IsProgramFailure error × ((order : Order) × AskFor (map string_bytes words.now) order)) }
 {
     match order_of(rt.alloc(), words) {
         Ok(order) => obey(rt, &order),
@@ -183,7 +193,7 @@ fn run(rt: &HostRuntime) -> Result<u8, ProgramError> {
     let words = match env::args(rt) {
         Ok(words) => words.collect::<Vec<String>>(rt.alloc())?,
         Err(error) if error.kind() == io::ErrorKind::OutOfMemory => {
-            return Err(ProgramError::Fault(Fault::NoMemory));
+            return Err(ProgramError::Failure(Failure::NoMemory));
         }
         Err(_) => return Err(ProgramError::Words),
     };
@@ -194,7 +204,7 @@ fn run(rt: &HostRuntime) -> Result<u8, ProgramError> {
 fn exit_code<E: Write>(outcome: &Result<u8, ProgramError>, err: &mut E) -> ExitCode
     ensures { MatchResult outcome.now
         (λ status. (exit_status result ≡ status) × IsUnused (record { before = E.contents err.old; after = E.contents err.new }))
-        (λ error. IsTold error (exit_status result) (record { before = E.contents err.old; after = E.contents err.new })) }
+        (λ error. IsErrorPrinted error (exit_status result) (record { before = E.contents err.old; after = E.contents err.new })) }
 {
     let status = match outcome {
         Ok(status) => *status,

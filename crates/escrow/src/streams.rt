@@ -2,7 +2,7 @@
 ghost use Rattle.std.specs.Prelude.{IfErr};
 ghost use Rattle.escrow.specs.Errors.{IsOfVault};
 
-use crate::error::ProgramError;
+use crate::errors::ProgramError;
 use std::fs::File;
 
 /// What stands in for a stream that is closed: it is opened for reading, so that printing to it fails.

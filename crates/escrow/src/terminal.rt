@@ -8,19 +8,19 @@ use std::io::{Stderr, Write};
 
 /// What a call of many steps goes through: a sweep days, and an audit the blocks of parts.
 #[derive(Clone, Copy)]
-enum Step {
+enum StepKind {
     Day,
     Block,
 }
 
-impl Step {
+impl StepKind {
     /// After how many steps it is told how far the call is. (So many blocks are 16 MiB.)
     fn every(self) -> usize
         ensures { 0 < result }
     {
         match self {
-            Step::Day => 1_000,
-            Step::Block => 4_096,
+            StepKind::Day => 1_000,
+            StepKind::Block => 4_096,
         }
     }
 }
@@ -30,7 +30,7 @@ impl Step {
 pub struct Terminal {
     err: Stderr,
     is_there: bool,
-    step: Step,
+    step: StepKind,
     done: usize,
     steps: usize,
 }
@@ -41,8 +41,8 @@ impl Terminal {
             err: rt.stderr(),
             is_there: is_terminal(rt),
             step: match order {
-                Order::Audit { .. } => Step::Block,
-                _ => Step::Day,
+                Order::Audit { .. } => StepKind::Block,
+                _ => StepKind::Day,
             },
             done: 0,
             steps: 0,
@@ -63,8 +63,8 @@ impl Progress for Terminal {
         if self.is_there && self.done / every > told {
             let (done, steps) = (self.done, self.steps);
             let _ = match self.step {
-                Step::Day => writeln!(self.err, "swept {done} of {steps} days"),
-                Step::Block => writeln!(self.err, "audited {done} of {steps} blocks"),
+                StepKind::Day => writeln!(self.err, "swept {done} of {steps} days"),
+                StepKind::Block => writeln!(self.err, "audited {done} of {steps} blocks"),
             };
         }
     }

@@ -8,7 +8,7 @@ use Rattle.std.proofs.lemmas.Bool.{cases_lt, cases_eq}
 use Rattle.std.proofs.lemmas.List.{get_or-set_same, get_or-set_other}
 use Rattle.std.proofs.lemmas.Nat.{and_le_l, leading_top}
 use Rattle.std.proofs.lemmas.Nat.Bits.{bit_at-suc, bit_at_lowest, bit_at-zero, bit_at_and, bit_at_not, bit_at-trailing_zeros, bit_at_set_same, bit_at_set_other, bit_at_clear_same, bit_at_clear_other, ones_shl, bit_at-lt, bit_at_mask_inside, bit_at_mask_below}
-use Rattle.extent_map.specs.Words.{bit, ones, IsOneIn}
+use Rattle.extent_map.specs.Words.{bit, one_count, IsOneIn}
 use Rattle.extent_map.specs.Extents.{HasCount, IsFreeRun}
 
 -- ---- one word
@@ -162,22 +162,22 @@ clear_elsewhere words b within = elsewhere words b _ within (λ i lt other. bit_
 
 -- ---- how many are 1
 
-pub ones_same : (xs ys : List ℕ) (n : ℕ) → ((c : ℕ) → c < n → bit xs c ≡ bit ys c) → ones xs n ≡ ones ys n
+pub ones_same : (xs ys : List ℕ) (n : ℕ) → ((c : ℕ) → c < n → bit xs c ≡ bit ys c) → one_count xs n ≡ one_count ys n
 ones_same xs ys zero same = refl
 ones_same xs ys (suc n) same = ap₂ (λ a b. a + b) (same n (omega arith)) (ones_same xs ys n (λ c lt. same c (omega arith)))
 
-pub ones_more : (xs ys : List ℕ) (k n : ℕ) → k < n → bit xs k ≡ 0 → bit ys k ≡ 1 → ((c : ℕ) → c ≢ k → bit ys c ≡ bit xs c) → ones ys n ≡ ones xs n + 1
+pub ones_more : (xs ys : List ℕ) (k n : ℕ) → k < n → bit xs k ≡ 0 → bit ys k ≡ 1 → ((c : ℕ) → c ≢ k → bit ys c ≡ bit xs c) → one_count ys n ≡ one_count xs n + 1
 ones_more xs ys k zero lt none one others = absurd (omega arith)
 ones_more xs ys k (suc n) lt none one others = ⊎_elim
     (λ (same : k ≡ n).
     let before = ones_same ys xs n (λ c low. others c (λ e. omega (arith, e, same, low))) in
     let here : bit ys n ≡ 1 = ap (bit ys) (sym same) ∙ one in
     let was : bit xs n ≡ 0 = ap (bit xs) (sym same) ∙ none in
-    sum_more (bit ys n) (ones ys n) (bit xs n) (ones xs n) here was before)
+    sum_more (bit ys n) (one_count ys n) (bit xs n) (one_count xs n) here was before)
     (λ (apart : k ≢ n).
     let before = ones_more xs ys k n (omega (arith, lt, apart)) none one others in
     let here = others n (λ e. apart (sym e)) in
-    sum_later (bit ys n) (ones ys n) (bit xs n) (ones xs n) here before)
+    sum_later (bit ys n) (one_count ys n) (bit xs n) (one_count xs n) here before)
     (cases_eq k n)
   where
     sum_more : (a b c d : ℕ) → a ≡ 1 → c ≡ 0 → b ≡ d → a + b ≡ c + d + 1
@@ -186,17 +186,17 @@ ones_more xs ys k (suc n) lt none one others = ⊎_elim
     sum_later : (a b c d : ℕ) → a ≡ c → b ≡ d + 1 → a + b ≡ c + d + 1
     sum_later a b c d p q = omega arith
 
-pub no_ones_below : (words : List ℕ) (n : ℕ) → ((c : ℕ) → bit words c ≡ 0) → ones words n ≡ 0
+pub no_ones_below : (words : List ℕ) (n : ℕ) → ((c : ℕ) → bit words c ≡ 0) → one_count words n ≡ 0
 no_ones_below words zero none = refl
 no_ones_below words (suc n) none = ap₂ (λ a b. a + b) (none n) (no_ones_below words n none)
 
-pub has_count : (words : List ℕ) (n : ℕ) → HasCount (IsOneIn words) n (ones words n)
+pub has_count : (words : List ℕ) (n : ℕ) → HasCount (IsOneIn words) n (one_count words n)
 has_count words zero = refl
 has_count words (suc n) = ⊎_elim
-    (λ (one : bit words n ≡ 1). inl (one, ones words n, plus (bit words n) (ones words n) one, has_count words n))
+    (λ (one : bit words n ≡ 1). inl (one, one_count words n, plus (bit words n) (one_count words n) one, has_count words n))
     (λ (other : bit words n ≢ 1).
     let none = rest (bit words n) (bit_at-lt (slice_index words (n / 64)) (n % 64)) other in
-    inr (other, subst (HasCount (IsOneIn words) n) (sym (same (bit words n) (ones words n) none)) (has_count words n)))
+    inr (other, subst (HasCount (IsOneIn words) n) (sym (same (bit words n) (one_count words n) none)) (has_count words n)))
     (cases_eq (bit words n) 1)
   where
     plus : (a b : ℕ) → a ≡ 1 → a + b ≡ b + 1
@@ -208,9 +208,9 @@ has_count words (suc n) = ⊎_elim
     rest : (a : ℕ) → a < 2 → a ≢ 1 → a ≡ 0
     rest a lt other = omega arith
 
-pub ones_le : (words : List ℕ) (n : ℕ) → ones words n ≤ n
+pub ones_le : (words : List ℕ) (n : ℕ) → one_count words n ≤ n
 ones_le words zero = omega arith
-ones_le words (suc n) = sum_le (bit words n) (ones words n) n (bit_at-lt (slice_index words (n / 64)) (n % 64)) (ones_le words n)
+ones_le words (suc n) = sum_le (bit words n) (one_count words n) n (bit_at-lt (slice_index words (n / 64)) (n % 64)) (ones_le words n)
   where
     sum_le : (a b n : ℕ) → a < 2 → b ≤ n → a + b ≤ suc n
     sum_le a b n lt le = omega arith
@@ -224,9 +224,9 @@ none_is words b other = rest (bit words b) (bit_at-lt (slice_index words (b / 64
 -- ---- after one more bit of a run
 
 pub run_grows : (xs ys zs : List ℕ) (start b n count : ℕ) → start ≤ b → b < n → bit ys b ≡ 0 → bit zs b ≡ 1 → ((c : ℕ) → c ≢ b → bit zs c ≡ bit ys c)
-    → ones ys n ≡ ones xs n + (b - start) → ones zs n ≡ ones xs n + (b + 1 - start)
+    → one_count ys n ≡ one_count xs n + (b - start) → one_count zs n ≡ one_count xs n + (b + 1 - start)
 run_grows xs ys zs start b n count low lt none one others before = let more = ones_more ys zs b n lt none one others in omega arith
 
 pub run_falls : (xs ys zs : List ℕ) (start b n count : ℕ) → start ≤ b → b < n → bit ys b ≡ 1 → bit zs b ≡ 0 → ((c : ℕ) → c ≢ b → bit zs c ≡ bit ys c)
-    → ones ys n + (b - start) ≡ ones xs n → ones zs n + (b + 1 - start) ≡ ones xs n
+    → one_count ys n + (b - start) ≡ one_count xs n → one_count zs n + (b + 1 - start) ≡ one_count xs n
 run_falls xs ys zs start b n count low lt one none others before = let more = ones_more zs ys b n lt none one (λ c other. sym (others c other)) in omega arith

@@ -6,7 +6,7 @@ use Rattle.std.proofs.lemmas.List.{take_more}
 use Rattle.std.proofs.lemmas.List.Elements.{All-nil, All-push}
 use Rattle.std.proofs.lemmas.List.Sums.{sum_by_push}
 use Rattle.std.proofs.lemmas.List.Quantifiers.{all_pairs_push}
-use Rattle.extent_map.specs.Words.{bit, ones, IsOneIn}
+use Rattle.extent_map.specs.Words.{bit, one_count, IsOneIn}
 use Rattle.extent_map.specs.Extents.{AllIn, AreApart, AreRising, blocks_of, IsExtentOf, IsFreeRun, IsIn, IsInAny, Takes, HasAtLeast, HasCount, HasFewer}
 use Rattle.extent_map.specs.declared.extent.Extent.{Extent}
 use Rattle.extent_map.proofs.BitLemmas.{none_is}
@@ -14,51 +14,51 @@ use Rattle.extent_map.proofs.SetLemmas.{apart_last, in_either, in_more, is_in_on
 
 -- ---- how many bits are 1 up to a place
 
-ones_mono : (words : List ℕ) (m n : ℕ) → m ≤ n → ones words m ≤ ones words n
-ones_mono words m zero le = let e : m ≡ zero = omega arith in subst (λ k. ones words k ≤ ones words zero) (sym e) (omega arith)
+ones_mono : (words : List ℕ) (m n : ℕ) → m ≤ n → one_count words m ≤ one_count words n
+ones_mono words m zero le = let e : m ≡ zero = omega arith in subst (λ k. one_count words k ≤ one_count words zero) (sym e) (omega arith)
 ones_mono words m (suc n) le = ⊎_elim
-    (λ (same : m ≡ suc n). subst (λ k. ones words k ≤ ones words (suc n)) (sym same) (omega arith))
-    (λ (other : m ≢ suc n). more (ones words m) (bit words n) (ones words n) (ones_mono words m n (omega (arith, le, other))))
+    (λ (same : m ≡ suc n). subst (λ k. one_count words k ≤ one_count words (suc n)) (sym same) (omega arith))
+    (λ (other : m ≢ suc n). more (one_count words m) (bit words n) (one_count words n) (ones_mono words m n (omega (arith, le, other))))
     (cases_eq m (suc n))
   where
     more : (a b c : ℕ) → a ≤ c → a ≤ b + c
     more a b c le = omega arith
 
 -- where more bits are 1 below n than below a place, one is 1 from there on
-pub one_from : (words : List ℕ) (from n : ℕ) → ones words from < ones words n → (b : ℕ) × (from ≤ b) × IsOneIn words b
+pub one_from : (words : List ℕ) (from n : ℕ) → one_count words from < one_count words n → (b : ℕ) × (from ≤ b) × IsOneIn words b
 one_from words from zero lt = absurd (omega arith)
 one_from words from (suc n) lt = ⊎_elim
     (λ (below : n < from). let le = ones_mono words (suc n) from (omega arith) in absurd (omega (arith, le, lt)))
     (λ (le : from ≤ n). ⊎_elim
     (λ (one : bit words n ≡ 1). (n, le, one))
-    (λ (other : bit words n ≢ 1). one_from words from n (less (ones words from) (bit words n) (ones words n) (none_is words n other) lt))
+    (λ (other : bit words n ≢ 1). one_from words from n (less (one_count words from) (bit words n) (one_count words n) (none_is words n other) lt))
     (cases_eq (bit words n) 1))
     (cases_lt n from)
   where
     less : (a b c : ℕ) → b ≡ 0 → a < b + c → a < c
     less a b c none lt = omega arith
 
-ones_gap : (words : List ℕ) (m n : ℕ) → m ≤ n → ((b : ℕ) → m ≤ b → b < n → ¬ IsOneIn words b) → ones words n ≡ ones words m
-ones_gap words m zero le none = let e : m ≡ zero = omega arith in ap (ones words) (sym e)
+ones_gap : (words : List ℕ) (m n : ℕ) → m ≤ n → ((b : ℕ) → m ≤ b → b < n → ¬ IsOneIn words b) → one_count words n ≡ one_count words m
+ones_gap words m zero le none = let e : m ≡ zero = omega arith in ap (one_count words) (sym e)
 ones_gap words m (suc n) le none = ⊎_elim
-    (λ (same : m ≡ suc n). ap (ones words) (sym same))
+    (λ (same : m ≡ suc n). ap (one_count words) (sym same))
     (λ (other : m ≢ suc n).
     let low : m ≤ n = omega (arith, le, other) in
-    plus (bit words n) (ones words n) (ones words m) (none_is words n (none n low (omega arith))) (ones_gap words m n low (λ b from to. none b from (omega (arith, to)))))
+    plus (bit words n) (one_count words n) (one_count words m) (none_is words n (none n low (omega arith))) (ones_gap words m n low (λ b from to. none b from (omega (arith, to)))))
     (cases_eq m (suc n))
   where
     plus : (a b c : ℕ) → a ≡ 0 → b ≡ c → a + b ≡ c
     plus a b c p q = omega arith
 
-ones_run : (words : List ℕ) (m n : ℕ) → m ≤ n → ((b : ℕ) → m ≤ b → b < n → IsOneIn words b) → ones words n ≡ ones words m + (n - m)
+ones_run : (words : List ℕ) (m n : ℕ) → m ≤ n → ((b : ℕ) → m ≤ b → b < n → IsOneIn words b) → one_count words n ≡ one_count words m + (n - m)
 ones_run words m zero le all =
     let e : m ≡ zero = omega arith in
-    subst (λ k. ones words zero ≡ ones words k + (zero - k)) (sym e) (omega arith)
+    subst (λ k. one_count words zero ≡ one_count words k + (zero - k)) (sym e) (omega arith)
 ones_run words m (suc n) le all = ⊎_elim
-    (λ (same : m ≡ suc n). same_end (ones words (suc n)) (ones words m) m (suc n) (ap (ones words) (sym same)) same)
+    (λ (same : m ≡ suc n). same_end (one_count words (suc n)) (one_count words m) m (suc n) (ap (one_count words) (sym same)) same)
     (λ (other : m ≢ suc n).
     let low : m ≤ n = omega (arith, le, other) in
-    plus (bit words n) (ones words n) (ones words m) m n low (all n low (omega arith)) (ones_run words m n low (λ b from to. all b from (omega (arith, to)))))
+    plus (bit words n) (one_count words n) (one_count words m) m n low (all n low (omega arith)) (ones_run words m n low (λ b from to. all b from (omega (arith, to)))))
     (cases_eq m (suc n))
   where
     same_end : (a b m n : ℕ) → a ≡ b → m ≡ n → a ≡ b + (n - m)
@@ -83,7 +83,7 @@ pub record IsCollected (words : List ℕ) (size count : ℕ) (runs : List Extent
   pub rising : AreRising runs
   pub ended : All (λ e. e.start + e.count ≤ from) runs
   pub none_left : (b : ℕ) → b < from → IsOneIn words b → IsInAny runs b
-  pub counted : ones words from + left ≡ count
+  pub counted : one_count words from + left ≡ count
   pub stop : 0 < left → ¬ IsOneIn words from
   pub small : from ≤ size
 
@@ -111,7 +111,7 @@ module _ (words : List ℕ) (size count : ℕ) (runs : List Extent) (left from :
       (λ (le : e.start ≤ from). absurd (before.stop some (run from le (omega (arith, ahead, le, within.1)))))
       (cases_lt from e.start)
 
-  counts : ones words (e.start + e.count) ≡ ones words from + e.count
+  counts : one_count words (e.start + e.count) ≡ one_count words from + e.count
   counts =
       let over = ones_gap words from e.start ahead gap in
       let here = ones_run words e.start (e.start + e.count) (omega arith) run in

@@ -10,6 +10,6 @@ abbrev pub IsOneIn : List ℕ → ℕ → Type 0
 IsOneIn words b = bit words b ≡ 1
 
 -- how many of the first n bits are 1
-abbrev pub ones : List ℕ → ℕ → ℕ
-ones words zero = 0
-ones words (suc n) = bit words n + ones words n
+abbrev pub one_count : List ℕ → ℕ → ℕ
+one_count words zero = 0
+one_count words (suc n) = bit words n + one_count words n

@@ -1,7 +1,47 @@
 //! The map: one bit a block, 1 where it is free, with the number of free blocks beside them.
-ghost use Rattle.std.specs.Prelude.{◌≡◌, ◌+◌, ◌*◌, ◌^◌, ◌<◌, ◌≤◌, ℕ, [], ◌∷◌, vec_len, All, false, IsTrue, IfSome, IfNone, IfOk, IfErr, IsErr, IsErrOf};
-ghost use Rattle.extent_map.specs.Words.{bit, ones};
-ghost use Rattle.extent_map.specs.Extents.{AllIn, AreApart, AreChosen, AreLowest, AreRising, blocks_of, HasAtLeast, HasFewer, IsExtentOf, IsUsed, IsFirstFit, IsFreeOf, IsFreeRun, IsIn, IsInAny, Takes, GivesBack, SameFree, HasCount};
+ghost use Rattle.std.specs.Prelude.{
+  ◌≡◌,
+  ◌+◌,
+  ◌*◌,
+  ◌^◌,
+  ◌<◌,
+  ◌≤◌,
+  ℕ,
+  [],
+  ◌∷◌,
+  vec_len,
+  All,
+  false,
+  IsTrue,
+  IfSome,
+  IfNone,
+  IfOk,
+  IfErr,
+  IsErr,
+  IsErrOf,
+};
+ghost use Rattle.extent_map.specs.Words.{bit, one_count};
+ghost use Rattle.extent_map.specs.Extents.{
+  AllIn,
+  AreApart,
+  AreChosen,
+  AreLowest,
+  AreRising,
+  blocks_of,
+  HasAtLeast,
+  HasFewer,
+  IsExtentOf,
+  IsUsed,
+  IsFirstFit,
+  IsFreeOf,
+  IsFreeRun,
+  IsIn,
+  IsInAny,
+  Takes,
+  GivesBack,
+  SameFree,
+  HasCount,
+};
 
 use crate::words::{clear_run, first_fit, first_one, first_zero, set_run};
 use crate::{Extent, MapError};
@@ -17,7 +57,7 @@ pub struct ExtentMap {
     ghost few: { vec_len words ≤ 67108864 },
     ghost small: { blocks < 2 ^ 32 },
     ghost in_range: { (b : ℕ) → bit words.items b ≡ 1 → (1 ≤ b) × (b < blocks) },
-    ghost counted: { free ≡ ones words.items blocks },
+    ghost counted: { free ≡ one_count words.items blocks },
 }
 
 impl ExtentMap {

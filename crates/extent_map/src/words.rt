@@ -1,7 +1,21 @@
 //! Bits in words: bit b is in word b / 64.
-ghost use Rattle.std.specs.Prelude.{◌≡◌, ◌≢◌, ◌+◌, ◌-◌, ◌*◌, ◌/◌, ◌^◌, ◌<◌, ◌≤◌, ℕ, length, IfSome, IfNone};
+ghost use Rattle.std.specs.Prelude.{
+  ◌≡◌,
+  ◌≢◌,
+  ◌+◌,
+  ◌-◌,
+  ◌*◌,
+  ◌/◌,
+  ◌^◌,
+  ◌<◌,
+  ◌≤◌,
+  ℕ,
+  length,
+  IfSome,
+  IfNone,
+};
 ghost use Rattle.std.specs.Int.{bit_at};
-ghost use Rattle.extent_map.specs.Words.{bit, ones, IsOneIn};
+ghost use Rattle.extent_map.specs.Words.{bit, one_count, IsOneIn};
 ghost use Rattle.extent_map.specs.Extents.{IsFirstFit, IsFreeRun};
 
 /// The place of the lowest 1 of a word from a place on, or 64.
@@ -149,7 +163,7 @@ pub fn set_run(words: &mut [u64], start: usize, count: usize)
     ensures here { (b : ℕ) → start ≤ b → b < start + count → bit words.new b ≡ 1 }
     ensures below { (b : ℕ) → b < start → bit words.new b ≡ bit words.old b }
     ensures above { (b : ℕ) → start + count ≤ b → bit words.new b ≡ bit words.old b }
-    ensures count { (n : ℕ) → start + count ≤ n → ones words.new n ≡ ones words.old n + count }
+    ensures count { (n : ℕ) → start + count ≤ n → one_count words.new n ≡ one_count words.old n + count }
     ensures length { length words.new ≡ length words.old }
 {
     for b in start..start + count {
@@ -165,7 +179,7 @@ pub fn clear_run(words: &mut [u64], start: usize, count: usize)
     ensures here { (b : ℕ) → start ≤ b → b < start + count → bit words.new b ≡ 0 }
     ensures below { (b : ℕ) → b < start → bit words.new b ≡ bit words.old b }
     ensures above { (b : ℕ) → start + count ≤ b → bit words.new b ≡ bit words.old b }
-    ensures count { (n : ℕ) → start + count ≤ n → ones words.new n + count ≡ ones words.old n }
+    ensures count { (n : ℕ) → start + count ≤ n → one_count words.new n + count ≡ one_count words.old n }
     ensures length { length words.new ≡ length words.old }
 {
     for b in start..start + count {

@@ -4,8 +4,8 @@ use Rattle.std.specs.Fmt.{digits}
 use Rattle.custody_machine.specs.declared.codes.HttpStatus.{HttpStatus}
 use Rattle.custody_machine.specs.declared.codes.HttpStatus.TheVariants.{BadRequest, NotFound, Conflict, Gone, ContentTooLarge, InternalServerError, ServiceUnavailable, InsufficientStorage}
 use Rattle.http_api.specs.Statuses.{coded_text, status_text}
-use Rattle.http_api.specs.declared.status.Status.{Status}
-use Rattle.http_api.specs.declared.status.Status.TheVariants.{Done, Created, MethodNotAllowed, LengthRequired, NotImplemented, Coded}
+use Rattle.http_api.specs.declared.status.ResponseStatus.{ResponseStatus}
+use Rattle.http_api.specs.declared.status.ResponseStatus.TheVariants.{Done, Created, MethodNotAllowed, LengthRequired, NotImplemented, Coded}
 
 coded_short : (status : HttpStatus) → length (coded_text status) ≤ 30
 unfolding digits
@@ -18,7 +18,7 @@ coded_short InternalServerError = omega arith
 coded_short ServiceUnavailable = omega arith
 coded_short InsufficientStorage = omega arith
 
-pub status_short : (status : Status) → length (status_text status) ≤ 30
+pub status_short : (status : ResponseStatus) → length (status_text status) ≤ 30
 status_short Done = omega arith
 status_short Created = omega arith
 status_short MethodNotAllowed = omega arith

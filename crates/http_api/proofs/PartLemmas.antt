@@ -7,24 +7,24 @@ use Rattle.sqlite.specs.Store.{Ghosts}
 use Rattle.std.specs.Io.KnownBytes.{Consumes}
 use Rattle.custody_machine.specs.Machine.{Receive}
 use Rattle.custody.specs.declared.custody.Custody.{Custody}
-use Rattle.custody.specs.Receiving.{IsBody, IsShort}
-use Rattle.http_request.specs.Asked.{asks_for, SendsPart}
-use Rattle.http_request.specs.Body.{BeginsWith, IsDeclaredBody}
+use Rattle.custody.specs.Receiving.{IsPartBody, IsPartShort}
+use Rattle.http_request.specs.RequestMeaning.{asks_for, SendsPart}
+use Rattle.http_request.specs.Body.{HasFirstBytes, IsDeclaredBody}
 use Rattle.http_request.specs.Head.{IsHeadOf, rest_of}
 use Rattle.http_request.specs.Paths.{Target, Deposit}
-use Rattle.http_request.specs.Targets.{seen}
-use Rattle.http_request.specs.Wanted.{Do, Means, Report}
+use Rattle.http_request.specs.Targets.{target_view}
+use Rattle.http_request.specs.Action.{Do, Means, Report}
 use Rattle.http_request.specs.declared.head.Head.{Head}
 use Rattle.http_request.specs.declared.plan.Plan.{Plan}
 use Rattle.http_request.specs.declared.faults.RequestFault.{RequestFault}
 use Rattle.http_request.specs.declared.faults.RequestFault.TheVariants as fault
 use Rattle.http_request.specs.Errors.{IsBodyError}
-use Rattle.http_request.specs.declared.error.RequestError.{RequestError}
-use Rattle.http_request.specs.declared.error.RequestError.TheVariants as error
+use Rattle.http_request.specs.declared.errors.RequestError.{RequestError}
+use Rattle.http_request.specs.declared.errors.RequestError.TheVariants as error
 use Rattle.http_request.proofs.Asking.{Plans, asks_wanted}
-use Rattle.http_api.specs.declared.serve.Outcome.{Outcome}
-use Rattle.http_api.specs.declared.serve.Outcome.TheVariants as outcome
-use Rattle.http_api.specs.Served.{Does, ErrorLeaves, HasNoLength, HasNoMemory, HasTakenPart, IsDone, IsNoCommand, IsServed, IsStep, LeavesBe, Serves}
+use Rattle.http_api.specs.declared.handling.PendingResponse.{PendingResponse}
+use Rattle.http_api.specs.declared.handling.PendingResponse.TheVariants as outcome
+use Rattle.http_api.specs.Handling.{Performs, ErrorLeaves, HasTooLongReport, HasNoMemory, HasReceivedPart, IsRequestPerformed, IsNoCommand, IsServed, IsActionPerformed, FaultLeaves, IsRequestServed}
 
 cut_same : (front rest : List ℕ) (n : ℕ) → take n (take n front ++ rest) ≡ take n (front ++ rest)
 cut_same [] rest zero = refl
@@ -47,13 +47,13 @@ long_enough bytes body n counted same = by (cases_lt (length bytes) n)
         absurd (omega (arith, counted, short, less))
     by (inr fits) = fits
 
-pub part_came : (known : Option (List ℕ)) (front body : List ℕ) (n : ℕ) → IsBody known (take n front) n body → IfSome known (λ rest. BeginsWith (front ++ rest) n body)
+pub part_came : (known : Option (List ℕ)) (front body : List ℕ) (n : ℕ) → IsPartBody known (take n front) n body → IfSome known (λ rest. HasFirstBytes (front ++ rest) n body)
 part_came None front body n is = tt
 part_came (Some rest) front body n (counted, same) =
     let cut = same ∙ cut_same front rest n in
     (long_enough (front ++ rest) body n counted cut, cut)
 
-pub part_short : (known : Option (List ℕ)) (front : List ℕ) (n : ℕ) → IsShort known (take n front) n
+pub part_short : (known : Option (List ℕ)) (front : List ℕ) (n : ℕ) → IsPartShort known (take n front) n
     → IfSome known (λ rest. IsBodyError (front ++ rest) (Some n) (error.Fault fault.BodyShort))
 part_short None front n short = tt
 part_short (Some rest) front n short = (n, refl, cut_short front rest n short)
@@ -63,7 +63,7 @@ part_unread None front n = tt
 part_unread (Some rest) front n = tt
 
 module _ {V S : Type 0} {g : volume.Ghosts V} {database : Ghosts S} (known : Option (List ℕ)) (old new : Custody V S g database) where
-  fault_alone : new ≡ old → (found : RequestFault) → LeavesBe known found old new
+  fault_alone : new ≡ old → (found : RequestFault) → FaultLeaves known found old new
   fault_alone same fault.BodyShort = inl same
   fault_alone same _ = same
 
@@ -78,7 +78,7 @@ module _ {V S : Type 0} {g : volume.Ghosts V} {database : Ghosts S} (known : Opt
     no_part (inl same) = inl same
     no_part (inr (any, ended)) = inr (sends, ended)
 
-    fault_of_part : (found : RequestFault) → LeavesBe None found old new → LeavesBe known found old new
+    fault_of_part : (found : RequestFault) → FaultLeaves None found old new → FaultLeaves known found old new
     fault_of_part fault.BodyShort left = no_part left
     fault_of_part _ same = same
 
@@ -90,23 +90,23 @@ module _ {V S : Type 0} {g : volume.Ghosts V} {database : Ghosts S} (known : Opt
 
 -- what is done of a request is one of the ways in which it is served
 module _ {V S : Type 0} {g : volume.Ghosts V} {database : Ghosts S} where
-  pub done_serves : (known : Option (List ℕ)) (now : ℕ) (old new : Custody V S g database) (outcome : Outcome) → IsDone known now old outcome new → Serves known now old outcome new
+  pub done_serves : (known : Option (List ℕ)) (now : ℕ) (old new : Custody V S g database) (outcome : PendingResponse) → IsRequestPerformed known now old outcome new → IsRequestServed known now old outcome new
   done_serves known now old new outcome (wanted, asks, step) answer told = by (step answer told)
     where
-      by : Does wanted now old answer new ⊎ (HasNoLength wanted old × HasNoMemory old answer new) → IsServed known now old answer new
+      by : Performs wanted now old answer new ⊎ (HasTooLongReport wanted old × HasNoMemory old answer new) → IsServed known now old answer new
       by (inl does) = inl (asks_for wanted, asks, does)
       by (inr (long, none)) = inr none
 
-  -- a report that is wanted is the outcome, and the custody is as it was
-  pub report_step : (tld : List ℕ) (now : ℕ) (custody : Custody V S g database) → IsStep (Report tld) now custody (outcome.Report tld) custody
+  -- a report that is wanted is the response that is pending, and the custody is as it was
+  pub report_step : (tld : List ℕ) (now : ℕ) (custody : Custody V S g database) → IsActionPerformed (Report tld) now custody (outcome.Report tld) custody
   report_step tld now custody answer (inl is) = inl (is, refl)
   report_step tld now custody answer (inr (long, is)) = inr (long, (is, refl))
 
 -- the part of a request is received: that is what the request asks
 module _ {V S : Type 0} {g : volume.Ghosts V} {database : Ghosts S} (head : Head) (plan : Plan) where
-  pub part_done : (a b : Option (List ℕ)) → Consumes a b head.bytes.items → IsHeadOf head → Plans head plan → (name : List ℕ) → seen plan.target ≡ Deposit name
-      → (len : ℕ) → plan.length ≡ Some len → (now : ℕ) (old new : Custody V S g database) (outcome : Outcome)
-      → HasTakenPart b (rest_of head) name len now old outcome new → IsDone a now old outcome new
+  pub part_done : (a b : Option (List ℕ)) → Consumes a b head.bytes.items → IsHeadOf head → Plans head plan → (name : List ℕ) → target_view plan.target ≡ Deposit name
+      → (len : ℕ) → plan.length ≡ Some len → (now : ℕ) (old new : Custody V S g database) (outcome : PendingResponse)
+      → HasReceivedPart b (rest_of head) name len now old outcome new → IsRequestPerformed a now old outcome new
   part_done a b taken is plans name e len told now old new outcome (body, has, step) =
       let wanted = Do (Receive name body) in
       let whole = subst (λ (t : Option ℕ). IfSome b (λ rest. IsDeclaredBody (rest_of head ++ rest) t body)) (sym told) has in

@@ -1,3 +1,3 @@
 pub mod Responses
-pub mod Served
+pub mod Handling
 pub mod Statuses

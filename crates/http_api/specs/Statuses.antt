@@ -2,9 +2,25 @@
 use Rattle.std.specs.Prelude.{List, ℕ, ◌++◌, codes, decimal}
 use Rattle.custody_machine.specs.Codes.{http_number}
 use Rattle.custody_machine.specs.declared.codes.HttpStatus.{HttpStatus}
-use Rattle.custody_machine.specs.declared.codes.HttpStatus.TheVariants.{BadRequest, NotFound, Conflict, Gone, ContentTooLarge, InternalServerError, ServiceUnavailable, InsufficientStorage}
-use Rattle.http_api.specs.declared.status.Status.{Status}
-use Rattle.http_api.specs.declared.status.Status.TheVariants.{Done, Created, MethodNotAllowed, LengthRequired, NotImplemented, Coded}
+use Rattle.custody_machine.specs.declared.codes.HttpStatus.TheVariants.{
+  BadRequest,
+  NotFound,
+  Conflict,
+  Gone,
+  ContentTooLarge,
+  InternalServerError,
+  ServiceUnavailable,
+  InsufficientStorage,
+}
+use Rattle.http_api.specs.declared.status.ResponseStatus.{ResponseStatus}
+use Rattle.http_api.specs.declared.status.ResponseStatus.TheVariants.{
+  Done,
+  Created,
+  MethodNotAllowed,
+  LengthRequired,
+  NotImplemented,
+  Coded,
+}
 
 abbrev pub phrase : HttpStatus → List ℕ
 phrase BadRequest = codes "Bad Request"
@@ -21,7 +37,7 @@ abbrev pub coded_text : HttpStatus → List ℕ
 coded_text status = decimal (http_number status) ++ codes " " ++ phrase status
 
 -- code and phrase
-abbrev pub status_text : Status → List ℕ
+abbrev pub status_text : ResponseStatus → List ℕ
 status_text Done = codes "200 OK"
 status_text Created = codes "201 Created"
 status_text MethodNotAllowed = codes "405 Method Not Allowed"

@@ -3,11 +3,19 @@ ghost use Rattle.std.specs.Prelude.{◌≡◌, ◌+◌, ◌≤◌, ◌++◌, OnO
 ghost use Rattle.std.specs.Io.KnownBytes.{Appends};
 ghost use Rattle.arrayvec.specs.ArrayVec.{array_vec_len};
 ghost use Rattle.desk.specs.Lines.{AppendsBeginning, report_text};
-ghost use Rattle.answer_lines.specs.Printed.{reply_text};
-ghost use Rattle.http_api.specs.Responses.{allow_line, answer_of, head_text, message_seen, report_seen, response_seen, shown};
+ghost use Rattle.answer_lines.specs.Printing.{reply_text};
+ghost use Rattle.http_api.specs.Responses.{
+  allow_line,
+  http_response,
+  response_head,
+  message_view,
+  report_view,
+  response_view,
+  response_bytes,
+};
 ghost use Rattle.http_api.specs.Statuses.{status_text};
 
-use crate::Status;
+use crate::ResponseStatus;
 use crate::report::Report;
 use crate::writing::{write_three, write_two};
 use answer_lines::{
@@ -55,7 +63,7 @@ pub(crate) enum Body {
 /// A response. A 405 tells the method that is allowed.
 #[derive(Debug, Drop)]
 pub(crate) struct Response {
-    pub(crate) status: Status,
+    pub(crate) status: ResponseStatus,
     pub(crate) allow: Option<Method>,
     pub(crate) body: Body,
 }
@@ -63,14 +71,14 @@ pub(crate) struct Response {
 /// A response as it is written.
 #[derive(Debug, Drop)]
 pub(crate) enum Message<'c> {
-    Told(Response),
+    Response(Response),
     /// The report of a registry, with status 200.
     Report(Report<'c>),
 }
 
 /// Adds code and phrase of a status.
 #[tactic(auto, using(crate::proofs::HeadLemmas::status_short))]
-fn append_status(head: &mut LineBytes, status: Status)
+fn append_status(head: &mut LineBytes, status: ResponseStatus)
     requires { array_vec_len head.old + 30 ≤ 256 }
     ensures text { head.new.items ≡ head.old.items ++ status_text status }
     ensures len { array_vec_len head.new ≤ array_vec_len head.old + 30 }
@@ -92,8 +100,8 @@ fn append_allow(head: &mut LineBytes, allow: Option<Method>)
 }
 
 /// All that stands before a body of so many bytes.
-fn head_of(status: Status, media: Media, allow: Option<Method>, length: u64) -> LineBytes
-    ensures { result.items ≡ head_text status media allow length }
+fn head_of(status: ResponseStatus, media: Media, allow: Option<Method>, length: u64) -> LineBytes
+    ensures { result.items ≡ response_head status media allow length }
 {
     let mut head = LineBytes::new();
     append(&mut head, b"HTTP/1.1 ");
@@ -113,18 +121,18 @@ pub(crate) fn write_message<W: Write>(
     message: &Message<'_>,
     writer: &mut W,
 ) -> Result<(), WriteFailed>
-    ensures whole { OnOk result (Appends (W.contents writer.old) (W.contents writer.new) (shown (message_seen message.now))) }
-    ensures begun { AppendsBeginning (W.contents writer.old) (W.contents writer.new) (shown (message_seen message.now)) }
+    ensures whole { OnOk result (Appends (W.contents writer.old) (W.contents writer.new) (response_bytes (message_view message.now))) }
+    ensures begun { AppendsBeginning (W.contents writer.old) (W.contents writer.new) (response_bytes (message_view message.now)) }
 {
     match message {
-        Message::Told(response) => write_response(response, writer),
+        Message::Response(response) => write_response(response, writer),
         Message::Report(report) => write_report(report, writer),
     }
 }
 
 fn write_response<W: Write>(response: &Response, writer: &mut W) -> Result<(), WriteFailed>
-    ensures whole { OnOk result (Appends (W.contents writer.old) (W.contents writer.new) (shown (response_seen response.now))) }
-    ensures begun { AppendsBeginning (W.contents writer.old) (W.contents writer.new) (shown (response_seen response.now)) }
+    ensures whole { OnOk result (Appends (W.contents writer.old) (W.contents writer.new) (response_bytes (response_view response.now))) }
+    ensures begun { AppendsBeginning (W.contents writer.old) (W.contents writer.new) (response_bytes (response_view response.now)) }
 {
     let Response {
         status,
@@ -140,14 +148,14 @@ fn write_response<W: Write>(response: &Response, writer: &mut W) -> Result<(), W
 
 /// Writes a response with these bytes as its body.
 fn write_body<W: Write>(
-    status: Status,
+    status: ResponseStatus,
     media: Media,
     allow: Option<Method>,
     body: &[u8],
     writer: &mut W,
 ) -> Result<(), WriteFailed>
-    ensures whole { OnOk result (Appends (W.contents writer.old) (W.contents writer.new) (shown (answer_of status media allow body.now))) }
-    ensures begun { AppendsBeginning (W.contents writer.old) (W.contents writer.new) (shown (answer_of status media allow body.now)) }
+    ensures whole { OnOk result (Appends (W.contents writer.old) (W.contents writer.new) (response_bytes (http_response status media allow body.now))) }
+    ensures begun { AppendsBeginning (W.contents writer.old) (W.contents writer.new) (response_bytes (http_response status media allow body.now)) }
 {
     let head = head_of(status, media, allow, body.len() as u64);
     write_two(head.as_slice(), body, writer)
@@ -155,13 +163,13 @@ fn write_body<W: Write>(
 
 /// Writes a response whose body is what is printed of a record.
 fn write_record<W: Write>(
-    status: Status,
+    status: ResponseStatus,
     allow: Option<Method>,
     told: &Record,
     writer: &mut W,
 ) -> Result<(), WriteFailed>
-    ensures whole { OnOk result (Appends (W.contents writer.old) (W.contents writer.new) (shown (answer_of status Media.Text allow (reply_text told.now)))) }
-    ensures begun { AppendsBeginning (W.contents writer.old) (W.contents writer.new) (shown (answer_of status Media.Text allow (reply_text told.now))) }
+    ensures whole { OnOk result (Appends (W.contents writer.old) (W.contents writer.new) (response_bytes (http_response status Media.Text allow (reply_text told.now)))) }
+    ensures begun { AppendsBeginning (W.contents writer.old) (W.contents writer.new) (response_bytes (http_response status Media.Text allow (reply_text told.now))) }
 {
     let line = Line::of_record(told).bytes();
     let names = names_behind(told);
@@ -172,10 +180,10 @@ fn write_record<W: Write>(
 
 /// Writes the report, a line at a time.
 fn write_report<W: Write>(told: &Report<'_>, writer: &mut W) -> Result<(), WriteFailed>
-    ensures whole { OnOk result (Appends (W.contents writer.old) (W.contents writer.new) (shown (report_seen told.now))) }
-    ensures begun { AppendsBeginning (W.contents writer.old) (W.contents writer.new) (shown (report_seen told.now)) }
+    ensures whole { OnOk result (Appends (W.contents writer.old) (W.contents writer.new) (response_bytes (report_view told.now))) }
+    ensures begun { AppendsBeginning (W.contents writer.old) (W.contents writer.new) (response_bytes (report_view told.now)) }
 {
-    let head = head_of(Status::Done, Media::Text, None, told.len);
+    let head = head_of(ResponseStatus::Done, Media::Text, None, told.len);
     write_lines(head.as_slice(), told.notices, writer)
 }
 

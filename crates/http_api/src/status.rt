@@ -6,7 +6,7 @@ use custody_machine::HttpStatus;
 
 /// The status of a response (RFC 9110, section 15).
 #[derive(Clone, Copy, Debug, PartialEq, Eq)]
-pub enum Status {
+pub enum ResponseStatus {
     /// 200: it is done, or was done before.
     Done,
     /// 201: a new record is made.
@@ -21,7 +21,7 @@ pub enum Status {
     Coded(HttpStatus),
 }
 
-impl Status {
+impl ResponseStatus {
     ghost use Rattle.std.specs.Prelude.{◌≡◌};
     ghost use Rattle.http_api.specs.Statuses.{status_text};
 
@@ -30,12 +30,12 @@ impl Status {
         ensures { result.now ≡ status_text self }
     {
         match self {
-            Status::Done => "200 OK",
-            Status::Created => "201 Created",
-            Status::MethodNotAllowed => "405 Method Not Allowed",
-            Status::LengthRequired => "411 Length Required",
-            Status::NotImplemented => "501 Not Implemented",
-            Status::Coded(status) => coded_text(status),
+            ResponseStatus::Done => "200 OK",
+            ResponseStatus::Created => "201 Created",
+            ResponseStatus::MethodNotAllowed => "405 Method Not Allowed",
+            ResponseStatus::LengthRequired => "411 Length Required",
+            ResponseStatus::NotImplemented => "501 Not Implemented",
+            ResponseStatus::Coded(status) => coded_text(status),
         }
     }
 }

@@ -6,27 +6,27 @@ use Rattle.std.proofs.lemmas.Bool.{true_from_ne_false}
 use Rattle.httparse.specs.Grammar.{RequestHead, ReadsRequest}
 use Rattle.http_request.specs.declared.head.Head.{Head}
 use Rattle.http_request.specs.declared.plan.Plan.{Plan}
-use Rattle.http_request.specs.declared.error.RequestError.{RequestError}
-use Rattle.http_request.specs.declared.error.RequestError.TheVariants as error
-use Rattle.http_request.specs.Head.{IsAt, IsHeadOf, rest_of}
-use Rattle.http_request.specs.Paths.{Target, Deposit, Names, is_target_byte}
-use Rattle.http_request.specs.Asked.{RequestFault, Stands, NoneBelow, fault_number, Asks, SendsPart, bad, asks_for, lengths, limit_of}
+use Rattle.http_request.specs.declared.errors.RequestError.{RequestError}
+use Rattle.http_request.specs.declared.errors.RequestError.TheVariants as error
+use Rattle.http_request.specs.Head.{CoversHead, IsHeadOf, rest_of}
+use Rattle.http_request.specs.Paths.{Target, Deposit, NamesTarget, is_target_byte}
+use Rattle.http_request.specs.RequestMeaning.{RequestFault, HasFault, HasNoFaultBelow, fault_number, RequestMeans, SendsPart, bad, asks_for, content_lengths, limit_of}
 use Rattle.http_request.specs.declared.faults.RequestFault.TheVariants as fault
 use Rattle.http_request.specs.Body.{IsDeclaredBody}
-use Rattle.http_request.specs.Plans.{IsPlanned, FitsLength}
+use Rattle.http_request.specs.Plans.{IsPlanOf, FitsLength}
 use Rattle.http_request.specs.Errors.{IsRequestError, IsBodyError, IsBodyShort}
-use Rattle.http_request.specs.Targets.{seen}
-use Rattle.http_request.specs.Wanted.{Wanted, Means}
+use Rattle.http_request.specs.Targets.{target_view}
+use Rattle.http_request.specs.Action.{RequestAction, Means}
 use Rattle.http_request.proofs.PlanLemmas.{short_asked, form_asked, wanted_asked}
 
-reads_on : (input after : List ℕ) (head : Head) (h : RequestHead) → input ≡ head.bytes.items ++ after → IsAt head h → ReadsRequest input h (rest_of head ++ after)
+reads_on : (input after : List ℕ) (head : Head) (h : RequestHead) → input ≡ head.bytes.items ++ after → CoversHead head h → ReadsRequest input h (rest_of head ++ after)
 reads_on input after head h e at = (at.reads.0, e ∙ ap (λ l. l ++ after) at.reads.1 ∙ append_assoc _ (rest_of head) after)
 
 abbrev pub PlanFails : Head → RequestFault → Type 0
-PlanFails head found = (h : RequestHead) → IsAt head h → (rest : List ℕ) → Stands h rest found × NoneBelow (fault_number found) h rest
+PlanFails head found = (h : RequestHead) → CoversHead head h → (rest : List ℕ) → HasFault h rest found × HasNoFaultBelow (fault_number found) h rest
 
 abbrev pub Plans : Head → Plan → Type 0
-Plans head plan = (h : RequestHead) → IsAt head h → IsPlanned h plan
+Plans head plan = (h : RequestHead) → CoversHead head h → IsPlanOf h plan
 
 module _ (head : Head) where
   pub plan_error : (a b : Option (List ℕ)) → Consumes a b head.bytes.items → IsHeadOf head → (found : RequestFault) → PlanFails head found → IfSome a (λ input. IsRequestError input (error.Fault found))
@@ -40,17 +40,17 @@ module _ (head : Head) where
 
   module _ (plan : Plan) where
     -- how long a part is that is sent: it is told, and within the limit
-    pub part_told : IsHeadOf head → Plans head plan → (name : List ℕ) → seen plan.target ≡ Deposit name → (n : ℕ) × (plan.length ≡ Some n) × (n ≤ 1_048_576)
+    pub part_told : IsHeadOf head → Plans head plan → (name : List ℕ) → target_view plan.target ≡ Deposit name → (n : ℕ) × (plan.length ≡ Some n) × (n ≤ 1_048_576)
     part_told is plans name e =
         let h = is.1.0 in
-        by plan.length (subst (λ (t : Target). FitsLength (limit_of t) (lengths h) plan.length) e (plans h is.1.1).1)
+        by plan.length (subst (λ (t : Target). FitsLength (limit_of t) (content_lengths h) plan.length) e (plans h is.1.1).1)
       where
-        by : (told : Option ℕ) → FitsLength (Some 1_048_576) (lengths is.1.0) told → (n : ℕ) × (told ≡ Some n) × (n ≤ 1_048_576)
+        by : (told : Option ℕ) → FitsLength (Some 1_048_576) (content_lengths is.1.0) told → (n : ℕ) × (told ≡ Some n) × (n ≤ 1_048_576)
         by None fits = absurd fits
         by (Some n) fits = (n, refl, fits.1)
 
     -- a part is sent
-    pub part_sent : (a b : Option (List ℕ)) → Consumes a b head.bytes.items → IsHeadOf head → Plans head plan → (name : List ℕ) → seen plan.target ≡ Deposit name → IfSome a SendsPart
+    pub part_sent : (a b : Option (List ℕ)) → Consumes a b head.bytes.items → IsHeadOf head → Plans head plan → (name : List ℕ) → target_view plan.target ≡ Deposit name → IfSome a SendsPart
     part_sent None b taken is plans name e = tt
     part_sent (Some input) None taken is plans name e = absurd taken
     part_sent (Some input) (Some after) taken is plans name e =
@@ -58,9 +58,9 @@ module _ (head : Head) where
         let at = is.1.1 in
         let rest = rest_of head ++ after in
         let planned = plans h at in
-        (h, rest, reads_on input after head h taken at, is.1.2, (name, subst (Names h.target) e planned.0), planned.2 rest)
+        (h, rest, reads_on input after head h taken at, is.1.2, (name, subst (NamesTarget h.target) e planned.0), planned.2 rest)
 
-    bytes_pass : (h : RequestHead) (rest : List ℕ) → NoneBelow 9 h rest → list_all is_target_byte h.target ≡ true
+    bytes_pass : (h : RequestHead) (rest : List ℕ) → HasNoFaultBelow 9 h rest → list_all is_target_byte h.target ≡ true
     bytes_pass h rest below = true_from_ne_false (list_all is_target_byte h.target) (below fault.Target (omega arith))
 
     pub body_error : (a b : Option (List ℕ)) → Consumes a b head.bytes.items → IsHeadOf head → Plans head plan → (s : RequestError)
@@ -71,7 +71,7 @@ module _ (head : Head) where
     body_error (Some input) (Some after) taken is plans error.NoMemory within = tt
     body_error (Some input) (Some after) taken is plans (error.Fault found) within = by found within
       where
-        by : (found : RequestFault) → IsBodyShort (rest_of head ++ after) plan.length found → Asks input (bad found)
+        by : (found : RequestFault) → IsBodyShort (rest_of head ++ after) plan.length found → RequestMeans input (bad found)
         by fault.BodyShort short =
             let h = is.1.0 in
             let at = is.1.1 in
@@ -83,7 +83,7 @@ module _ (head : Head) where
               rest,
               reads_on input after head h taken at,
               is.1.2,
-              short_asked h (seen plan.target) (bytes_pass h rest below) planned.0 rest plan.length short.0 short.1 below planned.1 short.2,
+              short_asked h (target_view plan.target) (bytes_pass h rest below) planned.0 rest plan.length short.0 short.1 below planned.1 short.2,
             )
         by fault.Head l = absurd l
         by fault.Target l = absurd l
@@ -96,7 +96,7 @@ module _ (head : Head) where
         by fault.Form l = absurd l
 
     pub form_error : (a b : Option (List ℕ)) → Consumes a b head.bytes.items → IsHeadOf head → Plans head plan → (body : List ℕ)
-        → IfSome b (λ rest. IsDeclaredBody (rest_of head ++ rest) plan.length body) → ((wanted : Wanted) → ¬ Means (seen plan.target) body wanted)
+        → IfSome b (λ rest. IsDeclaredBody (rest_of head ++ rest) plan.length body) → ((wanted : RequestAction) → ¬ Means (target_view plan.target) body wanted)
         → IfSome a (λ input. IsRequestError input (error.Fault fault.Form))
     form_error None b taken is plans body has none = tt
     form_error (Some input) None taken is plans body has none = absurd taken
@@ -111,12 +111,12 @@ module _ (head : Head) where
           rest,
           reads_on input after head h taken at,
           is.1.2,
-          form_asked h (seen plan.target) (bytes_pass h rest below) planned.0 rest plan.length body below planned.1 has none,
+          form_asked h (target_view plan.target) (bytes_pass h rest below) planned.0 rest plan.length body below planned.1 has none,
         )
 
     pub asks_wanted : (a b : Option (List ℕ)) → Consumes a b head.bytes.items → IsHeadOf head → Plans head plan → (body : List ℕ)
-        → IfSome b (λ rest. IsDeclaredBody (rest_of head ++ rest) plan.length body) → (wanted : Wanted) → Means (seen plan.target) body wanted
-        → IfSome a (λ input. Asks input (asks_for wanted))
+        → IfSome b (λ rest. IsDeclaredBody (rest_of head ++ rest) plan.length body) → (wanted : RequestAction) → Means (target_view plan.target) body wanted
+        → IfSome a (λ input. RequestMeans input (asks_for wanted))
     asks_wanted None b taken is plans body has wanted means = tt
     asks_wanted (Some input) None taken is plans body has wanted means = absurd taken
     asks_wanted (Some input) (Some after) taken is plans body has wanted means =
@@ -130,5 +130,5 @@ module _ (head : Head) where
           rest,
           reads_on input after head h taken at,
           is.1.2,
-          wanted_asked h (seen plan.target) (bytes_pass h rest below) planned.0 rest plan.length body wanted below planned.1 has means,
+          wanted_asked h (target_view plan.target) (bytes_pass h rest below) planned.0 rest plan.length body wanted below planned.1 has means,
         )

@@ -6,7 +6,7 @@ use Rattle.std.specs.Cmp.Lexicographic.{bytes_decides}
 use Rattle.serde_json.specs.Data.{Num, unsigned, negative, float, Data, null, boolean, number, string, array, object, Members, no_members, member}
 use Rattle.serde_json.specs.Find.{as_number, as_u64, as_str, as_object}
 use Rattle.http_request.specs.Bodies.{StatementTexts, ReleaseTexts, HoldTexts, registration_json, statement_json, release_json, hold_json}
-use Rattle.http_request.specs.BodyReading.{member_at, end_of, text_at, number_at, registration_at, statement_at, release_at, hold_at}
+use Rattle.http_request.specs.inside.BodyReading.{next_member, end_of, next_text, next_u64, registration_text, statement_fields, release_fields, hold_fields}
 
 chained : {A B : Type 0} (f : A → Option B) (o : Option A) (b : B) → option_and_then f o ≡ Some b → (a : A) × (o ≡ Some a) × (f a ≡ Some b)
 chained f None b e = cc
@@ -48,7 +48,7 @@ end_is : (ms : Members) (u : Unit {0}) → end_of ms ≡ Some u → ms ≡ no_me
 end_is no_members u e = refl
 end_is (member k d ms) u e = cc
 
-member_is : (name : List ℕ) (ms : Members) (p : Data × Members) → member_at name ms ≡ Some p → ms ≡ member name p.0 p.1
+member_is : (name : List ℕ) (ms : Members) (p : Data × Members) → next_member name ms ≡ Some p → ms ≡ member name p.0 p.1
 member_is name no_members p e = cc
 member_is name (member k d ms) p e = by (bytes_eq k name) refl e
   where
@@ -59,45 +59,45 @@ member_is name (member k d ms) p e = by (bytes_eq k name) refl e
         ap (λ (k : List ℕ). member k d ms) named ∙ ap (λ (q : Data × Members). member name q.0 q.1) same
     by false h e = cc
 
-text_is : (name : List ℕ) (ms : Members) (p : List ℕ × Members) → text_at name ms ≡ Some p → ms ≡ member name (string p.0) p.1
+text_is : (name : List ℕ) (ms : Members) (p : List ℕ × Members) → next_text name ms ≡ Some p → ms ≡ member name (string p.0) p.1
 text_is name ms p e =
-    let m = chained _ (member_at name ms) p e in
+    let m = chained _ (next_member name ms) p e in
     let t = chained _ (as_str m.0.0) p m.2 in
     let same : (t.0, m.0.1) ≡ p = some_same _ _ t.2 in
     member_is name ms m.0 m.1 ∙ ap (λ (d : Data). member name d m.0.1) (string_is m.0.0 t.0 t.1) ∙ ap (λ (q : List ℕ × Members). member name (string q.0) q.1) same
 
-number_found : (name : List ℕ) (ms : Members) (p : ℕ × Members) → number_at name ms ≡ Some p → ms ≡ member name (number (unsigned p.0)) p.1
+number_found : (name : List ℕ) (ms : Members) (p : ℕ × Members) → next_u64 name ms ≡ Some p → ms ≡ member name (number (unsigned p.0)) p.1
 number_found name ms p e =
-    let m = chained _ (member_at name ms) p e in
+    let m = chained _ (next_member name ms) p e in
     let x = chained _ (as_number m.0.0) p m.2 in
     let n = chained _ (as_u64 x.0) p x.2 in
     let same : (n.0, m.0.1) ≡ p = some_same _ _ n.2 in
     member_is name ms m.0 m.1 ∙ ap (λ (d : Data). member name d m.0.1) (number_is m.0.0 x.0 x.1 ∙ ap number (unsigned_is x.0 n.0 n.1))
     ∙ ap (λ (q : ℕ × Members). member name (number (unsigned q.0)) q.1) same
 
-pub registration_is : (d : Data) (first : List ℕ) → registration_at d ≡ Some first → d ≡ registration_json first
-unfolding registration_at
+pub registration_is : (d : Data) (first : List ℕ) → registration_text d ≡ Some first → d ≡ registration_json first
+unfolding registration_text
 registration_is d first e =
     let o = chained _ (as_object d) first e in
-    let t = chained _ (text_at (codes "first") o.0) first o.2 in
+    let t = chained _ (next_text (codes "first") o.0) first o.2 in
     let z = chained _ (end_of t.0.1) first t.2 in
     let same : t.0.0 ≡ first = some_same _ _ z.2 in
     object_is d o.0 o.1 ∙ ap object (text_is (codes "first") o.0 t.0 t.1 ∙ ap (member (codes "first") (string t.0.0)) (end_is t.0.1 z.0 z.1)) ∙ ap registration_json same
 
-pub registration_back : (first : List ℕ) → registration_at (registration_json first) ≡ Some first
-unfolding registration_at
+pub registration_back : (first : List ℕ) → registration_text (registration_json first) ≡ Some first
+unfolding registration_text
 registration_back first = refl
 
-pub statement_is : (d : Data) (s : StatementTexts) → statement_at d ≡ Some s → d ≡ statement_json s
-unfolding statement_at
+pub statement_is : (d : Data) (s : StatementTexts) → statement_fields d ≡ Some s → d ≡ statement_json s
+unfolding statement_fields
 statement_is d s e =
     let o = chained _ (as_object d) s e in
-    let date = chained _ (text_at (codes "date") o.0) s o.2 in
-    let id = chained _ (text_at (codes "id") date.0.1) s date.2 in
-    let kind = chained _ (text_at (codes "kind") id.0.1) s id.2 in
-    let parts = chained _ (number_at (codes "parts") kind.0.1) s kind.2 in
-    let revision = chained _ (number_at (codes "revision") parts.0.1) s parts.2 in
-    let tld = chained _ (text_at (codes "tld") revision.0.1) s revision.2 in
+    let date = chained _ (next_text (codes "date") o.0) s o.2 in
+    let id = chained _ (next_text (codes "id") date.0.1) s date.2 in
+    let kind = chained _ (next_text (codes "kind") id.0.1) s id.2 in
+    let parts = chained _ (next_u64 (codes "parts") kind.0.1) s kind.2 in
+    let revision = chained _ (next_u64 (codes "revision") parts.0.1) s parts.2 in
+    let tld = chained _ (next_text (codes "tld") revision.0.1) s revision.2 in
     let z = chained _ (end_of tld.0.1) s tld.2 in
     let same : record { date = date.0.0; id = id.0.0; kind = kind.0.0; parts = parts.0.0; revision = revision.0.0; tld = tld.0.0 } ≡ s = some_same _ _ z.2 in
     let six = text_is (codes "tld") revision.0.1 tld.0 tld.1 ∙ ap (member (codes "tld") (string tld.0.0)) (end_is tld.0.1 z.0 z.1) in
@@ -108,56 +108,56 @@ statement_is d s e =
     let one = text_is (codes "date") o.0 date.0 date.1 ∙ ap (member (codes "date") (string date.0.0)) two in
     object_is d o.0 o.1 ∙ ap object one ∙ ap statement_json same
 
-pub statement_back : (s : StatementTexts) → statement_at (statement_json s) ≡ Some s
-unfolding statement_at
+pub statement_back : (s : StatementTexts) → statement_fields (statement_json s) ≡ Some s
+unfolding statement_fields
 statement_back s = refl
 
-pub statement_none : (d : Data) (s : StatementTexts) → statement_at d ≡ None → d ≡ statement_json s → ⊥
-statement_none d s none e = let back = statement_back s in let same : statement_at d ≡ statement_at (statement_json s) = ap statement_at e in cc
+pub statement_none : (d : Data) (s : StatementTexts) → statement_fields d ≡ None → d ≡ statement_json s → ⊥
+statement_none d s none e = let back = statement_back s in let same : statement_fields d ≡ statement_fields (statement_json s) = ap statement_fields e in cc
 
-pub statement_one : (d : Data) (s t : StatementTexts) → Some s ≡ statement_at d → d ≡ statement_json t → s ≡ t
-statement_one d s t found is = some_same s t (found ∙ ap statement_at is ∙ statement_back t)
+pub statement_one : (d : Data) (s t : StatementTexts) → Some s ≡ statement_fields d → d ≡ statement_json t → s ≡ t
+statement_one d s t found is = some_same s t (found ∙ ap statement_fields is ∙ statement_back t)
 
-pub release_is : (d : Data) (r : ReleaseTexts) → release_at d ≡ Some r → d ≡ release_json r
-unfolding release_at
+pub release_is : (d : Data) (r : ReleaseTexts) → release_fields d ≡ Some r → d ≡ release_json r
+unfolding release_fields
 release_is d r e =
     let o = chained _ (as_object d) r e in
-    let reason = chained _ (text_at (codes "ground") o.0) r o.2 in
-    let tld = chained _ (text_at (codes "tld") reason.0.1) r reason.2 in
+    let reason = chained _ (next_text (codes "ground") o.0) r o.2 in
+    let tld = chained _ (next_text (codes "tld") reason.0.1) r reason.2 in
     let z = chained _ (end_of tld.0.1) r tld.2 in
     let same : record { reason = reason.0.0; tld = tld.0.0 } ≡ r = some_same _ _ z.2 in
     let two = text_is (codes "tld") reason.0.1 tld.0 tld.1 ∙ ap (member (codes "tld") (string tld.0.0)) (end_is tld.0.1 z.0 z.1) in
     let one = text_is (codes "ground") o.0 reason.0 reason.1 ∙ ap (member (codes "ground") (string reason.0.0)) two in
     object_is d o.0 o.1 ∙ ap object one ∙ ap release_json same
 
-pub release_back : (r : ReleaseTexts) → release_at (release_json r) ≡ Some r
-unfolding release_at
+pub release_back : (r : ReleaseTexts) → release_fields (release_json r) ≡ Some r
+unfolding release_fields
 release_back r = refl
 
-pub release_none : (d : Data) (r : ReleaseTexts) → release_at d ≡ None → d ≡ release_json r → ⊥
-release_none d r none e = let back = release_back r in let same : release_at d ≡ release_at (release_json r) = ap release_at e in cc
+pub release_none : (d : Data) (r : ReleaseTexts) → release_fields d ≡ None → d ≡ release_json r → ⊥
+release_none d r none e = let back = release_back r in let same : release_fields d ≡ release_fields (release_json r) = ap release_fields e in cc
 
-pub release_one : (d : Data) (r s : ReleaseTexts) → Some r ≡ release_at d → d ≡ release_json s → r ≡ s
-release_one d r s found is = some_same r s (found ∙ ap release_at is ∙ release_back s)
+pub release_one : (d : Data) (r s : ReleaseTexts) → Some r ≡ release_fields d → d ≡ release_json s → r ≡ s
+release_one d r s found is = some_same r s (found ∙ ap release_fields is ∙ release_back s)
 
-pub hold_is : (d : Data) (h : HoldTexts) → hold_at d ≡ Some h → d ≡ hold_json h
-unfolding hold_at
+pub hold_is : (d : Data) (h : HoldTexts) → hold_fields d ≡ Some h → d ≡ hold_json h
+unfolding hold_fields
 hold_is d h e =
     let o = chained _ (as_object d) h e in
-    let date = chained _ (text_at (codes "date") o.0) h o.2 in
-    let tld = chained _ (text_at (codes "tld") date.0.1) h date.2 in
+    let date = chained _ (next_text (codes "date") o.0) h o.2 in
+    let tld = chained _ (next_text (codes "tld") date.0.1) h date.2 in
     let z = chained _ (end_of tld.0.1) h tld.2 in
     let same : record { date = date.0.0; tld = tld.0.0 } ≡ h = some_same _ _ z.2 in
     let two = text_is (codes "tld") date.0.1 tld.0 tld.1 ∙ ap (member (codes "tld") (string tld.0.0)) (end_is tld.0.1 z.0 z.1) in
     let one = text_is (codes "date") o.0 date.0 date.1 ∙ ap (member (codes "date") (string date.0.0)) two in
     object_is d o.0 o.1 ∙ ap object one ∙ ap hold_json same
 
-pub hold_back : (h : HoldTexts) → hold_at (hold_json h) ≡ Some h
-unfolding hold_at
+pub hold_back : (h : HoldTexts) → hold_fields (hold_json h) ≡ Some h
+unfolding hold_fields
 hold_back h = refl
 
-pub hold_none : (d : Data) (h : HoldTexts) → hold_at d ≡ None → d ≡ hold_json h → ⊥
-hold_none d h none e = let back = hold_back h in let same : hold_at d ≡ hold_at (hold_json h) = ap hold_at e in cc
+pub hold_none : (d : Data) (h : HoldTexts) → hold_fields d ≡ None → d ≡ hold_json h → ⊥
+hold_none d h none e = let back = hold_back h in let same : hold_fields d ≡ hold_fields (hold_json h) = ap hold_fields e in cc
 
-pub hold_one : (d : Data) (h k : HoldTexts) → Some h ≡ hold_at d → d ≡ hold_json k → h ≡ k
-hold_one d h k found is = some_same h k (found ∙ ap hold_at is ∙ hold_back k)
+pub hold_one : (d : Data) (h k : HoldTexts) → Some h ≡ hold_fields d → d ≡ hold_json k → h ≡ k
+hold_one d h k found is = some_same h k (found ∙ ap hold_fields is ∙ hold_back k)

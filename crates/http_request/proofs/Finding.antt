@@ -13,9 +13,9 @@ use Rattle.matchit.specs.Level.{IsText}
 use Rattle.matchit.specs.Params.{AllText, walk}
 use Rattle.http_request.specs.declared.routes.Route.{Route}
 use Rattle.http_request.specs.declared.routes.Target as code
-use Rattle.http_request.specs.Paths.{Target, Registry, Deposit, Statements, Check, Release, ReleasedPart, Hold, Lift, Notices, Purges, Names, path_text, is_target_byte}
-use Rattle.http_request.specs.Table.{table}
-use Rattle.http_request.specs.Targets.{taken_by, seen}
+use Rattle.http_request.specs.Paths.{Target, Registry, Deposit, Statements, Check, Release, ReleasedPart, Hold, Lift, Notices, Purges, NamesTarget, path_text, is_target_byte}
+use Rattle.http_request.specs.RouteTable.{route_table}
+use Rattle.http_request.specs.Targets.{target_of, target_view}
 use Rattle.http_request.proofs.Targets.{entry_of, found_target, target_found}
 use Rattle.http_request.proofs.Walks.{taken_of, walked, taken_back}
 
@@ -69,9 +69,9 @@ some_same : {A : Type 0} (a b : A) → Some a ≡ Some b → a ≡ b
 some_same a b e = cc
 
 module _ (path : List ℕ) (bytes : list_all is_target_byte path ≡ true) where
-  pub target_read : (found : RouteOf Route) (r : Option code.Target) → first table path ≡ Some found
-      → (AllText (walk found.pattern found.text path found.names 0 0) → option_map seen r ≡ taken_by found.value (walk found.pattern found.text path found.names 0 0))
-      → (target : Target) × Names path target × (option_map seen r ≡ Some target)
+  pub target_read : (found : RouteOf Route) (r : Option code.Target) → first route_table path ≡ Some found
+      → (AllText (walk found.pattern found.text path found.names 0 0) → option_map target_view r ≡ target_of found.value (walk found.pattern found.text path found.names 0 0))
+      → (target : Target) × NamesTarget path target × (option_map target_view r ≡ Some target)
   target_read found r e read =
       let t = found_target path (text_of path bytes) found e in
       let target = t.0 in
@@ -81,22 +81,22 @@ module _ (path : List ℕ) (bytes : list_all is_target_byte path ≡ true) where
       ∙ ap (λ (p : List ℕ). walk (entry_of target).pattern (entry_of target).text p (entry_of target).names 0 0) names.1 ∙ walked target names.0 in
       let small : list_all is_small (path_text target) ≡ true = ap (list_all is_small) (sym names.1) ∙ small_of path bytes in
       let text : AllText (walk found.pattern found.text path found.names 0 0) = subst AllText (sym is_walked) (all_text target small) in
-      (target, names, read text ∙ ap (taken_by found.value) is_walked ∙ ap (λ (x : RouteOf Route). taken_by x.value (taken_of target)) t.2 ∙ taken_back target)
+      (target, names, read text ∙ ap (target_of found.value) is_walked ∙ ap (λ (x : RouteOf Route). target_of x.value (taken_of target)) t.2 ∙ taken_back target)
 
-  pub none_named : first table path ≡ None → (target : Target) → ¬ Names path target
+  pub none_named : first route_table path ≡ None → (target : Target) → ¬ NamesTarget path target
   none_named e target names =
       let is_found = target_found target names.0 (subst IsText names.1 (text_of path bytes)) in
-      let same : first table path ≡ first table (path_text target) = ap (first table) names.1 in
+      let same : first route_table path ≡ first route_table (path_text target) = ap (first route_table) names.1 in
       cc (e, is_found, same)
 
 -- the same, as the code answers it
-pub some_named : (path : List ℕ) (r : Option code.Target) → (target : Target) × Names path target × (option_map seen r ≡ Some target) → IfSome r (λ t. Names path (seen t))
+pub some_named : (path : List ℕ) (r : Option code.Target) → (target : Target) × NamesTarget path target × (option_map target_view r ≡ Some target) → IfSome r (λ t. NamesTarget path (target_view t))
 some_named path None (target, names, e) = tt
 some_named path (Some t) (target, names, e) =
-    let same : seen t ≡ target = cc in
-    subst (Names path) (sym same) names
+    let same : target_view t ≡ target = cc in
+    subst (NamesTarget path) (sym same) names
 
-pub not_none : (P : Type 0) (r : Option code.Target) (target : Target) → option_map seen r ≡ Some target → IfNone r P
+pub not_none : (P : Type 0) (r : Option code.Target) (target : Target) → option_map target_view r ≡ Some target → IfNone r P
 not_none P None target e = cc
 not_none P (Some t) target e = tt
 
@@ -104,11 +104,11 @@ pub target_text_utf8 : (bytes : List ℕ) → list_all is_target_byte bytes ≡ 
 target_text_utf8 bytes h = utf8_of bytes (small_of bytes h)
 
 -- a path names one target
-pub one_named : (path : List ℕ) → list_all is_target_byte path ≡ true → (t u : Target) → Names path t → Names path u → t ≡ u
+pub one_named : (path : List ℕ) → list_all is_target_byte path ≡ true → (t u : Target) → NamesTarget path t → NamesTarget path u → t ≡ u
 one_named path bytes t u nt nu =
-    let read : RouteOf Route → List ℕ → Option Target = λ e p. taken_by e.value (walk e.pattern e.text p e.names 0 0) in
-    let back : (v : Target) → Names path v → read (entry_of v) (path_text v) ≡ Some v = λ v n. ap (taken_by (entry_of v).value) (walked v n.0) ∙ taken_back v in
-    let found : (v : Target) → Names path v → first table path ≡ Some (entry_of v) = λ v n. ap (first table) n.1 ∙ target_found v n.0 (subst IsText n.1 (text_of path bytes)) in
+    let read : RouteOf Route → List ℕ → Option Target = λ e p. target_of e.value (walk e.pattern e.text p e.names 0 0) in
+    let back : (v : Target) → NamesTarget path v → read (entry_of v) (path_text v) ≡ Some v = λ v n. ap (target_of (entry_of v).value) (walked v n.0) ∙ taken_back v in
+    let found : (v : Target) → NamesTarget path v → first route_table path ≡ Some (entry_of v) = λ v n. ap (first route_table) n.1 ∙ target_found v n.0 (subst IsText n.1 (text_of path bytes)) in
     let same_entry : entry_of t ≡ entry_of u = some_same _ _ (sym (found t nt) ∙ found u nu) in
     let same_path : path_text t ≡ path_text u = sym nt.1 ∙ nu.1 in
     some_same t u (sym (back t nt) ∙ ap (λ e. read e (path_text t)) same_entry ∙ ap (read (entry_of u)) same_path ∙ back u nu)

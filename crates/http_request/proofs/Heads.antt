@@ -9,7 +9,7 @@ use Rattle.httparse.specs.Grammar.{Field, HasNoRequest, RequestHead, print_reque
 use Rattle.httparse.specs.Spans.{AreFieldsAt, IsRequestAt, IsRequestOf, IsRequestWithin, RequestOverflows}
 use Rattle.httparse.specs.declared.spans.RequestSpans.{RequestSpans}
 use Rattle.httparse.specs.declared.spans.HeaderSpan.{HeaderSpan}
-use Rattle.http_request.specs.Head.{HasNoShortHead, IsShort}
+use Rattle.http_request.specs.Head.{HasNoShortHead, IsShortHead}
 
 -- one more read
 pub taken_more : (a b c : Option (List ℕ)) (bytes piece rest now : List ℕ) (count : ℕ) → Consumes a b bytes → Consumes b c (take count piece)
@@ -63,7 +63,7 @@ few_fields buf headers count fields covered room =
 
 -- what a parse that is complete says of the bytes that it was given
 pub head_found : (bytes buf : List ℕ) (headers : List HeaderSpan) (spans : RequestSpans) → buf ≡ bytes → IsRequestOf buf headers spans → IsRequestWithin buf headers spans
-    → length bytes ≤ 8192 → length headers ≡ 32 → IsRequestWithin bytes headers spans × ((h : RequestHead) × IsRequestAt bytes headers spans h × IsShort h)
+    → length bytes ≤ 8192 → length headers ≡ 32 → IsRequestWithin bytes headers spans × ((h : RequestHead) × IsRequestAt bytes headers spans h × IsShortHead h)
 head_found bytes buf headers spans same (h, at) within small room =
     let len = at.len in
     let fits = within.section.len_fits in

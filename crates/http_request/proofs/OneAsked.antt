@@ -15,13 +15,13 @@ use Rattle.custody_machine.specs.Machine.{Register, Statement, Check, Release, H
 use Rattle.httparse.specs.Grammar.{RequestHead}
 use Rattle.httparse.proofs.GrammarLemmas.{request_unique}
 use Rattle.serde_json.specs.Data.{Data}
-use Rattle.http_request.specs.Asked.{Asked, IsAskedBy, IsBody, IsOneAsked, NoneBelow, Method, RequestFault, Stands, asks_for, bad, fault_number, limit_of, method_of}
+use Rattle.http_request.specs.RequestMeaning.{RequestMeaning, HeadMeans, IsRequestBody, RequestsMeanOne, HasNoFaultBelow, Method, RequestFault, HasFault, asks_for, bad, fault_number, limit_of, method_of}
 use Rattle.http_request.specs.declared.faults.RequestFault.TheVariants as fault
 use Rattle.http_request.specs.Bodies.{IsJsonOf, StatementTexts, ReleaseTexts, HoldTexts, registration_json, statement_json, release_json, hold_json}
-use Rattle.http_request.specs.BodyReading.{registration_at, statement_at, release_at, hold_at}
-use Rattle.http_request.specs.Paths.{Target, Registry, Deposit, Statements, ReleasedPart, Notices, Purges, Names, is_target_byte}
+use Rattle.http_request.specs.inside.BodyReading.{registration_text, statement_fields, release_fields, hold_fields}
+use Rattle.http_request.specs.Paths.{Target, Registry, Deposit, Statements, ReleasedPart, Notices, Purges, NamesTarget, is_target_byte}
 use Rattle.http_request.specs.Paths as paths
-use Rattle.http_request.specs.Wanted.{Wanted, Do, IsStatement, Means, texts_of, handover_texts, held_day_texts}
+use Rattle.http_request.specs.Action.{RequestAction, Do, IsStatement, Means, texts_of_statement, handover_texts, held_day_texts}
 use Rattle.http_request.proofs.BodyLemmas.{registration_back, statement_back, release_back, hold_back}
 use Rattle.http_request.proofs.Finding.{one_named}
 use Rattle.http_request.proofs.PlanLemmas.{one_length}
@@ -35,16 +35,16 @@ one_value : (body : List ℕ) (d e : Data) → IsJsonOf body d → IsJsonOf body
 one_value body d e h k = some_same d e (sym h.1 ∙ k.1)
 
 one_registration : (a b : List ℕ) → registration_json a ≡ registration_json b → a ≡ b
-one_registration a b e = some_same a b (sym (registration_back a) ∙ ap registration_at e ∙ registration_back b)
+one_registration a b e = some_same a b (sym (registration_back a) ∙ ap registration_text e ∙ registration_back b)
 
 one_texts : (a b : StatementTexts) → statement_json a ≡ statement_json b → a ≡ b
-one_texts a b e = some_same a b (sym (statement_back a) ∙ ap statement_at e ∙ statement_back b)
+one_texts a b e = some_same a b (sym (statement_back a) ∙ ap statement_fields e ∙ statement_back b)
 
 one_handover : (a b : ReleaseTexts) → release_json a ≡ release_json b → a ≡ b
-one_handover a b e = some_same a b (sym (release_back a) ∙ ap release_at e ∙ release_back b)
+one_handover a b e = some_same a b (sym (release_back a) ∙ ap release_fields e ∙ release_back b)
 
 one_held_day : (a b : HoldTexts) → hold_json a ≡ hold_json b → a ≡ b
-one_held_day a b e = some_same a b (sym (hold_back a) ∙ ap hold_at e ∙ hold_back b)
+one_held_day a b e = some_same a b (sym (hold_back a) ∙ ap hold_fields e ∙ hold_back b)
 
 ground_text-injective : (a b : Ground) → ground_text a ≡ ground_text b → a ≡ b
 ground_text-injective a b e = some_same a b (sym (ground_in-ground_text a) ∙ ap ground_in e ∙ ground_in-ground_text b)
@@ -56,7 +56,7 @@ made_same : (tld tld2 : List ℕ) (day day2 : ℕ) (kind kind2 : Kind) (rev rev2
     → tld ≡ tld2 → day ≡ day2 → kind ≡ kind2 → rev ≡ rev2 → parts ≡ parts2 → id ≡ id2 → made tld day kind rev parts id ≡ made tld2 day2 kind2 rev2 parts2 id2
 made_same tld tld2 day day2 kind kind2 rev rev2 parts parts2 id id2 a b c d e f = cc
 
-one_statement : (s t : statement.Statement) → IsStatement s → IsStatement t → texts_of s ≡ texts_of t → s ≡ t
+one_statement : (s t : statement.Statement) → IsStatement s → IsStatement t → texts_of_statement s ≡ texts_of_statement t → s ≡ t
 unfolding made
 one_statement s t h k e =
     let day = day_text-injective s.day t.day h.day k.day (ap (λ (x : StatementTexts). x.date) e) in
@@ -67,13 +67,13 @@ one_statement s t h k e =
     let id : s.id ≡ t.id = ap (λ (x : StatementTexts). x.id) e in
     made_same s.tld t.tld s.day t.day s.kind t.kind s.rev t.rev s.parts t.parts s.id t.id tld day kind rev parts id
 
-one_meaning : (target : Target) (body : List ℕ) (v w : Wanted) → Means target body v → Means target body w → v ≡ w
+one_meaning : (target : Target) (body : List ℕ) (v w : RequestAction) → Means target body v → Means target body w → v ≡ w
 one_meaning (Registry tld) body v w (in_form, (d, day, json, is)) (in_form2, (e, day2, json2, is2)) =
     let texts = one_registration (day_text d) (day_text e) (one_value body _ _ json json2) in
     is ∙ ap (λ (n : ℕ). Do (Register tld n)) (day_text-injective d e day day2 texts) ∙ sym is2
 one_meaning (Deposit name) body v w h k = h ∙ sym k
 one_meaning Statements body v w (s, form, json, is) (t, form2, json2, is2) =
-    let same = one_statement s t form form2 (one_texts (texts_of s) (texts_of t) (one_value body _ _ json json2)) in
+    let same = one_statement s t form form2 (one_texts (texts_of_statement s) (texts_of_statement t) (one_value body _ _ json json2)) in
     is ∙ ap (λ (x : statement.Statement). Do (Statement x)) same ∙ sym is2
 one_meaning (paths.Check tld date) body v w (in_form, (d, day, text, is)) (in_form2, (e, day2, text2, is2)) =
     is ∙ ap (λ (n : ℕ). Do (Check tld n)) (day_text-injective d e day day2 (sym text ∙ text2)) ∙ sym is2
@@ -133,31 +133,31 @@ method_from fault.Form e = cc
 -- ---- a head with the bytes behind it asks one thing
 
 module _ (h : RequestHead) (rest : List ℕ) where
-  bytes_pass : (n : ℕ) → 2 < n → NoneBelow n h rest → list_all is_target_byte h.target ≡ true
+  bytes_pass : (n : ℕ) → 2 < n → HasNoFaultBelow n h rest → list_all is_target_byte h.target ≡ true
   bytes_pass n above below = true_from_ne_false (list_all is_target_byte h.target) (below fault.Target (omega (arith, above)))
 
-  one_body : (limit : Option ℕ) (a b : List ℕ) → IsBody limit h rest a → IsBody limit h rest b → a ≡ b
+  one_body : (limit : Option ℕ) (a b : List ℕ) → IsRequestBody limit h rest a → IsRequestBody limit h rest b → a ≡ b
   one_body None a b x y = x ∙ sym y
   one_body (Some limit) a b x y = x.3 ∙ ap (λ n. take n rest) (one_length _ x.0 y.0 x.1 y.1) ∙ sym y.3
 
-  one_wanted : (v w : Wanted) → IsAskedBy h rest (asks_for v) → IsAskedBy h rest (asks_for w) → v ≡ w
+  one_wanted : (v w : RequestAction) → HeadMeans h rest (asks_for v) → HeadMeans h rest (asks_for w) → v ≡ w
   one_wanted v w ((t, body, names, is, means), below) ((u, body2, names2, is2, means2), below2) =
       let same = one_named h.target (bytes_pass 11 (omega arith) below) u t names2 names in
-      let is3 = subst (λ (x : Target). IsBody (limit_of x) h rest body2) same is2 in
+      let is3 = subst (λ (x : Target). IsRequestBody (limit_of x) h rest body2) same is2 in
       let means3 = subst (λ (x : Target). Means x body2 w) same means2 in
       let bodies = one_body (limit_of t) body2 body is3 is in
       one_meaning t body v w means (subst (λ (b : List ℕ). Means t b w) bodies means3)
 
-  one_method : (f g : RequestFault) → Stands h rest f → Stands h rest g → NoneBelow (fault_number f) h rest → fault_number f ≡ 4 → fault_number g ≡ 4 → f ≡ g
+  one_method : (f g : RequestFault) → HasFault h rest f → HasFault h rest g → HasNoFaultBelow (fault_number f) h rest → fault_number f ≡ 4 → fault_number g ≡ 4 → f ≡ g
   one_method f g s t below p q =
       let m = method_from f p in
       let k = method_from g q in
-      let a = subst (Stands h rest) m.1 s in
-      let b = subst (Stands h rest) k.1 t in
+      let a = subst (HasFault h rest) m.1 s in
+      let b = subst (HasFault h rest) k.1 t in
       let same = one_named h.target (bytes_pass (fault_number f) (omega (arith, p)) below) b.0 a.0 b.1 a.1 in
       m.1 ∙ ap fault.Method (a.2 ∙ ap method_of (sym same) ∙ sym b.2) ∙ sym k.1
 
-  one_fault : (f g : RequestFault) → Stands h rest f → Stands h rest g → NoneBelow (fault_number f) h rest → fault_number f ≡ fault_number g → f ≡ g
+  one_fault : (f g : RequestFault) → HasFault h rest f → HasFault h rest g → HasNoFaultBelow (fault_number f) h rest → fault_number f ≡ fault_number g → f ≡ g
   one_fault f g s t below e = by (fault_back f) (fault_back g)
     where
       by : (fault_number f ≡ 4) ⊎ (fault_at (fault_number f) ≡ f) → (fault_number g ≡ 4) ⊎ (fault_at (fault_number g) ≡ g) → f ≡ g
@@ -177,7 +177,7 @@ module _ (h : RequestHead) (rest : List ℕ) where
   number_small fault.BodyShort = omega arith
   number_small fault.Form = omega arith
 
-  one_asked_by : (a b : Asked) → IsAskedBy h rest a → IsAskedBy h rest b → a ≡ b
+  one_asked_by : (a b : RequestMeaning) → HeadMeans h rest a → HeadMeans h rest b → a ≡ b
   one_asked_by (bad f) (bad g) (s, below) (t, below2) = by (cases_lt (fault_number f) (fault_number g)) (cases_lt (fault_number g) (fault_number f))
     where
       by : (fault_number f < fault_number g) ⊎ (fault_number g ≤ fault_number f) → (fault_number g < fault_number f) ⊎ (fault_number f ≤ fault_number g) → bad f ≡ bad g
@@ -188,10 +188,10 @@ module _ (h : RequestHead) (rest : List ℕ) where
   one_asked_by (asks_for v) (bad g) (asked, below) (t, below2) = absurd (below g (number_small g) t)
   one_asked_by (asks_for v) (asks_for w) x y = ap asks_for (one_wanted v w x y)
 
-pub one_asked : IsOneAsked
+pub one_asked : RequestsMeanOne
 one_asked input a b (inl x) (inl y) = x.1 ∙ sym y.1
 one_asked input a b (inl x) (inr (k, rest, reads, short, asked)) = absurd (x.0 k rest reads short)
 one_asked input a b (inr (h, rest, reads, short, asked)) (inl y) = absurd (y.0 h rest reads short)
 one_asked input a b (inr (h, rest, reads, short, asked)) (inr (k, rest2, reads2, short2, asked2)) =
     let same = request_unique input k h rest2 rest reads2 reads in
-    one_asked_by h rest a b asked (subst (λ (r : List ℕ). IsAskedBy h r b) same.1 (subst (λ (x : RequestHead). IsAskedBy x rest2 b) same.0 asked2))
+    one_asked_by h rest a b asked (subst (λ (r : List ℕ). HeadMeans h r b) same.1 (subst (λ (x : RequestHead). HeadMeans x rest2 b) same.0 asked2))

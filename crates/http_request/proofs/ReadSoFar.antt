@@ -4,19 +4,19 @@ use Rattle.std.proofs.lemmas.Bool.{cases_lt}
 use Rattle.std.proofs.lemmas.List.{take_all, take_at, take-append-le, length-take, length-take-le, nil_from_length}
 use Rattle.std.specs.Io.KnownBytes.{Consumes, IsAtEnd}
 use Rattle.std.proofs.KnownBytes.{Consumes-trans}
-use Rattle.http_request.specs.Body.{BeginsWith}
+use Rattle.http_request.specs.Body.{HasFirstBytes}
 
 -- what was read, behind the first bytes that were there
 abbrev pub IsReadSoFar : Option (List ℕ) → Option (List ℕ) → List ℕ → ℕ → List ℕ → Type 0
 IsReadSoFar before now front wanted body = (taken : List ℕ) × Consumes before now taken × (body ≡ take wanted front ++ taken) × (length body ≤ wanted)
 
-pub body_done : (before now : Option (List ℕ)) (front : List ℕ) (wanted : ℕ) (body : List ℕ) → IsReadSoFar before now front wanted body → wanted ≤ length body → IfSome before (λ rest. BeginsWith (front ++ rest) wanted body)
+pub body_done : (before now : Option (List ℕ)) (front : List ℕ) (wanted : ℕ) (body : List ℕ) → IsReadSoFar before now front wanted body → wanted ≤ length body → IfSome before (λ rest. HasFirstBytes (front ++ rest) wanted body)
 body_done None now front wanted body r full = tt
 body_done (Some rest) None front wanted body r full = absurd r.1
 body_done (Some rest) (Some after) front wanted body (taken, consumed, is, small) full =
     done (cases_lt (length front) wanted)
   where
-    done : (length front < wanted) ⊎ (wanted ≤ length front) → BeginsWith (front ++ rest) wanted body
+    done : (length front < wanted) ⊎ (wanted ≤ length front) → HasFirstBytes (front ++ rest) wanted body
     done (inl less) =
         let all : take wanted front ≡ front = take_all wanted front (omega arith) in
         let mine : body ≡ front ++ taken = is ∙ ap (λ l. l ++ taken) all in

@@ -7,7 +7,7 @@ use Rattle.matchit.specs.Rows.{param_token}
 use Rattle.matchit.specs.Seek.{has_slash, slash}
 use Rattle.matchit.specs.Params.{wild_from, wild_stop, part_of, after_token, walk}
 use Rattle.http_request.specs.Paths.{Target, Registry, Deposit, Statements, Check, Release, ReleasedPart, Hold, Lift, Notices, Purges, HasSegments, path_text}
-use Rattle.http_request.specs.Targets.{taken_by}
+use Rattle.http_request.specs.Targets.{target_of}
 use Rattle.http_request.proofs.Descending.{segment_to, plain_segment}
 use Rattle.http_request.proofs.Targets.{entry_of}
 
@@ -131,7 +131,7 @@ walked (Lift reference) s = one_walked (codes "/lifts/") (codes "/lifts/{referen
 walked (Notices tld) s = one_walked (codes "/notices/") (codes "/notices/{tld}") tld (10, 13) refl
 walked Purges s = refl
 
-pub taken_back : (target : Target) → taken_by (entry_of target).value (taken_of target) ≡ Some target
+pub taken_back : (target : Target) → target_of (entry_of target).value (taken_of target) ≡ Some target
 taken_back (Registry tld) = refl
 taken_back (Deposit name) = refl
 taken_back Statements = refl

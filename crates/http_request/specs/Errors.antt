@@ -1,16 +1,16 @@
 -- Why a request asks nothing of the agent.
 use Rattle.std.specs.Prelude.{◌≡◌, ◌<◌, ℕ, List, length, Option, Some}
-use Rattle.http_request.specs.declared.error.RequestError.{RequestError}
-use Rattle.http_request.specs.declared.error.RequestError.TheVariants as error
+use Rattle.http_request.specs.declared.errors.RequestError.{RequestError}
+use Rattle.http_request.specs.declared.errors.RequestError.TheVariants as error
 use Rattle.http_request.specs.declared.faults.RequestFault.{RequestFault}
 use Rattle.http_request.specs.declared.faults.RequestFault.TheVariants as fault
-use Rattle.http_request.specs.Asked.{Asks, bad}
+use Rattle.http_request.specs.RequestMeaning.{RequestMeans, bad}
 
 -- a fault that is told is what the input asks
 abbrev pub IsRequestError : List ℕ → RequestError → Type 0
 IsRequestError input error.Unread = Unit {0}
 IsRequestError input error.NoMemory = Unit {0}
-IsRequestError input (error.Fault found) = Asks input (bad found)
+IsRequestError input (error.Fault found) = RequestMeans input (bad found)
 
 -- the input ends within a body of which so many bytes are declared
 abbrev pub IsBodyShort : List ℕ → Option ℕ → RequestFault → Type 0

@@ -45,8 +45,8 @@ HasSegments (Notices tld) = IsSegment tld
 HasSegments Purges = Unit {0}
 
 -- the path names the target
-abbrev pub Names : List ℕ → Target → Type 0
-Names path target = HasSegments target × (path ≡ path_text target)
+abbrev pub NamesTarget : List ℕ → Target → Type 0
+NamesTarget path target = HasSegments target × (path ≡ path_text target)
 
 -- a byte of `A-Z a-z 0-9 / - _ .`
 abbrev pub is_target_byte : ℕ → Bool

@@ -3,8 +3,17 @@ ghost use Rattle.std.specs.Prelude.{◌≡◌, ◌≤◌, ℕ, Some, IfSome, opt
 ghost use Rattle.serde_json.specs.Data.{Data};
 ghost use Rattle.serde_json.specs.View as json;
 ghost use Rattle.serde_json.specs.View.{members_view};
-ghost use Rattle.http_request.specs.BodyReading.{member_at, end_of, text_at, number_at, registration_at, statement_at, release_at, hold_at};
-ghost use Rattle.http_request.specs.BodyTexts.{statement_texts, release_texts, hold_texts};
+ghost use Rattle.http_request.specs.inside.BodyReading.{
+  next_member,
+  end_of,
+  next_text,
+  next_u64,
+  registration_text,
+  statement_fields,
+  release_fields,
+  hold_fields,
+};
+ghost use Rattle.http_request.specs.inside.BodyTexts.{statement_texts, release_texts, hold_texts};
 
 use serde_json::Value;
 use std::collections::btree_map::Iter;
@@ -36,7 +45,7 @@ pub(crate) struct HoldFields<'v> {
 
 /// The value of the next member, where it has that name.
 fn next_member<'v>(members: &mut Iter<'v, String, Value>, name: &str) -> Option<&'v Value>
-    ensures { option_map (λ v. (json.view v.now, members_view members.new)) result ≡ member_at name.now (members_view members.old) }
+    ensures { option_map (λ v. (json.view v.now, members_view members.new)) result ≡ next_member name.now (members_view members.old) }
 {
     let (key, value) = members.next()?;
     if key.as_str() == name {
@@ -58,22 +67,22 @@ fn end(members: &mut Iter<'_, String, Value>) -> Option<()>
 
 /// The string of the next member, where it has that name.
 fn next_text<'v>(members: &mut Iter<'v, String, Value>, name: &str) -> Option<&'v str>
-    ensures { option_map (λ t. (t.now, members_view members.new)) result ≡ text_at name.now (members_view members.old) }
+    ensures { option_map (λ t. (t.now, members_view members.new)) result ≡ next_text name.now (members_view members.old) }
 {
     next_member(members, name)?.as_str()
 }
 
 /// The whole number of the next member, where it has that name.
-fn next_number(members: &mut Iter<'_, String, Value>, name: &str) -> Option<u64>
-    ensures { option_map (λ n. (n, members_view members.new)) result ≡ number_at name.now (members_view members.old) }
+fn next_u64(members: &mut Iter<'_, String, Value>, name: &str) -> Option<u64>
+    ensures { option_map (λ n. (n, members_view members.new)) result ≡ next_u64 name.now (members_view members.old) }
 {
     next_member(members, name)?.as_u64()
 }
 
 /// The first day of a registration.
-#[tactic(auto, unfolding(crate::specs::BodyReading::registration_at))]
+#[tactic(auto, unfolding(crate::specs::inside::BodyReading::registration_text))]
 pub(crate) fn registration_text(value: &Value) -> Option<&str>
-    ensures { option_map (λ t. t.now) result ≡ registration_at (json.view value.now) }
+    ensures { option_map (λ t. t.now) result ≡ registration_text (json.view value.now) }
 {
     let mut members = value.as_object()?.iter();
     let first = next_text(&mut members, "first")?;
@@ -82,16 +91,16 @@ pub(crate) fn registration_text(value: &Value) -> Option<&str>
 }
 
 /// The texts and numbers of a statement.
-#[tactic(auto, unfolding(crate::specs::BodyReading::statement_at))]
+#[tactic(auto, unfolding(crate::specs::inside::BodyReading::statement_fields))]
 pub(crate) fn statement_fields(value: &Value) -> Option<StatementFields<'_>>
-    ensures { option_map statement_texts result ≡ statement_at (json.view value.now) }
+    ensures { option_map statement_texts result ≡ statement_fields (json.view value.now) }
 {
     let mut members = value.as_object()?.iter();
     let date = next_text(&mut members, "date")?;
     let id = next_text(&mut members, "id")?;
     let kind = next_text(&mut members, "kind")?;
-    let parts = next_number(&mut members, "parts")?;
-    let revision = next_number(&mut members, "revision")?;
+    let parts = next_u64(&mut members, "parts")?;
+    let revision = next_u64(&mut members, "revision")?;
     let tld = next_text(&mut members, "tld")?;
     end(&mut members)?;
     Some(StatementFields {
@@ -105,9 +114,9 @@ pub(crate) fn statement_fields(value: &Value) -> Option<StatementFields<'_>>
 }
 
 /// The texts of a release.
-#[tactic(auto, unfolding(crate::specs::BodyReading::release_at))]
+#[tactic(auto, unfolding(crate::specs::inside::BodyReading::release_fields))]
 pub(crate) fn release_fields(value: &Value) -> Option<ReleaseFields<'_>>
-    ensures { option_map release_texts result ≡ release_at (json.view value.now) }
+    ensures { option_map release_texts result ≡ release_fields (json.view value.now) }
 {
     let mut members = value.as_object()?.iter();
     let reason = next_text(&mut members, "ground")?;
@@ -117,9 +126,9 @@ pub(crate) fn release_fields(value: &Value) -> Option<ReleaseFields<'_>>
 }
 
 /// The texts of a hold.
-#[tactic(auto, unfolding(crate::specs::BodyReading::hold_at))]
+#[tactic(auto, unfolding(crate::specs::inside::BodyReading::hold_fields))]
 pub(crate) fn hold_fields(value: &Value) -> Option<HoldFields<'_>>
-    ensures { option_map hold_texts result ≡ hold_at (json.view value.now) }
+    ensures { option_map hold_texts result ≡ hold_fields (json.view value.now) }
 {
     let mut members = value.as_object()?.iter();
     let date = next_text(&mut members, "date")?;

@@ -1,9 +1,9 @@
 //! The body of a request, from a reader.
 ghost use Rattle.std.specs.Prelude.{◌≡◌, ◌<◌, ◌++◌, IfOk, IfErr, IfSome, None, length};
-ghost use Rattle.http_request.specs.Body.{BeginsWith, IsDeclaredBody};
+ghost use Rattle.http_request.specs.Body.{HasFirstBytes, IsDeclaredBody};
 ghost use Rattle.http_request.specs.Errors.{IsBodyError};
 
-use crate::error::ReadFault;
+use crate::errors::InputError;
 use crate::{RequestError, RequestFault};
 use std::alloc::Global;
 use std::io::Read;
@@ -24,8 +24,8 @@ pub fn read_body<R: Read>(
     match take_body(alloc, reader, front, length as usize) {
         Ok(Some(body)) => Ok(body),
         Ok(None) => Err(RequestError::Fault(RequestFault::BodyShort)),
-        Err(ReadFault::Unread) => Err(RequestError::Unread),
-        Err(ReadFault::NoMemory) => Err(RequestError::NoMemory),
+        Err(InputError::Unread) => Err(RequestError::Unread),
+        Err(InputError::NoMemory) => Err(RequestError::NoMemory),
     }
 }
 
@@ -35,9 +35,9 @@ fn take_body<R: Read>(
     reader: &mut R,
     front: &[u8],
     wanted: usize,
-) -> Result<Option<Vec<u8>>, ReadFault>
+) -> Result<Option<Vec<u8>>, InputError>
     ensures found { IfOk result (λ found. IfSome found (λ body.
-        IfSome (R.remaining reader.old) (λ rest. BeginsWith (front.now ++ rest) wanted body.items))) }
+        IfSome (R.remaining reader.old) (λ rest. HasFirstBytes (front.now ++ rest) wanted body.items))) }
     ensures none { IfOk result (λ found. found ≡ None
         → IfSome (R.remaining reader.old) (λ rest. length (front.now ++ rest) < wanted)) }
 {

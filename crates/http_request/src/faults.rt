@@ -1,6 +1,6 @@
 //! Why a request is refused before it reaches the agent.
 ghost use Rattle.std.specs.Prelude.{◌≡◌};
-ghost use Rattle.http_request.specs.Asked.{method_text};
+ghost use Rattle.http_request.specs.RequestMeaning.{method_text};
 
 /// A request's method.
 #[derive(Clone, Copy, Debug, PartialEq, Eq)]

@@ -1,34 +1,34 @@
 //! The fields of a head.
 ghost use Rattle.std.specs.Prelude.{◌≡◌, ◌≤◌, ◌^◌, ◌<◌, ℕ, length, map, All, IfSome, IfNone, Some};
 ghost use Rattle.httparse.specs.Spans.{IsHeaderWithin, header_bytes};
-ghost use Rattle.http_request.specs.Asked.{values_named};
-ghost use Rattle.http_request.specs.Fields.{AreNamed, IsNumeral};
+ghost use Rattle.http_request.specs.RequestMeaning.{values_named};
+ghost use Rattle.http_request.specs.inside.Fields.{AreFieldValues, IsNumeral};
 
 use httparse::spans::HeaderSpan;
 
 /// The values of the fields of one name.
 #[derive(Clone, Copy, Debug, PartialEq, Eq)]
-pub(crate) enum Named<'b> {
+pub(crate) enum FieldValues<'b> {
     None,
     One(&'b [u8]),
     Several,
 }
 
 /// The values of the fields of a name.
-pub(crate) fn values_of<'b>(bytes: &'b [u8], headers: &[HeaderSpan], name: &[u8]) -> Named<'b>
+pub(crate) fn values_of<'b>(bytes: &'b [u8], headers: &[HeaderSpan], name: &[u8]) -> FieldValues<'b>
     requires { All (IsHeaderWithin (length bytes.now)) headers.now }
-    ensures { AreNamed (values_named name.now (map (header_bytes bytes.now) headers.now)) result }
+    ensures { AreFieldValues (values_named name.now (map (header_bytes bytes.now) headers.now)) result }
 {
     let Some((header, rest)) = headers.split_first() else {
-        return Named::None;
+        return FieldValues::None;
     };
     let more = values_of(bytes, rest, name);
     if !header.name.of(bytes).eq_ignore_ascii_case(name) {
         return more;
     }
     match more {
-        Named::None => Named::One(header.value.of(bytes)),
-        Named::One(_) | Named::Several => Named::Several,
+        FieldValues::None => FieldValues::One(header.value.of(bytes)),
+        FieldValues::One(_) | FieldValues::Several => FieldValues::Several,
     }
 }
 

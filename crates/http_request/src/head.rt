@@ -4,7 +4,7 @@ ghost use Rattle.std.specs.Io.KnownBytes.{Consumes};
 ghost use Rattle.http_request.specs.Head.{HasNoShortHead, IsHeadOf};
 ghost use Rattle.http_request.specs.Errors.{IsRequestError};
 
-use crate::error::ReadFault;
+use crate::errors::InputError;
 use crate::{RequestError, RequestFault};
 use httparse::Status;
 use httparse::spans::{EMPTY_HEADER_SPAN, HeaderSpan, RequestSpans, parse_request};
@@ -43,13 +43,13 @@ pub fn read_head<R: Read>(alloc: Global, reader: &mut R) -> Result<Head, Request
     match find_head(alloc, reader) {
         Ok(Some(head)) => Ok(head),
         Ok(None) => Err(RequestError::Fault(RequestFault::Head)),
-        Err(ReadFault::Unread) => Err(RequestError::Unread),
-        Err(ReadFault::NoMemory) => Err(RequestError::NoMemory),
+        Err(InputError::Unread) => Err(RequestError::Unread),
+        Err(InputError::NoMemory) => Err(RequestError::NoMemory),
     }
 }
 
 /// Reads until a head has come, or none can come any more.
-fn find_head<R: Read>(alloc: Global, reader: &mut R) -> Result<Option<Head>, ReadFault>
+fn find_head<R: Read>(alloc: Global, reader: &mut R) -> Result<Option<Head>, InputError>
     ensures found { IfOk result (λ found. IfSome found (λ head.
         Consumes (R.remaining reader.old) (R.remaining reader.new) head.bytes.items × IsHeadOf head)) }
     ensures none { IfOk result (λ found. found ≡ None → IfSome (R.remaining reader.old) HasNoShortHead) }

@@ -4,9 +4,10 @@
 //! [`read_body`], [`meaning_of`].
 #![tactic(auto)]
 
+mod action;
 mod bodies;
 mod body;
-mod error;
+mod errors;
 mod faults;
 mod fields;
 mod head;
@@ -14,14 +15,13 @@ mod laws;
 mod meaning;
 mod plan;
 mod routes;
-mod wanted;
 
+pub use action::RequestAction;
 pub use body::read_body;
-pub use error::RequestError;
+pub use errors::RequestError;
 pub use faults::{Method, RequestFault};
 pub use head::{Head, read_head};
 pub use laws::law_asked;
-pub use meaning::{BodyFault, meaning_of};
+pub use meaning::{MeaningError, meaning_of};
 pub use plan::{Plan, read_plan};
 pub use routes::{Route, Routes, Target};
-pub use wanted::Wanted;

@@ -6,19 +6,31 @@ ghost use Rattle.deposit_name.specs.Identifiers.{IsReference, IsTld};
 ghost use Rattle.custody_machine.specs.declared.command.Statement as statement;
 ghost use Rattle.serde_json.specs.Data.{Data};
 ghost use Rattle.serde_json.specs.View as json;
-ghost use Rattle.http_request.specs.Bodies.{IsJsonOf, registration_json, statement_json, release_json, hold_json};
-ghost use Rattle.http_request.specs.BodyTexts.{statement_texts, release_texts, hold_texts};
-ghost use Rattle.http_request.specs.Wanted.{Means, IsStatement, texts_of, handover_texts, held_day_texts};
-ghost use Rattle.http_request.specs.Wanted as asked;
-ghost use Rattle.http_request.specs.WantedSeen.{wanted_of};
-ghost use Rattle.http_request.specs.Targets.{seen};
+ghost use Rattle.http_request.specs.Bodies.{
+  IsJsonOf,
+  registration_json,
+  statement_json,
+  release_json,
+  hold_json,
+};
+ghost use Rattle.http_request.specs.inside.BodyTexts.{statement_texts, release_texts, hold_texts};
+ghost use Rattle.http_request.specs.Action.{
+  Means,
+  IsStatement,
+  texts_of_statement,
+  handover_texts,
+  held_day_texts,
+};
+ghost use Rattle.http_request.specs.Action as asked;
+ghost use Rattle.http_request.specs.ActionView.{action_view};
+ghost use Rattle.http_request.specs.Targets.{target_view};
 ghost use Rattle.http_request.specs.Paths.{takes_json};
 
 use crate::bodies::{
     HoldFields, ReleaseFields, StatementFields, hold_fields, registration_text, release_fields,
     statement_fields,
 };
-use crate::{Target, Wanted};
+use crate::{RequestAction, Target};
 use custody_machine::{Command, Statement};
 use deposit_name::{DepositId, Kind, Reference, Tld};
 use desk::{Ground, Revision};
@@ -28,7 +40,7 @@ use std::alloc::Global;
 
 /// Why a target and a body stand for nothing.
 #[derive(Clone, Copy, Debug, PartialEq, Eq)]
-pub enum BodyFault {
+pub enum MeaningError {
     /// A parameter or the body is out of form.
     Form,
     /// Memory was refused.
@@ -36,32 +48,32 @@ pub enum BodyFault {
 }
 
 /// The registry that a path names.
-fn tld_of(text: &[u8]) -> Result<Tld, BodyFault>
+fn tld_of(text: &[u8]) -> Result<Tld, MeaningError>
     ensures found { IfOk result (λ tld. (tld ≡ text.now) × IsTld tld) }
-    ensures form { result ≡ Err BodyFault.Form → ¬ IsTld text.now }
-    ensures kind { IfErr result (λ e. e ≡ BodyFault.Form) }
+    ensures form { result ≡ Err MeaningError.Form → ¬ IsTld text.now }
+    ensures kind { IfErr result (λ e. e ≡ MeaningError.Form) }
 {
-    Tld::parse(text).ok_or(BodyFault::Form)
+    Tld::parse(text).ok_or(MeaningError::Form)
 }
 
 /// The reference that a path names.
-fn reference_of(text: &[u8]) -> Result<Reference, BodyFault>
+fn reference_of(text: &[u8]) -> Result<Reference, MeaningError>
     ensures found { IfOk result (λ reference. (reference ≡ text.now) × IsReference reference) }
-    ensures form { result ≡ Err BodyFault.Form → ¬ IsReference text.now }
-    ensures kind { IfErr result (λ e. e ≡ BodyFault.Form) }
+    ensures form { result ≡ Err MeaningError.Form → ¬ IsReference text.now }
+    ensures kind { IfErr result (λ e. e ≡ MeaningError.Form) }
 {
-    Reference::parse(text).ok_or(BodyFault::Form)
+    Reference::parse(text).ok_or(MeaningError::Form)
 }
 
 /// The JSON value of a body.
-fn value_of(alloc: Global, body: &[u8]) -> Result<Value, BodyFault>
+fn value_of(alloc: Global, body: &[u8]) -> Result<Value, MeaningError>
     ensures found { IfOk result (λ v. IsJsonOf body.now (json.view v)) }
-    ensures form { result ≡ Err BodyFault.Form → (d : Data) → ¬ IsJsonOf body.now d }
+    ensures form { result ≡ Err MeaningError.Form → (d : Data) → ¬ IsJsonOf body.now d }
 {
     match Value::from_slice(alloc, body) {
         Ok(value) => Ok(value),
-        Err(error) if error.classify() == Category::Memory => Err(BodyFault::NoMemory),
-        Err(_) => Err(BodyFault::Form),
+        Err(error) if error.classify() == Category::Memory => Err(MeaningError::NoMemory),
+        Err(_) => Err(MeaningError::Form),
     }
 }
 
@@ -75,12 +87,12 @@ fn first_day_in(value: &Value) -> Option<Day>
     read_day(text.as_bytes())
 }
 
-fn first_day_of(alloc: Global, body: &[u8]) -> Result<Day, BodyFault>
+fn first_day_of(alloc: Global, body: &[u8]) -> Result<Day, MeaningError>
     ensures found { IfOk result (λ day. IsDay day × IsJsonOf body.now (registration_json (day_text day))) }
-    ensures form { result ≡ Err BodyFault.Form → (day : ℕ) → IsDay day → ¬ IsJsonOf body.now (registration_json (day_text day)) }
+    ensures form { result ≡ Err MeaningError.Form → (day : ℕ) → IsDay day → ¬ IsJsonOf body.now (registration_json (day_text day)) }
 {
     let value = value_of(alloc, body)?;
-    first_day_in(&value).ok_or(BodyFault::Form)
+    first_day_in(&value).ok_or(MeaningError::Form)
 }
 
 /// A number of at most so much, in a byte.
@@ -97,8 +109,8 @@ fn at_most(number: u64, limit: u8) -> Option<u8>
 
 /// The statement of which these are the texts.
 fn statement_in(fields: &StatementFields<'_>) -> Option<Statement>
-    ensures found { IfSome result (λ s. IsStatement s × (statement_texts fields.now ≡ texts_of s)) }
-    ensures only { (s : statement.Statement) → IsStatement s → statement_texts fields.now ≡ texts_of s → result ≡ Some s }
+    ensures found { IfSome result (λ s. IsStatement s × (statement_texts fields.now ≡ texts_of_statement s)) }
+    ensures only { (s : statement.Statement) → IsStatement s → statement_texts fields.now ≡ texts_of_statement s → result ≡ Some s }
 {
     let day = read_day(fields.date.as_bytes())?;
     let id = DepositId::parse(fields.id.as_bytes())?;
@@ -122,18 +134,18 @@ fn statement_in(fields: &StatementFields<'_>) -> Option<Statement>
 /// What an operator states.
 #[tactic(auto, using(crate::proofs::BodyLemmas::statement_is, crate::proofs::BodyLemmas::statement_back))]
 fn statement_at(value: &Value) -> Option<Statement>
-    ensures found { IfSome result (λ s. IsStatement s × (json.view value.now ≡ statement_json (texts_of s))) }
-    ensures only { (s : statement.Statement) → IsStatement s → json.view value.now ≡ statement_json (texts_of s) → result ≡ Some s }
+    ensures found { IfSome result (λ s. IsStatement s × (json.view value.now ≡ statement_json (texts_of_statement s))) }
+    ensures only { (s : statement.Statement) → IsStatement s → json.view value.now ≡ statement_json (texts_of_statement s) → result ≡ Some s }
 {
     statement_in(&statement_fields(value)?)
 }
 
-fn statement_of(alloc: Global, body: &[u8]) -> Result<Statement, BodyFault>
-    ensures found { IfOk result (λ s. IsStatement s × IsJsonOf body.now (statement_json (texts_of s))) }
-    ensures form { result ≡ Err BodyFault.Form → (s : statement.Statement) → IsStatement s → ¬ IsJsonOf body.now (statement_json (texts_of s)) }
+fn statement_of(alloc: Global, body: &[u8]) -> Result<Statement, MeaningError>
+    ensures found { IfOk result (λ s. IsStatement s × IsJsonOf body.now (statement_json (texts_of_statement s))) }
+    ensures form { result ≡ Err MeaningError.Form → (s : statement.Statement) → IsStatement s → ¬ IsJsonOf body.now (statement_json (texts_of_statement s)) }
 {
     let value = value_of(alloc, body)?;
-    statement_at(&value).ok_or(BodyFault::Form)
+    statement_at(&value).ok_or(MeaningError::Form)
 }
 
 /// The registry of a release, and its ground, of which these are the texts.
@@ -158,13 +170,13 @@ fn handover_at(value: &Value) -> Option<(Tld, Ground)>
     handover_in(&release_fields(value)?)
 }
 
-fn handover_of(alloc: Global, body: &[u8]) -> Result<(Tld, Ground), BodyFault>
+fn handover_of(alloc: Global, body: &[u8]) -> Result<(Tld, Ground), MeaningError>
     ensures found { IfOk result (λ h. IsTld h.0 × IsJsonOf body.now (release_json (handover_texts h.0 h.1))) }
-    ensures form { result ≡ Err BodyFault.Form → (tld : List ℕ) (reason : Ground) → IsTld tld
+    ensures form { result ≡ Err MeaningError.Form → (tld : List ℕ) (reason : Ground) → IsTld tld
         → ¬ IsJsonOf body.now (release_json (handover_texts tld reason)) }
 {
     let value = value_of(alloc, body)?;
-    handover_at(&value).ok_or(BodyFault::Form)
+    handover_at(&value).ok_or(MeaningError::Form)
 }
 
 /// The registry of a hold, and its day, of which these are the texts.
@@ -189,13 +201,13 @@ fn held_day_at(value: &Value) -> Option<(Tld, Day)>
     held_day_in(&hold_fields(value)?)
 }
 
-fn held_day_of(alloc: Global, body: &[u8]) -> Result<(Tld, Day), BodyFault>
+fn held_day_of(alloc: Global, body: &[u8]) -> Result<(Tld, Day), MeaningError>
     ensures found { IfOk result (λ h. IsTld h.0 × IsDay h.1 × IsJsonOf body.now (hold_json (held_day_texts h.0 h.1))) }
-    ensures form { result ≡ Err BodyFault.Form → (tld : List ℕ) (day : ℕ) → IsTld tld → IsDay day
+    ensures form { result ≡ Err MeaningError.Form → (tld : List ℕ) (day : ℕ) → IsTld tld → IsDay day
         → ¬ IsJsonOf body.now (hold_json (held_day_texts tld day)) }
 {
     let value = value_of(alloc, body)?;
-    held_day_at(&value).ok_or(BodyFault::Form)
+    held_day_at(&value).ok_or(MeaningError::Form)
 }
 
 /// What a target and a body stand for.
@@ -203,37 +215,37 @@ pub fn meaning_of<'a>(
     alloc: Global,
     target: Target<'a>,
     body: &'a [u8],
-) -> Result<Wanted<'a>, BodyFault>
-    ensures found { IfOk result (λ w. Means (seen target.entry) body.entry.now (wanted_of w)) }
-    ensures form { result ≡ Err BodyFault.Form → (w : asked.Wanted) → ¬ Means (seen target.entry) body.entry.now w }
+) -> Result<RequestAction<'a>, MeaningError>
+    ensures found { IfOk result (λ w. Means (target_view target.entry) body.entry.now (action_view w)) }
+    ensures form { result ≡ Err MeaningError.Form → (w : asked.RequestAction) → ¬ Means (target_view target.entry) body.entry.now w }
     // Memory is taken for the JSON of a body alone.
-    ensures memory { result ≡ Err BodyFault.NoMemory → takes_json (seen target.entry) ≡ true }
+    ensures memory { result ≡ Err MeaningError.NoMemory → takes_json (target_view target.entry) ≡ true }
 {
     match target {
         Target::Registry(text) => {
             let tld = tld_of(text)?;
-            Ok(Wanted::Do(Command::Register(tld, first_day_of(alloc, body)?)))
+            Ok(RequestAction::Do(Command::Register(tld, first_day_of(alloc, body)?)))
         }
-        Target::Deposit(name) => Ok(Wanted::Do(Command::Receive(name, body))),
-        Target::Statements => Ok(Wanted::Do(Command::Statement(statement_of(alloc, body)?))),
+        Target::Deposit(name) => Ok(RequestAction::Do(Command::Receive(name, body))),
+        Target::Statements => Ok(RequestAction::Do(Command::Statement(statement_of(alloc, body)?))),
         Target::Check(text, date) => {
             let tld = tld_of(text)?;
-            let day = read_day(date).ok_or(BodyFault::Form)?;
-            Ok(Wanted::Do(Command::Check(tld, day)))
+            let day = read_day(date).ok_or(MeaningError::Form)?;
+            Ok(RequestAction::Do(Command::Check(tld, day)))
         }
         Target::Release(text) => {
             let reference = reference_of(text)?;
             let (tld, reason) = handover_of(alloc, body)?;
-            Ok(Wanted::Do(Command::Release(reference, tld, reason)))
+            Ok(RequestAction::Do(Command::Release(reference, tld, reason)))
         }
-        Target::ReleasedPart(text, name) => Ok(Wanted::Fetch(reference_of(text)?, name)),
+        Target::ReleasedPart(text, name) => Ok(RequestAction::Fetch(reference_of(text)?, name)),
         Target::Hold(text) => {
             let reference = reference_of(text)?;
             let (tld, day) = held_day_of(alloc, body)?;
-            Ok(Wanted::Do(Command::Hold(reference, tld, day)))
+            Ok(RequestAction::Do(Command::Hold(reference, tld, day)))
         }
-        Target::Lift(text) => Ok(Wanted::Do(Command::Lift(reference_of(text)?))),
-        Target::Notices(text) => Ok(Wanted::Report(tld_of(text)?)),
-        Target::Purges => Ok(Wanted::Do(Command::Purge)),
+        Target::Lift(text) => Ok(RequestAction::Do(Command::Lift(reference_of(text)?))),
+        Target::Notices(text) => Ok(RequestAction::Report(tld_of(text)?)),
+        Target::Purges => Ok(RequestAction::Do(Command::Purge)),
     }
 }

@@ -1,16 +1,40 @@
 //! What a head asks for, and how long the body is that comes with it.
-ghost use Rattle.std.specs.Prelude.{◌≡◌, ◌≤◌, ℕ, List, [], length, drop, take, map, true, false, Some, IfOk, IfErr, IfSome, IfNone, IsTrue, All};
+ghost use Rattle.std.specs.Prelude.{
+  ◌≡◌,
+  ◌≤◌,
+  ℕ,
+  List,
+  [],
+  length,
+  drop,
+  take,
+  map,
+  true,
+  false,
+  Some,
+  IfOk,
+  IfErr,
+  IfSome,
+  IfNone,
+  IsTrue,
+  All,
+};
 ghost use Rattle.std.specs.List.{list_all};
 ghost use Rattle.httparse.specs.Grammar.{RequestHead};
 ghost use Rattle.httparse.specs.Spans.{name_and_value};
-ghost use Rattle.http_request.specs.Asked.{values_named, Stands, NoneBelow, fault_number};
-ghost use Rattle.http_request.specs.Fields.{AreNamed};
-ghost use Rattle.http_request.specs.Head.{IsAt, IsHeadOf};
+ghost use Rattle.http_request.specs.RequestMeaning.{
+  values_named,
+  HasFault,
+  HasNoFaultBelow,
+  fault_number,
+};
+ghost use Rattle.http_request.specs.inside.Fields.{AreFieldValues};
+ghost use Rattle.http_request.specs.Head.{CoversHead, IsHeadOf};
 ghost use Rattle.http_request.specs.Paths.{is_target_byte};
-ghost use Rattle.http_request.specs.Plans.{IsLengthFault, FitsLength, IsPlanned, IsReached};
-ghost use Rattle.http_request.specs.Targets.{seen};
+ghost use Rattle.http_request.specs.Plans.{IsLengthFault, FitsLength, IsPlanOf, IsReached};
+ghost use Rattle.http_request.specs.Targets.{target_view};
 
-use crate::fields::{Named, number_of, values_of};
+use crate::fields::{FieldValues, number_of, values_of};
 use crate::{Head, RequestFault, Routes, Target};
 use std::str;
 
@@ -47,17 +71,17 @@ fn target_text(bytes: &[u8]) -> Option<&str>
 }
 
 /// The length that the fields tell, where the route takes a body.
-fn length_of(named: Named<'_>, limit: Option<u64>) -> Result<Option<u64>, RequestFault>
-    ensures ok { IfOk result (λ n. (values : List (List ℕ)) → AreNamed values named.entry → FitsLength limit values n) }
-    ensures err { IfErr result (λ fault. (values : List (List ℕ)) → AreNamed values named.entry → IsLengthFault limit values fault) }
+fn length_of(named: FieldValues<'_>, limit: Option<u64>) -> Result<Option<u64>, RequestFault>
+    ensures ok { IfOk result (λ n. (values : List (List ℕ)) → AreFieldValues values named.entry → FitsLength limit values n) }
+    ensures err { IfErr result (λ fault. (values : List (List ℕ)) → AreFieldValues values named.entry → IsLengthFault limit values fault) }
 {
     let Some(limit) = limit else {
         return Ok(None);
     };
     match named {
-        Named::None => Err(RequestFault::NoLength),
-        Named::Several => Err(RequestFault::Length),
-        Named::One(value) => match number_of(value) {
+        FieldValues::None => Err(RequestFault::NoLength),
+        FieldValues::Several => Err(RequestFault::Length),
+        FieldValues::One(value) => match number_of(value) {
             None => Err(RequestFault::Length),
             Some(n) if n > limit => Err(RequestFault::TooLong),
             Some(n) => Ok(Some(n)),
@@ -68,9 +92,9 @@ fn length_of(named: Named<'_>, limit: Option<u64>) -> Result<Option<u64>, Reques
 /// The target of a head with its route's method, or the least fault that stands of these.
 fn read_target<'h>(routes: &Routes, head: &'h Head) -> Result<Target<'h>, RequestFault>
     requires { IsHeadOf head.now }
-    ensures ok { IfOk result (λ target. (h : RequestHead) → IsAt head.now h → IsReached h (seen target)) }
-    ensures err { IfErr result (λ fault. (h : RequestHead) → IsAt head.now h
-        → (rest : List ℕ) → Stands h rest fault × NoneBelow (fault_number fault) h rest) }
+    ensures ok { IfOk result (λ target. (h : RequestHead) → CoversHead head.now h → IsReached h (target_view target)) }
+    ensures err { IfErr result (λ fault. (h : RequestHead) → CoversHead head.now h
+        → (rest : List ℕ) → HasFault h rest fault × HasNoFaultBelow (fault_number fault) h rest) }
 {
     let bytes = head.bytes.as_slice();
     let path = target_text(head.spans.path.of(bytes)).ok_or(RequestFault::Target)?;
@@ -83,9 +107,9 @@ fn read_target<'h>(routes: &Routes, head: &'h Head) -> Result<Target<'h>, Reques
 }
 
 /// The values of the fields of a name.
-fn named<'h>(head: &'h Head, name: &[u8]) -> Named<'h>
+fn field_values<'h>(head: &'h Head, name: &[u8]) -> FieldValues<'h>
     requires { IsHeadOf head.now }
-    ensures { (h : RequestHead) → IsAt head.now h → AreNamed (values_named name.now (map name_and_value h.fields)) result }
+    ensures { (h : RequestHead) → CoversHead head.now h → AreFieldValues (values_named name.now (map name_and_value h.fields)) result }
 {
     values_of(
         head.bytes.as_slice(),
@@ -97,15 +121,15 @@ fn named<'h>(head: &'h Head, name: &[u8]) -> Named<'h>
 /// What a head asks for, or the least fault that stands of the head alone.
 pub fn read_plan<'h>(routes: &Routes, head: &'h Head) -> Result<Plan<'h>, RequestFault>
     requires { IsHeadOf head.now }
-    ensures ok { IfOk result (λ p. (h : RequestHead) → IsAt head.now h → IsPlanned h p) }
-    ensures err { IfErr result (λ fault. (h : RequestHead) → IsAt head.now h
-        → (rest : List ℕ) → Stands h rest fault × NoneBelow (fault_number fault) h rest) }
+    ensures ok { IfOk result (λ p. (h : RequestHead) → CoversHead head.now h → IsPlanOf h p) }
+    ensures err { IfErr result (λ fault. (h : RequestHead) → CoversHead head.now h
+        → (rest : List ℕ) → HasFault h rest fault × HasNoFaultBelow (fault_number fault) h rest) }
 {
     let target = read_target(routes, head)?;
-    let Named::None = named(head, b"transfer-encoding") else {
+    let FieldValues::None = field_values(head, b"transfer-encoding") else {
         return Err(RequestFault::TransferCoding);
     };
-    let values = named(head, b"content-length");
+    let values = field_values(head, b"content-length");
     match length_of(values, target.limit()) {
         Ok(length) => Ok(Plan { target, length }),
         Err(fault) => Err(fault),

@@ -2,10 +2,10 @@
 ghost use Rattle.std.specs.Prelude.{◌≡◌, IfOk, IfSome, IsTrue, IfNone, Some, option_map};
 ghost use Rattle.std.specs.List.{list_all};
 ghost use Rattle.matchit.specs.Params.{AllText, walk};
-ghost use Rattle.http_request.specs.Table.{table, is_table_prop};
-ghost use Rattle.http_request.specs.Paths.{is_target_byte, Names};
+ghost use Rattle.http_request.specs.RouteTable.{route_table, is_table_prop};
+ghost use Rattle.http_request.specs.Paths.{is_target_byte, NamesTarget};
 ghost use Rattle.http_request.specs.Paths as paths;
-ghost use Rattle.http_request.specs.Targets.{taken_by, seen};
+ghost use Rattle.http_request.specs.Targets.{target_of, target_view};
 
 use crate::Method;
 use matchit::{InsertError, Params, Router};
@@ -43,12 +43,12 @@ pub enum Target<'p> {
 
 impl<'p> Target<'p> {
     ghost use Rattle.std.specs.Prelude.{◌≡◌};
-    ghost use Rattle.http_request.specs.Targets.{seen};
-    ghost use Rattle.http_request.specs.Asked.{method_of, limit_of};
+    ghost use Rattle.http_request.specs.Targets.{target_view};
+    ghost use Rattle.http_request.specs.RequestMeaning.{method_of, limit_of};
 
     /// The method of its route.
     pub fn method(&self) -> Method
-        ensures { result ≡ method_of (seen self.now) }
+        ensures { result ≡ method_of (target_view self.now) }
     {
         match self {
             Target::Registry(_) | Target::Deposit(_) | Target::Release(_) | Target::Hold(_) => {
@@ -63,7 +63,7 @@ impl<'p> Target<'p> {
 
     /// The most bytes of a body, where the route takes one.
     pub fn limit(&self) -> Option<u64>
-        ensures { result ≡ limit_of (seen self.now) }
+        ensures { result ≡ limit_of (target_view self.now) }
     {
         match self {
             Target::Registry(_) | Target::Statements | Target::Release(_) | Target::Hold(_) => {
@@ -80,12 +80,12 @@ impl<'p> Target<'p> {
 #[derive(Drop)]
 pub struct Routes {
     router: Router<Route>,
-    ghost routed: { router ≡ table } by { is_table_prop router },
+    ghost routed: { router ≡ route_table } by { is_table_prop router },
 }
 
 /// The router of the routes.
 fn route_table(alloc: Global) -> Result<Router<Route>, InsertError>
-    ensures table { IfOk result (λ router. router ≡ table) }
+    ensures table { IfOk result (λ router. router ≡ route_table) }
 {
     let mut router = Router::new(alloc);
     router.insert("/registries/{tld}", Route::Registry)?;
@@ -104,7 +104,7 @@ fn route_table(alloc: Global) -> Result<Router<Route>, InsertError>
 /// The target of a route that a path matched.
 fn target_of<'p>(route: Route, params: &Params<'_, 'p>) -> Option<Target<'p>>
     ensures { AllText (walk params.now.pattern.now params.now.text.now params.now.path.now params.now.names.now 0 0)
-        → option_map seen result ≡ taken_by route (walk params.now.pattern.now params.now.text.now params.now.path.now params.now.names.now 0 0) }
+        → option_map target_view result ≡ target_of route (walk params.now.pattern.now params.now.text.now params.now.path.now params.now.names.now 0 0) }
 {
     match route {
         Route::Registry => Some(Target::Registry(params.get("tld")?.as_bytes())),
@@ -138,8 +138,8 @@ impl Routes {
     /// What a path names, if it names anything.
     pub fn find<'p>(&self, path: &'p str) -> Option<Target<'p>>
         requires { IsTrue (list_all is_target_byte path.now) }
-        ensures found { IfSome result (λ target. Names path.now (seen target)) }
-        ensures none { IfNone result ((target : paths.Target) → ¬ Names path.now target) }
+        ensures found { IfSome result (λ target. NamesTarget path.now (target_view target)) }
+        ensures none { IfNone result ((target : paths.Target) → ¬ NamesTarget path.now target) }
     {
         match self.router.at(path) {
             Ok(found) => target_of(*found.value, &found.params),

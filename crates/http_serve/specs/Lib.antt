@@ -1,2 +1,2 @@
-pub mod Faults
-pub mod Turns
+pub mod Errors
+pub mod Connections

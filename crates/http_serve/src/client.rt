@@ -14,22 +14,22 @@ pub(crate) const CLOSING_SECONDS: u64 = 2;
 
 /// One direction of a connection, which ends at an instant whatever the client does.
 #[derive(Clone, Copy)]
-pub(crate) struct Timed<'s, C: Clock> {
+pub(crate) struct TimedStream<'s, C: Clock> {
     stream: &'s TcpStream,
     clock: &'s C,
     end: Instant,
 }
 
-impl<'s, C: Clock> Timed<'s, C> {
+impl<'s, C: Clock> TimedStream<'s, C> {
     /// The direction, for so many seconds from now.
     pub(crate) fn new(
         stream: &'s TcpStream,
         clock: &'s C,
         seconds: u64,
-    ) -> io::Result<Timed<'s, C>> {
+    ) -> io::Result<TimedStream<'s, C>> {
         let now = Instant::now(clock)?;
         match now.checked_add(Duration::from_secs(seconds)) {
-            Some(end) => Ok(Timed { stream, clock, end }),
+            Some(end) => Ok(TimedStream { stream, clock, end }),
             None => Err(io::ErrorKind::TimedOut.into()),
         }
     }
@@ -44,7 +44,7 @@ impl<'s, C: Clock> Timed<'s, C> {
     }
 }
 
-impl<'s, C: Clock> Read for Timed<'s, C> {
+impl<'s, C: Clock> Read for TimedStream<'s, C> {
     fn read(&mut self, buf: &mut [u8]) -> io::Result<usize> {
         self.stream.set_read_timeout(Some(self.left()?))?;
         let mut stream = self.stream;
@@ -52,7 +52,7 @@ impl<'s, C: Clock> Read for Timed<'s, C> {
     }
 }
 
-impl<'s, C: Clock> Write for Timed<'s, C> {
+impl<'s, C: Clock> Write for TimedStream<'s, C> {
     fn write(&mut self, buf: &[u8]) -> io::Result<usize> {
         self.stream.set_write_timeout(Some(self.left()?))?;
         let mut stream = self.stream;
@@ -68,7 +68,7 @@ impl<'s, C: Clock> Write for Timed<'s, C> {
 /// that is closed over unread bytes is reset, and the client may lose the response.
 pub(crate) fn end_connection<C: Clock>(stream: &TcpStream, clock: &C) {
     let _ = stream.shutdown(Shutdown::Write);
-    let Ok(mut rest) = Timed::new(stream, clock, CLOSING_SECONDS) else {
+    let Ok(mut rest) = TimedStream::new(stream, clock, CLOSING_SECONDS) else {
         return;
     };
     let mut piece = [0u8; 4096];

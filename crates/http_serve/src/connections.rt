@@ -1,8 +1,21 @@
 //! Connections, one after the other.
-ghost use Rattle.std.specs.Prelude.{◌≡◌, ◌<◌, ℕ, Some, None, Ok, Err, IfOk, IfErr, IfSome, OnOk, OnErr};
-ghost use Rattle.http_serve.specs.Turns.{AreTurns, IsTurn};
+ghost use Rattle.std.specs.Prelude.{
+  ◌≡◌,
+  ◌<◌,
+  ℕ,
+  Some,
+  None,
+  Ok,
+  Err,
+  IfOk,
+  IfErr,
+  IfSome,
+  OnOk,
+  OnErr,
+};
+ghost use Rattle.http_serve.specs.Connections.{AreConnections, IsConnection};
 
-use crate::client::{REQUEST_SECONDS, RESPONSE_SECONDS, Timed, end_connection};
+use crate::client::{REQUEST_SECONDS, RESPONSE_SECONDS, TimedStream, end_connection};
 use crate::clock::moment_of;
 use custody::Custody;
 use http_api::{Api, ServeError};
@@ -17,48 +30,48 @@ use vault_volume::Volume;
 
 /// Why no further connection is served. It prints as its text.
 #[derive(Clone, Copy, Debug, PartialEq, Eq)]
-pub enum ServeFault {
+pub enum ServiceError {
     /// The listening socket fails.
     Socket,
     /// The clock fails, or tells a moment out of range.
     Clock,
 }
 
-impl fmt::Display for ServeFault {
+impl fmt::Display for ServiceError {
     ghost use Rattle.std.specs.Prelude.{Some};
-    ghost use Rattle.http_serve.specs.Faults.{serve_fault_text};
+    ghost use Rattle.http_serve.specs.Errors.{service_error_text};
 
-    ghost output = { λ e. Some (serve_fault_text e) };
+    ghost output = { λ e. Some (service_error_text e) };
 
     fn fmt<W: fmt::Write>(&self, f: &mut fmt::Formatter<W>) -> fmt::Result {
         f.write_str(match self {
-            ServeFault::Socket => "socket failed",
-            ServeFault::Clock => "clock failed",
+            ServiceError::Socket => "socket failed",
+            ServiceError::Clock => "clock failed",
         })
     }
 }
 
 /// The next connection, if one is there. One that was given up before it is accepted is none.
-fn next_client(listener: &TcpListener) -> Result<Option<TcpStream>, ServeFault>
-    ensures { IfErr result (λ fault. fault ≡ ServeFault.Socket) }
+fn next_client(listener: &TcpListener) -> Result<Option<TcpStream>, ServiceError>
+    ensures { IfErr result (λ fault. fault ≡ ServiceError.Socket) }
 {
     match listener.accept() {
         Ok((stream, _)) => Ok(Some(stream)),
         Err(error) => match error.kind() {
             io::ErrorKind::ConnectionAborted | io::ErrorKind::Interrupted => Ok(None),
-            _ => Err(ServeFault::Socket),
+            _ => Err(ServiceError::Socket),
         },
     }
 }
 
 /// The moment of a connection: the one that is given, or that of the clock.
-fn moment_at<C: Clock>(given: &Option<Sec>, clock: &C) -> Result<Sec, ServeFault>
+fn moment_at<C: Clock>(given: &Option<Sec>, clock: &C) -> Result<Sec, ServiceError>
     ensures found { IfOk result (λ now. IfSome given.now (λ moment. now ≡ moment)) }
     ensures given { IfSome given.now (λ moment. result ≡ Ok moment) }
 {
     match given {
         Some(moment) => Ok(*moment),
-        None => moment_of(clock).ok_or(ServeFault::Clock),
+        None => moment_of(clock).ok_or(ServiceError::Clock),
     }
 }
 
@@ -71,15 +84,15 @@ fn serve_client<C: Clock, V: Volume, S: Alter>(
     custody: &mut Custody<V, S>,
     now: Sec,
 ) -> Result<(), ServeError>
-    ensures { IsTurn (Some now) custody.old custody.new }
+    ensures { IsConnection (Some now) custody.old custody.new }
 {
     let Some(stream) = client else {
         return Err(ServeError::Read);
     };
-    let Ok(mut reader) = Timed::new(stream, clock, REQUEST_SECONDS) else {
+    let Ok(mut reader) = TimedStream::new(stream, clock, REQUEST_SECONDS) else {
         return Err(ServeError::Read);
     };
-    let Ok(mut writer) = Timed::new(stream, clock, RESPONSE_SECONDS) else {
+    let Ok(mut writer) = TimedStream::new(stream, clock, RESPONSE_SECONDS) else {
         return Err(ServeError::Read);
     };
     api.serve_one(alloc, &mut reader, &mut writer, custody, now)?;
@@ -98,11 +111,11 @@ pub fn serve_connections<C: Clock, V: Volume, S: Alter, E: Write>(
     custody: &mut Custody<V, S>,
     now: Option<Sec>,
     err: &mut E,
-) -> Result<(), ServeFault>
-    ensures all { OnOk result (AreTurns now count custody.old custody.new) }
+) -> Result<(), ServiceError>
+    ensures all { OnOk result (AreConnections now count custody.old custody.new) }
     // The clock fails only where it is read.
-    ensures clock { result ≡ Err ServeFault.Clock → now ≡ None }
-    ensures fewer { OnErr result ((served : ℕ) × (served < count) × AreTurns now served custody.old custody.new) }
+    ensures clock { result ≡ Err ServiceError.Clock → now ≡ None }
+    ensures fewer { OnErr result ((served : ℕ) × (served < count) × AreConnections now served custody.old custody.new) }
 {
     for _ in 0..count {
         let client = next_client(listener)?;

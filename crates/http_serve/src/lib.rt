@@ -6,4 +6,4 @@ mod clock;
 mod connections;
 
 pub use clock::moment_of;
-pub use connections::{ServeFault, serve_connections};
+pub use connections::{ServiceError, serve_connections};

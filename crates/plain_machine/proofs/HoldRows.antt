@@ -5,10 +5,10 @@ use Rattle.std.specs.FinMap.{get, insert}
 use Rattle.std.specs.declared.cmp.Ordering.TheVariants.{Equal}
 use Rattle.custody_records.specs.declared.holds.Hold as given
 use Rattle.custody_records.specs.Keys.{text_cmp}
-use Rattle.custody_records.specs.Orders.{text_exact, text_total}
+use Rattle.custody_records.specs.inside.Orders.{text_exact, text_total}
 use Rattle.custody_records.specs.Records.{Hold, lifted_at}
 use Rattle.custody_records.specs.Tables.{is_rising, table_map}
-use Rattle.custody_records.specs.Typed.{hold_key, hold_value}
+use Rattle.custody_records.specs.TypedRecords.{hold_key, hold_value}
 use Rattle.custody_records.proofs.TableLemmas.{found_at, get_table, map_replaced, rising_replaced}
 
 module _ (rows : List given.Hold) (rising : is_rising text_cmp hold_key rows ≡ true) (reference : List ℕ) (i : ℕ) (row : given.Hold) (lt : i < length rows) (is : row ≡ get_or rows i row)

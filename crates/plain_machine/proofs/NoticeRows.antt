@@ -1,6 +1,6 @@
 -- What the plain program finds among its notices is what the map of them has.
 use Rattle.std.proofs.Common.{◌≡◌, ◌<◌, ◌+◌, ℕ, max, take, length, get_or, List, [], ◌∷◌, ◌++◌, map, Option, Some, None, Bool, true, false, ◌||◌, cond, refl, sym, ◌∙◌, ap, find, arith}
-use Rattle.std.specs.Prelude.{option_map}
+use Rattle.std.specs.Prelude.{option_map, bytes_eq}
 use Rattle.std.specs.List.{cons_option, filter, filter_map, list_any}
 use Rattle.std.specs.FinMap as fin
 use Rattle.std.specs.FinMap.{FinMap, entries, get}
@@ -11,17 +11,16 @@ use Rattle.std.proofs.lemmas.List.Elements.{filter_map-append}
 use Rattle.desk.specs.declared.notices.Notice as desk
 use Rattle.custody_records.specs.Keys.{NoticeKey, notice_cmp}
 use Rattle.custody_records.specs.Records.{Notice}
-use Rattle.custody_records.specs.Tables.{entries_of, is_rising, table_map}
-use Rattle.custody_records.specs.Typed.{notice_entry, notice_key, notice_value}
-use Rattle.custody_records.specs.Orders.{notice_exact}
+use Rattle.custody_records.specs.Tables.{row_entries, is_rising, table_map}
+use Rattle.custody_records.specs.TypedRecords.{notice_entry, notice_key, notice_value}
+use Rattle.custody_records.specs.inside.Orders.{notice_exact}
 use Rattle.custody_records.proofs.GroupLemmas.{filter_entries}
 use Rattle.custody_records.proofs.TableLemmas.{entries-table_map}
-use Rattle.custody_machine.specs.Names.{is_same_text}
 use Rattle.custody_machine.specs.Machine.{greatest_number, next_key}
 use Rattle.custody_machine.proofs.SameValues.{text_decides}
-use Rattle.plain_machine.specs.Plain.{greatest_of}
+use Rattle.plain_machine.specs.Plain.{greatest_number_of}
 
-entries_mapped : (rows : List desk.Notice) → entries_of notice_key notice_value rows ≡ map notice_entry rows
+entries_mapped : (rows : List desk.Notice) → row_entries notice_key notice_value rows ≡ map notice_entry rows
 entries_mapped [] = refl
 entries_mapped (n ∷ rows) = ap (λ (l : List (NoticeKey × Notice)). notice_entry n ∷ l) (entries_mapped rows)
 
@@ -73,19 +72,19 @@ max_swap : (a b c : ℕ) → max a (max b c) ≡ max b (max a c)
 max_swap a b c = omega arith
 
 -- the greatest number, with one entry more
-greatest_push : (tld : List ℕ) (rows : List desk.Notice) (n : desk.Notice) → greatest_of tld (map notice_entry (rows ++ n ∷ [])) ≡ cond (is_same_text n.tld tld) (max n.number (greatest_of tld (map notice_entry rows))) (greatest_of tld (map notice_entry rows))
-greatest_push tld [] n = by (is_same_text n.tld tld)
+greatest_push : (tld : List ℕ) (rows : List desk.Notice) (n : desk.Notice) → greatest_number_of tld (map notice_entry (rows ++ n ∷ [])) ≡ cond (bytes_eq n.tld tld) (max n.number (greatest_number_of tld (map notice_entry rows))) (greatest_number_of tld (map notice_entry rows))
+greatest_push tld [] n = by (bytes_eq n.tld tld)
   where
     by : (b : Bool) → greatest_number (cond b (notice_entry n ∷ []) []) ≡ cond b (max n.number 0) 0
     by true = refl
     by false = refl
-greatest_push tld (m ∷ rows) n = by (is_same_text m.tld tld) (is_same_text n.tld tld) (greatest_push tld rows n)
+greatest_push tld (m ∷ rows) n = by (bytes_eq m.tld tld) (bytes_eq n.tld tld) (greatest_push tld rows n)
   where
     all : List (NoticeKey × Notice)
-    all = filter (λ (e : NoticeKey × Notice). is_same_text e.0.tld tld) (map notice_entry (rows ++ n ∷ []))
+    all = filter (λ (e : NoticeKey × Notice). bytes_eq e.0.tld tld) (map notice_entry (rows ++ n ∷ []))
 
     old : List (NoticeKey × Notice)
-    old = filter (λ (e : NoticeKey × Notice). is_same_text e.0.tld tld) (map notice_entry rows)
+    old = filter (λ (e : NoticeKey × Notice). bytes_eq e.0.tld tld) (map notice_entry rows)
 
     by : (a b : Bool) → greatest_number all ≡ cond b (max n.number (greatest_number old)) (greatest_number old)
         → greatest_number (cond a (notice_entry m ∷ all) all) ≡ cond b (max n.number (greatest_number (cond a (notice_entry m ∷ old) old))) (greatest_number (cond a (notice_entry m ∷ old) old))
@@ -95,12 +94,12 @@ greatest_push tld (m ∷ rows) n = by (is_same_text m.tld tld) (is_same_text n.t
     by false false rest = rest
 
 pub greatest_more : (tld : List ℕ) (rows : List desk.Notice) (i : ℕ) (n : desk.Notice) → i < length rows → n ≡ get_or rows i n
-    → greatest_of tld (map notice_entry (take (i + 1) rows)) ≡ cond (is_same_text n.tld tld) (max n.number (greatest_of tld (map notice_entry (take i rows)))) (greatest_of tld (map notice_entry (take i rows)))
-greatest_more tld rows i n lt is = ap (λ (l : List desk.Notice). greatest_of tld (map notice_entry l)) (row_more rows i n lt is) ∙ greatest_push tld (take i rows) n
+    → greatest_number_of tld (map notice_entry (take (i + 1) rows)) ≡ cond (bytes_eq n.tld tld) (max n.number (greatest_number_of tld (map notice_entry (take i rows)))) (greatest_number_of tld (map notice_entry (take i rows)))
+greatest_more tld rows i n lt is = ap (λ (l : List desk.Notice). greatest_number_of tld (map notice_entry l)) (row_more rows i n lt is) ∙ greatest_push tld (take i rows) n
 
 -- ---- the next number is new
 
-same_key : (a b : NoticeKey) → is_same_text a.tld b.tld ≡ false → eq_by_cmp notice_cmp b a ≡ false
+same_key : (a b : NoticeKey) → bytes_eq a.tld b.tld ≡ false → eq_by_cmp notice_cmp b a ≡ false
 same_key a b other = by (eq_by_cmp notice_cmp b a) refl
   where
     by : (e : Bool) → eq_by_cmp notice_cmp b a ≡ e → e ≡ false
@@ -114,14 +113,14 @@ below_rest : (b : Bool) (e : NoticeKey × Notice) (rest : List (NoticeKey × Not
 below_rest true e rest n less = omega (arith, less)
 below_rest false e rest n less = less
 
-not_found : (key : NoticeKey) (es : List (NoticeKey × Notice)) → greatest_of key.tld es < key.number → fin.find notice_cmp key es ≡ None
+not_found : (key : NoticeKey) (es : List (NoticeKey × Notice)) → greatest_number_of key.tld es < key.number → fin.find notice_cmp key es ≡ None
 not_found key [] lt = refl
-not_found key (e ∷ es) lt = by (is_same_text e.0.tld key.tld) (eq_by_cmp notice_cmp key e.0) refl refl lt (not_found key es (below_rest (is_same_text e.0.tld key.tld) e rest key.number lt))
+not_found key (e ∷ es) lt = by (bytes_eq e.0.tld key.tld) (eq_by_cmp notice_cmp key e.0) refl refl lt (not_found key es (below_rest (bytes_eq e.0.tld key.tld) e rest key.number lt))
   where
     rest : List (NoticeKey × Notice)
-    rest = filter (λ (one : NoticeKey × Notice). is_same_text one.0.tld key.tld) es
+    rest = filter (λ (one : NoticeKey × Notice). bytes_eq one.0.tld key.tld) es
 
-    by : (a b : Bool) → is_same_text e.0.tld key.tld ≡ a → eq_by_cmp notice_cmp key e.0 ≡ b → greatest_number (cond a (e ∷ rest) rest) < key.number → fin.find notice_cmp key es ≡ None
+    by : (a b : Bool) → bytes_eq e.0.tld key.tld ≡ a → eq_by_cmp notice_cmp key e.0 ≡ b → greatest_number (cond a (e ∷ rest) rest) < key.number → fin.find notice_cmp key es ≡ None
         → cond b (Some e.1) (fin.find notice_cmp key es) ≡ None
     by a false same eq less others = others
     by true true same eq less others = absurd (omega (arith, less, same_number e.0 key eq))

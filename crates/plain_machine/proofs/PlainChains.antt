@@ -4,25 +4,24 @@ use Rattle.std.specs.FinMap.{entries, from_entries}
 use Rattle.std.specs.List.{filter, last_or}
 use Rattle.deposit_name.specs.declared.kinds.Kind.{Kind}
 use Rattle.deposit_name.specs.declared.kinds.Kind.TheVariants.{Full}
-use Rattle.deposit_name.specs.Name.{Name}
+use Rattle.deposit_name.specs.Name.{Name, is_same_kind}
 use Rattle.deposit_verify.specs.Bases.{all_then, base_at}
 use Rattle.custody_records.specs.Keys.{PartKey, part_cmp}
 use Rattle.custody_records.specs.Records.{name_of}
-use Rattle.custody_records.specs.Tables.{entries_of, is_rising}
+use Rattle.custody_records.specs.Tables.{row_entries, is_rising}
 use Rattle.custody_machine.specs.Machine.{latest_full}
-use Rattle.custody_machine.specs.SameValues.{is_same_kind}
 use Rattle.custody_machine.specs.State.{Part}
-use Rattle.plain_machine.specs.declared.kept.PlainPart.{PlainPart}
-use Rattle.plain_machine.specs.declared.listing.Listed.{Listed}
-use Rattle.plain_machine.specs.Listing.{listed_entry, listed_key, listed_value, rows_shown, value_of}
-use Rattle.plain_machine.specs.Plain.{part_entry}
+use Rattle.plain_machine.specs.declared.state.PlainPart.{PlainPart}
+use Rattle.plain_machine.specs.declared.listing.ListedPart.{ListedPart}
+use Rattle.plain_machine.specs.inside.Listing.{listed_entry, listed_key, listed_value, listing_view, listed_value_of}
+use Rattle.plain_machine.specs.Plain.{plain_part_entry}
 use Rattle.plain_machine.proofs.NoticeRows.{row_more}
 use Rattle.plain_machine.proofs.PlainReleases.{listed_entries}
 
 -- ---- the parts that pass a test of their places
 
 -- the entries of rows, one for each
-rows_mapped : (rows : List Listed) → entries_of listed_key listed_value rows ≡ map (λ l. (listed_key l, listed_value l)) rows
+rows_mapped : (rows : List ListedPart) → row_entries listed_key listed_value rows ≡ map (λ l. (listed_key l, listed_value l)) rows
 rows_mapped [] = refl
 rows_mapped (l ∷ rows) = ap (λ (es : List (PartKey × (Kind × Bool))). (listed_key l, listed_value l) ∷ es) (rows_mapped rows)
 
@@ -37,12 +36,12 @@ names_mapped {A} f test name (item ∷ items) = by (test (f item)) (names_mapped
     by false rest = rest
 
 -- the names of the rows are those of the parts, in the order of their places
-pub names_passing : (test : PartKey → Bool) (parts : List PlainPart) (rows : List Listed) → is_rising part_cmp listed_key rows ≡ true → rows_shown rows ≡ from_entries (map listed_entry parts)
-    → map (λ (l : Listed). l.name) (filter (λ l. test (listed_key l)) rows) ≡ map (λ (e : PartKey × Part). name_of e.0 e.1.kind) (filter (λ e. test e.0) (entries (from_entries {R = part_cmp} (map part_entry parts))))
+pub names_passing : (test : PartKey → Bool) (parts : List PlainPart) (rows : List ListedPart) → is_rising part_cmp listed_key rows ≡ true → listing_view rows ≡ from_entries (map listed_entry parts)
+    → map (λ (l : ListedPart). l.name) (filter (λ l. test (listed_key l)) rows) ≡ map (λ (e : PartKey × Part). name_of e.0 e.1.kind) (filter (λ e. test e.0) (entries (from_entries {R = part_cmp} (map plain_part_entry parts))))
 names_passing test parts rows rising is =
     sym (names_mapped (λ l. (listed_key l, listed_value l)) passes name_listed rows)
     ∙ ap (λ es. map name_listed (filter passes es)) (sym (rows_mapped rows) ∙ listed_entries parts rows rising is)
-    ∙ names_mapped (λ (e : PartKey × Part). (e.0, value_of e.1)) passes name_listed (entries (from_entries {R = part_cmp} (map part_entry parts)))
+    ∙ names_mapped (λ (e : PartKey × Part). (e.0, listed_value_of e.1)) passes name_listed (entries (from_entries {R = part_cmp} (map plain_part_entry parts)))
   where
     passes : PartKey × (Kind × Bool) → Bool
     passes e = test e.0

@@ -1,6 +1,6 @@
 -- What the plain program's loops find is what the maps have.
 use Rattle.std.proofs.Common.{◌≡◌, ℕ, List, [], ◌∷◌, Option, Some, None, Bool, true, false, ◌&&◌, ◌==◌, cond, map, refl, sym, ◌∙◌, ap, find, Decides}
-use Rattle.std.specs.Prelude.{option_map, count_by, is_some}
+use Rattle.std.specs.Prelude.{option_map, count_by, is_some, bytes_eq}
 use Rattle.std.specs.Ordering.{eq_by_cmp, is_eq}
 use Rattle.std.specs.Cmp.{IsTotalOrder, tied_itself, Equal-is}
 use Rattle.std.specs.FinMap as fin
@@ -12,13 +12,12 @@ use Rattle.deposit_name.specs.Name.{Name}
 use Rattle.custody_records.proofs.FieldLemmas.{find_passes}
 use Rattle.custody_records.specs.Keys.{PartKey, text_cmp, part_cmp}
 use Rattle.custody_records.specs.Records.{key_of}
-use Rattle.plain_machine.specs.declared.kept.PlainRegistry.{PlainRegistry}
-use Rattle.plain_machine.specs.declared.kept.PlainPart.{PlainPart}
-use Rattle.plain_machine.specs.Once.{is_at}
-use Rattle.plain_machine.specs.Plain.{registry_entry, part_entry, part_shown, is_of, is_in}
-use Rattle.custody_machine.specs.State.{at_place, places}
-use Rattle.custody_machine.specs.Names.{is_same_text}
-use Rattle.custody_records.specs.Orders.{text_total, part_total, part_exact}
+use Rattle.plain_machine.specs.declared.state.PlainRegistry.{PlainRegistry}
+use Rattle.plain_machine.specs.declared.state.PlainPart.{PlainPart}
+use Rattle.plain_machine.specs.DistinctPlaces.{is_at_key}
+use Rattle.plain_machine.specs.Plain.{plain_registry_entry, plain_part_entry, part_view, is_registry_of, is_in}
+use Rattle.custody_machine.specs.State.{key_with_part, part_numbers}
+use Rattle.custody_records.specs.inside.Orders.{text_total, part_total, part_exact}
 use Rattle.custody_machine.proofs.SameValues.{text_decides, key_decides}
 use Rattle.std.proofs.lemmas.Map.Lookups.{exact_bytes}
 
@@ -40,11 +39,11 @@ module _ {K X E : Type 0} {R : K → K → Ordering} (total : IsTotalOrder R) (e
   pub shows : (q : K) (es : List E) → get (from_entries {R = R} (map entry es)) q ≡ option_map (λ e. (entry e).1) (find (test q) es)
   shows q es = get-from_entries total (map entry es) q ∙ finds q es
 
-pub registry_shows : (tld : List ℕ) (es : List PlainRegistry) → get (from_entries {R = text_cmp} (map registry_entry es)) tld ≡ option_map (λ (r : PlainRegistry). r.first_day) (find (is_of tld) es)
-registry_shows = shows text_total exact_bytes registry_entry is_of (λ q e. text_decides e.tld q)
+pub registry_shows : (tld : List ℕ) (es : List PlainRegistry) → get (from_entries {R = text_cmp} (map plain_registry_entry es)) tld ≡ option_map (λ (r : PlainRegistry). r.first_day) (find (is_registry_of tld) es)
+registry_shows = shows text_total exact_bytes plain_registry_entry is_registry_of (λ q e. text_decides e.tld q)
 
-pub part_shows : (key : PartKey) (es : List PlainPart) → get (from_entries {R = part_cmp} (map part_entry es)) key ≡ option_map part_shown (find (is_at key) es)
-part_shows = shows part_total part_exact part_entry is_at (λ q e. key_decides (key_of e.name) q)
+pub part_shows : (key : PartKey) (es : List PlainPart) → get (from_entries {R = part_cmp} (map plain_part_entry es)) key ≡ option_map part_view (find (is_at_key key) es)
+part_shows = shows part_total part_exact plain_part_entry is_at_key (λ q e. key_decides (key_of e.name) q)
 
 pub map_twice : {A B C : Type 0} (f : A → B) (g : B → C) (o : Option A) → option_map (λ x. g (f x)) o ≡ option_map g (option_map f o)
 map_twice f g None = refl
@@ -64,13 +63,13 @@ find_less {X} p q less (x ∷ xs) none = by (q x) (p x) (less x) none (find_less
 -- a part that is looked for by its revision is of that
 pub is_of_revision : (name : Name) (parts : List PlainPart) (p : PlainPart) → find (is_in name) parts ≡ Some p → (p.name.tld ≡ name.tld) × ((p.name.day ≡ name.day) × (p.name.rev ≡ name.rev))
 is_of_revision name parts p found =
-    let same = and_parts (is_same_text p.name.tld name.tld) _ (find_passes (is_in name) parts p found) in
+    let same = and_parts (bytes_eq p.name.tld name.tld) _ (find_passes (is_in name) parts p found) in
     let numbers = and_parts (p.name.day == name.day) _ same.1 in
     ((text_decides p.name.tld name.tld).0 same.0, ((Decides-eqb p.name.day name.day).0 numbers.0, (Decides-eqb p.name.rev name.rev).0 numbers.1))
 
-none_at : (name : Name) (parts : List PlainPart) → find (is_in name) parts ≡ None → (place : ℕ) → get (from_entries {R = part_cmp} (map part_entry parts)) (at_place (key_of name) place) ≡ None
-none_at name parts none place = part_shows (at_place (key_of name) place) parts
-    ∙ ap (option_map part_shown) (find_less (is_at (at_place (key_of name) place)) (is_in name) (λ p. by (is_same_text p.name.tld name.tld) (p.name.day == name.day) (p.name.rev == name.rev) (p.name.part == place)) parts none)
+none_at : (name : Name) (parts : List PlainPart) → find (is_in name) parts ≡ None → (place : ℕ) → get (from_entries {R = part_cmp} (map plain_part_entry parts)) (key_with_part (key_of name) place) ≡ None
+none_at name parts none place = part_shows (key_with_part (key_of name) place) parts
+    ∙ ap (option_map part_view) (find_less (is_at_key (key_with_part (key_of name) place)) (is_in name) (λ p. by (bytes_eq p.name.tld name.tld) (p.name.day == name.day) (p.name.rev == name.rev) (p.name.part == place)) parts none)
   where
     by : (a b c d : Bool) → (a && (b && c)) ≡ false → (a && (b && (c && d))) ≡ false
     by true true true d e = cc
@@ -80,5 +79,5 @@ none_at name parts none place = part_shows (at_place (key_of name) place) parts
 
 -- where none is found, none is counted
 pub none_counted : (name : Name) (parts : List PlainPart) → find (is_in name) parts ≡ None
-    → count_by (λ place. is_some (get (from_entries {R = part_cmp} (map part_entry parts)) (at_place (key_of name) place))) places ≡ 0
+    → count_by (λ place. is_some (get (from_entries {R = part_cmp} (map plain_part_entry parts)) (key_with_part (key_of name) place))) part_numbers ≡ 0
 none_counted name parts none = let at = none_at name parts none in rw (at 1, at 2, at 3, at 4, at 5, at 6, at 7, at 8) refl

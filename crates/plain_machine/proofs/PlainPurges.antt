@@ -12,19 +12,19 @@ use Rattle.std.proofs.lemmas.List.{map-append, take_more, take_more_set, drop-se
 use Rattle.std.proofs.lemmas.List.Sums.{sum_by-cons}
 use Rattle.schedule.specs.Schedule.{day_of}
 use Rattle.custody_records.specs.Keys.{PartKey, part_cmp, text_cmp}
-use Rattle.custody_records.specs.Orders.{part_total, part_exact}
+use Rattle.custody_records.specs.inside.Orders.{part_total, part_exact}
 use Rattle.custody_records.specs.Records.{Hold, key_of}
 use Rattle.custody_machine.specs.MapValues.{map_keyed}
 use Rattle.custody_machine.specs.SameValues.{is_same_key}
 use Rattle.custody_machine.specs.State.{State, Part}
-use Rattle.custody_machine.specs.Machine.{Purge, OfPurge, Accept, count_due, dropped_if_due, step, without_due}
+use Rattle.custody_machine.specs.Machine.{Purge, OfPurge, Accept, count_due, part_dropped_if_due, step, state_without_due}
 use Rattle.custody_machine.proofs.Accepting.{step_none}
 use Rattle.custody_machine.proofs.MapValues.{map_keyed-insert, map_keyed-empty}
 use Rattle.custody_machine.proofs.SameValues.{key_decides}
-use Rattle.plain_machine.specs.declared.kept.PlainPart.{PlainPart}
-use Rattle.plain_machine.specs.declared.kept.PlainAnswer.TheVariants as answer
-use Rattle.plain_machine.specs.Once.{are_once, is_at}
-use Rattle.plain_machine.specs.Plain.{IsOutcome, dropped_entry, part_entry, part_shown}
+use Rattle.plain_machine.specs.declared.state.PlainPart.{PlainPart}
+use Rattle.plain_machine.specs.declared.state.PlainAnswer.TheVariants as answer
+use Rattle.plain_machine.specs.DistinctPlaces.{have_distinct_places, is_at_key}
+use Rattle.plain_machine.specs.Plain.{IsPlainStep, entry_after_purge, plain_part_entry, part_view}
 use Rattle.plain_machine.proofs.PlainMaps.{part_shows}
 
 -- ---- how many entries pass a test
@@ -60,28 +60,28 @@ no_entries = of (entries (fin.empty {K = PartKey} {X = Part} {R = part_cmp})) (s
     of [] e = refl
     of (x ∷ es) e = absurd (omega (arith, e))
 
-pub count_entries : (test : PartKey × Part → Bool) (parts : List PlainPart) → are_once parts ≡ true
-    → count_by test (entries (from_entries {R = part_cmp} (map part_entry parts))) ≡ count_by (λ (p : PlainPart). test (part_entry p)) parts
+pub count_entries : (test : PartKey × Part → Bool) (parts : List PlainPart) → have_distinct_places parts ≡ true
+    → count_by test (entries (from_entries {R = part_cmp} (map plain_part_entry parts))) ≡ count_by (λ (p : PlainPart). test (plain_part_entry p)) parts
 count_entries test [] once = ap (count_by test) no_entries
 count_entries test (p ∷ parts) once =
-    let both = and_parts (is_none (find (is_at (key_of p.name)) parts)) (are_once parts) once in
-    let m = from_entries {R = part_cmp} (map part_entry parts) in
-    let none : get m (key_of p.name) ≡ None = part_shows (key_of p.name) parts ∙ missing (find (is_at (key_of p.name)) parts) both.0 in
-    ap (count_by test) (entries-insert part_total m (key_of p.name) (part_shown p))
-    ∙ count_put part_cmp test (key_of p.name) (part_shown p) (entries m) (sym (get-entries m (key_of p.name)) ∙ none)
-    ∙ ap (λ n. cond (test (part_entry p)) 1 0 + n) (count_entries test parts both.1)
-    ∙ sym (sum_by-cons (λ (q : PlainPart). cond (test (part_entry q)) 1 0) p parts)
+    let both = and_parts (is_none (find (is_at_key (key_of p.name)) parts)) (have_distinct_places parts) once in
+    let m = from_entries {R = part_cmp} (map plain_part_entry parts) in
+    let none : get m (key_of p.name) ≡ None = part_shows (key_of p.name) parts ∙ missing (find (is_at_key (key_of p.name)) parts) both.0 in
+    ap (count_by test) (entries-insert part_total m (key_of p.name) (part_view p))
+    ∙ count_put part_cmp test (key_of p.name) (part_view p) (entries m) (sym (get-entries m (key_of p.name)) ∙ none)
+    ∙ ap (λ n. cond (test (plain_part_entry p)) 1 0 + n) (count_entries test parts both.1)
+    ∙ sym (sum_by-cons (λ (q : PlainPart). cond (test (plain_part_entry q)) 1 0) p parts)
   where
-    missing : (o : Option PlainPart) → is_none o ≡ true → option_map part_shown o ≡ None
+    missing : (o : Option PlainPart) → is_none o ≡ true → option_map part_view o ≡ None
     missing None e = refl
     missing (Some q) e = cc
 
 pub dropped_entries : (holds : FinMap text_cmp Hold) (today : ℕ) (parts : List PlainPart)
-    → from_entries {R = part_cmp} (map (dropped_entry holds today) (map part_entry parts)) ≡ map_keyed (dropped_if_due holds today) (from_entries {R = part_cmp} (map part_entry parts))
-dropped_entries holds today [] = sym (map_keyed-empty part_cmp part_exact (dropped_if_due holds today) part_total)
+    → from_entries {R = part_cmp} (map (entry_after_purge holds today) (map plain_part_entry parts)) ≡ map_keyed (part_dropped_if_due holds today) (from_entries {R = part_cmp} (map plain_part_entry parts))
+dropped_entries holds today [] = sym (map_keyed-empty part_cmp part_exact (part_dropped_if_due holds today) part_total)
 dropped_entries holds today (p ∷ parts) =
-    ap (λ m. insert m (key_of p.name) (dropped_if_due holds today (key_of p.name) (part_shown p))) (dropped_entries holds today parts)
-    ∙ sym (map_keyed-insert part_cmp part_exact (dropped_if_due holds today) part_total (from_entries (map part_entry parts)) (key_of p.name) (part_shown p))
+    ap (λ m. insert m (key_of p.name) (part_dropped_if_due holds today (key_of p.name) (part_view p))) (dropped_entries holds today parts)
+    ∙ sym (map_keyed-insert part_cmp part_exact (part_dropped_if_due holds today) part_total (from_entries (map plain_part_entry parts)) (key_of p.name) (part_view p))
 
 -- whether each place is there once is told by the places alone
 abbrev keys_of : List PlainPart → List PartKey
@@ -95,15 +95,15 @@ abbrev are_distinct : List PartKey → Bool
 are_distinct [] = true
 are_distinct (k ∷ keys) = not (has_key k keys) && are_distinct keys
 
-none_has : (key : PartKey) (parts : List PlainPart) → is_none (find (is_at key) parts) ≡ not (has_key key (keys_of parts))
+none_has : (key : PartKey) (parts : List PlainPart) → is_none (find (is_at_key key) parts) ≡ not (has_key key (keys_of parts))
 none_has key [] = refl
 none_has key (p ∷ parts) = by (is_same_key (key_of p.name) key) (none_has key parts)
   where
-    by : (b : Bool) → is_none (find (is_at key) parts) ≡ not (has_key key (keys_of parts)) → is_none (cond b (Some p) (find (is_at key) parts)) ≡ not (b || has_key key (keys_of parts))
+    by : (b : Bool) → is_none (find (is_at_key key) parts) ≡ not (has_key key (keys_of parts)) → is_none (cond b (Some p) (find (is_at_key key) parts)) ≡ not (b || has_key key (keys_of parts))
     by true rest = refl
     by false rest = rest
 
-once_is : (parts : List PlainPart) → are_once parts ≡ are_distinct (keys_of parts)
+once_is : (parts : List PlainPart) → have_distinct_places parts ≡ are_distinct (keys_of parts)
 once_is [] = refl
 once_is (p ∷ parts) = λ i. none_has (key_of p.name) parts i && once_is parts i
 
@@ -111,14 +111,14 @@ abbrev firsts : List (PartKey × Part) → List PartKey
 firsts es = map (λ (e : PartKey × Part). e.0) es
 
 -- the same places are there once
-pub once_same : (holds : FinMap text_cmp Hold) (today : ℕ) (parts later : List PlainPart) → map part_entry later ≡ map (dropped_entry holds today) (map part_entry parts) → are_once parts ≡ true → are_once later ≡ true
+pub once_same : (holds : FinMap text_cmp Hold) (today : ℕ) (parts later : List PlainPart) → map plain_part_entry later ≡ map (entry_after_purge holds today) (map plain_part_entry parts) → have_distinct_places parts ≡ true → have_distinct_places later ≡ true
 once_same holds today parts later is once = once_is later ∙ ap are_distinct (keys later ∙ ap firsts is ∙ sym (after parts) ∙ sym (keys parts)) ∙ sym (once_is parts) ∙ once
   where
-    keys : (ps : List PlainPart) → keys_of ps ≡ firsts (map part_entry ps)
+    keys : (ps : List PlainPart) → keys_of ps ≡ firsts (map plain_part_entry ps)
     keys [] = refl
     keys (p ∷ ps) = ap (λ l. key_of p.name ∷ l) (keys ps)
 
-    after : (ps : List PlainPart) → firsts (map part_entry ps) ≡ firsts (map (dropped_entry holds today) (map part_entry ps))
+    after : (ps : List PlainPart) → firsts (map plain_part_entry ps) ≡ firsts (map (entry_after_purge holds today) (map plain_part_entry ps))
     after [] = refl
     after (p ∷ ps) = ap (λ l. key_of p.name ∷ l) (after ps)
 
@@ -130,41 +130,41 @@ same_swapped a b e = of (is_same_key b a) refl
     of true t = let clash : true ≡ false = sym ((key_decides a b).1 (sym ((key_decides b a).0 t))) ∙ e in cc
 
 -- what is not at a place is not found there
-still_alone : (key : PartKey) (parts : List PlainPart) (p : PlainPart) → is_none (find (is_at key) parts) ≡ true → is_same_key (key_of p.name) key ≡ false → is_none (find (is_at key) (parts ++ p ∷ [])) ≡ true
+still_alone : (key : PartKey) (parts : List PlainPart) (p : PlainPart) → is_none (find (is_at_key key) parts) ≡ true → is_same_key (key_of p.name) key ≡ false → is_none (find (is_at_key key) (parts ++ p ∷ [])) ≡ true
 still_alone key [] p none other = ap (λ b. is_none (cond b (Some p) None)) other
 still_alone key (r ∷ parts) p none other = by (is_same_key (key_of r.name) key) none (λ rest. still_alone key parts p rest other)
   where
-    by : (b : Bool) → is_none (cond b (Some r) (find (is_at key) parts)) ≡ true → (is_none (find (is_at key) parts) ≡ true → is_none (find (is_at key) (parts ++ p ∷ [])) ≡ true)
-        → is_none (cond b (Some r) (find (is_at key) (parts ++ p ∷ []))) ≡ true
+    by : (b : Bool) → is_none (cond b (Some r) (find (is_at_key key) parts)) ≡ true → (is_none (find (is_at_key key) parts) ≡ true → is_none (find (is_at_key key) (parts ++ p ∷ [])) ≡ true)
+        → is_none (cond b (Some r) (find (is_at_key key) (parts ++ p ∷ []))) ≡ true
     by true none rest = cc
     by false none rest = rest none
 
 -- a part of a new place is one more
-once_more : (parts : List PlainPart) (p : PlainPart) → are_once parts ≡ true → is_none (find (is_at (key_of p.name)) parts) ≡ true → are_once (parts ++ p ∷ []) ≡ true
+once_more : (parts : List PlainPart) (p : PlainPart) → have_distinct_places parts ≡ true → is_none (find (is_at_key (key_of p.name)) parts) ≡ true → have_distinct_places (parts ++ p ∷ []) ≡ true
 once_more [] p once new = refl
 once_more (q ∷ parts) p once new =
-    let both = and_parts (is_none (find (is_at (key_of q.name)) parts)) (are_once parts) once in
+    let both = and_parts (is_none (find (is_at_key (key_of q.name)) parts)) (have_distinct_places parts) once in
     let apart = by (is_same_key (key_of q.name) (key_of p.name)) refl new in
     λ i. still_alone (key_of q.name) parts p both.0 (same_swapped (key_of q.name) (key_of p.name) apart.0) i && once_more parts p both.1 apart.1 i
   where
-    by : (b : Bool) → is_same_key (key_of q.name) (key_of p.name) ≡ b → is_none (cond b (Some q) (find (is_at (key_of p.name)) parts)) ≡ true
-        → (is_same_key (key_of q.name) (key_of p.name) ≡ false) × (is_none (find (is_at (key_of p.name)) parts) ≡ true)
+    by : (b : Bool) → is_same_key (key_of q.name) (key_of p.name) ≡ b → is_none (cond b (Some q) (find (is_at_key (key_of p.name)) parts)) ≡ true
+        → (is_same_key (key_of q.name) (key_of p.name) ≡ false) × (is_none (find (is_at_key (key_of p.name)) parts) ≡ true)
     by true e none = cc
     by false e none = (e, none)
 
 -- whether it was put there or not
-pub once_tried : (parts later : List PlainPart) (p : PlainPart) (is_put : Bool) → later ≡ cond is_put (parts ++ p ∷ []) parts → are_once parts ≡ true
-    → get (from_entries {R = part_cmp} (map part_entry parts)) (key_of p.name) ≡ None → are_once later ≡ true
-once_tried parts later p true is once none = ap are_once is ∙ once_more parts p once (free (find (is_at (key_of p.name)) parts) (sym (part_shows (key_of p.name) parts) ∙ none))
+pub once_tried : (parts later : List PlainPart) (p : PlainPart) (is_put : Bool) → later ≡ cond is_put (parts ++ p ∷ []) parts → have_distinct_places parts ≡ true
+    → get (from_entries {R = part_cmp} (map plain_part_entry parts)) (key_of p.name) ≡ None → have_distinct_places later ≡ true
+once_tried parts later p true is once none = ap have_distinct_places is ∙ once_more parts p once (free (find (is_at_key (key_of p.name)) parts) (sym (part_shows (key_of p.name) parts) ∙ none))
   where
-    free : (o : Option PlainPart) → option_map part_shown o ≡ None → is_none o ≡ true
+    free : (o : Option PlainPart) → option_map part_view o ≡ None → is_none o ≡ true
     free None e = refl
     free (Some q) e = cc
-once_tried parts later p false is once none = ap are_once is ∙ once
+once_tried parts later p false is once none = ap have_distinct_places is ∙ once
 
 -- ---- the answer
 
-pub purges : (s new : State) (now count : ℕ) → count ≡ count_due s (day_of now) → new ≡ without_due s (day_of now) → IsOutcome (answer.Purged count) s new (step s Purge now)
+pub purges : (s new : State) (now count : ℕ) → count ≡ count_due s (day_of now) → new ≡ state_without_due s (day_of now) → IsPlainStep (answer.Purge count) s new (step s Purge now)
 purges s new now count counts is = step_none s Purge now refl ∙ (λ i. Accept (record { entry = OfPurge (sym counts i); is_repeat = false }) (sym is i))
 
 -- ---- a part more of the loop
@@ -192,10 +192,10 @@ module _ (holds : FinMap text_cmp Hold) (today : ℕ) (old items : List PlainPar
   unfolding tail_of
   rest_next = drop-set-lt (i + 1) items i new (omega arith) ∙ ap tail_of unfolded
 
-  pub done_next : map part_entry (take i items) ≡ map (dropped_entry holds today) (map part_entry (take i old)) → part_entry new ≡ dropped_entry holds today (part_entry (get_or items i d))
-      → map part_entry (take (i + 1) (set items i new)) ≡ map (dropped_entry holds today) (map part_entry (take (i + 1) old))
+  pub done_next : map plain_part_entry (take i items) ≡ map (entry_after_purge holds today) (map plain_part_entry (take i old)) → plain_part_entry new ≡ entry_after_purge holds today (plain_part_entry (get_or items i d))
+      → map plain_part_entry (take (i + 1) (set items i new)) ≡ map (entry_after_purge holds today) (map plain_part_entry (take (i + 1) old))
   done_next done value =
-      ap (map part_entry) (take_more_set items i new lt) ∙ map-append part_entry (take i items) (new ∷ [])
-      ∙ ap₂ (λ (xs : List (PartKey × Part)) (e : PartKey × Part). xs ++ e ∷ []) done (value ∙ ap (λ (x : PlainPart). dropped_entry holds today (part_entry x)) item_same)
-      ∙ sym (map-append (dropped_entry holds today) (map part_entry (take i old)) (part_entry (get_or old i d) ∷ []))
-      ∙ ap (map (dropped_entry holds today)) (sym (map-append part_entry (take i old) (get_or old i d ∷ [])) ∙ ap (map part_entry) (sym (take_more old i d within)))
+      ap (map plain_part_entry) (take_more_set items i new lt) ∙ map-append plain_part_entry (take i items) (new ∷ [])
+      ∙ ap₂ (λ (xs : List (PartKey × Part)) (e : PartKey × Part). xs ++ e ∷ []) done (value ∙ ap (λ (x : PlainPart). entry_after_purge holds today (plain_part_entry x)) item_same)
+      ∙ sym (map-append (entry_after_purge holds today) (map plain_part_entry (take i old)) (plain_part_entry (get_or old i d) ∷ []))
+      ∙ ap (map (entry_after_purge holds today)) (sym (map-append plain_part_entry (take i old) (get_or old i d ∷ [])) ∙ ap (map plain_part_entry) (sym (take_more old i d within)))

@@ -1,3 +1,3 @@
-pub mod Listing
-pub mod Once
+pub mod DistinctPlaces
 pub mod Plain
+pub mod inside

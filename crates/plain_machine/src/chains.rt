@@ -3,15 +3,25 @@ ghost use Rattle.std.specs.Prelude.{◌≡◌, if◌then◌else◌, map, IfOk, S
 ghost use Rattle.std.specs.List.{filter, list_any};
 ghost use Rattle.std.specs.Option.{option_and_then};
 ghost use Rattle.deposit_verify.specs.Bases.{all_then, base_at, base_then};
-ghost use Rattle.custody_machine.specs.Machine.{base_of, chain_before, chain_of, has_dropped_part, held_chain, joined, later_than, latest_full, passed_firsts};
-ghost use Rattle.custody_machine.specs.SameValues.{is_same_kind};
+ghost use Rattle.custody_machine.specs.Machine.{
+  base_of,
+  chain_before,
+  chain_of,
+  has_dropped_part,
+  held_chain,
+  joined_bytes,
+  later_names,
+  latest_full,
+  passed_first_names,
+};
 ghost use Rattle.deposit_name.specs.declared.kinds.Kind.TheVariants as kind;
-ghost use Rattle.plain_machine.specs.Listing.{is_first_at, listed_key};
-ghost use Rattle.plain_machine.specs.Plain.{shown};
+ghost use Rattle.deposit_name.specs.Name.{is_same_kind};
+ghost use Rattle.plain_machine.specs.inside.Listing.{is_first_at, listed_key};
+ghost use Rattle.plain_machine.specs.Plain.{state_view};
 
-use crate::kept::PlainState;
-use crate::listing::{Listed, Listing};
-use crate::sought::Sought;
+use crate::listing::{ListedPart, Listing};
+use crate::sought_name::SoughtName;
+use crate::state::PlainState;
 use custody_machine::Statement;
 use deposit_name::{DepositName, Kind, Tld};
 use deposit_verify::{Base, NoMemory};
@@ -20,8 +30,8 @@ use std::alloc::{AllocError, Global};
 
 impl PlainState {
     // Whether a part is the first of a registry's deposit that passed.
-    fn is_first_of_passed(&self, part: &Listed, tld: &Tld) -> bool
-        ensures { result ≡ is_first_at (shown self.now) tld.now (listed_key part.now) }
+    fn is_first_of_passed(&self, part: &ListedPart, tld: &Tld) -> bool
+        ensures { result ≡ is_first_at (state_view self.now) tld.now (listed_key part.now) }
     {
         let name = &part.name;
         name.tld.as_bytes() == tld.as_bytes()
@@ -33,11 +43,11 @@ impl PlainState {
     fn names_of_firsts(
         &self,
         alloc: Global,
-        parts: &[Listed],
+        parts: &[ListedPart],
         tld: &Tld,
     ) -> Result<Vec<DepositName>, AllocError>
         ensures { IfOk result (λ names. names.items ≡ map (λ part. part.name)
-            (filter (λ part. is_first_at (shown self.now) tld.now (listed_key part)) parts.now)) }
+            (filter (λ part. is_first_at (state_view self.now) tld.now (listed_key part)) parts.now)) }
     {
         parts
             .iter()
@@ -47,8 +57,8 @@ impl PlainState {
     }
 
     // The names of the first parts of a registry's deposits that passed, by day.
-    fn passed_firsts(&self, alloc: Global, tld: &Tld) -> Result<Vec<DepositName>, AllocError>
-        ensures { IfOk result (λ names. names.items ≡ passed_firsts (shown self.now) tld.now) }
+    fn passed_first_names(&self, alloc: Global, tld: &Tld) -> Result<Vec<DepositName>, AllocError>
+        ensures { IfOk result (λ names. names.items ≡ passed_first_names (state_view self.now) tld.now) }
     {
         let listing = Listing::of(alloc, &self.parts)?;
         self.names_of_firsts(alloc, listing.parts(), tld)
@@ -60,23 +70,23 @@ impl PlainState {
         alloc: Global,
         stated: &Statement,
     ) -> Result<Vec<DepositName>, AllocError>
-        ensures { IfOk result (λ chain. chain.items ≡ chain_before (shown self.now) stated.now) }
+        ensures { IfOk result (λ chain. chain.items ≡ chain_before (state_view self.now) stated.now) }
     {
-        let passed = self.passed_firsts(alloc, &stated.tld)?;
+        let passed = self.passed_first_names(alloc, &stated.tld)?;
         chain_of(alloc, stated.kind, &passed)
     }
 
     fn have_dropped_part(&self, names: &[DepositName]) -> bool
-        ensures { result ≡ list_any (has_dropped_part (shown self.now)) names.now }
+        ensures { result ≡ list_any (has_dropped_part (state_view self.now)) names.now }
     {
         names
             .iter()
-            .any(|name| self.has_dropped_part(&Sought::of(name)))
+            .any(|name| self.has_dropped_part(&SoughtName::of(name)))
     }
 
     // The deposits that a stated one follows where all their parts are held, and else none.
     fn held_chain(&self, alloc: Global, stated: &Statement) -> Result<Vec<DepositName>, AllocError>
-        ensures { IfOk result (λ chain. chain.items ≡ held_chain (shown self.now) stated.now) }
+        ensures { IfOk result (λ chain. chain.items ≡ held_chain (state_view self.now) stated.now) }
     {
         let chain = self.chain_before(alloc, stated)?;
         if self.have_dropped_part(&chain) {
@@ -94,10 +104,10 @@ impl PlainState {
         later: &[DepositName],
     ) -> Result<Option<Base>, NoMemory>
         ensures { IfOk result (λ next. next
-            ≡ all_then base (map (joined (shown self.now)) later.now)) }
+            ≡ all_then base (map (joined_bytes (state_view self.now)) later.now)) }
     {
         for name in later {
-            let joined = self.join(alloc, &Sought::of(name))?;
+            let joined = self.join(alloc, &SoughtName::of(name))?;
             base = base_then(alloc, base, &joined)?;
         }
         Ok(base)
@@ -105,12 +115,12 @@ impl PlainState {
 
     // The keys after a chain, where it is read.
     fn base_at(&self, alloc: Global, chain: &[DepositName]) -> Result<Option<Base>, NoMemory>
-        ensures { IfOk result (λ base. base ≡ base_at (map (joined (shown self.now)) chain.now)) }
+        ensures { IfOk result (λ base. base ≡ base_at (map (joined_bytes (state_view self.now)) chain.now)) }
     {
         let [first, later @ ..] = chain else {
             return Ok(None);
         };
-        let joined = self.join(alloc, &Sought::of(first))?;
+        let joined = self.join(alloc, &SoughtName::of(first))?;
         let base = Base::of_full(alloc, &joined)?;
         self.all_then(alloc, base, later)
     }
@@ -121,7 +131,7 @@ impl PlainState {
         alloc: Global,
         stated: &Statement,
     ) -> Result<Option<Base>, NoMemory>
-        ensures { IfOk result (λ base. base ≡ base_of (shown self.now) stated.now) }
+        ensures { IfOk result (λ base. base ≡ base_of (state_view self.now) stated.now) }
     {
         let chain = self.held_chain(alloc, stated)?;
         self.base_at(alloc, &chain)
@@ -146,7 +156,7 @@ fn chain_of(
         Kind::Incr => chain.push(full)?,
         Kind::Diff => {
             chain.push(full)?;
-            chain.extend_from_slice(&later_than(alloc, full.day, passed)?)?;
+            chain.extend_from_slice(&later_names(alloc, full.day, passed)?)?;
         }
     }
     Ok(chain)
@@ -172,12 +182,12 @@ fn full_or(name: &DepositName, latest: Option<DepositName>) -> Option<DepositNam
     }
 }
 
-fn later_than(
+fn later_names(
     alloc: Global,
     day: Day,
     passed: &[DepositName],
 ) -> Result<Vec<DepositName>, AllocError>
-    ensures { IfOk result (λ later. later.items ≡ later_than day passed.now) }
+    ensures { IfOk result (λ later. later.items ≡ later_names day passed.now) }
 {
     passed
         .iter()

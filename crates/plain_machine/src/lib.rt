@@ -2,20 +2,20 @@
 #![tactic(auto)]
 
 mod chains;
-mod checks;
-mod holding;
+mod check_steps;
+mod hold_steps;
 mod holds;
-mod kept;
 mod listing;
+mod notice_kinds;
 mod notices;
 mod plain;
-mod purges;
-mod releases;
-mod sought;
-mod statements;
-mod telling;
+mod purge_steps;
+mod release_steps;
+mod sought_name;
+mod state;
+mod statement_steps;
 
 pub use holds::PlainHolds;
-pub use kept::{PlainAnswer, PlainContent, PlainPart, PlainRegistry, PlainState};
 pub use notices::PlainNotices;
 pub use plain::step_plain;
+pub use state::{PlainAnswer, PlainContent, PlainPart, PlainRegistry, PlainState};

@@ -1,16 +1,21 @@
 //! Parts in the order of their places.
-ghost use Rattle.std.specs.Prelude.{◌≡◌, ◌&&◌, true, None, length, map, IfOk, OnOk};
+ghost use Rattle.std.specs.Prelude.{◌≡◌, ◌&&◌, true, None, length, map, IfOk, OnOk, bytes_eq};
 ghost use Rattle.std.specs.FinMap.{from_entries, get, insert};
 ghost use Rattle.std.specs.List.{filter_map};
 ghost use Rattle.std.specs.List.Sorted.{IsSearchInRange, IsBinarySearchResult};
 ghost use Rattle.custody_records.specs.Keys.{part_cmp};
 ghost use Rattle.custody_records.specs.Records.{key_of};
 ghost use Rattle.custody_records.specs.Tables.{is_rising};
-ghost use Rattle.custody_machine.specs.Names.{is_same_text};
-ghost use Rattle.plain_machine.specs.Listing.{listed_entry, listed_key, listed_name, listed_value, rows_shown};
-ghost use Rattle.plain_machine.specs.Once.{are_once};
+ghost use Rattle.plain_machine.specs.inside.Listing.{
+  listed_entry,
+  listed_key,
+  listed_name,
+  listed_value,
+  listing_view,
+};
+ghost use Rattle.plain_machine.specs.DistinctPlaces.{have_distinct_places};
 
-use crate::kept::PlainPart;
+use crate::state::PlainPart;
 use custody_records::{Names, PartKey};
 use deposit_name::{DepositName, Tld};
 use std::alloc::{AllocError, Global};
@@ -18,7 +23,7 @@ use std::cmp::Ordering;
 
 /// A part, and whether its bytes are held.
 #[derive(Clone, Copy)]
-pub(crate) struct Listed {
+pub(crate) struct ListedPart {
     pub(crate) name: DepositName,
     pub(crate) is_held: bool,
 }
@@ -26,15 +31,15 @@ pub(crate) struct Listed {
 /// Parts in the order of their places, each place once.
 #[derive(Drop)]
 pub(crate) struct Listing {
-    rows: Vec<Listed>,
+    rows: Vec<ListedPart>,
     ghost rising: { is_rising part_cmp listed_key rows.items ≡ true },
 }
 
 impl Listing {
     /// Those of a list.
     pub(crate) fn of(alloc: Global, parts: &[PlainPart]) -> Result<Listing, AllocError>
-        requires { are_once parts.now ≡ true }
-        ensures { IfOk result (λ listing. rows_shown listing.rows.items ≡ from_entries (map listed_entry parts.now)) }
+        requires { have_distinct_places parts.now ≡ true }
+        ensures { IfOk result (λ listing. listing_view listing.rows.items ≡ from_entries (map listed_entry parts.now)) }
     {
         match parts {
             [] => Ok(Listing {
@@ -57,9 +62,9 @@ impl Listing {
     }
 
     /// Adds a part of a new place.
-    fn add(&mut self, row: Listed) -> Result<(), AllocError>
-        requires new { get (rows_shown self.old.rows.items) (key_of row.name) ≡ None }
-        ensures { OnOk result (rows_shown self.new.rows.items ≡ insert (rows_shown self.old.rows.items) (listed_key row) (listed_value row)) }
+    fn add(&mut self, row: ListedPart) -> Result<(), AllocError>
+        requires new { get (listing_view self.old.rows.items) (key_of row.name) ≡ None }
+        ensures { OnOk result (listing_view self.new.rows.items ≡ insert (listing_view self.old.rows.items) (listed_key row) (listed_value row)) }
     {
         match self.place_of(&PartKey::of(&row.name)) {
             Err(place) => Ok(self.rows.insert(place, row)?),
@@ -68,7 +73,7 @@ impl Listing {
     }
 
     /// The parts.
-    pub(crate) fn parts(&self) -> &[Listed]
+    pub(crate) fn parts(&self) -> &[ListedPart]
         ensures { result.now ≡ self.now.rows.items }
     {
         &self.rows
@@ -82,16 +87,16 @@ impl Listing {
     }
 }
 
-fn row_of(part: &PlainPart) -> Listed
+fn row_of(part: &PlainPart) -> ListedPart
     ensures { (listed_key result, listed_value result) ≡ listed_entry part.now }
 {
-    Listed {
+    ListedPart {
         name: part.name,
         is_held: !part.content.is_dropped(),
     }
 }
 
-fn compare(row: &Listed, sought: &PartKey) -> Ordering
+fn compare(row: &ListedPart, sought: &PartKey) -> Ordering
     ensures { result ≡ part_cmp (listed_key row.now) sought.now }
 {
     let name = &row.name;
@@ -102,7 +107,7 @@ fn compare(row: &Listed, sought: &PartKey) -> Ordering
     registries.then(days.then(revisions.then(places)))
 }
 
-fn names_in(alloc: Global, rows: &[Listed], tld: &Tld) -> Result<Names, AllocError>
+fn names_in(alloc: Global, rows: &[ListedPart], tld: &Tld) -> Result<Names, AllocError>
     ensures { IfOk result (λ names. names ≡ filter_map (listed_name tld.now) rows.now) }
 {
     let mut names = Names::new(alloc);
@@ -114,9 +119,9 @@ fn names_in(alloc: Global, rows: &[Listed], tld: &Tld) -> Result<Names, AllocErr
     Ok(names)
 }
 
-impl Listed {
+impl ListedPart {
     fn is_held_of(&self, tld: &Tld) -> bool
-        ensures { result ≡ (is_same_text self.now.name.tld tld.now && self.now.is_held) }
+        ensures { result ≡ (bytes_eq self.now.name.tld tld.now && self.now.is_held) }
     {
         self.name.tld.as_bytes() == tld.as_bytes() && self.is_held
     }

@@ -1,19 +1,73 @@
 //! The machine over whole byte strings.
-ghost use Rattle.std.specs.Prelude.{◌≡◌, ◌≤◌, ◌-◌, ◌&&◌, ◌||◌, ◌==◌, not, if◌then◌else◌, nat_lt, ℕ, List, Ok, Some, IfOk, OnErr, find, option_map, length, count_by, is_some, is_none};
+ghost use Rattle.std.specs.Prelude.{
+  ◌≡◌,
+  ◌≤◌,
+  ◌-◌,
+  ◌&&◌,
+  ◌||◌,
+  ◌==◌,
+  not,
+  if◌then◌else◌,
+  nat_lt,
+  ℕ,
+  List,
+  Ok,
+  Some,
+  IfOk,
+  OnErr,
+  find,
+  option_map,
+  length,
+  count_by,
+  is_some,
+  is_none,
+};
 ghost use Rattle.std.specs.List.{list_any};
+ghost use Rattle.deposit_name.specs.Name.{is_same_kind};
+ghost use Rattle.desk.specs.Standing.{is_receipt};
 ghost use Rattle.custody_records.specs.Records.{key_of};
-ghost use Rattle.plain_machine.specs.Once.{is_at};
-ghost use Rattle.plain_machine.specs.Plain.{shown, part_shown, content_shown, IsOutcome, is_of};
+ghost use Rattle.plain_machine.specs.DistinctPlaces.{is_at_key};
+ghost use Rattle.plain_machine.specs.Plain.{
+  state_view,
+  part_view,
+  content_view,
+  IsPlainStep,
+  is_registry_of,
+};
 ghost use Rattle.custody_machine.specs.Commands.{command_of};
-ghost use Rattle.custody_machine.specs.Names.{read_name};
-ghost use Rattle.custody_machine.specs.SameValues.{is_same_kind};
-ghost use Rattle.custody_machine.specs.State.{empty, at_place, has_notice, places};
-ghost use Rattle.custody_machine.specs.Machine.{Register, Receive, step, first_day_of, recorded, part_in, has_other_kind, is_gone, is_held_with_other, holds_other, is_dropped, max_part_len, is_beyond, is_outside, is_unknown, is_unregistered, is_out_of_range, is_receipt, is_failure_of, is_not_due, is_stated, differs_in_kind, is_out_of_order, receive_tests, first_standing};
+ghost use Rattle.custody_machine.specs.NameReading.{read_name};
+ghost use Rattle.custody_machine.specs.State.{empty, key_with_part, has_notice, part_numbers};
+ghost use Rattle.custody_machine.specs.Machine.{
+  Register,
+  Receive,
+  step,
+  first_day_of,
+  part_under_name,
+  revision_part,
+  has_other_kind,
+  are_bytes_dropped,
+  is_held_with_other,
+  has_other_bytes,
+  is_dropped,
+  max_part_len,
+  is_day_outside,
+  is_outside,
+  is_tld_unregistered,
+  is_unregistered,
+  is_out_of_range,
+  is_failure_of,
+  is_revision_not_due,
+  is_stated,
+  is_new_beside_other_kind,
+  is_out_of_order,
+  receive_tests,
+  first_refusal,
+};
 
 use crate::holds::PlainHolds;
-use crate::kept::{PlainAnswer, PlainContent, PlainPart, PlainRegistry, PlainState};
 use crate::notices::PlainNotices;
-use crate::sought::Sought;
+use crate::sought_name::SoughtName;
+use crate::state::{PlainAnswer, PlainContent, PlainPart, PlainRegistry, PlainState};
 use custody_machine::{Command, Refusal};
 use deposit_name::{DepositName, Kind, Tld};
 use schedule::{Day, Sec};
@@ -21,7 +75,7 @@ use std::alloc::{AllocError, Global};
 
 impl PlainContent {
     pub(crate) fn is_dropped(&self) -> bool
-        ensures { result ≡ is_gone (content_shown self.now) }
+        ensures { result ≡ are_bytes_dropped (content_view self.now) }
     {
         match self {
             PlainContent::Held(_) => false,
@@ -30,7 +84,7 @@ impl PlainContent {
     }
 
     fn is_held_with_other(&self, bytes: &[u8]) -> bool
-        ensures { result ≡ is_held_with_other bytes.now (content_shown self.now) }
+        ensures { result ≡ is_held_with_other bytes.now (content_view self.now) }
     {
         match self {
             PlainContent::Held(kept) => kept.as_slice() != bytes,
@@ -40,8 +94,8 @@ impl PlainContent {
 }
 
 impl PlainPart {
-    fn is_at(&self, name: &Sought, place: u8) -> bool
-        ensures { result ≡ is_at (at_place (key_of name.now) place) self.now }
+    fn is_at(&self, name: &SoughtName, place: u8) -> bool
+        ensures { result ≡ is_at_key (key_with_part (key_of name.now) place) self.now }
     {
         self.name.tld.as_bytes() == name.tld.as_bytes()
             && self.name.day == name.day
@@ -52,14 +106,14 @@ impl PlainPart {
     fn is_of_kind(&self, kind: Kind) -> bool
         ensures { result ≡ is_same_kind self.now.name.kind kind }
     {
-        self.name.kind.as_bytes() == kind.as_bytes()
+        self.name.kind == kind
     }
 }
 
 impl PlainState {
     /// Nothing is kept yet.
     pub fn new(alloc: Global) -> PlainState
-        ensures { shown result ≡ empty }
+        ensures { state_view result ≡ empty }
     {
         PlainState {
             registries: Vec::new(alloc),
@@ -71,7 +125,7 @@ impl PlainState {
     }
 
     fn find_registry(&self, tld: &Tld) -> Option<Day>
-        ensures { result ≡ option_map (λ r. r.first_day) (find (is_of tld.now) self.now.registries.items) }
+        ensures { result ≡ option_map (λ r. r.first_day) (find (is_registry_of tld.now) self.now.registries.items) }
     {
         self.registries
             .iter()
@@ -79,26 +133,26 @@ impl PlainState {
             .map(|r| r.first_day)
     }
 
-    pub(crate) fn find_part(&self, name: &Sought, place: u8) -> Option<&PlainPart>
-        ensures { option_map (λ p. p.now) result ≡ find (is_at (at_place (key_of name.now) place)) self.now.parts.items }
+    pub(crate) fn find_part(&self, name: &SoughtName, place: u8) -> Option<&PlainPart>
+        ensures { option_map (λ p. p.now) result ≡ find (is_at_key (key_with_part (key_of name.now) place)) self.now.parts.items }
     {
         self.parts.iter().find(|p| p.is_at(name, place))
     }
 
     fn first_day(&self, tld: &Tld) -> Option<Day>
-        ensures { result ≡ first_day_of (shown self.now) tld.now }
+        ensures { result ≡ first_day_of (state_view self.now) tld.now }
     {
         self.find_registry(tld)
     }
 
-    pub(crate) fn part_at(&self, name: &Sought, place: u8) -> Option<&PlainPart>
-        ensures { option_map (λ p. part_shown p.now) result ≡ part_in (shown self.now) name.now place }
+    pub(crate) fn part_at(&self, name: &SoughtName, place: u8) -> Option<&PlainPart>
+        ensures { option_map (λ p. part_view p.now) result ≡ revision_part (state_view self.now) name.now place }
     {
         self.find_part(name, place)
     }
 
-    pub(crate) fn recorded(&self, name: &Sought) -> Option<&PlainPart>
-        ensures { option_map (λ p. part_shown p.now) result ≡ recorded (shown self.now) name.now }
+    pub(crate) fn part_under_name(&self, name: &SoughtName) -> Option<&PlainPart>
+        ensures { option_map (λ p. part_view p.now) result ≡ part_under_name (state_view self.now) name.now }
     {
         match self.part_at(name, name.part) {
             Some(part) if part.is_of_kind(name.kind) => Some(part),
@@ -106,14 +160,14 @@ impl PlainState {
         }
     }
 
-    pub(crate) fn has_part(&self, name: &Sought, place: u8) -> bool
-        ensures { result ≡ is_some (part_in (shown self.now) name.now place) }
+    pub(crate) fn has_part(&self, name: &SoughtName, place: u8) -> bool
+        ensures { result ≡ is_some (revision_part (state_view self.now) name.now place) }
     {
         self.part_at(name, place).is_some()
     }
 
-    pub(crate) fn has_other_kind(&self, name: &Sought, place: u8) -> bool
-        ensures { result ≡ has_other_kind name.now.kind (part_in (shown self.now) name.now place) }
+    pub(crate) fn has_other_kind(&self, name: &SoughtName, place: u8) -> bool
+        ensures { result ≡ has_other_kind name.now.kind (revision_part (state_view self.now) name.now place) }
     {
         match self.part_at(name, place) {
             Some(part) => !part.is_of_kind(name.kind),
@@ -121,8 +175,8 @@ impl PlainState {
         }
     }
 
-    pub(crate) fn has_any_other_kind(&self, name: &Sought) -> bool
-        ensures { result ≡ list_any (λ place. has_other_kind name.now.kind (part_in (shown self.now) name.now place)) places }
+    pub(crate) fn has_any_other_kind(&self, name: &SoughtName) -> bool
+        ensures { result ≡ list_any (λ place. has_other_kind name.now.kind (revision_part (state_view self.now) name.now place)) part_numbers }
     {
         self.has_other_kind(name, 1)
             || self.has_other_kind(name, 2)
@@ -134,65 +188,65 @@ impl PlainState {
             || self.has_other_kind(name, 8)
     }
 
-    fn counted(&self, name: &Sought, place: u8) -> u8
-        ensures value { result ≡ (if is_some (part_in (shown self.now) name.now place) then 1 else 0) }
+    fn part_count_at(&self, name: &SoughtName, place: u8) -> u8
+        ensures value { result ≡ (if is_some (revision_part (state_view self.now) name.now place) then 1 else 0) }
         ensures small { result ≤ 1 }
     {
         if self.has_part(name, place) { 1 } else { 0 }
     }
 
-    pub(crate) fn count_parts(&self, name: &Sought) -> u8
-        ensures value { result ≡ count_by (λ place. is_some (part_in (shown self.now) name.now place)) places }
+    pub(crate) fn count_parts(&self, name: &SoughtName) -> u8
+        ensures value { result ≡ count_by (λ place. is_some (revision_part (state_view self.now) name.now place)) part_numbers }
         ensures small { result ≤ 8 }
     {
-        self.counted(name, 1)
-            + self.counted(name, 2)
-            + self.counted(name, 3)
-            + self.counted(name, 4)
-            + self.counted(name, 5)
-            + self.counted(name, 6)
-            + self.counted(name, 7)
-            + self.counted(name, 8)
+        self.part_count_at(name, 1)
+            + self.part_count_at(name, 2)
+            + self.part_count_at(name, 3)
+            + self.part_count_at(name, 4)
+            + self.part_count_at(name, 5)
+            + self.part_count_at(name, 6)
+            + self.part_count_at(name, 7)
+            + self.part_count_at(name, 8)
     }
 
-    fn is_new(&self, name: &Sought) -> bool
-        ensures { result ≡ is_none (recorded (shown self.now) name.now) }
+    fn is_unrecorded_name(&self, name: &SoughtName) -> bool
+        ensures { result ≡ is_none (part_under_name (state_view self.now) name.now) }
     {
-        self.recorded(name).is_none()
+        self.part_under_name(name).is_none()
     }
 
-    pub(crate) fn is_unknown(&self, tld: &Tld) -> bool
-        ensures { result ≡ is_unknown (shown self.now) tld.now }
+    pub(crate) fn is_tld_unregistered(&self, tld: &Tld) -> bool
+        ensures { result ≡ is_tld_unregistered (state_view self.now) tld.now }
     {
         self.first_day(tld).is_none()
     }
 
-    pub(crate) fn is_unregistered(&self, name: &Sought) -> bool
-        ensures { result ≡ is_unregistered (shown self.now) name.now }
+    pub(crate) fn is_unregistered(&self, name: &SoughtName) -> bool
+        ensures { result ≡ is_unregistered (state_view self.now) name.now }
     {
-        self.is_unknown(&name.tld)
+        self.is_tld_unregistered(&name.tld)
     }
 
-    fn holds_other(&self, name: &Sought, bytes: &[u8]) -> bool
-        ensures { result ≡ holds_other bytes.now (recorded (shown self.now) name.now) }
+    fn has_other_bytes(&self, name: &SoughtName, bytes: &[u8]) -> bool
+        ensures { result ≡ has_other_bytes bytes.now (part_under_name (state_view self.now) name.now) }
     {
-        match self.recorded(name) {
+        match self.part_under_name(name) {
             Some(part) => part.content.is_held_with_other(bytes),
             None => false,
         }
     }
 
-    fn is_dropped(&self, name: &Sought) -> bool
-        ensures { result ≡ is_dropped (recorded (shown self.now) name.now) }
+    fn is_dropped(&self, name: &SoughtName) -> bool
+        ensures { result ≡ is_dropped (part_under_name (state_view self.now) name.now) }
     {
-        match self.recorded(name) {
+        match self.part_under_name(name) {
             Some(part) => part.content.is_dropped(),
             None => false,
         }
     }
 
-    pub(crate) fn is_beyond(&self, tld: &Tld, day: Day, now: Sec) -> bool
-        ensures { result ≡ is_beyond (shown self.now) tld.now day now }
+    pub(crate) fn is_day_outside(&self, tld: &Tld, day: Day, now: Sec) -> bool
+        ensures { result ≡ is_day_outside (state_view self.now) tld.now day now }
     {
         let too_early = match self.first_day(tld) {
             Some(first_day) => day.number() < first_day.number(),
@@ -201,53 +255,53 @@ impl PlainState {
         too_early || now.day().number() < day.number()
     }
 
-    pub(crate) fn is_outside(&self, name: &Sought, now: Sec) -> bool
-        ensures { result ≡ is_outside (shown self.now) name.now now }
+    pub(crate) fn is_outside(&self, name: &SoughtName, now: Sec) -> bool
+        ensures { result ≡ is_outside (state_view self.now) name.now now }
     {
-        self.is_beyond(&name.tld, name.day, now)
+        self.is_day_outside(&name.tld, name.day, now)
     }
 
-    fn is_out_of_range(&self, name: &Sought, now: Sec) -> bool
-        ensures { result ≡ is_out_of_range (shown self.now) name.now now }
+    fn is_out_of_range(&self, name: &SoughtName, now: Sec) -> bool
+        ensures { result ≡ is_out_of_range (state_view self.now) name.now now }
     {
-        self.is_new(name) && self.is_outside(name, now)
+        self.is_unrecorded_name(name) && self.is_outside(name, now)
     }
 
     // The day has a receipt, or the revision before has no failure.
-    fn is_early(&self, name: &Sought) -> bool
-        ensures { result ≡ (has_notice (shown self.now).notices name.now.tld name.now.day is_receipt || (nat_lt 0 name.now.rev && not (has_notice (shown self.now).notices name.now.tld name.now.day (is_failure_of (name.now.rev - 1))))) }
+    fn is_early(&self, name: &SoughtName) -> bool
+        ensures { result ≡ (has_notice (state_view self.now).notices name.now.tld name.now.day is_receipt || (nat_lt 0 name.now.rev && not (has_notice (state_view self.now).notices name.now.tld name.now.day (is_failure_of (name.now.rev - 1))))) }
     {
         self.notices.has_receipt(&name.tld, name.day)
             || name.rev > 0 && !self.notices.has_failure(&name.tld, name.day, name.rev - 1)
     }
 
-    fn is_not_due(&self, name: &Sought) -> bool
-        ensures { result ≡ is_not_due (shown self.now) name.now }
+    fn is_revision_not_due(&self, name: &SoughtName) -> bool
+        ensures { result ≡ is_revision_not_due (state_view self.now) name.now }
     {
-        self.is_new(name) && self.is_early(name)
+        self.is_unrecorded_name(name) && self.is_early(name)
     }
 
-    fn is_stated(&self, name: &Sought) -> bool
-        ensures { result ≡ is_stated (shown self.now) name.now }
+    fn is_stated(&self, name: &SoughtName) -> bool
+        ensures { result ≡ is_stated (state_view self.now) name.now }
     {
-        self.is_new(name) && self.notices.has_verdict(&name.tld, name.day, name.rev)
+        self.is_unrecorded_name(name) && self.notices.has_verdict(&name.tld, name.day, name.rev)
     }
 
-    fn differs_in_type(&self, name: &Sought) -> bool
-        ensures { result ≡ differs_in_kind (shown self.now) name.now }
+    fn differs_in_type(&self, name: &SoughtName) -> bool
+        ensures { result ≡ is_new_beside_other_kind (state_view self.now) name.now }
     {
-        self.is_new(name) && self.has_any_other_kind(name)
+        self.is_unrecorded_name(name) && self.has_any_other_kind(name)
     }
 
-    fn is_out_of_order(&self, name: &Sought) -> bool
-        ensures { result ≡ is_out_of_order (shown self.now) name.now }
+    fn is_out_of_order(&self, name: &SoughtName) -> bool
+        ensures { result ≡ is_out_of_order (state_view self.now) name.now }
     {
-        self.is_new(name) && self.count_parts(name) + 1 != name.part
+        self.is_unrecorded_name(name) && self.count_parts(name) + 1 != name.part
     }
 
     // The refusals of a part under a name, in their order.
-    fn refusal_of(&self, name: &Sought, bytes: &[u8], now: Sec) -> Option<Refusal>
-        ensures { result ≡ first_standing (receive_tests (shown self.now) name.now bytes.now now) }
+    fn refusal_of(&self, name: &SoughtName, bytes: &[u8], now: Sec) -> Option<Refusal>
+        ensures { result ≡ first_refusal (receive_tests (state_view self.now) name.now bytes.now now) }
     {
         if self.is_unregistered(name) {
             return Some(Refusal::RegistryUnknown);
@@ -258,13 +312,13 @@ impl PlainState {
         if is_out_of_size(bytes) {
             return Some(Refusal::Size);
         }
-        if self.holds_other(name, bytes) {
+        if self.has_other_bytes(name, bytes) {
             return Some(Refusal::OtherBytes);
         }
         if self.is_dropped(name) {
             return Some(Refusal::DroppedAfterKeeping);
         }
-        if self.is_not_due(name) {
+        if self.is_revision_not_due(name) {
             return Some(Refusal::RevisionNotDue);
         }
         if self.is_stated(name) {
@@ -280,26 +334,26 @@ impl PlainState {
     }
 
     fn find_refusal(&self, name: &DepositName, bytes: &[u8], now: Sec) -> Option<Refusal>
-        ensures { result ≡ first_standing (receive_tests (shown self.now) name.now bytes.now now) }
+        ensures { result ≡ first_refusal (receive_tests (state_view self.now) name.now bytes.now now) }
     {
-        self.refusal_of(&Sought::of(name), bytes, now)
+        self.refusal_of(&SoughtName::of(name), bytes, now)
     }
 
     fn find_recorded(&self, name: &DepositName) -> Option<&PlainPart>
-        ensures { option_map (λ p. part_shown p.now) result ≡ recorded (shown self.now) name.now }
+        ensures { option_map (λ p. part_view p.now) result ≡ part_under_name (state_view self.now) name.now }
     {
-        self.recorded(&Sought::of(name))
+        self.part_under_name(&SoughtName::of(name))
     }
 
     fn register(&mut self, tld: Tld, first_day: Day) -> Result<PlainAnswer, AllocError>
-        ensures step { (now : ℕ) → IfOk result (λ answer. IsOutcome answer (shown self.old) (shown self.new) (step (shown self.old) (Register tld first_day) now)) }
-        ensures err { OnErr result (shown self.new ≡ shown self.old) }
+        ensures step { (now : ℕ) → IfOk result (λ answer. IsPlainStep answer (state_view self.old) (state_view self.new) (step (state_view self.old) (Register tld first_day) now)) }
+        ensures err { OnErr result (state_view self.new ≡ state_view self.old) }
     {
         match self.first_day(&tld) {
-            Some(kept) => Ok(registered(tld, kept, true)),
+            Some(kept) => Ok(registry_answer(tld, kept, true)),
             None => {
                 self.registries.push(PlainRegistry { tld, first_day })?;
-                Ok(registered(tld, first_day, false))
+                Ok(registry_answer(tld, first_day, false))
             }
         }
     }
@@ -311,8 +365,8 @@ impl PlainState {
         bytes: &[u8],
         now: Sec,
     ) -> Result<PlainAnswer, AllocError>
-        ensures step { IfOk result (λ answer. IsOutcome answer (shown self.old) (shown self.new) (step (shown self.old) (Receive text.now bytes.now) now)) }
-        ensures err { OnErr result (shown self.new ≡ shown self.old) }
+        ensures step { IfOk result (λ answer. IsPlainStep answer (state_view self.old) (state_view self.new) (step (state_view self.old) (Receive text.now bytes.now) now)) }
+        ensures err { OnErr result (state_view self.new ≡ state_view self.old) }
     {
         match DepositName::parse(text) {
             Ok(name) => self.receive_part(alloc, &name, bytes, now),
@@ -328,13 +382,13 @@ impl PlainState {
         now: Sec,
     ) -> Result<PlainAnswer, AllocError>
         requires { (text : List ℕ) × (read_name text ≡ Ok name.now) }
-        ensures step { (text : List ℕ) → read_name text ≡ Ok name.now → IfOk result (λ answer. IsOutcome answer (shown self.old) (shown self.new) (step (shown self.old) (Receive text bytes.now) now)) }
-        ensures err { OnErr result (shown self.new ≡ shown self.old) }
+        ensures step { (text : List ℕ) → read_name text ≡ Ok name.now → IfOk result (λ answer. IsPlainStep answer (state_view self.old) (state_view self.new) (step (state_view self.old) (Receive text bytes.now) now)) }
+        ensures err { OnErr result (state_view self.new ≡ state_view self.old) }
     {
         match self.find_refusal(name, bytes, now) {
             Some(refusal) => Ok(PlainAnswer::Refused(refusal)),
             None => match self.find_recorded(name) {
-                Some(part) => Ok(received(name, part.received, bytes.len(), true)),
+                Some(part) => Ok(part_answer(name, part.received, bytes.len(), true)),
                 None => {
                     let copy = Vec::from_slice(alloc, bytes)?;
                     self.parts.push(PlainPart {
@@ -342,7 +396,7 @@ impl PlainState {
                         received: now,
                         content: PlainContent::Held(copy),
                     })?;
-                    Ok(received(name, now, bytes.len(), false))
+                    Ok(part_answer(name, now, bytes.len(), false))
                 }
             },
         }
@@ -356,8 +410,8 @@ pub fn step_plain(
     command: &Command<'_>,
     now: Sec,
 ) -> Result<PlainAnswer, AllocError>
-    ensures step { IfOk result (λ answer. IsOutcome answer (shown state.old) (shown state.new) (step (shown state.old) (command_of command.now) now)) }
-    ensures err { OnErr result (shown state.new ≡ shown state.old) }
+    ensures step { IfOk result (λ answer. IsPlainStep answer (state_view state.old) (state_view state.new) (step (state_view state.old) (command_of command.now) now)) }
+    ensures err { OnErr result (state_view state.new ≡ state_view state.old) }
 {
     match command {
         Command::Register(tld, first_day) => state.register(*tld, *first_day),
@@ -373,20 +427,20 @@ pub fn step_plain(
     }
 }
 
-fn registered(tld: Tld, first_day: Day, is_repeat: bool) -> PlainAnswer
-    ensures { result ≡ PlainAnswer.Registered tld first_day is_repeat }
+fn registry_answer(tld: Tld, first_day: Day, is_repeat: bool) -> PlainAnswer
+    ensures { result ≡ PlainAnswer.Registry tld first_day is_repeat }
 {
-    PlainAnswer::Registered {
+    PlainAnswer::Registry {
         tld,
         first_day,
         is_repeat,
     }
 }
 
-fn received(name: &DepositName, received: Sec, len: usize, is_repeat: bool) -> PlainAnswer
-    ensures { result ≡ PlainAnswer.Received name.now received len is_repeat }
+fn part_answer(name: &DepositName, received: Sec, len: usize, is_repeat: bool) -> PlainAnswer
+    ensures { result ≡ PlainAnswer.Part name.now received len is_repeat }
 {
-    PlainAnswer::Received {
+    PlainAnswer::Part {
         name: *name,
         received,
         len,

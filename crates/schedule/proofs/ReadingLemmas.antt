@@ -6,7 +6,7 @@ use Rattle.std.proofs.lemmas.Slice.Eq.{bytes_eq-Decides}
 use Rattle.std.specs.List.{list_all}
 use Rattle.std.specs.Str.{bytes_eq}
 use Rattle.schedule.specs.Calendar.{date_of, day_number}
-use Rattle.schedule.specs.Schedule.{IsDay}
+use Rattle.schedule.specs.Schedule.{IsDay, last_day}
 use Rattle.schedule.specs.Text.{digit, two_digits, four_digits, day_text, is_day_byte}
 use Rattle.schedule.specs.Reading.{pair_at, date_at, day_at}
 use Rattle.schedule.proofs.CalendarLemmas.{day_number-date_of}
@@ -51,7 +51,7 @@ pub day_at-day_text : (d : ℕ) → IsDay d → day_at (day_text d) ≡ Some d
 unfolding day_at
 day_at-day_text d h =
     let number : day_number (date_at (day_text d)) ≡ d = ap day_number (date_at-day_text d h) ∙ day_number-date_of d in
-    rw (number, le-leb d 2_932_531 h, (bytes_eq-Decides (day_text d) (day_text d)).1 refl) refl
+    rw (number, le-leb d last_day h, (bytes_eq-Decides (day_text d) (day_text d)).1 refl) refl
 
 guard_some : (b : Bool) (n d : ℕ) → cond b (Some n) None ≡ Some d → (b ≡ true) × (n ≡ d)
 guard_some true n d e = (refl, cc)
@@ -62,9 +62,9 @@ pub day_at-some : (t : List ℕ) (d : ℕ) → day_at t ≡ Some d → IsDay d �
 unfolding day_at
 day_at-some t d e =
     let n = day_number (date_at t) in
-    let found = guard_some (nat_le n 2_932_531 && bytes_eq t (day_text n)) n d e in
-    let tests = and_parts (nat_le n 2_932_531) (bytes_eq t (day_text n)) found.0 in
-    let within : n ≤ 2_932_531 = leb-true n 2_932_531 tests.0 in
+    let found = guard_some (nat_le n last_day && bytes_eq t (day_text n)) n d e in
+    let tests = and_parts (nat_le n last_day) (bytes_eq t (day_text n)) found.0 in
+    let within : n ≤ last_day = leb-true n last_day tests.0 in
     let same : t ≡ day_text n = (bytes_eq-Decides t (day_text n)).0 tests.1 in
     (rw found.1 at within, same ∙ ap day_text found.1)
 

@@ -5,8 +5,8 @@ use Rattle.vault_volume.specs.declared.file.FileError.{FileError}
 use Rattle.vault_volume.specs.declared.file.FileError.TheVariants.{Missing, Locked, WrongLength, Io}
 
 -- whether its blocks were made anew, all zero, when the file was opened
-abbrev pub is_made_anew : FileVolume → Bool
-is_made_anew volume = volume.is_new
+abbrev pub is_new_file : FileVolume → Bool
+is_new_file volume = volume.is_new
 
 -- a file is refused for its length only where that is no number of blocks
 abbrev pub IsRefusedRightly : FileError → Type 0

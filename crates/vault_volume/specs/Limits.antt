@@ -18,5 +18,5 @@ abbrev pub max_part_len : ℕ
 max_part_len = 1_048_576
 
 -- a block each, of the longest part
-abbrev pub most_extents : ℕ
-most_extents = 256
+abbrev pub max_extents : ℕ
+max_extents = 256

@@ -16,12 +16,12 @@ abbrev pub len_of : Opened → ℕ
 len_of opened = opened.len
 
 -- how many of them are written
-abbrev pub done_of : Opened → ℕ
-done_of opened = opened.done
+abbrev pub written_len : Opened → ℕ
+written_len opened = opened.done
 
 -- these bytes were pushed, in this order, and no others
-abbrev pub HasTaken : Opened → List ℕ → Type 0
-HasTaken opened sent = Holds256 opened.hasher sent × (length sent ≡ opened.done)
+abbrev pub HasPushed : Opened → List ℕ → Type 0
+HasPushed opened sent = Holds256 opened.hasher sent × (length sent ≡ opened.done)
 
 -- Its blocks are used in the vault, none of them twice, and are as many as its bytes take.
 pub record IsOpenIn {V : Type 0} {g : volume.Ghosts V} (vault : Vault V g) (opened : Opened) : Type 0 where

@@ -1,6 +1,6 @@
 //! A part of which the bytes are still coming.
 ghost use Rattle.std.specs.Prelude.{◌≡◌, ◌≤◌, length};
-ghost use Rattle.vault_volume.specs.Limits.{most_extents};
+ghost use Rattle.vault_volume.specs.Limits.{max_extents};
 
 use crate::Extent;
 use sha2::Sha256;
@@ -13,7 +13,7 @@ pub struct Opened {
     pub(crate) len: u32,
     pub(crate) done: u32,
     pub(crate) hasher: Sha256,
-    ghost few: { length extents.items ≤ most_extents },
+    ghost few: { length extents.items ≤ max_extents },
 }
 
 impl Opened {

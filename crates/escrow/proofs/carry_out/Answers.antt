@@ -8,7 +8,7 @@ returns-in_ok-made-in-Init-clause-done g c =
       c.in_ok-made-in-Init.made,
       record {
         size = c.in_ok-made-in-Init.ensures.size;
-        ends = c.begin.ensures;
+        ends = c.init_vault.ensures;
       },
     )
 
@@ -18,12 +18,12 @@ returns-in_ok-found-in-Serve-clause-done g c =
       c.in_ok-found-in-Serve.found,
       record {
         found = c.in_ok-found-in-Serve.ensures.found;
-        ends = c.listen.ensures;
+        ends = c.serve.ensures;
       },
     )
 
 pub returns-in_ok-bytes-in-Put-clause-done : goal.returns-in_ok-bytes-in-Put-clause-done
-returns-in_ok-bytes-in-Put-clause-done g c = IfOk-over _ _ _ (λ ended files works. search rules) c.work.ensures.done
+returns-in_ok-bytes-in-Put-clause-done g c = IfOk-over _ _ _ (λ ended files works. search rules) c.act_in_folder.ensures.done
 
 pub returns-in-Register-clause-done : goal.returns-in-Register-clause-done
-returns-in-Register-clause-done g c = IfOk-over _ _ _ (λ ended files works. search rules) c.work-in-Register.ensures.done
+returns-in-Register-clause-done g c = IfOk-over _ _ _ (λ ended files works. search rules) c.act_in_folder-in-Register.ensures.done

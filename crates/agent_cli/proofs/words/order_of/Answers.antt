@@ -2,7 +2,7 @@ use Rattle.std.proofs.Common.{◌∙◌, ◌≡◌, ap, subst, sym, [], IfSome, 
 use Rattle.std.specs.String.{string_bytes}
 use Rattle.clap.specs.Words.{App, HasKind, fault_of, found_of, is_simple, rows_of, subcommand_of}
 use Rattle.clap.specs.Faults.{is_simple_and_free}
-use Rattle.agent_cli.specs.Order.{Asks, NamedReading, named}
+use Rattle.agent_cli.specs.Order.{ReadsWords, SubcommandReading, subcommand_named}
 use Rattle.agent_cli.proofs.Readings.{answers_as, fault_answers, knows_subcommand, met_asks, met_rows}
 use Rattle.agent_cli.proofs.words.order_of.Goals as goal
 
@@ -21,9 +21,9 @@ returns c =
     let none = subst (λ (a : App). fault_of a words ≡ []) app (c.in-Ok.ensures.kinds (ap is_simple_and_free app)) in
     let met = met_rows c.in-Ok.matches c.in-Some.name.now rows c.in-Some.ensures.name c.in-Some.ensures.rows in
     let sub = (c.in-Ok.ensures.matches (ap is_simple app)).1 ∙ ap (λ (a : App). subcommand_of a words) app in
-    let known : Some c.in-Some-named.subcommand ≡ named c.in-Some.name.now = sym c.in-Some-named.is ∙ c.named.ensures in
-    answers_as (NamedReading (Some c.in-Some-named.subcommand) rows) (Asks words)
-    (λ r h. met_asks words c.in-Some.name.now rows none (sym sub ∙ met) r (subst (λ o. NamedReading o rows r) known h)) c.order_in.result c.order_in.ensures
+    let known : Some c.in-Some-named.subcommand ≡ subcommand_named c.in-Some.name.now = sym c.in-Some-named.is ∙ c.named.ensures in
+    answers_as (SubcommandReading (Some c.in-Some-named.subcommand) rows) (ReadsWords words)
+    (λ r h. met_asks words c.in-Some.name.now rows none (sym sub ∙ met) r (subst (λ o. SubcommandReading o rows r) known h)) c.order_in.result c.order_in.ensures
 
 pub unreachable-requires-in-None : goal.unreachable-requires-in-None
 unreachable-requires-in-None c =
@@ -32,6 +32,6 @@ unreachable-requires-in-None c =
     let none = subst (λ (a : App). fault_of a words ≡ []) app (c.in-Ok.ensures.kinds (ap is_simple_and_free app)) in
     let met = met_rows c.in-Ok.matches c.in-Some.name.now (rows_of (found_of c.in-Some.inner.now)) c.in-Some.ensures.name c.in-Some.ensures.rows in
     let sub = (c.in-Ok.ensures.matches (ap is_simple app)).1 ∙ ap (λ (a : App). subcommand_of a words) app in
-    let known : is_some (named c.in-Some.name.now) ≡ true = subst (λ o. IfSome o (λ p. is_some (named p.0) ≡ true)) (sym sub ∙ met) (knows_subcommand words none) in
+    let known : is_some (subcommand_named c.in-Some.name.now) ≡ true = subst (λ o. IfSome o (λ p. is_some (subcommand_named p.0) ≡ true)) (sym sub ∙ met) (knows_subcommand words none) in
     let clash : true ≡ false = sym known ∙ ap is_some (sym c.named.ensures ∙ c.in-None.is) in
     cc

@@ -1,6 +1,6 @@
 use Rattle.std.proofs.Common.{arith}
 use Rattle.std.proofs.KnownBytes.{Appends-nil}
-use Rattle.custody_records.specs.Typed.{notice_key, notice_value}
+use Rattle.custody_records.specs.TypedRecords.{notice_key, notice_value}
 use Rattle.answer_lines.specs.State.{notice_line}
 use Rattle.answer_lines.proofs.Beginnings.{whole_begins}
 use Rattle.answer_lines.proofs.PrintLemmas.{are_lines, rows_all, rows_begin, rows_more}

@@ -3,8 +3,8 @@ use Rattle.std.proofs.KnownBytes.{Appends-nil}
 use Rattle.std.specs.Io.KnownBytes.{Appends}
 use Rattle.std.specs.List.{flat_map}
 use Rattle.desk.specs.Lines.{AppendsBeginning}
-use Rattle.custody_records.specs.Held.{records_of}
-use Rattle.custody_records.specs.Typed.{registry_key, registry_value}
+use Rattle.custody_records.specs.MemoryRecords.{records_of}
+use Rattle.custody_records.specs.TypedRecords.{registry_key, registry_value}
 use Rattle.answer_lines.specs.State.{lines_text, registry_lines}
 use Rattle.answer_lines.proofs.Beginnings.{whole_begins}
 use Rattle.answer_lines.proofs.PrintLemmas.{are_texts, rows_all, rows_begin, rows_more}

@@ -1,11 +1,11 @@
 use Rattle.std.proofs.Common.{◌++◌, List, map, subst}
 use Rattle.std.specs.Io.KnownBytes.{Appends}
 use Rattle.desk.specs.Lines.{AppendsBeginning}
-use Rattle.custody_records.specs.Held.{records_of}
+use Rattle.custody_records.specs.MemoryRecords.{records_of}
 use Rattle.custody_records.specs.Keys.{NoticeKey, PartKey}
 use Rattle.custody_records.specs.Records.{Notice, PartRecord, notices_of, parts_of}
 use Rattle.answer_lines.specs.Lines.{line_text}
-use Rattle.answer_lines.specs.Printed.{as_line}
+use Rattle.answer_lines.specs.Printing.{as_line}
 use Rattle.answer_lines.specs.State.{lines_text, notice_line, part_line}
 use Rattle.answer_lines.specs.declared.lines.Line.TheVariants as line
 use Rattle.answer_lines.proofs.Beginnings.{begins_first}

@@ -2,11 +2,11 @@ use Rattle.std.proofs.Common.{ℕ, List, arith, map, subst}
 use Rattle.std.proofs.KnownBytes.{Appends-nil}
 use Rattle.std.specs.Io.KnownBytes.{Appends}
 use Rattle.desk.specs.Lines.{AppendsBeginning}
-use Rattle.custody_records.specs.Held.{records_of}
+use Rattle.custody_records.specs.MemoryRecords.{records_of}
 use Rattle.custody_records.specs.Records.{Release}
-use Rattle.custody_records.specs.Typed.{release_key, release_value}
+use Rattle.custody_records.specs.TypedRecords.{release_key, release_value}
 use Rattle.answer_lines.specs.Lines.{line_text}
-use Rattle.answer_lines.specs.Printed.{as_line}
+use Rattle.answer_lines.specs.Printing.{as_line}
 use Rattle.answer_lines.specs.declared.lines.Line.{Line}
 use Rattle.answer_lines.specs.State.{release_line, lines_text}
 use Rattle.answer_lines.proofs.Beginnings.{whole_begins}

@@ -1,7 +1,7 @@
 use Rattle.std.proofs.Common.{map}
 use Rattle.std.proofs.KnownBytes.{Appends-kept}
 use Rattle.std.specs.FinMap.{entries}
-use Rattle.custody_records.specs.Held.{records_of}
+use Rattle.custody_records.specs.MemoryRecords.{records_of}
 use Rattle.answer_lines.specs.Lines.{room_text}
 use Rattle.answer_lines.specs.State.{hold_line, lines_text, registries_text, release_line}
 use Rattle.answer_lines.proofs.Beginnings.{kept_begins}

@@ -2,10 +2,10 @@ use Rattle.std.proofs.Common.{◌≡◌, ◌+◌, ℕ, List, Vec, Global, sym, �
 use Rattle.std.proofs.lemmas.List.{take_all}
 use Rattle.deposit_name.specs.Name.{Name}
 use Rattle.vault_volume.specs.Vault.{volume_of}
-use Rattle.custody_records.specs.Held.{records_of}
+use Rattle.custody_records.specs.MemoryRecords.{records_of}
 use Rattle.custody_rules.specs.Blocks.{IsInRange}
 use Rattle.custody_rules.proofs.PartBlocks.{in_range_rows}
-use Rattle.custody.specs.Audited.{has_digest}
+use Rattle.custody.specs.Auditing.{has_digest}
 use Rattle.custody.proofs.AuditLemmas.{IsPicked, IsPicking, IsPassing, passed_on, picked_on, are_held, are_damaged}
 use Rattle.custody.proofs.RevisionLemmas.{read_again}
 use Rattle.custody.proofs.auditing.audit_parts.Goals as goal

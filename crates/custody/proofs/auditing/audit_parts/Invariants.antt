@@ -1,6 +1,6 @@
 use Rattle.std.proofs.Common.{◌≡◌, take}
 use Rattle.vault_volume.specs.Vault.{volume_of}
-use Rattle.custody.specs.Reading.{IsOnlyRead}
+use Rattle.custody.specs.Reading.{ReadsVault}
 use Rattle.custody.proofs.AuditLemmas.{IsPicked, IsPicking, IsPassing}
 use Rattle.custody.proofs.auditing.audit_parts.Given as goal
 
@@ -8,7 +8,7 @@ abbrev pub invariant-loop-part : goal.invariant-loop-part
 invariant-loop-part g l =
     let image = g.V.Volume.image (volume_of l.fn.vault) in
     record {
-      read : IsOnlyRead l.fn.vault l.vault;
+      read : ReadsVault l.fn.vault l.vault;
       failures : g.V.Volume.failures (volume_of l.vault) ≡ g.V.Volume.failures (volume_of l.fn.vault);
       picked : IsPicked (IsPicking g.V.Volume.tells image) (IsPassing g.V.Volume.tells image) (take l.part-index l.part-items) l.damaged.items;
     }

@@ -3,9 +3,9 @@ use Rattle.std.specs.Prelude.{IfNone}
 use Rattle.sha2.specs.Sha256.{sha256}
 use Rattle.vault_volume.specs.Extents.{part_bytes}
 use Rattle.vault_volume.specs.Vault.{volume_of}
-use Rattle.custody_records.specs.Held.{records_of}
+use Rattle.custody_records.specs.MemoryRecords.{records_of}
 use Rattle.custody_records.specs.Records.{key_of}
-use Rattle.custody_records.specs.Typed.{part_value}
+use Rattle.custody_records.specs.TypedRecords.{part_value}
 use Rattle.custody.proofs.FetchLemmas.{stands_at}
 use Rattle.custody.proofs.RevisionLemmas.{in_range, held_broken}
 use Rattle.custody.proofs.fetching.fetch_part.Goals as goal

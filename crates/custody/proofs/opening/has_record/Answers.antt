@@ -1,7 +1,7 @@
 use Rattle.std.proofs.Common.{◌∙◌}
-use Rattle.custody_store.specs.Standing.{standing}
+use Rattle.custody_store.specs.StoreState.{store_state}
 use Rattle.custody.proofs.FirstDamage.{is_there}
 use Rattle.custody.proofs.opening.has_record.Goals as goal
 
 pub returns-in-Ok-clause-found : goal.returns-in-Ok-clause-found
-returns-in-Ok-clause-found g c honest either = c.is_some.ensures ∙ is_there (standing g.S.Store c.args.db.now).rows _ (c.in-Ok.ensures.found honest either)
+returns-in-Ok-clause-found g c honest either = c.is_some.ensures ∙ is_there (store_state g.S.Store c.args.db.now).rows _ (c.in-Ok.ensures.found honest either)

@@ -1,6 +1,6 @@
 use Rattle.std.proofs.Common.{◌≡◌, subst}
-use Rattle.custody_records.specs.Held.{records_of}
-use Rattle.custody_store.specs.Standing.{standing}
+use Rattle.custody_records.specs.MemoryRecords.{records_of}
+use Rattle.custody_store.specs.StoreState.{store_state}
 use Rattle.custody_rules.specs.Breaks.{BreaksFirst}
 use Rattle.custody.proofs.Opened.{some_is}
 use Rattle.custody.proofs.FirstDamage.{broken_rows}
@@ -11,4 +11,4 @@ returns-in-Ok-Some-clause-rows g c honest ready damage same =
     let records = records_of c.in-Ok.records in
     let is : c.in-Ok-Some.damage ≡ damage = cc in
     let breaks = some_is (λ damage. BreaksFirst damage records) _ _ c.in-Ok-Some.field-0-is c.in-Ok-Some.ensures.some in
-    broken_rows records (standing g.S.Store c.args.store.now).rows (c.in-Ok.ensures.found honest ready) damage (subst (λ damage. BreaksFirst damage records) is breaks)
+    broken_rows records (store_state g.S.Store c.args.store.now).rows (c.in-Ok.ensures.found honest ready) damage (subst (λ damage. BreaksFirst damage records) is breaks)

@@ -4,9 +4,9 @@ use Rattle.extent_map.specs.declared.extent.Extent.{Extent}
 use Rattle.sha2.specs.Sha256.{sha256}
 use Rattle.vault_volume.specs.Extents.{part_bytes}
 use Rattle.vault_volume.specs.Vault.{volume_of}
-use Rattle.custody_records.specs.Held.{records_of}
-use Rattle.custody_records.specs.Typed.{part_value}
-use Rattle.custody_machine.specs.Stored.{HasDigestAt}
+use Rattle.custody_records.specs.MemoryRecords.{records_of}
+use Rattle.custody_records.specs.TypedRecords.{part_value}
+use Rattle.custody_machine.specs.StoredState.{HasDigestAt}
 use Rattle.custody.proofs.RevisionLemmas.{in_range, if_ok_then, held_broken}
 use Rattle.custody.proofs.reading.append_part.Goals as goal
 

@@ -1,6 +1,6 @@
 use Rattle.std.proofs.Common.{◌≤◌, refl, ◌∙◌, arith}
 use Rattle.vault_volume.specs.Vault.{volume_of}
-use Rattle.custody_records.specs.Held.{records_of}
+use Rattle.custody_records.specs.MemoryRecords.{records_of}
 use Rattle.custody.proofs.RevisionLemmas.{not_read, read_again, bytes_more, sound_more, broken_at, whole_read}
 use Rattle.custody.proofs.reading.read_revision.Goals as goal
 

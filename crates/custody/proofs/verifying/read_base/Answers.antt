@@ -1,9 +1,9 @@
 use Rattle.std.proofs.Common.{sym, ◌∙◌, subst, arith}
 use Rattle.vault_volume.specs.Vault.{volume_of}
-use Rattle.custody_records.specs.Held.{records_of}
-use Rattle.custody.specs.Verified.{HaveDigests, chain_keys}
+use Rattle.custody_records.specs.MemoryRecords.{records_of}
+use Rattle.custody.specs.inside.Verifying.{HaveDigests, chain_keys}
 use Rattle.custody.proofs.ChainLemmas.{base_more, sound_more, none_base, base_whole, sound_whole, broken_first, broken_later}
-use Rattle.custody.proofs.KeeperLemmas.{err_is}
+use Rattle.custody.proofs.OpenCustodyLemmas.{err_is}
 use Rattle.custody.proofs.RevisionLemmas.{read_again}
 use Rattle.custody.proofs.verifying.read_base.Goals as goal
 

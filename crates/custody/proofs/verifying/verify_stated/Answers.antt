@@ -1,10 +1,10 @@
 use Rattle.std.proofs.Common.{sym, ◌∙◌, subst}
 use Rattle.vault_volume.specs.Vault.{volume_of}
-use Rattle.custody_records.specs.Held.{records_of}
-use Rattle.deposit_verify.specs.Known.{known}
-use Rattle.custody.specs.Verified.{IsVerified}
+use Rattle.custody_records.specs.MemoryRecords.{records_of}
+use Rattle.deposit_verify.specs.Known.{known_in}
+use Rattle.custody.specs.inside.Verifying.{IsVerified}
 use Rattle.custody.proofs.ChainLemmas.{broken_chain, broken_stated, sound_both, verdict_is}
-use Rattle.custody.proofs.KeeperLemmas.{err_is}
+use Rattle.custody.proofs.OpenCustodyLemmas.{err_is}
 use Rattle.custody.proofs.verifying.verify_stated.Goals as goal
 
 pub returns-in_err-base-clause-verified : goal.returns-in_err-base-clause-verified
@@ -27,7 +27,7 @@ returns-clause-verified g c = λ tells.
     let records = records_of c.args.records.now in
     let stated = c.args.statement.now in
     let same = c.in_ok-base.ensures.read.image tells in (
-      verdict_is records image stated _ same c.first_part-name.result c.first_part-name.ensures c.in-Ok-verify.verdict c.deref.result.now (known c.in-Ok.about) c.in_ok-base.base
+      verdict_is records image stated _ same c.first_part-name.result c.first_part-name.ensures c.in-Ok-verify.verdict c.deref.result.now (known_in c.in-Ok.about) c.in_ok-base.base
           c.in-Ok-verify.ensures.computed (c.deref.ensures.value ∙ c.in_ok-joined.ensures.bytes tells) (c.in-Ok.ensures image) (c.in_ok-base.ensures.base tells),
       sound_both records image stated _ same c.first_part-name.result c.first_part-name.ensures (c.in_ok-base.ensures.digests tells) (c.in_ok-joined.ensures.digests tells),
     )

@@ -1,5 +1,5 @@
 use Rattle.std.proofs.Common.{◌≡◌, ◌*◌, take}
-use Rattle.custody_records.specs.Written.{blob_of}
+use Rattle.custody_records.specs.RowsOfRecords.{blob_of}
 use Rattle.custody_records.proofs.extents.write_blob.Given as goal
 
 abbrev pub invariant-loop-extent : goal.invariant-loop-extent

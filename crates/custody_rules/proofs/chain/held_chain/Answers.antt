@@ -1,8 +1,8 @@
 use Rattle.std.proofs.Common.{◌∙◌, [], sym, ap, cond}
 use Rattle.std.specs.List.{list_any}
-use Rattle.custody_records.specs.Held.{records_of}
+use Rattle.custody_records.specs.MemoryRecords.{records_of}
 use Rattle.custody_machine.specs.Machine.{has_dropped_part}
-use Rattle.custody_machine.specs.Stored.{state_in}
+use Rattle.custody_machine.specs.StoredState.{state_in}
 use Rattle.custody_rules.proofs.Chains.{chain_is}
 use Rattle.custody_rules.proofs.chain.held_chain.Goals as goal
 

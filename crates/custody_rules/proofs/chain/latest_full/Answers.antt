@@ -5,8 +5,7 @@ use Rattle.std.proofs.lemmas.List.{map-id}
 use Rattle.std.proofs.lemmas.Iterator.{YieldsList-from_slice, items_from_drains}
 use Rattle.std.proofs.lemmas.Iterator.Consumers.{YieldsList-at, YieldsList-from_copied, YieldsList-from_filter}
 use Rattle.deposit_name.specs.declared.kinds.Kind.TheVariants.{Full}
-use Rattle.deposit_name.specs.Name.{Name}
-use Rattle.custody_machine.specs.SameValues.{is_same_kind}
+use Rattle.deposit_name.specs.Name.{Name, is_same_kind}
 use Rattle.custody_rules.proofs.chain.latest_full.Goals as goal
 
 pub returns : goal.returns

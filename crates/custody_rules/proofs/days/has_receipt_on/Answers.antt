@@ -1,8 +1,8 @@
 use Rattle.std.proofs.Common.{◌∙◌, rules, tests}
 use Rattle.std.proofs.lemmas.Iterator.{YieldsList-from_slice}
 use Rattle.std.proofs.lemmas.Iterator.Search.{any_from_yields_List}
-use Rattle.custody_records.specs.Held.{records_of}
-use Rattle.custody_records.specs.Typed.{notice_entry}
+use Rattle.custody_records.specs.MemoryRecords.{records_of}
+use Rattle.custody_records.specs.TypedRecords.{notice_entry}
 use Rattle.custody_machine.specs.State.{is_notice_of}
 use Rattle.custody_machine.specs.Machine.{is_receipt_of}
 use Rattle.custody_rules.proofs.Notices.{some_notice}

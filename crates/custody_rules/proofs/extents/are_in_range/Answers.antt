@@ -1,7 +1,7 @@
 use Rattle.std.proofs.Common.{sym, subst}
 use Rattle.std.specs.Prelude.{All}
 use Rattle.std.proofs.lemmas.Bool.{iff_false}
-use Rattle.custody_records.specs.Held.{records_of}
+use Rattle.custody_records.specs.MemoryRecords.{records_of}
 use Rattle.custody_rules.specs.Blocks.{IsInRange}
 use Rattle.custody_rules.proofs.PartBlocks.{in_range_rows, rows_in_range}
 use Rattle.custody_rules.proofs.extents.are_in_range.Goals as goal

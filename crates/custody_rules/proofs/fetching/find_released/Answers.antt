@@ -1,8 +1,8 @@
 use Rattle.std.proofs.Common.{◌∙◌, sym, ap, Some, Vec, Global}
 use Rattle.std.specs.Prelude.{option_map}
 use Rattle.extent_map.specs.declared.extent.Extent.{Extent}
-use Rattle.custody_records.specs.Held.{records_of}
-use Rattle.custody_records.specs.Typed.{part_value, release_value}
+use Rattle.custody_records.specs.MemoryRecords.{records_of}
+use Rattle.custody_records.specs.TypedRecords.{part_value, release_value}
 use Rattle.custody_rules.proofs.Fetched.{has_name_is, released_as, lacking, dropped, hands_over}
 use Rattle.custody_rules.proofs.fetching.find_released.Goals as goal
 

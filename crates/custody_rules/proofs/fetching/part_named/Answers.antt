@@ -1,9 +1,9 @@
 use Rattle.std.proofs.Common.{◌≡◌, ◌∙◌, sym, ap, Ok, Err, Some, None}
-use Rattle.custody_records.specs.Held.{records_of}
-use Rattle.custody_machine.specs.Names.{read_name}
+use Rattle.custody_records.specs.MemoryRecords.{records_of}
+use Rattle.custody_machine.specs.NameReading.{read_name}
 use Rattle.custody_machine.proofs.Accepting.{read_of}
 use Rattle.custody_machine.proofs.NameReading.{is_reading}
-use Rattle.custody_rules.specs.Judged.{recorded_under}
+use Rattle.custody_rules.specs.Judging.{part_under}
 use Rattle.custody_rules.proofs.fetching.part_named.Goals as goal
 
 pub unreachable-requires : goal.unreachable-requires
@@ -12,8 +12,8 @@ unreachable-requires c =
     let read : read_name c.args.text.now ≡ Ok c.in-Ok.name = read_of c.args.text.now c.in-Ok.name c.in-Ok.ensures.name in
     let known : read_name c.args.text.now ≡ Ok named.name = named.named in
     let same : named.name ≡ c.in-Ok.name = cc in
-    let there : recorded_under (records_of c.args.records.now) c.in-Ok.name ≡ Some c.requires.0 = ap (recorded_under (records_of c.args.records.now)) (sym same) ∙ named.recorded in
-    let none : recorded_under (records_of c.args.records.now) c.in-Ok.name ≡ None = sym c.in-None.ensures.found in
+    let there : part_under (records_of c.args.records.now) c.in-Ok.name ≡ Some c.requires.0 = ap (part_under (records_of c.args.records.now)) (sym same) ∙ named.recorded in
+    let none : part_under (records_of c.args.records.now) c.in-Ok.name ≡ None = sym c.in-None.ensures.found in
     cc
 
 pub unreachable-requires-in-Err : goal.unreachable-requires-in-Err

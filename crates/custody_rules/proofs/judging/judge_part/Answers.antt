@@ -1,4 +1,4 @@
-use Rattle.custody_records.specs.Held.{records_of}
+use Rattle.custody_records.specs.MemoryRecords.{records_of}
 use Rattle.custody_machine.proofs.Accepting.{read_of}
 use Rattle.custody_rules.proofs.Judged.{refuses_text}
 use Rattle.custody_rules.proofs.judging.judge_part.Goals as goal

@@ -1,5 +1,5 @@
 use Rattle.std.proofs.Common.{sym}
-use Rattle.custody_records.specs.Held.{records_of}
+use Rattle.custody_records.specs.MemoryRecords.{records_of}
 use Rattle.custody_rules.proofs.Judged.{registry_repeats, registry_is_new}
 use Rattle.custody_rules.proofs.judging.judge_registry.Goals as goal
 

@@ -1,5 +1,5 @@
 use Rattle.std.proofs.Common.{◌∙◌}
-use Rattle.custody_records.specs.Held.{records_of}
+use Rattle.custody_records.specs.MemoryRecords.{records_of}
 use Rattle.custody_rules.proofs.DueBlocks.{count_rows}
 use Rattle.custody_rules.proofs.purging.count_due.Goals as goal
 

@@ -2,9 +2,9 @@ use Rattle.std.proofs.Common.{◌≡◌, List, Result, Ok, Err, Vec, Global, sym
 use Rattle.std.specs.Prelude.{All, IfOk}
 use Rattle.vault_volume.specs.Extents.{IsExtentOf, IsInAny, AreApart}
 use Rattle.extent_map.specs.declared.extent.Extent.{Extent}
-use Rattle.custody_records.specs.Held.{records_of}
+use Rattle.custody_records.specs.MemoryRecords.{records_of}
 use Rattle.custody_machine.specs.Purge.{IsDueBlock}
-use Rattle.custody_rules.specs.Blocks.{all_due}
+use Rattle.custody_rules.specs.Blocks.{due_extents}
 use Rattle.custody_rules.proofs.PartBlocks.{in_range_rows, once_rows}
 use Rattle.custody_rules.proofs.DueBlocks.{apart_due, each_due, due_rows, rows_due}
 use Rattle.custody_rules.proofs.purging.due_extents.Goals as goal
@@ -18,19 +18,19 @@ pub returns-clause-exact : goal.returns-clause-exact
 returns-clause-exact c =
     let records = records_of c.args.records.now in
     let rows = c.parts.result.now in
-    of_rows c.extents_of_due.result (all_due records.holds c.args.today rows) (λ es. (b : _) → (IsInAny es b → IsDueBlock c.args.today records b) × (IsDueBlock c.args.today records b → IsInAny es b)) c.extents_of_due.ensures
+    of_rows c.extents_of_due.result (due_extents records.holds c.args.today rows) (λ es. (b : _) → (IsInAny es b → IsDueBlock c.args.today records b) × (IsDueBlock c.args.today records b → IsInAny es b)) c.extents_of_due.ensures
     (λ b. (due_rows c.args.today records rows c.parts.ensures.all c.parts.ensures.rising b, rows_due c.args.today records rows c.parts.ensures.all c.parts.ensures.rising b))
 
 pub returns-clause-in_range : goal.returns-clause-in_range
 returns-clause-in_range c =
     let records = records_of c.args.records.now in
     let rows = c.parts.result.now in
-    of_rows c.extents_of_due.result (all_due records.holds c.args.today rows) (All (IsExtentOf records.blocks)) c.extents_of_due.ensures
+    of_rows c.extents_of_due.result (due_extents records.holds c.args.today rows) (All (IsExtentOf records.blocks)) c.extents_of_due.ensures
     (each_due records.holds c.args.today records.blocks rows (in_range_rows records rows c.parts.ensures.all c.parts.ensures.rising c.requires.range))
 
 pub returns-clause-apart : goal.returns-clause-apart
 returns-clause-apart c =
     let records = records_of c.args.records.now in
     let rows = c.parts.result.now in
-    of_rows c.extents_of_due.result (all_due records.holds c.args.today rows) AreApart c.extents_of_due.ensures
+    of_rows c.extents_of_due.result (due_extents records.holds c.args.today rows) AreApart c.extents_of_due.ensures
     (apart_due records.holds c.args.today rows (once_rows records rows c.parts.ensures.all c.parts.ensures.rising c.requires.once))

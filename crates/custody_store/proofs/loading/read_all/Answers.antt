@@ -1,6 +1,6 @@
 use Rattle.std.proofs.Common.{◌≡◌, ap, ◌∙◌}
 use Rattle.custody_records.specs.Records.{Records}
-use Rattle.custody_records.specs.declared.damage.Damage.TheVariants as damage
+use Rattle.custody_records.specs.declared.damage.RowDamage.TheVariants as damage
 use Rattle.custody_records.specs.Form.{in_form_or, OutOfForm}
 use Rattle.custody_store.proofs.loading.read_all.Goals as goal
 

@@ -1,7 +1,7 @@
 use Rattle.std.proofs.Common.{◌≡◌, ◌<◌, ◌≤◌, true, map, length, sym, ap, ◌∙◌, arith, rules}
 use Rattle.std.specs.Prelude.{not, is_some}
 use Rattle.std.proofs.lemmas.List.{length-map}
-use Rattle.custody_records.specs.declared.damage.Damage.TheVariants as damage
+use Rattle.custody_records.specs.declared.damage.RowDamage.TheVariants as damage
 use Rattle.custody_records.specs.Form.{is_schema, has_holds, records_in, in_form_or, OutOfForm}
 use Rattle.custody_store.specs.Reading.{answered_meta}
 use Rattle.custody_store.proofs.FormLemmas.{many, mismatch, volume}

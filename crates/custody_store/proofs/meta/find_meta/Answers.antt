@@ -1,7 +1,7 @@
 use Rattle.std.proofs.Common.{inl, inr, sym, ap, rules, option_map}
 use Rattle.sqlite.specs.Held.{state}
 use Rattle.custody_records.specs.Rows.{first_meta}
-use Rattle.custody_records.specs.Typed.{meta_of}
+use Rattle.custody_records.specs.TypedRecords.{meta_of}
 use Rattle.custody_store.proofs.BareLemmas.{rows_bare}
 use Rattle.custody_store.proofs.ReadLemmas.{reads_none, meta_there}
 use Rattle.custody_store.proofs.meta.find_meta.Goals as goal

@@ -2,7 +2,7 @@ use Rattle.std.proofs.Common.{[], ◌∷◌, refl, arith}
 use Rattle.sqlite.specs.State.{HasCleanDisk}
 use Rattle.sqlite.specs.Held.{state}
 use Rattle.custody_store.proofs.TogetherLemmas.{run_then, still_inside}
-use Rattle.custody_store.specs.Statements.{hold_text, set_schema_text}
+use Rattle.custody_store.specs.Statements.{create_hold_text, set_schema_text}
 use Rattle.custody_store.proofs.MigrationLemmas.{without_holds, before_holds, sets_schema}
 use Rattle.custody_store.proofs.migrating.add_holds.Goals as goal
 
@@ -20,5 +20,5 @@ returns-clause-runs g c clean inside =
     let mid = c.make_holds.new.tx.conn.now in
     let clean1 : HasCleanDisk (state g.S.Store mid) = omega (arith, clean, c.execute.ensures.survives.clean) in
     let one = c.in_ok-make_holds.ensures.runs clean1 inside in
-    let two = c.in_ok-execute.ensures.runs clean (still_inside g.S.Store ((hold_text, []) ∷ []) old mid inside one) in
-    run_then g.S.Store ((hold_text, []) ∷ []) ((set_schema_text, []) ∷ []) old mid c.execute.new.self.conn.now one (_, _, two, refl)
+    let two = c.in_ok-execute.ensures.runs clean (still_inside g.S.Store ((create_hold_text, []) ∷ []) old mid inside one) in
+    run_then g.S.Store ((create_hold_text, []) ∷ []) ((set_schema_text, []) ∷ []) old mid c.execute.new.self.conn.now one (_, _, two, refl)

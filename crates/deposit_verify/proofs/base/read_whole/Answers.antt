@@ -1,7 +1,7 @@
 use Rattle.std.proofs.Common.{◌≡◌, None, Some, subst, sym}
-use Rattle.envelope.specs.Envelope.{env_text, view}
+use Rattle.envelope.specs.Envelope.{env_text, env_of}
 use Rattle.deposit_verify.specs.Checks.{HasMenu}
-use Rattle.deposit_verify.specs.Tables.{AreReadFrom, Unread}
+use Rattle.deposit_verify.specs.Tables.{AreReadFrom, IsUnread}
 use Rattle.deposit_verify.proofs.BaseLemmas.{is_read, one_envelope, reading_from, reading_is, reading_none}
 use Rattle.deposit_verify.proofs.Judged.{unread_not}
 use Rattle.deposit_verify.proofs.Lifted.{OneReading, deposit_of}
@@ -19,7 +19,7 @@ returns-in-Err-Spelling-clause-value c = sym (reading_none c.law_readers.ensures
 
 pub returns-then-not-has_menu-clause-value : goal.returns-then-not-has_menu-clause-value
 returns-then-not-has_menu-clause-value c = sym (reading_none c.law_readers.ensures c.args.joined.now (λ r h.
-    let v = view c.in-Ok-read_envelope.envelope in
+    let v = env_of c.in-Ok-read_envelope.envelope in
     let one : OneReading = record { envelope = c.law_one_reading.ensures.envelope; frame = c.law_one_reading.ensures.frame } in
     let found = c.in-Ok-read_envelope.ensures.found in
     let deposit = deposit_of c.args.joined.now _ c.in-Ok.frame.rest.now v c.in-Ok.ensures.frame found.0 found.1 in
@@ -28,7 +28,7 @@ returns-then-not-has_menu-clause-value c = sym (reading_none c.law_readers.ensur
 
 pub returns-in-Ok-2-clause-value : goal.returns-in-Ok-2-clause-value
 returns-in-Ok-2-clause-value c =
-    let v = view c.in-Ok-read_envelope.envelope in
+    let v = env_of c.in-Ok-read_envelope.envelope in
     let found = c.in-Ok-read_envelope.ensures.found in
     let deposit = deposit_of c.args.joined.now _ c.in-Ok.frame.rest.now v c.in-Ok.ensures.frame found.0 found.1 in
     let from : AreReadFrom v c.in-Ok.frame.rest.now c.in-Ok-2.files.tables.items c.in-Ok-2.files.deleted.items = rw c.in-Ok-2.is at c.in_ok-files.ensures in
@@ -37,19 +37,19 @@ returns-in-Ok-2-clause-value c =
 
 pub returns-in-Ok-2-clause-countable : goal.returns-in-Ok-2-clause-countable
 returns-in-Ok-2-clause-countable c =
-    let v = view c.in-Ok-read_envelope.envelope in
+    let v = env_of c.in-Ok-read_envelope.envelope in
     let from : AreReadFrom v c.in-Ok.frame.rest.now c.in-Ok-2.files.tables.items c.in-Ok-2.files.deleted.items = rw c.in-Ok-2.is at c.in_ok-files.ensures in
     countable c.law_table_reader.ensures v c.in-Ok.frame.rest.now _ _ from
 
 pub returns-in-Err-clause-value : goal.returns-in-Err-clause-value
 returns-in-Err-clause-value c = sym (reading_none c.law_readers.ensures c.args.joined.now (λ r h.
-    let v = view c.in-Ok-read_envelope.envelope in
+    let v = env_of c.in-Ok-read_envelope.envelope in
     let rest = c.in-Ok.frame.rest.now in
     let one : OneReading = record { envelope = c.law_one_reading.ensures.envelope; frame = c.law_one_reading.ensures.frame } in
     let found = c.in-Ok-read_envelope.ensures.found in
     let deposit = deposit_of c.args.joined.now _ rest v c.in-Ok.ensures.frame found.0 found.1 in
     let same = one_envelope one c.args.joined.now r.envelope v h.rest rest h.deposit deposit in
-    let unread : Unread v rest c.in-Err.field-0 = rw c.in-Err.is at c.in_ok-files.ensures in
+    let unread : IsUnread v rest c.in-Err.field-0 = rw c.in-Err.is at c.in_ok-files.ensures in
     let moved = rw (same.0, same.1) at unread in
     let read = is_read c.law_table_reader.ensures c.args.joined.now r h in
     unread_not r.envelope h.rest c.in-Err.field-0 moved read.tables read.deletes))

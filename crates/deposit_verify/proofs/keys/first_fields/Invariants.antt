@@ -1,7 +1,7 @@
 use Rattle.std.proofs.Common.{◌≡◌, take}
-use Rattle.deposit_verify.specs.Index.{texts_of}
+use Rattle.dnrd_csv.specs.inside.RowKeys.{borrowed_texts}
 use Rattle.deposit_verify.specs.References.{column}
 use Rattle.deposit_verify.proofs.keys.first_fields.Given as goal
 
 abbrev pub invariant-loop-i : goal.invariant-loop-i
-invariant-loop-i l = texts_of l.keys.items ≡ take l.i (column 0 l.rows)
+invariant-loop-i l = borrowed_texts l.keys.items ≡ take l.i (column 0 l.rows)

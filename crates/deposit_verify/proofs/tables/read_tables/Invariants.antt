@@ -1,11 +1,11 @@
 use Rattle.std.proofs.Common.{◌≡◌, ◌<◌, ℕ, [], get_or, length}
+use Rattle.dnrd_csv.specs.inside.RowKeys.{borrowed_texts}
 use Rattle.envelope.specs.declared.envelope.FileEntry.{FileEntry}
 use Rattle.deposit_verify.specs.Deposit.{IsTableOf}
-use Rattle.deposit_verify.specs.Index.{texts_of}
 use Rattle.deposit_verify.proofs.tables.read_tables.Given as goal
 
 abbrev pub invariant-loop-i : goal.invariant-loop-i
 invariant-loop-i l = record {
   count : length l.tables.items ≡ l.i;
-  each : (k : ℕ) (e : FileEntry) → k < l.i → IsTableOf (get_or l.entries k e).name (get_or (texts_of l.files) k []) (get_or l.tables.items k []);
+  each : (k : ℕ) (e : FileEntry) → k < l.i → IsTableOf (get_or l.entries k e).name (get_or (borrowed_texts l.files) k []) (get_or l.tables.items k []);
 }

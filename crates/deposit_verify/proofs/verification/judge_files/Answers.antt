@@ -1,5 +1,5 @@
 use Rattle.std.proofs.Common.{None, Some, subst, List, ℕ}
-use Rattle.envelope.specs.Envelope.{view}
+use Rattle.envelope.specs.Envelope.{env_of}
 use Rattle.deposit_verify.specs.Deposit.{contents_files}
 use Rattle.deposit_verify.specs.Tables.{AreReadFrom, TablesSay}
 use Rattle.deposit_verify.proofs.CountsDecided.{counts_right, counts_wrong}
@@ -9,11 +9,11 @@ use Rattle.deposit_verify.proofs.verification.judge_files.Goals as goal
 
 pub returns-in-Err : goal.returns-in-Err
 returns-in-Err c = λ k same below.
-    unread_fails (view c.args.envelope.now) c.args.rest.now k c.requires.form c.requires.menu c.in-Err.check (rw c.in-Err.is at c.in_ok-files.ensures) below
+    unread_fails (env_of c.args.envelope.now) c.args.rest.now k c.requires.form c.requires.menu c.in-Err.check (rw c.in-Err.is at c.in_ok-files.ensures) below
 
 pub tables_fault-requires : goal.tables_fault-requires
 tables_fault-requires c = λ full.
-    let v = view c.args.envelope.now in
+    let v = env_of c.args.envelope.now in
     let rest = c.args.rest.now in
     let tables = c.in-Ok.files.tables.items in
     let deleted = c.in-Ok.files.deleted.items in
@@ -22,7 +22,7 @@ tables_fault-requires c = λ full.
 
 pub returns-in-Some : goal.returns-in-Some
 returns-in-Some c = λ k same below.
-    let v = view c.args.envelope.now in
+    let v = env_of c.args.envelope.now in
     let rest = c.args.rest.now in
     let tables = c.in-Ok.files.tables.items in
     let deleted = c.in-Ok.files.deleted.items in
@@ -32,7 +32,7 @@ returns-in-Some c = λ k same below.
 
 pub has_chain_counts-requires : goal.has_chain_counts-requires
 has_chain_counts-requires c =
-    let v = view c.args.envelope.now in
+    let v = env_of c.args.envelope.now in
     let rest = c.args.rest.now in
     let tables = c.in-Ok.files.tables.items in
     let deleted = c.in-Ok.files.deleted.items in
@@ -41,7 +41,7 @@ has_chain_counts-requires c =
 
 pub returns-then-not-branch : goal.returns-then-not-branch
 returns-then-not-branch c = λ k same below.
-    let v = view c.args.envelope.now in
+    let v = env_of c.args.envelope.now in
     let rest = c.args.rest.now in
     let tables = c.in-Ok.files.tables.items in
     let deleted = c.in-Ok.files.deleted.items in
@@ -50,7 +50,7 @@ returns-then-not-branch c = λ k same below.
 
 pub returns : goal.returns
 returns c = λ k same below.
-    let v = view c.args.envelope.now in
+    let v = env_of c.args.envelope.now in
     let rest = c.args.rest.now in
     let tables = c.in-Ok.files.tables.items in
     let deleted = c.in-Ok.files.deleted.items in

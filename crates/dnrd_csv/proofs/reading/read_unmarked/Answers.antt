@@ -1,7 +1,7 @@
 use Rattle.std.proofs.Common.{◌∙◌, Some, ap, inr, refl, sym}
 use Rattle.std.proofs.lemmas.Result.{err_from_is_err_and}
 use Rattle.csv.specs.Records.{fields_of}
-use Rattle.dnrd_csv.specs.Reading.{IsAt}
+use Rattle.dnrd_csv.specs.inside.RowReading.{IsAtRow}
 use Rattle.dnrd_csv.proofs.Records.{unmarked_stays}
 use Rattle.dnrd_csv.proofs.WalkLemmas.{no_rest, refused_rest, some_rest, walked_fits, walked_more, walked_none, walked_rows, walked_text}
 use Rattle.dnrd_csv.proofs.reading.read_unmarked.Goals as goal
@@ -11,7 +11,7 @@ loop-rest-init c =
     let reader = c.from_reader-reader.ensures in
     let flexible = c.flexible.ensures in
     let named = c.has_headers.ensures in
-    let at : IsAt c.from_reader-reader.result c.args.text.now = record {
+    let at : IsAtRow c.from_reader-reader.result c.args.text.now = record {
       untrimmed = rw (flexible, named) at reader.trim ∙ c.new.ensures.trim;
       ready = inr (inr (rw (flexible, named) at reader.has_headers, reader.headers));
       config = rw (flexible, named) at reader.config ∙ c.new.ensures.config;

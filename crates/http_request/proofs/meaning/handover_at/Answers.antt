@@ -1,5 +1,5 @@
 use Rattle.std.proofs.Common.{sym}
-use Rattle.http_request.specs.Wanted.{handover_texts}
+use Rattle.http_request.specs.Action.{handover_texts}
 use Rattle.http_request.proofs.BodyLemmas.{release_none, release_one}
 use Rattle.http_request.proofs.meaning.handover_at.Goals as goal
 

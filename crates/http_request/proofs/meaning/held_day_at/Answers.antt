@@ -1,5 +1,5 @@
 use Rattle.std.proofs.Common.{sym}
-use Rattle.http_request.specs.Wanted.{held_day_texts}
+use Rattle.http_request.specs.Action.{held_day_texts}
 use Rattle.http_request.proofs.BodyLemmas.{hold_none, hold_one}
 use Rattle.http_request.proofs.meaning.held_day_at.Goals as goal
 

@@ -1,7 +1,6 @@
 use Rattle.std.proofs.Common.{Option, Some, cond, sym, ap, ◌∙◌, arith}
-use Rattle.deposit_name.specs.Name.{Name}
+use Rattle.deposit_name.specs.Name.{Name, is_same_kind}
 use Rattle.deposit_name.specs.declared.kinds.Kind.TheVariants.{Full}
-use Rattle.custody_machine.specs.SameValues.{is_same_kind}
 use Rattle.plain_machine.proofs.PlainChains.{latest_more}
 use Rattle.plain_machine.proofs.chains.latest_full.Goals as goal
 

@@ -1,6 +1,6 @@
 use Rattle.std.proofs.Common.{◌≡◌, take}
 use Rattle.std.specs.List.{filter_map}
-use Rattle.plain_machine.specs.Listing.{listed_name}
+use Rattle.plain_machine.specs.inside.Listing.{listed_name}
 use Rattle.plain_machine.proofs.listing.names_in.Given as goal
 
 abbrev pub invariant-loop-row : goal.invariant-loop-row

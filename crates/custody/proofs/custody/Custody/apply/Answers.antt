@@ -1,6 +1,6 @@
 use Rattle.std.proofs.Common.{◌≡◌, true, false, sym, ◌∙◌}
 use Rattle.custody_machine.specs.Commands.{command_of}
-use Rattle.custody.specs.Custody.{keeper_of}
+use Rattle.custody.specs.Custody.{open_custody_of}
 use Rattle.custody.proofs.Room.{had_room}
 use Rattle.custody.proofs.custody.Custody.apply.Goals as goal
 
@@ -10,7 +10,7 @@ returns g c =
     let serving = c.if-not-self.false in
     record {
       closed = λ shut. let clash : true ≡ false = sym serving ∙ shut in cc;
-      done = λ _. c.serve-answer.ensures;
+      done = λ _. c.execute-answer.ensures;
       opened = λ _. c.stays_open-self.ensures;
-      room = λ _. had_room g.S.Store (keeper_of old) c.serve-answer.new.self (old.order serving) (command_of c.args.command.now) c.args.now c.serve-answer.result c.serve-answer.ensures;
+      room = λ _. had_room g.S.Store (open_custody_of old) c.execute-answer.new.self (old.order serving) (command_of c.args.command.now) c.args.now c.execute-answer.result c.execute-answer.ensures;
     }

@@ -3,15 +3,15 @@ use Rattle.vault_volume.specs.Head.{head_of}
 use Rattle.vault_volume.specs.Vault.{volume_of, IsFree}
 use Rattle.sqlite.specs.Held.{state}
 use Rattle.custody_records.specs.Records.{Records, new_records}
-use Rattle.custody_records.specs.Rows.{fresh}
-use Rattle.custody_records.specs.Written.{digits_of}
-use Rattle.custody_store.specs.Standing.{standing}
-use Rattle.custody_machine.specs.declared.answers.Fault.TheVariants as fault
-use Rattle.custody_machine.specs.Stored.{AreWhole}
+use Rattle.custody_records.specs.Rows.{initial_rows}
+use Rattle.custody_records.specs.RowsOfRecords.{digits_of}
+use Rattle.custody_store.specs.StoreState.{store_state}
+use Rattle.custody_machine.specs.declared.answers.Failure.TheVariants as failure
+use Rattle.custody_machine.specs.StoredState.{AreWhole}
 use Rattle.custody_machine.specs.Custody.{IsInStore}
 use Rattle.custody.specs.declared.answers.InitError.TheVariants as init_error
-use Rattle.custody.specs.Keeper.{recorded, image_of}
-use Rattle.custody.specs.Opening.{IsSize}
+use Rattle.custody.specs.OpenCustody.{current_records, image_of}
+use Rattle.custody.specs.Opening.{IsVolumeSize}
 use Rattle.custody.proofs.Opened.{none_left, still_none, none_all, bare_where_none, stands_still, meta_or_none, new_whole, new_begun, begun_left, on_volume, fresh_in_store, is_written, none_made}
 use Rattle.custody.proofs.custody.Custody.init.Goals as goal
 
@@ -19,8 +19,8 @@ use Rattle.custody.proofs.custody.Custody.init.Goals as goal
 
 pub returns-in-Err-clause-not_begun : goal.returns-in-Err-clause-not_begun
 returns-in-Err-clause-not_begun g c = record {
-  size = λ same fits. c.in-Err.ensures.size same (subst IsSize (sym c.size-blocks.ensures) fits);
-  failures = record { failed = λ same. let other = c.in-Err.ensures.kind fault.VolumeFailed same in cc; not_failed = λ _. refl };
+  size = λ same fits. c.in-Err.ensures.size same (subst IsVolumeSize (sym c.size-blocks.ensures) fits);
+  failures = record { failed = λ same. let other = c.in-Err.ensures.kind failure.VolumeFailed same in cc; not_failed = λ _. refl };
   kind = λ why same. inr (inr (c.in-Err.ensures.kind why same));
   unwritten = λ _. refl;
   tables = λ _. refl;
@@ -96,12 +96,12 @@ returns-in_default-map_of-clause-within g c rest none rows image left = still_no
 pub returns-in-Err-make_records-clause-not_begun : goal.returns-in-Err-make_records-clause-not_begun
 returns-in-Err-make_records-clause-not_begun g c =
     let made = c.in-Err-make_records.ensures in
-    let over = ap (standing g.S.Store) c.over-store.ensures in
-    let at = ap (standing g.S.Store) c.into_inner.ensures in
+    let over = ap (store_state g.S.Store) c.over-store.ensures in
+    let at = ap (store_state g.S.Store) c.into_inner.ensures in
     record {
       size = λ same. cc;
-      failures = record { failed = λ same. made.failures.failed (cc); not_failed = λ other. made.failures.not_failed (λ same. other (ap init_error.Fault same)) };
-      kind = λ why same. let is : c.in-Err-make_records.fault ≡ why = cc in inr (subst (λ f. (f ≡ fault.VolumeFailed) ⊎ (f ≡ fault.StoreFailed)) is made.kind);
+      failures = record { failed = λ same. made.failures.failed (cc); not_failed = λ other. made.failures.not_failed (λ same. other (ap init_error.Failure same)) };
+      kind = λ why same. let is : c.in-Err-make_records.failure ≡ why = cc in inr (subst (λ f. (f ≡ failure.VolumeFailed) ⊎ (f ≡ failure.StoreFailed)) is made.kind);
       unwritten = λ un. absurd (is_written _ made.kind un);
       tables = λ some. let clash : false ≡ true = c.if-has_tables.ensures ∙ some in cc;
       all = λ all. absurd (none_all (state g.S.Store c.args.db) c.if-has_tables.ensures all);
@@ -115,7 +115,7 @@ pub returns-in-Err-make_records-clause-leaves : goal.returns-in-Err-make_records
 returns-in-Err-make_records-clause-leaves g c honest =
     let made = c.in-Err-make_records.ensures in
     let at = c.into_inner.ensures in
-    let clean = subst (λ db. (standing g.S.Store db).IsHonest) at honest in
+    let clean = subst (λ db. (store_state g.S.Store db).IsHonest) at honest in
     record {
       taken = λ _ same none. cc;
       not_taken = λ _ same. cc;
@@ -123,15 +123,15 @@ returns-in-Err-make_records-clause-leaves g c honest =
       unwritten = λ un. absurd (is_written _ made.kind un);
       rows = λ either none rows left.
           let bare = bare_where_none (state g.S.Store c.args.db) c.if-has_tables.ensures either in
-          let bare_then = (stands_still (standing g.S.Store c.args.db) (standing g.S.Store c.may_begin.new.db) (standing g.S.Store c.over-store.result) _ c.in_default.ensures.reads (ap (standing g.S.Store) c.over-store.ensures) (made.founds.trust clean) bare.rest).bare bare in
-          elim ((made.founds.effect clean bare_then).left rows (subst (λ db. (standing g.S.Store db).may_leave rows) at left)) [
+          let bare_then = (stands_still (store_state g.S.Store c.args.db) (store_state g.S.Store c.may_begin.new.db) (store_state g.S.Store c.over-store.result) _ c.in_default.ensures.reads (ap (store_state g.S.Store) c.over-store.ensures) (made.founds.trust clean) bare.rest).bare bare in
+          elim ((made.founds.effect clean bare_then).left rows (subst (λ db. (store_state g.S.Store db).may_leave rows) at left)) [
             | inl old ↦ inl (none_left (state g.S.Store c.over-store.result) bare_then rows old)
-            | inr new ↦ inr (new ∙ ap (λ n. fresh (digits_of c.args.number) (pos n)) c.size-blocks.ensures)
+            | inr new ↦ inr (new ∙ ap (λ n. initial_rows (digits_of c.args.number) (pos n)) c.size-blocks.ensures)
           ];
       fails = λ tells either none rows image left there.
           let bare = bare_where_none (state g.S.Store c.args.db) c.if-has_tables.ensures either in
-          let bare_then = (stands_still (standing g.S.Store c.args.db) (standing g.S.Store c.may_begin.new.db) (standing g.S.Store c.over-store.result) _ c.in_default.ensures.reads (ap (standing g.S.Store) c.over-store.ensures) (made.founds.trust clean) bare.rest).bare bare in
-          made.at_exit tells clean bare_then rows image (subst (λ db. (standing g.S.Store db).may_leave rows) at left) there;
+          let bare_then = (stands_still (store_state g.S.Store c.args.db) (store_state g.S.Store c.may_begin.new.db) (store_state g.S.Store c.over-store.result) _ c.in_default.ensures.reads (ap (store_state g.S.Store) c.over-store.ensures) (made.founds.trust clean) bare.rest).bare bare in
+          made.at_exit tells clean bare_then rows image (subst (λ db. (store_state g.S.Store db).may_leave rows) at left) there;
     }
 
 pub returns-in-Err-make_records-clause-within : goal.returns-in-Err-make_records-clause-within
@@ -139,21 +139,21 @@ returns-in-Err-make_records-clause-within g c rest none rows image left = still_
 
 -- ---- it is begun
 
-pub keeper_over-requires-clause-whole : goal.keeper_over-requires-clause-whole
-keeper_over-requires-clause-whole g c = subst AreWhole (sym c.new-records.ensures) (new_whole c.args.number c.size-blocks.result)
+pub open_custody_over-requires-clause-whole : goal.open_custody_over-requires-clause-whole
+open_custody_over-requires-clause-whole g c = subst AreWhole (sym c.new-records.ensures) (new_whole c.args.number c.size-blocks.result)
 
 pub returns-clause-new : goal.returns-clause-new
 returns-clause-new g c =
     let made = c.in_default-make_records.ensures in
-    let over = ap (standing g.S.Store) c.over-store.ensures in
-    let at = ap (standing g.S.Store) c.keeper_over.ensures.store in
-    let is = c.keeper_over.ensures.records ∙ c.new-records.ensures in
+    let over = ap (store_state g.S.Store) c.over-store.ensures in
+    let at = ap (store_state g.S.Store) c.open_custody_over.ensures.store in
+    let is = c.open_custody_over.ensures.records ∙ c.new-records.ensures in
     record {
       opened = refl;
       records = is ∙ ap (new_records c.args.number) c.size-blocks.ensures;
-      begun = new_begun c.args.number c.size-blocks.result (recorded c.keeper_over.result) (image_of c.keeper_over.result) is;
-      size = subst IsSize c.size-blocks.ensures c.in_default.ensures.size;
-      failures = ap g.V.Volume.failures c.keeper_over.ensures.volume ∙ made.failures;
+      begun = new_begun c.args.number c.size-blocks.result (current_records c.open_custody_over.result) (image_of c.open_custody_over.result) is;
+      size = subst IsVolumeSize c.size-blocks.ensures c.in_default.ensures.size;
+      failures = ap g.V.Volume.failures c.open_custody_over.ensures.volume ∙ made.failures;
       tables = sym c.if-has_tables.ensures;
       not_all = none_all (state g.S.Store c.args.db) c.if-has_tables.ensures;
       mode = λ closed. ap (λ s. s.in_transaction) at ∙ made.founds.mode (ap (λ s. s.in_transaction) over ∙ c.in_default.ensures.reads.mode closed);
@@ -164,32 +164,32 @@ pub returns-clause-kept : goal.returns-clause-kept
 returns-clause-kept g c =
     let made = c.in_default-make_records.ensures in
     let volume = c.make_records.new.volume in
-    let at = c.keeper_over.ensures.store in
-    let over = ap (standing g.S.Store) c.over-store.ensures in
-    let is : recorded c.keeper_over.result ≡ new_records c.args.number c.size-blocks.result = c.keeper_over.ensures.records ∙ c.new-records.ensures in
+    let at = c.open_custody_over.ensures.store in
+    let over = ap (store_state g.S.Store) c.over-store.ensures in
+    let is : current_records c.open_custody_over.result ≡ new_records c.args.number c.size-blocks.result = c.open_custody_over.ensures.records ∙ c.new-records.ensures in
     let fits : c.args.number < 2 ^ 64 = omega arith in
     let room = c.in_default.ensures.size in
     let size : g.V.Volume.size volume ≡ c.size-blocks.result = made.size ∙ sym c.size-blocks.ensures in
     record {
       image = λ tells.
-          on_volume g.V.Volume.image g.V.Volume.moment g.V.Volume.left_at (volume_of c.keeper_over.result.vault) volume c.keeper_over.ensures.volume (recorded c.keeper_over.result) (IsFree c.keeper_over.result.vault)
+          on_volume g.V.Volume.image g.V.Volume.moment g.V.Volume.left_at (volume_of c.open_custody_over.result.vault) volume c.open_custody_over.ensures.volume (current_records c.open_custody_over.result) (IsFree c.open_custody_over.result.vault)
           (made.head tells ∙ ap (λ (r : Records). head_of r.number) (sym is)) (g.met.V.Volume.image_length volume tells ∙ ap (λ n. 4096 * n) (size ∙ ap (λ (r : Records). r.blocks) (sym is))) (λ i left. (made.settled tells i).0 left);
       rows = λ either honest.
-          let clean = subst (λ db. (standing g.S.Store db).IsHonest) at honest in
+          let clean = subst (λ db. (store_state g.S.Store db).IsHonest) at honest in
           let bare = bare_where_none (state g.S.Store c.args.db) c.if-has_tables.ensures either in
-          let bare_then = (stands_still (standing g.S.Store c.args.db) (standing g.S.Store c.may_begin.new.db) (standing g.S.Store c.over-store.result) _ c.in_default.ensures.reads over (made.founds.trust clean) bare.rest).bare bare in
-          subst (λ db. IsInStore (recorded c.keeper_over.result) (standing g.S.Store db).rows (standing g.S.Store db).IsReady (standing g.S.Store db).may_leave) (sym at)
-          (fresh_in_store (standing g.S.Store c.over-store.result) (state g.S.Store c.make_records.new.store) _ c.args.number c.size-blocks.result fits room made.founds clean bare_then (recorded c.keeper_over.result) is);
+          let bare_then = (stands_still (store_state g.S.Store c.args.db) (store_state g.S.Store c.may_begin.new.db) (store_state g.S.Store c.over-store.result) _ c.in_default.ensures.reads over (made.founds.trust clean) bare.rest).bare bare in
+          subst (λ db. IsInStore (current_records c.open_custody_over.result) (store_state g.S.Store db).rows (store_state g.S.Store db).IsReady (store_state g.S.Store db).may_leave) (sym at)
+          (fresh_in_store (store_state g.S.Store c.over-store.result) (state g.S.Store c.make_records.new.store) _ c.args.number c.size-blocks.result fits room made.founds clean bare_then (current_records c.open_custody_over.result) is);
       not_taken = λ either honest.
-          c.in_default.ensures.rows (subst (λ s. s.IsHonest) over (made.founds.trust (subst (λ db. (standing g.S.Store db).IsHonest) at honest))) (meta_or_none (state g.S.Store c.args.db) either);
+          c.in_default.ensures.rows (subst (λ s. s.IsHonest) over (made.founds.trust (subst (λ db. (store_state g.S.Store db).IsHonest) at honest))) (meta_or_none (state g.S.Store c.args.db) either);
       begins = λ tells either honest rows image left there.
-          let clean = subst (λ db. (standing g.S.Store db).IsHonest) at honest in
+          let clean = subst (λ db. (store_state g.S.Store db).IsHonest) at honest in
           let bare = bare_where_none (state g.S.Store c.args.db) c.if-has_tables.ensures either in
-          let bare_then = (stands_still (standing g.S.Store c.args.db) (standing g.S.Store c.may_begin.new.db) (standing g.S.Store c.over-store.result) _ c.in_default.ensures.reads over (made.founds.trust clean) bare.rest).bare bare in
+          let bare_then = (stands_still (store_state g.S.Store c.args.db) (store_state g.S.Store c.may_begin.new.db) (store_state g.S.Store c.over-store.result) _ c.in_default.ensures.reads over (made.founds.trust clean) bare.rest).bare bare in
           let done = (made.founds.effect clean bare_then).done in
           begun_left c.args.number c.size-blocks.result (g.V.Volume.image volume) fits room (made.head tells) (g.met.V.Volume.image_length volume tells ∙ ap (λ n. 4096 * n) size) rows image
-          (done.0.rest.only rows (subst (λ db. (standing g.S.Store db).may_leave rows) at left) ∙ done.1)
-          ((made.settled tells image).0 (subst (λ v. g.V.Volume.left_at v (g.V.Volume.moment v) image) c.keeper_over.ensures.volume there));
+          (done.0.rest.only rows (subst (λ db. (store_state g.S.Store db).may_leave rows) at left) ∙ done.1)
+          ((made.settled tells image).0 (subst (λ v. g.V.Volume.left_at v (g.V.Volume.moment v) image) c.open_custody_over.ensures.volume there));
     }
 
 pub returns-clause-within : goal.returns-clause-within

@@ -1,16 +1,16 @@
 use Rattle.std.proofs.Common.{ℕ, ◌-◌, refl, ◌∙◌, ap}
 use Rattle.vault_volume.specs.Vault.{volume_of, IsFree}
 use Rattle.custody_records.specs.Records.{Records}
-use Rattle.custody.specs.Custody.{keeper_of}
-use Rattle.custody.specs.Keeper.{recorded, failures_of}
+use Rattle.custody.specs.Custody.{open_custody_of}
+use Rattle.custody.specs.OpenCustody.{current_records, failures_of}
 use Rattle.custody.proofs.Room.{free_count}
 use Rattle.custody.proofs.custody.Custody.room.Goals as goal
 
 pub returns-in-Ok-clause-found : goal.returns-in-Ok-clause-found
 returns-in-Ok-clause-found g c =
-    let held = keeper_of c.args.self.now in
+    let held = open_custody_of c.args.self.now in
     let found = c.in-Ok.ensures.found in (
       found.0,
-      free_count (recorded held) held.records.parts.rows.items refl held.records.parts.rising (g.V.Volume.size (volume_of held.vault)) (failures_of held) (IsFree held.vault) (c.args.self.now.order found.0) c.free_blocks.result c.free_blocks.ensures,
+      free_count (current_records held) held.records.parts.rows.items refl held.records.parts.rising (g.V.Volume.size (volume_of held.vault)) (failures_of held) (IsFree held.vault) (c.args.self.now.order found.0) c.free_blocks.result c.free_blocks.ensures,
       c.saturating_sub.ensures ∙ ap (λ (n : ℕ). n - 1) (c.blocks-in-Ok.ensures ∙ ap (λ (r : Records). r.blocks) found.1),
     )

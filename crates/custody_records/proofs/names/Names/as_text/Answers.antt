@@ -1,6 +1,6 @@
 use Rattle.std.proofs.Common.{◌∙◌, ap, sym}
 use Rattle.std.specs.List.{list_all}
-use Rattle.custody_records.specs.Written.{is_line}
+use Rattle.custody_records.specs.RowsOfRecords.{is_line}
 use Rattle.custody_records.proofs.LineLemmas.{lines_of-lines}
 use Rattle.custody_records.proofs.names.Names.as_text.Goals as goal
 

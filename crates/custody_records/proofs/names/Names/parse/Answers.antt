@@ -2,7 +2,7 @@ use Rattle.std.proofs.Common.{◌≡◌, ◌∙◌, ◌++◌, ◌∷◌, [], ◌
 use Rattle.std.proofs.lemmas.Bool.Decides.{nat_tests}
 use Rattle.custody_records.specs.Form.{lines_in}
 use Rattle.custody_records.specs.Names.{lines_of}
-use Rattle.custody_records.specs.Written.{text_of}
+use Rattle.custody_records.specs.RowsOfRecords.{text_of_lines}
 use Rattle.custody_records.proofs.LineLemmas.{lines_in-cut, lines_in-ended, text_of-lines_of}
 use Rattle.custody_records.proofs.names.Names.parse.Goals as goal
 
@@ -15,7 +15,7 @@ pub invariant_of-result : goal.invariant_of-result
 invariant_of-result c =
     let front = c.in-Some.field-0-1.now in
     let items : c.in_ok-from_slice.field-0.items ≡ front ++ 10 ∷ [] = c.in_ok-from_slice.ensures.items ∙ c.in-Some.ensures.cases.0 ∙ ap (λ b. front ++ b ∷ []) c.if-last-ne10.false in
-    items ∙ sym (text_of-lines_of front) ∙ ap (λ l. text_of (lines_of l)) (sym items)
+    items ∙ sym (text_of-lines_of front) ∙ ap (λ l. text_of_lines (lines_of l)) (sym items)
 
 pub returns : goal.returns
 returns c =

@@ -1,7 +1,7 @@
 use Rattle.std.proofs.Common.{cond, None, Some, ◌∙◌, sym, ap, subst, rules, SFits, w64, of_z, to_z-of_z}
 use Rattle.deposit_name.specs.Identifiers.{IsDepositId}
 use Rattle.desk.specs.declared.notices.NoticeKind.TheVariants.{Failure}
-use Rattle.custody_records.specs.Typed.{notice_row}
+use Rattle.custody_records.specs.TypedRecords.{notice_row}
 use Rattle.custody_records.specs.Form.{natural, is_within, check_in}
 use Rattle.deposit_name.proofs.IdentifierLemmas.{is_deposit_id-IsDepositId}
 use Rattle.custody_records.proofs.ReadLemmas.{cond_is, some_same, number_not, failure_in}

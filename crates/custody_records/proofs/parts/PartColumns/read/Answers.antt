@@ -2,7 +2,7 @@ use Rattle.std.proofs.Common.{cond, None, Some, ◌∙◌, sym, ap, rules, SFits
 use Rattle.std.specs.Result.{result_ok}
 use Rattle.std.proofs.lemmas.Result.{MatchResult-from_err, err_from_is_err_and}
 use Rattle.custody_records.specs.Form.{natural, is_within}
-use Rattle.custody_records.specs.Typed.{part_row}
+use Rattle.custody_records.specs.TypedRecords.{part_row}
 use Rattle.custody_records.proofs.ReadLemmas.{cond_none, part_without_name, part_without_received, part_without_len, part_without_extents, part_found}
 use Rattle.custody_records.proofs.parts.PartColumns.read.Goals as goal
 

@@ -1,5 +1,5 @@
 use Rattle.std.proofs.Common.{◌∙◌, sym}
-use Rattle.custody_records.specs.Typed.{part_row}
+use Rattle.custody_records.specs.TypedRecords.{part_row}
 use Rattle.custody_records.proofs.FieldLemmas.{kind_read}
 use Rattle.custody_records.proofs.ReadLemmas.{name_without_kind}
 use Rattle.custody_records.proofs.parts.PartColumns.read_name.Goals as goal

@@ -1,6 +1,6 @@
 use Rattle.std.proofs.Common.{ℕ, ap}
 use Rattle.std.specs.FinMap.{FinMap}
-use Rattle.custody_records.specs.Held.{records_of}
+use Rattle.custody_records.specs.MemoryRecords.{records_of}
 use Rattle.custody_records.specs.Keys.{text_cmp}
 use Rattle.custody_records.proofs.records.Records.add_registry.Goals as goal
 

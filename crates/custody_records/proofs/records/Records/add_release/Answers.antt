@@ -1,6 +1,6 @@
 use Rattle.std.proofs.Common.{ap}
 use Rattle.std.specs.FinMap.{FinMap}
-use Rattle.custody_records.specs.Held.{records_of}
+use Rattle.custody_records.specs.MemoryRecords.{records_of}
 use Rattle.custody_records.specs.Keys.{text_cmp}
 use Rattle.custody_records.specs.Records.{Release}
 use Rattle.custody_records.proofs.records.Records.add_release.Goals as goal

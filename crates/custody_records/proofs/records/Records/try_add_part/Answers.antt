@@ -1,7 +1,7 @@
 use Rattle.std.proofs.Common.{ap}
 use Rattle.std.proofs.lemmas.Result.{on_ok_weaker}
 use Rattle.std.specs.FinMap.{FinMap}
-use Rattle.custody_records.specs.Held.{records_of}
+use Rattle.custody_records.specs.MemoryRecords.{records_of}
 use Rattle.custody_records.specs.Keys.{part_cmp}
 use Rattle.custody_records.specs.Records.{PartRecord}
 use Rattle.custody_records.proofs.records.Records.try_add_part.Goals as goal

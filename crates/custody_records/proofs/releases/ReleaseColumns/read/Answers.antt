@@ -2,7 +2,7 @@ use Rattle.std.proofs.Common.{◌∙◌, sym, ap}
 use Rattle.std.specs.Result.{result_ok}
 use Rattle.std.proofs.lemmas.Result.{MatchResult-from_err, err_from_is_err_and}
 use Rattle.deposit_name.specs.Identifiers.{is_reference, is_tld}
-use Rattle.custody_records.specs.Typed.{handover_row}
+use Rattle.custody_records.specs.TypedRecords.{handover_row}
 use Rattle.custody_records.proofs.FieldLemmas.{reference_read, tld_read}
 use Rattle.custody_records.proofs.ReadLemmas.{cond_none, release_without_reference, release_without_tld, release_without_ground, release_without_names}
 use Rattle.custody_records.proofs.releases.ReleaseColumns.read.Goals as goal

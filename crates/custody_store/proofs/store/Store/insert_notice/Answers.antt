@@ -1,5 +1,5 @@
 use Rattle.sqlite.specs.Held.{state}
-use Rattle.custody_store.specs.Records.{notice_row_of}
+use Rattle.custody_store.specs.TypedRows.{typed_notice_row}
 use Rattle.custody_store.proofs.RowLemmas.{inserts_notice}
 use Rattle.custody_store.proofs.CommitLemmas.{commits_none}
 use Rattle.custody_store.proofs.store.Store.insert_notice.Goals as goal
@@ -7,7 +7,7 @@ use Rattle.custody_store.proofs.store.Store.insert_notice.Goals as goal
 pub returns-clause-commits : goal.returns-clause-commits
 returns-clause-commits g c =
     rw (← c.self.view_is)
-    (inserts_notice (state g.S.Store c.self.inside.db) (state g.S.Store c.run.new.db) (notice_row_of c.args.notice.now) _
+    (inserts_notice (state g.S.Store c.self.inside.db) (state g.S.Store c.run.new.db) (typed_notice_row c.args.notice.now) _
     (rw (c.text.ensures, c.as_bytes.ensures.text, c.in-Some.ensures.some, c.small.ensures, c.number_of.ensures, c.day.ensures, c.small-2.ensures, c.rev_of.ensures, c.text-2.ensures, c.id_of.ensures, c.moment.ensures) at c.run.ensures.runs))
 
 pub returns-in_default-clause-commits : goal.returns-in_default-clause-commits

@@ -1,5 +1,5 @@
 use Rattle.sqlite.specs.Held.{state}
-use Rattle.custody_records.specs.Written.{row_of_registry}
+use Rattle.custody_records.specs.RowsOfRecords.{row_of_registry}
 use Rattle.custody_store.proofs.RowLemmas.{inserts_registry}
 use Rattle.custody_store.proofs.store.Store.insert_registry.Goals as goal
 

@@ -1,23 +1,23 @@
 use Rattle.std.proofs.Common.{◌≡◌, map, codes, Err, sym, ap, ◌∙◌, rules}
 use Rattle.std.specs.Prelude.{is_some}
 use Rattle.sqlite.specs.Held.{state}
-use Rattle.custody_records.specs.declared.damage.Damage.TheVariants as damage
+use Rattle.custody_records.specs.declared.damage.RowDamage.TheVariants as damage
 use Rattle.custody_records.specs.Form.{in_form_or, records_in}
 use Rattle.custody_records.specs.Rows.{Rows}
-use Rattle.custody_store.specs.Loaded.{answered_rows}
+use Rattle.custody_store.specs.inside.Loading.{answered_rows}
 use Rattle.custody_store.specs.Reading.{answered_meta, rows_in, has_table}
-use Rattle.custody_store.specs.Standing.{shown}
+use Rattle.custody_store.specs.StoreState.{as_store_state}
 use Rattle.custody_store.proofs.FormLemmas.{form_is, read_form}
 use Rattle.custody_store.proofs.MissingLemmas.{holds_there}
 use Rattle.custody_store.proofs.ReadLemmas.{reads_none, reads_err, reads_answers, reads_then, still, all_there, meta_of_first}
 use Rattle.custody_store.proofs.store.Store.load.Goals as goal
 
-pub returns-then-not-has_all-clause-found : goal.returns-then-not-has_all-clause-found
-returns-then-not-has_all-clause-found g c clean first =
+pub returns-then-not-has_all_tables-clause-found : goal.returns-then-not-has_all_tables-clause-found
+returns-then-not-has_all_tables-clause-found g c clean first =
     let there = all_there (state g.S.Store c.args.self.now) first in absurd (search (rules, there))
 
-pub returns-then-not-has_all-clause-reads : goal.returns-then-not-has_all-clause-reads
-returns-then-not-has_all-clause-reads g c = reads_none (state g.S.Store c.args.self.now) _
+pub returns-then-not-has_all_tables-clause-reads : goal.returns-then-not-has_all_tables-clause-reads
+returns-then-not-has_all_tables-clause-reads g c = reads_none (state g.S.Store c.args.self.now) _
 
 pub returns-in_err-meta-clause-reads : goal.returns-in_err-meta-clause-reads
 returns-in_err-meta-clause-reads g c = rw (← c.self.view_is) (reads_err _ _ _ _ c.from_residual.ensures.0 c.in_err-meta.ensures.reads)
@@ -33,7 +33,7 @@ returns-in_err-volume-clause-found g c =
     let is : c.from_residual-in_err-volume.result ≡ Err c.in_err-volume.field-0.0 = search rules in
     let same : has_table (codes "hold") s1.now.schema ≡ c.has_table-has_holds.result = search rules in
     rw (← c.self.view_is) (λ clean first.
-    let stands = still (shown s0) (shown s1) _ c.in_ok-meta.ensures.reads clean first.0.rest in
+    let stands = still (as_store_state s0) (as_store_state s1) _ c.in_ok-meta.ensures.reads clean first.0.rest in
     let there = ap (λ (r : Rows). is_some r.holds) (sym stands.rows) ∙ holds_there s1 (stands.first_tables first) ∙ same in
     rw is (λ why told.
     form_is (map answered_meta c.in_ok-meta.meta.items) rows (c.in_ok-meta.ensures.found clean (meta_of_first s0 first))
@@ -53,7 +53,7 @@ returns-clause-found g c =
     let read = λ (rest : Rows). in_form_or damage.Form (records_in (is_some t.holds) v.0 v.1 (answered_rows t rest)) in
     rw (← c.self.view_is) (λ clean first.
     let early = c.in_ok-rows.ensures.reads.trust clean in
-    let stands = still (shown s0) (shown s1) _ c.in_ok-meta.ensures.reads early first.0.rest in
+    let stands = still (as_store_state s0) (as_store_state s1) _ c.in_ok-meta.ensures.reads early first.0.rest in
     let answered = sym stands.rows ∙ c.in_ok-rows.ensures.found clean (stands.first_tables first) same ∙ ap (answered_rows t) stands.rows in
     let is = form_is (map answered_meta c.in_ok-meta.meta.items) rows (c.in_ok-meta.ensures.found early (meta_of_first s0 first))
     ∙ (rw c.deref.ensures.value at c.in_ok-volume.ensures) rows

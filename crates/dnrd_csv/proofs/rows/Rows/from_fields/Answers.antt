@@ -1,7 +1,7 @@
 use Rattle.std.proofs.Common.{All, ◌≡◌, ◌≢◌, ◌≤◌, ◌*◌, ◌/◌, ◌%◌, ◌∙◌, [], ℕ, ap, arith, length, rules}
 use Rattle.csv.specs.Records.{fields_of}
-use Rattle.dnrd_csv.specs.Fields.{AreRowsOf}
-use Rattle.dnrd_csv.specs.Rows.{rows_from}
+use Rattle.dnrd_csv.specs.inside.Fields.{AreRowsOf}
+use Rattle.dnrd_csv.specs.inside.Rows.{rows_from}
 use Rattle.dnrd_csv.proofs.FieldLemmas.{alone_filled, ends_with_row, rows_of_fields}
 use Rattle.dnrd_csv.proofs.rows.Rows.from_fields.Goals as goal
 use Rattle.dnrd_csv.proofs.rows.Rows.from_fields.Goals.{then-width-eq0-via-then-width-eq0, then-width-eq0-via-else-width-eq0+then-len-width-ne0, else-width-eq1-via-then-width-eq1+else-not-none_is_empty, else-width-eq1-via-else-width-eq1, Joined-else-width-eq1}

@@ -1,6 +1,6 @@
 use Rattle.std.proofs.Common.{◌≡◌, ℕ, ◌+◌, ◌^◌, ◌<◌, ◌≤◌, [], ◌∷◌, length, ap, sym, subst, ◌∙◌, arith}
 use Rattle.std.proofs.lemmas.List.{with_items_is}
-use Rattle.extent_map.specs.Words.{bit, ones, IsOneIn}
+use Rattle.extent_map.specs.Words.{bit, one_count, IsOneIn}
 use Rattle.extent_map.specs.Extents.{GivesBack}
 use Rattle.extent_map.proofs.BitLemmas.{ones_le}
 use Rattle.extent_map.proofs.SetLemmas.{gives, AreInRange, given_in_range}
@@ -19,8 +19,8 @@ overflow_add-self c =
     let map = c.args.self.now in
     let e = c.args.extent.now in
     let new = c.set_run.new.words in
-    let sum = more (ones new map.blocks) (ones map.words.items map.blocks) e.count map.free (c.set_run.ensures.count map.blocks c.requires.0.2 ∙ ap (λ l. ones l map.blocks + e.count) c.deref_mut.ensures.value) map.counted in
-    let fits : map.free + e.count < 2 ^ 32 = small (map.free + e.count) (ones new map.blocks) map.blocks sum (ones_le new map.blocks) map.small in
+    let sum = more (one_count new map.blocks) (one_count map.words.items map.blocks) e.count map.free (c.set_run.ensures.count map.blocks c.requires.0.2 ∙ ap (λ l. one_count l map.blocks + e.count) c.deref_mut.ensures.value) map.counted in
+    let fits : map.free + e.count < 2 ^ 32 = small (map.free + e.count) (one_count new map.blocks) map.blocks sum (ones_le new map.blocks) map.small in
     record { fits = fits }
 
 pub invariant_of-self-clause-in_range : goal.invariant_of-self-clause-in_range
@@ -42,8 +42,8 @@ invariant_of-self-clause-counted c =
     let new = c.set_run.new.words in
     let was = c.deref_mut.ensures.value in
     let end = c.set_run.ensures in
-    more (ones new map.blocks) (ones map.words.items map.blocks) e.count map.free (end.count map.blocks c.requires.0.2 ∙ ap (λ l. ones l map.blocks + e.count) was) map.counted
-    ∙ sym (ap (λ l. ones l map.blocks) (with_items_is map.words new (end.length ∙ ap length was ∙ sym map.words.ok.0)))
+    more (one_count new map.blocks) (one_count map.words.items map.blocks) e.count map.free (end.count map.blocks c.requires.0.2 ∙ ap (λ l. one_count l map.blocks + e.count) was) map.counted
+    ∙ sym (ap (λ l. one_count l map.blocks) (with_items_is map.words new (end.length ∙ ap length was ∙ sym map.words.ok.0)))
 
 pub returns-clause-freed : goal.returns-clause-freed
 unfolding IsFree

@@ -1,5 +1,5 @@
 use Rattle.std.proofs.Common.{◌+◌, ◌-◌, ◌<◌, subst, sym, arith}
-use Rattle.extent_map.specs.Words.{ones}
+use Rattle.extent_map.specs.Words.{one_count}
 use Rattle.extent_map.specs.Map.{IsFree, size_of}
 use Rattle.extent_map.proofs.RunLemmas.{IsCollected, below_end, collect_more, collect_none, one_from}
 use Rattle.extent_map.proofs.map.ExtentMap.lowest_runs.Goals as goal
@@ -14,7 +14,7 @@ pub next_run-run-requires-clause-found : goal.next_run-run-requires-clause-found
 unfolding IsFree
 next_run-run-requires-clause-found c =
     let map = c.args.self.now in
-    let more : ones map.words.items c.loop-left.from < ones map.words.items map.blocks = omega (arith, c.loop-left.invariant.counted, c.requires.enough, map.counted, c.loop-left-test.true) in
+    let more : one_count map.words.items c.loop-left.from < one_count map.words.items map.blocks = omega (arith, c.loop-left.invariant.counted, c.requires.enough, map.counted, c.loop-left-test.true) in
     one_from map.words.items c.loop-left.from map.blocks more
 
 pub loop-left-preserved : goal.loop-left-preserved

@@ -1,6 +1,6 @@
 use Rattle.std.proofs.Common.{◌≡◌, ℕ, ◌+◌, ◌-◌, ◌≤◌, [], ◌∷◌, length, ap, sym, subst, ◌∙◌, arith}
 use Rattle.std.proofs.lemmas.List.{with_items_is}
-use Rattle.extent_map.specs.Words.{bit, ones, IsOneIn}
+use Rattle.extent_map.specs.Words.{bit, one_count, IsOneIn}
 use Rattle.extent_map.specs.Extents.{Takes}
 use Rattle.extent_map.proofs.SetLemmas.{takes, AreInRange, taken_in_range}
 use Rattle.extent_map.specs.Map.{IsFree}
@@ -29,8 +29,8 @@ invariant_of-self-clause-counted c =
     let end = c.clear_run.ensures in
     let last = map.in_range (e.start + e.count - 1) (c.requires.run (e.start + e.count - 1) (omega (arith, c.requires.some)) (omega (arith, c.requires.some))) in
     let fits : e.start + e.count ≤ map.blocks = let low = last.1 in omega arith in
-    less (ones new map.blocks) (ones map.words.items map.blocks) e.count map.free (end.count map.blocks fits ∙ ap (λ l. ones l map.blocks) was) map.counted
-    ∙ sym (ap (λ l. ones l map.blocks) (with_items_is map.words new (end.length ∙ ap length was ∙ sym map.words.ok.0)))
+    less (one_count new map.blocks) (one_count map.words.items map.blocks) e.count map.free (end.count map.blocks fits ∙ ap (λ l. one_count l map.blocks) was) map.counted
+    ∙ sym (ap (λ l. one_count l map.blocks) (with_items_is map.words new (end.length ∙ ap length was ∙ sym map.words.ok.0)))
 
 pub returns-clause-taken : goal.returns-clause-taken
 unfolding IsFree

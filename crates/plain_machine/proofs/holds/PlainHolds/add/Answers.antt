@@ -1,7 +1,7 @@
 use Rattle.std.proofs.Common.{refl}
 use Rattle.custody_records.specs.Keys.{text_cmp}
-use Rattle.custody_records.specs.Orders.{text_total}
-use Rattle.custody_records.specs.Typed.{hold_key, hold_value}
+use Rattle.custody_records.specs.inside.Orders.{text_total}
+use Rattle.custody_records.specs.TypedRecords.{hold_key, hold_value}
 use Rattle.custody_records.proofs.TableLemmas.{absent_row, added_at, found_at, map_added, not_both, rising_tried}
 use Rattle.plain_machine.proofs.holds.PlainHolds.add.Goals as goal
 

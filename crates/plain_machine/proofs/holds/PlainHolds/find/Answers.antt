@@ -1,8 +1,8 @@
 use Rattle.std.proofs.Common.{sym, ap, ◌∙◌}
 use Rattle.std.specs.Prelude.{option_map}
 use Rattle.custody_records.specs.Keys.{text_cmp}
-use Rattle.custody_records.specs.Orders.{text_total}
-use Rattle.custody_records.specs.Typed.{hold_key, hold_value}
+use Rattle.custody_records.specs.inside.Orders.{text_total}
+use Rattle.custody_records.specs.TypedRecords.{hold_key, hold_value}
 use Rattle.custody_records.proofs.TableLemmas.{absent_at, get_table}
 use Rattle.plain_machine.proofs.HoldRows.{row_got, row_key}
 use Rattle.plain_machine.proofs.holds.PlainHolds.find.Goals as goal

@@ -1,7 +1,7 @@
 use Rattle.std.proofs.Common.{IsSome, refl, subst}
 use Rattle.custody_records.specs.Keys.{text_cmp}
-use Rattle.custody_records.specs.Orders.{text_total}
-use Rattle.custody_records.specs.Typed.{hold_key, hold_value}
+use Rattle.custody_records.specs.inside.Orders.{text_total}
+use Rattle.custody_records.specs.TypedRecords.{hold_key, hold_value}
 use Rattle.custody_records.proofs.TableLemmas.{absent_key}
 use Rattle.plain_machine.proofs.HoldRows.{map_lifted, rising_lifted}
 use Rattle.plain_machine.proofs.holds.PlainHolds.lift.Goals as goal

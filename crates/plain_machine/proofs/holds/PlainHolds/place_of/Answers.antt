@@ -4,7 +4,7 @@ use Rattle.std.proofs.lemmas.Fn.{always_returns_same}
 use Rattle.std.proofs.lemmas.Grind.{common_steps}
 use Rattle.custody_records.specs.declared.holds.Hold.{Hold}
 use Rattle.custody_records.specs.Keys.{text_cmp}
-use Rattle.custody_records.specs.Typed.{hold_key}
+use Rattle.custody_records.specs.TypedRecords.{hold_key}
 use Rattle.plain_machine.proofs.holds.PlainHolds.place_of.Goals as goal
 
 pub returns-clause-place : goal.returns-clause-place

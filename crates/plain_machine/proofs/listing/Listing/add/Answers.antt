@@ -1,8 +1,8 @@
 use Rattle.std.proofs.Common.{ap, ◌∙◌}
 use Rattle.custody_records.specs.Keys.{part_cmp}
-use Rattle.custody_records.specs.Orders.{part_total}
+use Rattle.custody_records.specs.inside.Orders.{part_total}
 use Rattle.custody_records.proofs.TableLemmas.{row_at, absent_row, found_at, added_at, map_added, rising_tried, not_both}
-use Rattle.plain_machine.specs.Listing.{listed_key, listed_value}
+use Rattle.plain_machine.specs.inside.Listing.{listed_key, listed_value}
 use Rattle.plain_machine.proofs.listing.Listing.add.Goals as goal
 
 pub invariant_of-self : goal.invariant_of-self

@@ -1,7 +1,7 @@
 use Rattle.std.proofs.Common.{ap, ◌∙◌}
 use Rattle.custody_records.specs.Keys.{notice_cmp}
-use Rattle.custody_records.specs.Orders.{notice_total}
-use Rattle.custody_records.specs.Typed.{notice_key, notice_value}
+use Rattle.custody_records.specs.inside.Orders.{notice_total}
+use Rattle.custody_records.specs.TypedRecords.{notice_key, notice_value}
 use Rattle.custody_records.proofs.TableLemmas.{row_at, absent_row, found_at, added_at, map_added, rising_tried, not_both}
 use Rattle.plain_machine.proofs.notices.PlainNotices.add.Goals as goal
 

@@ -1,12 +1,12 @@
 use Rattle.std.proofs.Common.{◌∙◌, rules, tests}
 use Rattle.std.proofs.lemmas.Iterator.{YieldsList-from_slice}
 use Rattle.std.proofs.lemmas.Iterator.Search.{any_from_yields_List}
-use Rattle.custody_records.specs.Typed.{notice_entry}
-use Rattle.plain_machine.specs.Plain.{is_later_receipt}
+use Rattle.custody_records.specs.TypedRecords.{notice_entry}
+use Rattle.plain_machine.specs.Plain.{is_receipt_after}
 use Rattle.plain_machine.proofs.NoticeRows.{any_shown}
 use Rattle.plain_machine.proofs.notices.PlainNotices.has_later_receipt.Goals as goal
 
 pub returns : goal.returns
 returns c =
-    any_from_yields_List (λ n. is_later_receipt c.args.tld.now c.args.day (notice_entry n)) _ _ _ c.any.ensures.ran (YieldsList-from_slice c.deref.result.now cc) (λ x b q k. search (rules, tests))
-    ∙ any_shown c.args.self.now.rows.items c.deref.result.now c.deref.ensures.value c.args.self.now.rising (is_later_receipt c.args.tld.now c.args.day)
+    any_from_yields_List (λ n. is_receipt_after c.args.tld.now c.args.day (notice_entry n)) _ _ _ c.any.ensures.ran (YieldsList-from_slice c.deref.result.now cc) (λ x b q k. search (rules, tests))
+    ∙ any_shown c.args.self.now.rows.items c.deref.result.now c.deref.ensures.value c.args.self.now.rising (is_receipt_after c.args.tld.now c.args.day)

@@ -4,7 +4,7 @@ use Rattle.std.proofs.lemmas.Fn.{always_returns_same}
 use Rattle.std.proofs.lemmas.Grind.{common_steps}
 use Rattle.desk.specs.declared.notices.Notice as desk
 use Rattle.custody_records.specs.Keys.{notice_cmp}
-use Rattle.custody_records.specs.Typed.{notice_key}
+use Rattle.custody_records.specs.TypedRecords.{notice_key}
 use Rattle.plain_machine.proofs.notices.PlainNotices.place_of.Goals as goal
 
 pub returns-clause-place : goal.returns-clause-place

@@ -1,6 +1,6 @@
 use Rattle.std.proofs.Common.{refl, ◌∙◌, ap}
 use Rattle.std.specs.Prelude.{option_map}
-use Rattle.custody_records.specs.Typed.{notice_entry}
+use Rattle.custody_records.specs.TypedRecords.{notice_entry}
 use Rattle.custody_machine.specs.State.{is_notice_of}
 use Rattle.custody_machine.specs.Machine.{is_verdict_of}
 use Rattle.plain_machine.proofs.NoticeRows.{find_shown}

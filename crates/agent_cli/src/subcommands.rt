@@ -1,0 +1,463 @@
+//! The words of the subcommands: one row each, with the texts of its help and an example.
+ghost use Rattle.std.specs.Prelude.{◌≡◌, find, map};
+ghost use Rattle.std.specs.Str.{bytes_eq};
+ghost use Rattle.agent_cli.specs.Grammar.{is_named, rule_in, subcommands, words_of};
+
+use vault_volume::{FEWEST_BLOCKS, MOST_BLOCKS};
+
+/// What a call of the program asks for.
+#[derive(Clone, Copy, Debug, PartialEq, Eq)]
+pub(crate) enum Subcommand {
+    Init,
+    Register,
+    Put,
+    Verify,
+    Sweep,
+    Purge,
+    Hold,
+    Lift,
+    Release,
+    Fetch,
+    Report,
+    State,
+    Audit,
+    Serve,
+}
+
+/// All of them, in the order in which help shows them.
+pub(crate) const SUBCOMMANDS: [Subcommand; 14] = [
+    Subcommand::Init,
+    Subcommand::Register,
+    Subcommand::Put,
+    Subcommand::Verify,
+    Subcommand::Sweep,
+    Subcommand::Purge,
+    Subcommand::Hold,
+    Subcommand::Lift,
+    Subcommand::Release,
+    Subcommand::Fetch,
+    Subcommand::Report,
+    Subcommand::State,
+    Subcommand::Audit,
+    Subcommand::Serve,
+];
+
+/// How an argument is given.
+#[derive(Clone, Copy)]
+pub(crate) enum WordForm<'a> {
+    /// By its place. It has to be there.
+    Place,
+    /// As `--id VALUE`.
+    Option { value: &'a str, required: bool },
+    /// As `--id N`, a number within bounds, which has to be there.
+    Count { least: u32, most: u32 },
+}
+
+/// An argument: how it is given, and what help says of it.
+#[derive(Clone, Copy)]
+pub(crate) struct Word<'a> {
+    pub id: &'a str,
+    pub form: WordForm<'a>,
+    pub help: &'a str,
+}
+
+/// The words of a subcommand, and what help says of it.
+#[derive(Clone, Copy)]
+pub(crate) struct Row<'a> {
+    pub name: &'a str,
+    pub about: &'a str,
+    /// What it prints, and an example.
+    pub after: &'a str,
+    pub words: &'a [Word<'a>],
+}
+
+const DIR: Word<'static> = Word {
+    id: "DIR",
+    form: WordForm::Place,
+    help: "Folder of the vault, which has to be there",
+};
+
+const TLD: Word<'static> = Word {
+    id: "TLD",
+    form: WordForm::Place,
+    help: "Top-level domain of the registry",
+};
+
+static INIT: Row<'static> = Row {
+    name: "init",
+    about: "Makes a vault in a folder: its volume vault.vol and its records custody.db",
+    after: "Prints: ready N HEX16\n\
+            Example: escrow init vault --blocks 8 --number 0000000000000001",
+    words: &[
+        DIR,
+        Word {
+            id: "blocks",
+            form: WordForm::Count {
+                least: FEWEST_BLOCKS,
+                most: MOST_BLOCKS,
+            },
+            help: "Blocks of 4096 bytes, 2 to 262144; the first is the head of the volume",
+        },
+        Word {
+            id: "number",
+            form: WordForm::Option {
+                value: "HEX16",
+                required: true,
+            },
+            help: "Number of the volume, 16 lower-case hexadecimal digits",
+        },
+    ],
+};
+
+static REGISTER: Row<'static> = Row {
+    name: "register",
+    about: "Records a registry; of one that is known the kept first day is printed",
+    after: "Prints: registered TLD DATE\n\
+            Example: escrow register vault example --first 2026-08-02",
+    words: &[
+        DIR,
+        Word {
+            id: "TLD",
+            form: WordForm::Place,
+            help: "Top-level domain of the registry: 1 to 63 of a-z 0-9 -, no hyphen at either end",
+        },
+        Word {
+            id: "first",
+            form: WordForm::Option {
+                value: "DATE",
+                required: true,
+            },
+            help: "First day of which a deposit is due, as 2026-08-02",
+        },
+    ],
+};
+
+static PUT: Row<'static> = Row {
+    name: "put",
+    about: "Receives one part file of a deposit; the same bytes again are answered as before",
+    after: "Name: TLD_DATE_KIND_SN_RM.ryde, KIND full, diff or incr, N from 1 to 8, M from 0 to 99\n\
+            Prints: received NAME LENGTH MOMENT\n\
+            Example: escrow put vault example_2026-08-02_full_S1_R0.ryde --now 2026-08-02T10:00:00Z",
+    words: &[
+        DIR,
+        Word {
+            id: "FILE",
+            form: WordForm::Place,
+            help: "Part file of 1 to 1048576 bytes; the last part of its path is its name",
+        },
+        Word {
+            id: "now",
+            form: WordForm::Option {
+                value: "MOMENT",
+                required: false,
+            },
+            help: "Moment of receipt, as 2026-08-02T10:00:00Z; else the clock is read",
+        },
+    ],
+};
+
+static VERIFY: Row<'static> = Row {
+    name: "verify",
+    about: "Verifies a deposit whose parts are all sent; the same words again are answered as before",
+    after: "Prints the notice: NUMBER RECEIPT DATE RNN ID MOMENT TLD where the deposit passes,\n        \
+            else NUMBER FAILURE-NN DATE RNN ID MOMENT TLD, NN the first check that fails\n\
+            Example: escrow verify vault example --date 2026-08-02 --kind full --revision 0 \
+            --parts 1 --id 20260802001",
+    words: &[
+        DIR,
+        TLD,
+        Word {
+            id: "date",
+            form: WordForm::Option {
+                value: "DATE",
+                required: true,
+            },
+            help: "Day of the deposit, as 2026-08-02",
+        },
+        Word {
+            id: "kind",
+            form: WordForm::Option {
+                value: "KIND",
+                required: true,
+            },
+            help: "What the deposit holds: full, diff or incr",
+        },
+        Word {
+            id: "revision",
+            form: WordForm::Count { least: 0, most: 99 },
+            help: "Resend number of the deposit, 0 to 99: 0 where its parts end in R0.ryde",
+        },
+        Word {
+            id: "parts",
+            form: WordForm::Count { least: 1, most: 8 },
+            help: "How many parts the deposit has, 1 to 8",
+        },
+        Word {
+            id: "id",
+            form: WordForm::Option {
+                value: "ID",
+                required: true,
+            },
+            help: "Id of the deposit, as its envelope has it: 1 to 13 letters and digits",
+        },
+        Word {
+            id: "now",
+            form: WordForm::Option {
+                value: "MOMENT",
+                required: false,
+            },
+            help: "Moment of the notice, as 2026-08-02T10:05:00Z; else the clock is read",
+        },
+    ],
+};
+
+static SWEEP: Row<'static> = Row {
+    name: "sweep",
+    about: "Records the absence of each day that has passed without a notice, of all registries",
+    after: "Prints each new notice: NUMBER ABSENCE DATE --- - MOMENT TLD\n\
+            Example: escrow sweep vault --now 2026-08-05T00:00:00Z",
+    words: &[
+        DIR,
+        Word {
+            id: "now",
+            form: WordForm::Option {
+                value: "MOMENT",
+                required: false,
+            },
+            help: "Moment of the notices, as 2026-08-05T00:00:00Z; else the clock is read",
+        },
+    ],
+};
+
+static PURGE: Row<'static> = Row {
+    name: "purge",
+    about: "Drops the bytes of each part kept for a year whose day is not on hold; its record stays",
+    after: "Prints: dropped N, the number of these parts\n\
+            Example: escrow purge vault --now 2027-08-04T00:00:00Z",
+    words: &[
+        DIR,
+        Word {
+            id: "now",
+            form: WordForm::Option {
+                value: "MOMENT",
+                required: false,
+            },
+            help: "Moment of the purge, as 2027-08-04T00:00:00Z; else the clock is read",
+        },
+    ],
+};
+
+static HOLD: Row<'static> = Row {
+    name: "hold",
+    about: "Puts a registry's day on hold: while the hold stands, a purge drops no part of that day",
+    after: "For deposits of a day that a court or an authority orders to be kept: the year's purge\n\
+            passes the day by until lift ends the hold, and no command removes a hold\n\
+            The same words again are answered as before; a hold that was lifted stays so\n\
+            Prints: held REF TLD DATE MOMENT\n\
+            Example: escrow hold vault H-1 example --date 2026-08-02 --now 2027-07-30T12:00:00Z",
+    words: &[
+        DIR,
+        Word {
+            id: "REF",
+            form: WordForm::Place,
+            help: "Reference of the hold: 1 to 32 of A-Z a-z 0-9 -",
+        },
+        TLD,
+        Word {
+            id: "date",
+            form: WordForm::Option {
+                value: "DATE",
+                required: true,
+            },
+            help: "Day of the deposits, as 2026-08-02",
+        },
+        Word {
+            id: "now",
+            form: WordForm::Option {
+                value: "MOMENT",
+                required: false,
+            },
+            help: "Moment of the hold, as 2027-07-30T12:00:00Z; else the clock is read",
+        },
+    ],
+};
+
+static LIFT: Row<'static> = Row {
+    name: "lift",
+    about: "Lifts a hold, which keeps its day from the purge no longer; its record stays",
+    after: "A purge passes the day by as long as another hold of it stands\n\
+            Prints: lifted REF MOMENT; of a hold that was lifted before, that MOMENT\n\
+            Example: escrow lift vault H-1 --now 2028-02-01T12:00:00Z",
+    words: &[
+        DIR,
+        Word {
+            id: "REF",
+            form: WordForm::Place,
+            help: "Reference of the hold: 1 to 32 letters, digits and hyphens",
+        },
+        Word {
+            id: "now",
+            form: WordForm::Option {
+                value: "MOMENT",
+                required: false,
+            },
+            help: "Moment of the lifting, as 2028-02-01T12:00:00Z; else the clock is read",
+        },
+    ],
+};
+
+static RELEASE: Row<'static> = Row {
+    name: "release",
+    about: "Hands the deposits of a registry over, and lists the parts that are held",
+    after: "Ground: operator, termination, no_notices, sunday_failed, five_failed, insolvency, critical,\n        \
+            order or audit\n\
+            Prints: released REF TLD GROUND MOMENT N, then the N names, one a line\n\
+            Example: escrow release vault R-1 example operator --now 2026-08-03T12:00:00Z",
+    words: &[
+        DIR,
+        Word {
+            id: "REF",
+            form: WordForm::Place,
+            help: "Reference of the release: 1 to 32 of A-Z a-z 0-9 -",
+        },
+        TLD,
+        Word {
+            id: "GROUND",
+            form: WordForm::Place,
+            help: "Ground of the release",
+        },
+        Word {
+            id: "now",
+            form: WordForm::Option {
+                value: "MOMENT",
+                required: false,
+            },
+            help: "Moment of the release, as 2026-08-03T12:00:00Z; else the clock is read",
+        },
+    ],
+};
+
+static FETCH: Row<'static> = Row {
+    name: "fetch",
+    about: "Writes the bytes of a part of a release to standard output",
+    after: "Writes the part as it was received, and nothing else\n\
+            Example: escrow fetch vault R-1 example_2026-08-02_full_S1_R0.ryde > part.ryde",
+    words: &[
+        DIR,
+        Word {
+            id: "REF",
+            form: WordForm::Place,
+            help: "Reference of the release: 1 to 32 letters, digits and hyphens",
+        },
+        Word {
+            id: "NAME",
+            form: WordForm::Place,
+            help: "Name of one of its parts",
+        },
+    ],
+};
+
+static REPORT: Row<'static> = Row {
+    name: "report",
+    about: "Prints the notices of a registry",
+    after: "Prints: NUMBER RECEIPT DATE RNN ID MOMENT TLD, as verify prints a notice\n\
+            Example: escrow report vault example",
+    words: &[DIR, TLD],
+};
+
+static STATE: Row<'static> = Row {
+    name: "state",
+    about: "Prints the records: each registry with its parts and notices, releases, holds, free blocks",
+    after: "Prints: registry TLD DATE\n        \
+            part NAME LENGTH held MOMENT\n        \
+            NUMBER RECEIPT DATE RNN ID MOMENT TLD, as verify prints a notice\n        \
+            release REF TLD GROUND MOMENT N\n        \
+            hold REF TLD DATE MOMENT [lifted MOMENT]\n        \
+            free F of T\n\
+            Example: escrow state vault",
+    words: &[DIR],
+};
+
+static AUDIT: Row<'static> = Row {
+    name: "audit",
+    about: "Reads each part that is held and compares it with its recorded digest",
+    after: "Prints: damaged NAME for each part that has not its digest,\n        \
+            or sound N, N the number of parts that are held\n\
+            Example: escrow audit vault",
+    words: &[DIR],
+};
+
+static SERVE: Row<'static> = Row {
+    name: "serve",
+    about: "Answers requests over HTTP on 127.0.0.1, one connection after the other",
+    after: "Prints: listening 127.0.0.1:P\n\
+            Example: escrow serve vault --port 8080 --requests 1000",
+    words: &[
+        DIR,
+        Word {
+            id: "port",
+            form: WordForm::Count {
+                least: 1,
+                most: 65_535,
+            },
+            help: "Port of 127.0.0.1 to listen on, 1 to 65535",
+        },
+        Word {
+            id: "requests",
+            form: WordForm::Count {
+                least: 1,
+                most: 1_000_000,
+            },
+            help: "How many connections are served before it ends, 1 to 1000000",
+        },
+        Word {
+            id: "now",
+            form: WordForm::Option {
+                value: "MOMENT",
+                required: false,
+            },
+            help: "Moment of each request, as 2026-08-02T10:00:00Z; else the clock is read for each",
+        },
+    ],
+};
+
+impl Subcommand {
+    /// Its row of the table.
+    pub(crate) fn row(self) -> &'static Row<'static>
+        ensures name { result.now.name.now ≡ (words_of self).0 }
+        ensures words { map rule_in result.now.words.now ≡ (words_of self).1 }
+    {
+        match self {
+            Subcommand::Init => &INIT,
+            Subcommand::Register => &REGISTER,
+            Subcommand::Put => &PUT,
+            Subcommand::Verify => &VERIFY,
+            Subcommand::Sweep => &SWEEP,
+            Subcommand::Purge => &PURGE,
+            Subcommand::Hold => &HOLD,
+            Subcommand::Lift => &LIFT,
+            Subcommand::Release => &RELEASE,
+            Subcommand::Fetch => &FETCH,
+            Subcommand::Report => &REPORT,
+            Subcommand::State => &STATE,
+            Subcommand::Audit => &AUDIT,
+            Subcommand::Serve => &SERVE,
+        }
+    }
+
+    fn is_named(self, name: &str) -> bool
+        ensures { result ≡ is_named name.now self }
+    {
+        self.row().name == name
+    }
+
+    /// The subcommand of that name.
+    pub(crate) fn named(name: &str) -> Option<Subcommand>
+        ensures { result ≡ find (is_named name.now) subcommands }
+    {
+        SUBCOMMANDS
+            .iter()
+            .find(|subcommand| subcommand.is_named(name))
+            .copied()
+    }
+}

@@ -1,5 +1,0 @@
-use Rattle.answer_lines.proofs.Beginnings.{kept_begins}
-use Rattle.answer_lines.proofs.audited.write_audit.Goals as goal
-
-pub returns-clause-begun : goal.returns-clause-begun
-returns-clause-begun g c = kept_begins _ _ _ _ c.in_ok-write_found.ensures.whole c.flush.ensures

@@ -1,7 +1,0 @@
-use Rattle.std.proofs.Common.{ap, ◌∙◌}
-use Rattle.custody_records.specs.Tables.{table_map}
-use Rattle.custody_records.proofs.TableLemmas.{empty_table}
-use Rattle.custody_records.proofs.tables.Table.new.Goals as goal
-
-pub returns : goal.returns
-returns g c = ap (table_map g.T.Keyed.order g.T.Keyed.key_of g.T.Keyed.value_of) c.new.ensures.items ∙ empty_table g.T.Keyed.order g.T.Keyed.key_of g.T.Keyed.value_of

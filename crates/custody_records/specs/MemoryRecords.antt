@@ -1,0 +1,45 @@
+-- The records in memory, seen as records.
+use Rattle.custody_records.specs.declared.records.Records as held
+use Rattle.custody_records.specs.Keys.{text_cmp, part_cmp, notice_cmp}
+use Rattle.custody_records.specs.Records.{Records}
+use Rattle.custody_records.specs.Tables.{HasRoom, table_map}
+use Rattle.custody_records.specs.TypedRecords.{
+  registry_key,
+  registry_value,
+  key_of_part,
+  part_value,
+  notice_key,
+  notice_value,
+  release_key,
+  release_value,
+  hold_key,
+  hold_value,
+}
+
+abbrev pub records_of : held.Records → Records
+records_of r = record {
+  number = r.number;
+  blocks = r.blocks;
+  registries = table_map text_cmp registry_key registry_value r.registries.rows.items;
+  parts = table_map part_cmp key_of_part part_value r.parts.rows.items;
+  notices = table_map notice_cmp notice_key notice_value r.notices.rows.items;
+  releases = table_map text_cmp release_key release_value r.releases.rows.items;
+  holds = table_map text_cmp hold_key hold_value r.holds.rows.items;
+}
+
+-- ---- room for one more, which is taken without memory
+
+abbrev pub HasRegistryRoom : held.Records → Type 0
+HasRegistryRoom r = HasRoom r.registries.rows
+
+abbrev pub HasPartRoom : held.Records → Type 0
+HasPartRoom r = HasRoom r.parts.rows
+
+abbrev pub HasNoticeRoom : held.Records → Type 0
+HasNoticeRoom r = HasRoom r.notices.rows
+
+abbrev pub HasReleaseRoom : held.Records → Type 0
+HasReleaseRoom r = HasRoom r.releases.rows
+
+abbrev pub HasHoldRoom : held.Records → Type 0
+HasHoldRoom r = HasRoom r.holds.rows

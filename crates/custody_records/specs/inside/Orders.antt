@@ -1,0 +1,82 @@
+-- The orders of the keys are total, tell all keys apart, and keep registries and revisions together.
+use Rattle.std.proofs.Common.{◌≡◌, ◌≤◌, ℕ, List, false, refl, sym, ap, ◌∙◌, arith}
+use Rattle.std.specs.Ordering.{nat_cmp, is_gt, ordering_then, ordering_index}
+use Rattle.std.specs.declared.cmp.Ordering.{Ordering}
+use Rattle.std.specs.declared.cmp.Ordering.TheVariants.{Less, Equal, Greater}
+use Rattle.std.specs.FinMap.{IsAntisymmetric}
+use Rattle.std.proofs.lemmas.Cmp.{alike_right}
+use Rattle.std.proofs.lemmas.Map.Lookups.{exact_pairs, exact_bytes, exact_unsigned}
+use Rattle.std.specs.Cmp.{IsTotalOrder, nat_cmp_total, on_total, then_total}
+use Rattle.std.specs.Cmp.Lexicographic.{nat_list_cmp_total}
+use Rattle.custody_records.specs.Keys.{
+  text_cmp,
+  PartKey,
+  part_cmp,
+  revision_cmp,
+  NoticeKey,
+  notice_cmp,
+}
+
+pub text_total : IsTotalOrder text_cmp
+text_total = nat_list_cmp_total
+
+pub text_exact : IsAntisymmetric text_cmp
+text_exact = exact_bytes
+
+pub part_total : IsTotalOrder part_cmp
+part_total = then_total (on_total (λ (k : PartKey). k.tld) nat_list_cmp_total) (then_total (on_total (λ (k : PartKey). k.day) nat_cmp_total) (then_total (on_total (λ (k : PartKey). k.rev) nat_cmp_total) (on_total (λ (k : PartKey). k.part) nat_cmp_total)))
+
+pub part_exact : IsAntisymmetric part_cmp
+part_exact a b h = ap (λ (p : List ℕ × (ℕ × (ℕ × ℕ))). record { tld = p.0; day = p.1.0; rev = p.1.1.0; part = p.1.1.1 })
+    (exact_pairs text_cmp (λ (x y : ℕ × (ℕ × ℕ)). ordering_then (nat_cmp x.0 y.0) (ordering_then (nat_cmp x.1.0 y.1.0) (nat_cmp x.1.1 y.1.1))) exact_bytes
+    (exact_pairs nat_cmp (λ (x y : ℕ × ℕ). ordering_then (nat_cmp x.0 y.0) (nat_cmp x.1 y.1)) exact_unsigned (exact_pairs nat_cmp nat_cmp exact_unsigned exact_unsigned))
+    (a.tld, (a.day, (a.rev, a.part))) (b.tld, (b.day, (b.rev, b.part))) h)
+
+pub notice_total : IsTotalOrder notice_cmp
+notice_total = then_total (on_total (λ (k : NoticeKey). k.tld) nat_list_cmp_total) (on_total (λ (k : NoticeKey). k.number) nat_cmp_total)
+
+pub notice_exact : IsAntisymmetric notice_cmp
+notice_exact a b h = ap (λ (p : List ℕ × ℕ). record { tld = p.0; number = p.1 }) (exact_pairs text_cmp nat_cmp exact_bytes exact_unsigned (a.tld, a.number) (b.tld, b.number) h)
+
+-- ---- along an order, keys come no closer to the front of a group
+
+-- of two keys in order, the second stands no further before a third
+ascends : {K : Type 0} {R : K → K → Ordering} → IsTotalOrder R → (a b c : K) → is_gt (R a b) ≡ false → ordering_index (R a c) ≤ ordering_index (R b c)
+ascends {K} {R} o a b c low = by (R a b) (R b c) refl refl low
+  where
+    by : (first second : Ordering) → R a b ≡ first → R b c ≡ second → is_gt first ≡ false → ordering_index (R a c) ≤ ordering_index (R b c)
+    by Less Less is next low = let less = o.trans a b c is next in rw (less, next) (omega arith)
+    by Less Equal is next low = let less : R a c ≡ Less = sym (alike_right o b c a next) ∙ is in rw (less, next) (omega arith)
+    by Less Greater is next low = rw next (high (R a c))
+      where
+        high : (r : Ordering) → ordering_index r ≤ 2
+        high Less = omega arith
+        high Equal = omega arith
+        high Greater = omega arith
+    by Equal second is next low = let same : R a c ≡ R b c = o.congr a b c is in rw same (omega arith)
+    by Greater second is next low = cc
+
+first_in_order : (o rest : Ordering) → ordering_then o rest ≡ Less → is_gt o ≡ false
+first_in_order Less rest e = refl
+first_in_order Equal rest e = refl
+first_in_order Greater rest e = cc
+
+three_in_order : (a b c d : Ordering) → ordering_then a (ordering_then b (ordering_then c d)) ≡ Less → is_gt (ordering_then a (ordering_then b c)) ≡ false
+three_in_order Less b c d e = refl
+three_in_order Equal Less c d e = refl
+three_in_order Equal Equal c d e = first_in_order c d e
+three_in_order Equal Greater c d e = cc
+three_in_order Greater b c d e = cc
+
+pub part_registries_ascend : (tld : List ℕ) (a b : PartKey) → part_cmp a b ≡ Less → ordering_index (text_cmp a.tld tld) ≤ ordering_index (text_cmp b.tld tld)
+part_registries_ascend tld a b less = ascends text_total a.tld b.tld tld (first_in_order (text_cmp a.tld b.tld) _ less)
+
+pub notice_registries_ascend : (tld : List ℕ) (a b : NoticeKey) → notice_cmp a b ≡ Less → ordering_index (text_cmp a.tld tld) ≤ ordering_index (text_cmp b.tld tld)
+notice_registries_ascend tld a b less = ascends text_total a.tld b.tld tld (first_in_order (text_cmp a.tld b.tld) _ less)
+
+revision_total : IsTotalOrder revision_cmp
+revision_total = then_total (on_total (λ (k : PartKey). k.tld) nat_list_cmp_total) (then_total (on_total (λ (k : PartKey). k.day) nat_cmp_total) (on_total (λ (k : PartKey). k.rev) nat_cmp_total))
+
+pub part_revisions_ascend : (place a b : PartKey) → part_cmp a b ≡ Less → ordering_index (revision_cmp a place) ≤ ordering_index (revision_cmp b place)
+part_revisions_ascend place a b less =
+    ascends revision_total a b place (three_in_order (text_cmp a.tld b.tld) (nat_cmp a.day b.day) (nat_cmp a.rev b.rev) (nat_cmp a.part b.part) less)

@@ -1,0 +1,52 @@
+use Rattle.std.proofs.Common.{◌≡◌, ◌∙◌, ◌↔◌, Bool, true, false, ◌&&◌, Option, BTreeSet, sym, ap, subst}
+use Rattle.std.specs.Prelude.{IfNone, IfSome}
+use Rattle.std.specs.BTreeSet.{contains}
+use Rattle.custody_records.specs.MemoryRecords.{records_of}
+use Rattle.custody_rules.specs.declared.unique_keys.FailedRevision.{FailedRevision}
+use Rattle.custody_rules.specs.inside.Orders.{failed_revision_cmp}
+use Rattle.custody_rules.specs.inside.UniqueKeys.{HaveNoRivals, IsKeyAmong, failed_revision_of}
+use Rattle.custody_rules.proofs.LinkLemmas.{all_linked, some_broken, passes, parts_pass, notices_pass, parts_test, notices_test, references_test}
+use Rattle.custody_rules.proofs.Rivals.{failures_are, linked_only}
+use Rattle.custody_rules.proofs.links.are_linked.Goals as goal
+use Rattle.custody_rules.proofs.links.are_linked.Goals.{then-parts_are_linked, else-parts_are_linked, then-notices_are_linked, else-notices_are_linked}
+
+both : (value result p n r : Bool) → value ≡ (p && n) → result ≡ (value && r) → result ≡ (p && (n && r))
+both value result true n r e f = f ∙ ap (λ b. b && r) e
+both value result false n r e f = f ∙ ap (λ b. b && r) e
+
+-- the answer is that of the tests
+answer_is : (c : goal.After-drop-failed) → c.if-notices_are_linked.result ≡ passes (records_of c.args.records.now)
+answer_is c =
+    let all = records_of c.args.records.now in
+    let told : (t : FailedRevision) → (contains failed_revision_cmp c.in-Some.failed t ≡ true) ↔ IsKeyAmong failed_revision_of c.notices.result.now t =
+    subst {A = Option (BTreeSet FailedRevision)} (λ found. IfSome found (λ failed. (t : FailedRevision) → (contains failed_revision_cmp failed t ≡ true) ↔ IsKeyAmong failed_revision_of c.notices.result.now t)) c.in-Some.is c.in_ok-failed.ensures.failed in
+    let same = failures_are all c.notices.result.now c.notices.ensures.all c.notices.ensures.rising (contains failed_revision_cmp c.in-Some.failed) told in
+    let parts : c.parts_are_linked.result ≡ parts_test all = c.parts_are_linked.ensures ∙ parts_pass all (contains failed_revision_cmp c.in-Some.failed) same c.parts.result.now c.parts.ensures.all c.parts.ensures.rising in
+    let value : c.if-parts_are_linked.value ≡ (parts_test all && notices_test all) = elim c.if-parts_are_linked.branch [
+      | then-parts_are_linked w ↦
+          let notices : w.notices_are_linked.result ≡ notices_test all =
+          w.notices_are_linked.ensures ∙ notices_pass all w.notices-then-parts_are_linked.result.now w.notices-then-parts_are_linked.ensures.all w.notices-then-parts_are_linked.ensures.rising in
+          w.value-is ∙ (notices ∙ ap (λ b. b && notices_test all) (sym (sym parts ∙ w.if-parts_are_linked.true)))
+      | else-parts_are_linked w ↦ w.value-is ∙ (w.if-parts_are_linked.false ∙ ap (λ b. b && notices_test all) (sym (sym parts ∙ w.if-parts_are_linked.false)))
+    ] in
+    let result : c.if-notices_are_linked.result ≡ (c.if-parts_are_linked.value && references_test all) = elim c.if-notices_are_linked.branch [
+      | then-notices_are_linked w ↦
+          w.result-is ∙ (w.references_are_linked.ensures ∙ ap (λ b. b && references_test all) (sym w.if-notices_are_linked.true))
+      | else-notices_are_linked w ↦ w.result-is ∙ (w.if-notices_are_linked.false ∙ ap (λ b. b && references_test all) (sym w.if-notices_are_linked.false))
+    ] in
+    both c.if-parts_are_linked.value c.if-notices_are_linked.result (parts_test all) (notices_test all) (references_test all) value result
+
+pub returns-in_default-clause-broken : goal.returns-in_default-clause-broken
+returns-in_default-clause-broken c = λ _ linked.
+    let rows = c.notices.result.now in
+    let twice : ¬ HaveNoRivals rows = subst {A = Option (BTreeSet FailedRevision)} (λ found. IfNone found (¬ HaveNoRivals rows)) c.in_default.is c.in_ok-failed.ensures.twice in
+    twice (linked_only (records_of c.args.records.now) rows c.notices.ensures.all c.notices.ensures.rising linked)
+
+pub returns-clause-linked : goal.returns-clause-linked
+returns-clause-linked c = λ is_true.
+    let rows = c.notices.result.now in
+    let only : HaveNoRivals rows = subst {A = Option (BTreeSet FailedRevision)} (λ found. IfSome found (λ _. HaveNoRivals rows)) c.in-Some.is c.in_ok-failed.ensures.once in
+    all_linked (records_of c.args.records.now) rows c.notices.ensures.all c.notices.ensures.rising only (sym (answer_is c) ∙ is_true)
+
+pub returns-clause-broken : goal.returns-clause-broken
+returns-clause-broken c = λ is_false. some_broken (records_of c.args.records.now) (sym (answer_is c) ∙ is_false)

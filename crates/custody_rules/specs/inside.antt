@@ -1,0 +1,7 @@
+pub mod Chains
+pub mod Holds
+pub mod Links
+pub mod Orders
+pub mod PassedDeposits
+pub mod Releases
+pub mod UniqueKeys

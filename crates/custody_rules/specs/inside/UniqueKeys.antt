@@ -1,0 +1,50 @@
+-- What notices tell that no two of them may tell.
+use Rattle.std.specs.Prelude.{◌≡◌, ℕ, List, Option, Some, None}
+use Rattle.std.specs.List.{slice_get}
+use Rattle.desk.specs.declared.notices.Notice.{Notice}
+use Rattle.desk.specs.declared.notices.NoticeKind.{NoticeKind}
+use Rattle.desk.specs.declared.notices.NoticeKind.TheVariants.{Receipt, Failure, Absence}
+use Rattle.custody_machine.specs.StoredState.{revision_of}
+use Rattle.custody_rules.specs.declared.unique_keys.Subject.{Subject}
+use Rattle.custody_rules.specs.declared.unique_keys.ReceivedDay.{ReceivedDay}
+use Rattle.custody_rules.specs.declared.unique_keys.FailedRevision.{FailedRevision}
+
+-- what a notice is about
+abbrev pub subject_of : Notice → Option Subject
+subject_of notice = Some (record { tld = notice.tld; day = notice.day; rev = revision_of notice.kind })
+
+-- a day, where a notice of this kind is its receipt
+abbrev pub day_if_receipt : List ℕ → ℕ → NoticeKind → Option ReceivedDay
+day_if_receipt tld day (Receipt _ _) = Some (record { tld = tld; day = day })
+day_if_receipt tld day (Failure _ _ _) = None
+day_if_receipt tld day Absence = None
+
+-- the day that a notice is the receipt of
+abbrev pub received_day_of : Notice → Option ReceivedDay
+received_day_of notice = day_if_receipt notice.tld notice.day notice.kind
+
+-- a revision of a day, where a notice of this kind tells its failure
+abbrev pub revision_if_failure : List ℕ → ℕ → NoticeKind → Option FailedRevision
+revision_if_failure tld day (Receipt _ _) = None
+revision_if_failure tld day (Failure rev _ _) = Some (record { tld = tld; day = day; rev = rev })
+revision_if_failure tld day Absence = None
+
+-- the revision that a notice tells the failure of
+abbrev pub failed_revision_of : Notice → Option FailedRevision
+failed_revision_of notice = revision_if_failure notice.tld notice.day notice.kind
+
+-- one of the notices tells it
+pub record IsKeyAmong {T : Type 0} (told_by : Notice → Option T) (notices : List Notice) (t : T) : Type 0 where
+  pub place : ℕ
+  pub notice : Notice
+  pub at : slice_get notices place ≡ Some notice
+  pub tells : told_by notice ≡ Some t
+
+-- of two notices that tell the same the one is the other
+abbrev pub HaveUniqueKeys : {T : Type 0} → (Notice → Option T) → List Notice → Type 0
+HaveUniqueKeys {T} told_by notices = (i j : ℕ) (m n : Notice) (t : T) → slice_get notices i ≡ Some m → slice_get notices j ≡ Some n → told_by m ≡ Some t → told_by n ≡ Some t → i ≡ j
+
+-- no day has two verdicts of one revision, two receipts or two absences
+pub record HaveNoRivals (notices : List Notice) : Type 0 where
+  pub subjects : HaveUniqueKeys subject_of notices
+  pub received_days : HaveUniqueKeys received_day_of notices

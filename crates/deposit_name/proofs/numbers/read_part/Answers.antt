@@ -1,0 +1,7 @@
+use Rattle.std.proofs.Common.{◌-◌, arith, slice_index_or}
+use Rattle.std.proofs.lemmas.Grind.{common_steps}
+use Rattle.deposit_name.proofs.NameLemmas.{decimal_digits}
+use Rattle.deposit_name.proofs.numbers.read_part.Goals as goal
+
+pub returns-in-83-clause-text : goal.returns-in-83-clause-text
+returns-in-83-clause-text c = rw (decimal_digits (slice_index_or c.args.t.now 1 0 - 48) (omega arith)) (grind (arith, common_steps))

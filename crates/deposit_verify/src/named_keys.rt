@@ -1,0 +1,51 @@
+//! The keys that a deposit names.
+ghost use Rattle.std.specs.Prelude.{◌≡◌, ◌<◌, All, IfOk, length, map};
+ghost use Rattle.dnrd_csv.specs.inside.RowKeys.{borrowed_texts};
+ghost use Rattle.dnrd_csv.specs.Text.{key_rows};
+ghost use Rattle.deposit_verify.specs.References.{column};
+ghost use Rattle.deposit_verify.specs.Rows.{rows_under};
+
+use crate::keys::{first_fields, key_texts};
+use crate::places::table_place;
+use deposit_name::TableName;
+use dnrd_csv::{Keys, Rows};
+use envelope::FileEntry;
+use std::alloc::{AllocError, Global};
+
+/// The keys that stand in the table of a name, in the order of its rows.
+pub fn contained_keys<'t>(
+    alloc: Global,
+    entries: &[FileEntry],
+    tables: &'t [Rows],
+    name: TableName,
+) -> Result<Vec<&'t [u8]>, AllocError>
+    requires count { length tables.now ≡ length entries.now }
+    requires fields { All (λ rows. All (λ row. 0 < length row) rows) tables.now }
+    ensures { IfOk result (λ keys. borrowed_texts keys.items ≡ column 0 (rows_under entries.now tables.now name)) }
+{
+    for i in 0..entries.len() {
+        if table_place(entries[i].name) == table_place(name) {
+            return first_fields(alloc, &tables[i]);
+        }
+    }
+    Ok(Vec::new(alloc))
+}
+
+/// The deleted keys of the table of a name, in their order.
+pub fn deleted_keys<'t>(
+    alloc: Global,
+    entries: &[FileEntry],
+    deleted: &'t [Keys],
+    name: TableName,
+) -> Result<Vec<&'t [u8]>, AllocError>
+    requires { length deleted.now ≡ length entries.now }
+    ensures { IfOk result (λ keys. borrowed_texts keys.items
+        ≡ column 0 (rows_under entries.now (map key_rows deleted.now) name)) }
+{
+    for i in 0..entries.len() {
+        if table_place(entries[i].name) == table_place(name) {
+            return key_texts(alloc, &deleted[i]);
+        }
+    }
+    Ok(Vec::new(alloc))
+}

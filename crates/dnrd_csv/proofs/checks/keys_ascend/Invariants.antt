@@ -1,6 +1,0 @@
-use Rattle.std.proofs.Common.{◌≤◌, take}
-use Rattle.dnrd_csv.specs.Keys.{Ascend, keys_of}
-use Rattle.dnrd_csv.proofs.checks.keys_ascend.Given as goal
-
-abbrev pub invariant-loop-i : goal.invariant-loop-i
-invariant-loop-i l = (1 ≤ l.i) × Ascend (take l.i (keys_of l.key l.rows))

@@ -1,0 +1,4 @@
+pub mod Fields
+pub mod RowKeys
+pub mod RowReading
+pub mod Rows

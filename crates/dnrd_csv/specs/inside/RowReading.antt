@@ -1,0 +1,44 @@
+-- A reader at the start of a row, and why a text is refused.
+use Rattle.std.specs.Borrow.{Bor}
+use Rattle.std.specs.Prelude.{◌≡◌, ◌≢◌, ◌++◌, ℕ, List, Some, IsUtf8}
+use Rattle.csv.specs.Reading.{
+  Ready,
+  default_config,
+  reader_config,
+  reader_state,
+  reader_trim,
+  source_of,
+}
+use Rattle.csv.specs.declared.parser.State.TheVariants as st
+use Rattle.csv.specs.declared.reader.Reader.{Reader}
+use Rattle.csv.specs.declared.reader.Trim.TheVariants as trim
+use Rattle.dnrd_csv.specs.declared.errors.TableError.{TableError}
+use Rattle.dnrd_csv.specs.declared.errors.TableError.TheVariants as fault
+use Rattle.dnrd_csv.specs.Table.{HaveWidth}
+use Rattle.dnrd_csv.specs.Text.{IsRow, IsTextOf, row_text}
+
+-- a reader that has this text left, and stands at the start of a record
+pub record IsAtRow (reader : Reader (Bor (List ℕ))) (text : List ℕ) : Type 0 where
+  pub untrimmed : reader_trim reader ≡ trim.None
+  pub ready : Ready reader
+  pub config : reader_config reader ≡ default_config
+  pub start : reader_state reader ≡ st.StartRecord
+  pub source : source_of (λ bytes. Some bytes.now) reader ≡ Some text
+
+-- no row stands at the front of a text, or memory ran out
+abbrev pub RefusesRow : List ℕ → TableError → Type 0
+RefusesRow text fault.NotUtf8 = ⊥
+RefusesRow text fault.NotRows = (row : List (List ℕ)) (rest : List ℕ) → IsRow row → text ≢ row_text row ++ rest
+RefusesRow text fault.ColumnCount = ⊥
+RefusesRow text fault.FieldForm = ⊥
+RefusesRow text fault.DuplicateKey = ⊥
+RefusesRow text fault.OutOfMemory = Unit {0}
+
+-- the bytes are not the text of any rows, or of rows of another width, or memory ran out
+abbrev pub RefusesRows : ℕ → List ℕ → TableError → Type 0
+RefusesRows width bytes fault.NotUtf8 = ¬ IsUtf8 bytes
+RefusesRows width bytes fault.NotRows = IsUtf8 bytes × ((rows : List (List (List ℕ))) → ¬ IsTextOf bytes rows)
+RefusesRows width bytes fault.ColumnCount = IsUtf8 bytes × (rows : List (List (List ℕ))) × IsTextOf bytes rows × ¬ HaveWidth width rows
+RefusesRows width bytes fault.FieldForm = ⊥
+RefusesRows width bytes fault.DuplicateKey = ⊥
+RefusesRows width bytes fault.OutOfMemory = Unit {0}

@@ -1,0 +1,76 @@
+-- What a call does over a volume and a database.
+use Rattle.std.specs.Prelude.{◌≡◌, ℕ, ◌≤◌, List, Option}
+use Rattle.vault_volume.specs.declared.volume.Volume as volume
+use Rattle.vault_volume.specs.Vault.{volume_of}
+use Rattle.sqlite.specs.Store.{Ghosts}
+use Rattle.sqlite.specs.Held.{Held}
+use Rattle.custody_machine.specs.declared.answers.Failure.{Failure}
+use Rattle.custody_machine.specs.Texts.{failure_text}
+use Rattle.custody.specs.declared.custody.Custody.{Custody}
+use Rattle.custody.specs.declared.answers.InitError.{InitError}
+use Rattle.custody.specs.Answers.{init_error_text}
+use Rattle.custody.specs.Custody.{open_custody_of}
+use Rattle.custody.specs.Calls.{HasBegun, IsLoaded, IsNotBegun, IsNotOpenedFor, IsOpened}
+use Rattle.answer_lines.specs.Lines.{line_text}
+use Rattle.answer_lines.specs.Printing.{WritesBeginning, IsUnused, WritesWholeAt, Writer, as_line}
+use Rattle.answer_lines.specs.Statuses.{IsStatusAfter, init_status}
+use Rattle.answer_lines.specs.declared.lines.Line.TheVariants.{Listening, Ready}
+use Rattle.agent_cli.specs.Acts.{Acts}
+use Rattle.agent_cli.specs.declared.order.Order.{Order}
+use Rattle.http_serve.specs.Connections.{AreConnections}
+
+module _ {V S : Type 0} (g : volume.Ghosts V) (database : Ghosts S) (volume : V) (db : Held S) where
+  -- an agent was opened, the order was carried out on it, and volume and database are handed back as it left them
+  pub record IsCarriedOut (order : Order) (bytes : List ℕ) (now status : ℕ) (later : V) (then : Held S) (output errors : Writer) : Type 0 where
+    pub old : Custody V S g database
+    pub new : Custody V S g database
+    pub opened : IsOpened g database volume db old
+    pub loaded : IsLoaded g database volume db old
+    pub acts : Acts order bytes now old new status output errors
+    pub volume_is : later ≡ volume_of (open_custody_of new).vault
+    pub store_is : then ≡ (open_custody_of new).store
+
+  -- none was opened, and it is told why
+  pub record HasPrintedOpenFailure (status : ℕ) (output errors : Writer) : Type 0 where
+    pub why : Failure
+    pub later : V
+    pub then : Held S
+    pub cause : IsNotOpenedFor g database volume db why later then
+    pub failed : status ≡ 3
+    pub told : WritesBeginning errors (as_line (failure_text why))
+    pub unused : IsUnused output
+
+  -- one was begun, and it is told
+  pub record HasPrintedReady (blocks number status : ℕ) (later : V) (then : Held S) (output errors : Writer) : Type 0 where
+    pub custody : Custody V S g database
+    pub begun : HasBegun g database volume db number custody
+    pub volume_is : later ≡ volume_of (open_custody_of custody).vault
+    pub store_is : then ≡ (open_custody_of custody).store
+    pub done : IsStatusAfter 0 status
+    pub told : WritesWholeAt output (as_line (line_text (Ready blocks number))) 0 status
+    pub unused : IsUnused errors
+
+  -- none was begun, and it is told why
+  pub record HasPrintedInitError (status : ℕ) (output errors : Writer) : Type 0 where
+    pub error : InitError
+    pub later : V
+    pub then : Held S
+    pub cause : IsNotBegun g database volume db error later then
+    pub refused : IsStatusAfter (init_status error) status
+    pub told : WritesBeginning errors (as_line (init_error_text error))
+    pub unused : IsUnused output
+
+  -- one was opened, told the port where it listens, and answered connections at the given moment: with status 0 so many, and else at most so many
+  pub record HasServedConnections (port : ℕ) (given : Option ℕ) (requests status : ℕ) (later : V) (then : Held S) (output : Writer) : Type 0 where
+    pub old : Custody V S g database
+    pub new : Custody V S g database
+    pub served : ℕ
+    pub opened : IsOpened g database volume db old
+    pub loaded : IsLoaded g database volume db old
+    pub at_most : served ≤ requests
+    pub all : status ≡ 0 → served ≡ requests
+    pub turns : AreConnections given served old new
+    pub done : IsStatusAfter 0 status
+    pub told : WritesWholeAt output (as_line (line_text (Listening port))) 0 status
+    pub volume_is : later ≡ volume_of (open_custody_of new).vault
+    pub store_is : then ≡ (open_custody_of new).store

@@ -1,0 +1,166 @@
+//! What a call does over a volume and a database, of whatever kinds they are.
+ghost use Rattle.std.specs.Prelude.{◌≡◌, ◌-◌, ◌^◌, ◌<◌, ◌≤◌, ℕ, IfSome, MatchOption};
+ghost use Rattle.answer_lines.specs.Lines.{line_text};
+ghost use Rattle.answer_lines.specs.Printing.{WritesWholeAt, as_line};
+ghost use Rattle.answer_lines.specs.Statuses.{IsStatusAfter};
+ghost use Rattle.escrow.specs.VaultCalls.{
+  HasServedConnections,
+  HasPrintedReady,
+  IsCarriedOut,
+  HasPrintedInitError,
+  HasPrintedOpenFailure,
+};
+ghost use Rattle.agent_cli.specs.Order.{meaning, named_moment};
+ghost use Rattle.http_serve.specs.Connections.{AreConnections};
+
+use agent_cli::{Order, act};
+use answer_lines::{Line, VolumeNumber, print_line, tell, tell_init};
+use custody::{Custody, Progress};
+use custody_machine::{ExitStatus, Failure};
+use http_api::Api;
+use http_serve::{ServiceError, serve_connections};
+use schedule::Sec;
+use sqlite::{Alter, Connection};
+use std::alloc::Global;
+use std::io::Write;
+use std::net::{Ipv4Addr, TcpListener};
+use vault_volume::Volume;
+
+/// How a call ended: the exit status, and what is to be closed where there is a vault.
+#[derive(Drop)]
+pub struct CallEnd<V: Volume, S: Alter> {
+    pub status: u8,
+    pub vault: Option<(V, Connection<S>)>,
+}
+
+/// Makes a vault, and prints that it stands.
+pub fn init_vault<V: Volume, S: Alter + Drop, W: Write, E: Write>(
+    alloc: Global,
+    files: (V, Connection<S>),
+    blocks: u32,
+    number: VolumeNumber,
+    out: &mut W,
+    err: &mut E,
+) -> CallEnd<V, S>
+    requires { V.failures files.0 < 2 ^ 64 - 1 }
+    ensures { MatchOption result.vault
+        (HasPrintedInitError V.Volume S.Store files.0 files.1 result.status (record { before = W.contents out.old; after = W.contents out.new }) (record { before = E.contents err.old; after = E.contents err.new }))
+        (λ v. HasPrintedReady V.Volume S.Store files.0 files.1 blocks number result.status v.0 v.1 (record { before = W.contents out.old; after = W.contents out.new }) (record { before = E.contents err.old; after = E.contents err.new })) }
+{
+    let (volume, db) = files;
+    match Custody::init(alloc, volume, db, number.get()) {
+        Ok(custody) => CallEnd {
+            status: print_line(&Line::Ready { blocks, number }, out),
+            vault: Some(custody.close()),
+        },
+        Err((error, _, _)) => CallEnd {
+            status: tell_init(&error, err),
+            vault: None,
+        },
+    }
+}
+
+/// Opens a vault, and carries out an order on it, at the moment that its words name, where they name one.
+pub fn open_and_act<V: Volume, S: Alter + Drop, W: Write, E: Write, P: Progress>(
+    alloc: Global,
+    files: (V, Connection<S>),
+    order: &Order<'_>,
+    file: &[u8],
+    now: Sec,
+    out: &mut W,
+    err: &mut E,
+    progress: &mut P,
+) -> CallEnd<V, S>
+    requires failures { V.failures files.0 < 2 ^ 64 - 1 }
+    requires moment { IfSome (named_moment (meaning order.now)) (λ moment. now ≡ moment) }
+    ensures { MatchOption result.vault
+        (HasPrintedOpenFailure V.Volume S.Store files.0 files.1 result.status (record { before = W.contents out.old; after = W.contents out.new }) (record { before = E.contents err.old; after = E.contents err.new }))
+        (λ v. IsCarriedOut V.Volume S.Store files.0 files.1 order.now file.now now result.status v.0 v.1 (record { before = W.contents out.old; after = W.contents out.new }) (record { before = E.contents err.old; after = E.contents err.new })) }
+{
+    let (volume, db) = files;
+    let mut custody = match Custody::open(alloc, volume, db) {
+        Ok(custody) => custody,
+        Err((failure, _, _)) => {
+            return CallEnd {
+                status: tell(&failure, err),
+                vault: None,
+            };
+        }
+    };
+    let status = act(alloc, &mut custody, order, file, now, out, err, progress);
+    CallEnd {
+        status,
+        vault: Some(custody.close()),
+    }
+}
+
+/// Opens a vault, and answers so many connections at a port of the host itself.
+pub fn serve<V: Volume, S: Alter + Drop, W: Write, E: Write>(
+    rt: &HostRuntime,
+    files: (V, Connection<S>),
+    port: u16,
+    requests: u32,
+    now: Option<Sec>,
+    out: &mut W,
+    err: &mut E,
+) -> CallEnd<V, S>
+    requires { V.failures files.0 < 2 ^ 64 - 1 }
+    ensures { MatchOption result.vault
+        (HasPrintedOpenFailure V.Volume S.Store files.0 files.1 result.status (record { before = W.contents out.old; after = W.contents out.new }) (record { before = E.contents err.old; after = E.contents err.new }))
+        (λ v. HasServedConnections V.Volume S.Store files.0 files.1 port now requests result.status v.0 v.1 (record { before = W.contents out.old; after = W.contents out.new })) }
+{
+    let (volume, db) = files;
+    let mut custody = match Custody::open(rt.alloc(), volume, db) {
+        Ok(custody) => custody,
+        Err((failure, _, _)) => {
+            return CallEnd {
+                status: tell(&failure, err),
+                vault: None,
+            };
+        }
+    };
+    let status = answer_connections(rt, &mut custody, port, requests, now, out, err);
+    CallEnd {
+        status,
+        vault: Some(custody.close()),
+    }
+}
+
+/// Answers so many connections at a port, prints where it listens, and answers the status.
+fn answer_connections<V: Volume, S: Alter, W: Write, E: Write>(
+    rt: &HostRuntime,
+    custody: &mut Custody<V, S>,
+    port: u16,
+    requests: u32,
+    now: Option<Sec>,
+    out: &mut W,
+    err: &mut E,
+) -> u8
+    ensures turns { (served : ℕ) × (served ≤ requests) × (result ≡ 0 → served ≡ requests) × AreConnections now served custody.old custody.new }
+    ensures status { IsStatusAfter 0 result }
+    ensures told { WritesWholeAt (record { before = W.contents out.old; after = W.contents out.new }) (as_line (line_text (Line.Listening port))) 0 result }
+{
+    let alloc = rt.alloc();
+    let Ok(api) = Api::new(alloc) else {
+        return tell(&Failure::NoMemory, err);
+    };
+    let Ok(listener) = TcpListener::bind(rt, (Ipv4Addr::LOCALHOST, port)) else {
+        return print_service_error(ServiceError::Socket, err);
+    };
+    let status = print_line(&Line::Listening { port }, out);
+    if status != ExitStatus::Done.number() {
+        return status;
+    }
+    match serve_connections(alloc, rt, &api, &listener, requests, custody, now, err) {
+        Ok(()) => ExitStatus::Done.number(),
+        Err(fault) => print_service_error(fault, err),
+    }
+}
+
+/// Prints why no more connections are answered, and answers the status.
+fn print_service_error<E: Write>(fault: ServiceError, err: &mut E) -> u8
+    ensures { result ≡ 3 }
+{
+    let _ = writeln!(err, "{fault}");
+    ExitStatus::Failed.number()
+}

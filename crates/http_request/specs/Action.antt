@@ -1,0 +1,73 @@
+-- What a target and a body ask of the agent (ICANN Registry Agreement, Specification 2, Part B).
+use Rattle.std.specs.Prelude.{◌≡◌, ◌≤◌, ℕ, List}
+use Rattle.std.specs.Int.{IsInRange}
+use Rattle.schedule.specs.Schedule.{IsDay}
+use Rattle.schedule.specs.Text.{day_text}
+use Rattle.deposit_name.specs.Identifiers.{IsTld, IsDepositId, IsReference}
+use Rattle.deposit_name.specs.Name.{kind_text}
+use Rattle.desk.specs.declared.grounds.Ground.{Ground}
+use Rattle.desk.specs.Grounds.{ground_text}
+use Rattle.custody_machine.specs.declared.command.Statement as statement
+use Rattle.custody_machine.specs.Machine.{
+  Command,
+  Register,
+  Receive,
+  Statement,
+  Check,
+  Release,
+  Hold,
+  Lift,
+  Purge,
+}
+use Rattle.http_request.specs.Bodies.{
+  StatementTexts,
+  ReleaseTexts,
+  HoldTexts,
+  IsJsonOf,
+  registration_json,
+  statement_json,
+  release_json,
+  hold_json,
+}
+use Rattle.http_request.specs.Paths as paths
+
+pub data RequestAction : Type 0 where
+  -- a command of the agent
+  Do : Command → RequestAction
+  -- the notices of a registry
+  Report : (tld : List ℕ) → RequestAction
+  -- the bytes of a part, under a release that lists this name
+  Fetch : (reference name : List ℕ) → RequestAction
+
+-- the values of a statement are in form
+pub record IsStatement (s : statement.Statement) : Type 0 where
+  pub tld : IsTld s.tld
+  pub day : IsDay s.day
+  pub rev : s.rev ≤ 99
+  pub parts : IsInRange 1 8 s.parts
+  pub id : IsDepositId s.id
+
+-- the texts that they have in a body
+abbrev pub texts_of_statement : statement.Statement → StatementTexts
+texts_of_statement s = record { date = day_text s.day; id = s.id; kind = kind_text s.kind; parts = s.parts; revision = s.rev; tld = s.tld }
+
+abbrev pub handover_texts : List ℕ → Ground → ReleaseTexts
+handover_texts tld reason = record { reason = ground_text reason; tld = tld }
+
+abbrev pub held_day_texts : List ℕ → ℕ → HoldTexts
+held_day_texts tld day = record { date = day_text day; tld = tld }
+
+-- what a target and a body stand for: the parameters and the body are those of the command or reading, all in form
+abbrev pub Means : paths.Target → List ℕ → RequestAction → Type 0
+Means (paths.Registry tld) body wanted = IsTld tld × ((first_day : ℕ) × IsDay first_day × IsJsonOf body (registration_json (day_text first_day)) × (wanted ≡ Do (Register tld first_day)))
+Means (paths.Deposit name) body wanted = wanted ≡ Do (Receive name body)
+Means paths.Statements body wanted = (s : statement.Statement) × IsStatement s × IsJsonOf body (statement_json (texts_of_statement s)) × (wanted ≡ Do (Statement s))
+Means (paths.Check tld date) body wanted = IsTld tld × ((day : ℕ) × IsDay day × (date ≡ day_text day) × (wanted ≡ Do (Check tld day)))
+Means (paths.Release reference) body wanted =
+    IsReference reference × ((tld : List ℕ) × (reason : Ground) × IsTld tld × IsJsonOf body (release_json (handover_texts tld reason)) × (wanted ≡ Do (Release reference tld reason)))
+Means (paths.ReleasedPart reference name) body wanted = IsReference reference × (wanted ≡ Fetch reference name)
+Means (paths.Hold reference) body wanted =
+    IsReference reference × ((tld : List ℕ) × (day : ℕ) × IsTld tld × IsDay day × IsJsonOf body (hold_json (held_day_texts tld day)) × (wanted ≡ Do (Hold reference tld day)))
+Means (paths.Lift reference) body wanted = IsReference reference × (wanted ≡ Do (Lift reference))
+Means (paths.Notices tld) body wanted = IsTld tld × (wanted ≡ Report tld)
+Means paths.Purges body wanted = wanted ≡ Do Purge

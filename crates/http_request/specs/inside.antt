@@ -1,0 +1,3 @@
+pub mod BodyReading
+pub mod BodyTexts
+pub mod Fields

@@ -1,0 +1,14 @@
+//! What a request asks for.
+use custody_machine::Command;
+use deposit_name::{Reference, Tld};
+
+/// What a request asks of the agent.
+#[derive(Clone, Copy)]
+pub enum RequestAction<'a> {
+    /// To do a command.
+    Do(Command<'a>),
+    /// The report of a registry: its notices.
+    Report(Tld),
+    /// The bytes of a part, under a release that lists this name.
+    Fetch(Reference, &'a [u8]),
+}

@@ -1,8 +1,0 @@
-use Rattle.std.proofs.Common.{◌∙◌, ap}
-use Rattle.deposit_name.specs.Name.{Name}
-use Rattle.plain_machine.specs.Plain.{shown}
-use Rattle.custody_machine.specs.Machine.{first_standing, receive_tests}
-use Rattle.plain_machine.proofs.kept.PlainState.find_refusal.Goals as goal
-
-pub returns : goal.returns
-returns c = c.refusal_of.ensures ∙ ap (λ (n : Name). first_standing (receive_tests (shown c.args.self.now) n c.args.bytes.now c.args.now)) c.of.ensures
