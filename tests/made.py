@@ -2,16 +2,20 @@
 """The pages of docs/ that are made from other files, so that they cannot part from them.
 
     docs/escrow.1, docs/escrow.bash   the manual page, and the tables of bash's completions, from the table of the words
-                                      (crates/agent_cli/src/table.rt, and the texts of src/grammar.rt beside it)
+                                      (crates/agent_cli/src/subcommands.rt, and the texts of src/grammar.rt beside it)
     docs/crates.svg                   the crates with the ways of a command and of a request, from crates.txt
+    docs/PROOFS.md                    how many lines the definitions have that one reads for the theorems
 
 usage: tests/made.py            writes them
-       tests/made.py --check    compares them. The last line is `N passed, M failed`
+       tests/made.py --check    compares them, and looks up in the code what docs/GLOSSARY.md decides. The last line is
+                                `N passed, M failed`
 """
 import re
 import sys
 from dataclasses import dataclass
 from pathlib import Path
+
+import words
 
 TOP = Path(__file__).resolve().parent.parent
 CLI = TOP / "crates" / "agent_cli" / "src"
@@ -56,13 +60,13 @@ def field(name, block):
 
 
 def word_of(block):
-    value = re.search(rf"Form::Option \{{\s*value: {STRING}", block)
-    value = value[1] if value else "N" if "Form::Count" in block else ""
+    value = re.search(rf"WordForm::Option \{{\s*value: {STRING}", block)
+    value = value[1] if value else "N" if "WordForm::Count" in block else ""
     return Word(field("id", block), value, "required: false" not in block, field("help", block))
 
 
 def table():
-    source = (CLI / "table.rt").read_text()
+    source = (CLI / "subcommands.rt").read_text()
     named = re.finditer(r"const (\w+): Word<.*?= Word \{(.*?)\n\};", source, re.DOTALL)
     shared = {it[1]: word_of(it[2]) for it in named}
     rows = []
@@ -285,9 +289,38 @@ def picture():
     return "\n".join([*lines, "</svg>"]) + "\n"
 
 
+# ---- the lines that one reads
+
+
+def lines_of(module):
+    """How many lines the file of a module of definitions has, without its imports."""
+    crate, path = module.split("/", 1)
+    text = (TOP / "crates" / crate / f"{path}.antt").read_text()
+    return re.sub(r"^(?:pub )?use .*?(?:\}| as \w+)\n", "", text, flags=re.MULTILINE | re.DOTALL).count("\n")
+
+
+def modules_in(cell):
+    """The modules that a cell names: the first one with its crate, and behind it those beside it."""
+    named = re.findall(r"`([\w/]+)`", cell)
+    folder = named[0].rsplit("/", 1)[0]
+    return [it if "/" in it else f"{folder}/{it}" for it in named]
+
+
+def counted():
+    """docs/PROOFS.md, with the lines of the modules in its tables."""
+    text = (TOP / "docs" / "PROOFS.md").read_text()
+    row = re.compile(r"^\| (`\w+/specs/[^|]*) \| \d+ \|", re.MULTILINE)
+    return row.sub(lambda it: f"| {it[1]} | {sum(map(lines_of, modules_in(it[1])))} |", text)
+
+
 def main():
     rows = table()
-    made = {"escrow.1": manual(rows), "escrow.bash": completions(rows), "crates.svg": picture()}
+    made = {
+        "escrow.1": manual(rows),
+        "escrow.bash": completions(rows),
+        "crates.svg": picture(),
+        "PROOFS.md": counted(),
+    }
     passed = 0
     for name, text in made.items():
         file = TOP / "docs" / name
@@ -297,10 +330,13 @@ def main():
             passed += 1
         else:
             print(f"docs/{name} is not what tests/made.py makes: run it, and look at what changes")
-    if sys.argv[1:] == ["--check"]:
-        print(f"{passed} passed, {len(made) - passed} failed")
-        return passed != len(made)
-    return 0
+    if sys.argv[1:] != ["--check"]:
+        return 0
+    found = list(words.findings())
+    print("".join(f"{it}\n" for it in found), end="")
+    failed = len(made) - passed + bool(found)
+    print(f"{passed + (not found)} passed, {failed} failed")
+    return failed > 0
 
 
 if __name__ == "__main__":
