@@ -4,7 +4,6 @@ ghost use Rattle.arrayvec.specs.ArrayVec.{array_vec_len};
 ghost use Rattle.schedule.specs.Text.{day_text, moment_text};
 ghost use Rattle.deposit_name.specs.ErrorText as names;
 ghost use Rattle.deposit_name.specs.Name.{name_text};
-ghost use Rattle.desk.specs.Lines.{line};
 ghost use Rattle.custody_records.specs.RowsOfRecords.{digits_of};
 ghost use Rattle.custody.specs.Answers.{init_error_text};
 ghost use Rattle.custody_machine.specs.Codes.{code_row, code_row_text};
@@ -12,48 +11,14 @@ ghost use Rattle.custody_machine.specs.Texts.{damage_text, failure_text, refusal
 ghost use Rattle.answer_lines.specs.Lines.{hold_text, line_text, lifted_hold_text, release_text};
 
 use crate::{Line, VolumeNumber};
-use arrayvec::ArrayVec;
 use custody::InitError;
 use custody_machine::{Code, Damage, Failure, Refusal};
 use custody_records::write_number;
-use deposit_name::{DepositName, NameError, Reference, Tld, write_name};
-use desk::{Ground, LINE_MAX, Notice, write_line};
-use itoa::Buffer;
+use deposit_name::{
+    DepositName, LineBytes, NameError, Reference, Tld, append, append_number, write_name,
+};
+use desk::{Ground, write_line};
 use schedule::{Day, Sec, write_day, write_moment};
-
-/// At most 256 bytes: a line with its line feed, or a few of such length.
-pub type LineBytes = ArrayVec<u8, 256>;
-
-/// Adds bytes, for which there is room.
-pub fn append(line: &mut LineBytes, bytes: &[u8])
-    requires { array_vec_len line.old + length bytes.now ≤ 256 }
-    ensures text { line.new.items ≡ line.old.items ++ bytes.now }
-    ensures len { array_vec_len line.new ≡ array_vec_len line.old + length bytes.now }
-{
-    let Ok(()) = line.try_extend_from_slice(bytes) else {
-        unreachable!()
-    };
-}
-
-/// Adds a number in decimal digits.
-pub fn append_number(line: &mut LineBytes, number: u64)
-    requires { array_vec_len line.old + 20 ≤ 256 }
-    ensures text { line.new.items ≡ line.old.items ++ decimal number }
-    ensures len { array_vec_len line.new ≤ array_vec_len line.old + 20 }
-{
-    let mut buffer = Buffer::new();
-    append(line, buffer.format(number).as_bytes());
-}
-
-fn append_name(line: &mut LineBytes, name: &DepositName)
-    requires { array_vec_len line.old + 91 ≤ 256 }
-    ensures text { line.new.items ≡ line.old.items ++ name_text name.now }
-    ensures len { array_vec_len line.new ≤ array_vec_len line.old + 91 }
-{
-    let mut room = [0; 96];
-    let length = write_name(name, &mut room);
-    append(line, &room[..length]);
-}
 
 /// A word with its space, a top-level domain and a day.
 fn registry_line(word: &[u8], tld: &Tld, first: Day) -> LineBytes
@@ -76,7 +41,7 @@ fn part_line_bytes(word: &[u8], name: &DepositName, len: u32, state: &[u8], at: 
 {
     let mut line = LineBytes::new();
     append(&mut line, word);
-    append_name(&mut line, name);
+    append(&mut line, &write_name(name));
     append(&mut line, b" ");
     append_number(&mut line, u64::from(len));
     append(&mut line, state);
@@ -92,7 +57,7 @@ fn name_line(word: &[u8], name: &DepositName) -> LineBytes
 {
     let mut line = LineBytes::new();
     append(&mut line, word);
-    append_name(&mut line, name);
+    append(&mut line, &write_name(name));
     append(&mut line, b"\n");
     line
 }
@@ -200,17 +165,6 @@ fn lifted_line(reference: &Reference, at: Sec) -> LineBytes
     line
 }
 
-/// The line of a notice in a report.
-fn notice_line_bytes(notice: &Notice) -> LineBytes
-    ensures { result.items ≡ line notice.now }
-{
-    let mut room = [0; LINE_MAX];
-    let length = write_line(notice, &mut room);
-    let mut line = LineBytes::new();
-    append(&mut line, &room[..length]);
-    line
-}
-
 impl Line {
     ghost use Rattle.std.specs.Prelude.{◌≡◌, ◌++◌, [], ◌∷◌};
     ghost use Rattle.answer_lines.specs.Lines.{line_text};
@@ -225,7 +179,7 @@ impl Line {
             Line::Received { name, length, at } => {
                 part_line_bytes(b"received ", name, *length, b" ", *at)
             }
-            Line::Notice(notice) => notice_line_bytes(notice),
+            Line::Notice(notice) => write_line(notice),
             Line::Released {
                 reference,
                 tld,

@@ -10,7 +10,7 @@ mod printing;
 mod state;
 mod writing;
 
-pub use bytes::{LineBytes, append, append_number, failure_bytes, init_error_bytes, refusal_bytes};
+pub use bytes::{failure_bytes, init_error_bytes, refusal_bytes};
 pub use lines::{Line, names_behind};
 pub use number::VolumeNumber;
 pub use printing::{

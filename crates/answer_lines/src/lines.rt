@@ -1,13 +1,13 @@
 //! The lines of replies.
-ghost use Rattle.std.specs.Prelude.{◌≡◌, IfOk, Some};
-ghost use Rattle.answer_lines.specs.Lines.{line_text, notice_text};
+ghost use Rattle.std.specs.Prelude.{◌≡◌, Some};
+ghost use Rattle.answer_lines.specs.Lines.{line_text};
 ghost use Rattle.answer_lines.specs.Printing.{names_behind};
 
 use crate::VolumeNumber;
 use custody::Record;
 use custody_records::Release;
 use deposit_name::{DepositName, Reference, Tld};
-use desk::{Ground, LINE_MAX, Notice, write_line};
+use desk::{Ground, Notice};
 use schedule::{Day, Sec};
 use std::{fmt, str};
 
@@ -176,69 +176,13 @@ pub fn names_behind(told: &Record) -> &[u8]
     }
 }
 
-/// The line of a notice without its line feed, written into the room. It is ASCII, so there is no
-/// `Err`.
-fn notice_text<'r>(notice: &Notice, room: &'r mut [u8; LINE_MAX]) -> Result<&'r str, fmt::Error>
-    ensures { IfOk result (λ text. text.now ≡ notice_text notice.now) }
-{
-    let length = write_line(notice, room);
-    str::from_utf8(&room[..length - 1]).map_err(|_| fmt::Error)
-}
-
 impl fmt::Display for Line {
     ghost output = { λ l. Some (line_text l) };
 
     fn fmt<W: fmt::Write>(&self, f: &mut fmt::Formatter<W>) -> fmt::Result {
-        match self {
-            Line::Ready { blocks, number } => write!(f, "ready {blocks} {number}"),
-            Line::Registered { tld, first } => write!(f, "registered {tld} {first}"),
-            Line::Received { name, length, at } => write!(f, "received {name} {length} {at}"),
-            Line::Notice(notice) => {
-                let mut room = [0; LINE_MAX];
-                f.write_str(notice_text(notice, &mut room)?)
-            }
-            Line::Released {
-                reference,
-                tld,
-                reason,
-                at,
-                count,
-            } => write!(f, "released {reference} {tld} {reason} {at} {count}"),
-            Line::Held {
-                reference,
-                tld,
-                day,
-                at,
-            } => write!(f, "held {reference} {tld} {day} {at}"),
-            Line::Lifted { reference, at } => write!(f, "lifted {reference} {at}"),
-            Line::Purged { count } => write!(f, "dropped {count}"),
-            Line::Registry { tld, first } => write!(f, "registry {tld} {first}"),
-            Line::Part { name, length, at } => write!(f, "part {name} {length} held {at}"),
-            Line::Dropped { name, length, at } => write!(f, "part {name} {length} dropped {at}"),
-            Line::Release {
-                reference,
-                tld,
-                reason,
-                at,
-                count,
-            } => write!(f, "release {reference} {tld} {reason} {at} {count}"),
-            Line::Hold {
-                reference,
-                tld,
-                day,
-                at,
-            } => write!(f, "hold {reference} {tld} {day} {at}"),
-            Line::LiftedHold {
-                reference,
-                tld,
-                day,
-                at,
-                lifted,
-            } => write!(f, "hold {reference} {tld} {day} {at} lifted {lifted}"),
-            Line::Damaged { name } => write!(f, "damaged {name}"),
-            Line::Sound { count } => write!(f, "sound {count}"),
-            Line::Room { free, total } => write!(f, "free {free} of {total}"),
-            Line::Listening { port } => write!(f, "listening 127.0.0.1:{port}"),
-        }
+        let bytes = self.bytes();
+        // A line is ASCII, so there is no `Err`.
+        let text = str::from_utf8(&bytes[..bytes.len() - 1]).map_err(|_| fmt::Error)?;
+        f.write_str(text)
     }
 }

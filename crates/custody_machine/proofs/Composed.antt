@@ -11,7 +11,7 @@ use Rattle.deposit_name.specs.declared.errors.NameError.{NameError}
 use Rattle.deposit_name.specs.Name.{Name, is_same_kind}
 use Rattle.vault_volume.specs.Image.{DiffersOnlyIn}
 use Rattle.vault_volume.specs.Extents.{IsExtentOf, IsInAny, block_count}
-use Rattle.vault_volume.specs.Staged.{StagedPart}
+use Rattle.extent_map.specs.Staged.{StagedPart}
 use Rattle.vault_volume.proofs.ImageLemmas.{same_in, in_more, in_both}
 use Rattle.custody_records.specs.Keys.{PartKey, part_cmp}
 use Rattle.custody_records.specs.Records.{PartRecord, Records, key_of, staged_record}

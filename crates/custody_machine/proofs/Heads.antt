@@ -5,7 +5,7 @@ use Rattle.std.proofs.lemmas.Nat.{be_bytes_8}
 use Rattle.std.proofs.lemmas.List.{append_cancel_left, append_cancel_right}
 use Rattle.hex.specs.Hex.{encode_lower}
 use Rattle.vault_volume.specs.Head.{head_of, zeros}
-use Rattle.vault_volume.proofs.HeadLemmas.{IsBytes-to_be_bytes}
+use Rattle.extent_map.proofs.ByteLemmas.{IsBytes-to_be_bytes}
 use Rattle.custody_records.specs.RowsOfRecords.{digits_of}
 
 -- the number of eight bytes

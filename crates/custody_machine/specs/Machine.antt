@@ -63,7 +63,7 @@ pub use Rattle.custody_machine.specs.declared.answers.Failure.TheVariants.{
   Damaged,
 }
 use Rattle.custody_machine.specs.declared.damage.Damage.TheVariants.{Digest}
-pub use Rattle.vault_volume.specs.Limits.{max_part_len}
+pub use Rattle.extent_map.specs.Limits.{max_part_len}
 use Rattle.custody_machine.specs.NameReading.{read_name}
 use Rattle.custody_machine.specs.SameValues.{is_same_ground}
 use Rattle.custody_machine.specs.MapValues.{map_keyed}

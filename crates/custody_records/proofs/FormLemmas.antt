@@ -8,7 +8,7 @@ use Rattle.std.proofs.lemmas.Nat.{from_be_bytes-to_be_bytes_8}
 use Rattle.std.proofs.lemmas.Slice.Eq.{bytes_eq-Decides}
 use Rattle.hex.specs.Hex.{encode_lower}
 use Rattle.hex.proofs.HexLemmas.{decode_sized-encode_lower}
-use Rattle.vault_volume.proofs.HeadLemmas.{IsBytes-to_be_bytes}
+use Rattle.extent_map.proofs.ByteLemmas.{IsBytes-to_be_bytes}
 use Rattle.custody_records.specs.declared.damage.RowDamage.TheVariants as damage
 use Rattle.custody_records.specs.Keys.{text_cmp, PartKey, part_cmp, NoticeKey, notice_cmp}
 use Rattle.custody_records.specs.Records.{PartRecord, Notice, Release, Hold, Records, new_records, with_registry, with_part, with_notice, with_release, with_hold}

@@ -6,7 +6,7 @@ use Rattle.std.specs.Int.{w64, to_be_bytes}
 use Rattle.std.proofs.lemmas.Slice.Eq.{bytes_eq-Decides}
 use Rattle.hex.specs.Hex.{decode_sized}
 use Rattle.hex.proofs.HexLemmas.{decode_sized-encode_lower}
-use Rattle.vault_volume.proofs.HeadLemmas.{IsBytes-to_be_bytes}
+use Rattle.extent_map.proofs.ByteLemmas.{IsBytes-to_be_bytes}
 use Rattle.custody_records.specs.Rows.{MetaRow}
 use Rattle.custody_records.specs.Form.{natural, is_number, is_within, number_in, is_meta}
 use Rattle.custody_records.specs.RowsOfRecords.{digits_of}

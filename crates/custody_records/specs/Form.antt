@@ -76,7 +76,7 @@ use Rattle.desk.specs.declared.grounds.Ground.TheVariants.{
   Audit,
 }
 use Rattle.extent_map.specs.declared.extent.Extent.{Extent}
-use Rattle.vault_volume.specs.Limits.{fewest_blocks, most_blocks, max_part_len}
+use Rattle.extent_map.specs.Limits.{fewest_blocks, most_blocks, max_part_len}
 use Rattle.custody_records.specs.declared.damage.RowDamage.{RowDamage}
 use Rattle.custody_records.specs.declared.damage.RowDamage.TheVariants as damage
 use Rattle.custody_records.specs.Keys.{text_cmp, PartKey, part_cmp, NoticeKey, notice_cmp}

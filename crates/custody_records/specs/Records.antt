@@ -9,7 +9,7 @@ use Rattle.deposit_name.specs.Name.{Name}
 use Rattle.desk.specs.declared.notices.NoticeKind.{NoticeKind}
 use Rattle.desk.specs.declared.grounds.Ground.{Ground}
 use Rattle.extent_map.specs.declared.extent.Extent.{Extent}
-use Rattle.vault_volume.specs.Staged.{StagedPart}
+use Rattle.extent_map.specs.Staged.{StagedPart}
 use Rattle.custody_records.specs.Keys.{
   text_cmp,
   PartKey,

@@ -32,7 +32,7 @@ use Rattle.desk.specs.Grounds.{ground_text}
 use Rattle.desk.specs.declared.notices.NoticeKind.{NoticeKind}
 use Rattle.desk.specs.declared.notices.NoticeKind.TheVariants.{Receipt, Failure, Absence}
 use Rattle.extent_map.specs.declared.extent.Extent.{Extent}
-use Rattle.vault_volume.specs.Limits.{max_part_len}
+use Rattle.extent_map.specs.Limits.{max_part_len}
 use Rattle.custody_records.specs.Keys.{PartKey, NoticeKey}
 use Rattle.custody_records.specs.Records.{PartRecord, Notice, Release, Hold}
 use Rattle.custody_records.specs.Rows.{

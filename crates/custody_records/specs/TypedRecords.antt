@@ -6,7 +6,7 @@ use Rattle.deposit_name.specs.declared.kinds.Kind.{Kind}
 use Rattle.deposit_name.specs.Identifiers.{is_tld}
 use Rattle.deposit_name.specs.Name.{Name}
 use Rattle.desk.specs.declared.notices.Notice as desk
-use Rattle.vault_volume.specs.Limits.{fewest_blocks, most_blocks}
+use Rattle.extent_map.specs.Limits.{fewest_blocks, most_blocks}
 use Rattle.custody_records.specs.declared.meta.Meta.{Meta}
 use Rattle.custody_records.specs.declared.notices.NoticeColumns.{NoticeColumns}
 use Rattle.custody_records.specs.declared.parts.Part.{Part}

@@ -3,28 +3,27 @@ ghost use Rattle.std.specs.Prelude.{
   ◌≡◌,
   ◌≤◌,
   ◌<◌,
-  ◌+◌,
   ◌*◌,
   ◌==◌,
   if◌then◌else◌,
   [],
   ◌∷◌,
-  ◌++◌,
   length,
   option_map,
-  take,
   IfNone,
   IfSome,
   MatchResult,
 };
-ghost use Rattle.std.specs.Int.{w32, to_be_bytes};
+ghost use Rattle.arrayvec.specs.ArrayVec.{array_vec_len};
 ghost use Rattle.custody_records.specs.Form.{extents_in, blob_extents};
 ghost use Rattle.custody_records.specs.RowsOfRecords.{blob_of};
 ghost use Rattle.custody_records.specs.declared.errors.RowError.TheVariants.{OutOfForm};
 
 use crate::RowError;
+use arrayvec::ArrayVec;
+use deposit_name::append;
+use extent_map::Extent;
 use std::alloc::Global;
-use vault_volume::Extent;
 
 /// The extents of a blob: none where there is no blob, else one or more.
 pub(crate) fn read_extents(
@@ -73,24 +72,16 @@ fn first_extent(bytes: &[u8]) -> Option<(Extent, &[u8])>
     Some((extent, &bytes[8..]))
 }
 
-/// Writes the extents of a part, of which there are at most 256, and answers how many bytes they take.
-pub fn write_blob(extents: &[Extent], out: &mut [u8; 2048]) -> usize
+/// The extents of a part, of which there are at most 256, as the bytes of a blob.
+pub fn write_blob(extents: &[Extent]) -> ArrayVec<u8, 2048>
     requires { length extents.now ≤ 256 }
-    ensures len { result ≡ 8 * length extents.now }
-    ensures bytes { take result out.new ≡ blob_of extents.now }
+    ensures bytes { result.items ≡ blob_of extents.now }
+    ensures len { array_vec_len result ≡ 8 * length extents.now }
 {
-    let mut len = 0;
+    let mut blob = ArrayVec::new();
     for extent in extents {
-        put_word(out, len, extent.start);
-        put_word(out, len + 4, extent.count);
-        len += 8;
+        append(&mut blob, &extent.start.to_be_bytes());
+        append(&mut blob, &extent.count.to_be_bytes());
     }
-    len
-}
-
-fn put_word(out: &mut [u8; 2048], at: usize, word: u32)
-    requires { at + 4 ≤ 2048 }
-    ensures { take (at + 4) out.new ≡ take at out.old ++ to_be_bytes w32 word }
-{
-    out[at..at + 4].copy_from_slice(&word.to_be_bytes());
+    blob
 }

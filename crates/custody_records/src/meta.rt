@@ -6,7 +6,7 @@ ghost use Rattle.custody_records.specs.RowsOfRecords.{digits_of};
 ghost use Rattle.custody_records.specs.TypedRecords.{meta_of, meta_volume};
 
 use crate::fields::number_within;
-use vault_volume::{FEWEST_BLOCKS, MOST_BLOCKS};
+use extent_map::{FEWEST_BLOCKS, MOST_BLOCKS};
 
 /// The row of the volume as it stands.
 #[derive(Clone, Copy, Debug, PartialEq, Eq)]

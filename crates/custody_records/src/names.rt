@@ -1,11 +1,9 @@
 //! The names of a release as lines of text.
 ghost use Rattle.std.specs.Prelude.{
   ◌≡◌,
-  ◌≤◌,
   ◌==◌,
   count_by,
   length,
-  take,
   IfOk,
   MatchResult,
   OnOk,
@@ -24,7 +22,7 @@ ghost use Rattle.custody_records.specs.declared.errors.RowError.TheVariants.{Out
 
 use crate::RowError;
 use crate::lines::Lines;
-use deposit_name::{DepositName, write_name};
+use deposit_name::{DepositName, append, write_name};
 use std::alloc::{AllocError, Global};
 use std::marker::Model;
 
@@ -94,9 +92,9 @@ impl Names {
         ensures same { OnErr result (self.new ≡ self.old) }
         ensures in_form { IsName name.now }
     {
-        let mut room = [0; 96];
-        let length = write_line(name, &mut room);
-        self.text.extend_from_slice(&room[..length])?;
+        let mut line = write_name(name);
+        append(&mut line, b"\n");
+        self.text.extend_from_slice(&line)?;
         Ok(())
     }
 
@@ -130,17 +128,6 @@ impl Names {
     {
         &self.text
     }
-}
-
-/// Writes the text of the name and a line feed to the front of `out`, and answers their length.
-fn write_line(name: &DepositName, out: &mut [u8; 96]) -> usize
-    ensures most { result ≤ 96 }
-    ensures text { take result out.new ≡ name_text name.now ++ 10 ∷ [] }
-    ensures in_form { IsName name.now }
-{
-    let end = write_name(name, out);
-    out[end] = b'\n';
-    end + 1
 }
 
 fn count_feeds(text: &[u8]) -> usize

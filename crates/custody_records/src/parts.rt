@@ -24,10 +24,10 @@ use crate::fields::{digest_of, number_within};
 use crate::tables::{Group, Keyed};
 use crate::{PartKey, RowError};
 use deposit_name::{DepositName, Kind, Tld};
+use extent_map::{Extent, MAX_PART_LEN};
 use schedule::{Day, Sec, keep_until};
 use std::alloc::Global;
 use std::cmp::Ordering;
-use vault_volume::{Extent, MAX_PART_LEN};
 
 /// A part of a deposit.
 #[derive(Debug, Drop)]

@@ -53,7 +53,7 @@ pub(crate) fn judge_release(
 fn is_on_ground(release: &Release, tld: &Tld, reason: Ground) -> bool
     ensures { result ≡ is_on_ground tld.now reason (release_value release.now) }
 {
-    release.tld == *tld && release.reason.as_str() == reason.as_str()
+    release.tld == *tld && release.reason == reason
 }
 
 /// Whether the ground stands by the notices of the registry.

@@ -4,7 +4,7 @@ use Rattle.deposit_name.specs.Name.{Name}
 use Rattle.desk.specs.declared.notices.Notice as desk
 use Rattle.custody_records.specs.declared.holds.Hold as ordered
 use Rattle.custody_records.specs.declared.releases.Release as given
-use Rattle.vault_volume.specs.Staged.{StagedPart}
+use Rattle.extent_map.specs.Staged.{StagedPart}
 use Rattle.custody_records.specs.Records.{PartRecord, key_of, staged_record}
 use Rattle.custody_records.specs.TypedRecords.{
   notice_key,

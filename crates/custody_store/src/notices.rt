@@ -5,7 +5,12 @@ ghost use Rattle.custody_records.specs.Keys.{NoticeKey, notice_cmp};
 ghost use Rattle.custody_records.specs.Records as specs;
 ghost use Rattle.custody_records.specs.Rows.{NoticeRow};
 ghost use Rattle.custody_records.specs.TypedRecords.{notice_row};
-ghost use Rattle.custody_records.specs.RowsOfRecords.{kind_number, kind_rev, kind_id};
+ghost use Rattle.custody_records.specs.RowsOfRecords.{
+  IsNoticeKind,
+  kind_number,
+  kind_rev,
+  kind_id,
+};
 ghost use Rattle.custody_store.specs.Reading.{answered_notice};
 
 use crate::calls::ask;
@@ -17,34 +22,18 @@ use desk::{Notice, NoticeKind};
 use sqlite::{Alter, Connection, Row};
 use std::alloc::Global;
 
-/// The number of a kind in a row.
-pub(crate) fn number_of(kind: &NoticeKind) -> u8
-    ensures { result ≡ kind_number kind.now }
+/// The number of a kind in a row, and the revision and the id of the deposit that is told of: 0 and no text
+/// for an absence.
+pub(crate) fn kind_columns(kind: &NoticeKind) -> (u8, u8, &[u8])
+    ensures number { result.0 ≡ kind_number kind.now }
+    ensures rev { result.1 ≡ kind_rev kind.now }
+    ensures id { result.2.now ≡ kind_id kind.now }
+    ensures in_form { IsNoticeKind kind.now }
 {
     match kind {
-        NoticeKind::Receipt { .. } => 0,
-        NoticeKind::Failure { check, .. } => check.number(),
-        NoticeKind::Absence => 20,
-    }
-}
-
-/// The revision that is told of, and 0 for an absence.
-pub(crate) fn rev_of(kind: &NoticeKind) -> u8
-    ensures { result ≡ kind_rev kind.now }
-{
-    match kind {
-        NoticeKind::Receipt { rev, .. } | NoticeKind::Failure { rev, .. } => rev.number(),
-        NoticeKind::Absence => 0,
-    }
-}
-
-/// The id of the deposit that is told of, and no text for an absence.
-pub(crate) fn id_of(kind: &NoticeKind) -> &[u8]
-    ensures { result.now ≡ kind_id kind.now }
-{
-    match kind {
-        NoticeKind::Receipt { id, .. } | NoticeKind::Failure { id, .. } => id.as_bytes(),
-        NoticeKind::Absence => &[],
+        NoticeKind::Receipt { rev, id } => (0, rev.number(), id.as_bytes()),
+        NoticeKind::Failure { rev, id, check } => (check.number(), rev.number(), id.as_bytes()),
+        NoticeKind::Absence => (20, 0, &[]),
     }
 }
 

@@ -15,7 +15,11 @@ ghost use Rattle.std.specs.Prelude.{
 };
 ghost use Rattle.sqlite.specs.Held.{state};
 ghost use Rattle.sqlite.specs.State.{HasCleanDisk, Executes};
+ghost use Rattle.std.specs.Int.{IsInRange};
+ghost use Rattle.schedule.specs.Schedule.{IsDay, IsMoment};
+ghost use Rattle.deposit_name.specs.Identifiers.{IsTld};
 ghost use Rattle.custody_records.specs.Rows.{
+  greatest_integer,
   initial_rows,
   with_registry_row,
   with_part_row,
@@ -28,7 +32,21 @@ ghost use Rattle.custody_records.specs.Form.{form_of, InForm, OutOfForm};
 ghost use Rattle.custody_records.specs.MemoryRecords.{records_of};
 ghost use Rattle.custody_records.specs.declared.damage.RowDamage.{RowDamage};
 ghost use Rattle.custody_records.specs.declared.damage.RowDamage.TheVariants as damage;
-ghost use Rattle.custody_records.specs.RowsOfRecords.{digits_of, row_of_registry};
+ghost use Rattle.custody_records.specs.RowsOfRecords.{
+  digits_of,
+  row_of_registry,
+  IsNotice,
+  IsRelease,
+  IsHold,
+};
+ghost use Rattle.custody_records.specs.TypedRecords.{
+  notice_key,
+  notice_value,
+  release_key,
+  release_value,
+  hold_key,
+  hold_value,
+};
 ghost use Rattle.custody_store.specs.Calls.{RunsStatement, RunsTogether};
 ghost use Rattle.custody_store.specs.Statements.{
   create_statements,
@@ -71,7 +89,7 @@ use crate::faults::StoreFault;
 use crate::loading::{read_all, select_all, volume_in};
 use crate::meta::select_meta;
 use crate::migrating::migrate_tables;
-use crate::notices::{id_of, number_of, rev_of};
+use crate::notices::kind_columns;
 use crate::releases::ground_of;
 use crate::tables::{has_all_tables, has_any_table, has_table};
 use crate::values::{
@@ -103,6 +121,7 @@ impl<S: Alter> Model for Store<S> {
 }
 
 // `runs`: whatever other tables there are, a call that writes runs these statements, and no others.
+// `in_form`: the fields of what is written are in form, as their types have it.
 impl<S: Alter> Store<S> {
     /// The store of a connection with no transaction open.
     pub fn over(db: Connection<S>) -> Store<S>
@@ -147,6 +166,7 @@ impl<S: Alter> Store<S> {
         ensures commits { Commits (store_state S.Store self.old) (store_state S.Store self.new)
             (with_registry_row (row_of_registry registry.now.tld registry.now.first_day) (store_state S.Store self.old).rows) result }
         ensures runs { RunsStatement insert_registry_text (insert_registry_values (row_of_registry registry.now.tld registry.now.first_day)) (state S.Store self.old) (state S.Store self.new) result }
+        ensures in_form { IsTld registry.now.tld × IsDay registry.now.first_day }
         ensures kind { IfErr result (λ e. e ≡ StoreFault.Failed) }
     {
         run(
@@ -168,11 +188,11 @@ impl<S: Alter> Store<S> {
         ensures commits { Commits (store_state S.Store self.old) (store_state S.Store self.new)
             (with_part_row (staged_row name.now received staged) (store_state S.Store self.old).rows) result }
         ensures runs { RunsStatement insert_part_text (insert_part_values (staged_row name.now received staged)) (state S.Store self.old) (state S.Store self.new) result }
+        ensures in_form { IsMoment received }
         ensures kind { IfErr result (λ e. e ≡ StoreFault.Failed) }
     {
         let (extents, len, digest) = staged.spend();
-        let mut bytes = [0; 2048];
-        let size = write_blob(&extents, &mut bytes);
+        let bytes = write_blob(&extents);
         run(
             &mut self.db,
             "INSERT INTO part (tld, day, rev, part, kind, received, keep_day, len, sha, extents) VALUES (?1, ?2, ?3, ?4, ?5, ?6, ?7, ?8, ?9, ?10)",
@@ -186,7 +206,7 @@ impl<S: Alter> Store<S> {
                 keep_day_value(received.day()),
                 number(len),
                 blob(&digest),
-                blob(&bytes[..size]),
+                blob(&bytes),
             ],
         )?;
         Ok((extents, len, digest))
@@ -197,6 +217,7 @@ impl<S: Alter> Store<S> {
         ensures commits { Commits (store_state S.Store self.old) (store_state S.Store self.new)
             (with_notice_row (typed_notice_row notice.now) (store_state S.Store self.old).rows) result }
         ensures runs { notice.now.number < 2 ^ 63 → RunsStatement insert_notice_text (insert_notice_values (typed_notice_row notice.now)) (state S.Store self.old) (state S.Store self.new) result }
+        ensures in_form { IsInRange 1 greatest_integer notice.now.number → IsNotice (notice_key notice.now) (notice_value notice.now) }
         // A greater number has no place in a column, and nothing is done.
         ensures large { 2 ^ 63 ≤ notice.now.number → (result ≡ Err StoreFault.Failed) × (self.new ≡ self.old) }
         ensures kind { IfErr result (λ e. e ≡ StoreFault.Failed) }
@@ -204,16 +225,17 @@ impl<S: Alter> Store<S> {
         let Some(number) = large(notice.number) else {
             return Err(StoreFault::Failed);
         };
+        let (kind, rev, id) = kind_columns(&notice.kind);
         run(
             &mut self.db,
             "INSERT INTO notice (tld, number, kind, day, rev, id, at) VALUES (?1, ?2, ?3, ?4, ?5, ?6, ?7)",
             &[
                 text(notice.tld.as_bytes()),
                 number,
-                small(number_of(&notice.kind)),
+                small(kind),
                 day(notice.day),
-                small(rev_of(&notice.kind)),
-                text(id_of(&notice.kind)),
+                small(rev),
+                text(id),
                 moment(notice.at),
             ],
         )
@@ -224,6 +246,7 @@ impl<S: Alter> Store<S> {
         ensures commits { Commits (store_state S.Store self.old) (store_state S.Store self.new)
             (with_handover_row (typed_release_row release.now) (store_state S.Store self.old).rows) result }
         ensures runs { RunsStatement insert_handover_text (insert_handover_values (typed_release_row release.now)) (state S.Store self.old) (state S.Store self.new) result }
+        ensures in_form { IsRelease (release_key release.now) (release_value release.now) }
         ensures kind { IfErr result (λ e. e ≡ StoreFault.Failed) }
     {
         run(
@@ -244,6 +267,7 @@ impl<S: Alter> Store<S> {
         ensures commits { Commits (store_state S.Store self.old) (store_state S.Store self.new)
             (with_hold_row (typed_hold_row hold.now) (store_state S.Store self.old).rows) result }
         ensures runs { RunsStatement insert_hold_text (insert_hold_values (typed_hold_row hold.now)) (state S.Store self.old) (state S.Store self.new) result }
+        ensures in_form { IsHold (hold_key hold.now) (hold_value hold.now) }
         ensures kind { IfErr result (λ e. e ≡ StoreFault.Failed) }
     {
         run(
@@ -264,6 +288,7 @@ impl<S: Alter> Store<S> {
         ensures commits { Commits (store_state S.Store self.old) (store_state S.Store self.new)
             (with_lifting reference.now at (store_state S.Store self.old).rows) result }
         ensures runs { RunsStatement lift_text (lift_values reference.now at) (state S.Store self.old) (state S.Store self.new) result }
+        ensures in_form { IsMoment at }
         ensures kind { IfErr result (λ e. e ≡ StoreFault.Failed) }
     {
         run(

@@ -1,8 +1,9 @@
 //! The parameters of statements.
 ghost use Rattle.std.specs.Prelude.{◌≡◌, ◌^◌, ◌<◌, ◌≤◌, pos, option_map, IfSome, IfNone};
-ghost use Rattle.schedule.specs.Schedule.{year_after};
+ghost use Rattle.schedule.specs.Schedule.{IsDay, IsMoment, year_after};
 ghost use Rattle.sqlite.specs.declared.types.Value.TheVariants.{Int, Text, Blob};
 ghost use Rattle.sqlite_value.specs.Value.{owned};
+ghost use Rattle.custody_records.specs.RowsOfRecords.{IsLifting};
 ghost use Rattle.custody_store.specs.Reading.{integer_or_null};
 
 use schedule::{Day, Sec, keep_until};
@@ -45,20 +46,23 @@ pub fn large<'v>(n: u64) -> Option<ValueRef<'v>>
 }
 
 pub fn day<'v>(d: Day) -> ValueRef<'v>
-    ensures { owned result ≡ Int (pos d) }
+    ensures value { owned result ≡ Int (pos d) }
+    ensures in_range { IsDay d }
 {
     ValueRef::Int(d.number())
 }
 
 pub fn moment<'v>(s: Sec) -> ValueRef<'v>
-    ensures { owned result ≡ Int (pos s) }
+    ensures value { owned result ≡ Int (pos s) }
+    ensures in_range { IsMoment s }
 {
     ValueRef::Int(s.seconds())
 }
 
 /// A moment, and NULL for none.
 pub fn moment_or_null<'v>(s: Option<Sec>) -> ValueRef<'v>
-    ensures { owned result ≡ integer_or_null (option_map pos s) }
+    ensures value { owned result ≡ integer_or_null (option_map pos s) }
+    ensures in_range { IsLifting s }
 {
     match s {
         Some(s) => moment(s),

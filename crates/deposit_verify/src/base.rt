@@ -41,7 +41,6 @@ use crate::key_set::KeySet;
 use crate::keys::sorted_texts;
 use crate::menu::has_menu;
 use crate::named_keys::{contained_keys, deleted_keys};
-use crate::verdict::NoMemory;
 use deposit_name::{Kind, TableName};
 use dnrd_csv::law_table_reader;
 use envelope::{EnvError, Envelope, law_one_reading, law_readers, read_envelope, split_frame};
@@ -74,7 +73,7 @@ fn is_full(envelope: &Envelope) -> bool
 }
 
 // Reads a deposit, where it is read.
-fn read_whole(alloc: Global, joined: &[u8]) -> Result<Option<WholeDeposit>, NoMemory>
+fn read_whole(alloc: Global, joined: &[u8]) -> Result<Option<WholeDeposit>, AllocError>
     ensures value { IfOk result (λ read. option_map
         (λ whole. reading_of (env_of whole.envelope) whole.files.tables.items whole.files.deleted.items) read
         ≡ reading_at joined.now) }
@@ -90,7 +89,7 @@ fn read_whole(alloc: Global, joined: &[u8]) -> Result<Option<WholeDeposit>, NoMe
     let envelope = match read_envelope(alloc, frame.envelope) {
         Ok(envelope) => envelope,
         Err(EnvError::Spelling) => return Ok(None),
-        Err(EnvError::Memory) => return Err(NoMemory),
+        Err(EnvError::Memory) => return Err(AllocError),
     };
     if !has_menu(&envelope) {
         return Ok(None);
@@ -147,7 +146,7 @@ impl Base {
     /// # Errors
     ///
     /// Want of memory, and nothing else.
-    pub fn of_full(alloc: Global, joined: &[u8]) -> Result<Option<Base>, NoMemory>
+    pub fn of_full(alloc: Global, joined: &[u8]) -> Result<Option<Base>, AllocError>
         ensures base { IfOk result (λ base. MatchOption base (¬ IsFirstOfChain joined.now) (IsBase (joined.now ∷ []))) }
         // It is the one that is a function of the same.
         ensures computed { IfOk result (λ base. base ≡ base_at (joined.now ∷ [])) }
@@ -172,7 +171,7 @@ impl Base {
     /// # Errors
     ///
     /// Want of memory, and nothing else.
-    pub fn then(&mut self, alloc: Global, joined: &[u8]) -> Result<bool, NoMemory>
+    pub fn then(&mut self, alloc: Global, joined: &[u8]) -> Result<bool, AllocError>
         ensures read { IfOk result (λ is. IsTrue is ↔ IsLaterOfChain joined.now) }
         ensures base { IfOk result (λ is. IsTrue is → (chain : List (List ℕ)) → IsBase chain self.old
             → IsBase (chain ++ joined.now ∷ []) self.new) }

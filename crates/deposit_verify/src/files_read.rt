@@ -7,11 +7,10 @@ ghost use Rattle.deposit_verify.specs.Tables.{AreReadFrom, IsUnread};
 
 use crate::files::{all_entries, cut_files};
 use crate::tables::{read_key_files, read_tables};
-use crate::verdict::NoMemory;
 use desk::Check;
 use dnrd_csv::{Keys, Rows};
 use envelope::{Envelope, FileEntry};
-use std::alloc::Global;
+use std::alloc::{AllocError, Global};
 
 /// The files of a deposit as they are read, each at the place of its entry.
 #[derive(Drop)]
@@ -37,7 +36,7 @@ pub fn read_files(
     alloc: Global,
     envelope: &Envelope,
     rest: &[u8],
-) -> Result<Result<FilesRead, Check>, NoMemory>
+) -> Result<Result<FilesRead, Check>, AllocError>
     requires form { IsEnvelope (env_of envelope.now) }
     requires menu { HasMenu (env_of envelope.now) }
     ensures { IfOk result (λ read. MatchResult read

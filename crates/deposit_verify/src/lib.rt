@@ -20,5 +20,5 @@ mod verification;
 pub use about::About;
 pub use base::Base;
 pub use laws::{law_bases, law_chain_numbers, law_chains, law_one_verdict, law_verdict};
-pub use verdict::{NoMemory, Verdict};
+pub use verdict::Verdict;
 pub use verification::verify;

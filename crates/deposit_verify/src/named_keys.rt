@@ -6,7 +6,6 @@ ghost use Rattle.deposit_verify.specs.References.{column};
 ghost use Rattle.deposit_verify.specs.Rows.{rows_under};
 
 use crate::keys::{first_fields, key_texts};
-use crate::places::table_place;
 use deposit_name::TableName;
 use dnrd_csv::{Keys, Rows};
 use envelope::FileEntry;
@@ -24,7 +23,7 @@ pub fn contained_keys<'t>(
     ensures { IfOk result (λ keys. borrowed_texts keys.items ≡ column 0 (rows_under entries.now tables.now name)) }
 {
     for i in 0..entries.len() {
-        if table_place(entries[i].name) == table_place(name) {
+        if entries[i].name == name {
             return first_fields(alloc, &tables[i]);
         }
     }
@@ -43,7 +42,7 @@ pub fn deleted_keys<'t>(
         ≡ column 0 (rows_under entries.now (map key_rows deleted.now) name)) }
 {
     for i in 0..entries.len() {
-        if table_place(entries[i].name) == table_place(name) {
+        if entries[i].name == name {
             return key_texts(alloc, &deleted[i]);
         }
     }

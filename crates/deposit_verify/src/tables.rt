@@ -7,20 +7,19 @@ ghost use Rattle.dnrd_csv.specs.Text.{key_rows};
 ghost use Rattle.deposit_verify.specs.Deposit.{IsKeyFileOf, IsKeyFile, IsTableOf};
 ghost use Rattle.deposit_verify.specs.Tables.{AreKeysReadAs, AreReadAs, HasNoTable};
 
-use crate::verdict::NoMemory;
 use deposit_name::TableName;
 use dnrd_csv::{Keys, Rows, TableError, read_keys, read_table};
 use envelope::FileEntry;
-use std::alloc::Global;
+use std::alloc::{AllocError, Global};
 
 // The rows of a file that is a table.
-fn rows_of(alloc: Global, name: TableName, file: &[u8]) -> Result<Option<Rows>, NoMemory>
+fn rows_of(alloc: Global, name: TableName, file: &[u8]) -> Result<Option<Rows>, AllocError>
     ensures { IfOk result (λ read. MatchOption read
         ((rows : List (List (List ℕ))) → ¬ IsTableOf name file.now rows) (IsTableOf name file.now)) }
 {
     match read_table(alloc, name, file) {
         Ok(table) => Ok(Some(table.rows)),
-        Err(TableError::OutOfMemory) => Err(NoMemory),
+        Err(TableError::OutOfMemory) => Err(AllocError),
         Err(_) => Ok(None),
     }
 }
@@ -30,7 +29,7 @@ pub fn read_tables(
     alloc: Global,
     entries: &[FileEntry],
     files: &[&[u8]],
-) -> Result<Option<Vec<Rows>>, NoMemory>
+) -> Result<Option<Vec<Rows>>, AllocError>
     requires { length files.now ≡ length entries.now }
     ensures { IfOk result (λ read. MatchOption read (HasNoTable entries.now (borrowed_texts files.now))
         (λ tables. AreReadAs entries.now (borrowed_texts files.now) tables.items)) }
@@ -46,14 +45,14 @@ pub fn read_tables(
 }
 
 // The keys of a file of deleted keys.
-fn keys_of(alloc: Global, name: TableName, file: &[u8]) -> Result<Option<Keys>, NoMemory>
+fn keys_of(alloc: Global, name: TableName, file: &[u8]) -> Result<Option<Keys>, AllocError>
     requires { has_deletes name ≡ true }
     ensures { IfOk result (λ read. MatchOption read
         ((rows : List (List (List ℕ))) → ¬ IsKeyFileOf name file.now rows) (λ keys. IsKeyFileOf name file.now (key_rows keys))) }
 {
     match read_keys(alloc, name, file) {
         Ok(keys) => Ok(Some(keys)),
-        Err(TableError::OutOfMemory) => Err(NoMemory),
+        Err(TableError::OutOfMemory) => Err(AllocError),
         Err(_) => Ok(None),
     }
 }
@@ -63,7 +62,7 @@ pub fn read_key_files(
     alloc: Global,
     entries: &[FileEntry],
     files: &[&[u8]],
-) -> Result<Option<Vec<Keys>>, NoMemory>
+) -> Result<Option<Vec<Keys>>, AllocError>
     requires count { length files.now ≡ length entries.now }
     requires named { All (λ entry. IsTrue (has_deletes entry.name)) entries.now }
     ensures { IfOk result (λ read. MatchOption read (¬ AllZip IsKeyFile entries.now (borrowed_texts files.now))

@@ -39,7 +39,7 @@ use crate::files_read::{FilesRead, read_files};
 use crate::header::header_fault;
 use crate::laws::law_verdict;
 use crate::references::are_references_kept;
-use crate::verdict::{NoMemory, Verdict};
+use crate::verdict::Verdict;
 use deposit_name::Kind;
 use desk::Check;
 use dnrd_csv::{Rows, law_one_text, law_table_reader};
@@ -67,7 +67,7 @@ fn tables_fault(
     alloc: Global,
     envelope: &Envelope,
     tables: &[Rows],
-) -> Result<Option<Check>, NoMemory>
+) -> Result<Option<Check>, AllocError>
     requires { envelope.now.kind ≡ Full → AreAllTables tables.now }
     ensures { IfOk result (TablesSay (env_of envelope.now) tables.now) }
 {
@@ -77,7 +77,7 @@ fn tables_fault(
     }
 }
 
-fn full_fault(alloc: Global, counts: &[Count], tables: &[Rows]) -> Result<Option<Check>, NoMemory>
+fn full_fault(alloc: Global, counts: &[Count], tables: &[Rows]) -> Result<Option<Check>, AllocError>
     requires { AreAllTables tables.now }
     ensures { IfOk result (FullSays counts.now tables.now) }
 {
@@ -113,7 +113,7 @@ fn judge_files(
     envelope: &Envelope,
     rest: &[u8],
     base: &Option<Base>,
-) -> Result<Verdict, NoMemory>
+) -> Result<Verdict, AllocError>
     requires form { IsEnvelope (env_of envelope.now) }
     requires menu { HasMenu (env_of envelope.now) }
     ensures { IfOk result (λ verdict. (k : Known) → k.base ≡ base.now → PassesBelow (CheckSays (env_of envelope.now) rest.now k) 9
@@ -139,7 +139,7 @@ fn judge_files(
 /// # Errors
 ///
 /// Want of memory, and nothing else.
-pub fn verify(alloc: Global, joined: &[u8], about: &About) -> Result<Verdict, NoMemory>
+pub fn verify(alloc: Global, joined: &[u8], about: &About) -> Result<Verdict, AllocError>
     // The verdict names the least of the thirteen checks that fails, or is a pass where none does.
     ensures least { IfOk result (IsVerdict joined.now (known_in about.now)) }
     // It is the one that is a function of the same.
@@ -153,7 +153,7 @@ pub fn verify(alloc: Global, joined: &[u8], about: &About) -> Result<Verdict, No
     let envelope = match read_envelope(alloc, frame.envelope) {
         Ok(envelope) => envelope,
         Err(EnvError::Spelling) => return Ok(Verdict::Fail(Check::Envelope)),
-        Err(EnvError::Memory) => return Err(NoMemory),
+        Err(EnvError::Memory) => return Err(AllocError),
     };
     if let Some(fault) = header_fault(&envelope, about) {
         return Ok(Verdict::Fail(fault));

@@ -1,5 +1,5 @@
 -- What a writer takes of a report, piece by piece.
-use Rattle.std.proofs.Common.{OnErr, Result, Ok, Err, ◌≡◌, ◌<◌, ◌≤◌, ◌-◌, ◌+◌, ◌++◌, ◌∷◌, ◌∙◌, [], List, ℕ, Option, Some, None, append-nil, append_assoc, ap, arith, drop, drop-cons, get_or, length, length-append, length-drop, length-take, subst, suc, sym, take}
+use Rattle.std.proofs.Common.{OnErr, Result, Ok, Err, ◌≡◌, ◌<◌, ◌≤◌, ◌-◌, ◌+◌, ◌++◌, ◌∷◌, ◌∙◌, [], List, ℕ, Option, Some, None, append-nil, append_assoc, ap, arith, drop, drop-cons, get_or, length, length-append, length-drop, subst, suc, sym, take}
 use Rattle.std.proofs.lemmas.List.{drop-drop, take-append-drop, take-append-le, take_all, take_more}
 use Rattle.std.proofs.Math.Seq.{take-add, take-append-add}
 use Rattle.std.proofs.lemmas.Grind.{flat_map-append}
@@ -89,10 +89,6 @@ report_more old mid new notices i d inside before here =
     let text : report_text (take i notices) ++ line (get_or notices i d) ≡ report_text (take (i + 1) notices) =
     ap (λ (t : List ℕ). report_text (take i notices) ++ t) (sym one) ∙ sym (flat_map-append line (take i notices) (get_or notices i d ∷ [])) ∙ ap report_text (sym (take_more notices i d inside)) in
     subst (λ (t : List ℕ). Appends old new t) text (appends_then old mid new (report_text (take i notices)) (line (get_or notices i d)) before here)
-
--- the length of what stands at the front
-pub length_of_front : (n : ℕ) (out text : List ℕ) → take n out ≡ text → n ≤ length out → n ≡ length text
-length_of_front n out text is fits = omega (arith, ap length is, length-take n out, fits)
 
 -- what holds whatever the error
 pub on_err : {A E : Type 0} (r : Result A E) (P : Type 0) → P → OnErr r P

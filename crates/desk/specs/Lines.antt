@@ -52,13 +52,6 @@ line n =
     right_aligned_text 8 (decimal n.number) ++ codes " " ++ left_aligned_text 10 (notice_kind_text n.kind) ++ codes " " ++ day_text n.day ++ codes " "
     ++ revision_text n.kind ++ codes " " ++ left_aligned_text 13 (id_text n.kind) ++ codes " " ++ moment_text n.at ++ codes " " ++ n.tld ++ codes "\n"
 
--- the parts of a line, for private clauses
-abbrev pub line_head_text : Notice → List ℕ
-line_head_text n = right_aligned_text 8 (decimal n.number) ++ codes " " ++ left_aligned_text 10 (notice_kind_text n.kind) ++ codes " " ++ day_text n.day
-
-abbrev pub line_deposit_text : NoticeKind → List ℕ
-line_deposit_text kind = codes " " ++ revision_text kind ++ codes " " ++ left_aligned_text 13 (id_text kind)
-
 -- all lines in order
 abbrev pub report_text : List Notice → List ℕ
 report_text notices = flat_map line notices

@@ -12,7 +12,7 @@ mod standing;
 
 pub use checks::Check;
 pub use grounds::Ground;
-pub use lines::{LINE_MAX, write_line};
+pub use lines::write_line;
 pub use notices::{Notice, NoticeKind};
 pub use reports::{Fault, report};
 pub use revision::Revision;

@@ -53,10 +53,7 @@ pub fn report<W: Write>(notices: &[Notice], out: &mut W) -> Result<(), Fault>
     ensures begun { OnErr result (AppendsBeginning (W.contents out.old) (W.contents out.new) (report_text notices.now)) }
 {
     for notice in notices {
-        let mut room = [0; 160];
-        let length = write_line(notice, &mut room);
-        let (line, _) = room.split_at(length);
-        write_bytes(line, out)?;
+        write_bytes(&write_line(notice), out)?;
     }
     Ok(())
 }

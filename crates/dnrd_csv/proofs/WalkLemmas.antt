@@ -110,6 +110,23 @@ walked_fits text width reader fields count rest walked =
     let kept = walked.kept refl in
     ap length kept.0 ∙ flat_len width walked.all kept.1 ∙ ap (λ (n : ℕ). n * width) (sym walked.counted)
 
+-- a text has as many bytes as its rows have fields, at least
+fields_few : (row : List (List ℕ)) → length row ≤ length (row_text row)
+fields_few [] = omega arith
+fields_few (field ∷ []) = omega (arith, length-append (field_text field) (10 ∷ []))
+fields_few (field ∷ next ∷ row) =
+    let rest : List ℕ = join_with_byte 44 (map field_text (next ∷ row)) in
+    omega (arith, fields_few (next ∷ row), length-append (field_text field ++ 44 ∷ rest) (10 ∷ []), length-append (field_text field) (44 ∷ rest), length-append rest (10 ∷ []))
+
+flat_few : (rows : List (List (List ℕ))) → length (flat rows) ≤ length (table_text rows)
+flat_few [] = omega arith
+flat_few (row ∷ rows) = omega (arith, fields_few row, flat_few rows, length-append row (flat rows), length-append (row_text row) (table_text rows))
+
+pub walked_short : (text : List ℕ) (width : ℕ) (reader : Reader (Bor (List ℕ))) (fields : Row) (count : ℕ) (rest : List ℕ)
+    → Walked text width reader fields count true rest → length (fields_of fields) ≤ length text
+walked_short text width reader fields count rest walked =
+    omega (arith, ap length (walked.kept refl).0, flat_few walked.all, ap length walked.text_is, length-append (table_text walked.all) rest)
+
 pub walked_rows : (text : List ℕ) (width : ℕ) (reader : Reader (Bor (List ℕ))) (fields : Row) (count : ℕ) (rest : List ℕ)
     → (walked : Walked text width reader fields count true rest) → rows_from width count (fields_of fields) ≡ walked.all
 walked_rows text width reader fields count rest walked =

@@ -152,7 +152,11 @@ fn read_unmarked(alloc: Global, text: &[u8], width: usize) -> Result<Rows, Table
     if !even {
         return Err(TableError::ColumnCount);
     }
-    Ok(Rows::new(fields, width, count))
+    Ok(Rows {
+        fields,
+        width,
+        count,
+    })
 }
 
 /// The rows of which the bytes are the text, if each has so many fields.

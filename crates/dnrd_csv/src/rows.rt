@@ -2,7 +2,6 @@
 ghost use Rattle.std.specs.Prelude.{
   ◌≡◌,
   ◌≢◌,
-  ◌*◌,
   ◌<◌,
   ◌++◌,
   ◌==◌,
@@ -32,9 +31,9 @@ use std::marker::Model;
 /// Rows of one width, in the order of their file.
 #[derive(Drop)]
 pub struct Rows {
-    fields: ByteRecord,
-    width: usize,
-    count: usize,
+    pub(crate) fields: ByteRecord,
+    pub(crate) width: usize,
+    pub(crate) count: usize,
 }
 
 impl Model for Rows {
@@ -50,21 +49,6 @@ impl Model for Rows {
 }
 
 impl Rows {
-    ghost use Rattle.dnrd_csv.specs.inside.Rows.{rows_from};
-
-    /// The rows of so many fields each.
-    pub(crate) fn new(fields: ByteRecord, width: usize, count: usize) -> Rows
-        requires fits { length (fields_of fields) ≡ count * width }
-        requires in_form { All IsRow (rows_from width count (fields_of fields)) }
-        ensures { result ≡ rows_from width count (fields_of fields) }
-    {
-        Rows {
-            fields,
-            width,
-            count,
-        }
-    }
-
     /// The rows that these fields are, one row after another, with so many fields each. `None` where the width is 0,
     /// where the last row is short, or where a row is one empty field. It takes no memory.
     pub fn from_fields(fields: ByteRecord, width: usize) -> Option<Rows>
@@ -78,7 +62,11 @@ impl Rows {
         if width == 1 && !none_is_empty(&fields) {
             return None;
         }
-        Some(Rows::new(fields, width, len / width))
+        Some(Rows {
+            fields,
+            width,
+            count: len / width,
+        })
     }
 
     /// How many rows there are.
@@ -101,7 +89,6 @@ impl Rows {
         requires column { column < length (get_or self.now row []) }
         ensures { result.now ≡ get_or (get_or self.now row []) column [] }
     {
-        let _ = self.fields.len();
         field_at(&self.fields, row * self.width + column)
     }
 
@@ -117,9 +104,8 @@ impl Rows {
     pub(crate) fn write(&self, out: &mut Vec<u8>) -> Result<(), AllocError>
         ensures { OnOk result (out.new.items ≡ out.old.items ++ table_text self.now) }
     {
-        let _ = self.fields.len();
         for i in 0..self.count {
-            write_row(&self.fields, i * self.width, self.width, out)?;
+            write_row(&self.fields, i * self.width, (i + 1) * self.width, out)?;
         }
         Ok(())
     }

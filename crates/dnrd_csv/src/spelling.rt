@@ -1,7 +1,7 @@
 //! Writing fields and rows in their one spelling.
 ghost use Rattle.std.specs.Prelude.{
   ◌≡◌,
-  ◌+◌,
+  ◌-◌,
   ◌<◌,
   ◌≤◌,
   ◌==◌,
@@ -82,20 +82,20 @@ fn write_comma(i: usize, out: &mut Vec<u8>) -> Result<(), AllocError>
     Ok(())
 }
 
-/// Writes the row of so many fields from a place on.
+/// Writes the row of the fields from a place to another.
 pub fn write_row(
     fields: &ByteRecord,
     from: usize,
-    count: usize,
+    end: usize,
     out: &mut Vec<u8>,
 ) -> Result<(), AllocError>
-    requires { from + count ≤ length (fields_of fields.now) }
-    ensures { OnOk result (out.new.items ≡ out.old.items ++ row_text (take count (drop from (fields_of fields.now)))) }
+    requires rises { from ≤ end }
+    requires within { end ≤ length (fields_of fields.now) }
+    ensures { OnOk result (out.new.items ≡ out.old.items ++ row_text (take (end - from) (drop from (fields_of fields.now)))) }
 {
-    let _ = fields.len();
-    for i in 0..count {
-        write_comma(i, out)?;
-        write_field(field_at(fields, from + i), out)?;
+    for i in from..end {
+        write_comma(i - from, out)?;
+        write_field(field_at(fields, i), out)?;
     }
     out.push(b'\n')?;
     Ok(())

@@ -1,3 +1,4 @@
+pub mod ByteLemmas
 pub mod BitLemmas
 pub mod SetLemmas
 pub mod RunLemmas

@@ -1,3 +1,5 @@
 pub mod Extents
+pub mod Limits
+pub mod Staged
 pub mod Words
 pub mod Map

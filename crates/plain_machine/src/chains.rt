@@ -24,7 +24,7 @@ use crate::sought_name::SoughtName;
 use crate::state::PlainState;
 use custody_machine::Statement;
 use deposit_name::{DepositName, Kind, Tld};
-use deposit_verify::{Base, NoMemory};
+use deposit_verify::Base;
 use schedule::Day;
 use std::alloc::{AllocError, Global};
 
@@ -102,7 +102,7 @@ impl PlainState {
         alloc: Global,
         mut base: Option<Base>,
         later: &[DepositName],
-    ) -> Result<Option<Base>, NoMemory>
+    ) -> Result<Option<Base>, AllocError>
         ensures { IfOk result (λ next. next
             ≡ all_then base (map (joined_bytes (state_view self.now)) later.now)) }
     {
@@ -114,7 +114,7 @@ impl PlainState {
     }
 
     // The keys after a chain, where it is read.
-    fn base_at(&self, alloc: Global, chain: &[DepositName]) -> Result<Option<Base>, NoMemory>
+    fn base_at(&self, alloc: Global, chain: &[DepositName]) -> Result<Option<Base>, AllocError>
         ensures { IfOk result (λ base. base ≡ base_at (map (joined_bytes (state_view self.now)) chain.now)) }
     {
         let [first, later @ ..] = chain else {
@@ -130,7 +130,7 @@ impl PlainState {
         &self,
         alloc: Global,
         stated: &Statement,
-    ) -> Result<Option<Base>, NoMemory>
+    ) -> Result<Option<Base>, AllocError>
         ensures { IfOk result (λ base. base ≡ base_of (state_view self.now) stated.now) }
     {
         let chain = self.held_chain(alloc, stated)?;
@@ -197,7 +197,7 @@ fn later_names(
 }
 
 // The keys after one deposit more, where those before it are there.
-fn base_then(alloc: Global, base: Option<Base>, joined: &[u8]) -> Result<Option<Base>, NoMemory>
+fn base_then(alloc: Global, base: Option<Base>, joined: &[u8]) -> Result<Option<Base>, AllocError>
     ensures { IfOk result (λ next. next
         ≡ option_and_then (λ base. base_then base joined.now) base) }
 {

@@ -125,7 +125,7 @@ fn is_under(release: &Release, reference: &Reference) -> bool
 fn is_on_ground(release: &Release, tld: &Tld, reason: Ground) -> bool
     ensures { result ≡ is_on_ground tld.now reason (release_value release.now) }
 {
-    release.tld.as_bytes() == tld.as_bytes() && release.reason.as_str() == reason.as_str()
+    release.tld == *tld && release.reason == reason
 }
 
 fn release_answer(release: &Release, is_repeat: bool) -> PlainAnswer

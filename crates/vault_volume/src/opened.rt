@@ -1,6 +1,6 @@
 //! A part of which the bytes are still coming.
 ghost use Rattle.std.specs.Prelude.{◌≡◌, ◌≤◌, length};
-ghost use Rattle.vault_volume.specs.Limits.{max_extents};
+ghost use Rattle.extent_map.specs.Limits.{max_extents};
 
 use crate::Extent;
 use sha2::Sha256;

@@ -1,5 +1,5 @@
 -- Rows of one width, kept as one list of fields.
-use Rattle.std.specs.Prelude.{◌≡◌, ◌*◌, ℕ, zero, suc, List, [], ◌∷◌, All, length, take, drop}
+use Rattle.std.specs.Prelude.{◌≡◌, ◌*◌, ◌<◌, ◌^◌, ℕ, zero, suc, List, [], ◌∷◌, All, length, take, drop}
 use Rattle.csv.specs.Records.{fields_of}
 use Rattle.dnrd_csv.specs.Text.{IsRow}
 use Rattle.dnrd_csv.specs.declared.rows.Rows.TheInside.{Inside}
@@ -16,4 +16,5 @@ inside_rows a = rows_from a.width a.count (fields_of a.fields)
 -- the fields are those of the rows, which have a text
 pub record HasInsideRows (a : Inside) : Type 0 where
   pub fits : length (fields_of a.fields) ≡ a.count * a.width
+  pub small : a.count * a.width < 2 ^ 64
   pub in_form : All IsRow (inside_rows a)

@@ -1,9 +1,9 @@
-use Rattle.std.proofs.Common.{◌∙◌, Some, ap, inr, refl, sym}
+use Rattle.std.proofs.Common.{◌∙◌, Some, ap, arith, inr, refl, sym}
 use Rattle.std.proofs.lemmas.Result.{err_from_is_err_and}
 use Rattle.csv.specs.Records.{fields_of}
 use Rattle.dnrd_csv.specs.inside.RowReading.{IsAtRow}
 use Rattle.dnrd_csv.proofs.Records.{unmarked_stays}
-use Rattle.dnrd_csv.proofs.WalkLemmas.{no_rest, refused_rest, some_rest, walked_fits, walked_more, walked_none, walked_rows, walked_text}
+use Rattle.dnrd_csv.proofs.WalkLemmas.{no_rest, refused_rest, some_rest, walked_fits, walked_more, walked_none, walked_rows, walked_short, walked_text}
 use Rattle.dnrd_csv.proofs.reading.read_unmarked.Goals as goal
 
 pub loop-rest-init : goal.loop-rest-init
@@ -41,20 +41,20 @@ returns-then-not-even-clause-refused c =
     let text = walked_text c.args.text.now c.args.width c.loop-rest.reader c.loop-rest.fields c.loop-rest.count c.loop-rest.even c.loop-rest.rest.now walked c.requires.unmarked end in
     (c.requires.utf8, walked.all, text, walked.uneven c.if-not-even.true)
 
-pub new-requires-2-clause-fits : goal.new-requires-2-clause-fits
-new-requires-2-clause-fits c =
+pub invariant_of-result : goal.invariant_of-result
+invariant_of-result c =
     let walked = rw c.if-not-even.false at c.loop-rest.invariant in
-    walked_fits c.args.text.now c.args.width c.loop-rest.reader c.loop-rest.fields c.loop-rest.count c.loop-rest.rest.now walked
-
-pub new-requires-2-clause-in_form : goal.new-requires-2-clause-in_form
-new-requires-2-clause-in_form c =
-    let walked = rw c.if-not-even.false at c.loop-rest.invariant in
-    rw (walked_rows c.args.text.now c.args.width c.loop-rest.reader c.loop-rest.fields c.loop-rest.count c.loop-rest.rest.now walked) walked.in_form
+    let fits = walked_fits c.args.text.now c.args.width c.loop-rest.reader c.loop-rest.fields c.loop-rest.count c.loop-rest.rest.now walked in
+    record {
+      fits = fits;
+      small = omega (arith, fits, walked_short c.args.text.now c.args.width c.loop-rest.reader c.loop-rest.fields c.loop-rest.count c.loop-rest.rest.now walked, c.type_inv);
+      in_form = rw (walked_rows c.args.text.now c.args.width c.loop-rest.reader c.loop-rest.fields c.loop-rest.count c.loop-rest.rest.now walked) walked.in_form;
+    }
 
 pub returns-clause-ok : goal.returns-clause-ok
 returns-clause-ok c =
     let walked = rw c.if-not-even.false at c.loop-rest.invariant in
     let end = no_rest c.loop-rest.rest.now (sym c.is_empty.ensures ∙ c.loop-rest-test.false) in
-    let rows = c.new-2.ensures ∙ walked_rows c.args.text.now c.args.width c.loop-rest.reader c.loop-rest.fields c.loop-rest.count c.loop-rest.rest.now walked in
+    let rows = walked_rows c.args.text.now c.args.width c.loop-rest.reader c.loop-rest.fields c.loop-rest.count c.loop-rest.rest.now walked in
     let text = walked_text c.args.text.now c.args.width c.loop-rest.reader c.loop-rest.fields c.loop-rest.count _ c.loop-rest.rest.now walked c.requires.unmarked end in
     rw rows (text, (walked.kept refl).1)

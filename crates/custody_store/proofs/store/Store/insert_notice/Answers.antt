@@ -8,7 +8,7 @@ pub returns-clause-commits : goal.returns-clause-commits
 returns-clause-commits g c =
     rw (← c.self.view_is)
     (inserts_notice (state g.S.Store c.self.inside.db) (state g.S.Store c.run.new.db) (typed_notice_row c.args.notice.now) _
-    (rw (c.text.ensures, c.as_bytes.ensures.text, c.in-Some.ensures.some, c.small.ensures, c.number_of.ensures, c.day.ensures, c.small-2.ensures, c.rev_of.ensures, c.text-2.ensures, c.id_of.ensures, c.moment.ensures) at c.run.ensures.runs))
+    (rw (c.text.ensures, c.as_bytes.ensures.text, c.in-Some.ensures.some, c.small.ensures, c.kind_columns-kind.ensures.number, c.day.ensures.value, c.small-2.ensures, c.kind_columns-kind.ensures.rev, c.text-2.ensures, c.kind_columns-kind.ensures.id, c.moment.ensures.value) at c.run.ensures.runs))
 
 pub returns-in_default-clause-commits : goal.returns-in_default-clause-commits
 returns-in_default-clause-commits g c = commits_none (state g.S.Store c.args.self.now) _ _
@@ -16,4 +16,4 @@ returns-in_default-clause-commits g c = commits_none (state g.S.Store c.args.sel
 pub returns-clause-runs : goal.returns-clause-runs
 returns-clause-runs g c few =
     rw (← c.self.view_is)
-    (rw (c.text.ensures, c.as_bytes.ensures.text, c.in-Some.ensures.some, c.small.ensures, c.number_of.ensures, c.day.ensures, c.small-2.ensures, c.rev_of.ensures, c.text-2.ensures, c.id_of.ensures, c.moment.ensures) at c.run.ensures.runs)
+    (rw (c.text.ensures, c.as_bytes.ensures.text, c.in-Some.ensures.some, c.small.ensures, c.kind_columns-kind.ensures.number, c.day.ensures.value, c.small-2.ensures, c.kind_columns-kind.ensures.rev, c.text-2.ensures, c.kind_columns-kind.ensures.id, c.moment.ensures.value) at c.run.ensures.runs)

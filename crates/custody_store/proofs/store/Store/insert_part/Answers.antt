@@ -11,7 +11,7 @@ returns-in_err-run-clause-commits g c =
     rw (← c.self.view_is, ← c.name.view_is)
     (commits_err _ _ _ _ _ c.from_residual.ensures.0
     (inserts_part (state g.S.Store c.self.inside.db) (state g.S.Store c.run.new.db) (staged_row name c.args.received c.args.staged) _
-    (rw (c.text.ensures, c.as_bytes.ensures.text, c.day.ensures, c.small.ensures, c.small-2.ensures, c.text-2.ensures, c.as_bytes-2.ensures, c.moment.ensures, c.keep_day_value.ensures, c.day-2.ensures.value, c.number.ensures, c.blob.ensures, c.blob-2.ensures, c.write_blob-size.ensures.bytes, c.deref.ensures.value, c.spend-extents.ensures.extents, c.spend-extents.ensures.len, c.spend-extents.ensures.digest) at c.in_err-run.ensures.runs)))
+    (rw (c.text.ensures, c.as_bytes.ensures.text, c.day.ensures.value, c.small.ensures, c.small-2.ensures, c.text-2.ensures, c.as_bytes-2.ensures, c.moment.ensures.value, c.keep_day_value.ensures, c.day-2.ensures.value, c.number.ensures, c.blob.ensures, c.blob-2.ensures, c.deref-2.ensures.0, c.write_blob-bytes.ensures.bytes, c.deref.ensures.value, c.spend-extents.ensures.extents, c.spend-extents.ensures.len, c.spend-extents.ensures.digest) at c.in_err-run.ensures.runs)))
 
 pub returns-clause-commits : goal.returns-clause-commits
 returns-clause-commits g c =
@@ -19,16 +19,16 @@ returns-clause-commits g c =
     rw (← c.self.view_is, ← c.name.view_is)
     (commits_ok _ _ _ _ _
     (inserts_part (state g.S.Store c.self.inside.db) (state g.S.Store c.run.new.db) (staged_row name c.args.received c.args.staged) _
-    (rw (c.text.ensures, c.as_bytes.ensures.text, c.day.ensures, c.small.ensures, c.small-2.ensures, c.text-2.ensures, c.as_bytes-2.ensures, c.moment.ensures, c.keep_day_value.ensures, c.day-2.ensures.value, c.number.ensures, c.blob.ensures, c.blob-2.ensures, c.write_blob-size.ensures.bytes, c.deref.ensures.value, c.spend-extents.ensures.extents, c.spend-extents.ensures.len, c.spend-extents.ensures.digest) at c.in_ok-run.ensures.runs)))
+    (rw (c.text.ensures, c.as_bytes.ensures.text, c.day.ensures.value, c.small.ensures, c.small-2.ensures, c.text-2.ensures, c.as_bytes-2.ensures, c.moment.ensures.value, c.keep_day_value.ensures, c.day-2.ensures.value, c.number.ensures, c.blob.ensures, c.blob-2.ensures, c.deref-2.ensures.0, c.write_blob-bytes.ensures.bytes, c.deref.ensures.value, c.spend-extents.ensures.extents, c.spend-extents.ensures.len, c.spend-extents.ensures.digest) at c.in_ok-run.ensures.runs)))
 
 pub returns-in_err-run-clause-runs : goal.returns-in_err-run-clause-runs
 returns-in_err-run-clause-runs g c =
     rw (← c.self.view_is, ← c.name.view_is)
     (runs_err _ _ _ _ _ _ c.from_residual.ensures.0
-    (rw (c.text.ensures, c.as_bytes.ensures.text, c.day.ensures, c.small.ensures, c.small-2.ensures, c.text-2.ensures, c.as_bytes-2.ensures, c.moment.ensures, c.keep_day_value.ensures, c.day-2.ensures.value, c.number.ensures, c.blob.ensures, c.blob-2.ensures, c.write_blob-size.ensures.bytes, c.deref.ensures.value, c.spend-extents.ensures.extents, c.spend-extents.ensures.len, c.spend-extents.ensures.digest) at c.in_err-run.ensures.runs))
+    (rw (c.text.ensures, c.as_bytes.ensures.text, c.day.ensures.value, c.small.ensures, c.small-2.ensures, c.text-2.ensures, c.as_bytes-2.ensures, c.moment.ensures.value, c.keep_day_value.ensures, c.day-2.ensures.value, c.number.ensures, c.blob.ensures, c.blob-2.ensures, c.deref-2.ensures.0, c.write_blob-bytes.ensures.bytes, c.deref.ensures.value, c.spend-extents.ensures.extents, c.spend-extents.ensures.len, c.spend-extents.ensures.digest) at c.in_err-run.ensures.runs))
 
 pub returns-clause-runs : goal.returns-clause-runs
 returns-clause-runs g c =
     rw (← c.self.view_is, ← c.name.view_is)
     (runs_ok _ _ _ _ _ _
-    (rw (c.text.ensures, c.as_bytes.ensures.text, c.day.ensures, c.small.ensures, c.small-2.ensures, c.text-2.ensures, c.as_bytes-2.ensures, c.moment.ensures, c.keep_day_value.ensures, c.day-2.ensures.value, c.number.ensures, c.blob.ensures, c.blob-2.ensures, c.write_blob-size.ensures.bytes, c.deref.ensures.value, c.spend-extents.ensures.extents, c.spend-extents.ensures.len, c.spend-extents.ensures.digest) at c.in_ok-run.ensures.runs))
+    (rw (c.text.ensures, c.as_bytes.ensures.text, c.day.ensures.value, c.small.ensures, c.small-2.ensures, c.text-2.ensures, c.as_bytes-2.ensures, c.moment.ensures.value, c.keep_day_value.ensures, c.day-2.ensures.value, c.number.ensures, c.blob.ensures, c.blob-2.ensures, c.deref-2.ensures.0, c.write_blob-bytes.ensures.bytes, c.deref.ensures.value, c.spend-extents.ensures.extents, c.spend-extents.ensures.len, c.spend-extents.ensures.digest) at c.in_ok-run.ensures.runs))

@@ -7,8 +7,8 @@ pub returns-clause-commits : goal.returns-clause-commits
 returns-clause-commits g c =
     rw (← c.self.view_is)
     (inserts_registry (state g.S.Store c.self.inside.db) (state g.S.Store c.run.new.db) (row_of_registry c.args.registry.now.tld c.args.registry.now.first_day) _
-    (rw (c.text.ensures, c.as_bytes.ensures.text, c.day.ensures) at c.run.ensures.runs))
+    (rw (c.text.ensures, c.as_bytes.ensures.text, c.day.ensures.value) at c.run.ensures.runs))
 
 pub returns-clause-runs : goal.returns-clause-runs
 returns-clause-runs g c =
-    rw (← c.self.view_is) (rw (c.text.ensures, c.as_bytes.ensures.text, c.day.ensures) at c.run.ensures.runs)
+    rw (← c.self.view_is) (rw (c.text.ensures, c.as_bytes.ensures.text, c.day.ensures.value) at c.run.ensures.runs)

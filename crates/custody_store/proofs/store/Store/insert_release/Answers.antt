@@ -7,9 +7,9 @@ pub returns-clause-commits : goal.returns-clause-commits
 returns-clause-commits g c =
     rw (← c.self.view_is)
     (inserts_handover (state g.S.Store c.self.inside.db) (state g.S.Store c.run.new.db) (typed_release_row c.args.release.now) _
-    (rw (c.text.ensures, c.as_bytes.ensures.text, c.text-2.ensures, c.as_bytes-2.ensures.text, c.text-3.ensures, c.ground_of.ensures, c.moment.ensures, c.text-4.ensures, c.as_text.ensures.text) at c.run.ensures.runs))
+    (rw (c.text.ensures, c.as_bytes.ensures.text, c.text-2.ensures, c.as_bytes-2.ensures.text, c.text-3.ensures, c.ground_of.ensures, c.moment.ensures.value, c.text-4.ensures, c.as_text.ensures.text) at c.run.ensures.runs))
 
 pub returns-clause-runs : goal.returns-clause-runs
 returns-clause-runs g c =
     rw (← c.self.view_is)
-    (rw (c.text.ensures, c.as_bytes.ensures.text, c.text-2.ensures, c.as_bytes-2.ensures.text, c.text-3.ensures, c.ground_of.ensures, c.moment.ensures, c.text-4.ensures, c.as_text.ensures.text) at c.run.ensures.runs)
+    (rw (c.text.ensures, c.as_bytes.ensures.text, c.text-2.ensures, c.as_bytes-2.ensures.text, c.text-3.ensures, c.ground_of.ensures, c.moment.ensures.value, c.text-4.ensures, c.as_text.ensures.text) at c.run.ensures.runs)

@@ -6,8 +6,8 @@ pub returns-clause-commits : goal.returns-clause-commits
 returns-clause-commits g c =
     rw (← c.self.view_is)
     (lifts c.args.reference.now c.args.at (state g.S.Store c.self.inside.db) (state g.S.Store c.run.new.db) _
-    (rw (c.text.ensures, c.as_bytes.ensures.text, c.moment.ensures) at c.run.ensures.runs))
+    (rw (c.text.ensures, c.as_bytes.ensures.text, c.moment.ensures.value) at c.run.ensures.runs))
 
 pub returns-clause-runs : goal.returns-clause-runs
 returns-clause-runs g c =
-    rw (← c.self.view_is) (rw (c.text.ensures, c.as_bytes.ensures.text, c.moment.ensures) at c.run.ensures.runs)
+    rw (← c.self.view_is) (rw (c.text.ensures, c.as_bytes.ensures.text, c.moment.ensures.value) at c.run.ensures.runs)

@@ -32,8 +32,12 @@ made c =
     let fits : length (fields_of c.args.fields) ≡ c.len-len.result / c.args.width * c.args.width = omega (arith, c.len-len.ensures) in
     rows_of_fields c.args.width (c.len-len.result / c.args.width) (fields_of c.args.fields) some fits (filled c)
 
-pub new-requires-clause-in_form : goal.new-requires-clause-in_form
-new-requires-clause-in_form c = (made c).in_form
+pub invariant_of-result : goal.invariant_of-result
+invariant_of-result c = record {
+  fits = omega (arith, c.len-len.ensures);
+  small = omega (arith, c.len-len.ensures, c.len-len.type_inv);
+  in_form = (made ((goal.at.invariant_of-result c).Joined-else-width-eq1)).in_form;
+}
 
 pub returns-clause-some : goal.returns-clause-some
-returns-clause-some c = rw c.new.ensures (made ((goal.at.returns-clause-some c).Joined-else-width-eq1))
+returns-clause-some c = made ((goal.at.returns-clause-some c).Joined-else-width-eq1)

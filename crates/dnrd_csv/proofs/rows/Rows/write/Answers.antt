@@ -1,4 +1,4 @@
-use Rattle.std.proofs.Common.{List, ℕ, ◌<◌, ◌≤◌, ◌++◌, ◌∙◌, ◌*◌, [], ap, append_assoc, arith, drop, get_or, length, sym, take}
+use Rattle.std.proofs.Common.{List, ℕ, ◌<◌, ◌≤◌, ◌≡◌, ◌+◌, ◌-◌, ◌++◌, ◌∙◌, ◌*◌, [], ap, append_assoc, arith, drop, get_or, length, sym, take}
 use Rattle.std.proofs.lemmas.List.{take_all}
 use Rattle.std.proofs.Math.Nat.{mul-le-mul_right}
 use Rattle.csv.specs.Records.{fields_of}
@@ -9,9 +9,18 @@ use Rattle.dnrd_csv.proofs.rows.Rows.write.Goals as goal
 
 pub overflow_mul-i : goal.overflow_mul-i
 overflow_mul-i c =
-    let kept = c.self.inside in
-    let below : c.loop-i.i ≤ kept.count = omega arith in
-    omega (arith, mul-le-mul_right kept.width below, c.self.invariant.fits, c.len.type_inv, c.len.ensures)
+    let below : c.loop-i.i ≤ c.self.inside.count = omega arith in
+    omega (arith, mul-le-mul_right c.self.inside.width below, c.self.invariant.fits, c.self.invariant.small)
+
+pub overflow_mul-i-in-loop-i : goal.overflow_mul-i-in-loop-i
+overflow_mul-i-in-loop-i c =
+    let below : c.loop-i.i + 1 ≤ c.self.inside.count = omega arith in
+    omega (arith, mul-le-mul_right c.self.inside.width below, c.self.invariant.fits, c.self.invariant.small)
+
+pub write_row-requires-clause-within : goal.write_row-requires-clause-within
+write_row-requires-clause-within c =
+    let below : c.loop-i.i + 1 ≤ c.self.inside.count = omega arith in
+    omega (arith, mul-le-mul_right c.self.inside.width below, c.self.invariant.fits)
 
 pub loop-i-preserved : goal.loop-i-preserved
 loop-i-preserved c =
@@ -23,7 +32,8 @@ loop-i-preserved c =
     let count = sym (ap length c.self.view_is) ∙ length-rows_from kept.width kept.count fields in
     let inside : i < length rows = omega (arith, count, c.loop-i-test.true) in
     let row = sym (row_at kept.width kept.count fields i [] c.loop-i-test.true) ∙ ap (λ (r : List (List (List ℕ))). get_or r i []) c.self.view_is in
-    c.in_ok-write_row.ensures
+    let wide : (i + 1) * kept.width - i * kept.width ≡ kept.width = omega arith in
+    (rw wide at c.in_ok-write_row.ensures)
     ∙ ap (λ (t : List ℕ). t ++ row_text (take kept.width (drop (i * kept.width) fields))) c.loop-i.invariant
     ∙ ap (λ (r : List (List ℕ)). (before ++ table_text (take i rows)) ++ row_text r) row
     ∙ append_assoc before (table_text (take i rows)) (row_text (get_or rows i []))

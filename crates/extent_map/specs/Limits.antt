@@ -1,9 +1,13 @@
 -- How many bytes a block has, how many blocks a volume, and how many bytes and extents a part.
-use Rattle.std.specs.Prelude.{ℕ}
+use Rattle.std.specs.Prelude.{ℕ, ◌+◌, ◌/◌}
 
 -- the bytes of a block
 abbrev pub block_bytes : ℕ
 block_bytes = 4096
+
+-- how many blocks so many bytes take
+abbrev pub block_count : ℕ → ℕ
+block_count len = (len + 4095) / 4096
 
 -- block 0, and one for a part
 abbrev pub fewest_blocks : ℕ
