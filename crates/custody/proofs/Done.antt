@@ -1,6 +1,6 @@
 -- What a command does to an open custody, once for all commands: for those that do nothing, and for those that are one commit.
 use Rattle.std.proofs.Common.{◌≡◌, ◌≢◌, ℕ, List, [], true, false, refl, sym, ◌∙◌, ap, subst, Result, Ok, Err}
-use Rattle.std.specs.Prelude.{Bool, not, is_err, IfOk}
+use Rattle.std.specs.Prelude.{Bool, not, is_err, IfOk, IsErrAnd}
 use Rattle.sqlite.specs.Store.{Ghosts}
 use Rattle.sqlite.specs.Held as database_of
 use Rattle.vault_volume.specs.declared.volume.Volume as volume
@@ -14,6 +14,8 @@ use Rattle.custody_records.specs.MemoryRecords.{records_of}
 use Rattle.custody_records.specs.Records.{Records}
 use Rattle.custody_records.specs.Rows.{Rows}
 use Rattle.custody_store.specs.StoreState.{Commits, store_state}
+use Rattle.custody_store.specs.declared.faults.StoreFault.{StoreFault}
+use Rattle.custody_store.specs.declared.faults.StoreFault.TheVariants as fault
 use Rattle.custody_machine.specs.Machine as machine
 use Rattle.custody_machine.specs.Machine.{Command, Refuse, Accept, step, deciding_keys, Accepted, MayAnswer, MayRefuse, MayFail}
 use Rattle.custody_machine.specs.State.{State}
@@ -33,10 +35,11 @@ use Rattle.custody.specs.declared.answers.Refused as not_accepted
 use Rattle.custody.specs.declared.answers.Refused.TheVariants as refused
 use Rattle.custody.specs.declared.open_custody.OpenCustody.{OpenCustody}
 use Rattle.custody.specs.Answers.{answer_of, stays_open, uses_volume, writes_volume}
+use Rattle.custody.specs.Opening.{failure_of}
 use Rattle.custody.specs.RulingAnswers.{FollowsRecords}
 use Rattle.custody.specs.ReplyRecords.{IsRecorded, HoldsBytes}
 use Rattle.custody.specs.OpenCustody.{current_records, store_state_of, image_of, failures_of, MayLeaveImage, MayLeaveImageSince, KeepsOrder, KeepsImage, KeepsRows, IsSafe, IsUnwritten, HasExecuted}
-use Rattle.custody.proofs.OpenCustodyLemmas.{on_ok, stays_still, leaves_more, StandFor, either_form, form_then, rows_then, safe_done, safe_undone, image_same, order_same, good_before, does_nothing, does_change, is_in_doubt}
+use Rattle.custody.proofs.OpenCustodyLemmas.{err_is, on_ok, stays_still, leaves_more, StandFor, either_form, form_then, rows_then, safe_done, safe_undone, image_same, order_same, good_before, does_nothing, does_change, is_in_doubt}
 
 -- the machine closes where the code does
 pub opens_alike : (command : Command) (answer : Result Reply not_accepted.Refused) → stays_open answer ≡ is_open_after (answer_of command answer)
@@ -57,6 +60,11 @@ fault_not_full failure e = cc
 
 pub refusal_not_full : (refusal : Refusal) → refusal ≢ VolumeFull → ◌≢◌ {A = Result Reply not_accepted.Refused} (Err (refused.Refusal refusal)) (Err (refused.Refusal VolumeFull))
 refusal_not_full refusal other e = let same : refusal ≡ VolumeFull = cc in other same
+
+-- an error that came through a `?`
+pub failed_as : {V S : Type 0} {g : volume.Ghosts V} {database : Ghosts S} {old new : OpenCustody V S g} {command : Command} {now : ℕ} {failed : not_accepted.Refused} {answer : Result Reply not_accepted.Refused}
+    → IsErrAnd answer (λ e. e ≡ failed) → HasExecuted database old command now (Err failed) new → HasExecuted database old command now answer new
+failed_as {database = database} {old = old} {new = new} {command = command} {now = now} {answer = answer} is done = subst (λ answer. HasExecuted database old command now answer new) (sym (err_is answer _ is)) done
 
 module _ {V S : Type 0} {g : volume.Ghosts V} (database : Ghosts S) (old : OpenCustody V S g) (order : KeepsOrder old) (command : Command) (now : ℕ) where
   -- ---- nothing was written: it is refused, it is a repeat, or it failed before the commit and is open still
@@ -181,8 +189,9 @@ module _ {V S : Type 0} {g : volume.Ghosts V} (database : Ghosts S) (old : OpenC
     ended honest store = (commits.effect honest store.ready).ended
 
     -- the database failed: it is committed or not
-    pub commits_in_doubt : FollowsRecords (current_records old) command now (Err (refused.Failure StoreFailed)) (current_records new) → HasExecuted database old command now (Err (refused.Failure StoreFailed)) new
-    commits_in_doubt ruled = record {
+    pub commits_in_doubt : {found : StoreFault} → found ≡ fault.Failed → {answer : Result Reply not_accepted.Refused} → IsErrAnd answer (λ e. e ≡ refused.Failure (failure_of found))
+        → FollowsRecords (current_records old) command now (Err (refused.Failure StoreFailed)) (current_records new) → HasExecuted database old command now answer new
+    commits_in_doubt kind {answer = answer} failed ruled = failed_as (subst (λ found. IsErrAnd answer (λ e. e ≡ refused.Failure (failure_of found))) kind failed) (record {
       safe = record { answers = λ e. cc; failed = λ e. cc; not_failed = λ _. is.failures; full = λ e. cc; uncalled = is.uncalled; unchanged = λ e. cc; order = λ e. cc };
       ruled = ruled;
       shown = tt;
@@ -198,7 +207,7 @@ module _ {V S : Type 0} {g : volume.Ghosts V} (database : Ghosts S) (old : OpenC
           (during tells volume) (either_form _ _ (current_records old) changed _ store (means (store.in_form, store.current)) result (commits.effect honest store.ready)) (is.after tells volume);
       image = λ e. cc;
       rows = λ e. cc;
-    }
+    })
 
   -- it is committed, and answered
   module _ (new : OpenCustody V S g) (changed : Records) (reply : machine.Reply) {unsettled : ℕ → Type 0} (goes : GoesOn new changed reply unsettled) {A E : Type 0} (result : Result A E) (after : Rows)

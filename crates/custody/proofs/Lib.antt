@@ -23,8 +23,6 @@ pub mod RevisionLemmas
 pub mod Room
 pub mod Ruled
 pub mod RunLemmas
-pub mod RunMoves
-pub mod SessionLemmas
 pub mod ShownLemmas
 pub mod Unstaged
 pub mod NewNotices

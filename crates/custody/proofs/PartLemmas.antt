@@ -12,7 +12,7 @@ use Rattle.schedule.specs.Schedule.{IsMoment}
 use Rattle.deposit_name.specs.Name.{Name}
 use Rattle.extent_map.specs.declared.extent.Extent.{Extent}
 use Rattle.vault_volume.specs.Extents.{IsExtentOf, block_count, blocks_of}
-use Rattle.vault_volume.specs.Staged.{StagedPart}
+use Rattle.extent_map.specs.Staged.{StagedPart}
 use Rattle.custody_records.specs.Records.{Records, key_of, with_part, staged_record}
 use Rattle.custody_records.specs.Rows.{Rows, with_part_row}
 use Rattle.custody_records.specs.Form.{natural, is_number, is_within, number_in, form_of, InForm}

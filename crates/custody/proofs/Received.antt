@@ -8,19 +8,18 @@ use Rattle.custody.specs.declared.answers.Reply.{Reply}
 use Rattle.custody.specs.declared.answers.Refused.{Refused}
 use Rattle.custody.specs.declared.custody.Custody.{Custody}
 use Rattle.custody.specs.declared.receiving.ReceiveError.{ReceiveError}
-use Rattle.custody.specs.declared.receiving.BodyCut.{BodyCut}
-use Rattle.custody.specs.declared.receiving.BodyCut.TheVariants as ended
+use Rattle.custody.specs.declared.receiving.ReceiveError.TheVariants as error
 use Rattle.custody.specs.Answers.{stays_open}
 use Rattle.custody.specs.OpenCustody.{HasExecuted}
 use Rattle.custody.specs.Custody.{open_custody_of, is_open, HasApplied}
-use Rattle.custody.specs.Receiving.{receive_error_of, ReadsBody, HasEndedEarly, HasReceived, IsPartBody}
+use Rattle.custody.specs.Receiving.{ReadsBody, HasEndedEarly, HasReceived, IsPartBody}
 use Rattle.custody.specs.OtherCalls.{RecordsNothing}
 use Rattle.custody.proofs.Coming.{chained_known}
 use Rattle.custody.proofs.Room.{had_room}
 
 -- ---- the bytes that came
 
-module _ (input known : Option (List ℕ)) (first : List ℕ) (len : ℕ) (sent : List ℕ) (result : Result (Unit {0}) BodyCut) (is_input : input ≡ option_append (Some first) known) (came : ReadsBody input len sent result) where
+module _ (input known : Option (List ℕ)) (first : List ℕ) (len : ℕ) (sent : List ℕ) (result : Result (Unit {0}) ReceiveError) (is_input : input ≡ option_append (Some first) known) (came : ReadsBody input len sent result) where
   came_of_both : ReadsBody (option_append (Some first) known) len sent result
   came_of_both = subst (λ k. ReadsBody k len sent result) is_input came
 
@@ -29,11 +28,11 @@ module _ (input known : Option (List ℕ)) (first : List ℕ) (len : ℕ) (sent 
   came_whole done is = let all = subst (λ r. ReadsBody (option_append (Some first) known) len sent r) is came_of_both in (all.0, chained_known known first (λ bytes. sent ≡ take len bytes) all.1)
 
   -- or are too few
-  pub came_short : (why : BodyCut) → result ≡ Err why → ReadsBody (option_append (Some first) known) len sent (Err why)
+  pub came_short : (why : ReceiveError) → result ≡ Err why → ReadsBody (option_append (Some first) known) len sent (Err why)
   came_short why is = subst (λ r. ReadsBody (option_append (Some first) known) len sent r) is came_of_both
 
 -- they are as many as were to come
-pub came_long : (input : Option (List ℕ)) (len : ℕ) (sent : List ℕ) (result : Result (Unit {0}) BodyCut) (done : Unit {0}) → result ≡ Ok done → ReadsBody input len sent result → length sent ≡ len
+pub came_long : (input : Option (List ℕ)) (len : ℕ) (sent : List ℕ) (result : Result (Unit {0}) ReceiveError) (done : Unit {0}) → result ≡ Ok done → ReadsBody input len sent result → length sent ≡ len
 came_long input len sent result done is came = (subst (λ r. ReadsBody input len sent r) is came).0
 
 -- ---- what was done
@@ -42,14 +41,12 @@ module _ {V S : Type 0} {g : volume.Ghosts V} {database : Ghosts S} (old new : C
   has_ended : RecordsNothing database (open_custody_of old) (is_open new) (open_custody_of new) → HasEndedEarly old new
   has_ended rested = record { closed = λ shut. let clash : true ≡ false = sym serving ∙ shut in cc; rested = λ _. rested }
 
-  told : (known : Option (List ℕ)) (name : List ℕ) (len : ℕ) (first : List ℕ) (now : ℕ) (sent : List ℕ) (why : BodyCut) → ReadsBody (option_append (Some first) known) len sent (Err why) → HasEndedEarly old new → HasReceived known old name len first now (Err (receive_error_of why)) new
-  told known name len first now sent ended.Short came over = (chained_known known first (λ bytes. length bytes < len) came, over)
-  told known name len first now sent ended.ReadFailed came over = over
-
   -- they did not all come
-  pub ended_early : (known : Option (List ℕ)) (name : List ℕ) (len : ℕ) (first : List ℕ) (now : ℕ) (sent : List ℕ) (why : BodyCut) (error : ReceiveError) → error ≡ receive_error_of why → ReadsBody (option_append (Some first) known) len sent (Err why)
-      → RecordsNothing database (open_custody_of old) (is_open new) (open_custody_of new) → HasReceived known old name len first now (Err error) new
-  ended_early known name len first now sent why error is came rested = subst (λ e. HasReceived known old name len first now (Err e) new) (sym is) (told known name len first now sent why came (has_ended rested))
+  pub ended_early : (known : Option (List ℕ)) (name : List ℕ) (len : ℕ) (first : List ℕ) (now : ℕ) (sent : List ℕ) (why : ReceiveError) → ReadsBody (option_append (Some first) known) len sent (Err why)
+      → RecordsNothing database (open_custody_of old) (is_open new) (open_custody_of new) → HasReceived known old name len first now (Err why) new
+  ended_early known name len first now sent error.Short came rested = (chained_known known first (λ bytes. length bytes < len) came, has_ended rested)
+  ended_early known name len first now sent error.ReadFailed came rested = has_ended rested
+  ended_early known name len first now sent (error.Refused refused) came rested = absurd came
 
   -- they did, and were the command
   pub applied : (name body : List ℕ) (now : ℕ) (answer told : Result Reply Refused) → answer ≡ told → HasExecuted database (open_custody_of old) (Receive name body) now answer (open_custody_of new) → is_open new ≡ stays_open answer → HasApplied old (Receive name body) now told new

@@ -1,14 +1,18 @@
 -- What the records decide alone, or by a change, is done.
-use Rattle.std.proofs.Common.{◌≡◌, ℕ, List, true, refl, sym, subst, Result, Ok, Err}
+use Rattle.std.proofs.Common.{◌≡◌, ℕ, List, true, refl, sym, subst, Ok, Err}
+use denote.Ref.{Bor}
 use Rattle.sqlite.specs.Store.{Ghosts}
 use Rattle.vault_volume.specs.declared.volume.Volume as volume
 use Rattle.deposit_name.specs.Name.{Name}
 use Rattle.custody_records.specs.Records.{Records}
-use Rattle.custody_machine.specs.Machine.{Command, Register, Receive, Statement, Check, Release, Hold, Lift, Purge}
+use Rattle.custody_machine.specs.declared.command.Command as asked
+use Rattle.custody_machine.specs.declared.command.Command.TheVariants as commands
+use Rattle.custody_machine.specs.Commands.{command_of}
+use Rattle.custody_machine.specs.Machine.{Command}
 use Rattle.custody_machine.specs.declared.answers.Failure.TheVariants.{NoMemory}
 use Rattle.custody_machine.specs.declared.answers.Refusal.{Refusal}
 use Rattle.custody_machine.specs.StoredState.{state_in}
-use Rattle.custody_machine.specs.Rulings.{AddsPart, RefuseRuling, KeptRuling, GoRuling, Decides, command_bytes}
+use Rattle.custody_machine.specs.Rulings.{BringsPart, RefuseRuling, KeptRuling, Decides}
 use Rattle.custody_machine.proofs.Keeping.{replies_are_records}
 use Rattle.custody_machine.proofs.Composed.{reads_refused, reads_repeated}
 use Rattle.custody_rules.specs.Rulings.{record_of}
@@ -16,9 +20,7 @@ use Rattle.custody_rules.specs.declared.ruling.KeptRecord.{KeptRecord}
 use Rattle.custody_rules.specs.declared.ruling.KeptRecord.TheVariants as answers
 use Rattle.custody.specs.declared.answers.Record.{Record}
 use Rattle.custody.specs.declared.answers.Record.TheVariants as of
-use Rattle.custody.specs.declared.answers.Refused.{Refused}
 use Rattle.custody.specs.declared.answers.Refused.TheVariants as refused
-use Rattle.custody.specs.declared.answers.Reply.{Reply}
 use Rattle.custody.specs.declared.open_custody.OpenCustody.{OpenCustody}
 use Rattle.custody.specs.Answers.{lists_names, repeated_record}
 use Rattle.custody.specs.OpenCustody.{current_records, image_of, KeepsOrder, HasExecuted}
@@ -71,29 +73,14 @@ module _ {V S : Type 0} {g : volume.Ghosts V} (database : Ghosts S) (old : OpenC
   pub unlisted_done : (kept : KeptRecord) → Decides (KeptRuling (record_of kept)) (current_records old) command now → lists_names (record_of kept) ≡ true → HasExecuted database old command now (Err (refused.Failure NoMemory)) old
   unlisted_done kept decides lists = no_memory_done database old order command now old.records refl _ _ (decides (image_of old)) (KeptRuling (record_of kept), decides, (refl, lists))
 
--- ---- a change that is a part
+-- ---- a part is received alone
 
--- it is sent with the bytes of the command
-pub part_is_sent : (records : Records) (command : Command) (name : Name) (bytes : List ℕ) (now : ℕ) → bytes ≡ command_bytes command → Decides (GoRuling (AddsPart name)) records command now → (text : List ℕ) × Decides (GoRuling (AddsPart name)) records (Receive text bytes) now
-part_is_sent records (Register tld first_day) name bytes now brought decides = absurd decides.0.0
-part_is_sent records (Statement stated) name bytes now brought decides = absurd decides.0.0
-part_is_sent records (Check tld day) name bytes now brought decides = absurd decides.0.0
-part_is_sent records (Release reference tld reason) name bytes now brought decides = absurd decides.0.0
-part_is_sent records (Hold reference tld day) name bytes now brought decides = absurd decides.0.0
-part_is_sent records (Lift reference) name bytes now brought decides = absurd decides.0.0
-part_is_sent records Purge name bytes now brought decides = absurd decides.0.0
-part_is_sent records (Receive text sent) name bytes now brought decides = (text, subst (λ b. Decides (GoRuling (AddsPart name)) records (Receive text b) now) (sym brought) decides)
-
--- so that it is done where it is kept
-pub part_is_made : {V S : Type 0} {g : volume.Ghosts V} (database : Ghosts S) (old new : OpenCustody V S g) (command : Command) (name : Name) (bytes : List ℕ) (now : ℕ) (answer : Result Reply Refused)
-    → bytes ≡ command_bytes command → Decides (GoRuling (AddsPart name)) (current_records old) command now
-    → ((text : List ℕ) → Decides (GoRuling (AddsPart name)) (current_records old) (Receive text bytes) now → HasExecuted database old (Receive text bytes) now answer new) → HasExecuted database old command now answer new
-part_is_made database old new (Register tld first_day) name bytes now answer brought decides kept = absurd decides.0.0
-part_is_made database old new (Statement stated) name bytes now answer brought decides kept = absurd decides.0.0
-part_is_made database old new (Check tld day) name bytes now answer brought decides kept = absurd decides.0.0
-part_is_made database old new (Release reference tld reason) name bytes now answer brought decides kept = absurd decides.0.0
-part_is_made database old new (Hold reference tld day) name bytes now answer brought decides kept = absurd decides.0.0
-part_is_made database old new (Lift reference) name bytes now answer brought decides kept = absurd decides.0.0
-part_is_made database old new Purge name bytes now answer brought decides kept = absurd decides.0.0
-part_is_made database old new (Receive text sent) name bytes now answer brought decides kept =
-    subst (λ b. HasExecuted database old (Receive text b) now answer new) brought (kept text (subst (λ b. Decides (GoRuling (AddsPart name)) (current_records old) (Receive text b) now) (sym brought) decides))
+pub brings_none : (command : asked.Command) → ((name bytes : Bor (List ℕ)) → command ≡ commands.Receive name bytes → ⊥) → (name : Name) → ¬ BringsPart (command_of command) name
+brings_none (commands.Register tld first_day) none name brings = absurd brings
+brings_none (commands.Receive text bytes) none name brings = none text bytes refl
+brings_none (commands.Statement stated) none name brings = absurd brings
+brings_none (commands.Check tld day) none name brings = absurd brings
+brings_none (commands.Release reference tld reason) none name brings = absurd brings
+brings_none (commands.Hold reference tld day) none name brings = absurd brings
+brings_none (commands.Lift reference) none name brings = absurd brings
+brings_none commands.Purge none name brings = absurd brings

@@ -1,7 +1,7 @@
 -- A part that is taken in as its bytes come, step by step.
 use Rattle.std.proofs.lemmas.Slice.Eq.{bytes_eq-Decides}
 use Rattle.std.specs.Str.{bytes_eq}
-use Rattle.std.proofs.Common.{Option, Some, not, ◌*◌, ◌≡◌, ◌≢◌, ◌⊎◌, ℕ, ◌+◌, ◌-◌, ◌≤◌, List, [], ◌++◌, length, take, drop, replicate, Bool, true, false, refl, sym, ◌∙◌, ap, subst, arith, Result, Ok, Err, append_assoc, length-append}
+use Rattle.std.proofs.Common.{Option, Some, min, not, ◌*◌, ◌≡◌, ◌≢◌, ◌⊎◌, ℕ, ◌+◌, ◌-◌, ◌<◌, ◌≤◌, List, [], ◌++◌, length, take, drop, replicate, Bool, true, false, refl, sym, ◌∙◌, ap, subst, arith, Result, Ok, Err, append_assoc, length-append}
 use Rattle.std.specs.Prelude.{is_err}
 use Rattle.std.proofs.lemmas.List.{drop-take, length-replicate, length-take-le, take_at, take-take}
 use Rattle.std.proofs.Math.Seq.{drop-append_seam, take-add}
@@ -17,7 +17,7 @@ use Rattle.sha2.specs.Sha256.{sha256}
 use Rattle.vault_volume.specs.Extents.{AreChosen, GivesBack, IsInAny, SameFree, Takes, block_count, bytes_of, part_bytes}
 use Rattle.vault_volume.specs.Image.{DiffersOnlyIn}
 use Rattle.vault_volume.specs.Opened.{extents_of, HasPushed, IsOpenIn}
-use Rattle.vault_volume.specs.Staged.{StagedPart}
+use Rattle.extent_map.specs.Staged.{StagedPart}
 use Rattle.vault_volume.specs.Vault.{volume_of, IsFree}
 use Rattle.vault_volume.specs.declared.opened.Opened.{Opened}
 use Rattle.vault_volume.proofs.ExtentLemmas.{length-bytes_of}
@@ -28,10 +28,12 @@ use Rattle.vault_volume.proofs.Writes.{changed_again, stays_in_free, unchanged, 
 use Rattle.custody_records.specs.Records.{Records}
 use Rattle.custody_records.specs.declared.parts.Part.{Part}
 use Rattle.custody_records.specs.TypedRecords.{part_value}
+use Rattle.deposit_name.specs.Name.{Name}
 use Rattle.deposit_name.specs.declared.names.DepositName.{DepositName}
 use Rattle.custody_machine.specs.Machine.{Receive}
-use Rattle.custody_machine.specs.Rulings.{CompareRuling, IsNew, GoRuling, Decides, DecidesPart}
+use Rattle.custody_machine.specs.Rulings.{AddsPart, CompareRuling, IsNew, GoRuling, Decides, DecidesPart}
 use Rattle.custody_machine.specs.StoredState.{AreExtents}
+use Rattle.custody_machine.proofs.Composed.{has_size}
 use Rattle.custody_rules.specs.Rulings.{change_of}
 use Rattle.custody_rules.specs.declared.ruling.Change.{Change}
 use Rattle.custody_rules.specs.declared.ruling.Change.TheVariants as of
@@ -50,8 +52,8 @@ use Rattle.custody.specs.OpenCustody.{current_records, image_of, failures_of, Ma
 use Rattle.custody.specs.Reading.{ReadsVault}
 use Rattle.custody.specs.OtherCalls.{RecordsNothing}
 use Rattle.custody.proofs.Ended.{freed_rested, undone_rested}
-use Rattle.custody.specs.declared.receiving.BodyCut.{BodyCut}
-use Rattle.custody.specs.declared.receiving.BodyCut.TheVariants as ended
+use Rattle.custody.specs.declared.receiving.ReceiveError.{ReceiveError}
+use Rattle.custody.specs.declared.receiving.ReceiveError.TheVariants as error
 use Rattle.custody.specs.Receiving.{ReadsBody, GivesPiece}
 use Rattle.custody.proofs.Coming.{HaveCome, ended_short}
 use Rattle.custody.proofs.RevisionLemmas.{not_read, read_again}
@@ -63,6 +65,20 @@ use Rattle.custody.proofs.Unstaged.{unstaged_done}
 -- what is known of all that begin with these bytes is known of those that begin with more
 pub continues_more : (sent piece : List ℕ) (len : ℕ) (body : List ℕ) → Continues (sent ++ piece) len body → Continues sent len body
 continues_more sent piece len body more = (more.0, piece ++ more.1, more.2 ∙ append_assoc sent piece more.1)
+
+-- one piece more of bytes of which some have come
+pub piece_next : (came left piece rest all : List ℕ) → came ++ left ≡ all → left ≡ piece ++ rest → (came ++ piece) ++ rest ≡ all
+piece_next came left piece rest all whole parts = append_assoc came piece rest ∙ ap (λ (l : List ℕ). came ++ l) (sym parts) ∙ whole
+
+-- it is among them
+pub piece_within : (came piece rest sent bytes : List ℕ) (most : ℕ) → (came ++ piece) ++ rest ≡ sent ++ bytes → length sent + length bytes ≤ most → length came + length piece ≤ most
+piece_within came piece rest sent bytes most whole within =
+    let long = ap length whole in
+    omega (arith, long, within, length-append (came ++ piece) rest, length-append came piece, length-append sent bytes)
+
+-- and has room in the buffer
+pub piece_fits : (piece left : List ℕ) (size : ℕ) → size ≡ 32_768 → length piece ≡ min size (length left) → length piece ≤ 32_768
+piece_fits piece left size is long = let fits = rw is at long in omega (arith, fits)
 
 pub known_more : {V S : Type 0} {g : volume.Ghosts V} (database : Ghosts S) (s : UploadStart (OpenCustody V S g)) (new : OpenCustody V S g) (answer : Result Reply not_accepted.Refused) (sent piece : List ℕ) → IsAnswered database s new answer sent → IsAnswered database s new answer (sent ++ piece)
 known_more database s new answer sent piece known = record { order = known.order; unchanged = known.unchanged; done = λ body more. known.done body (continues_more sent piece s.len body more) }
@@ -285,6 +301,25 @@ module _ {V S : Type 0} {g : volume.Ghosts V} (database : Ghosts S) (s : UploadS
 pub some_bytes : (len : ℕ) → (bytes : List ℕ) × (length bytes ≡ len)
 some_bytes len = (replicate len 0, length-replicate {A = ℕ} len 0)
 
+-- a part that is to be kept has a byte at least, and no more than a part may have
+pub part_sized : {V S : Type 0} {g : volume.Ghosts V} (old : OpenCustody V S g) (name : Name) (text : List ℕ) (len now : ℕ) → KeepsOrder old → DecidesPart (GoRuling (AddsPart name)) (current_records old) text len now → (1 ≤ len) × (len ≤ 1_048_576)
+part_sized old name text len now order decides = (omega (arith, least, long), omega (arith, most, long))
+  where
+    long : length (some_bytes len).0 ≡ len
+    long = (some_bytes len).1
+
+    ruled : Decides (GoRuling (AddsPart name)) (current_records old) (Receive text (some_bytes len).0) now
+    ruled = decides (some_bytes len).0 long
+
+    sized : (0 < length (some_bytes len).0) × (length (some_bytes len).0 ≤ 1_048_576)
+    sized = has_size (current_records old) [] order.whole text (some_bytes len).0 now name ruled.0.0 ruled.0.1 (ruled.1 [])
+
+    least : 0 < length (some_bytes len).0
+    least = sized.0
+
+    most : length (some_bytes len).0 ≤ 1_048_576
+    most = sized.1
+
 -- a part makes no other change than that it is kept
 pub only_a_part : (change : Change) → ((name : DepositName) → change ≡ of.Part name → ⊥) → (records : Records) (text : List ℕ) (len now : ℕ) → DecidesPart (GoRuling (change_of change)) records text len now → ⊥
 only_a_part change none records text len now decides = by change refl (decides (some_bytes len).0 (some_bytes len).1).0
@@ -361,9 +396,10 @@ long_part image size es len long are =
     length-take-le len (bytes_of image es) (omega (arith, whole, are.counts))
 
 -- the answer where the reader has ended
-pub came_ended : (old now next : Option (List ℕ)) (len left : ℕ) (sent : List ℕ) (why : BodyCut) → HaveCome old now len left sent → 1 ≤ left → GivesPiece now next left (Err why) → ReadsBody old len sent (Err why)
-came_ended old now next len left sent ended.Short come some end = ended_short old now len left sent come some end
-came_ended old now next len left sent ended.ReadFailed come some end = tt
+pub came_ended : (old now next : Option (List ℕ)) (len left : ℕ) (sent : List ℕ) (why : ReceiveError) → HaveCome old now len left sent → 1 ≤ left → GivesPiece now next left (Err why) → ReadsBody old len sent (Err why)
+came_ended old now next len left sent error.Short come some end = ended_short old now len left sent come some end
+came_ended old now next len left sent error.ReadFailed come some end = tt
+came_ended old now next len left sent (error.Refused refused) come some end = absurd end
 
 -- what a test of bytes tells
 pub ne_differs : (b : Bool) (xs ys : List ℕ) → b ≡ not (bytes_eq xs ys) → b ≡ true → xs ≢ ys

@@ -1,10 +1,8 @@
 -- A deposit that is verified, over a volume that was read: a new notice as one change of the records, or none.
-use Rattle.std.proofs.Common.{◌≡◌, ℕ, ◌+◌, ◌≤◌, List, [], Option, None, Some, is_some, inl, inr, true, false, refl, sym, ◌∙◌, ap, subst, arith, Ok, Err, Contains}
+use Rattle.std.proofs.Common.{◌≡◌, ℕ, ◌+◌, List, [], Option, None, Some, is_some, inl, inr, true, false, refl, sym, ◌∙◌, ap, subst, arith, Ok, Err, Contains}
 use Rattle.std.specs.FinMap.{get}
 use Rattle.sqlite.specs.Store.{Ghosts}
-use Rattle.deposit_name.specs.Identifiers.{IsDepositId}
 use Rattle.deposit_verify.specs.declared.verdict.Verdict.{Verdict}
-use Rattle.deposit_verify.specs.declared.verdict.Verdict.TheVariants.{Pass, Fail}
 use Rattle.vault_volume.specs.declared.volume.Volume as volume
 use Rattle.vault_volume.specs.Image.{DiffersOnlyIn}
 use Rattle.vault_volume.specs.Vault.{volume_of, IsFree}
@@ -13,11 +11,10 @@ use Rattle.custody_records.specs.declared.records.Records as held
 use Rattle.custody_records.specs.MemoryRecords.{records_of}
 use Rattle.custody_records.specs.Keys.{PartKey, NoticeKey}
 use Rattle.custody_records.specs.Records.{Notice, PartRecord, Records, key_of, with_notice}
-use Rattle.custody_records.specs.RowsOfRecords.{IsNoticeKind}
 use Rattle.custody_machine.specs.declared.command.Statement as statement
 use Rattle.custody_machine.specs.declared.answers.Failure.TheVariants.{NoMemory, VolumeFailed, StoreFailed, Closed, Damaged}
 use Rattle.custody_machine.specs.declared.damage.Damage.TheVariants.{Digest}
-use Rattle.custody_machine.specs.Machine.{Statement, OfNotice, Accept, MayFail, first_part, next_key, notice_kind, verdict_keys, verdict_notice, deciding_keys, step}
+use Rattle.custody_machine.specs.Machine.{Statement, OfNotice, Accept, MayFail, first_part, next_key, verdict_keys, verdict_notice, deciding_keys, step}
 use Rattle.custody_machine.specs.Rulings.{AddsVerdict, GoRuling, Decides}
 use Rattle.custody_machine.specs.StoredState.{IsVolumeOf, AreWholeOnVolume, HasDigestAt, state_in}
 use Rattle.custody_machine.specs.Custody.{IsInOrder}
@@ -100,13 +97,6 @@ module _ {V S : Type 0} {g : volume.Ghosts V} (database : Ghosts S) (old : OpenC
 
     abbrev pub records_then : Records
     records_then = with_notice (current_records old) (next_key (current_records old).notices stated.tld) (verdict_notice stated found now)
-
-    pub kind_in_form : stated.rev ≤ 99 → IsDepositId stated.id → IsNoticeKind (notice_kind stated found)
-    kind_in_form rev id = by found
-      where
-        by : (v : Verdict) → IsNoticeKind (notice_kind stated v)
-        by Pass = (rev, id)
-        by (Fail check) = (rev, id)
 
     module _ (new : OpenCustody V S g) (read : ReadsVault old.vault new.vault) (failures : failures_of new ≡ failures_of old) (verified : g.tells → IsVerified (Ok found) (current_records old) (image_of old) stated) where
       order_then : IsInOrder (current_records old) (g.size (volume_of new.vault)) (failures_of new) (IsFree new.vault)

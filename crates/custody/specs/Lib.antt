@@ -10,8 +10,6 @@ pub mod Propositions
 pub mod Reading
 pub mod Receiving
 pub mod OtherCalls
-pub mod OtherCallMoves
 pub mod RulingAnswers
-pub mod Sessions
 pub mod ReplyRecords
 pub mod inside

@@ -51,7 +51,7 @@ use Rattle.custody_machine.specs.Damage.{damage_number, IsDamaged, NoDamageBefor
 use Rattle.custody_machine.specs.StoredState.{AreWhole}
 use Rattle.custody_machine.specs.Moves.{Left, MayLeave}
 use Rattle.custody_machine.specs.Custody.{LeftSince, LeftByCall, Leaves}
-use Rattle.vault_volume.specs.Limits.{fewest_blocks, most_blocks}
+use Rattle.extent_map.specs.Limits.{fewest_blocks, most_blocks}
 use Rattle.custody.specs.declared.answers.InitError.{InitError}
 use Rattle.custody.specs.declared.answers.InitError.TheVariants as init_error
 

@@ -26,8 +26,6 @@ use Rattle.sqlite.specs.Store.{Ghosts}
 use Rattle.custody_machine.specs.Machine.{Receive}
 use Rattle.custody.specs.declared.answers.Reply.{Reply}
 use Rattle.custody.specs.declared.upload.Upload.{Upload}
-use Rattle.custody.specs.declared.receiving.BodyCut.{BodyCut}
-use Rattle.custody.specs.declared.receiving.BodyCut.TheVariants as ended
 use Rattle.custody.specs.declared.receiving.ReceiveError.{ReceiveError}
 use Rattle.custody.specs.declared.receiving.ReceiveError.TheVariants as error
 use Rattle.custody.specs.declared.open_custody.OpenCustody.{OpenCustody}
@@ -36,10 +34,6 @@ use Rattle.custody.specs.Custody.{open_custody_of, is_open, HasApplied}
 use Rattle.custody.specs.Upload.{UploadStart, IsUploading}
 use Rattle.custody.specs.OtherCalls.{RecordsNothing}
 
-abbrev pub receive_error_of : BodyCut → ReceiveError
-receive_error_of ended.Short = error.Short
-receive_error_of ended.ReadFailed = error.ReadFailed
-
 -- ---- the bytes
 
 -- the first bytes of a reader, where what it gives is known
@@ -47,12 +41,13 @@ abbrev pub AreFirstBytes : Option (List ℕ) → ℕ → List ℕ → Type 0
 AreFirstBytes known len sent = (length sent ≡ len) × IfSome known (λ input. sent ≡ take len input)
 
 -- so many came, or the reader had fewer, or failed
-abbrev pub ReadsBody : Option (List ℕ) → ℕ → List ℕ → Result (Unit {0}) BodyCut → Type 0
+abbrev pub ReadsBody : Option (List ℕ) → ℕ → List ℕ → Result (Unit {0}) ReceiveError → Type 0
 ReadsBody known len sent (Ok _) = AreFirstBytes known len sent
-ReadsBody known len sent (Err ended.Short) = IfSome known (λ input. length input < len)
-ReadsBody known len sent (Err ended.ReadFailed) = Unit {0}
+ReadsBody known len sent (Err error.Short) = IfSome known (λ input. length input < len)
+ReadsBody known len sent (Err error.ReadFailed) = Unit {0}
+ReadsBody known len sent (Err (error.Refused refused)) = ⊥
 
-abbrev pub DropsBody : Option (List ℕ) → ℕ → Result (Unit {0}) BodyCut → Type 0
+abbrev pub DropsBody : Option (List ℕ) → ℕ → Result (Unit {0}) ReceiveError → Type 0
 DropsBody known len result = (sent : List ℕ) × ReadsBody known len sent result
 
 -- so many bytes at the front of a buffer are the next ones of a reader: the buffer is full, or the reader at its end
@@ -62,11 +57,12 @@ pub record Fills (old new : Option (List ℕ)) (buffer : List ℕ) (count : ℕ)
   pub full : (count ≡ length buffer) ⊎ IsAtEnd new
 
 -- the next bytes of a reader, as many as are left or as a buffer takes, or fewer where it is at its end; or there are none, or it failed
-abbrev pub GivesPiece : Option (List ℕ) → Option (List ℕ) → ℕ → Result (Bor (List ℕ)) BodyCut → Type 0
+abbrev pub GivesPiece : Option (List ℕ) → Option (List ℕ) → ℕ → Result (Bor (List ℕ)) ReceiveError → Type 0
 GivesPiece old new left (Ok piece) = (1 ≤ length piece.now) × (length piece.now ≤ left) × (length piece.now ≤ 32_768) × Consumes old new piece.now
     × ((length piece.now ≡ min left 32_768) ⊎ IsAtEnd new)
-GivesPiece old new left (Err ended.Short) = IsAtEnd old
-GivesPiece old new left (Err ended.ReadFailed) = Unit {0}
+GivesPiece old new left (Err error.Short) = IsAtEnd old
+GivesPiece old new left (Err error.ReadFailed) = Unit {0}
+GivesPiece old new left (Err (error.Refused refused)) = ⊥
 
 -- ---- what is done with them
 
@@ -74,7 +70,7 @@ module _ {V S : Type 0} {g : volume.Ghosts V} (database : Ghosts S) where
   abbrev pub MayTakeBody : OpenCustody V S g → Upload → ℕ → Type 0
   MayTakeBody before upload len = (s : UploadStart (OpenCustody V S g)) × IsUploading database s before upload [] × (s.len ≡ len)
 
-  abbrev pub TakesBody : Option (List ℕ) → (before after : OpenCustody V S g) → Upload → ℕ → Upload → Result (Unit {0}) BodyCut → Type 0
+  abbrev pub TakesBody : Option (List ℕ) → (before after : OpenCustody V S g) → Upload → ℕ → Upload → Result (Unit {0}) ReceiveError → Type 0
   TakesBody known before after upload len next result = (s : UploadStart (OpenCustody V S g)) → IsUploading database s before upload [] → s.len ≡ len
       → (sent : List ℕ) × IsUploading database s after next sent × (length sent ≤ len) × ReadsBody known len sent result
 

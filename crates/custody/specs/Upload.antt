@@ -24,7 +24,7 @@ use Rattle.vault_volume.specs.Disk.{ChangedIn, LeavesOnly}
 use Rattle.vault_volume.specs.Extents.{AreChosen, IsInAny, Takes, block_count, part_bytes}
 use Rattle.vault_volume.specs.Image.{DiffersOnlyIn}
 use Rattle.vault_volume.specs.Opened.{extents_of, len_of, HasPushed, IsOpenIn}
-use Rattle.vault_volume.specs.Staged.{StagedPart}
+use Rattle.extent_map.specs.Staged.{StagedPart}
 use Rattle.vault_volume.specs.Vault.{volume_of, IsFree}
 use Rattle.vault_volume.specs.declared.opened.Opened.{Opened}
 use Rattle.custody_records.specs.declared.parts.Part.{Part}
@@ -157,22 +157,22 @@ module _ {V S : Type 0} {g : volume.Ghosts V} where
 
     -- bytes that are taken are bytes of the part
     abbrev pub MayTake : OpenCustody V S g → code.Upload → List ℕ → Type 0
-    MayTake before upload piece = (s : UploadStart (OpenCustody V S g)) × (sent : List ℕ) × IsUploading s before upload sent × (length sent + length piece ≤ s.len)
+    MayTake before upload bytes = (s : UploadStart (OpenCustody V S g)) × (sent : List ℕ) × IsUploading s before upload sent × (length sent + length bytes ≤ s.len)
 
-    abbrev pub TakesPiece : (before after : OpenCustody V S g) → code.Upload → List ℕ → code.Upload → Type 0
-    TakesPiece before after upload piece next = (s : UploadStart (OpenCustody V S g)) (sent : List ℕ) → IsUploading s before upload sent → length sent + length piece ≤ s.len → IsUploading s after next (sent ++ piece)
+    abbrev pub TakesBytes : (before after : OpenCustody V S g) → code.Upload → List ℕ → code.Upload → Type 0
+    TakesBytes before after upload bytes next = (s : UploadStart (OpenCustody V S g)) (sent : List ℕ) → IsUploading s before upload sent → length sent + length bytes ≤ s.len → IsUploading s after next (sent ++ bytes)
 
     abbrev pub MayWrite : OpenCustody V S g → Writing → List ℕ → Type 0
-    MayWrite before w piece = MayTake before (of.Writing w) piece
+    MayWrite before w bytes = MayTake before (of.Writing w) bytes
 
-    abbrev pub WritesPiece : (before after : OpenCustody V S g) → Writing → List ℕ → code.Upload → Type 0
-    WritesPiece before after w piece next = TakesPiece before after (of.Writing w) piece next
+    abbrev pub WritesBytes : (before after : OpenCustody V S g) → Writing → List ℕ → code.Upload → Type 0
+    WritesBytes before after w bytes next = TakesBytes before after (of.Writing w) bytes next
 
     abbrev pub MayCompare : OpenCustody V S g → Comparing → List ℕ → Type 0
-    MayCompare before c piece = MayTake before (of.Comparing c) piece
+    MayCompare before c bytes = MayTake before (of.Comparing c) bytes
 
-    abbrev pub ComparesPiece : (before after : OpenCustody V S g) → Comparing → List ℕ → code.Upload → Type 0
-    ComparesPiece before after c piece next = TakesPiece before after (of.Comparing c) piece next
+    abbrev pub ComparesBytes : (before after : OpenCustody V S g) → Comparing → List ℕ → code.Upload → Type 0
+    ComparesBytes before after c bytes next = TakesBytes before after (of.Comparing c) bytes next
 
     abbrev pub MayDiffer : OpenCustody V S g → Comparing → Type 0
     MayDiffer before c = (s : UploadStart (OpenCustody V S g)) × (sent : List ℕ) × IsComparing s before c sent

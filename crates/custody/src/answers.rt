@@ -1,13 +1,13 @@
 //! What a custody answers.
-ghost use Rattle.std.specs.Prelude.{◌≡◌, IfOk, OnErr, Some, true};
-ghost use Rattle.custody_records.specs.TypedRecords.{part_value};
+ghost use Rattle.std.specs.Prelude.{◌≡◌, IfOk, OnErr, true};
 ghost use Rattle.custody_rules.specs.Rulings.{record_of};
 ghost use Rattle.custody.specs.Answers.{lists_names, repeated_record};
-ghost use Rattle.custody.specs.ReplyRecords.{IsRecordOfPart};
 
+use crate::opening::failure_of;
 use custody_machine::{Code, ExitStatus, Failure, Refusal};
-use custody_records::{Hold, Part, Registry, Release};
+use custody_records::{Hold, Registry, Release};
 use custody_rules::KeptRecord;
+use custody_store::StoreFault;
 use deposit_name::{DepositName, Reference, Tld};
 use desk::Notice;
 use schedule::{Day, Sec};
@@ -46,23 +46,6 @@ pub enum Record {
 }
 
 impl Record {
-    /// The record of a part that is held at the extents.
-    pub(crate) fn of_part(
-        alloc: Global,
-        part: &Part,
-        extents: &[Extent],
-    ) -> Result<Record, AllocError>
-        ensures { (part_value part.now).extents ≡ Some extents.now → IfOk result (λ told. IsRecordOfPart told part.now.name (part_value part.now)) }
-    {
-        Ok(Record::Part {
-            name: part.name,
-            received: part.received,
-            len: part.len,
-            digest: part.digest,
-            extents: Vec::from_slice(alloc, extents)?,
-        })
-    }
-
     /// The record that answers a repeat. Only a release takes memory, for its names.
     pub(crate) fn of_kept(alloc: Global, kept: &KeptRecord<'_>) -> Result<Record, AllocError>
         ensures told { IfOk result (λ told. told ≡ repeated_record kept.now) }
@@ -146,6 +129,52 @@ impl InitError {
     }
 }
 
+impl From<Refusal> for Refused {
+    ghost use Rattle.std.specs.Prelude.{◌≡◌};
+    ghost use Rattle.custody.specs.declared.answers.Refused.TheVariants as refused;
+
+    ghost from_gives = { λ refusal r. r ≡ refused.Refusal refusal };
+
+    fn from(refusal: Refusal) -> Refused {
+        Refused::Refusal(refusal)
+    }
+}
+
+impl From<Failure> for Refused {
+    ghost use Rattle.std.specs.Prelude.{◌≡◌};
+    ghost use Rattle.custody.specs.declared.answers.Refused.TheVariants as refused;
+
+    ghost from_gives = { λ failure r. r ≡ refused.Failure failure };
+
+    fn from(failure: Failure) -> Refused {
+        Refused::Failure(failure)
+    }
+}
+
+impl From<AllocError> for Refused {
+    ghost use Rattle.std.specs.Prelude.{◌≡◌};
+    ghost use Rattle.custody.specs.declared.answers.Refused.TheVariants as refused;
+    ghost use Rattle.custody_machine.specs.declared.answers.Failure.TheVariants as failure;
+
+    ghost from_gives = { λ _ r. r ≡ refused.Failure failure.NoMemory };
+
+    fn from(_: AllocError) -> Refused {
+        Refused::Failure(Failure::NoMemory)
+    }
+}
+
+impl From<StoreFault> for Refused {
+    ghost use Rattle.std.specs.Prelude.{◌≡◌};
+    ghost use Rattle.custody.specs.declared.answers.Refused.TheVariants as refused;
+    ghost use Rattle.custody.specs.Opening.{failure_of};
+
+    ghost from_gives = { λ fault r. r ≡ refused.Failure (failure_of fault) };
+
+    fn from(fault: StoreFault) -> Refused {
+        Refused::Failure(failure_of(fault))
+    }
+}
+
 impl From<StageError> for Refused {
     ghost use Rattle.std.specs.Prelude.{◌≡◌};
     ghost use Rattle.custody.specs.Answers.{refused_of_stage_error};
@@ -172,6 +201,17 @@ impl From<ReadError> for Refused {
             ReadError::NoMemory => Refused::Failure(Failure::NoMemory),
             ReadError::VolumeFailed => Refused::Failure(Failure::VolumeFailed),
         }
+    }
+}
+
+impl From<Failure> for InitError {
+    ghost use Rattle.std.specs.Prelude.{◌≡◌};
+    ghost use Rattle.custody.specs.declared.answers.InitError.TheVariants as init_error;
+
+    ghost from_gives = { λ failure e. e ≡ init_error.Failure failure };
+
+    fn from(failure: Failure) -> InitError {
+        InitError::Failure(failure)
     }
 }
 

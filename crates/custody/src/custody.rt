@@ -232,11 +232,13 @@ impl<V: Volume, S: Alter> Custody<V, S> {
             drop_body(len, &mut body)?;
             return Err(ReceiveError::Refused(Refused::Failure(Failure::Closed)));
         }
-        let upload = self.open_custody.open_upload(alloc, name, len, now);
+        let upload = self
+            .open_custody
+            .open_upload(alloc, name, len as usize, now);
         let (upload, came) = self.open_custody.take_body(upload, len, &mut body);
         if let Err(ended) = came {
             self.is_open = self.open_custody.give_up(upload);
-            return Err(ReceiveError::from(ended));
+            return Err(ended);
         }
         let answer = self.open_custody.complete(upload, now);
         self.is_open = stays_open(&answer);
@@ -328,13 +330,11 @@ impl<V: Volume, S: Alter> Custody<V, S> {
         ensures found { IfOk result (λ room. (is_open self.now ≡ true) × (room.0 ≡ free_blocks (current_records (open_custody_of self.now))) × (room.1 ≡ (current_records (open_custody_of self.now)).blocks - 1)) }
         ensures closed { IfErr result (λ failure. (is_open self.now ≡ false) × (failure ≡ Failure.Closed)) }
     {
-        match self.records() {
-            Ok(records) => Ok((
-                self.open_custody.vault.free_blocks(),
-                records.blocks().saturating_sub(1),
-            )),
-            Err(failure) => Err(failure),
-        }
+        let blocks = self.records()?.blocks();
+        Ok((
+            self.open_custody.vault.free_blocks(),
+            blocks.saturating_sub(1),
+        ))
     }
 }
 

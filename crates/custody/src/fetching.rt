@@ -33,10 +33,7 @@ pub(crate) fn fetch_part<V: Volume>(
     ensures failed { stays_open result ≡ false → V.failures (volume_of vault.new) ≡ V.failures (volume_of vault.old) + 1 }
     ensures not_failed { stays_open result ≡ true → V.failures (volume_of vault.new) ≡ V.failures (volume_of vault.old) }
 {
-    let (part, extents) = match find_released(records, reference, name) {
-        Ok(found) => found,
-        Err(refusal) => return Err(Refused::Refusal(refusal)),
-    };
+    let (part, extents) = find_released(records, reference, name)?;
     match read_sound(alloc, vault, part, extents)? {
         Some(bytes) => Ok(bytes),
         None => Err(Refused::Failure(Failure::Damaged(Damage::Digest))),

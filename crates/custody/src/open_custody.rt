@@ -2,17 +2,16 @@
 ghost use Rattle.std.specs.Prelude.{
   ◌≡◌,
   ℕ,
-  List,
   ◌≤◌,
   length,
   None,
   OnOk,
   IfOk,
-  IfSome,
   vec_len,
   vec_capacity,
 };
 ghost use Rattle.std.specs.FinMap.{get};
+ghost use Rattle.deposit_name.specs.Name.{Name};
 ghost use Rattle.custody_records.specs.MemoryRecords.{
   records_of,
   HasNoticeRoom,
@@ -34,26 +33,21 @@ ghost use Rattle.custody_machine.specs.Releases.{AreRecordedNames, release_of_re
 ghost use Rattle.custody_machine.specs.Rulings.{
   AddsAbsence,
   AddsHold,
-  AddsPart,
   AddsRelease,
   AddsVerdict,
   DropsBytes,
   LiftsHold,
   GoRuling,
+  BringsPart,
   Decides,
 };
 ghost use Rattle.custody_rules.specs.Rulings.{change_of};
 ghost use Rattle.custody.specs.Upload.{KeepsStaged};
 ghost use Rattle.custody.specs.OpenCustody.{current_records, KeepsOrder, HasExecuted};
 
-use crate::comparing::{Comparison, compare};
-use crate::forms::{
-    show_form_of_day, show_form_of_hold, show_form_of_registry, show_form_of_release,
-    show_form_of_statement, show_range_of_moment,
-};
 use crate::verifying::verify_stated;
 use crate::{Record, Refused, Reply};
-use custody_machine::{Command, Damage, Failure, Refusal, Statement};
+use custody_machine::{Command, Failure, Statement};
 use custody_records::{Hold, Part, Records, Registry, Release};
 use custody_rules::{Change, Ruling, count_due, due_extents, held_names, judge, next_number};
 use custody_store::Store;
@@ -74,8 +68,8 @@ pub struct OpenCustody<V: Volume, S: Alter> {
 }
 
 impl<V: Volume, S: Alter> OpenCustody<V, S> {
-    /// Does a command at a moment: it is judged by the records, and then refused, answered by what is
-    /// kept, compared, or made.
+    /// Does a command at a moment: a part is received, and any other command is judged by the records, and
+    /// then refused, answered by what is kept, or made.
     pub fn execute(
         &mut self,
         alloc: Global,
@@ -85,6 +79,9 @@ impl<V: Volume, S: Alter> OpenCustody<V, S> {
         requires order { KeepsOrder self.old }
         ensures { HasExecuted S.Store self.old (command_of command.now) now result self.new }
     {
+        if let Command::Receive(name, bytes) = command {
+            return self.receive(alloc, name, bytes, now);
+        }
         match judge(&self.records, command, now) {
             Ruling::Refuse(refusal) => Err(Refused::Refusal(refusal)),
             Ruling::Kept(kept) => match Record::of_kept(alloc, &kept) {
@@ -94,24 +91,12 @@ impl<V: Volume, S: Alter> OpenCustody<V, S> {
                 }),
                 Err(_) => Err(Refused::Failure(Failure::NoMemory)),
             },
-            Ruling::Compare(part, extents) => {
-                let Ok(record) = Record::of_part(alloc, part, extents) else {
-                    return Err(Refused::Failure(Failure::NoMemory));
-                };
-                match compare(alloc, &mut self.vault, part, extents, command.bytes())? {
-                    Comparison::Same => Ok(Reply {
-                        record,
-                        is_repeat: true,
-                    }),
-                    Comparison::Other => Err(Refused::Refusal(Refusal::OtherBytes)),
-                    Comparison::Broken => Err(Refused::Failure(Failure::Damaged(Damage::Digest))),
-                }
-            }
+            Ruling::Compare(..) => unreachable!(),
             Ruling::Go(change) => self.make_change(alloc, change, command, now),
         }
     }
 
-    /// Makes the change that a command was judged to make.
+    /// Makes the change that a command was judged to make. It brings no part.
     fn make_change(
         &mut self,
         alloc: Global,
@@ -121,11 +106,12 @@ impl<V: Volume, S: Alter> OpenCustody<V, S> {
     ) -> Result<Reply, Refused>
         requires order { KeepsOrder self.old }
         requires ruled { Decides (GoRuling (change_of change)) (current_records self.old) (command_of command.now) now }
+        requires other { (name : Name) → ¬ BringsPart (command_of command.now) name }
         ensures { HasExecuted S.Store self.old (command_of command.now) now result self.new }
     {
         match change {
             Change::Registry(registry) => self.keep_registry(registry),
-            Change::Part(name) => self.keep_part(alloc, &name, command.bytes(), now),
+            Change::Part(_) => unreachable!(),
             Change::Verdict(statement) => self.keep_verdict(alloc, &statement, now),
             Change::Absence(tld, day) => self.keep_absence(tld, day, now),
             Change::Release(reference, tld, reason) => {
@@ -143,38 +129,13 @@ impl<V: Volume, S: Alter> OpenCustody<V, S> {
         requires new { get (current_records self.old).registries registry.tld ≡ None }
         ensures { (now : ℕ) → HasExecuted S.Store self.old (machine.Register registry.tld registry.first_day) now result self.new }
     {
-        show_form_of_registry(&registry);
-        if self.records.reserve_registry().is_err() {
-            return Err(Refused::Failure(Failure::NoMemory));
-        }
-        if self.store.insert_registry(&registry).is_err() {
-            return Err(Refused::Failure(Failure::StoreFailed));
-        }
+        self.records.reserve_registry()?;
+        self.store.insert_registry(&registry)?;
         self.records.add_registry(registry);
         Ok(Reply {
             record: Record::from(registry),
             is_repeat: false,
         })
-    }
-
-    /// Keeps a part whose name is new: its bytes are settled before its record is committed.
-    fn keep_part(
-        &mut self,
-        alloc: Global,
-        name: &DepositName,
-        bytes: &[u8],
-        now: Sec,
-    ) -> Result<Reply, Refused>
-        requires order { KeepsOrder self.old }
-        requires ruled { (text : List ℕ) × Decides (GoRuling (AddsPart name.now)) (current_records self.old) (machine.Receive text bytes.now) now }
-        ensures { (text : List ℕ) → Decides (GoRuling (AddsPart name.now)) (current_records self.old) (machine.Receive text bytes.now) now
-            → HasExecuted S.Store self.old (machine.Receive text bytes.now) now result self.new }
-    {
-        let Ok(room) = make_room(alloc, &mut self.records) else {
-            return Err(Refused::Failure(Failure::NoMemory));
-        };
-        let staged = self.vault.stage(alloc, bytes)?;
-        self.keep_staged(name, staged, room, now)
     }
 
     /// Records a part whose bytes are settled, with room for its extents in the reply.
@@ -191,11 +152,7 @@ impl<V: Volume, S: Alter> OpenCustody<V, S> {
         requires extents { vec_capacity room ≡ 256 }
         ensures { KeepsStaged S.Store self.old self.new name.now now staged result }
     {
-        show_range_of_moment(now);
-        let Ok(kept) = self.store.insert_part(name, now, staged) else {
-            return Err(Refused::Failure(Failure::StoreFailed));
-        };
-        let (extents, len, digest) = kept;
+        let (extents, len, digest) = self.store.insert_part(name, now, staged)?;
         let name = *name;
         let record = Record::Part {
             name,
@@ -228,16 +185,10 @@ impl<V: Volume, S: Alter> OpenCustody<V, S> {
         requires ruled { Decides (GoRuling (AddsVerdict statement.now)) (current_records self.old) (machine.Statement statement.now) now }
         ensures { HasExecuted S.Store self.old (machine.Statement statement.now) now result self.new }
     {
-        show_form_of_statement(statement);
-        show_range_of_moment(now);
-        let Some(number) = reserve_number(&mut self.records, &statement.tld) else {
-            return Err(Refused::Failure(Failure::NoMemory));
-        };
+        let number = reserve_number(&mut self.records, &statement.tld)?;
         let verdict = verify_stated(alloc, &mut self.vault, &self.records, statement)?;
         let notice = notice_of(statement, verdict, number, now);
-        if self.store.insert_notice(&notice).is_err() {
-            return Err(Refused::Failure(Failure::StoreFailed));
-        }
+        self.store.insert_notice(&notice)?;
         self.records.add_notice(&notice);
         Ok(Reply {
             record: Record::Notice(notice),
@@ -251,11 +202,7 @@ impl<V: Volume, S: Alter> OpenCustody<V, S> {
         requires ruled { Decides (GoRuling (AddsAbsence tld day)) (current_records self.old) (machine.Check tld day) now }
         ensures { HasExecuted S.Store self.old (machine.Check tld day) now result self.new }
     {
-        show_form_of_day(&tld, day);
-        show_range_of_moment(now);
-        let Some(number) = reserve_number(&mut self.records, &tld) else {
-            return Err(Refused::Failure(Failure::NoMemory));
-        };
+        let number = reserve_number(&mut self.records, &tld)?;
         let notice = Notice {
             number,
             tld,
@@ -263,9 +210,7 @@ impl<V: Volume, S: Alter> OpenCustody<V, S> {
             at: now,
             kind: NoticeKind::Absence,
         };
-        if self.store.insert_notice(&notice).is_err() {
-            return Err(Refused::Failure(Failure::StoreFailed));
-        }
+        self.store.insert_notice(&notice)?;
         self.records.add_notice(&notice);
         Ok(Reply {
             record: Record::Notice(notice),
@@ -287,14 +232,8 @@ impl<V: Volume, S: Alter> OpenCustody<V, S> {
         requires ruled { Decides (GoRuling (AddsRelease reference tld reason)) (current_records self.old) (machine.Release reference tld reason) now }
         ensures { HasExecuted S.Store self.old (machine.Release reference tld reason) now result self.new }
     {
-        let listed = list_release(alloc, &mut self.records, reference, tld, reason, now);
-        let Ok((release, told)) = listed else {
-            return Err(Refused::Failure(Failure::NoMemory));
-        };
-        show_form_of_release(&release);
-        if self.store.insert_release(&release).is_err() {
-            return Err(Refused::Failure(Failure::StoreFailed));
-        }
+        let (release, told) = list_release(alloc, &mut self.records, reference, tld, reason, now)?;
+        self.store.insert_release(&release)?;
         self.records.add_release(release);
         Ok(Reply {
             record: Record::Release(told),
@@ -321,13 +260,8 @@ impl<V: Volume, S: Alter> OpenCustody<V, S> {
             at: now,
             lifted: None,
         };
-        show_form_of_hold(&hold);
-        if self.records.reserve_hold().is_err() {
-            return Err(Refused::Failure(Failure::NoMemory));
-        }
-        if self.store.insert_hold(&hold).is_err() {
-            return Err(Refused::Failure(Failure::StoreFailed));
-        }
+        self.records.reserve_hold()?;
+        self.store.insert_hold(&hold)?;
         self.records.add_hold(&hold);
         Ok(Reply {
             record: Record::Hold(hold),
@@ -341,11 +275,8 @@ impl<V: Volume, S: Alter> OpenCustody<V, S> {
         requires ruled { Decides (GoRuling (LiftsHold reference.now)) (current_records self.old) (machine.Lift reference.now) now }
         ensures { HasExecuted S.Store self.old (machine.Lift reference.now) now result self.new }
     {
-        show_range_of_moment(now);
         let hold = *self.records.hold(reference).unwrap();
-        if self.store.lift_hold(reference, now).is_err() {
-            return Err(Refused::Failure(Failure::StoreFailed));
-        }
+        self.store.lift_hold(reference, now)?;
         self.records.lift_hold(&hold, now);
         Ok(Reply {
             record: Record::Lifting {
@@ -365,12 +296,8 @@ impl<V: Volume, S: Alter> OpenCustody<V, S> {
     {
         let today = now.day();
         let count = count_due(&self.records, today);
-        let Ok(due) = due_extents(alloc, &self.records, today) else {
-            return Err(Refused::Failure(Failure::NoMemory));
-        };
-        if self.store.drop_bytes(today).is_err() {
-            return Err(Refused::Failure(Failure::StoreFailed));
-        }
+        let due = due_extents(alloc, &self.records, today)?;
+        self.store.drop_bytes(today)?;
         self.records.drop_due(today);
         self.vault.give_back(&due);
         Ok(Reply {
@@ -382,18 +309,17 @@ impl<V: Volume, S: Alter> OpenCustody<V, S> {
 
 /// The number of a registry's next notice, where there is memory for the notice, and a row can hold
 /// its number.
-fn reserve_number(records: &mut Records, tld: &Tld) -> Option<u64>
+fn reserve_number(records: &mut Records, tld: &Tld) -> Result<u64, AllocError>
     ensures same { records_of records.new ≡ records_of records.old }
-    ensures room { IfSome result (λ _. HasNoticeRoom records.new) }
-    ensures next { IfSome result (λ number. number ≡ next_number (records_of records.old).notices tld.now) }
-    ensures small { IfSome result (λ number. number ≤ greatest_integer) }
+    ensures room { OnOk result (HasNoticeRoom records.new) }
+    ensures next { IfOk result (λ number. number ≡ next_number (records_of records.old).notices tld.now) }
+    ensures small { IfOk result (λ number. number ≤ greatest_integer) }
 {
-    records.reserve_notice().ok()?;
-    let number = next_number(records, tld)?;
-    if number > i64::MAX as u64 {
-        return None;
+    records.reserve_notice()?;
+    match next_number(records, tld) {
+        Some(number) if number <= i64::MAX as u64 => Ok(number),
+        _ => Err(AllocError),
     }
-    Some(number)
 }
 
 /// The notice of a verdict on the deposit that is stated.

@@ -79,10 +79,7 @@ fn find_record<S: Alter>(db: &mut Connection<S>) -> Result<Option<Meta>, Failure
     // Where there is no table meta, the database is not called.
     ensures missing { (store_state S.Store db.old).has_table (codes "meta") ≡ false → (result ≡ Ok None) × (db.new ≡ db.old) }
 {
-    match find_meta(db) {
-        Ok(found) => Ok(found),
-        Err(_) => Err(Failure::StoreFailed),
-    }
+    find_meta(db).map_err(failure_of)
 }
 
 /// Whether a database has a record of a vault.
@@ -94,10 +91,7 @@ pub fn has_record<S: Alter>(db: &mut Connection<S>) -> Result<bool, Failure>
     // Where there is no table meta, the database is not called.
     ensures missing { (store_state S.Store db.old).has_table (codes "meta") ≡ false → (result ≡ Ok false) × (db.new ≡ db.old) }
 {
-    match find_record(db) {
-        Ok(found) => Ok(found.is_some()),
-        Err(failure) => Err(failure),
-    }
+    Ok(find_record(db)?.is_some())
 }
 
 /// The number in block 0.
@@ -145,15 +139,10 @@ pub fn identify<V: Volume, S: Alter>(
     ensures missing { (store_state S.Store db.old).has_table (codes "meta") ≡ false
         → (result ≡ Err (Failure.Damaged Damage.NoRecord)) × (volume.new ≡ volume.old) × (db.new ≡ db.old) }
 {
-    let meta = match find_record(db) {
-        Ok(Some(meta)) => meta,
-        Ok(None) => return Err(Failure::Damaged(Damage::NoRecord)),
-        Err(failure) => return Err(failure),
+    let Some(meta) = find_record(db)? else {
+        return Err(Failure::Damaged(Damage::NoRecord));
     };
-    let number = match read_number(volume) {
-        Ok(number) => number,
-        Err(failure) => return Err(failure),
-    };
+    let number = read_number(volume)?;
     let blocks = volume.size();
     if !is_of(&meta, number, blocks) {
         return Err(Failure::Damaged(Damage::Volume));
@@ -165,8 +154,8 @@ pub fn identify<V: Volume, S: Alter>(
     Ok((number, blocks))
 }
 
-/// Why records were not loaded.
-fn failure_of(fault: StoreFault) -> Failure
+/// Why a call of the store gave no answer.
+pub(crate) fn failure_of(fault: StoreFault) -> Failure
     ensures { result ≡ failure_of fault }
 {
     match fault {
@@ -233,12 +222,13 @@ pub fn may_begin<S: Alter>(db: &mut Connection<S>, blocks: u32) -> Result<(), In
     // Where there is no table meta, the database is not called, and nothing but the size is refused.
     ensures missing { (store_state S.Store db.old).has_table (codes "meta") ≡ false → IfErr result (λ e. e ≡ InitError.Size) × (db.new ≡ db.old) }
 {
-    match has_record(db) {
-        Ok(true) => Err(InitError::AlreadyInitialised),
-        Ok(false) if (FEWEST_BLOCKS..=MOST_BLOCKS).contains(&blocks) => Ok(()),
-        Ok(false) => Err(InitError::Size),
-        Err(failure) => Err(InitError::Failure(failure)),
+    if has_record(db)? {
+        return Err(InitError::AlreadyInitialised);
     }
+    if !(FEWEST_BLOCKS..=MOST_BLOCKS).contains(&blocks) {
+        return Err(InitError::Size);
+    }
+    Ok(())
 }
 
 /// Writes block 0, and then makes the records.

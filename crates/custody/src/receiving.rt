@@ -32,27 +32,6 @@ impl From<Refused> for ReceiveError {
     }
 }
 
-/// Why not all the bytes came.
-#[derive(Clone, Copy, Debug, PartialEq, Eq)]
-pub enum BodyCut {
-    Short,
-    ReadFailed,
-}
-
-impl From<BodyCut> for ReceiveError {
-    ghost use Rattle.std.specs.Prelude.{◌≡◌};
-    ghost use Rattle.custody.specs.Receiving.{receive_error_of};
-
-    ghost from_gives = { λ ended e. e ≡ receive_error_of ended };
-
-    fn from(ended: BodyCut) -> ReceiveError {
-        match ended {
-            BodyCut::Short => ReceiveError::Short,
-            BodyCut::ReadFailed => ReceiveError::ReadFailed,
-        }
-    }
-}
-
 impl<V: Volume, S: Alter> OpenCustody<V, S> {
     /// Takes the bytes of a part until all have come, or the reader ends or fails.
     pub(crate) fn take_body<R: Read>(
@@ -60,7 +39,7 @@ impl<V: Volume, S: Alter> OpenCustody<V, S> {
         upload: Upload,
         len: u32,
         reader: &mut R,
-    ) -> (Upload, Result<(), BodyCut>)
+    ) -> (Upload, Result<(), ReceiveError>)
         requires { MayTakeBody S.Store self.old upload len }
         ensures { TakesBody S.Store (R.remaining reader.old) self.old self.new upload len result.0 result.1 }
     {
@@ -81,7 +60,7 @@ impl<V: Volume, S: Alter> OpenCustody<V, S> {
 }
 
 /// Reads the bytes of a part, and drops them.
-pub(crate) fn drop_body<R: Read>(len: u32, reader: &mut R) -> Result<(), BodyCut>
+pub(crate) fn drop_body<R: Read>(len: u32, reader: &mut R) -> Result<(), ReceiveError>
     ensures { DropsBody (R.remaining reader.old) len result }
 {
     let mut buffer = new_buffer();
@@ -101,15 +80,15 @@ fn next_piece<'b, R: Read>(
     reader: &mut R,
     buffer: &'b mut [u8; 32_768],
     left: usize,
-) -> Result<&'b [u8], BodyCut>
+) -> Result<&'b [u8], ReceiveError>
     requires { 1 ≤ left }
     ensures { GivesPiece (R.remaining reader.old) (R.remaining reader.new) left result }
 {
     let room = left.min(PIECE_LEN);
     match fill(reader, &mut buffer[..room]) {
-        Ok(0) => Err(BodyCut::Short),
+        Ok(0) => Err(ReceiveError::Short),
         Ok(count) => Ok(&buffer[..count]),
-        Err(_) => Err(BodyCut::ReadFailed),
+        Err(_) => Err(ReceiveError::ReadFailed),
     }
 }
 

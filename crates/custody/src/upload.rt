@@ -1,5 +1,5 @@
-//! A part that is taken in as its bytes come: written to the vault, compared with what is kept, or
-//! dropped since the answer is known.
+//! A part that is taken in, all at once or as its bytes come: written to the vault, compared with what is
+//! kept, or dropped since the answer is known.
 ghost use Rattle.std.specs.Prelude.{
   ◌≡◌,
   ◌+◌,
@@ -20,9 +20,10 @@ ghost use Rattle.vault_volume.specs.Extents.{block_count, blocks_of, part_bytes}
 ghost use Rattle.vault_volume.specs.Vault.{volume_of};
 ghost use Rattle.custody_records.specs.MemoryRecords.{records_of};
 ghost use Rattle.custody_records.specs.TypedRecords.{part_value};
+ghost use Rattle.custody_machine.specs.Machine.{Receive};
 ghost use Rattle.custody_machine.specs.Rulings.{AddsPart, GoRuling, DecidesPart};
 ghost use Rattle.custody_machine.specs.StoredState.{AreExtents};
-ghost use Rattle.custody.specs.OpenCustody.{current_records, KeepsOrder};
+ghost use Rattle.custody.specs.OpenCustody.{current_records, KeepsOrder, HasExecuted};
 ghost use Rattle.custody.specs.Reading.{ReadsVault};
 ghost use Rattle.custody.specs.ReplyRecords.{IsRecordOfPart};
 ghost use Rattle.custody.specs.Upload.{
@@ -34,13 +35,13 @@ ghost use Rattle.custody.specs.Upload.{
   OpensChange,
   OpensComparing,
   MayWrite,
-  WritesPiece,
+  WritesBytes,
   MayCompare,
-  ComparesPiece,
+  ComparesBytes,
   MayDiffer,
   AnswersOtherBytes,
   MayTake,
-  TakesPiece,
+  TakesBytes,
   MayComplete,
   Completes,
   MayFinish,
@@ -62,7 +63,7 @@ use sqlite::Alter;
 use std::alloc::{AllocError, Global};
 use vault_volume::{Extent, Failed, Opened, Vault, Volume};
 
-/// The most bytes of a piece: as many again are read of a part that is compared.
+/// The most bytes that are read at once, of a reader or of a part that is compared.
 pub(crate) const PIECE_LEN: usize = 32_768;
 
 /// What is done with the bytes of a part as they come.
@@ -134,12 +135,28 @@ impl Comparing {
 }
 
 impl<V: Volume, S: Alter> OpenCustody<V, S> {
+    /// Receives a part whose bytes are all there.
+    pub(crate) fn receive(
+        &mut self,
+        alloc: Global,
+        name: &[u8],
+        bytes: &[u8],
+        now: Sec,
+    ) -> Result<Reply, Refused>
+        requires order { KeepsOrder self.old }
+        ensures { HasExecuted S.Store self.old (Receive name.now bytes.now) now result self.new }
+    {
+        let upload = self.open_upload(alloc, name, bytes.len(), now);
+        let upload = self.take(upload, bytes);
+        self.complete(upload, now)
+    }
+
     /// Judges a part by its name and length, and makes ready for its bytes.
-    pub(crate) fn open_upload(&mut self, alloc: Global, name: &[u8], len: u32, now: Sec) -> Upload
+    pub(crate) fn open_upload(&mut self, alloc: Global, name: &[u8], len: usize, now: Sec) -> Upload
         requires order { KeepsOrder self.old }
         ensures { OpensUpload S.Store self.old name.now len now self.new result }
     {
-        match judge_part(&self.records, name, len as usize, now) {
+        match judge_part(&self.records, name, len, now) {
             Ruling::Refuse(refusal) => Upload::Answered(Err(Refused::Refusal(refusal))),
             Ruling::Kept(kept) => match Record::of_kept(alloc, &kept) {
                 Ok(record) => Upload::Answered(Ok(Reply {
@@ -157,11 +174,11 @@ impl<V: Volume, S: Alter> OpenCustody<V, S> {
     }
 
     /// Makes ready to compare a part that is held. One of another length is not that which is sent.
-    fn open_comparing(&mut self, comparing: Comparing, len: u32) -> Upload
+    fn open_comparing(&mut self, comparing: Comparing, len: usize) -> Upload
         requires { MayDiffer S.Store self.old comparing }
         ensures { OpensComparing S.Store self.old len self.new comparing result }
     {
-        if comparing.len == len {
+        if comparing.len as usize == len {
             Upload::Comparing(comparing)
         } else {
             self.answer_other_bytes(comparing)
@@ -169,7 +186,7 @@ impl<V: Volume, S: Alter> OpenCustody<V, S> {
     }
 
     /// Makes ready for the change that a part makes, which is that it is kept.
-    fn open_change(&mut self, alloc: Global, change: Change, len: u32) -> Upload
+    fn open_change(&mut self, alloc: Global, change: Change, len: usize) -> Upload
         requires { MayOpenChange self.old change len }
         ensures { OpensChange S.Store self.old change len self.new result }
     {
@@ -180,68 +197,69 @@ impl<V: Volume, S: Alter> OpenCustody<V, S> {
     }
 
     /// Makes room for the record of a new part, and takes blocks for its bytes.
-    fn open_part(&mut self, alloc: Global, name: DepositName, len: u32) -> Upload
+    fn open_part(&mut self, alloc: Global, name: DepositName, len: usize) -> Upload
         requires { MayOpenPart self.old name len }
         ensures { OpensPart S.Store self.old name len self.new result }
     {
         let Ok(room) = make_room(alloc, &mut self.records) else {
             return Upload::Answered(Err(Refused::Failure(Failure::NoMemory)));
         };
-        match self.vault.begin(alloc, len) {
+        match self.vault.begin(alloc, len as u32) {
             Ok(opened) => Upload::Writing(Writing { name, opened, room }),
             Err(error) => Upload::Answered(Err(Refused::from(error))),
         }
     }
 
     /// Takes the next bytes.
-    pub(crate) fn take(&mut self, upload: Upload, piece: &[u8]) -> Upload
-        requires may { MayTake S.Store self.old upload piece.now }
-        requires size { length piece.now ≤ 32_768 }
-        ensures { TakesPiece S.Store self.old self.new upload piece.now result }
+    pub(crate) fn take(&mut self, upload: Upload, bytes: &[u8]) -> Upload
+        requires { MayTake S.Store self.old upload bytes.now }
+        ensures { TakesBytes S.Store self.old self.new upload bytes.now result }
     {
         match upload {
-            Upload::Writing(writing) => self.write(writing, piece),
-            Upload::Comparing(comparing) => self.compare_on(comparing, piece),
+            Upload::Writing(writing) => self.write(writing, bytes),
+            Upload::Comparing(comparing) => self.compare_on(comparing, bytes),
             Upload::Answered(answer) => Upload::Answered(answer),
         }
     }
 
     /// Writes the next bytes of a new part. Where the volume fails, its blocks are given back.
-    fn write(&mut self, writing: Writing, piece: &[u8]) -> Upload
-        requires { MayWrite S.Store self.old writing piece.now }
-        ensures { WritesPiece S.Store self.old self.new writing piece.now result }
+    fn write(&mut self, writing: Writing, bytes: &[u8]) -> Upload
+        requires { MayWrite S.Store self.old writing bytes.now }
+        ensures { WritesBytes S.Store self.old self.new writing bytes.now result }
     {
         let Writing {
             name,
             mut opened,
             room,
         } = writing;
-        if self.vault.push(&mut opened, piece).is_err() {
+        if self.vault.push(&mut opened, bytes).is_err() {
             self.vault.abandon(opened);
             return Upload::Answered(Err(Refused::Failure(Failure::VolumeFailed)));
         }
         Upload::Writing(Writing { name, opened, room })
     }
 
-    /// Compares the next bytes with those that are kept. Where they differ, the answer is known.
-    fn compare_on(&mut self, comparing: Comparing, piece: &[u8]) -> Upload
-        requires may { MayCompare S.Store self.old comparing piece.now }
-        requires size { length piece.now ≤ 32_768 }
-        ensures { ComparesPiece S.Store self.old self.new comparing piece.now result }
+    /// Compares the next bytes with those that are kept, which are read piece by piece. Where they differ,
+    /// the answer is known.
+    fn compare_on(&mut self, comparing: Comparing, bytes: &[u8]) -> Upload
+        requires { MayCompare S.Store self.old comparing bytes.now }
+        ensures { ComparesBytes S.Store self.old self.new comparing bytes.now result }
     {
         let mut buffer = new_buffer();
-        let kept = &mut buffer[..piece.len()];
         let mut comparing = comparing;
-        let read = self
-            .vault
-            .read_piece(&comparing.extents, comparing.done, kept);
-        if read.is_err() {
-            return Upload::Answered(Err(Refused::Failure(Failure::VolumeFailed)));
+        for piece in bytes.chunks(PIECE_LEN) {
+            let kept = &mut buffer[..piece.len()];
+            let read = self
+                .vault
+                .read_piece(&comparing.extents, comparing.done, kept);
+            if read.is_err() {
+                return Upload::Answered(Err(Refused::Failure(Failure::VolumeFailed)));
+            }
+            if *kept != *piece {
+                return self.answer_other_bytes(comparing);
+            }
+            comparing.done += piece.len() as u32;
         }
-        if *kept != *piece {
-            return self.answer_other_bytes(comparing);
-        }
-        comparing.done += piece.len() as u32;
         Upload::Comparing(comparing)
     }
 

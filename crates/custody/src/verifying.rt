@@ -22,8 +22,8 @@ use custody_machine::{Damage, Failure, Statement};
 use custody_records::{PartKey, Records};
 use custody_rules::{held_chain, known_about};
 use deposit_name::DepositName;
-use deposit_verify::{Base, NoMemory, Verdict, verify};
-use std::alloc::Global;
+use deposit_verify::{Base, Verdict, verify};
+use std::alloc::{AllocError, Global};
 use vault_volume::{Vault, Volume};
 
 /// Reads the deposit that is stated and those that it follows, and verifies it.
@@ -44,13 +44,8 @@ pub(crate) fn verify_stated<V: Volume>(
     let base = read_base(alloc, vault, records, statement)?;
     let name = first_part(records, statement);
     let joined = read_whole(alloc, vault, records, &name)?;
-    let Ok(about) = known_about(alloc, records, statement, &name, base) else {
-        return Err(Refused::Failure(Failure::NoMemory));
-    };
-    let Ok(verdict) = verify(alloc, &joined, &about) else {
-        return Err(Refused::Failure(Failure::NoMemory));
-    };
-    Ok(verdict)
+    let about = known_about(alloc, records, statement, &name, base)?;
+    Ok(verify(alloc, &joined, &about)?)
 }
 
 /// The keys that there are after the deposits that a stated one follows, one deposit in memory at a
@@ -69,29 +64,22 @@ fn read_base<V: Volume>(
     ensures read { ReadsVault vault.old vault.new }
     ensures failures { CountsVerifyFailure result (V.failures (volume_of vault.old)) (V.failures (volume_of vault.new)) }
 {
-    let Ok(chain) = held_chain(alloc, records, statement) else {
-        return Err(Refused::Failure(Failure::NoMemory));
-    };
+    let chain = held_chain(alloc, records, statement)?;
     let [first, later @ ..] = chain.as_slice() else {
         return Ok(None);
     };
     let full = read_whole(alloc, vault, records, first)?;
-    let Ok(mut base) = Base::of_full(alloc, &full) else {
-        return Err(Refused::Failure(Failure::NoMemory));
-    };
+    let mut base = Base::of_full(alloc, &full)?;
     drop(full);
     for name in later {
         let joined = read_whole(alloc, vault, records, name)?;
-        let Ok(next) = base_then(alloc, base, &joined) else {
-            return Err(Refused::Failure(Failure::NoMemory));
-        };
-        base = next;
+        base = base_then(alloc, base, &joined)?;
     }
     Ok(base)
 }
 
 /// The keys after one deposit more, where it is read and those before it were.
-fn base_then(alloc: Global, base: Option<Base>, joined: &[u8]) -> Result<Option<Base>, NoMemory>
+fn base_then(alloc: Global, base: Option<Base>, joined: &[u8]) -> Result<Option<Base>, AllocError>
     ensures { IfOk result (λ next. next ≡ option_and_then (λ base. base_then base joined.now) base) }
 {
     let Some(mut base) = base else {

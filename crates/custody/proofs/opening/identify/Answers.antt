@@ -3,18 +3,20 @@ use Rattle.custody_machine.specs.declared.damage.Damage.TheVariants.{NoRecord, V
 use Rattle.custody_machine.specs.Damage.{NoDamageBefore}
 use Rattle.custody_machine.proofs.Damages.{none_before_all}
 use Rattle.custody_store.specs.StoreState.{store_state}
-use Rattle.custody.specs.Opening.{IsReportedDamage}
+use Rattle.std.specs.Prelude.{MatchResult}
+use Rattle.custody.specs.Opening.{IsIdentified, ReportsDamage, IsReportedDamage}
+use Rattle.custody.proofs.OpenCustodyLemmas.{err_is}
 use Rattle.custody.proofs.Opened.{other_volume}
 use Rattle.custody.proofs.FirstDamage.{has_record, has_none, none_before_head, none_before_volume, none_before_schema, known_schema, unknown_schema}
 use Rattle.custody.proofs.opening.identify.Goals as goal
 
 -- there is no record
-pub returns-in-Ok-None-clause-rows : goal.returns-in-Ok-None-clause-rows
-returns-in-Ok-None-clause-rows g c honest either damage same =
+pub returns-in_default-clause-rows : goal.returns-in_default-clause-rows
+returns-in_default-clause-rows g c honest either damage same =
     let rows = (store_state g.S.Store c.args.db.now).rows in
     let image = g.V.Volume.image c.args.volume.now in
     let is : NoRecord ≡ damage = cc in
-    let none = has_none rows (rw c.in-Ok-None.field-0-is at (c.in-Ok-None.ensures.found honest either)) in
+    let none = has_none rows (rw c.in_default.is at (c.in_ok-meta.ensures.found honest either)) in
     subst (IsReportedDamage g.V.Volume.tells rows image) is (record {
       is_first = λ tells. record { is_true = none; first = none_before_all rows image };
       not_before = λ other. absurd (other refl);
@@ -22,20 +24,20 @@ returns-in-Ok-None-clause-rows g c honest either damage same =
     })
 
 -- block 0 was not read
-pub returns-in-Err-read_number-clause-rows : goal.returns-in-Err-read_number-clause-rows
-returns-in-Err-read_number-clause-rows g c honest either damage same =
+pub returns-in_err-number-clause-rows : goal.returns-in_err-number-clause-rows
+returns-in_err-number-clause-rows g c honest either =
     let rows = (store_state g.S.Store c.args.db.now).rows in
     let image = g.V.Volume.image c.args.volume.now in
-    let found = rw c.in-Ok-Some.field-0-is at (c.in-Ok-Some.ensures.found honest either) in
-    let is = c.in-Err-read_number.ensures.kind damage same in
-    record {
+    let found = rw c.in-Some.is at (c.in_ok-meta.ensures.found honest either) in
+    subst (λ r. MatchResult r (λ _. IsIdentified g.V.Volume.tells rows image) (ReportsDamage g.V.Volume.tells rows image)) (sym (err_is _ c.in_err-number.field-0.0 c.from_residual-in_err-number.ensures.1))
+    (λ damage same. let is = c.in_err-number.ensures.kind damage same in record {
       is_first = λ tells. record {
-        is_true = c.in-Err-read_number.ensures.damaged tells damage same rows;
-        first = subst (λ damage. NoDamageBefore damage rows image) (sym is) (none_before_head rows c.in-Ok-Some.meta image found);
+        is_true = c.in_err-number.ensures.damaged tells damage same rows;
+        first = subst (λ damage. NoDamageBefore damage rows image) (sym is) (none_before_head rows c.in-Some.meta image found);
       };
-      not_before = λ _. has_record rows c.in-Ok-Some.meta found;
+      not_before = λ _. has_record rows c.in-Some.meta found;
       of_rows = λ not_head _ any. absurd (not_head is);
-    }
+    })
 
 pub returns-then-not-is_of-clause-rows : goal.returns-then-not-is_of-clause-rows
 returns-then-not-is_of-clause-rows g c honest either damage same =
@@ -43,16 +45,16 @@ returns-then-not-is_of-clause-rows g c honest either damage same =
     let image = g.V.Volume.image volume in
     let rows = (store_state g.S.Store c.args.db.now).rows in
     let is : Volume ≡ damage = cc in
-    let fits : c.in-Ok.number < 2 ^ 64 = omega arith in
-    let size : c.size-blocks.result ≡ g.V.Volume.size volume = c.size-blocks.ensures ∙ c.in-Ok.ensures.reads.size in
-    let found = rw c.in-Ok-Some.field-0-is at (c.in-Ok-Some.ensures.found honest either) in
+    let fits : c.in_ok-number.number < 2 ^ 64 = omega arith in
+    let size : c.size-blocks.result ≡ g.V.Volume.size volume = c.size-blocks.ensures ∙ c.in_ok-number.ensures.reads.size in
+    let found = rw c.in-Some.is at (c.in_ok-meta.ensures.found honest either) in
     subst (IsReportedDamage g.V.Volume.tells rows image) is (record {
-      is_first = λ tells. let head = c.in-Ok.ensures.head tells in record {
-        is_true = other_volume rows c.in-Ok-Some.meta c.in-Ok.number (g.V.Volume.size volume) image found fits (g.met.V.Volume.image_length volume tells) head
+      is_first = λ tells. let head = c.in_ok-number.ensures.head tells in record {
+        is_true = other_volume rows c.in-Some.meta c.in_ok-number.number (g.V.Volume.size volume) image found fits (g.met.V.Volume.image_length volume tells) head
             (λ both. let is_it = c.if-not-is_of.ensures.1 (both.0, both.1 ∙ ap pos (sym size)) in cc);
-        first = none_before_volume rows c.in-Ok-Some.meta image found c.in-Ok.number fits head;
+        first = none_before_volume rows c.in-Some.meta image found c.in_ok-number.number fits head;
       };
-      not_before = λ _. has_record rows c.in-Ok-Some.meta found;
+      not_before = λ _. has_record rows c.in-Some.meta found;
       of_rows = λ _ not_volume any. absurd (not_volume refl);
     })
 
@@ -62,31 +64,31 @@ returns-then-not-is_known-clause-rows g c honest either damage same =
     let image = g.V.Volume.image volume in
     let rows = (store_state g.S.Store c.args.db.now).rows in
     let is : Schema ≡ damage = cc in
-    let fits : c.in-Ok.number < 2 ^ 64 = omega arith in
-    let size : c.size-blocks.result ≡ g.V.Volume.size volume = c.size-blocks.ensures ∙ c.in-Ok.ensures.reads.size in
-    let found = rw c.in-Ok-Some.field-0-is at (c.in-Ok-Some.ensures.found honest either) in
+    let fits : c.in_ok-number.number < 2 ^ 64 = omega arith in
+    let size : c.size-blocks.result ≡ g.V.Volume.size volume = c.size-blocks.ensures ∙ c.in_ok-number.ensures.reads.size in
+    let found = rw c.in-Some.is at (c.in_ok-meta.ensures.found honest either) in
     let of = c.if-not-is_of.ensures.0 refl in
     subst (IsReportedDamage g.V.Volume.tells rows image) is (record {
       is_first = λ tells. record {
-        is_true = unknown_schema rows c.in-Ok-Some.meta image found (sym c.if-not-is_known.ensures);
-        first = none_before_schema rows c.in-Ok-Some.meta image found c.in-Ok.number fits (c.in-Ok.ensures.head tells)
+        is_true = unknown_schema rows c.in-Some.meta image found (sym c.if-not-is_known.ensures);
+        first = none_before_schema rows c.in-Some.meta image found c.in_ok-number.number fits (c.in_ok-number.ensures.head tells)
             (g.V.Volume.size volume) (g.met.V.Volume.image_length volume tells) of.0 (of.1 ∙ ap pos size);
       };
-      not_before = λ _. has_record rows c.in-Ok-Some.meta found;
-      of_rows = λ _ _ any. unknown_schema rows c.in-Ok-Some.meta any found (sym c.if-not-is_known.ensures);
+      not_before = λ _. has_record rows c.in-Some.meta found;
+      of_rows = λ _ _ any. unknown_schema rows c.in-Some.meta any found (sym c.if-not-is_known.ensures);
     })
 
 pub returns-clause-rows : goal.returns-clause-rows
 returns-clause-rows g c honest either =
     let volume = c.args.volume.now in
     let rows = (store_state g.S.Store c.args.db.now).rows in
-    let fits : c.in-Ok.number < 2 ^ 64 = omega arith in
-    let size : c.size-blocks.result ≡ g.V.Volume.size volume = c.size-blocks.ensures ∙ c.in-Ok.ensures.reads.size in
-    let found = rw c.in-Ok-Some.field-0-is at (c.in-Ok-Some.ensures.found honest either) in
+    let fits : c.in_ok-number.number < 2 ^ 64 = omega arith in
+    let size : c.size-blocks.result ≡ g.V.Volume.size volume = c.size-blocks.ensures ∙ c.in_ok-number.ensures.reads.size in
+    let found = rw c.in-Some.is at (c.in_ok-meta.ensures.found honest either) in
     let of = c.if-not-is_of.ensures.0 refl in
     record {
-      row = has_record rows c.in-Ok-Some.meta found;
-      undamaged = λ tells. none_before_schema rows c.in-Ok-Some.meta (g.V.Volume.image volume) found c.in-Ok.number fits (c.in-Ok.ensures.head tells)
+      row = has_record rows c.in-Some.meta found;
+      undamaged = λ tells. none_before_schema rows c.in-Some.meta (g.V.Volume.image volume) found c.in_ok-number.number fits (c.in_ok-number.ensures.head tells)
           (g.V.Volume.size volume) (g.met.V.Volume.image_length volume tells) of.0 (of.1 ∙ ap pos size);
-      known = known_schema rows c.in-Ok-Some.meta found (sym c.if-not-is_known.ensures);
+      known = known_schema rows c.in-Some.meta found (sym c.if-not-is_known.ensures);
     }

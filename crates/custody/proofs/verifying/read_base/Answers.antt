@@ -7,17 +7,17 @@ use Rattle.custody.proofs.OpenCustodyLemmas.{err_is}
 use Rattle.custody.proofs.RevisionLemmas.{read_again}
 use Rattle.custody.proofs.verifying.read_base.Goals as goal
 
-pub returns-in_default-as_slice-clause-base : goal.returns-in_default-as_slice-clause-base
-returns-in_default-as_slice-clause-base g c = λ _.
+pub returns-in_default-clause-base : goal.returns-in_default-clause-base
+returns-in_default-clause-base g c = λ _.
     let image = g.V.Volume.image (volume_of c.args.vault.now) in
-    none_base (records_of c.args.records.now) image c.args.statement.now c.as_slice.result.now (c.as_slice.ensures.value ∙ c.in-Ok.ensures image) (omega (arith, c.in_default-as_slice.len_below))
+    none_base (records_of c.args.records.now) image c.args.statement.now c.as_slice.result.now (c.as_slice.ensures.value ∙ c.in_ok-chain.ensures image) (omega (arith, c.in_default.len_below))
 
 pub returns-in_err-full-clause-digests : goal.returns-in_err-full-clause-digests
 returns-in_err-full-clause-digests g c = λ tells.
     let image = g.V.Volume.image (volume_of c.args.vault.now) in
     let records = records_of c.args.records.now in
-    subst (λ r. HaveDigests r records image (chain_keys records image c.args.statement.now)) (sym (err_is _ c.in_err-full.field-0.0 c.from_residual.ensures.1))
-    (λ is. broken_first records image c.args.statement.now c.as_slice.result.now (c.as_slice.ensures.value ∙ c.in-Ok.ensures image) c.first-item.result (omega (arith, c.in-len1-up.len_at_least)) c.first-item.is
+    subst (λ r. HaveDigests r records image (chain_keys records image c.args.statement.now)) (sym (err_is _ c.in_err-full.field-0.0 c.from_residual-in_err-full.ensures.1))
+    (λ is. broken_first records image c.args.statement.now c.as_slice.result.now (c.as_slice.ensures.value ∙ c.in_ok-chain.ensures image) c.first-item.result (omega (arith, c.in-len1-up.len_at_least)) c.first-item.is
     (c.in_err-full.ensures.digests tells is))
 
 pub returns-in_err-joined-clause-digests : goal.returns-in_err-joined-clause-digests
@@ -25,7 +25,7 @@ returns-in_err-joined-clause-digests g c = λ tells.
     let image = g.V.Volume.image (volume_of c.args.vault.now) in
     let records = records_of c.args.records.now in
     subst (λ r. HaveDigests r records image (chain_keys records image c.args.statement.now)) (sym (err_is _ c.in_err-joined.field-0.0 c.from_residual-in_err-joined.ensures.1))
-    (λ is. broken_later records image c.args.statement.now c.as_slice.result.now (c.as_slice.ensures.value ∙ c.in-Ok.ensures image) c.first-item.result (omega (arith, c.in-len1-up.len_at_least)) c.first-item.is
+    (λ is. broken_later records image c.args.statement.now c.as_slice.result.now (c.as_slice.ensures.value ∙ c.in_ok-chain.ensures image) c.first-item.result (omega (arith, c.in-len1-up.len_at_least)) c.first-item.is
     _ (c.loop-name.invariant.read.image tells) c.loop-name.name-index c.name-item.result c.loop-name-test.true c.name-item.is
     (c.in_err-joined.ensures.digests tells is))
 
@@ -39,18 +39,18 @@ loop-name-preserved g c =
       read = read_again c.args.vault.now c.loop-name.vault c.read_whole-in-loop-name.new.vault inv.read found.read;
       failures = found.failures ∙ inv.failures;
       base = λ tells. base_more records image _ (inv.read.image tells) _ c.loop-name.name-index c.name-item.result c.loop-name-test.true c.name-item.is
-          c.in-Ok-of_full.base c.loop-name.base c.in-Ok-base_then.next c.deref-in-loop-name.result.now (c.deref-in-loop-name.ensures.value ∙ found.bytes tells) c.in-Ok-base_then.ensures (inv.base tells);
+          c.in_ok-base.base c.loop-name.base _ c.deref-in-loop-name.result.now (c.deref-in-loop-name.ensures.value ∙ found.bytes tells) c.in_ok-base-2.ensures (inv.base tells);
       sound = λ tells. sound_more records image _ (inv.read.image tells) _ c.loop-name.name-index c.name-item.result c.loop-name-test.true c.name-item.is (found.digests tells) (inv.sound tells);
     }
 
 pub returns-clause-base : goal.returns-clause-base
 returns-clause-base g c = λ tells.
     let image = g.V.Volume.image (volume_of c.args.vault.now) in
-    base_whole (records_of c.args.records.now) image c.args.statement.now c.as_slice.result.now (c.as_slice.ensures.value ∙ c.in-Ok.ensures image) c.first-item.result (omega (arith, c.in-len1-up.len_at_least)) c.first-item.is
-    c.deref.result.now c.in-Ok-of_full.base c.loop-name.base (c.deref.ensures.value ∙ c.in_ok-full.ensures.bytes tells) c.in-Ok-of_full.ensures.computed c.loop-name.name-index (omega (arith, c.loop-name-test.false)) (c.loop-name.invariant.base tells)
+    base_whole (records_of c.args.records.now) image c.args.statement.now c.as_slice.result.now (c.as_slice.ensures.value ∙ c.in_ok-chain.ensures image) c.first-item.result (omega (arith, c.in-len1-up.len_at_least)) c.first-item.is
+    c.deref.result.now c.in_ok-base.base c.loop-name.base (c.deref.ensures.value ∙ c.in_ok-full.ensures.bytes tells) c.in_ok-base.ensures.computed c.loop-name.name-index (omega (arith, c.loop-name-test.false)) (c.loop-name.invariant.base tells)
 
 pub returns-clause-digests : goal.returns-clause-digests
 returns-clause-digests g c = λ tells.
     let image = g.V.Volume.image (volume_of c.args.vault.now) in
-    sound_whole (records_of c.args.records.now) image c.args.statement.now c.as_slice.result.now (c.as_slice.ensures.value ∙ c.in-Ok.ensures image) c.first-item.result (omega (arith, c.in-len1-up.len_at_least)) c.first-item.is
+    sound_whole (records_of c.args.records.now) image c.args.statement.now c.as_slice.result.now (c.as_slice.ensures.value ∙ c.in_ok-chain.ensures image) c.first-item.result (omega (arith, c.in-len1-up.len_at_least)) c.first-item.is
     (c.in_ok-full.ensures.digests tells) c.loop-name.name-index (omega (arith, c.loop-name-test.false)) (c.loop-name.invariant.sound tells)

@@ -27,7 +27,7 @@ returns-clause-verified g c = λ tells.
     let records = records_of c.args.records.now in
     let stated = c.args.statement.now in
     let same = c.in_ok-base.ensures.read.image tells in (
-      verdict_is records image stated _ same c.first_part-name.result c.first_part-name.ensures c.in-Ok-verify.verdict c.deref.result.now (known_in c.in-Ok.about) c.in_ok-base.base
-          c.in-Ok-verify.ensures.computed (c.deref.ensures.value ∙ c.in_ok-joined.ensures.bytes tells) (c.in-Ok.ensures image) (c.in_ok-base.ensures.base tells),
+      verdict_is records image stated _ same c.first_part-name.result c.first_part-name.ensures _ c.deref.result.now (known_in c.in_ok-about.about) c.in_ok-base.base
+          c.in_ok-verify.ensures.computed (c.deref.ensures.value ∙ c.in_ok-joined.ensures.bytes tells) (c.in_ok-about.ensures image) (c.in_ok-base.ensures.base tells),
       sound_both records image stated _ same c.first_part-name.result c.first_part-name.ensures (c.in_ok-base.ensures.digests tells) (c.in_ok-joined.ensures.digests tells),
     )

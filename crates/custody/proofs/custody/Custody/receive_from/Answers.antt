@@ -15,7 +15,7 @@ pub returns-in-Err : goal.returns-in-Err
 returns-in-Err g c =
     let sending : UploadStart (OpenCustody g.row.V.Denot g.row.S.Denot g.V.Volume) = record { start = open_custody_of c.args.self.now; text = c.args.name.now; len = c.args.len; now = c.args.now } in
     let taken = c.take_body-upload.ensures sending c.open_upload-upload.ensures refl in
-    ended_early c.args.self.now _ c.if-not-self.false (g.R.Read.remaining c.args.reader.now) c.args.name.now c.args.len c.args.first.now c.args.now taken.0 c.in-Err.ended c.from.result c.from.ensures
+    ended_early c.args.self.now _ c.if-not-self.false (g.R.Read.remaining c.args.reader.now) c.args.name.now c.args.len c.args.first.now c.args.now taken.0 c.in-Err.ended
     (came_short _ (g.R.Read.remaining c.args.reader.now) c.args.first.now c.args.len taken.0 c.take_body-upload.result.1 c.chain-body.ensures.bytes taken.3 c.in-Err.ended c.in-Err.is) (c.give_up-self.ensures sending taken.0 taken.1 taken.2)
 
 pub complete-answer-requires : goal.complete-answer-requires

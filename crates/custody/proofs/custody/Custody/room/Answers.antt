@@ -6,11 +6,11 @@ use Rattle.custody.specs.OpenCustody.{current_records, failures_of}
 use Rattle.custody.proofs.Room.{free_count}
 use Rattle.custody.proofs.custody.Custody.room.Goals as goal
 
-pub returns-in-Ok-clause-found : goal.returns-in-Ok-clause-found
-returns-in-Ok-clause-found g c =
+pub returns-clause-found : goal.returns-clause-found
+returns-clause-found g c =
     let held = open_custody_of c.args.self.now in
-    let found = c.in-Ok.ensures.found in (
+    let found = c.in_ok-records.ensures.found in (
       found.0,
       free_count (current_records held) held.records.parts.rows.items refl held.records.parts.rising (g.V.Volume.size (volume_of held.vault)) (failures_of held) (IsFree held.vault) (c.args.self.now.order found.0) c.free_blocks.result c.free_blocks.ensures,
-      c.saturating_sub.ensures ∙ ap (λ (n : ℕ). n - 1) (c.blocks-in-Ok.ensures ∙ ap (λ (r : Records). r.blocks) found.1),
+      c.saturating_sub.ensures ∙ ap (λ (n : ℕ). n - 1) (c.blocks-blocks.ensures ∙ ap (λ (r : Records). r.blocks) found.1),
     )

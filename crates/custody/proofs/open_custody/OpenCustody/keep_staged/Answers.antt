@@ -1,4 +1,4 @@
-use Rattle.std.proofs.Common.{◌≡◌, refl, sym, ◌∙◌, subst, false, Result, Ok, Some, inr}
+use Rattle.std.proofs.Common.{false, ◌≡◌, refl, sym, ◌∙◌, subst, Result, Ok, Err, Some, inr}
 use Rattle.custody_records.specs.Records.{key_of, with_part, staged_record}
 use Rattle.custody_machine.specs.Machine.{Receive, OfPart, received_part}
 use Rattle.custody_machine.specs.Rulings.{AddsPart, GoRuling}
@@ -21,32 +21,33 @@ over_same : {S A E : Type 0} (database : Ghosts S) (first same new : Held S) (af
     → Commits (store_state database first) (store_state database new) (after (store_state database first).rows) result → Commits (store_state database same) (store_state database new) (after (store_state database same).rows) result
 over_same database first same new after result is commits = subst (λ s. Commits (store_state database s) (store_state database new) (after (store_state database s).rows) result) is commits
 
-pub returns-in_default : goal.returns-in_default
-returns-in_default g c = λ old text bytes order ruled staged.
+pub returns-in_err-extents : goal.returns-in_err-extents
+returns-in_err-extents g c = λ old text bytes order ruled staged.
     let new : OpenCustody g.row.V.Denot g.row.S.Denot g.V.Volume = record { vault = c.args.self.now.vault; store = c.insert_part.new.self; records = c.args.self.now.records } in
     let changed = with_part (current_records old) (key_of c.args.name.now) (staged_record c.args.name.now c.args.now c.args.staged) in
     commits_in_doubt g.S.Store old order (Receive text bytes) c.args.now new changed
     (record { entry = OfPart (key_of c.args.name.now) (received_part c.args.name.now bytes c.args.now); is_repeat = false })
     (kept_change old new text bytes c.args.now c.args.name.now order ruled c.args.staged staged.placed g.S.Store staged.size staged.failures staged.settled staged.any_moment).change
-    c.insert_part.result _ (over_same g.S.Store c.args.self.now.store old.store c.insert_part.new.self (with_part_row (row_of_part (key_of c.args.name.now) (staged_record c.args.name.now c.args.now c.args.staged))) c.insert_part.result staged.store c.insert_part.ensures.commits)
-    (λ is. (kept_means old new text bytes c.args.now c.args.name.now order ruled c.args.staged staged.placed c.show_range_of_moment.ensures (store_state_of g.S.Store old).rows is.0, is.1))
+    (Err c.in_err-extents.field-0.0) _ (over_same g.S.Store c.args.self.now.store old.store c.insert_part.new.self (with_part_row (row_of_part (key_of c.args.name.now) (staged_record c.args.name.now c.args.now c.args.staged))) (Err c.in_err-extents.field-0.0) staged.store c.in_err-extents.ensures.commits)
+    (λ is. (kept_means old new text bytes c.args.now c.args.name.now order ruled c.args.staged staged.placed c.in_err-extents.ensures.in_form (store_state_of g.S.Store old).rows is.0, is.1))
+    c.in_err-extents.ensures.kind c.from_residual.ensures.1
     (GoRuling (AddsPart c.args.name.now), ruled, inr (inr refl))
 
 pub returns : goal.returns
 returns g c = λ old text bytes order ruled staged.
     let new : OpenCustody g.row.V.Denot g.row.S.Denot g.V.Volume = record { vault = c.args.self.now.vault; store = c.insert_part.new.self; records = c.add_part.new.self } in
     let changed = with_part (current_records old) (key_of c.args.name.now) (staged_record c.args.name.now c.args.now c.args.staged) in
-    let handed = c.in-Ok.ensures.handed in
+    let handed = c.in_ok-extents.ensures.handed in
     let same : current_records new ≡ changed = c.add_part.ensures
     ∙ (λ i. with_part (staged.records i) (key_of c.args.name.now) (record { kind = c.args.name.now.kind; received = c.args.now; len = handed.1 i; digest = handed.2 i; extents = Some (handed.0 i) })) in
-    let told : Record = of.Part c.args.name.now c.args.now c.in-Ok.kept.1 c.in-Ok.kept.2 c.copy_into.result in
+    let told : Record = of.Part c.args.name.now c.args.now c.in_ok-extents.len c.in_ok-extents.digest c.copy_into.result in
     let shows : IsRecordOfPart told c.args.name.now (staged_record c.args.name.now c.args.now c.args.staged) =
     (refl, λ i. record { kind = c.args.name.now.kind; received = c.args.now; len = sym handed.1 i; digest = sym handed.2 i; extents = Some ((sym handed.0 ∙ sym (c.copy_into.ensures ∙ c.deref.ensures.value)) i) }) in
     commits_done g.S.Store old order (Receive text bytes) c.args.now new changed
     (record { entry = OfPart (key_of c.args.name.now) (received_part c.args.name.now bytes c.args.now); is_repeat = false })
     (kept_change old new text bytes c.args.now c.args.name.now order ruled c.args.staged staged.placed g.S.Store staged.size staged.failures staged.settled staged.any_moment)
-    (Ok c.in-Ok.kept) _ (over_same g.S.Store c.args.self.now.store old.store c.insert_part.new.self (with_part_row (row_of_part (key_of c.args.name.now) (staged_record c.args.name.now c.args.now c.args.staged))) (Ok c.in-Ok.kept) staged.store c.in-Ok.ensures.commits)
-    (λ is. (kept_means old new text bytes c.args.now c.args.name.now order ruled c.args.staged staged.placed c.show_range_of_moment.ensures (store_state_of g.S.Store old).rows is.0, is.1))
+    (Ok (c.in_ok-extents.extents, c.in_ok-extents.len, c.in_ok-extents.digest)) _ (over_same g.S.Store c.args.self.now.store old.store c.insert_part.new.self (with_part_row (row_of_part (key_of c.args.name.now) (staged_record c.args.name.now c.args.now c.args.staged))) (Ok (c.in_ok-extents.extents, c.in_ok-extents.len, c.in_ok-extents.digest)) staged.store c.in_ok-extents.ensures.commits)
+    (λ is. (kept_means old new text bytes c.args.now c.args.name.now order ruled c.args.staged staged.placed c.in_ok-extents.ensures.in_form (store_state_of g.S.Store old).rows is.0, is.1))
     refl same (record { «record» = told; is_repeat = false }) refl
     (kept_entry old new text bytes c.args.now c.args.name.now order ruled c.args.staged staged.placed same told shows)
     (kept_ruled old new text bytes c.args.now c.args.name.now order ruled c.args.staged staged.placed same told shows)

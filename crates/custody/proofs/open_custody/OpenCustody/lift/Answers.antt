@@ -1,4 +1,4 @@
-use Rattle.std.proofs.Common.{◌≡◌, Bor, Option, Some, false, refl, sym, ◌∙◌, ap, subst}
+use Rattle.std.proofs.Common.{false, ◌≡◌, Bor, Option, Some, refl, sym, ◌∙◌, ap, subst, Ok, Err}
 use Rattle.std.specs.Prelude.{IfSome, option_copied}
 use Rattle.std.specs.Option.{option_and_then, option_map}
 use Rattle.custody_records.specs.inside.Orders.{text_total}
@@ -19,16 +19,17 @@ use Rattle.custody.proofs.HoldRows.{lifting_means}
 use Rattle.custody.proofs.Holds.{lift_change}
 use Rattle.custody.proofs.open_custody.OpenCustody.lift.Goals as goal
 
-pub returns-then-is_err : goal.returns-then-is_err
-returns-then-is_err g c =
+pub returns-in_err-lift_hold : goal.returns-in_err-lift_hold
+returns-in_err-lift_hold g c =
     let old = c.args.self.now in
     let reference = c.args.reference.now in
     let ruled = c.requires.ruled in
     commits_in_doubt g.S.Store old c.requires.order (Lift reference) c.args.now (record { vault = old.vault; store = c.lift_hold.new.self; records = old.records })
     (with_hold (current_records old) reference (lifted_at c.args.now ruled.0.1)) (record { entry = OfLifting reference c.args.now; is_repeat = false })
     (lift_change g.S.Store old c.requires.order reference c.args.now ruled c.lift_hold.new.self old.records).change
-    c.lift_hold.result (with_lifting reference c.args.now (store_state_of g.S.Store old).rows) c.lift_hold.ensures.commits
-    (λ is. (lifting_means (store_state_of g.S.Store old).rows (current_records old) is.1 is.0 reference c.args.now c.show_range_of_moment.ensures ruled.0.1 ruled.0.2, is.1))
+    (Err c.in_err-lift_hold.field-0.0) (with_lifting reference c.args.now (store_state_of g.S.Store old).rows) c.in_err-lift_hold.ensures.commits
+    (λ is. (lifting_means (store_state_of g.S.Store old).rows (current_records old) is.1 is.0 reference c.args.now c.in_err-lift_hold.ensures.in_form ruled.0.1 ruled.0.2, is.1))
+    c.in_err-lift_hold.ensures.kind c.from_residual.ensures.1
     (GoRuling (LiftsHold reference), ruled, refl)
 
 pub returns : goal.returns
@@ -46,9 +47,9 @@ returns g c =
     commits_done g.S.Store old c.requires.order (Lift reference) c.args.now new
     (with_hold (current_records old) reference hold) (record { entry = OfLifting reference c.args.now; is_repeat = false })
     (lift_change g.S.Store old c.requires.order reference c.args.now ruled c.lift_hold.new.self c.lift_hold-2.new.self)
-    c.lift_hold.result (with_lifting reference c.args.now (store_state_of g.S.Store old).rows) c.lift_hold.ensures.commits
-    (λ is. (lifting_means (store_state_of g.S.Store old).rows (current_records old) is.1 is.0 reference c.args.now c.show_range_of_moment.ensures ruled.0.1 ruled.0.2, is.1))
-    (sym c.is_err.ensures.value ∙ c.if-is_err.false) same (record { «record» = of.Lifting reference c.args.now; is_repeat = false }) refl refl
+    (Ok tt) (with_lifting reference c.args.now (store_state_of g.S.Store old).rows) c.in_ok-lift_hold.ensures.commits
+    (λ is. (lifting_means (store_state_of g.S.Store old).rows (current_records old) is.1 is.0 reference c.args.now c.in_ok-lift_hold.ensures.in_form ruled.0.1 ruled.0.2, is.1))
+    refl same (record { «record» = of.Lifting reference c.args.now; is_repeat = false }) refl refl
     (GoRuling (LiftsHold reference), ruled, (refl, ruled.0.1, ruled.0.2, same))
     (ap (λ (r : Records). lifting_in r reference) same ∙ ap (option_and_then (λ (hold : recorded_in.Hold). hold.lifted)) (insert_here text_total (current_records old).holds reference hold))
     (λ _. tt)

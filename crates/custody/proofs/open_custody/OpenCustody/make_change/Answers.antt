@@ -3,7 +3,6 @@ use Rattle.custody_machine.specs.Commands.{command_of}
 use Rattle.custody_machine.specs.Rulings.{GoRuling, Decides}
 use Rattle.custody_rules.specs.Rulings.{change_of}
 use Rattle.custody.specs.OpenCustody.{current_records, HasExecuted}
-use Rattle.custody.proofs.Ruled.{part_is_sent, part_is_made}
 use Rattle.custody.proofs.open_custody.OpenCustody.make_change.Goals as goal
 
 pub keep_registry-requires-clause-new : goal.keep_registry-requires-clause-new
@@ -16,12 +15,7 @@ returns-in-Registry g c =
     let ruled = subst (λ change. Decides (GoRuling (change_of change)) (current_records c.args.self.now) (command_of c.args.command.now) c.args.now) c.in-Registry.is c.requires.ruled in
     subst (λ command. HasExecuted g.S.Store c.args.self.now command c.args.now c.keep_registry.result c.keep_registry.new.self) (sym ruled.0.0) (c.keep_registry.ensures c.args.now)
 
-pub keep_part-requires-clause-ruled : goal.keep_part-requires-clause-ruled
-keep_part-requires-clause-ruled g c =
+pub unreachable-requires : goal.unreachable-requires
+unreachable-requires g c =
     let ruled = subst (λ change. Decides (GoRuling (change_of change)) (current_records c.args.self.now) (command_of c.args.command.now) c.args.now) c.in-Part.is c.requires.ruled in
-    part_is_sent (current_records c.args.self.now) (command_of c.args.command.now) c.in-Part.name c.bytes.result.now c.args.now c.bytes.ensures ruled
-
-pub returns-in-Part : goal.returns-in-Part
-returns-in-Part g c =
-    let ruled = subst (λ change. Decides (GoRuling (change_of change)) (current_records c.args.self.now) (command_of c.args.command.now) c.args.now) c.in-Part.is c.requires.ruled in
-    part_is_made g.S.Store c.args.self.now c.keep_part.new.self (command_of c.args.command.now) c.in-Part.name c.bytes.result.now c.args.now c.keep_part.result c.bytes.ensures ruled c.keep_part.ensures
+    c.requires.other c.in-Part.field-0 ruled.0.0

@@ -6,13 +6,12 @@ use Rattle.vault_volume.specs.Vault.{volume_of, IsFree}
 use Rattle.vault_volume.proofs.ImageLemmas.{same_in}
 use Rattle.custody_machine.specs.Machine.{Receive}
 use Rattle.custody_machine.specs.Rulings.{AddsPart, GoRuling}
-use Rattle.custody_machine.proofs.Composed.{has_size}
 use Rattle.custody.specs.declared.open_custody.OpenCustody.{OpenCustody}
 use Rattle.custody.specs.declared.answers.Refused.{Refused}
 use Rattle.custody.specs.Answers.{may_change}
 use Rattle.custody.specs.OpenCustody.{current_records, image_of}
 use Rattle.custody.proofs.Done.{no_memory_done}
-use Rattle.custody.proofs.Uploads.{some_bytes, unstaged_unchanged}
+use Rattle.custody.proofs.Uploads.{part_sized, unstaged_unchanged}
 use Rattle.custody.proofs.OpenCustodyLemmas.{leaves_more, stays_still}
 use Rattle.custody.proofs.Unstaged.{unstaged_done}
 use Rattle.custody.proofs.open_custody.OpenCustody.open_part.Goals as goal
@@ -25,15 +24,11 @@ returns-in_default g c = λ text now order decides. record {
       no_memory_done g.S.Store c.args.self.now order (Receive text body) now c.make_room.new.records c.make_room.ensures.same _ _ (ruled.1 (image_of c.args.self.now)) (GoRuling (AddsPart c.args.name), ruled, inl refl);
 }
 
+pub overflow_cast-len : goal.overflow_cast-len
+overflow_cast-len g c = let most = (part_sized c.args.self.now c.args.name c.requires.1 c.args.len c.requires.2 c.requires.0 c.requires.3).1 in omega (arith, most)
+
 pub begin-requires : goal.begin-requires
-begin-requires g c =
-    let bytes = some_bytes c.args.len in
-    let long = bytes.1 in
-    let ruled = c.requires.3 bytes.0 long in
-    let sized = has_size (current_records c.args.self.now) [] c.requires.0.whole c.requires.1 bytes.0 c.requires.2 c.args.name ruled.0.0 ruled.0.1 (ruled.1 []) in
-    let least = sized.0 in
-    let most = sized.1 in
-    record { size = (omega (arith, least, long), omega (arith, most, long)) }
+begin-requires g c = record { size = part_sized c.args.self.now c.args.name c.requires.1 c.args.len c.requires.2 c.requires.0 c.requires.3 }
 
 pub returns-in-Err : goal.returns-in-Err
 returns-in-Err g c = λ text now order decides.

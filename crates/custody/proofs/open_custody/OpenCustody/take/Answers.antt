@@ -4,12 +4,12 @@ use Rattle.custody.proofs.Uploads.{known_more}
 use Rattle.custody.proofs.open_custody.OpenCustody.take.Goals as goal
 
 pub write-requires : goal.write-requires
-write-requires g c = (c.requires.may.0, c.requires.may.1, subst (λ i. IsUploading g.S.Store c.requires.may.0 c.args.self.now i c.requires.may.1) c.in-Writing.is c.requires.may.2, c.requires.may.3)
+write-requires g c = (c.requires.0, c.requires.1, subst (λ i. IsUploading g.S.Store c.requires.0 c.args.self.now i c.requires.1) c.in-Writing.is c.requires.2, c.requires.3)
 
-pub compare_on-requires-clause-may : goal.compare_on-requires-clause-may
-compare_on-requires-clause-may g c =
-    let both = subst (λ i. IsUploading g.S.Store c.requires.may.0 c.args.self.now i c.requires.may.1) c.in-Comparing.is c.requires.may.2 in
-    (c.requires.may.0, c.requires.may.1, both, c.requires.may.3)
+pub compare_on-requires : goal.compare_on-requires
+compare_on-requires g c =
+    let both = subst (λ i. IsUploading g.S.Store c.requires.0 c.args.self.now i c.requires.1) c.in-Comparing.is c.requires.2 in
+    (c.requires.0, c.requires.1, both, c.requires.3)
 
 pub returns-in-Writing : goal.returns-in-Writing
 returns-in-Writing g c = λ s sent taking within. c.write.ensures s sent (subst (λ i. IsUploading g.S.Store s c.args.self.now i sent) c.in-Writing.is taking) within
@@ -18,4 +18,4 @@ pub returns-in-Comparing : goal.returns-in-Comparing
 returns-in-Comparing g c = λ s sent taking within. c.compare_on.ensures s sent (subst (λ i. IsUploading g.S.Store s c.args.self.now i sent) c.in-Comparing.is taking) within
 
 pub returns-in-Answered : goal.returns-in-Answered
-returns-in-Answered g c = λ s sent taking within. known_more g.S.Store s c.args.self.now c.in-Answered.answer sent c.args.piece.now (subst (λ i. IsUploading g.S.Store s c.args.self.now i sent) c.in-Answered.is taking)
+returns-in-Answered g c = λ s sent taking within. known_more g.S.Store s c.args.self.now c.in-Answered.answer sent c.args.bytes.now (subst (λ i. IsUploading g.S.Store s c.args.self.now i sent) c.in-Answered.is taking)

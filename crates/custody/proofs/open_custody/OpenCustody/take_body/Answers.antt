@@ -3,8 +3,8 @@ use Rattle.custody.proofs.Coming.{all_came, comes_more}
 use Rattle.custody.proofs.Uploads.{came_ended}
 use Rattle.custody.proofs.open_custody.OpenCustody.take_body.Goals as goal
 
-pub take-upload-requires-clause-may : goal.take-upload-requires-clause-may
-take-upload-requires-clause-may g c =
+pub take-upload-requires : goal.take-upload-requires
+take-upload-requires g c =
     let inv = c.loop-left.invariant c.requires.0 c.requires.1 c.requires.2 in
     let gives = c.in-Ok.ensures in
     let fits = gives.1 in

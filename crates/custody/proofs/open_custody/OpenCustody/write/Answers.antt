@@ -18,7 +18,7 @@ returns-then-is_err g c = λ s sent is within.
     let new : OpenCustody g.row.V.Denot g.row.S.Denot g.V.Volume = record { vault = c.abandon.new.self; store = before.store; records = before.records } in
     let h = c.push.ensures in
     let volume = c.abandon.ensures.volume in
-    written_fails g.S.Store s before new w sent (sent ++ c.args.piece.now) is refl refl
+    written_fails g.S.Store s before new w sent (sent ++ c.args.bytes.now) is refl refl
     (freed s.start.vault before.vault new.vault s.len w.opened sent is.written c.push.new.self h.free (subst (λ (l : List Extent). GivesBack (IsFree c.push.new.self) l (IsFree new.vault)) h.same.0 c.abandon.ensures.given_back))
     (subst (λ v. g.V.Volume.failures v ≡ g.V.Volume.failures (volume_of before.vault) + 1) (sym volume) (one_failed c.push.result c.is_err.result _ _ c.is_err.ensures.value c.if-is_err.true h.failures))
     (λ tells. subst (λ v. DiffersOnlyIn (IsInAny (extents_of w.opened)) (image_of before) (g.V.Volume.image v)) (sym volume) (h.image tells))
@@ -28,7 +28,7 @@ pub returns : goal.returns
 returns g c = λ s sent is within.
     let before = c.args.self.now in
     let w = c.args.writing in
-    let piece = c.args.piece.now in
+    let bytes = c.args.bytes.now in
     let h = c.push.ensures in
     record {
       order = is.order;
@@ -38,8 +38,8 @@ returns g c = λ s sent is within.
       room = is.room;
       empty = is.empty;
       extents = is.extents;
-      written = pushed s.start.vault before.vault c.push.new.self s.len w.opened sent is.written h.image h.any_moment c.push.new.opened piece h.same.0 h.same.1 h.opened h.free
-          (on_ok (HasPushed c.push.new.opened (sent ++ piece)) c.push.result c.is_err.result c.is_err.ensures.value c.if-is_err.false (h.taken sent is.written.taken)) h.size
+      written = pushed s.start.vault before.vault c.push.new.self s.len w.opened sent is.written h.image h.any_moment c.push.new.opened bytes h.same.0 h.same.1 h.opened h.free
+          (on_ok (HasPushed c.push.new.opened (sent ++ bytes)) c.push.result c.is_err.result c.is_err.ensures.value c.if-is_err.false (h.taken sent is.written.taken)) h.size
           (none_failed c.push.result c.is_err.result _ _ c.is_err.ensures.value c.if-is_err.false h.failures)
           (λ tells. on_ok _ c.push.result c.is_err.result c.is_err.ensures.value c.if-is_err.false (h.bytes tells));
     }
