@@ -1,3 +1,4 @@
 mod ReportLemmas
 mod HeadLemmas
 mod PartLemmas
+mod TurnLemmas

@@ -11,8 +11,9 @@ use Rattle.custody.specs.Receiving.{IsPartBody, IsPartShort}
 use Rattle.http_request.specs.RequestMeaning.{asks_for, SendsPart}
 use Rattle.http_request.specs.Body.{HasFirstBytes, IsDeclaredBody}
 use Rattle.http_request.specs.Head.{IsHeadOf, rest_of}
-use Rattle.http_request.specs.Paths.{Target, Deposit}
-use Rattle.http_request.specs.Targets.{target_view}
+use Rattle.http_request.specs.declared.routes.Route.{Route}
+use Rattle.http_request.specs.declared.routes.Route.TheVariants.{Deposit}
+use Rattle.http_request.specs.Targets.{target_of}
 use Rattle.http_request.specs.Action.{Do, Means, Report}
 use Rattle.http_request.specs.declared.head.Head.{Head}
 use Rattle.http_request.specs.declared.plan.Plan.{Plan}
@@ -104,12 +105,12 @@ module _ {V S : Type 0} {g : volume.Ghosts V} {database : Ghosts S} where
 
 -- the part of a request is received: that is what the request asks
 module _ {V S : Type 0} {g : volume.Ghosts V} {database : Ghosts S} (head : Head) (plan : Plan) where
-  pub part_done : (a b : Option (List ℕ)) → Consumes a b head.bytes.items → IsHeadOf head → Plans head plan → (name : List ℕ) → target_view plan.target ≡ Deposit name
+  pub part_done : (a b : Option (List ℕ)) → Consumes a b head.bytes.items → IsHeadOf head → Plans head plan → plan.target.route ≡ Deposit
       → (len : ℕ) → plan.length ≡ Some len → (now : ℕ) (old new : Custody V S g database) (outcome : PendingResponse)
-      → HasReceivedPart b (rest_of head) name len now old outcome new → IsRequestPerformed a now old outcome new
-  part_done a b taken is plans name e len told now old new outcome (body, has, step) =
-      let wanted = Do (Receive name body) in
+      → HasReceivedPart b (rest_of head) plan.target.first.now len now old outcome new → IsRequestPerformed a now old outcome new
+  part_done a b taken is plans e len told now old new outcome (body, has, step) =
+      let wanted = Do (Receive plan.target.first.now body) in
       let whole = subst (λ (t : Option ℕ). IfSome b (λ rest. IsDeclaredBody (rest_of head ++ rest) t body)) (sym told) has in
-      let means = subst (λ (t : Target). Means t body wanted) (sym e) refl in
+      let means = subst (λ (r : Route). Means (target_of r plan.target.first.now plan.target.second.now) body wanted) (sym e) refl in
       let asks = asks_wanted head plan a b taken is plans body whole wanted means in
       (wanted, asks, step)

@@ -1,3 +1,4 @@
 pub mod Responses
 pub mod Handling
 pub mod Statuses
+pub mod Connections

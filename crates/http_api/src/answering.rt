@@ -16,9 +16,10 @@ ghost use Rattle.http_api.specs.Handling.{
 
 use crate::ResponseStatus;
 use crate::response::{Body, Response};
-use answer_lines::{LineBytes, append, failure_bytes, refusal_bytes};
+use answer_lines::{failure_bytes, refusal_bytes};
 use custody::{Record, Refused, Reply};
 use custody_machine::{Failure, HttpStatus, Refusal};
+use deposit_name::{LineBytes, append};
 use http_request::{Method, RequestFault};
 
 /// Number and text of a fault as a line, and the status.

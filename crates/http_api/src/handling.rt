@@ -48,16 +48,17 @@ use crate::answering::{
 };
 use crate::report::Report;
 use crate::response::{Body, Message, Response, write_message};
+use answer_lines::WriteFailed;
 use custody::{Custody, ReceiveError};
 use custody_machine::{Failure, Refusal};
 use deposit_name::{Reference, Tld};
 use http_request::{
-    MeaningError, RequestAction, RequestError, RequestFault, Routes, Target, meaning_of, read_body,
-    read_head, read_plan,
+    RequestAction, RequestError, RequestFault, Route, Routes, meaning_of, read_body, read_head,
+    read_plan,
 };
 use schedule::Sec;
 use sqlite::Alter;
-use std::alloc::Global;
+use std::alloc::{AllocError, Global};
 use std::fmt;
 use std::io::{Read, Write};
 use vault_volume::Volume;
@@ -69,10 +70,6 @@ pub(crate) enum PendingResponse {
     /// The report of a registry is to be written.
     Report(Tld),
 }
-
-/// The reader failed.
-#[derive(Clone, Copy, Debug, PartialEq, Eq)]
-struct ReadFailed;
 
 /// A response was written.
 #[derive(Clone, Copy, Debug, PartialEq, Eq)]
@@ -98,6 +95,17 @@ impl fmt::Display for ServeError {
             ServeError::Read => "read failed",
             ServeError::Write => "write failed",
         })
+    }
+}
+
+impl From<WriteFailed> for ServeError {
+    ghost use Rattle.std.specs.Prelude.{◌≡◌};
+    ghost use Rattle.http_api.specs.declared.handling.ServeError.TheVariants.{Write};
+
+    ghost from_gives = { λ _ e. e ≡ Write };
+
+    fn from(_failed: WriteFailed) -> ServeError {
+        ServeError::Write
     }
 }
 
@@ -190,26 +198,17 @@ fn pending_response<R: Read, V: Volume, S: Alter>(
     ensures error { IfErr result (λ error. IfSome (R.remaining reader.old) (λ input. IsRequestError input error)) }
     ensures left { IfErr result (λ error. ErrorLeaves (R.remaining reader.old) error custody.old custody.new) }
 {
-    let head = match read_head(alloc, reader) {
-        Ok(head) => head,
-        Err(error) => return Err(error),
-    };
-    let plan = match read_plan(routes, &head) {
-        Ok(plan) => plan,
-        Err(fault) => return Err(RequestError::Fault(fault)),
-    };
-    if let Target::Deposit(name) = plan.target {
+    let head = read_head(alloc, reader)?;
+    let plan = read_plan(routes, &head)?;
+    if let Route::Deposit = plan.target.route {
         let len = plan.length.unwrap_or(0) as u32;
+        let name = plan.target.first;
         return receive(alloc, reader, custody, name, len, head.rest(), now);
     }
-    let body = match read_body(alloc, reader, head.rest(), plan.length) {
-        Ok(body) => body,
-        Err(error) => return Err(error),
-    };
+    let body = read_body(alloc, reader, head.rest(), plan.length)?;
     match meaning_of(alloc, plan.target, &body) {
         Ok(action) => Ok(perform(alloc, custody, &action, now)),
-        Err(MeaningError::Form) => Err(RequestError::Fault(RequestFault::Form)),
-        Err(MeaningError::NoMemory) => Err(RequestError::NoMemory),
+        Err(error) => Err(error),
     }
 }
 
@@ -220,13 +219,14 @@ fn respond<R: Read, V: Volume, S: Alter>(
     reader: &mut R,
     custody: &mut Custody<V, S>,
     now: Sec,
-) -> Result<PendingResponse, ReadFailed>
+) -> Result<PendingResponse, ServeError>
     ensures serves { IfOk result (λ outcome. IsRequestServed (R.remaining reader.old) now custody.old outcome custody.new) }
-    ensures left { OnErr result (IsNoCommand (R.remaining reader.old) custody.old custody.new) }
+    ensures left { IfErr result (λ error. (error ≡ ServeError.Read)
+        × IsNoCommand (R.remaining reader.old) custody.old custody.new) }
 {
     match pending_response(alloc, routes, reader, custody, now) {
         Ok(outcome) => Ok(outcome),
-        Err(RequestError::Unread) => Err(ReadFailed),
+        Err(RequestError::Unread) => Err(ServeError::Read),
         Err(RequestError::NoMemory) => Ok(PendingResponse::Response(failure_response(
             &Failure::NoMemory,
         ))),
@@ -270,15 +270,11 @@ pub struct Api {
     routes: Routes,
 }
 
-/// Memory was refused.
-#[derive(Clone, Copy, Debug, PartialEq, Eq)]
-pub struct NoMemory;
-
 impl Api {
-    pub fn new(alloc: Global) -> Result<Api, NoMemory> {
+    pub fn new(alloc: Global) -> Result<Api, AllocError> {
         match Routes::new(alloc) {
             Ok(routes) => Ok(Api { routes }),
-            Err(_) => Err(NoMemory),
+            Err(_) => Err(AllocError),
         }
     }
 
@@ -302,13 +298,8 @@ impl Api {
             × IsServed (R.remaining reader.old) now custody.old answer custody.new
             × AppendsBeginning (W.contents writer.old) (W.contents writer.new) (response_bytes answer) }
     {
-        let outcome = match respond(alloc, &self.routes, reader, custody, now) {
-            Ok(outcome) => outcome,
-            Err(ReadFailed) => return Err(ServeError::Read),
-        };
-        match write_message(&message_of(custody, outcome), writer) {
-            Ok(()) => Ok(Served),
-            Err(_) => Err(ServeError::Write),
-        }
+        let outcome = respond(alloc, &self.routes, reader, custody, now)?;
+        write_message(&message_of(custody, outcome), writer)?;
+        Ok(Served)
     }
 }

@@ -1,13 +1,17 @@
-//! One request, one response: the HTTP interface of a custody (RFC 9110, RFC 9112).
+//! The HTTP interface of a custody (RFC 9110, RFC 9112): one request, one response; and
+//! connections, one after the other.
 #![tactic(auto)]
 
 mod answering;
+mod client;
+mod connections;
 mod handling;
 mod report;
 mod response;
 mod status;
 mod writing;
 
-pub use handling::{Api, NoMemory, ServeError, Served};
+pub use connections::{ServiceError, serve_connections};
+pub use handling::{Api, ServeError, Served};
 pub use response::Media;
 pub use status::ResponseStatus;

@@ -2,7 +2,7 @@
 ghost use Rattle.std.specs.Prelude.{◌≡◌, ◌≤◌, ◌^◌, IfSome, IfNone, length};
 ghost use Rattle.desk.specs.Lines.{report_text};
 
-use desk::{LINE_MAX, Notice, write_line};
+use desk::{Notice, write_line};
 
 /// The notices of a registry, and how many bytes their lines have.
 #[derive(Clone, Copy, Debug)]
@@ -32,8 +32,7 @@ fn report_len(notices: &[Notice]) -> Option<u64>
 {
     let mut total: u64 = 0;
     for notice in notices {
-        let mut room = [0; LINE_MAX];
-        total = total.checked_add(write_line(notice, &mut room) as u64)?;
+        total = total.checked_add(write_line(notice).len() as u64)?;
     }
     Some(total)
 }

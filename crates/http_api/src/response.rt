@@ -18,10 +18,9 @@ ghost use Rattle.http_api.specs.Statuses.{status_text};
 use crate::ResponseStatus;
 use crate::report::Report;
 use crate::writing::{write_three, write_two};
-use answer_lines::{
-    Line, LineBytes, WriteFailed, append, append_number, names_behind, write_whole,
-};
+use answer_lines::{Line, WriteFailed, names_behind, write_whole};
 use custody::Record;
+use deposit_name::{LineBytes, append, append_number};
 use desk::{Notice, report};
 use http_request::Method;
 use std::io::Write;

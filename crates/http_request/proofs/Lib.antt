@@ -1,7 +1,7 @@
 pub mod Seeking
 pub mod Descending
-pub mod Targets
 pub mod Walks
+pub mod Targets
 pub mod Finding
 pub mod BodyLemmas
 pub mod PlanLemmas

@@ -15,13 +15,14 @@ use Rattle.custody_machine.specs.Machine.{Register, Statement, Check, Release, H
 use Rattle.httparse.specs.Grammar.{RequestHead}
 use Rattle.httparse.proofs.GrammarLemmas.{request_unique}
 use Rattle.serde_json.specs.Data.{Data}
-use Rattle.http_request.specs.RequestMeaning.{RequestMeaning, HeadMeans, IsRequestBody, RequestsMeanOne, HasNoFaultBelow, Method, RequestFault, HasFault, asks_for, bad, fault_number, limit_of, method_of}
+use Rattle.http_request.specs.RequestMeaning.{RequestMeaning, HeadMeans, IsRequestBody, RequestsMeanOne, HasNoFaultBelow, Method, RequestFault, HasFault, asks_for, bad, fault_number}
 use Rattle.http_request.specs.declared.faults.RequestFault.TheVariants as fault
 use Rattle.http_request.specs.Bodies.{IsJsonOf, StatementTexts, ReleaseTexts, HoldTexts, registration_json, statement_json, release_json, hold_json}
 use Rattle.http_request.specs.inside.BodyReading.{registration_text, statement_fields, release_fields, hold_fields}
-use Rattle.http_request.specs.Paths.{Target, Registry, Deposit, Statements, ReleasedPart, Notices, Purges, NamesTarget, is_target_byte}
-use Rattle.http_request.specs.Paths as paths
-use Rattle.http_request.specs.Action.{RequestAction, Do, IsStatement, Means, texts_of_statement, handover_texts, held_day_texts}
+use Rattle.http_request.specs.Paths.{Target, is_target_byte, limit_of, method_of}
+use Rattle.http_request.specs.declared.routes.Route.{Route}
+use Rattle.http_request.specs.declared.routes.Route.TheVariants as of
+use Rattle.http_request.specs.Action.{RequestAction, Do, IsStatement, Means, MeansAt, texts_of_statement, handover_texts, held_day_texts}
 use Rattle.http_request.proofs.BodyLemmas.{registration_back, statement_back, release_back, hold_back}
 use Rattle.http_request.proofs.Finding.{one_named}
 use Rattle.http_request.proofs.PlanLemmas.{one_length}
@@ -67,30 +68,30 @@ one_statement s t h k e =
     let id : s.id ≡ t.id = ap (λ (x : StatementTexts). x.id) e in
     made_same s.tld t.tld s.day t.day s.kind t.kind s.rev t.rev s.parts t.parts s.id t.id tld day kind rev parts id
 
-one_meaning : (target : Target) (body : List ℕ) (v w : RequestAction) → Means target body v → Means target body w → v ≡ w
-one_meaning (Registry tld) body v w (in_form, (d, day, json, is)) (in_form2, (e, day2, json2, is2)) =
+one_meaning : (route : Route) (first second body : List ℕ) (v w : RequestAction) → MeansAt route first second body v → MeansAt route first second body w → v ≡ w
+one_meaning of.Registry tld second body v w (in_form, (d, day, json, is)) (in_form2, (e, day2, json2, is2)) =
     let texts = one_registration (day_text d) (day_text e) (one_value body _ _ json json2) in
     is ∙ ap (λ (n : ℕ). Do (Register tld n)) (day_text-injective d e day day2 texts) ∙ sym is2
-one_meaning (Deposit name) body v w h k = h ∙ sym k
-one_meaning Statements body v w (s, form, json, is) (t, form2, json2, is2) =
+one_meaning of.Deposit name second body v w h k = h ∙ sym k
+one_meaning of.Statements first second body v w (s, form, json, is) (t, form2, json2, is2) =
     let same = one_statement s t form form2 (one_texts (texts_of_statement s) (texts_of_statement t) (one_value body _ _ json json2)) in
     is ∙ ap (λ (x : statement.Statement). Do (Statement x)) same ∙ sym is2
-one_meaning (paths.Check tld date) body v w (in_form, (d, day, text, is)) (in_form2, (e, day2, text2, is2)) =
+one_meaning of.Check tld date body v w (in_form, (d, day, text, is)) (in_form2, (e, day2, text2, is2)) =
     is ∙ ap (λ (n : ℕ). Do (Check tld n)) (day_text-injective d e day day2 (sym text ∙ text2)) ∙ sym is2
-one_meaning (paths.Release reference) body v w (in_form, (tld, reason, known, json, is)) (in_form2, (tld2, reason2, known2, json2, is2)) =
+one_meaning of.Release reference second body v w (in_form, (tld, reason, known, json, is)) (in_form2, (tld2, reason2, known2, json2, is2)) =
     let texts = one_handover (handover_texts tld reason) (handover_texts tld2 reason2) (one_value body _ _ json json2) in
     let same_tld : tld ≡ tld2 = ap (λ (x : ReleaseTexts). x.tld) texts in
     let same_ground = ground_text-injective reason reason2 (ap (λ (x : ReleaseTexts). x.reason) texts) in
     is ∙ ap₂ (λ (t : List ℕ) (r : Ground). Do (Release reference t r)) same_tld same_ground ∙ sym is2
-one_meaning (ReleasedPart reference name) body v w h k = h.1 ∙ sym k.1
-one_meaning (paths.Hold reference) body v w (in_form, (tld, d, known, day, json, is)) (in_form2, (tld2, e, known2, day2, json2, is2)) =
+one_meaning of.ReleasedPart reference name body v w h k = h.1 ∙ sym k.1
+one_meaning of.Hold reference second body v w (in_form, (tld, d, known, day, json, is)) (in_form2, (tld2, e, known2, day2, json2, is2)) =
     let texts = one_held_day (held_day_texts tld d) (held_day_texts tld2 e) (one_value body _ _ json json2) in
     let same_tld : tld ≡ tld2 = ap (λ (x : HoldTexts). x.tld) texts in
     let same_day = day_text-injective d e day day2 (ap (λ (x : HoldTexts). x.date) texts) in
     is ∙ ap₂ (λ (t : List ℕ) (n : ℕ). Do (Hold reference t n)) same_tld same_day ∙ sym is2
-one_meaning (paths.Lift reference) body v w h k = h.1 ∙ sym k.1
-one_meaning (Notices tld) body v w h k = h.1 ∙ sym k.1
-one_meaning Purges body v w h k = h ∙ sym k
+one_meaning of.Lift reference second body v w h k = h.1 ∙ sym k.1
+one_meaning of.Notices tld second body v w h k = h.1 ∙ sym k.1
+one_meaning of.Purges first second body v w h k = h ∙ sym k
 
 -- ---- a fault is told by its number, and by the method of a 405
 
@@ -146,7 +147,7 @@ module _ (h : RequestHead) (rest : List ℕ) where
       let is3 = subst (λ (x : Target). IsRequestBody (limit_of x) h rest body2) same is2 in
       let means3 = subst (λ (x : Target). Means x body2 w) same means2 in
       let bodies = one_body (limit_of t) body2 body is3 is in
-      one_meaning t body v w means (subst (λ (b : List ℕ). Means t b w) bodies means3)
+      one_meaning t.route _ _ body v w means (subst (λ (b : List ℕ). Means t b w) bodies means3)
 
   one_method : (f g : RequestFault) → HasFault h rest f → HasFault h rest g → HasNoFaultBelow (fault_number f) h rest → fault_number f ≡ 4 → fault_number g ≡ 4 → f ≡ g
   one_method f g s t below p q =

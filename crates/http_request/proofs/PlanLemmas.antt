@@ -3,8 +3,8 @@ use Rattle.std.proofs.Common.{◌≡◌, ◌≢◌, ◌<◌, ◌≤◌, ◌+◌,
 use Rattle.std.specs.List.{list_all}
 use Rattle.std.specs.Str.Parse.{digits_value}
 use Rattle.httparse.specs.Grammar.{RequestHead}
-use Rattle.http_request.specs.Paths.{Target, NamesTarget, is_target_byte}
-use Rattle.http_request.specs.RequestMeaning.{RequestFault, Method, method_text, method_of, limit_of, transfer_codings, content_lengths, AreContentLength, HasBodyLimit, HasFault, HasNoFaultBelow, fault_number, IsRequestBody, bad, asks_for, HeadMeans}
+use Rattle.http_request.specs.Paths.{Target, NamesTarget, is_target_byte, limit_of, method_of}
+use Rattle.http_request.specs.RequestMeaning.{RequestFault, Method, method_text, transfer_codings, content_lengths, AreContentLength, HasBodyLimit, HasFault, HasNoFaultBelow, fault_number, IsRequestBody, bad, asks_for, HeadMeans}
 use Rattle.http_request.specs.declared.faults.RequestFault.TheVariants as fault
 use Rattle.http_request.specs.inside.Fields.{AreFieldValues}
 use Rattle.http_request.specs.declared.fields.FieldValues.{FieldValues}
@@ -118,6 +118,15 @@ module _ (h : RequestHead) (target : Target) (r : IsReached h target) (rest : Li
           (λ _. λ s. let long = limit_at (λ limit. (n : ℕ) × AreContentLength (content_lengths h) n × (limit < n)) (Some limit) e s.0 s.1 s.2 in
           let same = one_length (content_lengths h) n long.0 f.0 long.1 in let within = f.1 in let over = long.2 in omega arith)
           (λ lt. absurd (omega arith)) (λ lt. absurd (omega arith))
+
+-- the route has another method
+pub method_refused : (h : RequestHead) (target : Target) → list_all is_target_byte h.target ≡ true → NamesTarget h.target target → (m : Method) → m ≡ method_of target → h.method ≢ method_text m
+    → (rest : List ℕ) → HasFault h rest (fault.Method m) × HasNoFaultBelow 4 h rest
+method_refused h target bytes names m is other rest = (
+  (target, names, is, other),
+  none_below h rest 4 (λ _. λ s. cc (bytes, s)) (λ _. λ s. s target names) (λ m. λ lt. absurd (omega arith)) (λ lt. absurd (omega arith)) (λ lt. absurd (omega arith))
+      (λ lt. absurd (omega arith)) (λ lt. absurd (omega arith)) (λ lt. absurd (omega arith)) (λ lt. absurd (omega arith)),
+)
 
 -- ---- with the body
 

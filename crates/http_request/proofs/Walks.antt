@@ -1,15 +1,12 @@
 -- What the parameters of a route take of a path that has its form.
-use Rattle.std.proofs.Common.{◌≡◌, ◌<◌, ◌≤◌, ℕ, suc, ◌+◌, ◌-◌, List, [], ◌∷◌, ◌++◌, length, take, drop, get_or, codes, Some, true, false, ltb, leb, ◌==◌, ◌&&◌, refl, sym, ap, ap₂, ◌∙◌, arith, append-nil, append_assoc, length-append}
+use Rattle.std.proofs.Common.{◌≡◌, ◌<◌, ◌≤◌, ℕ, suc, ◌+◌, ◌-◌, List, [], ◌∷◌, ◌++◌, length, take, drop, get_or, true, false, ltb, leb, ◌==◌, ◌&&◌, refl, sym, ap, ap₂, ◌∙◌, arith, append-nil, append_assoc, length-append}
 use Rattle.std.specs.List.{list_all}
 use Rattle.std.proofs.lemmas.Bool.{and_parts, and_right, lt-ltb, le-ltb, le-leb, cond-false}
 use Rattle.std.proofs.lemmas.List.{drop_at, take_at, get_or_at}
 use Rattle.matchit.specs.Rows.{param_token}
 use Rattle.matchit.specs.Seek.{has_slash, slash}
 use Rattle.matchit.specs.Params.{wild_from, wild_stop, part_of, after_token, walk}
-use Rattle.http_request.specs.Paths.{Target, Registry, Deposit, Statements, Check, Release, ReleasedPart, Hold, Lift, Notices, Purges, HasSegments, path_text}
-use Rattle.http_request.specs.Targets.{target_of}
-use Rattle.http_request.proofs.Descending.{segment_to, plain_segment}
-use Rattle.http_request.proofs.Targets.{entry_of}
+use Rattle.http_request.proofs.Descending.{segment_to}
 
 -- what stands between two places
 part_at : (front part rest : List ℕ) (start end : ℕ) → start ≡ length front → end ≡ length front + length part → part_of (front ++ (part ++ rest)) start end ≡ part
@@ -66,7 +63,7 @@ stop_segment front bytes part rest token at here there plain =
     let taken : length (part ++ slash ∷ []) ≡ length part + 1 = length-append part (slash ∷ []) in
     rw (first, second, wild, suffix, behind, segment_to part rest plain, taken) (omega arith)
 
-one_walked : (bytes text part : List ℕ) (name : ℕ × ℕ) → list_all (λ b. ltb b 256) bytes ≡ true
+pub one_walked : (bytes text part : List ℕ) (name : ℕ × ℕ) → list_all (λ b. ltb b 256) bytes ≡ true
     → walk (bytes ++ param_token ∷ []) text (bytes ++ part) (name ∷ []) 0 0 ≡ (part_of text name.0 name.1, part) ∷ []
 one_walked bytes text part name small =
     let path : List ℕ = bytes ++ part in
@@ -76,7 +73,7 @@ one_walked bytes text part name small =
     let taken = part_rest bytes part (0 + length bytes) (length path) zero_plus refl in
     rw (from, stop, taken) refl
 
-two_walked : (bytes text part rest : List ℕ) (name other : ℕ × ℕ) → list_all (λ b. ltb b 256) bytes ≡ true → length bytes < 100 → has_slash part ≡ false
+pub two_walked : (bytes text part rest : List ℕ) (name other : ℕ × ℕ) → list_all (λ b. ltb b 256) bytes ≡ true → length bytes < 100 → has_slash part ≡ false
     → walk (bytes ++ param_token ∷ slash ∷ param_token ∷ []) text (bytes ++ (part ++ slash ∷ rest)) (name ∷ other ∷ []) 0 0
     ≡ (part_of text name.0 name.1, part) ∷ (part_of text other.0 other.1, rest) ∷ []
 two_walked bytes text part rest name other small short plain =
@@ -104,41 +101,3 @@ two_walked bytes text part rest name other small short plain =
     ap (λ (p : List ℕ). part_of p ((n + length part) + 1) (length path)) (sym whole_path)
     ∙ part_rest (bytes ++ (part ++ slash ∷ [])) rest ((n + length part) + 1) (length path) here (ap length (sym whole_path)) in
     rw (from, stop, taken, token, suffix, before, stop2, taken2) refl
-
--- the parameters of a target, each with its name
-abbrev pub taken_of : Target → List (List ℕ × List ℕ)
-taken_of (Registry tld) = (codes "tld", tld) ∷ []
-taken_of (Deposit name) = (codes "name", name) ∷ []
-taken_of Statements = []
-taken_of (Check tld date) = (codes "tld", tld) ∷ (codes "date", date) ∷ []
-taken_of (Release reference) = (codes "reference", reference) ∷ []
-taken_of (ReleasedPart reference name) = (codes "reference", reference) ∷ (codes "name", name) ∷ []
-taken_of (Hold reference) = (codes "reference", reference) ∷ []
-taken_of (Lift reference) = (codes "reference", reference) ∷ []
-taken_of (Notices tld) = (codes "tld", tld) ∷ []
-taken_of Purges = []
-
-pub walked : (target : Target) → HasSegments target → walk (entry_of target).pattern (entry_of target).text (path_text target) (entry_of target).names 0 0 ≡ taken_of target
-walked (Registry tld) s = one_walked (codes "/registries/") (codes "/registries/{tld}") tld (13, 16) refl
-walked (Deposit name) s = one_walked (codes "/deposits/") (codes "/deposits/{name}") name (11, 15) refl
-walked Statements s = refl
-walked (Check tld date) s = two_walked (codes "/checks/") (codes "/checks/{tld}/{date}") tld date (9, 12) (15, 19) refl (omega arith) (plain_segment tld s.0)
-walked (Release reference) s = one_walked (codes "/releases/") (codes "/releases/{reference}") reference (11, 20) refl
-walked (ReleasedPart reference name) s =
-    two_walked (codes "/releases/") (codes "/releases/{reference}/{name}") reference name (11, 20) (23, 27) refl (omega arith) (plain_segment reference s.0)
-walked (Hold reference) s = one_walked (codes "/holds/") (codes "/holds/{reference}") reference (8, 17) refl
-walked (Lift reference) s = one_walked (codes "/lifts/") (codes "/lifts/{reference}") reference (8, 17) refl
-walked (Notices tld) s = one_walked (codes "/notices/") (codes "/notices/{tld}") tld (10, 13) refl
-walked Purges s = refl
-
-pub taken_back : (target : Target) → target_of (entry_of target).value (taken_of target) ≡ Some target
-taken_back (Registry tld) = refl
-taken_back (Deposit name) = refl
-taken_back Statements = refl
-taken_back (Check tld date) = refl
-taken_back (Release reference) = refl
-taken_back (ReleasedPart reference name) = refl
-taken_back (Hold reference) = refl
-taken_back (Lift reference) = refl
-taken_back (Notices tld) = refl
-taken_back Purges = refl

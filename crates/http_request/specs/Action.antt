@@ -1,5 +1,5 @@
 -- What a target and a body ask of the agent (ICANN Registry Agreement, Specification 2, Part B).
-use Rattle.std.specs.Prelude.{◌≡◌, ◌≤◌, ℕ, List}
+use Rattle.std.specs.Prelude.{◌≡◌, ◌≤◌, ℕ, List, [], get_or}
 use Rattle.std.specs.Int.{IsInRange}
 use Rattle.schedule.specs.Schedule.{IsDay}
 use Rattle.schedule.specs.Text.{day_text}
@@ -29,7 +29,9 @@ use Rattle.http_request.specs.Bodies.{
   release_json,
   hold_json,
 }
-use Rattle.http_request.specs.Paths as paths
+use Rattle.http_request.specs.Paths.{Target}
+use Rattle.http_request.specs.declared.routes.Route.{Route}
+use Rattle.http_request.specs.declared.routes.Route.TheVariants as route
 
 pub data RequestAction : Type 0 where
   -- a command of the agent
@@ -57,17 +59,20 @@ handover_texts tld reason = record { reason = ground_text reason; tld = tld }
 abbrev pub held_day_texts : List ℕ → ℕ → HoldTexts
 held_day_texts tld day = record { date = day_text day; tld = tld }
 
--- what a target and a body stand for: the parameters and the body are those of the command or reading, all in form
-abbrev pub Means : paths.Target → List ℕ → RequestAction → Type 0
-Means (paths.Registry tld) body wanted = IsTld tld × ((first_day : ℕ) × IsDay first_day × IsJsonOf body (registration_json (day_text first_day)) × (wanted ≡ Do (Register tld first_day)))
-Means (paths.Deposit name) body wanted = wanted ≡ Do (Receive name body)
-Means paths.Statements body wanted = (s : statement.Statement) × IsStatement s × IsJsonOf body (statement_json (texts_of_statement s)) × (wanted ≡ Do (Statement s))
-Means (paths.Check tld date) body wanted = IsTld tld × ((day : ℕ) × IsDay day × (date ≡ day_text day) × (wanted ≡ Do (Check tld day)))
-Means (paths.Release reference) body wanted =
+-- what a route, its parameters and a body stand for: they are those of the command or reading, all in form
+abbrev pub MeansAt : Route → (first second body : List ℕ) → RequestAction → Type 0
+MeansAt route.Registry tld _ body wanted = IsTld tld × ((first_day : ℕ) × IsDay first_day × IsJsonOf body (registration_json (day_text first_day)) × (wanted ≡ Do (Register tld first_day)))
+MeansAt route.Deposit name _ body wanted = wanted ≡ Do (Receive name body)
+MeansAt route.Statements _ _ body wanted = (s : statement.Statement) × IsStatement s × IsJsonOf body (statement_json (texts_of_statement s)) × (wanted ≡ Do (Statement s))
+MeansAt route.Check tld date body wanted = IsTld tld × ((day : ℕ) × IsDay day × (date ≡ day_text day) × (wanted ≡ Do (Check tld day)))
+MeansAt route.Release reference _ body wanted =
     IsReference reference × ((tld : List ℕ) × (reason : Ground) × IsTld tld × IsJsonOf body (release_json (handover_texts tld reason)) × (wanted ≡ Do (Release reference tld reason)))
-Means (paths.ReleasedPart reference name) body wanted = IsReference reference × (wanted ≡ Fetch reference name)
-Means (paths.Hold reference) body wanted =
+MeansAt route.ReleasedPart reference name body wanted = IsReference reference × (wanted ≡ Fetch reference name)
+MeansAt route.Hold reference _ body wanted =
     IsReference reference × ((tld : List ℕ) × (day : ℕ) × IsTld tld × IsDay day × IsJsonOf body (hold_json (held_day_texts tld day)) × (wanted ≡ Do (Hold reference tld day)))
-Means (paths.Lift reference) body wanted = IsReference reference × (wanted ≡ Do (Lift reference))
-Means (paths.Notices tld) body wanted = IsTld tld × (wanted ≡ Report tld)
-Means paths.Purges body wanted = wanted ≡ Do Purge
+MeansAt route.Lift reference _ body wanted = IsReference reference × (wanted ≡ Do (Lift reference))
+MeansAt route.Notices tld _ body wanted = IsTld tld × (wanted ≡ Report tld)
+MeansAt route.Purges _ _ body wanted = wanted ≡ Do Purge
+
+abbrev pub Means : Target → List ℕ → RequestAction → Type 0
+Means target body wanted = MeansAt target.route (get_or target.parameters 0 []) (get_or target.parameters 1 []) body wanted

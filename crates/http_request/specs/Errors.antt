@@ -22,3 +22,9 @@ abbrev pub IsBodyError : List ℕ → Option ℕ → RequestError → Type 0
 IsBodyError rest declared error.Unread = Unit {0}
 IsBodyError rest declared error.NoMemory = Unit {0}
 IsBodyError rest declared (error.Fault found) = IsBodyShort rest declared found
+
+-- a target and a body stand for nothing, or memory was refused
+abbrev pub IsMeaningError : RequestError → Type 0
+IsMeaningError error.Unread = ⊥
+IsMeaningError error.NoMemory = Unit {0}
+IsMeaningError (error.Fault found) = found ≡ fault.Form

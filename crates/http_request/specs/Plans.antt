@@ -6,14 +6,12 @@ use Rattle.http_request.specs.RequestMeaning.{
   AreContentLength,
   content_lengths,
   method_text,
-  method_of,
-  limit_of,
   HasNoFaultBelow,
 }
 use Rattle.std.specs.List.{list_all}
 use Rattle.http_request.specs.declared.faults.RequestFault.TheVariants as fault
 use Rattle.http_request.specs.declared.plan.Plan.{Plan}
-use Rattle.http_request.specs.Paths.{Target, NamesTarget, is_target_byte}
+use Rattle.http_request.specs.Paths.{Target, NamesTarget, is_target_byte, limit_of, method_of}
 use Rattle.http_request.specs.Targets.{target_view}
 
 -- the target is found, and the method is its route's

@@ -30,19 +30,13 @@ use Rattle.httparse.specs.Spans.{name_and_value}
 use Rattle.http_request.specs.Head.{IsShortHead, HasNoShortHead}
 use Rattle.http_request.specs.Paths.{
   Target,
-  Registry,
-  Deposit,
-  Statements,
-  Check,
-  Release,
-  ReleasedPart,
-  Hold,
-  Lift,
-  Notices,
-  Purges,
   NamesTarget,
   is_target_byte,
+  limit_of,
+  method_of,
+  target_at,
 }
+use Rattle.http_request.specs.declared.routes.Route.TheVariants.{Deposit}
 use Rattle.http_request.specs.Action.{RequestAction, Means}
 pub use Rattle.http_request.specs.declared.faults.Method.{Method}
 pub use Rattle.http_request.specs.declared.faults.Method.TheVariants.{Get, Post, Put}
@@ -53,33 +47,6 @@ abbrev pub method_text : Method → List ℕ
 method_text Get = codes "GET"
 method_text Post = codes "POST"
 method_text Put = codes "PUT"
-
--- ---- the routes
-
-abbrev pub method_of : Target → Method
-method_of (Registry tld) = Put
-method_of (Deposit name) = Put
-method_of Statements = Post
-method_of (Check tld date) = Post
-method_of (Release reference) = Put
-method_of (ReleasedPart reference name) = Get
-method_of (Hold reference) = Put
-method_of (Lift reference) = Post
-method_of (Notices tld) = Get
-method_of Purges = Post
-
--- the most bytes of a body, where the route takes one
-abbrev pub limit_of : Target → Option ℕ
-limit_of (Registry tld) = Some 4096
-limit_of (Deposit name) = Some 1_048_576
-limit_of Statements = Some 4096
-limit_of (Check tld date) = Some 0
-limit_of (Release reference) = Some 4096
-limit_of (ReleasedPart reference name) = None
-limit_of (Hold reference) = Some 4096
-limit_of (Lift reference) = Some 0
-limit_of (Notices tld) = None
-limit_of Purges = Some 0
 
 -- ---- the fields
 
@@ -153,7 +120,7 @@ RequestMeans input asked = (HasNoShortHead input × (asked ≡ bad fault.Head)) 
 
 -- The input sends a part: its head has a deposit as its target, and no fault (A1 to A8).
 abbrev pub SendsPart : List ℕ → Type 0
-SendsPart input = (h : RequestHead) × (rest : List ℕ) × ReadsRequest input h rest × IsShortHead h × ((name : List ℕ) × NamesTarget h.target (Deposit name)) × HasNoFaultBelow 9 h rest
+SendsPart input = (h : RequestHead) × (rest : List ℕ) × ReadsRequest input h rest × IsShortHead h × ((name : List ℕ) × NamesTarget h.target (target_at Deposit (name ∷ []))) × HasNoFaultBelow 9 h rest
 
 -- An input asks one thing at most.
 abbrev pub RequestsMeanOne : Type 0

@@ -1,4 +1,7 @@
 //! Why a request asks nothing of the agent.
+ghost use Rattle.std.specs.Prelude.{◌≡◌};
+ghost use Rattle.http_request.specs.declared.errors.RequestError.TheVariants as error;
+
 use crate::RequestFault;
 use std::alloc::AllocError;
 use std::io;
@@ -14,21 +17,26 @@ pub enum RequestError {
     Fault(RequestFault),
 }
 
-/// Why a reader gives no more of a request.
-#[derive(Clone, Copy, Debug, PartialEq, Eq)]
-pub(crate) enum InputError {
-    Unread,
-    NoMemory,
-}
+impl From<io::Error> for RequestError {
+    ghost from_gives = { λ _ e. e ≡ error.Unread };
 
-impl From<io::Error> for InputError {
-    fn from(_error: io::Error) -> InputError {
-        InputError::Unread
+    fn from(_error: io::Error) -> RequestError {
+        RequestError::Unread
     }
 }
 
-impl From<AllocError> for InputError {
-    fn from(_error: AllocError) -> InputError {
-        InputError::NoMemory
+impl From<AllocError> for RequestError {
+    ghost from_gives = { λ _ e. e ≡ error.NoMemory };
+
+    fn from(_error: AllocError) -> RequestError {
+        RequestError::NoMemory
+    }
+}
+
+impl From<RequestFault> for RequestError {
+    ghost from_gives = { λ fault e. e ≡ error.Fault fault };
+
+    fn from(fault: RequestFault) -> RequestError {
+        RequestError::Fault(fault)
     }
 }

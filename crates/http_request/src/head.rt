@@ -1,10 +1,9 @@
 //! The head of a request, from a reader.
-ghost use Rattle.std.specs.Prelude.{◌≡◌, IfOk, IfErr, IfSome, None};
+ghost use Rattle.std.specs.Prelude.{IfOk, IfErr, IfSome};
 ghost use Rattle.std.specs.Io.KnownBytes.{Consumes};
-ghost use Rattle.http_request.specs.Head.{HasNoShortHead, IsHeadOf};
+ghost use Rattle.http_request.specs.Head.{IsHeadOf};
 ghost use Rattle.http_request.specs.Errors.{IsRequestError};
 
-use crate::errors::InputError;
 use crate::{RequestError, RequestFault};
 use httparse::Status;
 use httparse::spans::{EMPTY_HEADER_SPAN, HeaderSpan, RequestSpans, parse_request};
@@ -40,20 +39,6 @@ pub fn read_head<R: Read>(alloc: Global, reader: &mut R) -> Result<Head, Request
     ensures found { IfOk result (λ head. Consumes (R.remaining reader.old) (R.remaining reader.new) head.bytes.items × IsHeadOf head) }
     ensures error { IfErr result (λ error. IfSome (R.remaining reader.old) (λ input. IsRequestError input error)) }
 {
-    match find_head(alloc, reader) {
-        Ok(Some(head)) => Ok(head),
-        Ok(None) => Err(RequestError::Fault(RequestFault::Head)),
-        Err(InputError::Unread) => Err(RequestError::Unread),
-        Err(InputError::NoMemory) => Err(RequestError::NoMemory),
-    }
-}
-
-/// Reads until a head has come, or none can come any more.
-fn find_head<R: Read>(alloc: Global, reader: &mut R) -> Result<Option<Head>, InputError>
-    ensures found { IfOk result (λ found. IfSome found (λ head.
-        Consumes (R.remaining reader.old) (R.remaining reader.new) head.bytes.items × IsHeadOf head)) }
-    ensures none { IfOk result (λ found. found ≡ None → IfSome (R.remaining reader.old) HasNoShortHead) }
-{
     let mut headers = [EMPTY_HEADER_SPAN; 32];
     let mut bytes: Vec<u8> = Vec::new(alloc);
     let mut piece = [0u8; 1024];
@@ -61,20 +46,20 @@ fn find_head<R: Read>(alloc: Global, reader: &mut R) -> Result<Option<Head>, Inp
         let room = (MAX_HEAD_LEN - bytes.len()).min(1024);
         let count = reader.read(&mut piece[..room])?;
         if count == 0 {
-            return Ok(None);
+            return Err(RequestError::Fault(RequestFault::Head));
         }
         bytes.extend_from_slice(&piece[..count])?;
         match parse_request(bytes.as_slice(), &mut headers) {
             Ok(Status::Complete(spans)) => {
-                return Ok(Some(Head {
+                return Ok(Head {
                     bytes,
                     headers,
                     spans,
-                }));
+                });
             }
             Ok(Status::Partial) => {}
-            Err(_) => return Ok(None),
+            Err(_) => return Err(RequestError::Fault(RequestFault::Head)),
         }
     }
-    Ok(None)
+    Err(RequestError::Fault(RequestFault::Head))
 }

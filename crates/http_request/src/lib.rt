@@ -22,6 +22,6 @@ pub use errors::RequestError;
 pub use faults::{Method, RequestFault};
 pub use head::{Head, read_head};
 pub use laws::law_asked;
-pub use meaning::{MeaningError, meaning_of};
+pub use meaning::meaning_of;
 pub use plan::{Plan, read_plan};
 pub use routes::{Route, Routes, Target};

@@ -24,13 +24,14 @@ ghost use Rattle.http_request.specs.Action.{
 ghost use Rattle.http_request.specs.Action as asked;
 ghost use Rattle.http_request.specs.ActionView.{action_view};
 ghost use Rattle.http_request.specs.Targets.{target_view};
+ghost use Rattle.http_request.specs.Errors.{IsMeaningError};
 ghost use Rattle.http_request.specs.Paths.{takes_json};
 
 use crate::bodies::{
     HoldFields, ReleaseFields, StatementFields, hold_fields, registration_text, release_fields,
     statement_fields,
 };
-use crate::{RequestAction, Target};
+use crate::{RequestAction, RequestError, RequestFault, Route, Target};
 use custody_machine::{Command, Statement};
 use deposit_name::{DepositId, Kind, Reference, Tld};
 use desk::{Ground, Revision};
@@ -38,42 +39,33 @@ use schedule::{Day, read_day};
 use serde_json::{Category, Value};
 use std::alloc::Global;
 
-/// Why a target and a body stand for nothing.
-#[derive(Clone, Copy, Debug, PartialEq, Eq)]
-pub enum MeaningError {
-    /// A parameter or the body is out of form.
-    Form,
-    /// Memory was refused.
-    NoMemory,
-}
-
 /// The registry that a path names.
-fn tld_of(text: &[u8]) -> Result<Tld, MeaningError>
+fn tld_of(text: &[u8]) -> Result<Tld, RequestFault>
     ensures found { IfOk result (λ tld. (tld ≡ text.now) × IsTld tld) }
-    ensures form { result ≡ Err MeaningError.Form → ¬ IsTld text.now }
-    ensures kind { IfErr result (λ e. e ≡ MeaningError.Form) }
+    ensures form { IfErr result (λ fault. (fault ≡ RequestFault.Form) × ¬ IsTld text.now) }
 {
-    Tld::parse(text).ok_or(MeaningError::Form)
+    Tld::parse(text).ok_or(RequestFault::Form)
 }
 
 /// The reference that a path names.
-fn reference_of(text: &[u8]) -> Result<Reference, MeaningError>
+fn reference_of(text: &[u8]) -> Result<Reference, RequestFault>
     ensures found { IfOk result (λ reference. (reference ≡ text.now) × IsReference reference) }
-    ensures form { result ≡ Err MeaningError.Form → ¬ IsReference text.now }
-    ensures kind { IfErr result (λ e. e ≡ MeaningError.Form) }
+    ensures form { IfErr result (λ fault. (fault ≡ RequestFault.Form) × ¬ IsReference text.now) }
 {
-    Reference::parse(text).ok_or(MeaningError::Form)
+    Reference::parse(text).ok_or(RequestFault::Form)
 }
 
 /// The JSON value of a body.
-fn value_of(alloc: Global, body: &[u8]) -> Result<Value, MeaningError>
+fn value_of(alloc: Global, body: &[u8]) -> Result<Value, RequestError>
     ensures found { IfOk result (λ v. IsJsonOf body.now (json.view v)) }
-    ensures form { result ≡ Err MeaningError.Form → (d : Data) → ¬ IsJsonOf body.now d }
+    ensures form { result ≡ Err (RequestError.Fault RequestFault.Form)
+        → (d : Data) → ¬ IsJsonOf body.now d }
+    ensures kind { IfErr result IsMeaningError }
 {
     match Value::from_slice(alloc, body) {
         Ok(value) => Ok(value),
-        Err(error) if error.classify() == Category::Memory => Err(MeaningError::NoMemory),
-        Err(_) => Err(MeaningError::Form),
+        Err(error) if error.classify() == Category::Memory => Err(RequestError::NoMemory),
+        Err(_) => Err(RequestError::Fault(RequestFault::Form)),
     }
 }
 
@@ -87,12 +79,14 @@ fn first_day_in(value: &Value) -> Option<Day>
     read_day(text.as_bytes())
 }
 
-fn first_day_of(alloc: Global, body: &[u8]) -> Result<Day, MeaningError>
+fn first_day_of(alloc: Global, body: &[u8]) -> Result<Day, RequestError>
     ensures found { IfOk result (λ day. IsDay day × IsJsonOf body.now (registration_json (day_text day))) }
-    ensures form { result ≡ Err MeaningError.Form → (day : ℕ) → IsDay day → ¬ IsJsonOf body.now (registration_json (day_text day)) }
+    ensures form { result ≡ Err (RequestError.Fault RequestFault.Form) → (day : ℕ) → IsDay day
+        → ¬ IsJsonOf body.now (registration_json (day_text day)) }
+    ensures kind { IfErr result IsMeaningError }
 {
     let value = value_of(alloc, body)?;
-    first_day_in(&value).ok_or(MeaningError::Form)
+    Ok(first_day_in(&value).ok_or(RequestFault::Form)?)
 }
 
 /// A number of at most so much, in a byte.
@@ -140,12 +134,14 @@ fn statement_at(value: &Value) -> Option<Statement>
     statement_in(&statement_fields(value)?)
 }
 
-fn statement_of(alloc: Global, body: &[u8]) -> Result<Statement, MeaningError>
+fn statement_of(alloc: Global, body: &[u8]) -> Result<Statement, RequestError>
     ensures found { IfOk result (λ s. IsStatement s × IsJsonOf body.now (statement_json (texts_of_statement s))) }
-    ensures form { result ≡ Err MeaningError.Form → (s : statement.Statement) → IsStatement s → ¬ IsJsonOf body.now (statement_json (texts_of_statement s)) }
+    ensures form { result ≡ Err (RequestError.Fault RequestFault.Form) → (s : statement.Statement)
+        → IsStatement s → ¬ IsJsonOf body.now (statement_json (texts_of_statement s)) }
+    ensures kind { IfErr result IsMeaningError }
 {
     let value = value_of(alloc, body)?;
-    statement_at(&value).ok_or(MeaningError::Form)
+    Ok(statement_at(&value).ok_or(RequestFault::Form)?)
 }
 
 /// The registry of a release, and its ground, of which these are the texts.
@@ -170,13 +166,15 @@ fn handover_at(value: &Value) -> Option<(Tld, Ground)>
     handover_in(&release_fields(value)?)
 }
 
-fn handover_of(alloc: Global, body: &[u8]) -> Result<(Tld, Ground), MeaningError>
+fn handover_of(alloc: Global, body: &[u8]) -> Result<(Tld, Ground), RequestError>
     ensures found { IfOk result (λ h. IsTld h.0 × IsJsonOf body.now (release_json (handover_texts h.0 h.1))) }
-    ensures form { result ≡ Err MeaningError.Form → (tld : List ℕ) (reason : Ground) → IsTld tld
+    ensures form { result ≡ Err (RequestError.Fault RequestFault.Form)
+        → (tld : List ℕ) (reason : Ground) → IsTld tld
         → ¬ IsJsonOf body.now (release_json (handover_texts tld reason)) }
+    ensures kind { IfErr result IsMeaningError }
 {
     let value = value_of(alloc, body)?;
-    handover_at(&value).ok_or(MeaningError::Form)
+    Ok(handover_at(&value).ok_or(RequestFault::Form)?)
 }
 
 /// The registry of a hold, and its day, of which these are the texts.
@@ -201,13 +199,15 @@ fn held_day_at(value: &Value) -> Option<(Tld, Day)>
     held_day_in(&hold_fields(value)?)
 }
 
-fn held_day_of(alloc: Global, body: &[u8]) -> Result<(Tld, Day), MeaningError>
+fn held_day_of(alloc: Global, body: &[u8]) -> Result<(Tld, Day), RequestError>
     ensures found { IfOk result (λ h. IsTld h.0 × IsDay h.1 × IsJsonOf body.now (hold_json (held_day_texts h.0 h.1))) }
-    ensures form { result ≡ Err MeaningError.Form → (tld : List ℕ) (day : ℕ) → IsTld tld → IsDay day
+    ensures form { result ≡ Err (RequestError.Fault RequestFault.Form)
+        → (tld : List ℕ) (day : ℕ) → IsTld tld → IsDay day
         → ¬ IsJsonOf body.now (hold_json (held_day_texts tld day)) }
+    ensures kind { IfErr result IsMeaningError }
 {
     let value = value_of(alloc, body)?;
-    held_day_at(&value).ok_or(MeaningError::Form)
+    Ok(held_day_at(&value).ok_or(RequestFault::Form)?)
 }
 
 /// What a target and a body stand for.
@@ -215,37 +215,39 @@ pub fn meaning_of<'a>(
     alloc: Global,
     target: Target<'a>,
     body: &'a [u8],
-) -> Result<RequestAction<'a>, MeaningError>
+) -> Result<RequestAction<'a>, RequestError>
     ensures found { IfOk result (λ w. Means (target_view target.entry) body.entry.now (action_view w)) }
-    ensures form { result ≡ Err MeaningError.Form → (w : asked.RequestAction) → ¬ Means (target_view target.entry) body.entry.now w }
+    ensures form { result ≡ Err (RequestError.Fault RequestFault.Form)
+        → (w : asked.RequestAction) → ¬ Means (target_view target.entry) body.entry.now w }
+    ensures kind { IfErr result IsMeaningError }
     // Memory is taken for the JSON of a body alone.
-    ensures memory { result ≡ Err MeaningError.NoMemory → takes_json (target_view target.entry) ≡ true }
+    ensures memory { result ≡ Err RequestError.NoMemory → takes_json (target_view target.entry) ≡ true }
 {
-    match target {
-        Target::Registry(text) => {
-            let tld = tld_of(text)?;
+    match target.route {
+        Route::Registry => {
+            let tld = tld_of(target.first)?;
             Ok(RequestAction::Do(Command::Register(tld, first_day_of(alloc, body)?)))
         }
-        Target::Deposit(name) => Ok(RequestAction::Do(Command::Receive(name, body))),
-        Target::Statements => Ok(RequestAction::Do(Command::Statement(statement_of(alloc, body)?))),
-        Target::Check(text, date) => {
-            let tld = tld_of(text)?;
-            let day = read_day(date).ok_or(MeaningError::Form)?;
+        Route::Deposit => Ok(RequestAction::Do(Command::Receive(target.first, body))),
+        Route::Statements => Ok(RequestAction::Do(Command::Statement(statement_of(alloc, body)?))),
+        Route::Check => {
+            let tld = tld_of(target.first)?;
+            let day = read_day(target.second).ok_or(RequestFault::Form)?;
             Ok(RequestAction::Do(Command::Check(tld, day)))
         }
-        Target::Release(text) => {
-            let reference = reference_of(text)?;
+        Route::Release => {
+            let reference = reference_of(target.first)?;
             let (tld, reason) = handover_of(alloc, body)?;
             Ok(RequestAction::Do(Command::Release(reference, tld, reason)))
         }
-        Target::ReleasedPart(text, name) => Ok(RequestAction::Fetch(reference_of(text)?, name)),
-        Target::Hold(text) => {
-            let reference = reference_of(text)?;
+        Route::ReleasedPart => Ok(RequestAction::Fetch(reference_of(target.first)?, target.second)),
+        Route::Hold => {
+            let reference = reference_of(target.first)?;
             let (tld, day) = held_day_of(alloc, body)?;
             Ok(RequestAction::Do(Command::Hold(reference, tld, day)))
         }
-        Target::Lift(text) => Ok(RequestAction::Do(Command::Lift(reference_of(text)?))),
-        Target::Notices(text) => Ok(RequestAction::Report(tld_of(text)?)),
-        Target::Purges => Ok(RequestAction::Do(Command::Purge)),
+        Route::Lift => Ok(RequestAction::Do(Command::Lift(reference_of(target.first)?))),
+        Route::Notices => Ok(RequestAction::Report(tld_of(target.first)?)),
+        Route::Purges => Ok(RequestAction::Do(Command::Purge)),
     }
 }

@@ -130,8 +130,6 @@ pub fn read_plan<'h>(routes: &Routes, head: &'h Head) -> Result<Plan<'h>, Reques
         return Err(RequestFault::TransferCoding);
     };
     let values = field_values(head, b"content-length");
-    match length_of(values, target.limit()) {
-        Ok(length) => Ok(Plan { target, length }),
-        Err(fault) => Err(fault),
-    }
+    let length = length_of(values, target.limit())?;
+    Ok(Plan { target, length })
 }

@@ -1,14 +1,14 @@
 //! The routes of the HTTP interface, and what a path names.
-ghost use Rattle.std.specs.Prelude.{◌≡◌, IfOk, IfSome, IsTrue, IfNone, Some, option_map};
+ghost use Rattle.std.specs.Prelude.{◌≡◌, List, ℕ, IfOk, IfSome, IsTrue, IfNone};
 ghost use Rattle.std.specs.List.{list_all};
-ghost use Rattle.matchit.specs.Params.{AllText, walk};
+ghost use Rattle.std.specs.Str.{IsUtf8};
 ghost use Rattle.http_request.specs.RouteTable.{route_table, is_table_prop};
 ghost use Rattle.http_request.specs.Paths.{is_target_byte, NamesTarget};
 ghost use Rattle.http_request.specs.Paths as paths;
-ghost use Rattle.http_request.specs.Targets.{target_of, target_view};
+ghost use Rattle.http_request.specs.Targets.{target_view, parameters_of, IsTargetOf, IsNextValue};
 
 use crate::Method;
-use matchit::{InsertError, Params, Router};
+use matchit::{InsertError, Params, ParamsIter, Router};
 use std::alloc::Global;
 
 /// What a path leads to.
@@ -26,53 +26,91 @@ pub enum Route {
     Purges,
 }
 
-/// What a path names: its route, and what its parameters are.
+const ROUTES: [Route; 10] = [
+    Route::Registry,
+    Route::Deposit,
+    Route::Statements,
+    Route::Check,
+    Route::Release,
+    Route::ReleasedPart,
+    Route::Hold,
+    Route::Lift,
+    Route::Notices,
+    Route::Purges,
+];
+
+/// A route: its path, its method, and the most bytes of a body, where it takes one.
+#[derive(Clone, Copy)]
+struct RouteRow {
+    path: &'static str,
+    method: Method,
+    limit: Option<u64>,
+}
+
+fn row(path: &'static str, method: Method, limit: Option<u64>) -> RouteRow
+    ensures path { result.path.now ≡ path.now }
+    ensures method { result.method ≡ method }
+    ensures limit { result.limit ≡ limit }
+{
+    RouteRow {
+        path,
+        method,
+        limit,
+    }
+}
+
+impl Route {
+    ghost use Rattle.std.specs.Prelude.{◌≡◌};
+    ghost use Rattle.http_request.specs.RouteTable.{route_text};
+    ghost use Rattle.http_request.specs.Paths.{row_of};
+
+    /// Its row of the table.
+    fn row(self) -> RouteRow
+        ensures path { result.path.now ≡ route_text self }
+        ensures method { result.method ≡ (row_of self).method }
+        ensures limit { result.limit ≡ (row_of self).limit }
+    {
+        match self {
+            Route::Registry => row("/registries/{tld}", Method::Put, Some(4096)),
+            Route::Deposit => row("/deposits/{name}", Method::Put, Some(1_048_576)),
+            Route::Statements => row("/statements", Method::Post, Some(4096)),
+            Route::Check => row("/checks/{tld}/{date}", Method::Post, Some(0)),
+            Route::Release => row("/releases/{reference}", Method::Put, Some(4096)),
+            Route::ReleasedPart => row("/releases/{reference}/{name}", Method::Get, None),
+            Route::Hold => row("/holds/{reference}", Method::Put, Some(4096)),
+            Route::Lift => row("/lifts/{reference}", Method::Post, Some(0)),
+            Route::Notices => row("/notices/{tld}", Method::Get, None),
+            Route::Purges => row("/purges", Method::Post, Some(0)),
+        }
+    }
+}
+
+/// What a path names: its route, and its parameters in the order of the path.
+/// A route has none, the first, or both.
 #[derive(Clone, Copy, Debug, PartialEq, Eq)]
-pub enum Target<'p> {
-    Registry(&'p [u8]),
-    Deposit(&'p [u8]),
-    Statements,
-    Check(&'p [u8], &'p [u8]),
-    Release(&'p [u8]),
-    ReleasedPart(&'p [u8], &'p [u8]),
-    Hold(&'p [u8]),
-    Lift(&'p [u8]),
-    Notices(&'p [u8]),
-    Purges,
+pub struct Target<'p> {
+    pub route: Route,
+    pub first: &'p [u8],
+    pub second: &'p [u8],
 }
 
 impl<'p> Target<'p> {
     ghost use Rattle.std.specs.Prelude.{◌≡◌};
     ghost use Rattle.http_request.specs.Targets.{target_view};
-    ghost use Rattle.http_request.specs.RequestMeaning.{method_of, limit_of};
+    ghost use Rattle.http_request.specs.Paths.{method_of, limit_of};
 
     /// The method of its route.
     pub fn method(&self) -> Method
         ensures { result ≡ method_of (target_view self.now) }
     {
-        match self {
-            Target::Registry(_) | Target::Deposit(_) | Target::Release(_) | Target::Hold(_) => {
-                Method::Put
-            }
-            Target::Statements | Target::Check(_, _) | Target::Lift(_) | Target::Purges => {
-                Method::Post
-            }
-            Target::ReleasedPart(_, _) | Target::Notices(_) => Method::Get,
-        }
+        self.route.row().method
     }
 
     /// The most bytes of a body, where the route takes one.
     pub fn limit(&self) -> Option<u64>
         ensures { result ≡ limit_of (target_view self.now) }
     {
-        match self {
-            Target::Registry(_) | Target::Statements | Target::Release(_) | Target::Hold(_) => {
-                Some(4096)
-            }
-            Target::Deposit(_) => Some(1_048_576),
-            Target::Check(_, _) | Target::Lift(_) | Target::Purges => Some(0),
-            Target::ReleasedPart(_, _) | Target::Notices(_) => None,
-        }
+        self.route.row().limit
     }
 }
 
@@ -88,43 +126,33 @@ fn route_table(alloc: Global) -> Result<Router<Route>, InsertError>
     ensures table { IfOk result (λ router. router ≡ route_table) }
 {
     let mut router = Router::new(alloc);
-    router.insert("/registries/{tld}", Route::Registry)?;
-    router.insert("/deposits/{name}", Route::Deposit)?;
-    router.insert("/statements", Route::Statements)?;
-    router.insert("/checks/{tld}/{date}", Route::Check)?;
-    router.insert("/releases/{reference}", Route::Release)?;
-    router.insert("/releases/{reference}/{name}", Route::ReleasedPart)?;
-    router.insert("/holds/{reference}", Route::Hold)?;
-    router.insert("/lifts/{reference}", Route::Lift)?;
-    router.insert("/notices/{tld}", Route::Notices)?;
-    router.insert("/purges", Route::Purges)?;
+    for route in &ROUTES {
+        router.insert(route.row().path, *route)?;
+    }
     Ok(router)
 }
 
-/// The target of a route that a path matched.
-fn target_of<'p>(route: Route, params: &Params<'_, 'p>) -> Option<Target<'p>>
-    ensures { AllText (walk params.now.pattern.now params.now.text.now params.now.path.now params.now.names.now 0 0)
-        → option_map target_view result ≡ target_of route (walk params.now.pattern.now params.now.text.now params.now.path.now params.now.names.now 0 0) }
+/// The text of the next parameter, and no bytes behind the last.
+fn next_value<'p>(params: &mut ParamsIter<'_, '_, 'p>) -> &'p [u8]
+    ensures { IsNextValue params.old result.now params.new }
 {
-    match route {
-        Route::Registry => Some(Target::Registry(params.get("tld")?.as_bytes())),
-        Route::Deposit => Some(Target::Deposit(params.get("name")?.as_bytes())),
-        Route::Statements => Some(Target::Statements),
-        Route::Check => {
-            let tld = params.get("tld")?;
-            let date = params.get("date")?;
-            Some(Target::Check(tld.as_bytes(), date.as_bytes()))
-        }
-        Route::Release => Some(Target::Release(params.get("reference")?.as_bytes())),
-        Route::ReleasedPart => {
-            let reference = params.get("reference")?;
-            let name = params.get("name")?;
-            Some(Target::ReleasedPart(reference.as_bytes(), name.as_bytes()))
-        }
-        Route::Hold => Some(Target::Hold(params.get("reference")?.as_bytes())),
-        Route::Lift => Some(Target::Lift(params.get("reference")?.as_bytes())),
-        Route::Notices => Some(Target::Notices(params.get("tld")?.as_bytes())),
-        Route::Purges => Some(Target::Purges),
+    match params.next() {
+        Some((_, value)) => value.as_bytes(),
+        None => b"",
+    }
+}
+
+/// The target of a route that a path matched.
+fn target_of<'p>(route: Route, params: &Params<'_, 'p>) -> Target<'p>
+    ensures { IsTargetOf route (parameters_of params.now) (target_view result) }
+{
+    let mut values = params.iter();
+    let first = next_value(&mut values);
+    let second = next_value(&mut values);
+    Target {
+        route,
+        first,
+        second,
     }
 }
 
@@ -142,7 +170,7 @@ impl Routes {
         ensures none { IfNone result ((target : paths.Target) → ¬ NamesTarget path.now target) }
     {
         match self.router.at(path) {
-            Ok(found) => target_of(*found.value, &found.params),
+            Ok(found) => Some(target_of(*found.value, &found.params)),
             Err(_) => None,
         }
     }

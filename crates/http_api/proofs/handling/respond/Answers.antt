@@ -1,4 +1,4 @@
-use Rattle.std.proofs.Common.{◌∙◌, inl, inr}
+use Rattle.std.proofs.Common.{◌∙◌, inl, inr, refl}
 use Rattle.http_request.specs.RequestMeaning.{bad}
 use Rattle.http_api.proofs.PartLemmas.{done_serves}
 use Rattle.http_api.proofs.handling.respond.Goals as goal
@@ -16,4 +16,4 @@ returns-in-Err-NoMemory-clause-serves g c =
     λ answer told. inr (told ∙ c.failure_response.ensures, rw c.in-Err-NoMemory.field-0-is at c.in-Err-NoMemory.ensures.left)
 
 pub returns-in-Err-Unread-clause-left : goal.returns-in-Err-Unread-clause-left
-returns-in-Err-Unread-clause-left g c = rw c.in-Err-Unread.field-0-is at c.in-Err-Unread.ensures.left
+returns-in-Err-Unread-clause-left g c = (refl, rw c.in-Err-Unread.field-0-is at c.in-Err-Unread.ensures.left)

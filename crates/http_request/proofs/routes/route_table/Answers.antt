@@ -1,17 +1,23 @@
-use Rattle.matchit.proofs.OnLiterals.{matchit_on_literals}
+use Rattle.std.proofs.Common.{◌≡◌, ◌∙◌, [], Result, Ok, Err, ap₂, arith, inl, inr, refl, sym}
+use Rattle.std.proofs.lemmas.List.Sums.{fold_more}
+use Rattle.matchit.specs.Rows.{RowsOf}
+use Rattle.matchit.specs.Order.{placed}
+use Rattle.matchit.specs.Route.{Scan, parse_route}
+use Rattle.matchit.specs.Router.{RouteOf, InsertsRead, route_from}
+use Rattle.matchit.specs.declared.error.InsertError.{InsertError}
+use Rattle.http_request.specs.declared.routes.Route.{Route}
+use Rattle.http_request.specs.RouteTable.{route_text, routes, scan_in, with_route}
 use Rattle.http_request.proofs.routes.route_table.Goals as goal
 
-pub returns : goal.returns
-unfolding matchit_on_literals
-returns c =
-    let one = c.in_ok-insert.ensures in
-    let two = c.in_ok-insert-2.ensures in
-    let three = c.in_ok-insert-3.ensures in
-    let four = c.in_ok-insert-4.ensures in
-    let five = c.in_ok-insert-5.ensures in
-    let six = c.in_ok-insert-6.ensures in
-    let seven = c.in_ok-insert-7.ensures in
-    let eight = c.in_ok-insert-8.ensures in
-    let nine = c.in_ok-insert-9.ensures in
-    let ten = c.in_ok-insert-10.ensures in
-    record { table = rw (ten.1, nine.1, eight.1, seven.1, six.1, five.1, four.1, three.1, two.1, one.1, c.new-router.ensures) }
+route_inserted : (route : Route) (old new : RowsOf (RouteOf Route)) → InsertsRead (parse_route (route_text route)) route old new (Ok tt) → new ≡ with_route old route
+route_inserted route old new h = by (parse_route (route_text route)) h
+  where
+    by : (scan : Result Scan InsertError) → InsertsRead scan route old new (Ok tt) → new ≡ placed ((scan_in scan).pattern, route_from (scan_in scan) route) old
+    by (Ok scan) (none, is) = is
+    by (Err error) (is, inl e) = cc
+    by (Err error) (is, inr e) = cc
+
+pub loop-route-preserved : goal.loop-route-preserved
+loop-route-preserved c =
+    route_inserted _ _ _ (rw c.row.ensures.path at c.in_ok-insert.ensures) ∙ ap₂ with_route c.loop-route.invariant refl
+    ∙ sym (fold_more with_route [] routes c.loop-route.route-index _ (omega arith))

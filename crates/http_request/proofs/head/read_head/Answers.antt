@@ -4,7 +4,7 @@ use Rattle.std.specs.Io.KnownBytes.{Consumes}
 use Rattle.std.proofs.KnownBytes.{Consumes-nil}
 use Rattle.httparse.specs.Grammar.{HasNoRequest}
 use Rattle.http_request.proofs.Heads.{head_found, taken_more, none_of_nothing, none_when_full}
-use Rattle.http_request.proofs.head.find_head.Goals as goal
+use Rattle.http_request.proofs.head.read_head.Goals as goal
 
 pub loop-headers-init : goal.loop-headers-init
 loop-headers-init g c = record {
@@ -33,6 +33,6 @@ returns-in-Ok-Complete-clause-found g c =
     let room : length c.parse_request.new.headers ≡ 32 = grind (arith, common_steps, c.parse_request.auto.headers, c.loop-headers.invariant.room) in
     (taken, head_found c.extend_from_slice.new.self.items c.as_slice.result.now c.parse_request.new.headers c.in-Ok-Complete.spans c.as_slice.ensures.value all.complete all.within small room)
 
-pub returns-clause-none : goal.returns-clause-none
-returns-clause-none g c = λ _.
+pub returns-clause-error : goal.returns-clause-error
+returns-clause-error g c =
     none_when_full _ _ c.loop-headers.bytes.items c.loop-headers.invariant.taken (grind (arith, common_steps, c.loop-headers-test.false, c.len.ensures)) c.loop-headers.invariant.no_head

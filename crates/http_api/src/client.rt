@@ -27,11 +27,10 @@ impl<'s, C: Clock> TimedStream<'s, C> {
         clock: &'s C,
         seconds: u64,
     ) -> io::Result<TimedStream<'s, C>> {
-        let now = Instant::now(clock)?;
-        match now.checked_add(Duration::from_secs(seconds)) {
-            Some(end) => Ok(TimedStream { stream, clock, end }),
-            None => Err(io::ErrorKind::TimedOut.into()),
-        }
+        let end = Instant::now(clock)?
+            .checked_add(Duration::from_secs(seconds))
+            .ok_or(io::ErrorKind::TimedOut)?;
+        Ok(TimedStream { stream, clock, end })
     }
 
     /// The time that is left, at least a millisecond.

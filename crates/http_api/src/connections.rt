@@ -13,12 +13,11 @@ ghost use Rattle.std.specs.Prelude.{
   OnOk,
   OnErr,
 };
-ghost use Rattle.http_serve.specs.Connections.{AreConnections, IsConnection};
+ghost use Rattle.http_api.specs.Connections.{AreConnections, IsConnection};
 
 use crate::client::{REQUEST_SECONDS, RESPONSE_SECONDS, TimedStream, end_connection};
-use crate::clock::moment_of;
+use crate::{Api, ServeError};
 use custody::Custody;
-use http_api::{Api, ServeError};
 use schedule::Sec;
 use sqlite::Alter;
 use std::alloc::Global;
@@ -39,7 +38,7 @@ pub enum ServiceError {
 
 impl fmt::Display for ServiceError {
     ghost use Rattle.std.specs.Prelude.{Some};
-    ghost use Rattle.http_serve.specs.Errors.{service_error_text};
+    ghost use Rattle.http_api.specs.Connections.{service_error_text};
 
     ghost output = { λ e. Some (service_error_text e) };
 
@@ -71,7 +70,7 @@ fn moment_at<C: Clock>(given: &Option<Sec>, clock: &C) -> Result<Sec, ServiceErr
 {
     match given {
         Some(moment) => Ok(*moment),
-        None => moment_of(clock).ok_or(ServiceError::Clock),
+        None => Sec::of_clock(clock).ok_or(ServiceError::Clock),
     }
 }
 

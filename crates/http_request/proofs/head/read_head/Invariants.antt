@@ -1,7 +1,7 @@
 use Rattle.std.proofs.Common.{◌≡◌, ◌-◌, ◌≤◌, length, vec_len}
 use Rattle.std.specs.Io.KnownBytes.{Consumes}
 use Rattle.httparse.specs.Grammar.{HasNoRequest}
-use Rattle.http_request.proofs.head.find_head.Given as goal
+use Rattle.http_request.proofs.head.read_head.Given as goal
 
 abbrev pub invariant-loop-headers : goal.invariant-loop-headers
 invariant-loop-headers g l = record {

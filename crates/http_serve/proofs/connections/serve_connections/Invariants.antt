@@ -1,5 +1,0 @@
-use Rattle.http_serve.specs.Connections.{AreConnections}
-use Rattle.http_serve.proofs.connections.serve_connections.Given as goal
-
-abbrev pub invariant-loop : goal.invariant-loop
-invariant-loop g l = AreConnections l.now l.counter l.initial.custody l.custody
