@@ -22,7 +22,8 @@ use Rattle.clap.proofs.ValueTestLemmas.{accepts-Accepts, Accepts-accepts}
 use Rattle.agent_cli.specs.Grammar.{escrow_app}
 use Rattle.agent_cli.proofs.HelpLemmas.{IsNotHelp, first_empty, other_way, walk_none}
 use Rattle.agent_cli.specs.Forms.{count_in_text, count_of}
-use Rattle.agent_cli.specs.Order.{AnswersReading, ReadsWords, IsFaultFrom, SubcommandReading, WordsReading, bad_argument, subcommand_named, no_order}
+use Rattle.agent_cli.specs.Order.{AnswersAsRead, AnswersReading, DeedReading, IsFaultFrom, OrderReading, ReadsWords, SubcommandReading, WordsReading, deed_meaning, meaning, subcommand_named}
+use Rattle.agent_cli.specs.declared.subcommands.Subcommand.{Subcommand}
 use Rattle.agent_cli.specs.declared.order.Argument.{Argument}
 use Rattle.agent_cli.specs.declared.order.Order.{Order}
 use Rattle.agent_cli.specs.declared.order.WordFault.{WordFault}
@@ -90,7 +91,7 @@ among_some : (k : ErrorKind) (xs : Kinds) → IsAmong k xs → is_empty xs ≡ f
 among_some k [] h = absurd h
 among_some k (x ∷ xs) h = ne_eqb (length (x ∷ xs)) 0 (λ e. omega (arith, e))
 
-pub refused_by : (words : List Text) → is_empty (fault_of escrow_app words) ≡ false → ReadsWords words no_order
+pub refused_by : (words : List Text) → is_empty (fault_of escrow_app words) ≡ false → ReadsWords words None
 unfolding ReadsWords
 refused_by words e = rw e refl
 
@@ -102,10 +103,19 @@ fault_answers words e (fault.Bad a) h k = absurd h
 fault_answers words e fault.NoMemory h k = tt
 
 -- an argument out of form is an answer
-pub bad_answers : (Reads : WordsReading → Type 0) (a : Argument) (e : WordFault) → e ≡ fault.Bad a → (r : Result Order WordFault) → IsErrAnd r (λ y. y ≡ e)
-    → Reads (bad_argument a) → AnswersReading Reads r
-bad_answers Reads a e is (Ok o) h reads = absurd h
-bad_answers Reads a e is (Err x) h reads = subst (λ (y : WordFault). AnswersReading Reads (Err y)) (sym (h ∙ is)) reads
+pub bad_answers : {X Y : Type 0} (says : X → Y) (Reads : Result Y Argument → Type 0) (a : Argument) (e : WordFault) → e ≡ fault.Bad a → (r : Result X WordFault) → IsErrAnd r (λ y. y ≡ e)
+    → Reads (Err a) → AnswersAsRead says Reads r
+bad_answers says Reads a e is (Ok o) h reads = absurd h
+bad_answers says Reads a e is (Err x) h reads = subst (λ (y : WordFault). AnswersAsRead says Reads (Err y)) (sym (h ∙ is)) reads
+
+-- words that give no deed give no order
+pub no_deed_answers : (subcommand : Subcommand) (rows : List Row) (e : WordFault) → AnswersAsRead deed_meaning (DeedReading subcommand rows) (Err e)
+    → (r : Result Order WordFault) → IsErrAnd r (λ y. y ≡ e) → AnswersAsRead meaning (OrderReading subcommand rows) r
+no_deed_answers subcommand rows e reads (Ok o) h = absurd h
+no_deed_answers subcommand rows (fault.Bad a) reads (Err x) h =
+    subst (λ (y : WordFault). AnswersAsRead meaning (OrderReading subcommand rows) (Err y)) (sym h) (inr (a, reads, refl))
+no_deed_answers subcommand rows (fault.Words e) reads (Err x) h = absurd reads
+no_deed_answers subcommand rows fault.NoMemory reads (Err x) h = absurd reads
 
 -- ---- a subcommand
 
@@ -154,12 +164,13 @@ pub met_rows : (m : ArgMatches) (name : Text) (rows : List Row) → Some name �
     → Some rows ≡ option_map (λ p. p.1) (subcommand_rows_of m) → subcommand_rows_of m ≡ Some (name, rows)
 met_rows m name rows e1 e2 = pair_of _ _ name rows e1 e2
 
--- a result that is as its reading allows is as another does that allows no less
-pub answers_as : (P Q : WordsReading → Type 0) → ((r : WordsReading) → P r → Q r) → (r : Result Order WordFault) → AnswersReading P r → AnswersReading Q r
-answers_as P Q sub (Ok o) h = sub _ h
-answers_as P Q sub (Err (fault.Bad a)) h = sub _ h
-answers_as P Q sub (Err (fault.Words e)) h = sub _ h
-answers_as P Q sub (Err fault.NoMemory) h = tt
+-- the order that a subcommand's words give is the words' reading
+pub order_answers : (subcommand : Subcommand) (rows : List Row) (Reads : WordsReading → Type 0) → ((r : WordsReading) → SubcommandReading (Some subcommand) rows r → Reads r)
+    → (r : Result Order WordFault) → AnswersAsRead meaning (OrderReading subcommand rows) r → AnswersReading Reads r
+order_answers subcommand rows Reads sub (Ok o) h = sub (Some (Ok (meaning o))) h
+order_answers subcommand rows Reads sub (Err (fault.Bad a)) h = sub (Some (Err a)) h
+order_answers subcommand rows Reads sub (Err (fault.Words e)) h = absurd h
+order_answers subcommand rows Reads sub (Err fault.NoMemory) h = absurd h
 
 pub met_asks : (words : List Text) (name : Text) (rows : List Row) → fault_of escrow_app words ≡ []
     → subcommand_of escrow_app words ≡ Some (name, rows) → (r : WordsReading) → SubcommandReading (subcommand_named name) rows r → ReadsWords words r

@@ -1,4 +1,4 @@
--- What an order does to an agent.
+-- What a deed does to an agent.
 use Rattle.std.specs.Prelude.{
   ◌≡◌,
   ◌≢◌,
@@ -25,17 +25,8 @@ use Rattle.vault_volume.specs.declared.volume.Volume as volume
 use Rattle.deposit_name.specs.Name.{Name}
 use Rattle.sqlite.specs.Store.{Ghosts}
 use Rattle.custody_records.specs.Records.{Records}
-use Rattle.custody_machine.specs.Machine.{
-  Command,
-  Register,
-  Receive,
-  Statement,
-  Check,
-  Release,
-  Hold,
-  Lift,
-  Purge,
-}
+use Rattle.custody_machine.specs.Commands.{command_of}
+use Rattle.custody_machine.specs.Machine.{Command, Check, Receive}
 use Rattle.custody_machine.specs.declared.answers.Failure.{Failure}
 use Rattle.custody_machine.specs.declared.answers.Failure.TheVariants.{NoMemory, Closed}
 use Rattle.custody_machine.specs.declared.answers.Refusal.TheVariants.{RegistryUnknown}
@@ -63,8 +54,8 @@ use Rattle.answer_lines.specs.Printing.{
 }
 use Rattle.answer_lines.specs.State.{registry_report_text, state_text}
 use Rattle.answer_lines.specs.Statuses.{IsExitStatus, IsStatusAfter, answer_status}
-use Rattle.agent_cli.specs.declared.order.Order.{Order}
-use Rattle.agent_cli.specs.declared.order.Order.TheVariants as order
+use Rattle.agent_cli.specs.declared.order.Deed.{Deed}
+use Rattle.agent_cli.specs.declared.order.Deed.TheVariants as deed
 
 -- the name that a path has
 abbrev pub file_name : List ℕ → List ℕ
@@ -132,20 +123,15 @@ module _ {V S : Type 0} {g : volume.Ghosts V} {database : Ghosts S} where
     pub swept : is_open old ≡ true → IsSwept (due_days (current_records (open_custody_of old)) now) old now new status output errors ⊎ ((new ≡ old) × (status ≡ 3) × WritesBeginning errors (as_line (failure_text NoMemory)) × IsUnused output)
     pub while_closed : is_open old ≡ false → (new ≡ old) × (status ≡ 3) × WritesBeginning errors (as_line (failure_text Closed)) × IsUnused output
 
-  -- `register`, `put`, `verify`, `purge`, `hold`, `lift` and `release` give it their command, `sweep` its checks, `fetch` and `audit` read, and no other order changes it
-  abbrev pub Acts : Order → List ℕ → ℕ → Custody V S g database → Custody V S g database → ℕ → Writer → Writer → Type 0
-  Acts (order.Init folder blocks number) bytes now old new status output errors =
+  -- A command is given to it, and a `put` as the receipt of a part; `sweep` gives it its checks, `fetch` and `audit` read, and no other deed changes it.
+  abbrev pub Acts : Deed → List ℕ → ℕ → Custody V S g database → Custody V S g database → ℕ → Writer → Writer → Type 0
+  Acts (deed.Init blocks number) bytes now old new status output errors =
       (new ≡ old) × IsStatusAfter 1 status × WritesWholeAt errors (as_line (init_error_text AlreadyInitialised)) 1 status × IsUnused output
-  Acts (order.Register folder tld first) bytes now old new status output errors = Applies old (Register tld first) now new status output errors
-  Acts (order.Put folder file at) bytes now old new status output errors = Applies old (Receive (file_name file.now) bytes) now new status output errors
-  Acts (order.Verify folder statement at) bytes now old new status output errors = Applies old (Statement statement) now new status output errors
-  Acts (order.Sweep folder at) bytes now old new status output errors = IsExitStatus status × Sweeps old now new status output errors
-  Acts (order.Purge folder at) bytes now old new status output errors = Applies old Purge now new status output errors
-  Acts (order.Hold folder reference tld day at) bytes now old new status output errors = Applies old (Hold reference tld day) now new status output errors
-  Acts (order.Lift folder reference at) bytes now old new status output errors = Applies old (Lift reference) now new status output errors
-  Acts (order.Release folder reference tld reason at) bytes now old new status output errors = Applies old (Release reference tld reason) now new status output errors
-  Acts (order.Fetch folder reference name) bytes now old new status output errors = IsExitStatus status × Fetches old reference name.now new status output errors
-  Acts (order.Report folder tld) bytes now old new status output errors = (new ≡ old) × IsExitStatus status × PrintsReport old tld status output errors
-  Acts (order.State folder) bytes now old new status output errors = (new ≡ old) × IsExitStatus status × PrintsState old status output errors
-  Acts (order.Audit folder) bytes now old new status output errors = IsExitStatus status × Audits old new status output errors
-  Acts (order.Serve folder port requests at) bytes now old new status output errors = (new ≡ old) × (status ≡ 0) × IsUnused output × IsUnused errors
+  Acts (deed.Put file) bytes now old new status output errors = Applies old (Receive (file_name file.now) bytes) now new status output errors
+  Acts (deed.Do command) bytes now old new status output errors = Applies old (command_of command) now new status output errors
+  Acts deed.Sweep bytes now old new status output errors = IsExitStatus status × Sweeps old now new status output errors
+  Acts (deed.Fetch reference name) bytes now old new status output errors = IsExitStatus status × Fetches old reference name.now new status output errors
+  Acts (deed.Report tld) bytes now old new status output errors = (new ≡ old) × IsExitStatus status × PrintsReport old tld status output errors
+  Acts deed.State bytes now old new status output errors = (new ≡ old) × IsExitStatus status × PrintsState old status output errors
+  Acts deed.Audit bytes now old new status output errors = IsExitStatus status × Audits old new status output errors
+  Acts (deed.Serve port requests) bytes now old new status output errors = (new ≡ old) × (status ≡ 0) × IsUnused output × IsUnused errors

@@ -48,7 +48,7 @@ use Rattle.agent_cli.specs.declared.subcommands.Subcommand.TheVariants.{
   Serve,
 }
 use Rattle.agent_cli.specs.declared.subcommands.Word.{Word}
-use Rattle.vault_volume.specs.Limits.{fewest_blocks, most_blocks}
+use Rattle.extent_map.specs.Limits.{fewest_blocks, most_blocks}
 
 -- a positional argument, which has to be there
 abbrev pub positional_rule : Text → Rule

@@ -1,10 +1,10 @@
-//! What an order does to the agent of a folder.
+//! What a deed does to the agent of a folder.
 ghost use Rattle.std.specs.Prelude.{◌≡◌};
 ghost use Rattle.answer_lines.specs.Statuses.{IsExitStatus};
 ghost use Rattle.agent_cli.specs.Acts.{Acts, Audits, Fetches, PrintsState, PrintsReport};
 
 use crate::sweeping::sweep;
-use crate::{Order, file_name};
+use crate::{Deed, file_name};
 use answer_lines::{
     print_audit, print_bytes, print_report, print_state, tell, tell_answer, tell_init, tell_refusal,
 };
@@ -17,73 +17,39 @@ use std::alloc::Global;
 use std::io::Write;
 use vault_volume::Volume;
 
-/// Carries out an order, prints its lines and answers the exit status. `file` holds the bytes of the
-/// file that a `put` names, and `now` is its moment. An `init` is refused, since the vault is there, and
-/// a `serve` does nothing here, where no socket is.
-/// A sweep says to `progress` how many days it has checked, and an audit how many blocks it has read.
+/// Does a deed, prints its lines and answers the exit status. `file` holds the bytes of the file that
+/// a `put` names, and `now` is the moment. An `init` is refused, since the vault is there, and a
+/// `serve` does nothing here, where no socket is. A sweep says to `progress` how many days it has
+/// checked, and an audit how many blocks it has read.
 pub fn act<V: Volume, S: Alter, W: Write, E: Write, P: Progress>(
     alloc: Global,
     custody: &mut Custody<V, S>,
-    order: &Order<'_>,
+    deed: &Deed<'_>,
     file: &[u8],
     now: Sec,
     out: &mut W,
     err: &mut E,
     progress: &mut P,
 ) -> u8
-    ensures acts { Acts order.now file.now now custody.old custody.new result (record { before = W.contents out.old; after = W.contents out.new }) (record { before = E.contents err.old; after = E.contents err.new }) }
+    ensures acts { Acts deed.now file.now now custody.old custody.new result (record { before = W.contents out.old; after = W.contents out.new }) (record { before = E.contents err.old; after = E.contents err.new }) }
     ensures status { IsExitStatus result }
 {
-    match order {
-        Order::Init { .. } => tell_init(&InitError::AlreadyInitialised, err),
-        Order::Register { tld, first, .. } => {
-            let answer = custody.apply(alloc, &Command::Register(*tld, *first), now);
-            tell_answer(&answer, out, err)
-        }
-        Order::Put { file: path, .. } => {
+    match deed {
+        Deed::Init { .. } => tell_init(&InitError::AlreadyInitialised, err),
+        Deed::Put { file: path } => {
             let answer = custody.apply(alloc, &Command::Receive(file_name(path), file), now);
             tell_answer(&answer, out, err)
         }
-        Order::Verify { statement, .. } => {
-            let answer = custody.apply(alloc, &Command::Statement(*statement), now);
+        Deed::Do(command) => {
+            let answer = custody.apply(alloc, command, now);
             tell_answer(&answer, out, err)
         }
-        Order::Sweep { .. } => sweep(alloc, custody, now, out, err, progress),
-        Order::Purge { .. } => {
-            let answer = custody.apply(alloc, &Command::Purge, now);
-            tell_answer(&answer, out, err)
-        }
-        Order::Hold {
-            reference,
-            tld,
-            day,
-            ..
-        } => {
-            let answer = custody.apply(alloc, &Command::Hold(*reference, *tld, *day), now);
-            tell_answer(&answer, out, err)
-        }
-        Order::Lift { reference, .. } => {
-            let answer = custody.apply(alloc, &Command::Lift(*reference), now);
-            tell_answer(&answer, out, err)
-        }
-        Order::Release {
-            reference,
-            tld,
-            reason,
-            ..
-        } => {
-            let answer = custody.apply(alloc, &Command::Release(*reference, *tld, *reason), now);
-            tell_answer(&answer, out, err)
-        }
-        Order::Fetch {
-            reference,
-            name,
-            ..
-        } => fetch(alloc, custody, reference, name, out, err),
-        Order::Report { tld, .. } => print_report_of(custody, tld, out, err),
-        Order::State { .. } => show(custody, out, err),
-        Order::Audit { .. } => audit(alloc, custody, out, err, progress),
-        Order::Serve { .. } => ExitStatus::Done.number(),
+        Deed::Sweep => sweep(alloc, custody, now, out, err, progress),
+        Deed::Fetch { reference, name } => fetch(alloc, custody, reference, name, out, err),
+        Deed::Report { tld } => print_report_of(custody, tld, out, err),
+        Deed::State => show(custody, out, err),
+        Deed::Audit => audit(alloc, custody, out, err, progress),
+        Deed::Serve { .. } => ExitStatus::Done.number(),
     }
 }
 

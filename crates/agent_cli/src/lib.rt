@@ -14,6 +14,6 @@ mod words;
 pub use acting::act;
 pub use answer_lines::tell;
 pub use laws::law_orders;
-pub use order::{Argument, Order, WordFault};
+pub use order::{Argument, Deed, Order, WordFault};
 pub use paths::file_name;
 pub use words::order_of;

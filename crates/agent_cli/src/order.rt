@@ -5,120 +5,51 @@ ghost use Rattle.agent_cli.specs.declared.order.WordFault.TheVariants.{NoMemory}
 
 use answer_lines::VolumeNumber;
 use clap::error::ErrorKind;
-use custody_machine::{ExitStatus, Failure, Statement};
+use custody_machine::{Command, ExitStatus, Failure};
 use deposit_name::{Reference, Tld};
-use desk::Ground;
-use schedule::{Day, Sec};
+use schedule::Sec;
 use std::alloc::AllocError;
 use std::fmt;
 
-/// A subcommand with its values, each in form. `folder` is the folder of the vault.
-#[derive(Clone, Copy, Debug)]
-pub enum Order<'a> {
+/// A call of the program: the folder of the vault, the moment that the words name, and what is to
+/// be done there.
+#[derive(Clone, Copy)]
+pub struct Order<'a> {
+    pub folder: &'a str,
+    /// The moment of the call, where the words name it.
+    pub now: Option<Sec>,
+    pub deed: Deed<'a>,
+}
+
+/// What is to be done in a folder. Each value is in form.
+#[derive(Clone, Copy)]
+pub enum Deed<'a> {
     Init {
-        folder: &'a str,
         blocks: u32,
         number: VolumeNumber,
     },
-    Register {
-        folder: &'a str,
-        tld: Tld,
-        first: Day,
-    },
+    /// A part file is put: its bytes are not read yet.
     Put {
-        folder: &'a str,
         file: &'a str,
-        /// The moment of the call, where the words name it.
-        now: Option<Sec>,
     },
-    Verify {
-        folder: &'a str,
-        statement: Statement,
-        /// The moment of the call, where the words name it.
-        now: Option<Sec>,
-    },
-    Sweep {
-        folder: &'a str,
-        /// The moment of the call, where the words name it.
-        now: Option<Sec>,
-    },
-    Purge {
-        folder: &'a str,
-        /// The moment of the call, where the words name it.
-        now: Option<Sec>,
-    },
-    Hold {
-        folder: &'a str,
-        reference: Reference,
-        tld: Tld,
-        day: Day,
-        /// The moment of the call, where the words name it.
-        now: Option<Sec>,
-    },
-    Lift {
-        folder: &'a str,
-        reference: Reference,
-        /// The moment of the call, where the words name it.
-        now: Option<Sec>,
-    },
-    Release {
-        folder: &'a str,
-        reference: Reference,
-        tld: Tld,
-        reason: Ground,
-        /// The moment of the call, where the words name it.
-        now: Option<Sec>,
-    },
+    /// A command of the agent.
+    Do(Command<'a>),
+    Sweep,
     Fetch {
-        folder: &'a str,
         reference: Reference,
         /// The name of a part, in whatever form.
         name: &'a str,
     },
     Report {
-        folder: &'a str,
         tld: Tld,
     },
-    State {
-        folder: &'a str,
-    },
-    Audit {
-        folder: &'a str,
-    },
+    State,
+    Audit,
     Serve {
-        folder: &'a str,
         port: u16,
         /// How many connections are served.
         requests: u32,
-        /// The moment of each request, where the words name it.
-        now: Option<Sec>,
     },
-}
-
-impl<'a> Order<'a> {
-    ghost use Rattle.agent_cli.specs.Order.{meaning, named_moment};
-
-    /// The moment of the call, where the words name it.
-    pub fn named_moment(&self) -> Option<Sec>
-        ensures { result ≡ named_moment (meaning self.now) }
-    {
-        match self {
-            Order::Put { now, .. }
-            | Order::Verify { now, .. }
-            | Order::Sweep { now, .. }
-            | Order::Purge { now, .. }
-            | Order::Hold { now, .. }
-            | Order::Lift { now, .. }
-            | Order::Release { now, .. }
-            | Order::Serve { now, .. } => *now,
-            Order::Init { .. }
-            | Order::Register { .. }
-            | Order::Fetch { .. }
-            | Order::Report { .. }
-            | Order::State { .. }
-            | Order::Audit { .. } => None,
-        }
-    }
 }
 
 /// An argument whose text has a form of its own, in the order in which they are tested.

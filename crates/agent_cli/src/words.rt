@@ -3,24 +3,14 @@ ghost use Rattle.std.specs.Prelude.{◌≡◌, Some, map};
 ghost use Rattle.std.specs.String.{string_bytes};
 ghost use Rattle.clap.specs.Words.{found_of, rows_of};
 ghost use Rattle.agent_cli.specs.Order.{
+  AnswersAsRead,
   AnswersReading,
-  ReadsWords,
-  AuditReading,
-  FetchReading,
-  HoldReading,
-  InitReading,
+  DeedReading,
   IsFaultFrom,
-  LiftReading,
-  SubcommandReading,
-  PurgeReading,
-  PutReading,
-  RegisterReading,
-  ReleaseReading,
-  ReportReading,
-  ServeReading,
-  StateReading,
-  SweepReading,
-  VerifyReading,
+  OrderReading,
+  ReadsWords,
+  deed_meaning,
+  meaning,
 };
 
 use crate::grammar::escrow_command;
@@ -29,202 +19,96 @@ use crate::values::{
     count_in, date_in, first_in, ground_in, id_in, kind_in, now_in, number_in, parts_in, port_in,
     reference_in, revision_in, text_in, tld_in,
 };
-use crate::{Order, WordFault};
+use crate::{Deed, Order, WordFault};
 use clap::ArgMatches;
 use clap::error::ErrorKind;
-use custody_machine::Statement;
+use custody_machine::{Command, Statement};
 use std::alloc::Global;
 use vault_volume::MOST_BLOCKS;
 
-fn init_order<'a>(matches: &ArgMatches<'a>) -> Result<Order<'a>, WordFault>
-    ensures { AnswersReading (InitReading (rows_of (found_of matches.now))) result }
+/// What a subcommand is to do, by its words.
+fn deed_in<'a>(subcommand: Subcommand, matches: &ArgMatches<'a>) -> Result<Deed<'a>, WordFault>
+    ensures { AnswersAsRead deed_meaning (DeedReading subcommand (rows_of (found_of matches.now))) result }
 {
-    let number = number_in(matches)?;
-    Ok(Order::Init {
-        folder: text_in(matches, "DIR"),
-        blocks: count_in(matches, "blocks", MOST_BLOCKS),
-        number,
-    })
+    match subcommand {
+        Subcommand::Init => {
+            let number = number_in(matches)?;
+            let blocks = count_in(matches, "blocks", MOST_BLOCKS);
+            Ok(Deed::Init { blocks, number })
+        }
+        Subcommand::Register => {
+            let tld = tld_in(matches)?;
+            Ok(Deed::Do(Command::Register(tld, first_in(matches)?)))
+        }
+        Subcommand::Put => Ok(Deed::Put {
+            file: text_in(matches, "FILE"),
+        }),
+        Subcommand::Verify => verify_in(matches),
+        Subcommand::Sweep => Ok(Deed::Sweep),
+        Subcommand::Purge => Ok(Deed::Do(Command::Purge)),
+        Subcommand::Hold => hold_in(matches),
+        Subcommand::Lift => Ok(Deed::Do(Command::Lift(reference_in(matches)?))),
+        Subcommand::Release => release_in(matches),
+        Subcommand::Fetch => {
+            let reference = reference_in(matches)?;
+            let name = text_in(matches, "NAME");
+            Ok(Deed::Fetch { reference, name })
+        }
+        Subcommand::Report => Ok(Deed::Report {
+            tld: tld_in(matches)?,
+        }),
+        Subcommand::State => Ok(Deed::State),
+        Subcommand::Audit => Ok(Deed::Audit),
+        Subcommand::Serve => Ok(Deed::Serve {
+            port: port_in(matches),
+            requests: count_in(matches, "requests", 1_000_000),
+        }),
+    }
 }
 
-fn register_order<'a>(matches: &ArgMatches<'a>) -> Result<Order<'a>, WordFault>
-    ensures { AnswersReading (RegisterReading (rows_of (found_of matches.now))) result }
-{
-    let tld = tld_in(matches)?;
-    let first = first_in(matches)?;
-    Ok(Order::Register {
-        folder: text_in(matches, "DIR"),
-        tld,
-        first,
-    })
-}
-
-fn put_order<'a>(matches: &ArgMatches<'a>) -> Result<Order<'a>, WordFault>
-    ensures { AnswersReading (PutReading (rows_of (found_of matches.now))) result }
-{
-    let now = now_in(matches)?;
-    Ok(Order::Put {
-        folder: text_in(matches, "DIR"),
-        file: text_in(matches, "FILE"),
-        now,
-    })
-}
-
-fn verify_order<'a>(matches: &ArgMatches<'a>) -> Result<Order<'a>, WordFault>
-    ensures { AnswersReading (VerifyReading (rows_of (found_of matches.now))) result }
+fn verify_in<'a>(matches: &ArgMatches<'a>) -> Result<Deed<'a>, WordFault>
+    ensures { AnswersAsRead deed_meaning (DeedReading Subcommand.Verify (rows_of (found_of matches.now))) result }
 {
     let tld = tld_in(matches)?;
     let day = date_in(matches)?;
     let kind = kind_in(matches)?;
     let id = id_in(matches)?;
-    let now = now_in(matches)?;
-    Ok(Order::Verify {
-        folder: text_in(matches, "DIR"),
-        statement: Statement {
-            tld,
-            day,
-            kind,
-            rev: revision_in(matches),
-            parts: parts_in(matches),
-            id,
-        },
-        now,
-    })
+    Ok(Deed::Do(Command::Statement(Statement {
+        tld,
+        day,
+        kind,
+        rev: revision_in(matches),
+        parts: parts_in(matches),
+        id,
+    })))
 }
 
-fn sweep_order<'a>(matches: &ArgMatches<'a>) -> Result<Order<'a>, WordFault>
-    ensures { AnswersReading (SweepReading (rows_of (found_of matches.now))) result }
-{
-    let now = now_in(matches)?;
-    Ok(Order::Sweep {
-        folder: text_in(matches, "DIR"),
-        now,
-    })
-}
-
-fn purge_order<'a>(matches: &ArgMatches<'a>) -> Result<Order<'a>, WordFault>
-    ensures { AnswersReading (PurgeReading (rows_of (found_of matches.now))) result }
-{
-    let now = now_in(matches)?;
-    Ok(Order::Purge {
-        folder: text_in(matches, "DIR"),
-        now,
-    })
-}
-
-fn hold_order<'a>(matches: &ArgMatches<'a>) -> Result<Order<'a>, WordFault>
-    ensures { AnswersReading (HoldReading (rows_of (found_of matches.now))) result }
+fn hold_in<'a>(matches: &ArgMatches<'a>) -> Result<Deed<'a>, WordFault>
+    ensures { AnswersAsRead deed_meaning (DeedReading Subcommand.Hold (rows_of (found_of matches.now))) result }
 {
     let tld = tld_in(matches)?;
     let day = date_in(matches)?;
     let reference = reference_in(matches)?;
-    let now = now_in(matches)?;
-    Ok(Order::Hold {
-        folder: text_in(matches, "DIR"),
-        reference,
-        tld,
-        day,
-        now,
-    })
+    Ok(Deed::Do(Command::Hold(reference, tld, day)))
 }
 
-fn lift_order<'a>(matches: &ArgMatches<'a>) -> Result<Order<'a>, WordFault>
-    ensures { AnswersReading (LiftReading (rows_of (found_of matches.now))) result }
-{
-    let reference = reference_in(matches)?;
-    let now = now_in(matches)?;
-    Ok(Order::Lift {
-        folder: text_in(matches, "DIR"),
-        reference,
-        now,
-    })
-}
-
-fn release_order<'a>(matches: &ArgMatches<'a>) -> Result<Order<'a>, WordFault>
-    ensures { AnswersReading (ReleaseReading (rows_of (found_of matches.now))) result }
+fn release_in<'a>(matches: &ArgMatches<'a>) -> Result<Deed<'a>, WordFault>
+    ensures { AnswersAsRead deed_meaning (DeedReading Subcommand.Release (rows_of (found_of matches.now))) result }
 {
     let tld = tld_in(matches)?;
     let reference = reference_in(matches)?;
     let reason = ground_in(matches)?;
-    let now = now_in(matches)?;
-    Ok(Order::Release {
-        folder: text_in(matches, "DIR"),
-        reference,
-        tld,
-        reason,
-        now,
-    })
+    Ok(Deed::Do(Command::Release(reference, tld, reason)))
 }
 
-fn fetch_order<'a>(matches: &ArgMatches<'a>) -> Result<Order<'a>, WordFault>
-    ensures { AnswersReading (FetchReading (rows_of (found_of matches.now))) result }
-{
-    let reference = reference_in(matches)?;
-    Ok(Order::Fetch {
-        folder: text_in(matches, "DIR"),
-        reference,
-        name: text_in(matches, "NAME"),
-    })
-}
-
-fn report_order<'a>(matches: &ArgMatches<'a>) -> Result<Order<'a>, WordFault>
-    ensures { AnswersReading (ReportReading (rows_of (found_of matches.now))) result }
-{
-    let tld = tld_in(matches)?;
-    Ok(Order::Report {
-        folder: text_in(matches, "DIR"),
-        tld,
-    })
-}
-
-fn state_order<'a>(matches: &ArgMatches<'a>) -> Result<Order<'a>, WordFault>
-    ensures { AnswersReading (StateReading (rows_of (found_of matches.now))) result }
-{
-    Ok(Order::State {
-        folder: text_in(matches, "DIR"),
-    })
-}
-
-fn audit_order<'a>(matches: &ArgMatches<'a>) -> Result<Order<'a>, WordFault>
-    ensures { AnswersReading (AuditReading (rows_of (found_of matches.now))) result }
-{
-    Ok(Order::Audit {
-        folder: text_in(matches, "DIR"),
-    })
-}
-
-fn serve_order<'a>(matches: &ArgMatches<'a>) -> Result<Order<'a>, WordFault>
-    ensures { AnswersReading (ServeReading (rows_of (found_of matches.now))) result }
-{
-    let now = now_in(matches)?;
-    Ok(Order::Serve {
-        folder: text_in(matches, "DIR"),
-        port: port_in(matches),
-        requests: count_in(matches, "requests", 1_000_000),
-        now,
-    })
-}
-
-/// The order of a subcommand.
+/// The order that the words of a subcommand give.
 fn order_in<'a>(subcommand: Subcommand, matches: &ArgMatches<'a>) -> Result<Order<'a>, WordFault>
-    ensures { AnswersReading (SubcommandReading (Some subcommand) (rows_of (found_of matches.now))) result }
+    ensures { AnswersAsRead meaning (OrderReading subcommand (rows_of (found_of matches.now))) result }
 {
-    match subcommand {
-        Subcommand::Init => init_order(matches),
-        Subcommand::Register => register_order(matches),
-        Subcommand::Put => put_order(matches),
-        Subcommand::Verify => verify_order(matches),
-        Subcommand::Sweep => sweep_order(matches),
-        Subcommand::Purge => purge_order(matches),
-        Subcommand::Hold => hold_order(matches),
-        Subcommand::Lift => lift_order(matches),
-        Subcommand::Release => release_order(matches),
-        Subcommand::Fetch => fetch_order(matches),
-        Subcommand::Report => report_order(matches),
-        Subcommand::State => state_order(matches),
-        Subcommand::Audit => audit_order(matches),
-        Subcommand::Serve => serve_order(matches),
-    }
+    let deed = deed_in(subcommand, matches)?;
+    let now = now_in(matches)?;
+    let folder = text_in(matches, "DIR");
+    Ok(Order { folder, now, deed })
 }
 
 fn fault_from(error: clap::Error) -> WordFault

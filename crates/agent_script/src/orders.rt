@@ -2,9 +2,9 @@
 use crate::fault::ScriptFault;
 use crate::files::Files;
 use crate::output::Printed;
-use crate::plain_comparison::{Plain, command_of};
+use crate::plain_comparison::Plain;
 use crate::vault::Vault;
-use agent_cli::{Order, act, order_of};
+use agent_cli::{Deed, Order, act, file_name, order_of};
 use answer_lines::{tell, tell_answer};
 use custody::{Custody, Refused, Reply, Silent};
 use custody_machine::Command;
@@ -101,7 +101,7 @@ pub fn words_in(alloc: Global, text: &str) -> Result<Vec<String>, AllocError> {
 
 /// The moment that the words name, if they name one, and else the first of all.
 pub fn moment_of(order: &Order<'_>) -> Option<Sec> {
-    order.named_moment().or(Sec::new(0))
+    order.now.or(Sec::new(0))
 }
 
 fn carry_out<'a, S: Alter + Drop>(
@@ -113,7 +113,7 @@ fn carry_out<'a, S: Alter + Drop>(
     plain: &mut Plain,
     printed: &mut Printed,
 ) -> Result<Vault<S>, ScriptFault> {
-    if let (Order::Init { number, .. }, false) = (order, vault.is_open()) {
+    if let (Deed::Init { number, .. }, false) = (&order.deed, vault.is_open()) {
         let (vault, status) = vault.begin(alloc, *number, &mut printed.out, &mut printed.err)?;
         printed.status = status;
         return Ok(vault);
@@ -140,16 +140,24 @@ fn carry_out_on<'a, S: Alter + Drop>(
     let now = moment_of(order).ok_or(ScriptFault::Line)?;
     let mut custody = custody;
     match way {
-        Way::Program | Way::Twice => serve(alloc, order, file, now, &mut custody, plain, printed)?,
-        Way::Command => ask_order(alloc, order, file, now, &mut custody, plain, printed)?,
+        Way::Program | Way::Twice => serve(
+            alloc,
+            &order.deed,
+            file,
+            now,
+            &mut custody,
+            plain,
+            printed,
+        )?,
+        Way::Command => ask_deed(alloc, &order.deed, file, now, &mut custody, plain, printed)?,
     }
     Ok(Vault::Open(custody))
 }
 
-/// Carries out an order on the custody, and beside it on the plain program.
+/// Does a deed on the custody, and beside it on the plain program.
 fn serve<'a, V: Volume, S: Alter>(
     alloc: Global,
-    order: &Order<'a>,
+    deed: &Deed<'a>,
     file: &'a [u8],
     now: Sec,
     custody: &mut Custody<V, S>,
@@ -157,28 +165,36 @@ fn serve<'a, V: Volume, S: Alter>(
     printed: &mut Printed,
 ) -> Result<(), ScriptFault> {
     let (out, err) = (&mut printed.out, &mut printed.err);
-    printed.status = act(alloc, custody, order, file, now, out, err, &mut Silent);
-    if let Order::Sweep { .. } = order {
-        plain.sweep(alloc, now, printed)?;
-    } else if let Some(command) = command_of(order, file) {
-        plain.follow(alloc, &command, now, printed)?;
+    printed.status = act(alloc, custody, deed, file, now, out, err, &mut Silent);
+    match deed {
+        Deed::Sweep => plain.sweep(alloc, now, printed)?,
+        Deed::Do(command) => plain.follow(alloc, command, now, printed)?,
+        Deed::Put { file: path } => {
+            let command = Command::Receive(file_name(path), file);
+            plain.follow(alloc, &command, now, printed)?;
+        }
+        _ => {}
     }
     compare(custody, plain, printed)
 }
 
-/// Does the one command that an order asks for.
-fn ask_order<'a, V: Volume, S: Alter>(
+/// Does the one command that a deed is.
+fn ask_deed<'a, V: Volume, S: Alter>(
     alloc: Global,
-    order: &Order<'a>,
+    deed: &Deed<'a>,
     file: &'a [u8],
     now: Sec,
     custody: &mut Custody<V, S>,
     plain: &mut Plain,
     printed: &mut Printed,
 ) -> Result<(), ScriptFault> {
-    match command_of(order, file) {
-        Some(command) => ask(alloc, &command, now, custody, plain, printed),
-        None => Err(ScriptFault::Line),
+    match deed {
+        Deed::Do(command) => ask(alloc, command, now, custody, plain, printed),
+        Deed::Put { file: path } => {
+            let command = Command::Receive(file_name(path), file);
+            ask(alloc, &command, now, custody, plain, printed)
+        }
+        _ => Err(ScriptFault::Line),
     }
 }
 

@@ -1,7 +1,6 @@
 //! The plain program of the machine beside the agent: it is to answer and to keep the same.
 use crate::fault::ScriptFault;
 use crate::output::Printed;
-use agent_cli::{Order, file_name};
 use answer_lines::Line;
 use custody_machine::Command;
 use custody_records::{PartKey, Records, Release};
@@ -108,30 +107,6 @@ impl Plain {
                 && records.notices() == self.state.notices.rows()
                 && are_releases(records, &self.state.releases)
                 && records.holds() == self.state.holds.rows()
-    }
-}
-
-/// The command that an order asks for, if it is one.
-pub fn command_of<'a>(order: &Order<'a>, file: &'a [u8]) -> Option<Command<'a>> {
-    match order {
-        Order::Register { tld, first, .. } => Some(Command::Register(*tld, *first)),
-        Order::Put { file: path, .. } => Some(Command::Receive(file_name(path), file)),
-        Order::Verify { statement, .. } => Some(Command::Statement(*statement)),
-        Order::Purge { .. } => Some(Command::Purge),
-        Order::Release {
-            reference,
-            tld,
-            reason,
-            ..
-        } => Some(Command::Release(*reference, *tld, *reason)),
-        Order::Hold {
-            reference,
-            tld,
-            day,
-            ..
-        } => Some(Command::Hold(*reference, *tld, *day)),
-        Order::Lift { reference, .. } => Some(Command::Lift(*reference)),
-        _ => None,
     }
 }
 

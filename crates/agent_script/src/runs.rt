@@ -1,12 +1,11 @@
 //! Runs of the same steps, each broken off otherwise: all of them are to end alike.
 use crate::fault::ScriptFault;
-use crate::orders::moment_of;
 use crate::output::Printed;
 use crate::places::{Place, Trace, Way};
 use crate::plain_comparison::Plain;
 use crate::steps::Step;
 use crate::stopping::{Filling, Script, Stopping};
-use agent_cli::{Order, act};
+use agent_cli::{Deed, act};
 use answer_lines::tell_answer;
 use custody::{Custody, Refused, Reply, Silent};
 use custody_machine::{Command, Failure};
@@ -95,19 +94,12 @@ enum Ending {
     Broken,
 }
 
-/// The steps that all runs do, and the order that prints their state.
-#[derive(Clone, Copy)]
-pub struct Scene<'a> {
-    pub steps: &'a [Step<'a>],
-    pub state: &'a Order<'a>,
-}
-
 /// Begins a vault over a new database, and does the steps, broken off in each of these ways in turn:
 /// after each the vault is opened again, and the steps are done anew from the first on. The last time
 /// they are done to their end.
 pub fn run_over<S: Alter + Drop>(
     alloc: Global,
-    scene: &Scene<'_>,
+    steps: &[Step<'_>],
     ways: &[Way],
     db: Connection<S>,
 ) -> Result<Seen, ScriptFault> {
@@ -119,10 +111,10 @@ pub fn run_over<S: Alter + Drop>(
     };
     let mut machine = Machine::begin(alloc, db)?;
     for way in ways {
-        machine = break_off(alloc, scene.steps, way, machine, &mut plain, &mut seen)?;
+        machine = break_off(alloc, steps, way, machine, &mut plain, &mut seen)?;
         machine = look(alloc, machine, &plain, &mut seen)?;
     }
-    finish(alloc, scene, machine, &mut plain, &mut seen)?;
+    finish(alloc, steps, machine, &mut plain, &mut seen)?;
     Ok(seen)
 }
 
@@ -327,39 +319,34 @@ fn compare<V: Volume, S: Alter>(
 /// The last session: all steps, and then the state is printed.
 fn finish<S: Alter + Drop>(
     alloc: Global,
-    scene: &Scene<'_>,
+    steps: &[Step<'_>],
     machine: Machine<S>,
     plain: &mut Plain,
     seen: &mut Seen,
 ) -> Result<(), ScriptFault> {
     let mut machine = machine;
     machine.volume.follow(Script::Answers);
-    let mut machine = session(alloc, scene.steps, Ending::Whole, machine, plain, seen)?;
+    let mut machine = session(alloc, steps, Ending::Whole, machine, plain, seen)?;
     seen.trace.calls = machine.volume.calls();
     seen.trace.changes = Vec::from_slice(alloc, machine.volume.changes())?;
     machine.volume.restart(alloc, Filling::Ones)?;
     let machine = look(alloc, machine, plain, seen)?;
     match machine.open(alloc)? {
-        Ok(custody) => show_state(alloc, scene, custody, seen),
+        Ok(custody) => show_state(alloc, custody, seen),
         Err((fault, _volume, _db)) => seen.differs(Difference::Opening(fault)),
     }
     Ok(())
 }
 
-fn show_state<S: Alter + Drop>(
-    alloc: Global,
-    scene: &Scene<'_>,
-    custody: Custody<Stopping, S>,
-    seen: &mut Seen,
-) {
+fn show_state<S: Alter + Drop>(alloc: Global, custody: Custody<Stopping, S>, seen: &mut Seen) {
     let mut custody = custody;
     let mut err = Vec::new(alloc);
-    if let Some(now) = moment_of(scene.state) {
+    if let Some(now) = Sec::new(0) {
         let (out, err) = (&mut seen.state, &mut err);
         let _status = act(
             alloc,
             &mut custody,
-            scene.state,
+            &Deed::State,
             &[],
             now,
             out,

@@ -1,7 +1,6 @@
 //! Sessions, and openings over what a stop has left of them: the calls that the headline is about.
 use crate::fault::ScriptFault;
 use crate::stopping::BLOCK;
-use custody::sessions::{begin_run_and_reopen, new_database, open_run_and_reopen};
 use custody::{Custody, Refused, Reply};
 use custody_machine::Command;
 use deposit_name::Tld;
@@ -10,6 +9,7 @@ use schedule::{Day, Sec, read_day, read_moment};
 use sqlite::{Alter, Connection};
 use std::alloc::Global;
 use std::io::{self, Write};
+use theorems::sessions::{begin_run_and_reopen, new_database, open_run_and_reopen};
 use vault_volume::{MemVolume, Volume};
 
 const BLOCKS: u32 = 8;

@@ -2,8 +2,7 @@
 use crate::fault::ScriptFault;
 use crate::files::Files;
 use crate::orders::{call_of, check_in, moment_of};
-use crate::plain_comparison::command_of;
-use agent_cli::order_of;
+use agent_cli::{Deed, Order, file_name, order_of};
 use custody_machine::Command;
 use deposit_name::Tld;
 use schedule::{Day, Sec};
@@ -29,8 +28,11 @@ impl<'a> Step<'a> {
         let Ok(order) = order_of(alloc, self.words.as_slice()) else {
             return None;
         };
-        match (command_of(&order, self.file), moment_of(&order)) {
-            (Some(command), Some(now)) => Some((command, now)),
+        let now = moment_of(&order)?;
+        let Order { deed, .. } = order;
+        match deed {
+            Deed::Do(command) => Some((command, now)),
+            Deed::Put { file } => Some((Command::Receive(file_name(file), self.file), now)),
             _ => None,
         }
     }

@@ -1,11 +1,9 @@
 //! Examples whose steps are broken off at every place, and then at every place once more.
 use crate::fault::ScriptFault;
 use crate::files::Files;
-use crate::orders::words_in;
 use crate::places::{Trace, Way};
-use crate::runs::{Difference, Scene, Seen, run_over};
-use crate::steps::steps_in;
-use agent_cli::order_of;
+use crate::runs::{Difference, Seen, run_over};
+use crate::steps::{Step, steps_in};
 use sqlite::Connection;
 use std::alloc::{AllocError, Global};
 use std::io::{self, Write};
@@ -55,15 +53,7 @@ pub fn play_everywhere<W: Write>(
     let (first, lines) = example.split_once('\n').ok_or(ScriptFault::Line)?;
     let (cause, share) = cause_in(first).ok_or(ScriptFault::Line)?;
     let steps = steps_in(alloc, lines, files)?;
-    let words = words_in(alloc, "escrow state d")?;
-    let Ok(state) = order_of(alloc, words.as_slice()) else {
-        return Err(ScriptFault::Line);
-    };
-    let scene = Scene {
-        steps: &steps,
-        state: &state,
-    };
-    let tally = try_all(alloc, cause, share, &scene, out)?;
+    let tally = try_all(alloc, cause, share, &steps, out)?;
     show(&tally, out)?;
     Ok(())
 }
@@ -82,9 +72,9 @@ fn cause_in(line: &str) -> Option<(Cause, Share)> {
 }
 
 /// One run over a new database.
-fn run(alloc: Global, scene: &Scene<'_>, ways: &[Way]) -> Result<Seen, ScriptFault> {
+fn run(alloc: Global, steps: &[Step<'_>], ways: &[Way]) -> Result<Seen, ScriptFault> {
     let db = Connection::open_in_memory(alloc)?;
-    run_over(alloc, scene, ways, db)
+    run_over(alloc, steps, ways, db)
 }
 
 /// The ways in which a session is broken off that would have done this.
@@ -100,7 +90,7 @@ fn try_all<W: Write>(
     alloc: Global,
     cause: Cause,
     share: Share,
-    scene: &Scene<'_>,
+    steps: &[Step<'_>],
     out: &mut W,
 ) -> Result<Tally, ScriptFault> {
     let mut tally = Tally {
@@ -109,18 +99,18 @@ fn try_all<W: Write>(
         made: 0,
         differing: 0,
     };
-    let whole = run(alloc, scene, &[])?;
+    let whole = run(alloc, steps, &[])?;
     tell_whole(&whole, out)?;
     for way in &ways_of(alloc, cause, &whole.trace)? {
         tally.once = tally.once.saturating_add(1);
-        let seen = run(alloc, scene, &[*way])?;
+        let seen = run(alloc, steps, &[*way])?;
         tell(&seen, &whole, &[*way], &mut tally, out)?;
         try_again(
             alloc,
             way,
             cause,
             share,
-            scene,
+            steps,
             &seen.trace,
             &whole,
             &mut tally,
@@ -136,7 +126,7 @@ fn try_again<W: Write>(
     first: &Way,
     cause: Cause,
     share: Share,
-    scene: &Scene<'_>,
+    steps: &[Step<'_>],
     trace: &Trace,
     whole: &Seen,
     tally: &mut Tally,
@@ -146,7 +136,7 @@ fn try_again<W: Write>(
         let ways = [*first, *second];
         if share.has(tally.twice) {
             tally.made = tally.made.saturating_add(1);
-            let seen = run(alloc, scene, &ways)?;
+            let seen = run(alloc, steps, &ways)?;
             tell(&seen, whole, &ways, tally, out)?;
         }
         tally.twice = tally.twice.saturating_add(1);

@@ -20,9 +20,9 @@ use Rattle.sqlite.specs.Store.{Ghosts}
 use Rattle.sqlite.specs.Held.{Held}
 use Rattle.sqlite.specs.State.{State}
 use Rattle.answer_lines.specs.Printing.{Writer}
-use Rattle.agent_cli.specs.Order.{meaning, named_moment}
+use Rattle.agent_cli.specs.declared.order.Deed.{Deed}
+use Rattle.agent_cli.specs.declared.order.Deed.TheVariants as deed
 use Rattle.agent_cli.specs.declared.order.Order.{Order}
-use Rattle.agent_cli.specs.declared.order.Order.TheVariants as order
 use Rattle.escrow.specs.VaultCalls.{
   HasServedConnections,
   HasPrintedReady,
@@ -52,8 +52,8 @@ module _ {S : Type 0} (g : volume.Ghosts FileVolume) (database : Ghosts S) (volu
   pub record ActsInFolder (order : Order) (bytes : List ℕ) : Type 0 where
     pub now : ℕ
     pub found : is_new_file volume ≡ false
-    pub moment : IfSome (named_moment (meaning order)) (λ named. now ≡ named)
-    pub ends : MatchOption vault (HasPrintedOpenFailure g database volume db status output errors) (λ v. IsCarriedOut g database volume db order bytes now status v.0 v.1 output errors)
+    pub moment : IfSome order.now (λ named. now ≡ named)
+    pub ends : MatchOption vault (HasPrintedOpenFailure g database volume db status output errors) (λ v. IsCarriedOut g database volume db order.deed bytes now status v.0 v.1 output errors)
 
   -- the files were found, and so many connections at most were answered at this port, or no agent was opened
   pub record ServesFolder (port requests : ℕ) (given : Option ℕ) : Type 0 where
@@ -62,10 +62,13 @@ module _ {S : Type 0} (g : volume.Ghosts FileVolume) (database : Ghosts S) (volu
 
   -- each order does its own; the bytes of a `put` are those that were read
   abbrev pub IsOrderDone : (List ℕ → Type 0) → Order → Type 0
-  IsOrderDone IsRead (order.Init folder blocks number) = InitsFolder blocks number
-  IsOrderDone IsRead (order.Put folder file now) = (bytes : List ℕ) × IsRead bytes × ActsInFolder (order.Put folder file now) bytes
-  IsOrderDone IsRead (order.Serve folder port requests now) = ServesFolder port requests now
-  IsOrderDone IsRead other = ActsInFolder other []
+  IsOrderDone IsRead order = by order.deed
+    where
+      by : Deed → Type 0
+      by (deed.Init blocks number) = InitsFolder blocks number
+      by (deed.Put file) = (bytes : List ℕ) × IsRead bytes × ActsInFolder order bytes
+      by (deed.Serve port requests) = ServesFolder port requests order.now
+      by other = ActsInFolder order []
 
 -- an order was done over a volume and a database, with this status
 pub record IsObeyed {S R : Type 0} (g : volume.Ghosts FileVolume) (database : Ghosts S) (remaining : R → Option (List ℕ)) (volume : FileVolume) (db : Held S) (order : Order) (status : ℕ) : Type 0 where

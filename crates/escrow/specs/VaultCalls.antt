@@ -16,17 +16,17 @@ use Rattle.answer_lines.specs.Printing.{WritesBeginning, IsUnused, WritesWholeAt
 use Rattle.answer_lines.specs.Statuses.{IsStatusAfter, init_status}
 use Rattle.answer_lines.specs.declared.lines.Line.TheVariants.{Listening, Ready}
 use Rattle.agent_cli.specs.Acts.{Acts}
-use Rattle.agent_cli.specs.declared.order.Order.{Order}
-use Rattle.http_serve.specs.Connections.{AreConnections}
+use Rattle.agent_cli.specs.declared.order.Deed.{Deed}
+use Rattle.http_api.specs.Connections.{AreConnections}
 
 module _ {V S : Type 0} (g : volume.Ghosts V) (database : Ghosts S) (volume : V) (db : Held S) where
-  -- an agent was opened, the order was carried out on it, and volume and database are handed back as it left them
-  pub record IsCarriedOut (order : Order) (bytes : List ℕ) (now status : ℕ) (later : V) (then : Held S) (output errors : Writer) : Type 0 where
+  -- an agent was opened, the deed was done on it, and volume and database are handed back as it left them
+  pub record IsCarriedOut (deed : Deed) (bytes : List ℕ) (now status : ℕ) (later : V) (then : Held S) (output errors : Writer) : Type 0 where
     pub old : Custody V S g database
     pub new : Custody V S g database
     pub opened : IsOpened g database volume db old
     pub loaded : IsLoaded g database volume db old
-    pub acts : Acts order bytes now old new status output errors
+    pub acts : Acts deed bytes now old new status output errors
     pub volume_is : later ≡ volume_of (open_custody_of new).vault
     pub store_is : then ≡ (open_custody_of new).store
 

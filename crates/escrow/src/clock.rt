@@ -2,12 +2,11 @@
 ghost use Rattle.std.specs.Prelude.{◌≡◌, IfErr};
 
 use crate::errors::ProgramError;
-use http_serve::moment_of;
 use schedule::Sec;
 
 /// The moment of now.
 pub fn now(rt: &HostRuntime) -> Result<Sec, ProgramError>
     ensures { IfErr result (λ error. error ≡ ProgramError.Clock) }
 {
-    moment_of(rt).ok_or(ProgramError::Clock)
+    Sec::of_clock(rt).ok_or(ProgramError::Clock)
 }

@@ -10,7 +10,7 @@ ghost use Rattle.escrow.specs.Folder.{IsPartRead, ListsNothing};
 
 use crate::errors::ProgramError;
 use crate::vault_calls::CallEnd;
-use agent_cli::Order;
+use agent_cli::{Deed, Order};
 use custody::has_record;
 use custody_machine::Failure;
 use custody_store::has_any_table;
@@ -40,10 +40,10 @@ const READ_BYTES: u64 = 1_048_577;
 pub fn open_part(rt: &HostRuntime, order: &Order<'_>) -> Result<Option<fs::File>, ProgramError>
     ensures { IfErr result IsOfVault }
 {
-    let Order::Put { file, .. } = order else {
+    let Deed::Put { file } = order.deed else {
         return Ok(None);
     };
-    match fs::File::open(rt, *file) {
+    match fs::File::open(rt, file) {
         Ok(part) => Ok(Some(part)),
         Err(error) => Err(ProgramError::by_file(rt.alloc(), file, error)),
     }

@@ -17,7 +17,6 @@ ghost use Rattle.sqlite.specs.Files.{over_files};
 ghost use Rattle.std.specs.Io.KnownBytes.{Appends};
 ghost use Rattle.answer_lines.specs.Printing.{WritesBeginning, IsUnused};
 ghost use Rattle.agent_cli.specs.Faults.{IsStatusOf};
-ghost use Rattle.agent_cli.specs.Order.{meaning, named_moment};
 ghost use Rattle.agent_cli.specs.declared.order.Order.{Order};
 ghost use Rattle.escrow.specs.Calls.{AskFor, EndsCall, IsObeyedInFolder};
 ghost use Rattle.escrow.specs.Errors.{IsProgramFailure, IsErrorPrinted, error_line};
@@ -31,7 +30,7 @@ mod streams;
 mod terminal;
 mod vault_calls;
 
-use agent_cli::{Order, WordFault, order_of};
+use agent_cli::{Deed, Order, WordFault, order_of};
 use answer_lines::{WriteFailed, failure_bytes, write_whole};
 use custody_machine::{ExitStatus, Failure};
 use errors::ProgramError;
@@ -84,11 +83,11 @@ fn tell_error<E: Write>(error: &ProgramError, err: &mut E) -> u8
 
 /// The moment that the words name, or else that of the clock.
 fn moment_of(rt: &HostRuntime, order: &Order<'_>) -> Result<Sec, ProgramError>
-    ensures named { IfSome (named_moment (meaning order.now)) (λ now. result ≡ Ok now) }
-    ensures found { IfOk result (λ now. IfSome (named_moment (meaning order.now)) (λ moment. now ≡ moment)) }
+    ensures named { IfSome order.entry.now.now (λ now. result ≡ Ok now) }
+    ensures found { IfOk result (λ now. IfSome order.entry.now.now (λ moment. now ≡ moment)) }
     ensures error { IfErr result (λ error. error ≡ ProgramError.Clock) }
 {
-    match order.named_moment() {
+    match order.now {
         Some(now) => Ok(now),
         None => clock::now(rt),
     }
@@ -97,20 +96,28 @@ fn moment_of(rt: &HostRuntime, order: &Order<'_>) -> Result<Sec, ProgramError>
 /// Carries out an order on the vault of a folder, at its moment.
 fn act_in_folder<W: Write, E: Write>(
     rt: &HostRuntime,
-    folder: &str,
     order: &Order<'_>,
     file: &[u8],
     out: &mut W,
     err: &mut E,
 ) -> Result<FolderCallEnd, ProgramError>
-    ensures done { IfOk result (λ ended. (files : OpenFolder) × ActsInFolder ⟦<FileVolume as Volume>⟧ over_files files.volume files.db ended.status ended.vault (record { before = W.contents out.old; after = W.contents out.new }) (record { before = E.contents err.old; after = E.contents err.new }) order.now file.now) }
+    ensures done { IfOk result (λ ended. (files : OpenFolder) × ActsInFolder ⟦<FileVolume as Volume>⟧ over_files files.volume files.db ended.status ended.vault (record { before = W.contents out.old; after = W.contents out.new }) (record { before = E.contents err.old; after = E.contents err.new }) order.entry.now file.now) }
     ensures error { IfErr result IsProgramFailure }
 {
     let now = moment_of(rt, order)?;
-    let found = open_folder(rt, folder)?;
+    let found = open_folder(rt, order.folder)?;
     let files = (found.volume, found.db);
-    let mut progress = Terminal::of(rt, order);
-    Ok(open_and_act(rt.alloc(), files, order, file, now, out, err, &mut progress))
+    let mut progress = Terminal::of(rt, &order.deed);
+    Ok(open_and_act(
+        rt.alloc(),
+        files,
+        &order.deed,
+        file,
+        now,
+        out,
+        err,
+        &mut progress,
+    ))
 }
 
 /// Carries out an order over the files of its folder, which are to be closed then. `part` is the file that
@@ -122,50 +129,36 @@ fn carry_out<R: Read + Drop, W: Write, E: Write>(
     out: &mut W,
     err: &mut E,
 ) -> Result<FolderCallEnd, ProgramError>
-    ensures done { IfOk result (λ ended. (files : OpenFolder) × IsOrderDone ⟦<FileVolume as Volume>⟧ over_files files.volume files.db ended.status ended.vault (record { before = W.contents out.old; after = W.contents out.new }) (record { before = E.contents err.old; after = E.contents err.new }) (IsPartRead R.remaining part) order.now) }
+    ensures done { IfOk result (λ ended. (files : OpenFolder) × IsOrderDone ⟦<FileVolume as Volume>⟧ over_files files.volume files.db ended.status ended.vault (record { before = W.contents out.old; after = W.contents out.new }) (record { before = E.contents err.old; after = E.contents err.new }) (IsPartRead R.remaining part) order.entry.now) }
     ensures error { IfErr result IsProgramFailure }
 {
-    match order {
-        Order::Init {
-            folder,
-            blocks,
-            number,
-        } => {
-            let made = create_folder(rt, folder, *blocks)?;
+    match order.deed {
+        Deed::Init { blocks, number } => {
+            let made = create_folder(rt, order.folder, blocks)?;
             let files = (made.volume, made.db);
-            Ok(init_vault(rt.alloc(), files, *blocks, *number, out, err))
+            Ok(init_vault(rt.alloc(), files, blocks, number, out, err))
         }
-        Order::Put { folder, file, .. } => {
+        Deed::Put { file } => {
             let bytes = read_part(rt.alloc(), file, part)?;
-            act_in_folder(rt, folder, order, &bytes, out, err)
+            act_in_folder(rt, order, &bytes, out, err)
         }
-        Order::Register { folder, .. }
-        | Order::Verify { folder, .. }
-        | Order::Sweep { folder, .. }
-        | Order::Purge { folder, .. }
-        | Order::Hold { folder, .. }
-        | Order::Lift { folder, .. }
-        | Order::Release { folder, .. }
-        | Order::Fetch { folder, .. }
-        | Order::Report { folder, .. }
-        | Order::State { folder }
-        | Order::Audit { folder } => act_in_folder(rt, folder, order, &[], out, err),
-        Order::Serve {
-            folder,
-            port,
-            requests,
-            now,
-        } => {
-            let found = open_folder(rt, folder)?;
+        Deed::Serve { port, requests } => {
+            let found = open_folder(rt, order.folder)?;
             let files = (found.volume, found.db);
-            Ok(serve(rt, files, *port, *requests, *now, out, err))
+            Ok(serve(rt, files, port, requests, order.now, out, err))
         }
+        Deed::Do(_)
+        | Deed::Sweep
+        | Deed::Fetch { .. }
+        | Deed::Report { .. }
+        | Deed::State
+        | Deed::Audit => act_in_folder(rt, order, &[], out, err),
     }
 }
 
 /// Carries out an order, closes the files of its folder, and answers its status.
 fn obey(rt: &HostRuntime, order: &Order<'_>) -> Result<u8, ProgramError>
-    ensures done { IfOk result (IsObeyedInFolder ⟦<FileVolume as Volume>⟧ ⟦<std::fs::File as Read>⟧.remaining order.now) }
+    ensures done { IfOk result (IsObeyedInFolder ⟦<FileVolume as Volume>⟧ ⟦<std::fs::File as Read>⟧.remaining order.entry.now) }
     ensures error { IfErr result IsProgramFailure }
 {
     let _streams = hold_streams(rt)?;

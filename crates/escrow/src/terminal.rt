@@ -1,7 +1,7 @@
 //! How far a call is, for those who look on.
 ghost use Rattle.std.specs.Prelude.{◌<◌};
 
-use agent_cli::Order;
+use agent_cli::Deed;
 use custody::Progress;
 use std::fs;
 use std::io::{Stderr, Write};
@@ -36,12 +36,12 @@ pub struct Terminal {
 }
 
 impl Terminal {
-    pub fn of(rt: &HostRuntime, order: &Order<'_>) -> Terminal {
+    pub fn of(rt: &HostRuntime, deed: &Deed<'_>) -> Terminal {
         Terminal {
             err: rt.stderr(),
             is_there: is_terminal(rt),
-            step: match order {
-                Order::Audit { .. } => StepKind::Block,
+            step: match deed {
+                Deed::Audit => StepKind::Block,
                 _ => StepKind::Day,
             },
             done: 0,

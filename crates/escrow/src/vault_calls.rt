@@ -1,5 +1,5 @@
 //! What a call does over a volume and a database, of whatever kinds they are.
-ghost use Rattle.std.specs.Prelude.{◌≡◌, ◌-◌, ◌^◌, ◌<◌, ◌≤◌, ℕ, IfSome, MatchOption};
+ghost use Rattle.std.specs.Prelude.{◌≡◌, ◌-◌, ◌^◌, ◌<◌, ◌≤◌, ℕ, MatchOption};
 ghost use Rattle.answer_lines.specs.Lines.{line_text};
 ghost use Rattle.answer_lines.specs.Printing.{WritesWholeAt, as_line};
 ghost use Rattle.answer_lines.specs.Statuses.{IsStatusAfter};
@@ -10,15 +10,13 @@ ghost use Rattle.escrow.specs.VaultCalls.{
   HasPrintedInitError,
   HasPrintedOpenFailure,
 };
-ghost use Rattle.agent_cli.specs.Order.{meaning, named_moment};
-ghost use Rattle.http_serve.specs.Connections.{AreConnections};
+ghost use Rattle.http_api.specs.Connections.{AreConnections};
 
-use agent_cli::{Order, act};
+use agent_cli::{Deed, act};
 use answer_lines::{Line, VolumeNumber, print_line, tell, tell_init};
 use custody::{Custody, Progress};
 use custody_machine::{ExitStatus, Failure};
-use http_api::Api;
-use http_serve::{ServiceError, serve_connections};
+use http_api::{Api, ServiceError, serve_connections};
 use schedule::Sec;
 use sqlite::{Alter, Connection};
 use std::alloc::Global;
@@ -60,22 +58,21 @@ pub fn init_vault<V: Volume, S: Alter + Drop, W: Write, E: Write>(
     }
 }
 
-/// Opens a vault, and carries out an order on it, at the moment that its words name, where they name one.
+/// Opens a vault, and does a deed on it.
 pub fn open_and_act<V: Volume, S: Alter + Drop, W: Write, E: Write, P: Progress>(
     alloc: Global,
     files: (V, Connection<S>),
-    order: &Order<'_>,
+    deed: &Deed<'_>,
     file: &[u8],
     now: Sec,
     out: &mut W,
     err: &mut E,
     progress: &mut P,
 ) -> CallEnd<V, S>
-    requires failures { V.failures files.0 < 2 ^ 64 - 1 }
-    requires moment { IfSome (named_moment (meaning order.now)) (λ moment. now ≡ moment) }
+    requires { V.failures files.0 < 2 ^ 64 - 1 }
     ensures { MatchOption result.vault
         (HasPrintedOpenFailure V.Volume S.Store files.0 files.1 result.status (record { before = W.contents out.old; after = W.contents out.new }) (record { before = E.contents err.old; after = E.contents err.new }))
-        (λ v. IsCarriedOut V.Volume S.Store files.0 files.1 order.now file.now now result.status v.0 v.1 (record { before = W.contents out.old; after = W.contents out.new }) (record { before = E.contents err.old; after = E.contents err.new })) }
+        (λ v. IsCarriedOut V.Volume S.Store files.0 files.1 deed.now file.now now result.status v.0 v.1 (record { before = W.contents out.old; after = W.contents out.new }) (record { before = E.contents err.old; after = E.contents err.new })) }
 {
     let (volume, db) = files;
     let mut custody = match Custody::open(alloc, volume, db) {
@@ -87,7 +84,7 @@ pub fn open_and_act<V: Volume, S: Alter + Drop, W: Write, E: Write, P: Progress>
             };
         }
     };
-    let status = act(alloc, &mut custody, order, file, now, out, err, progress);
+    let status = act(alloc, &mut custody, deed, file, now, out, err, progress);
     CallEnd {
         status,
         vault: Some(custody.close()),

@@ -5,4 +5,4 @@ use Rattle.agent_cli.proofs.acting.act.Goals as goal
 pub returns-in-Put-clause-acts : goal.returns-in-Put-clause-acts
 returns-in-Put-clause-acts g c =
     rw c.in-Put.is (rw (sym c.file_name.ensures)
-    (c.apply-answer-in-Put.result, c.apply-answer-in-Put.ensures, c.tell_answer-in-Put.ensures.status, c.tell_answer-in-Put.ensures.told))
+    (c.apply-answer.result, c.apply-answer.ensures, c.tell_answer.ensures.status, c.tell_answer.ensures.told))

@@ -3,7 +3,7 @@ use Rattle.std.specs.String.{string_bytes}
 use Rattle.clap.specs.Words.{App, HasKind, fault_of, found_of, is_simple, rows_of, subcommand_of}
 use Rattle.clap.specs.Faults.{is_simple_and_free}
 use Rattle.agent_cli.specs.Order.{ReadsWords, SubcommandReading, subcommand_named}
-use Rattle.agent_cli.proofs.Readings.{answers_as, fault_answers, knows_subcommand, met_asks, met_rows}
+use Rattle.agent_cli.proofs.Readings.{fault_answers, knows_subcommand, met_asks, met_rows, order_answers}
 use Rattle.agent_cli.proofs.words.order_of.Goals as goal
 
 pub returns-in-Err : goal.returns-in-Err
@@ -22,7 +22,7 @@ returns c =
     let met = met_rows c.in-Ok.matches c.in-Some.name.now rows c.in-Some.ensures.name c.in-Some.ensures.rows in
     let sub = (c.in-Ok.ensures.matches (ap is_simple app)).1 ∙ ap (λ (a : App). subcommand_of a words) app in
     let known : Some c.in-Some-named.subcommand ≡ subcommand_named c.in-Some.name.now = sym c.in-Some-named.is ∙ c.named.ensures in
-    answers_as (SubcommandReading (Some c.in-Some-named.subcommand) rows) (ReadsWords words)
+    order_answers c.in-Some-named.subcommand rows (ReadsWords words)
     (λ r h. met_asks words c.in-Some.name.now rows none (sym sub ∙ met) r (subst (λ o. SubcommandReading o rows r) known h)) c.order_in.result c.order_in.ensures
 
 pub unreachable-requires-in-None : goal.unreachable-requires-in-None

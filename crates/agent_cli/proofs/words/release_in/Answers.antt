@@ -1,0 +1,15 @@
+use Rattle.std.proofs.Common.{refl, inl, inr}
+use Rattle.clap.specs.Words.{found_of, rows_of}
+use Rattle.agent_cli.specs.Order.{DeedReading, deed_meaning}
+use Rattle.agent_cli.specs.declared.order.Argument.TheVariants as argument
+use Rattle.agent_cli.specs.declared.subcommands.Subcommand.TheVariants as subcommand
+use Rattle.agent_cli.proofs.Readings.{bad_answers}
+use Rattle.agent_cli.proofs.words.release_in.Goals as goal
+
+pub returns-in_err-reason : goal.returns-in_err-reason
+returns-in_err-reason c =
+    bad_answers deed_meaning (DeedReading subcommand.Release (rows_of (found_of c.args.matches.now))) argument.Ground _ c.in_err-reason.ensures.0 c.from_residual-in_err-reason.result c.from_residual-in_err-reason.ensures.1
+    (inl (c.in_ok-tld.tld, c.in_ok-tld.ensures, inl (c.in_ok-reference.reference, c.in_ok-reference.ensures, inr (c.in_err-reason.ensures.1, refl))))
+
+pub returns : goal.returns
+returns c = inl (c.in_ok-tld.tld, c.in_ok-tld.ensures, inl (c.in_ok-reference.reference, c.in_ok-reference.ensures, inl (c.in_ok-reason.reason, c.in_ok-reason.ensures, refl)))
