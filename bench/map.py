@@ -1,14 +1,14 @@
 #!/usr/bin/env python3
 """Times the map of a volume of 262,144 blocks: making it, and placing 256 blocks in it.
 
-Run `rt run` in crates/map_bench first. Then: python3 bench/map.py
+Run `rt run` in crates/bench_tools first. Then: python3 bench/map.py
 """
 import pathlib
 import subprocess
 import sys
 import time
 
-PROGRAM = pathlib.Path(__file__).resolve().parent.parent / "crates/map_bench/out/map_bench"
+PROGRAM = pathlib.Path(__file__).resolve().parent.parent / "crates/bench_tools/out/bench_tools"
 RUNS = 5
 
 # What is timed, the program's word, how often, what it prints at once and a limit in microseconds.
@@ -23,7 +23,7 @@ ROWS = [
 def seconds(kind, times):
     """The seconds of a run, and what it prints."""
     start = time.perf_counter()
-    answer = subprocess.run([PROGRAM, kind, str(times)], capture_output=True, text=True, check=True).stdout.strip()
+    answer = subprocess.run([PROGRAM, "map", kind, str(times)], capture_output=True, text=True, check=True).stdout.strip()
     return time.perf_counter() - start, answer
 
 

@@ -1,7 +1,7 @@
 #!/usr/bin/env python3
 """Times the reading of tables against Python's csv module, and measures the memory that a reading takes.
 
-Run `rt run` in crates/format_bench first. Then: python3 bench/tables.py
+Run `rt run` in crates/bench_tools first. Then: python3 bench/tables.py
 """
 import csv
 import io
@@ -13,7 +13,7 @@ import subprocess
 import tempfile
 import time
 
-PROGRAM = pathlib.Path(__file__).resolve().parent.parent / "crates/format_bench/out/format_bench"
+PROGRAM = pathlib.Path(__file__).resolve().parent.parent / "crates/bench_tools/out/bench_tools"
 SIZE = 8 * 1024 * 1024
 TIMES = 20
 RUNS = 5
@@ -50,7 +50,7 @@ def run(table, path, times, limit=None):
             resource.setrlimit(resource.RLIMIT_AS, (limit, limit))
 
     start = time.perf_counter()
-    child = subprocess.Popen([PROGRAM, table, path, str(times)], stdout=subprocess.PIPE, stderr=subprocess.DEVNULL, preexec_fn=limited)
+    child = subprocess.Popen([PROGRAM, "table", table, path, str(times)], stdout=subprocess.PIPE, stderr=subprocess.DEVNULL, preexec_fn=limited)
     answer = child.stdout.read().decode().strip()
     _, _, used = os.wait4(child.pid, 0)
     child.returncode = 0

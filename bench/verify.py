@@ -2,7 +2,7 @@
 """Times the verification of a full deposit against a Python program that makes the same checks, and that of deposits
 that are sent to harm. Where the first file is no UTF-8, what is left is the frame, the envelope and SHA-256.
 
-Run `rt run` in crates/format_bench first. Then: python3 bench/verify.py
+Run `rt run` in crates/bench_tools first. Then: python3 bench/verify.py
 """
 import csv
 import datetime
@@ -18,7 +18,7 @@ import sys
 import tempfile
 import time
 
-PROGRAM = pathlib.Path(__file__).resolve().parent.parent / "crates/format_bench/out/format_bench"
+PROGRAM = pathlib.Path(__file__).resolve().parent.parent / "crates/bench_tools/out/bench_tools"
 SIZE = 8 * 1024 * 1024
 TIMES = 10
 RUNS = 5
@@ -213,7 +213,7 @@ def hostile():
 def run(path, times):
     """The answer of the program, and its time in seconds."""
     start = time.perf_counter()
-    answer = subprocess.run([PROGRAM, "deposit", path, str(times), NAME, ID, "-"], capture_output=True, check=True).stdout
+    answer = subprocess.run([PROGRAM, "verify", path, str(times), NAME, ID, "-"], capture_output=True, check=True).stdout
     return answer.decode().strip(), time.perf_counter() - start
 
 
@@ -223,7 +223,7 @@ LAUNCH = "import os, subprocess, sys; child = subprocess.Popen(sys.argv[1:], std
 
 def peak(path):
     """The program's peak memory for one deposit, in bytes."""
-    words = [sys.executable, "-S", "-c", LAUNCH, PROGRAM, "deposit", path, "1", NAME, ID, "-"]
+    words = [sys.executable, "-S", "-c", LAUNCH, PROGRAM, "verify", path, "1", NAME, ID, "-"]
     return int(subprocess.run(words, capture_output=True, check=True).stdout) * 1024
 
 

@@ -73,16 +73,17 @@ class Elf:
 
 @dataclass(frozen=True)
 class Program:
-    """A program, the address of its first instruction, and the places of its calls' addresses, as its file has them."""
+    """A program with its words, the address of its first instruction, and the places of its calls' addresses, as its file has them."""
 
     path: str
+    words: tuple
     entry: int
     places: dict
 
     @staticmethod
-    def of(path):
+    def of(path, *words):
         file = Elf(Path(path).read_bytes())
-        return Program(str(path), file.entry, {name: place for name, place in file.relocations() if name in CALLS})
+        return Program(str(path), words, file.entry, {name: place for name, place in file.relocations() if name in CALLS})
 
 
 class Run:
@@ -91,7 +92,7 @@ class Run:
     def __init__(self, program, given, output, counts):
         self.program = program
         self.process = subprocess.Popen(
-            [program.path],
+            [program.path, *program.words],
             stdin=given,
             stdout=output,
             stderr=subprocess.DEVNULL,

@@ -3,14 +3,15 @@
 
     tests/memory.py [texts | calls] [--every N] [--only K]
 
-- `texts` runs `text_answers`, each line of which is an answer. With an allocation refused a line has to be the one that
-  is printed with none refused, or to end in a want of memory.
+- `texts` runs `bench_tools texts`, each line of which is an answer. With an allocation refused a line has to be the one
+  that is printed with none refused, or to end in a want of memory. The allocations for the program's own words, as many
+  as a run makes that only prints its usage, are not refused.
 - `calls` runs `agent_script` over each of its worked examples that does a call once more where memory was wanting
   (`! insist`, `! resend`). It has to print what it prints with none refused; or the script itself, and not the agent,
   finds no memory, and the program ends with status 1 and the beginning of it.
 
 Without a word both are run. `--every N` refuses each Nth allocation alone, `--only K` tries the Kth example alone. Run
-`rt run` in crates/text_answers and in crates/agent_script first. The allocations are counted where they are made, in the
+`rt run` in crates/bench_tools and in crates/agent_script first. The allocations are counted where they are made, in the
 program that was built (tests/allocations.py), since `rt try --fail-alloc` builds a program anew for each of them. The last
 line is `N passed, M failed, K skipped`, of runs; the status is 0 where nothing failed. Where the machine is no Linux on
 x86-64, or lets no program be traced, a line says so, and nothing is tried.
@@ -48,13 +49,16 @@ def refuse(asked):
     return f"{call} {n}", status, text
 
 
-def run_all(path, given, every):
-    """The status and the output with no allocation refused, how many there are, and the runs with one refused."""
-    program = Program.of(path)
+def run_all(program, given, every, before):
+    """The status and the output with no allocation refused, how many there are, and the runs with one refused.
+
+    So many of each call as `before` tells are made before the first line, and neither counted nor refused.
+    """
     made, *base = run_once(program, given, {}, is_counted=True)
-    asked = [(program, given, call, n) for call, count in made.items() for n in range(1, 1 + count, every)]
+    asked = [(program, given, call, before.get(call, 0) + n)
+             for call, count in made.items() for n in range(1, 1 + count - before.get(call, 0), every)]
     with multiprocessing.Pool() as lanes:
-        return base, sum(made.values()), lanes.map(refuse, asked, chunksize=16)
+        return base, sum(made.values()) - sum(before.values()), lanes.map(refuse, asked, chunksize=16)
 
 
 def faults_of_texts(base, run):
@@ -92,11 +96,17 @@ def examples():
             yield "\n".join(line for name in named for line in files[name]) + "\n\n" + example + "\n"
 
 
-def try_all(title, program, given, every, judge):
+def program_of(name, *words):
+    """The program of a crate, with these words."""
+    path = CRATES / name / "out" / name
+    if not os.access(path, os.X_OK):
+        sys.exit(f"no program at {path}: run rt run in crates/{name}")
+    return Program.of(path, *words)
+
+
+def try_all(title, program, given, every, judge, before={}):
     """Makes the runs over these lines, prints what they came to, and answers how many passed and failed, and the wants."""
-    if not os.access(program, os.X_OK):
-        sys.exit(f"no program at {program}: run rt run in crates/{program.name}")
-    base, allocations, runs = run_all(program, given, every)
+    base, allocations, runs = run_all(program, given, every, before)
     judged = [judge(base, run) for run in runs]
     wants = [count for count, _ in judged]
     faults = [fault for _, faults in judged for fault in faults]
@@ -112,14 +122,14 @@ def try_all(title, program, given, every, judge):
 
 
 def try_texts(every):
-    program = CRATES / "text_answers/out/text_answers"
-    passed, failed, wants = try_all("texts", program, "", every, faults_of_texts)
+    before, *_ = run_once(program_of("bench_tools", "usage"), "", {}, is_counted=True)
+    passed, failed, wants = try_all("texts", program_of("bench_tools", "texts"), "", every, faults_of_texts, before)
     print(f"    answers for want of memory: none in {wants.count(0)} runs, one in {wants.count(1)}")
     return passed, failed
 
 
 def try_calls(every, only):
-    program, all_passed, all_failed = CRATES / "agent_script/out/agent_script", 0, 0
+    program, all_passed, all_failed = program_of("agent_script"), 0, 0
     for number, given in enumerate(examples(), 1):
         if only in (None, number):
             title = re.search(r"^# (.*)$", given, re.M)[1]

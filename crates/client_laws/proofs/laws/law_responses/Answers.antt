@@ -1,5 +1,0 @@
-use Rattle.client_laws.proofs.WholeLemmas.{clients_can_tell, none_begins_another}
-use Rattle.client_laws.proofs.laws.law_responses.Goals as goal
-
-pub returns : goal.returns
-returns c = record { one = none_begins_another; read = clients_can_tell }

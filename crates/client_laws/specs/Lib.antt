@@ -1,5 +1,0 @@
-pub mod Responses
-pub mod Service
-pub mod Clients
-pub mod Requests
-pub mod WholeResponses

@@ -1,0 +1,10 @@
+use Rattle.theorems.proofs.ClientLemmas.{accepted_is_found_once, bodies_are_the_same, clients_end_as_once, repeats_are_told}
+use Rattle.theorems.proofs.client_laws.law_clients.Goals as goal
+
+pub returns : goal.returns
+returns c = record {
+  accepted = accepted_is_found_once c.law_asked.ensures;
+  again = repeats_are_told c.law_asked.ensures;
+  same_body = bodies_are_the_same c.law_asked.ensures;
+  ends = clients_end_as_once c.law_asked.ensures;
+}

@@ -1,0 +1,7 @@
+pub mod Sessions
+pub mod OtherCallMoves
+pub mod Responses
+pub mod Service
+pub mod Clients
+pub mod Requests
+pub mod WholeResponses

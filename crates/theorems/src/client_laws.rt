@@ -1,0 +1,53 @@
+//! What holds for the clients of a service over HTTP, and that what `http_api` does to a custody is
+//! what this speaks of.
+ghost use Rattle.custody_machine.specs.State.{State};
+ghost use Rattle.theorems.specs.Sessions.{IsServing, place_of};
+ghost use Rattle.theorems.specs.Clients.{
+  AcceptedIsFoundOnce,
+  BodiesAreTheSame,
+  ClientsEndAsOnce,
+  ServiceAnswersRepeats,
+};
+ghost use Rattle.theorems.specs.Requests.{
+  IsCustodyAt,
+  RequestsMove,
+  RequestsMayStop,
+  MayStopAfterwards,
+};
+ghost use Rattle.theorems.specs.WholeResponses.{ClientsCanTell, NoResponseBeginsAnother};
+
+use custody::Custody;
+use http_request::law_asked;
+use sqlite::Alter;
+use vault_volume::Volume;
+
+/// Whenever a service is stopped, and however often its clients send their requests again: what was told
+/// as accepted is found once, with the record that was told; where it is asked for again, it is answered
+/// with the same body, or that its bytes were dropped, or by a failure; and a client that is alone and
+/// sends each of its requests until it is answered, and by no failure, ends in the state of those
+/// requests sent once, in that order, without a stop. A purge has no record, and is done anew each time.
+pub fn law_clients()
+    ensures accepted { (first : State) → AcceptedIsFoundOnce first }
+    ensures again { (first : State) → ServiceAnswersRepeats first }
+    ensures same_body { (first : State) → BodiesAreTheSame first }
+    ensures ends { (first : State) → ClientsEndAsOnce first }
+{
+    law_asked();
+}
+
+/// A client can tell from the bytes that it has read whether they are a whole response, and which: no
+/// response is the beginning of another.
+pub fn law_responses()
+    ensures one { NoResponseBeginsAnother }
+    ensures read { ClientsCanTell }
+{}
+
+/// One request that `http_api::Api::serve_one` has served, whichever way out it took, is an event of a
+/// service, from the place where the custody was to the one where it is; and so is a stop at any moment
+/// of it. An open custody is where the first begins.
+pub fn law_requests<V: Volume, S: Alter>(old: &Custody<V, S>, new: &Custody<V, S>)
+    ensures begins { IsServing S.Store old.now → IsCustodyAt S.Store old.now (place_of S.Store old.now) }
+    ensures moves { V.tells → RequestsMove S.Store old.now new.now }
+    ensures stops { V.tells → RequestsMayStop S.Store old.now new.now }
+    ensures at_rest { MayStopAfterwards S.Store new.now }
+{}

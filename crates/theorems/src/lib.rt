@@ -1,0 +1,15 @@
+//! What holds of the agent through stops: laws of a custody and of clients over HTTP, and sessions.
+//!
+//! No program calls what is here. `law_histories` and `law_retries` are what holds of every history
+//! that the other laws make of calls.
+#![tactic(auto)]
+
+mod client_laws;
+mod custody_laws;
+mod serving;
+pub mod sessions;
+
+pub use client_laws::{law_clients, law_requests, law_responses};
+pub use custody_laws::{law_at_rest, law_rest, law_run, law_sessions, law_shown, law_stop};
+pub use custody_machine::{law_histories, law_retries};
+pub use serving::serve_one;
