@@ -1,10 +1,11 @@
 #!/usr/bin/env python3
-"""The pages of docs/ that are made from other files, so that they cannot part from them.
+"""The pages that are made from other files, so that they cannot part from them.
 
     docs/escrow.1, docs/escrow.bash   the manual page, and the tables of bash's completions, from the table of the words
                                       (crates/agent_cli/src/subcommands.rt, and the texts of src/grammar.rt beside it)
     docs/crates.svg                   the crates with the ways of a command and of a request, from crates.txt
     docs/PROOFS.md                    how many lines the definitions have that one reads for the theorems
+    CONTRIBUTING.md                   in how many files of each crate a command's name stands
 
 usage: tests/made.py            writes them
        tests/made.py --check    compares them, and looks up in the code what docs/GLOSSARY.md decides. The last line is
@@ -186,7 +187,7 @@ COLOURS = {
 # The crates in the order in which a command and a request come to them, and the colour of their numbers.
 WAYS = {
     "a command": ("#1f5fbf", "escrow agent_cli custody custody_rules vault_volume custody_store answer_lines".split()),
-    "a request": ("#8e44ad", "escrow http_serve http_api http_request custody answer_lines".split()),
+    "a request": ("#8e44ad", "escrow http_api http_request custody answer_lines".split()),
 }
 
 
@@ -313,23 +314,49 @@ def counted():
     return row.sub(lambda it: f"| {it[1]} | {sum(map(lines_of, modules_in(it[1])))} |", text)
 
 
+# ---- where a command stands
+
+# The command that came last, whose name nothing else has.
+COMMAND = "Lift"
+KINDS = ("src/**/*.rt", "specs/**/*.antt", "proofs/**/*.antt")
+
+
+def files_of_command(crate):
+    """How many files of a crate name the command: of its code, its definitions and its proofs."""
+    named = re.compile(rf"\b{COMMAND}\b")
+    return [sum(bool(named.search(it.read_text())) for it in crate.glob(kind)) for kind in KINDS]
+
+
+def counted_for_a_command():
+    """CONTRIBUTING.md, with its table of the files that name a command."""
+    found = {it.name: files_of_command(it) for it in sorted((TOP / "crates").iterdir())}
+    found = {name: counts for name, counts in found.items() if any(counts)}
+    found["all"] = [sum(counts) for counts in zip(*found.values())]
+    rows = [f"| {name} | {' | '.join(map(str, counts))} |" for name, counts in found.items()]
+    head = f"| files that name `{COMMAND}` | code | definitions | proofs |\n|---|---|---|---|\n"
+    text = (TOP / "CONTRIBUTING.md").read_text()
+    table = re.compile(r"^\| files that name `\w+` \|.*\n(?:\|.*\n)+", re.MULTILINE)
+    return table.sub(lambda _: head + "".join(f"{it}\n" for it in rows), text)
+
+
 def main():
     rows = table()
     made = {
-        "escrow.1": manual(rows),
-        "escrow.bash": completions(rows),
-        "crates.svg": picture(),
-        "PROOFS.md": counted(),
+        "docs/escrow.1": manual(rows),
+        "docs/escrow.bash": completions(rows),
+        "docs/crates.svg": picture(),
+        "docs/PROOFS.md": counted(),
+        "CONTRIBUTING.md": counted_for_a_command(),
     }
     passed = 0
     for name, text in made.items():
-        file = TOP / "docs" / name
+        file = TOP / name
         if sys.argv[1:] != ["--check"]:
             file.write_text(text)
         elif file.is_file() and file.read_text() == text:
             passed += 1
         else:
-            print(f"docs/{name} is not what tests/made.py makes: run it, and look at what changes")
+            print(f"{name} is not what tests/made.py makes: run it, and look at what changes")
     if sys.argv[1:] != ["--check"]:
         return 0
     found = list(words.findings())
