@@ -1,23 +1,5 @@
 -- What a deed does to an agent.
-use Rattle.std.specs.Prelude.{
-  ◌≡◌,
-  ◌≢◌,
-  ◌⊎◌,
-  ◌==◌,
-  ◌-◌,
-  ℕ,
-  List,
-  [],
-  ◌∷◌,
-  Option,
-  None,
-  Result,
-  Ok,
-  Err,
-  is_some,
-  true,
-  false,
-}
+use Rattle.std.specs.Prelude.{◌≡◌, ◌≢◌, ◌⊎◌, ◌==◌, ◌-◌, ℕ, List, [], ◌∷◌, Option, None, Result, Ok, Err, is_some, true, false}
 use Rattle.std.specs.FinMap.{get}
 use Rattle.std.specs.Io.KnownBytes.{Appends}
 use Rattle.std.specs.List.{after_last}
@@ -44,14 +26,7 @@ use Rattle.custody.specs.declared.answers.Reply.{Reply}
 use Rattle.custody.specs.declared.answers.Refused.{Refused}
 use Rattle.custody.specs.declared.answers.Refused.TheVariants as refused
 use Rattle.answer_lines.specs.Auditing.{audit_status, audit_text}
-use Rattle.answer_lines.specs.Printing.{
-  WritesBeginning,
-  IsAnswerPrinted,
-  IsUnused,
-  WritesWholeAt,
-  Writer,
-  as_line,
-}
+use Rattle.answer_lines.specs.Printing.{WritesBeginning, IsAnswerPrinted, IsUnused, WritesWholeAt, Writer, as_line}
 use Rattle.answer_lines.specs.State.{registry_report_text, state_text}
 use Rattle.answer_lines.specs.Statuses.{IsExitStatus, IsStatusAfter, answer_status}
 use Rattle.agent_cli.specs.declared.order.Deed.{Deed}

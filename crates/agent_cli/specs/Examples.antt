@@ -4,19 +4,7 @@ use Rattle.clap.specs.Words.{Text}
 use Rattle.deposit_name.specs.declared.kinds.Kind.TheVariants.{Full, Incr}
 use Rattle.desk.specs.declared.grounds.Ground.TheVariants.{Operator}
 use Rattle.custody_machine.specs.Machine.{Register, Statement, Release, Hold, Lift, Purge}
-use Rattle.agent_cli.specs.Order.{
-  ReadsWords,
-  DeedMeaning,
-  Init,
-  Put,
-  Do,
-  Sweep,
-  Fetch,
-  Report,
-  State,
-  Audit,
-  Serve,
-}
+use Rattle.agent_cli.specs.Order.{ReadsWords, DeedMeaning, Init, Put, Do, Sweep, Fetch, Report, State, Audit, Serve}
 
 -- these words, behind the name of the program, ask for this, in the folder `vault` and at a moment that they may name
 abbrev pub GivesOrder : List Text → Option ℕ → DeedMeaning → Type 0

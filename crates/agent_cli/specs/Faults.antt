@@ -1,37 +1,12 @@
 -- Faults of words: the names of arguments, the texts, and exit statuses.
-use Rattle.std.specs.Prelude.{
-  ◌≡◌,
-  ℕ,
-  Bool,
-  true,
-  false,
-  if◌then◌else◌,
-  List,
-  [],
-  ◌∷◌,
-  ◌++◌,
-  Option,
-  None,
-  Some,
-  codes,
-}
+use Rattle.std.specs.Prelude.{◌≡◌, ℕ, Bool, true, false, if◌then◌else◌, List, [], ◌∷◌, ◌++◌, Option, None, Some, codes}
 use Rattle.clap.specs.Words.{kind_of}
 use Rattle.clap.specs.declared.error.ErrorKind.{ErrorKind}
 use Rattle.clap.specs.declared.error.ErrorKind.TheVariants.{DisplayHelp, DisplayVersion}
 use Rattle.custody_machine.specs.Texts as machine
 use Rattle.custody_machine.specs.declared.answers.Failure.TheVariants.{NoMemory}
 use Rattle.agent_cli.specs.declared.order.Argument.{Argument}
-use Rattle.agent_cli.specs.declared.order.Argument.TheVariants.{
-  Tld,
-  Date,
-  First,
-  Kind,
-  Id,
-  Reference,
-  Ground,
-  Number,
-  Now,
-}
+use Rattle.agent_cli.specs.declared.order.Argument.TheVariants.{Tld, Date, First, Kind, Id, Reference, Ground, Number, Now}
 use Rattle.agent_cli.specs.declared.order.WordFault.{WordFault}
 use Rattle.agent_cli.specs.declared.order.WordFault.TheVariants as fault
 

@@ -1,52 +1,12 @@
 -- The command `escrow`, as clap's builders make it. Help and the names of values are no part of it.
-use Rattle.std.specs.Prelude.{
-  ℕ,
-  Bool,
-  true,
-  false,
-  List,
-  [],
-  ◌∷◌,
-  Some,
-  unwrap_or,
-  codes,
-  fold,
-  map,
-  pos,
-}
+use Rattle.std.specs.Prelude.{ℕ, Bool, true, false, List, [], ◌∷◌, Some, unwrap_or, codes, fold, map, pos}
 use Rattle.std.specs.Str.{bytes_eq}
-use Rattle.clap.specs.Words.{
-  App,
-  Row,
-  Rule,
-  Shape,
-  Text,
-  first_of,
-  new_app,
-  new_rule,
-  with_rule,
-  with_subcommand,
-}
+use Rattle.clap.specs.Words.{App, Row, Rule, Shape, Text, first_of, new_app, new_rule, with_rule, with_subcommand}
 use Rattle.clap.specs.declared.builder.ValueParser.TheVariants.{Signed}
 use Rattle.agent_cli.specs.declared.subcommands.WordForm.{WordForm}
 use Rattle.agent_cli.specs.declared.subcommands.WordForm.TheVariants.{Place, Option, Count}
 use Rattle.agent_cli.specs.declared.subcommands.Subcommand.{Subcommand}
-use Rattle.agent_cli.specs.declared.subcommands.Subcommand.TheVariants.{
-  Init,
-  Register,
-  Put,
-  Verify,
-  Sweep,
-  Purge,
-  Hold,
-  Lift,
-  Release,
-  Fetch,
-  Report,
-  State,
-  Audit,
-  Serve,
-}
+use Rattle.agent_cli.specs.declared.subcommands.Subcommand.TheVariants.{Init, Register, Put, Verify, Sweep, Purge, Hold, Lift, Release, Fetch, Report, State, Audit, Serve}
 use Rattle.agent_cli.specs.declared.subcommands.Word.{Word}
 use Rattle.extent_map.specs.Limits.{fewest_blocks, most_blocks}
 

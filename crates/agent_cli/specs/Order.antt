@@ -1,21 +1,5 @@
 -- What the words of a call ask for: the matches of the command, each value in form.
-use Rattle.std.specs.Prelude.{
-  ◌≡◌,
-  ◌≢◌,
-  ◌⊎◌,
-  ℕ,
-  List,
-  Option,
-  Some,
-  None,
-  Result,
-  Ok,
-  Err,
-  IsSomeAnd,
-  MatchBool,
-  codes,
-  find,
-}
+use Rattle.std.specs.Prelude.{◌≡◌, ◌≢◌, ◌⊎◌, ℕ, List, Option, Some, None, Result, Ok, Err, IsSomeAnd, MatchBool, codes, find}
 use Rattle.clap.specs.Words.{Row, Text, fault_of, first_of, kind_of, subcommand_of}
 use Rattle.clap.specs.Walk.{is_empty}
 use Rattle.clap.specs.declared.error.Error.{Error}
@@ -23,31 +7,13 @@ use Rattle.clap.specs.declared.error.ErrorKind.TheVariants.{OutOfMemory}
 use Rattle.deposit_name.specs.declared.kinds.Kind.{Kind}
 use Rattle.custody_machine.specs.declared.command.Statement as statement
 use Rattle.custody_machine.specs.Commands.{command_of}
-use Rattle.custody_machine.specs.Machine.{
-  Command,
-  Register,
-  Statement,
-  Release,
-  Hold,
-  Lift,
-  Purge,
-}
+use Rattle.custody_machine.specs.Machine.{Command, Register, Statement, Release, Hold, Lift, Purge}
 use Rattle.answer_lines.specs.Number.{ShowsNumber}
 use Rattle.extent_map.specs.Limits.{most_blocks}
 use Rattle.agent_cli.specs.Grammar.{escrow_app, is_named, subcommands, text_in}
 use Rattle.agent_cli.specs.declared.subcommands.Subcommand.{Subcommand}
 use Rattle.agent_cli.specs.declared.subcommands.Subcommand.TheVariants as subcommand
-use Rattle.agent_cli.specs.Forms.{
-  ShowsDay,
-  ShowsGround,
-  ShowsId,
-  ShowsIfGiven,
-  ShowsKind,
-  ShowsMoment,
-  ShowsReference,
-  ShowsTld,
-  count_of,
-}
+use Rattle.agent_cli.specs.Forms.{ShowsDay, ShowsGround, ShowsId, ShowsIfGiven, ShowsKind, ShowsMoment, ShowsReference, ShowsTld, count_of}
 use Rattle.agent_cli.specs.declared.order.Argument.{Argument}
 use Rattle.agent_cli.specs.declared.order.Argument.TheVariants as argument
 use Rattle.agent_cli.specs.declared.order.Deed.{Deed}

@@ -1,5 +1,4 @@
 //! What a deed does to the agent of a folder.
-ghost use Rattle.std.specs.Prelude.{◌≡◌};
 ghost use Rattle.answer_lines.specs.Statuses.{IsExitStatus};
 ghost use Rattle.agent_cli.specs.Acts.{Acts, Audits, Fetches, PrintsState, PrintsReport};
 

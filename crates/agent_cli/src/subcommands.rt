@@ -1,6 +1,5 @@
 //! The words of the subcommands: one row each, with the texts of its help and an example.
 ghost use Rattle.std.specs.Prelude.{◌≡◌, find, map};
-ghost use Rattle.std.specs.Str.{bytes_eq};
 ghost use Rattle.agent_cli.specs.Grammar.{is_named, rule_in, subcommands, words_of};
 
 use vault_volume::{FEWEST_BLOCKS, MOST_BLOCKS};

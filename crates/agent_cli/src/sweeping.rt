@@ -1,5 +1,5 @@
 //! A sweep: each day that has passed without a notice is checked.
-ghost use Rattle.std.specs.Prelude.{◌≡◌, map};
+ghost use Rattle.std.specs.Prelude.{map};
 ghost use Rattle.custody_machine.specs.Machine.{Check};
 ghost use Rattle.custody_rules.specs.DueDays.{due_day_pair};
 ghost use Rattle.answer_lines.specs.Statuses.{IsExitStatus};

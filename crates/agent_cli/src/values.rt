@@ -3,17 +3,7 @@ ghost use Rattle.std.specs.Prelude.{◌≡◌, ◌≤◌, codes};
 ghost use Rattle.clap.specs.Words.{first_of, found_of, rows_of};
 ghost use Rattle.answer_lines.specs.Number.{ShowsNumber};
 ghost use Rattle.agent_cli.specs.Grammar.{text_in};
-ghost use Rattle.agent_cli.specs.Forms.{
-  ShowsDay,
-  ShowsGround,
-  ShowsId,
-  ShowsIfGiven,
-  ShowsKind,
-  ShowsMoment,
-  ShowsReference,
-  ShowsTld,
-  count_of,
-};
+ghost use Rattle.agent_cli.specs.Forms.{ShowsDay, ShowsGround, ShowsId, ShowsIfGiven, ShowsKind, ShowsMoment, ShowsReference, ShowsTld, count_of};
 ghost use Rattle.agent_cli.specs.Order.{AnswersValue};
 
 use crate::{Argument, WordFault};

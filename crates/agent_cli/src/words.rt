@@ -1,17 +1,8 @@
 //! The words of a call, read by `clap` as a simple command with one level of subcommands.
-ghost use Rattle.std.specs.Prelude.{◌≡◌, Some, map};
+ghost use Rattle.std.specs.Prelude.{Some, map};
 ghost use Rattle.std.specs.String.{string_bytes};
 ghost use Rattle.clap.specs.Words.{found_of, rows_of};
-ghost use Rattle.agent_cli.specs.Order.{
-  AnswersAsRead,
-  AnswersReading,
-  DeedReading,
-  IsFaultFrom,
-  OrderReading,
-  ReadsWords,
-  deed_meaning,
-  meaning,
-};
+ghost use Rattle.agent_cli.specs.Order.{AnswersAsRead, AnswersReading, DeedReading, IsFaultFrom, OrderReading, ReadsWords, deed_meaning, meaning};
 
 use crate::grammar::escrow_command;
 use crate::subcommands::Subcommand;

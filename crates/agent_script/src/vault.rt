@@ -1,5 +1,5 @@
 //! The vault of an example.
-ghost use Rattle.std.specs.Prelude.{◌-◌, ◌^◌, ◌<◌, IfOk};
+ghost use Rattle.std.specs.Prelude.{◌-◌, ◌<◌};
 
 use crate::fault::ScriptFault;
 use answer_lines::{Line, VolumeNumber, print_line, tell_init};

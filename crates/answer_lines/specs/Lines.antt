@@ -9,26 +9,7 @@ use Rattle.desk.specs.declared.grounds.Ground.{Ground}
 use Rattle.desk.specs.declared.notices.Notice as desk
 use Rattle.custody_records.specs.RowsOfRecords.{digits_of}
 use Rattle.answer_lines.specs.declared.lines.Line.{Line}
-use Rattle.answer_lines.specs.declared.lines.Line.TheVariants.{
-  Ready,
-  Registered,
-  Received,
-  Notice,
-  Released,
-  Held,
-  Lifted,
-  Purged,
-  Registry,
-  Part,
-  Dropped,
-  Release,
-  Hold,
-  LiftedHold,
-  Damaged,
-  Sound,
-  Room,
-  Listening,
-}
+use Rattle.answer_lines.specs.declared.lines.Line.TheVariants.{Ready, Registered, Received, Notice, Released, Held, Lifted, Purged, Registry, Part, Dropped, Release, Hold, LiftedHold, Damaged, Sound, Room, Listening}
 
 abbrev pub room_text : ℕ → ℕ → List ℕ
 room_text free total = codes "free " ++ decimal free ++ codes " of " ++ decimal total

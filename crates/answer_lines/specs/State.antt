@@ -1,31 +1,9 @@
 -- The lines of `state`: each registry with its parts and its notices, the releases, the holds, and last the free blocks.
-use Rattle.std.specs.Prelude.{
-  ℕ,
-  List,
-  [],
-  ◌∷◌,
-  ◌++◌,
-  Option,
-  None,
-  Some,
-  length,
-  map,
-  is_some,
-  if◌then◌else◌,
-}
+use Rattle.std.specs.Prelude.{ℕ, List, [], ◌∷◌, ◌++◌, Option, None, Some, length, map, is_some, if◌then◌else◌}
 use Rattle.std.specs.FinMap.{entries}
 use Rattle.std.specs.List.{flat_map}
 use Rattle.custody_records.specs.Keys.{NoticeKey, PartKey}
-use Rattle.custody_records.specs.Records.{
-  Hold,
-  Notice,
-  PartRecord,
-  Records,
-  Release,
-  name_of,
-  notices_of,
-  parts_of,
-}
+use Rattle.custody_records.specs.Records.{Hold, Notice, PartRecord, Records, Release, name_of, notices_of, parts_of}
 use Rattle.answer_lines.specs.Lines.{line_text, room_text}
 use Rattle.answer_lines.specs.declared.lines.Line.{Line}
 use Rattle.answer_lines.specs.declared.lines.Line.TheVariants as line

@@ -1,5 +1,5 @@
 //! The bytes of lines, in room of their own: no memory is taken for them.
-ghost use Rattle.std.specs.Prelude.{◌≡◌, ◌+◌, ◌≤◌, ◌^◌, ◌<◌, ◌++◌, [], ◌∷◌, length, codes, decimal};
+ghost use Rattle.std.specs.Prelude.{◌≡◌, ◌+◌, ◌≤◌, ◌++◌, [], ◌∷◌, length, codes, decimal};
 ghost use Rattle.arrayvec.specs.ArrayVec.{array_vec_len};
 ghost use Rattle.schedule.specs.Text.{day_text, moment_text};
 ghost use Rattle.deposit_name.specs.ErrorText as names;

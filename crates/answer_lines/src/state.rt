@@ -5,28 +5,9 @@ ghost use Rattle.std.specs.Io.KnownBytes.{Appends};
 ghost use Rattle.desk.specs.Lines.{AppendsBeginning};
 ghost use Rattle.custody_records.specs.MemoryRecords.{records_of};
 ghost use Rattle.custody_records.specs.Tables.{row_entries};
-ghost use Rattle.custody_records.specs.TypedRecords.{
-  hold_entry,
-  notice_key,
-  notice_value,
-  part_entry,
-  key_of_part,
-  part_value,
-  registry_key,
-  registry_value,
-  release_entry,
-};
+ghost use Rattle.custody_records.specs.TypedRecords.{hold_entry, notice_key, notice_value, part_entry, key_of_part, part_value, registry_key, registry_value, release_entry};
 ghost use Rattle.answer_lines.specs.Printing.{PrintsLine, as_line};
-ghost use Rattle.answer_lines.specs.State.{
-  hold_line,
-  lines_text,
-  notice_line,
-  part_line,
-  registries_text,
-  registry_lines,
-  release_line,
-  state_text,
-};
+ghost use Rattle.answer_lines.specs.State.{hold_line, lines_text, notice_line, part_line, registries_text, registry_lines, release_line, state_text};
 
 use crate::writing::{flush, write_line};
 use crate::{Line, WriteFailed};

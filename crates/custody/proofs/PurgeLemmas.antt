@@ -15,7 +15,7 @@ use Rattle.custody_records.specs.Keys.{text_cmp, PartKey}
 use Rattle.custody_records.specs.inside.Orders.{part_total, part_exact, text_total, text_exact}
 use Rattle.custody_records.specs.Records.{Hold, PartRecord, Records}
 use Rattle.custody_records.specs.Rows.{HoldRow, PartRow, Rows}
-use Rattle.custody_records.specs.Form.{natural, is_number, is_within, is_day, is_deposit_day, is_moment, is_part, kind_in, extents_in, part_key, part_in, hold_in, is_hold, gathered_table, form_of, InForm, HasCurrentSchema}
+use Rattle.custody_records.specs.Form.{natural, is_number, is_within, is_day, is_deposit_day, is_moment, is_part, kind_in, extents_in, part_key, part_in, hold_in, gathered_table, form_of, InForm, HasCurrentSchema}
 use Rattle.custody_records.proofs.FormLemmas.{in_form_has, in_form_from}
 use Rattle.custody_store.specs.Dropping as row
 use Rattle.custody_records.specs.Purge as part

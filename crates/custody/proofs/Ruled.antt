@@ -4,7 +4,6 @@ use denote.Ref.{Bor}
 use Rattle.sqlite.specs.Store.{Ghosts}
 use Rattle.vault_volume.specs.declared.volume.Volume as volume
 use Rattle.deposit_name.specs.Name.{Name}
-use Rattle.custody_records.specs.Records.{Records}
 use Rattle.custody_machine.specs.declared.command.Command as asked
 use Rattle.custody_machine.specs.declared.command.Command.TheVariants as commands
 use Rattle.custody_machine.specs.Commands.{command_of}

@@ -1,50 +1,16 @@
 -- The answers of a custody, as those of the machine, and their lines.
 use Rattle.std.specs.Prelude.{ℕ, List, codes, Bool, true, false, not, ◌&&◌, None, Result, Ok, Err}
 use Rattle.custody_records.specs.Records.{key_of}
-use Rattle.custody_records.specs.TypedRecords.{
-  notice_key,
-  notice_value,
-  release_key,
-  release_value,
-  hold_key,
-  hold_value,
-}
+use Rattle.custody_records.specs.TypedRecords.{notice_key, notice_value, release_key, release_value, hold_key, hold_value}
 use Rattle.vault_volume.specs.declared.errors.StageError.{StageError}
 use Rattle.vault_volume.specs.declared.errors.StageError.TheVariants as stage
 use Rattle.vault_volume.specs.declared.errors.ReadError.{ReadError}
 use Rattle.vault_volume.specs.declared.errors.ReadError.TheVariants as read
 use Rattle.custody_machine.specs.State.{Held}
 use Rattle.custody_machine.specs.Machine as machine
-use Rattle.custody_machine.specs.Machine.{
-  Command,
-  Register,
-  Receive,
-  Statement,
-  Check,
-  Release,
-  Hold,
-  Lift,
-  Purge,
-  Answer,
-  Accepted,
-  Refused,
-  Failed,
-  OfRegistry,
-  OfPart,
-  OfNotice,
-  OfRelease,
-  OfHold,
-  OfLifting,
-  OfPurge,
-}
+use Rattle.custody_machine.specs.Machine.{Command, Register, Receive, Statement, Check, Release, Hold, Lift, Purge, Answer, Accepted, Refused, Failed, OfRegistry, OfPart, OfNotice, OfRelease, OfHold, OfLifting, OfPurge}
 use Rattle.custody_machine.specs.declared.answers.Refusal.TheVariants.{OtherBytes, VolumeFull}
-use Rattle.custody_machine.specs.declared.answers.Failure.TheVariants.{
-  NoMemory,
-  VolumeFailed,
-  StoreFailed,
-  Closed,
-  Damaged,
-}
+use Rattle.custody_machine.specs.declared.answers.Failure.TheVariants.{NoMemory, VolumeFailed, StoreFailed, Closed, Damaged}
 use Rattle.custody_machine.specs.Rulings.{command_bytes}
 use Rattle.custody_machine.specs.declared.codes.ExitStatus.TheVariants as status
 use Rattle.custody_machine.specs.Codes.{CodeRow, failure_code, code_row_text}

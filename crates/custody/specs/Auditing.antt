@@ -1,24 +1,5 @@
 -- What an audit tells: the parts whose bytes are held, and have not the digest that was recorded as they came.
-use Rattle.std.specs.Prelude.{
-  ◌≡◌,
-  ◌⊎◌,
-  ◌↔◌,
-  ℕ,
-  List,
-  Contains,
-  Vec,
-  Option,
-  Some,
-  None,
-  Bool,
-  true,
-  false,
-  Result,
-  Ok,
-  Err,
-  IfOk,
-  IfErr,
-}
+use Rattle.std.specs.Prelude.{◌≡◌, ◌⊎◌, ◌↔◌, ℕ, List, Contains, Vec, Option, Some, None, Bool, true, false, Result, Ok, Err, IfOk, IfErr}
 use Rattle.std.specs.declared.alloc.Global.{Global}
 use Rattle.std.specs.FinMap.{get}
 use Rattle.std.specs.Str.{bytes_eq}
@@ -34,11 +15,7 @@ use Rattle.custody_records.specs.Tables.{is_rising}
 use Rattle.custody_records.specs.TypedRecords.{part_value}
 use Rattle.custody_records.specs.declared.parts.Part.{Part}
 use Rattle.custody_machine.specs.declared.answers.Failure.{Failure}
-use Rattle.custody_machine.specs.declared.answers.Failure.TheVariants.{
-  NoMemory,
-  VolumeFailed,
-  Closed,
-}
+use Rattle.custody_machine.specs.declared.answers.Failure.TheVariants.{NoMemory, VolumeFailed, Closed}
 use Rattle.custody_machine.specs.StoredState.{HasDigestAt}
 use Rattle.custody.specs.declared.answers.Refused.{Refused}
 use Rattle.custody.specs.declared.answers.Refused.TheVariants as refused

@@ -8,12 +8,7 @@ use Rattle.custody_records.specs.Records.{new_records}
 use Rattle.custody_records.specs.Rows.{Rows, initial_rows}
 use Rattle.custody_records.specs.Form.{form_of, InForm}
 use Rattle.custody_records.specs.RowsOfRecords.{digits_of}
-use Rattle.custody_store.specs.StoreState.{
-  store_state,
-  has_any_table,
-  has_all_tables,
-  HasMetaOrNone,
-}
+use Rattle.custody_store.specs.StoreState.{store_state, has_any_table, has_all_tables, HasMetaOrNone}
 use Rattle.custody_machine.specs.declared.answers.Failure.{Failure}
 use Rattle.custody_machine.specs.declared.answers.Failure.TheVariants as failure
 use Rattle.custody_machine.specs.declared.damage.Damage.{Damage}
@@ -26,24 +21,9 @@ use Rattle.custody_machine.specs.Custody.{MayInitialise}
 use Rattle.custody.specs.declared.answers.InitError.{InitError}
 use Rattle.custody.specs.declared.answers.InitError.TheVariants as init_error
 use Rattle.custody.specs.declared.custody.Custody.{Custody}
-use Rattle.custody.specs.OpenCustody.{
-  current_records,
-  store_state_of,
-  image_of,
-  failures_of,
-  MayLeaveImage,
-  KeepsImage,
-  KeepsRows,
-}
+use Rattle.custody.specs.OpenCustody.{current_records, store_state_of, image_of, failures_of, MayLeaveImage, KeepsImage, KeepsRows}
 use Rattle.custody.specs.Custody.{open_custody_of, is_open}
-use Rattle.custody.specs.Opening.{
-  HasAllTables,
-  HasAllTablesOrNone,
-  HasNoRecord,
-  WritesNothing,
-  IsVolumeSize,
-  CountsToldFailure,
-}
+use Rattle.custody.specs.Opening.{HasAllTables, HasAllTablesOrNone, HasNoRecord, WritesNothing, IsVolumeSize, CountsToldFailure}
 
 module _ {V S : Type 0} (g : volume.Ghosts V) (database : Ghosts S) (volume : V) (db : Held S) where
   -- ---- a beginning

@@ -12,16 +12,7 @@ use Rattle.custody_machine.specs.Machine.{Command}
 use Rattle.custody_machine.specs.declared.answers.Refusal.TheVariants.{VolumeFull}
 use Rattle.custody_machine.specs.declared.answers.Failure.TheVariants.{VolumeFailed, Closed}
 use Rattle.custody_machine.specs.Rulings.{command_bytes}
-use Rattle.custody_machine.specs.Custody.{
-  IsInOrder,
-  IsOnVolume,
-  IsInStore,
-  LeftSince,
-  HasRoomForCommand,
-  RecordsAndImage,
-  LeftByCall,
-  AnswersCommand,
-}
+use Rattle.custody_machine.specs.Custody.{IsInOrder, IsOnVolume, IsInStore, LeftSince, HasRoomForCommand, RecordsAndImage, LeftByCall, AnswersCommand}
 use Rattle.custody.specs.declared.answers.Reply.{Reply}
 use Rattle.custody.specs.declared.answers.Refused.{Refused}
 use Rattle.custody.specs.declared.answers.Refused.TheVariants as refused

@@ -1,20 +1,5 @@
 -- What an opening and a beginning find, and what their steps give.
-use Rattle.std.specs.Prelude.{
-  ◌≡◌,
-  ◌≢◌,
-  ◌⊎◌,
-  ℕ,
-  ◌-◌,
-  ◌<◌,
-  ◌≤◌,
-  List,
-  Option,
-  Some,
-  None,
-  true,
-  sum_by,
-  Result,
-}
+use Rattle.std.specs.Prelude.{◌≡◌, ◌≢◌, ◌⊎◌, ℕ, ◌-◌, ◌<◌, ◌≤◌, List, Option, Some, None, true, sum_by, Result}
 use Rattle.std.specs.FinMap.{entries}
 use Rattle.extent_map.specs.declared.extent.Extent.{Extent}
 use Rattle.vault_volume.specs.declared.volume.Volume as volume
@@ -33,20 +18,9 @@ use Rattle.custody_store.specs.StoreState.{StoreState, store_state, ChangesNothi
 use Rattle.custody_store.specs.declared.faults.StoreFault.{StoreFault}
 use Rattle.custody_store.specs.declared.faults.StoreFault.TheVariants as store
 use Rattle.custody_machine.specs.declared.answers.Failure.{Failure}
-use Rattle.custody_machine.specs.declared.answers.Failure.TheVariants.{
-  NoMemory,
-  StoreFailed,
-  Closed,
-  Damaged,
-}
+use Rattle.custody_machine.specs.declared.answers.Failure.TheVariants.{NoMemory, StoreFailed, Closed, Damaged}
 use Rattle.custody_machine.specs.declared.damage.Damage as machine
-use Rattle.custody_machine.specs.declared.damage.Damage.TheVariants.{
-  NoRecord,
-  Head,
-  Volume,
-  Schema,
-  Form,
-}
+use Rattle.custody_machine.specs.declared.damage.Damage.TheVariants.{NoRecord, Head, Volume, Schema, Form}
 use Rattle.custody_machine.specs.Damage.{damage_number, IsDamaged, NoDamageBefore, IsFirstDamage}
 use Rattle.custody_machine.specs.StoredState.{AreWhole}
 use Rattle.custody_machine.specs.Moves.{Left, MayLeave}

@@ -7,16 +7,7 @@ use Rattle.vault_volume.specs.Vault.{volume_of, IsFree}
 use Rattle.sqlite.specs.Store.{Ghosts}
 use Rattle.custody_machine.specs.Custody.{AnswersOtherCall}
 use Rattle.custody.specs.declared.open_custody.OpenCustody.{OpenCustody}
-use Rattle.custody.specs.OpenCustody.{
-  current_records,
-  image_of,
-  failures_of,
-  contents_of,
-  left_by_call,
-  KeepsOrder,
-  KeepsImage,
-  KeepsRows,
-}
+use Rattle.custody.specs.OpenCustody.{current_records, image_of, failures_of, contents_of, left_by_call, KeepsOrder, KeepsImage, KeepsRows}
 
 module _ {V S : Type 0} {g : volume.Ghosts V} where
   -- A call that is no command, to an open custody; after it the custody is open or not.

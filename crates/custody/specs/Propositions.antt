@@ -1,31 +1,13 @@
 -- That what an open custody keeps in memory can be known in one way only: so it may stand in the type.
 use Rattle.std.specs.Prelude.{◌≡◌, ℕ, List, [], ◌∷◌, Option, Some, None, Bool}
 use mathlib.Core.HLevel.{⊥_prop}
-use Rattle.std.specs.Coded.{
-  Coded,
-  Coded-set,
-  code_by,
-  coded×,
-  coded_list,
-  coded_ℕ,
-  coded_bool,
-  ×_prop,
-  Π_prop,
-  Unit-prop,
-  le_prop,
-}
+use Rattle.std.specs.Coded.{Coded, Coded-set, code_by, coded×, coded_list, coded_ℕ, coded_bool, ×_prop, Π_prop, Unit-prop, le_prop}
 use mathlib.Core.Path.{refl}
 use Rattle.extent_map.specs.declared.extent.Extent.{Extent}
 use Rattle.vault_volume.specs.Extents.{AreApart}
 use Rattle.custody_records.specs.Keys.{PartKey, NoticeKey}
 use Rattle.custody_records.specs.Records.{Records}
-use Rattle.custody_machine.specs.StoredState.{
-  ForExtents,
-  AreExtents,
-  HaveBlocksOnce,
-  AreLinked,
-  AreWhole,
-}
+use Rattle.custody_machine.specs.StoredState.{ForExtents, AreExtents, HaveBlocksOnce, AreLinked, AreWhole}
 use Rattle.custody_machine.specs.Custody.{IsPlaceable, IsInOrder}
 
 part_key_code : Coded PartKey

@@ -1,24 +1,5 @@
 -- A part that is received from a reader: which bytes are the part's, and what is done where they do not all come.
-use Rattle.std.specs.Prelude.{
-  ◌≡◌,
-  ◌⊎◌,
-  ℕ,
-  ◌≤◌,
-  ◌<◌,
-  min,
-  List,
-  [],
-  ◌++◌,
-  length,
-  take,
-  Option,
-  IfSome,
-  true,
-  false,
-  Result,
-  Ok,
-  Err,
-}
+use Rattle.std.specs.Prelude.{◌≡◌, ◌⊎◌, ℕ, ◌≤◌, ◌<◌, min, List, [], ◌++◌, length, take, Option, IfSome, true, false, Result, Ok, Err}
 use Rattle.std.specs.Io.KnownBytes.{Consumes, IsAtEnd}
 use denote.Ref.{Bor}
 use Rattle.vault_volume.specs.declared.volume.Volume as volume

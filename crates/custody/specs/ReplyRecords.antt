@@ -5,14 +5,7 @@ use Rattle.std.specs.FinMap.{get}
 use Rattle.deposit_name.specs.Name.{Name}
 use Rattle.vault_volume.specs.Extents.{part_bytes}
 use Rattle.custody_records.specs.Records.{PartRecord, Hold, Records, key_of}
-use Rattle.custody_records.specs.TypedRecords.{
-  notice_key,
-  notice_value,
-  release_key,
-  release_value,
-  hold_key,
-  hold_value,
-}
+use Rattle.custody_records.specs.TypedRecords.{notice_key, notice_value, release_key, release_value, hold_key, hold_value}
 use Rattle.custody.specs.declared.answers.Record.{Record}
 use Rattle.custody.specs.declared.answers.Record.TheVariants as of
 

@@ -6,59 +6,17 @@ use Rattle.deposit_name.specs.Name.{Name}
 use Rattle.desk.specs.declared.grounds.Ground.{Ground}
 use Rattle.extent_map.specs.declared.extent.Extent.{Extent}
 use Rattle.schedule.specs.Schedule.{day_of}
-use Rattle.custody_records.specs.Records.{
-  PartRecord,
-  Hold,
-  Records,
-  key_of,
-  with_registry,
-  with_part,
-  with_notice,
-  with_release,
-  with_hold,
-  new_hold,
-  lifted_at,
-}
+use Rattle.custody_records.specs.Records.{PartRecord, Hold, Records, key_of, with_registry, with_part, with_notice, with_release, with_hold, new_hold, lifted_at}
 use Rattle.deposit_verify.specs.declared.verdict.Verdict.{Verdict}
 use Rattle.custody_machine.specs.declared.command.Statement as statement
-use Rattle.custody_machine.specs.Machine.{
-  Command,
-  OfNotice,
-  OfRelease,
-  OfHold,
-  absence_notice,
-  next_key,
-  verdict_notice,
-}
+use Rattle.custody_machine.specs.Machine.{Command, OfNotice, OfRelease, OfHold, absence_notice, next_key, verdict_notice}
 use Rattle.custody_machine.specs.Machine as machine
 use Rattle.custody_machine.specs.Purge.{count_due_records, records_without_due}
 use Rattle.custody_machine.specs.Releases.{release_of_records}
 use Rattle.custody_machine.specs.declared.answers.Refusal.TheVariants.{OtherBytes, VolumeFull}
-use Rattle.custody_machine.specs.declared.answers.Failure.TheVariants.{
-  NoMemory,
-  VolumeFailed,
-  StoreFailed,
-  Damaged,
-}
+use Rattle.custody_machine.specs.declared.answers.Failure.TheVariants.{NoMemory, VolumeFailed, StoreFailed, Damaged}
 use Rattle.custody_machine.specs.declared.damage.Damage.TheVariants.{Digest}
-use Rattle.custody_machine.specs.Rulings.{
-  Change,
-  AddsRegistry,
-  AddsPart,
-  AddsVerdict,
-  AddsAbsence,
-  AddsRelease,
-  AddsHold,
-  LiftsHold,
-  DropsBytes,
-  Ruling,
-  RefuseRuling,
-  KeptRuling,
-  CompareRuling,
-  GoRuling,
-  Decides,
-  command_bytes,
-}
+use Rattle.custody_machine.specs.Rulings.{Change, AddsRegistry, AddsPart, AddsVerdict, AddsAbsence, AddsRelease, AddsHold, LiftsHold, DropsBytes, Ruling, RefuseRuling, KeptRuling, CompareRuling, GoRuling, Decides, command_bytes}
 use Rattle.custody.specs.declared.answers.Record.TheVariants as of
 use Rattle.custody.specs.declared.answers.Reply.{Reply}
 use Rattle.custody.specs.declared.answers.Refused.{Refused}

@@ -1,21 +1,5 @@
 -- A part that is taken in as its bytes come: what is known of the open custody while it is written, compared or dropped.
-use Rattle.std.specs.Prelude.{
-  ◌≡◌,
-  ◌≢◌,
-  ℕ,
-  ◌+◌,
-  ◌≤◌,
-  List,
-  [],
-  ◌++◌,
-  length,
-  Some,
-  Bool,
-  false,
-  Result,
-  vec_len,
-  vec_capacity,
-}
+use Rattle.std.specs.Prelude.{◌≡◌, ◌≢◌, ℕ, ◌+◌, ◌≤◌, List, [], ◌++◌, length, Some, Bool, false, Result, vec_len, vec_capacity}
 use Rattle.sqlite.specs.Store.{Ghosts}
 use Rattle.deposit_name.specs.Name.{Name}
 use Rattle.vault_volume.specs.declared.vault.Vault.{Vault}
@@ -43,15 +27,7 @@ use Rattle.custody.specs.declared.upload.Upload as code
 use Rattle.custody.specs.declared.upload.Upload.TheVariants as of
 use Rattle.custody.specs.declared.open_custody.OpenCustody.{OpenCustody}
 use Rattle.custody.specs.Answers.{may_change}
-use Rattle.custody.specs.OpenCustody.{
-  current_records,
-  image_of,
-  failures_of,
-  MayLeaveImage,
-  KeepsOrder,
-  KeepsImage,
-  HasExecuted,
-}
+use Rattle.custody.specs.OpenCustody.{current_records, image_of, failures_of, MayLeaveImage, KeepsOrder, KeepsImage, HasExecuted}
 use Rattle.custody.specs.Reading.{ReadsVault}
 use Rattle.custody.specs.OtherCalls.{RecordsNothing}
 

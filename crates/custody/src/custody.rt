@@ -1,22 +1,5 @@
 //! The custody.
-ghost use Rattle.std.specs.Prelude.{
-  ◌≡◌,
-  ◌≢◌,
-  ℕ,
-  List,
-  [],
-  ◌-◌,
-  ◌<◌,
-  ◌≤◌,
-  ◌^◌,
-  length,
-  true,
-  false,
-  IfOk,
-  IfErr,
-  OnErr,
-  MatchResult,
-};
+ghost use Rattle.std.specs.Prelude.{◌≡◌, ◌≢◌, ℕ, List, [], ◌-◌, ◌<◌, ◌≤◌, ◌^◌, length, true, false, IfOk, IfErr, OnErr, MatchResult};
 ghost use Rattle.std.specs.Coded.{Π_prop};
 ghost use Rattle.vault_volume.specs.Vault.{volume_of};
 ghost use Rattle.custody_records.specs.MemoryRecords.{records_of};
@@ -26,19 +9,8 @@ ghost use Rattle.custody_machine.specs.declared.damage.Damage.TheVariants as dam
 ghost use Rattle.custody_machine.specs.Commands.{command_of};
 ghost use Rattle.custody_machine.specs.Damage.{IsDamaged};
 ghost use Rattle.custody.specs.Answers.{stays_open};
-ghost use Rattle.custody.specs.OpenCustody.{
-  current_records,
-  store_state_of,
-  KeepsOrder,
-  KeepsOrder-prop,
-};
-ghost use Rattle.custody.specs.Opening.{
-  HasNoRecord,
-  ReportsDamage,
-  OnlyReads,
-  OnlyMigrates,
-  free_blocks,
-};
+ghost use Rattle.custody.specs.OpenCustody.{current_records, store_state_of, KeepsOrder, KeepsOrder-prop};
+ghost use Rattle.custody.specs.Opening.{HasNoRecord, ReportsDamage, OnlyReads, OnlyMigrates, free_blocks};
 
 use crate::auditing::audit_parts;
 use crate::fetching::fetch_part;

@@ -1,46 +1,16 @@
 //! What a custody holds, and the commands over it.
-ghost use Rattle.std.specs.Prelude.{
-  ◌≡◌,
-  ℕ,
-  ◌≤◌,
-  length,
-  None,
-  OnOk,
-  IfOk,
-  vec_len,
-  vec_capacity,
-};
+ghost use Rattle.std.specs.Prelude.{◌≡◌, ℕ, ◌≤◌, length, None, OnOk, IfOk, vec_len, vec_capacity};
 ghost use Rattle.std.specs.FinMap.{get};
 ghost use Rattle.deposit_name.specs.Name.{Name};
-ghost use Rattle.custody_records.specs.MemoryRecords.{
-  records_of,
-  HasNoticeRoom,
-  HasPartRoom,
-  HasReleaseRoom,
-};
+ghost use Rattle.custody_records.specs.MemoryRecords.{records_of, HasNoticeRoom, HasPartRoom, HasReleaseRoom};
 ghost use Rattle.custody_records.specs.Records.{key_of};
 ghost use Rattle.custody_records.specs.Rows.{greatest_integer};
-ghost use Rattle.custody_records.specs.TypedRecords.{
-  notice_key,
-  notice_value,
-  release_key,
-  release_value,
-};
+ghost use Rattle.custody_records.specs.TypedRecords.{notice_key, notice_value, release_key, release_value};
 ghost use Rattle.custody_machine.specs.Machine as machine;
 ghost use Rattle.custody_machine.specs.Machine.{next_number, verdict_notice};
 ghost use Rattle.custody_machine.specs.Commands.{command_of};
 ghost use Rattle.custody_machine.specs.Releases.{AreRecordedNames, release_of_records};
-ghost use Rattle.custody_machine.specs.Rulings.{
-  AddsAbsence,
-  AddsHold,
-  AddsRelease,
-  AddsVerdict,
-  DropsBytes,
-  LiftsHold,
-  GoRuling,
-  BringsPart,
-  Decides,
-};
+ghost use Rattle.custody_machine.specs.Rulings.{AddsAbsence, AddsHold, AddsRelease, AddsVerdict, DropsBytes, LiftsHold, GoRuling, BringsPart, Decides};
 ghost use Rattle.custody_rules.specs.Rulings.{change_of};
 ghost use Rattle.custody.specs.Upload.{KeepsStaged};
 ghost use Rattle.custody.specs.OpenCustody.{current_records, KeepsOrder, HasExecuted};

@@ -1,27 +1,5 @@
 //! The steps of an opening and of a beginning.
-ghost use Rattle.std.specs.Prelude.{
-  ◌≡◌,
-  ◌≢◌,
-  ◌⊎◌,
-  ◌↔◌,
-  ℕ,
-  pos,
-  codes,
-  true,
-  false,
-  IsTrue,
-  List,
-  ◌-◌,
-  ◌<◌,
-  ◌≤◌,
-  ◌^◌,
-  is_some,
-  option_map,
-  IfOk,
-  IfErr,
-  OnOk,
-  MatchResult,
-};
+ghost use Rattle.std.specs.Prelude.{◌≡◌, ◌≢◌, ◌⊎◌, ◌↔◌, ℕ, pos, codes, true, false, IsTrue, List, ◌-◌, ◌<◌, ◌^◌, is_some, option_map, IfOk, IfErr, OnOk, MatchResult};
 ghost use Rattle.vault_volume.specs.Disk.{LeavesOneImage};
 ghost use Rattle.vault_volume.specs.Head.{head_of};
 ghost use Rattle.vault_volume.specs.Image.{bytes_at};
@@ -31,13 +9,7 @@ ghost use Rattle.custody_records.specs.MemoryRecords.{records_of};
 ghost use Rattle.custody_records.specs.Rows.{Rows, initial_rows, first_meta};
 ghost use Rattle.custody_records.specs.RowsOfRecords.{digits_of};
 ghost use Rattle.custody_records.specs.TypedRecords as typed;
-ghost use Rattle.custody_store.specs.StoreState.{
-  store_state,
-  HasMetaOrNone,
-  ChangesNothing,
-  CreatesTables,
-  Migrates,
-};
+ghost use Rattle.custody_store.specs.StoreState.{store_state, HasMetaOrNone, ChangesNothing, CreatesTables, Migrates};
 ghost use Rattle.custody_machine.specs.declared.damage.Damage as wrong;
 ghost use Rattle.custody_machine.specs.Damage.{IsDamaged};
 ghost use Rattle.custody_machine.specs.StoredState.{AreWhole};
@@ -45,20 +17,7 @@ ghost use Rattle.custody_machine.specs.Custody.{MayInitialise};
 ghost use Rattle.custody_machine.specs.declared.answers.Failure as why;
 ghost use Rattle.custody.specs.OpenCustody.{current_records, KeepsOrder};
 ghost use Rattle.custody_rules.specs.Blocks.{IsMapOf};
-ghost use Rattle.custody.specs.Opening.{
-  HasNoRecord,
-  failure_of,
-  CountsToldFailure,
-  IsVolumeSize,
-  ReadsVolume,
-  NamesVolume,
-  IsNotIdentified,
-  IsIdentified,
-  IsRefusedBy,
-  ReportsDamage,
-  AreWholeOf,
-  IsRowDamage,
-};
+ghost use Rattle.custody.specs.Opening.{HasNoRecord, failure_of, CountsToldFailure, IsVolumeSize, ReadsVolume, NamesVolume, IsNotIdentified, IsIdentified, IsRefusedBy, ReportsDamage, AreWholeOf, IsRowDamage};
 
 use crate::InitError;
 use crate::open_custody::OpenCustody;

@@ -1,6 +1,5 @@
 //! A part that is received while its bytes are read.
-ghost use Rattle.std.specs.Prelude.{◌≡◌, ◌≤◌, ◌<◌, IfOk, length};
-ghost use Rattle.std.specs.Io.KnownBytes.{IsAtEnd};
+ghost use Rattle.std.specs.Prelude.{◌≡◌, ◌≤◌, ◌<◌, IfOk};
 ghost use Rattle.custody.specs.Receiving.{Fills, GivesPiece, DropsBody, MayTakeBody, TakesBody};
 
 use crate::Refused;

@@ -1,54 +1,17 @@
 //! A part that is taken in, all at once or as its bytes come: written to the vault, compared with what is
 //! kept, or dropped since the answer is known.
-ghost use Rattle.std.specs.Prelude.{
-  ◌≡◌,
-  ◌+◌,
-  ◌-◌,
-  ◌*◌,
-  ◌<◌,
-  ◌≤◌,
-  ◌^◌,
-  IfOk,
-  Some,
-  length,
-  vec_len,
-  vec_capacity,
-};
+ghost use Rattle.std.specs.Prelude.{◌≡◌, ◌+◌, ◌-◌, ◌*◌, ◌<◌, ◌^◌, IfOk, Some};
 ghost use Rattle.sha2.specs.Sha256.{sha256};
 ghost use Rattle.vault_volume.specs.Disk.{CountsFailure};
-ghost use Rattle.vault_volume.specs.Extents.{block_count, blocks_of, part_bytes};
+ghost use Rattle.vault_volume.specs.Extents.{part_bytes};
 ghost use Rattle.vault_volume.specs.Vault.{volume_of};
-ghost use Rattle.custody_records.specs.MemoryRecords.{records_of};
 ghost use Rattle.custody_records.specs.TypedRecords.{part_value};
 ghost use Rattle.custody_machine.specs.Machine.{Receive};
-ghost use Rattle.custody_machine.specs.Rulings.{AddsPart, GoRuling, DecidesPart};
 ghost use Rattle.custody_machine.specs.StoredState.{AreExtents};
-ghost use Rattle.custody.specs.OpenCustody.{current_records, KeepsOrder, HasExecuted};
+ghost use Rattle.custody.specs.OpenCustody.{KeepsOrder, HasExecuted};
 ghost use Rattle.custody.specs.Reading.{ReadsVault};
 ghost use Rattle.custody.specs.ReplyRecords.{IsRecordOfPart};
-ghost use Rattle.custody.specs.Upload.{
-  compared_part,
-  OpensUpload,
-  MayOpenPart,
-  OpensPart,
-  MayOpenChange,
-  OpensChange,
-  OpensComparing,
-  MayWrite,
-  WritesBytes,
-  MayCompare,
-  ComparesBytes,
-  MayDiffer,
-  AnswersOtherBytes,
-  MayTake,
-  TakesBytes,
-  MayComplete,
-  Completes,
-  MayFinish,
-  Finishes,
-  MayGiveUp,
-  GivesUp,
-};
+ghost use Rattle.custody.specs.Upload.{compared_part, OpensUpload, MayOpenPart, OpensPart, MayOpenChange, OpensChange, OpensComparing, MayWrite, WritesBytes, MayCompare, ComparesBytes, MayDiffer, AnswersOtherBytes, MayTake, TakesBytes, MayComplete, Completes, MayFinish, Finishes, MayGiveUp, GivesUp};
 
 use crate::custody::stays_open;
 use crate::open_custody::{OpenCustody, make_room};

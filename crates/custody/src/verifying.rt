@@ -8,13 +8,7 @@ ghost use Rattle.custody_machine.specs.Machine as machine;
 ghost use Rattle.custody_machine.specs.Machine.{base_of, joined_bytes, part_keys};
 ghost use Rattle.custody_machine.specs.StoredState.{HaveExtentsInRange, AreWhole, state_in};
 ghost use Rattle.custody.specs.Reading.{ReadsVault};
-ghost use Rattle.custody.specs.inside.Verifying.{
-  HasFirstPart,
-  HaveDigests,
-  IsVerified,
-  CountsVerifyFailure,
-  chain_keys,
-};
+ghost use Rattle.custody.specs.inside.Verifying.{HasFirstPart, HaveDigests, IsVerified, CountsVerifyFailure, chain_keys};
 
 use crate::Refused;
 use crate::reading::{RevisionBytes, read_revision};

@@ -19,12 +19,12 @@ use Rattle.deposit_verify.specs.declared.verdict.Verdict.TheVariants.{Pass, Fail
 use Rattle.desk.specs.declared.notices.NoticeKind.{NoticeKind}
 use Rattle.custody_records.specs.Keys.{text_cmp, PartKey, part_cmp, NoticeKey}
 use Rattle.custody_records.specs.Records as kept_in
-use Rattle.custody_records.specs.Records.{Notice, key_of, lifted_at, new_hold}
+use Rattle.custody_records.specs.Records.{Notice, key_of, lifted_at}
 use Rattle.custody_machine.specs.declared.command.Statement as statement
 use Rattle.custody_machine.specs.NameReading.{read_name}
 use Rattle.custody_machine.specs.State.{State, Part, Held, part_numbers, key_with_part, is_notice_of, has_notice}
-use Rattle.custody_machine.specs.Machine.{Check, Release, Hold, Lift, Purge, OfRelease, OfHold, OfLifting, OfPurge, kept_hold, lifting_of, state_with_hold, kept_release, without_bytes, is_due_part, part_dropped_if_due, count_due, state_without_due, absence_of, absence_notice, is_absence, is_tld_unregistered, OfNotice, first_part, if_of_id, has_id, is_verdict_of, recorded_verdict, has_verdict, are_parts_as_stated, kept_verdict, state_with_notice, next_key, verdict_notice, notice_kind, verdict_on, Command, Register, Receive, Statement, Record, OfRegistry, OfPart, Reply, Step, Refuse, Accept, first_day_of, part_at, part_under_name, has_other_kind, revision_part, state_with_registry, state_with_part, state_with_release, received_part, kept_record, step, state_of, HasRecord, is_unregistered, is_out_of_size}
-use Rattle.custody_machine.specs.Retries.{command_key, IsKeptAs, StillHas, KeepsRecords, NothingIsRemoved}
+use Rattle.custody_machine.specs.Machine.{Check, Release, Hold, Lift, Purge, OfRelease, OfHold, OfLifting, OfPurge, kept_hold, lifting_of, state_with_hold, kept_release, without_bytes, is_due_part, part_dropped_if_due, count_due, state_without_due, absence_of, absence_notice, is_absence, is_tld_unregistered, OfNotice, first_part, if_of_id, has_id, is_verdict_of, recorded_verdict, has_verdict, are_parts_as_stated, kept_verdict, state_with_notice, next_key, verdict_notice, notice_kind, verdict_on, Command, Register, Receive, Statement, Record, OfRegistry, OfPart, Reply, Step, Refuse, Accept, first_day_of, part_at, part_under_name, has_other_kind, revision_part, state_with_registry, state_with_part, state_with_release, received_part, step, state_of, HasRecord, is_unregistered, is_out_of_size}
+use Rattle.custody_machine.specs.Retries.{IsKeptAs, StillHas, KeepsRecords, NothingIsRemoved}
 use Rattle.custody_machine.proofs.MapValues.{get-map_keyed}
 use Rattle.custody_machine.proofs.SameValues.{text_decides}
 use Rattle.custody_records.specs.inside.Orders.{text_total, part_total, part_exact, notice_total}

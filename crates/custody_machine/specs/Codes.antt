@@ -1,56 +1,14 @@
 -- What a refusal or a failure is told as: one row each.
 use Rattle.std.specs.Prelude.{ℕ, List, ◌++◌, Option, Some, codes}
 use Rattle.custody_machine.specs.declared.answers.Refusal.{Refusal}
-use Rattle.custody_machine.specs.declared.answers.Refusal.TheVariants.{
-  NameRefused,
-  RegistryUnknown,
-  DateOutOfRange,
-  Size,
-  OtherBytes,
-  DroppedAfterKeeping,
-  RevisionNotDue,
-  AlreadyStated,
-  TypeDiffers,
-  PartOutOfOrder,
-  VolumeFull,
-  PartsDiffer,
-  LaterDayPassed,
-  NotYetDue,
-  DayHasVerdict,
-  GroundDoesNotStand,
-  ReferenceUsed,
-  NotInRelease,
-  ReleaseUnknown,
-  HoldReferenceUsed,
-  HoldUnknown,
-}
+use Rattle.custody_machine.specs.declared.answers.Refusal.TheVariants.{NameRefused, RegistryUnknown, DateOutOfRange, Size, OtherBytes, DroppedAfterKeeping, RevisionNotDue, AlreadyStated, TypeDiffers, PartOutOfOrder, VolumeFull, PartsDiffer, LaterDayPassed, NotYetDue, DayHasVerdict, GroundDoesNotStand, ReferenceUsed, NotInRelease, ReleaseUnknown, HoldReferenceUsed, HoldUnknown}
 use Rattle.custody_machine.specs.declared.answers.Failure.{Failure}
-use Rattle.custody_machine.specs.declared.answers.Failure.TheVariants.{
-  NoMemory,
-  VolumeFailed,
-  StoreFailed,
-  Closed,
-  Damaged,
-}
+use Rattle.custody_machine.specs.declared.answers.Failure.TheVariants.{NoMemory, VolumeFailed, StoreFailed, Closed, Damaged}
 use Rattle.custody_machine.specs.declared.codes.Code.{Code}
 use Rattle.custody_machine.specs.declared.codes.ExitStatus.{ExitStatus}
-use Rattle.custody_machine.specs.declared.codes.ExitStatus.TheVariants.{
-  Done,
-  Refused,
-  Misused,
-  Failed,
-}
+use Rattle.custody_machine.specs.declared.codes.ExitStatus.TheVariants.{Done, Refused, Misused, Failed}
 use Rattle.custody_machine.specs.declared.codes.HttpStatus.{HttpStatus}
-use Rattle.custody_machine.specs.declared.codes.HttpStatus.TheVariants.{
-  BadRequest,
-  NotFound,
-  Conflict,
-  Gone,
-  ContentTooLarge,
-  InternalServerError,
-  ServiceUnavailable,
-  InsufficientStorage,
-}
+use Rattle.custody_machine.specs.declared.codes.HttpStatus.TheVariants.{BadRequest, NotFound, Conflict, Gone, ContentTooLarge, InternalServerError, ServiceUnavailable, InsufficientStorage}
 
 -- the exit status of the program
 abbrev pub exit_number : ExitStatus → ℕ

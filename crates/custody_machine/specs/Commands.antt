@@ -1,17 +1,7 @@
 -- The command of a value in memory.
 use Rattle.custody_machine.specs.declared.command.Command as asked
 use Rattle.custody_machine.specs.declared.command.Command.TheVariants as commands
-use Rattle.custody_machine.specs.Machine.{
-  Command,
-  Register,
-  Receive,
-  Statement,
-  Check,
-  Release,
-  Hold,
-  Lift,
-  Purge,
-}
+use Rattle.custody_machine.specs.Machine.{Command, Register, Receive, Statement, Check, Release, Hold, Lift, Purge}
 
 abbrev pub command_of : asked.Command → Command
 command_of (commands.Register tld first_day) = Register tld first_day

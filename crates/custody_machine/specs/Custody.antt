@@ -1,55 +1,19 @@
 -- What holds of an open custody, and what its calls do. The volume's and the database's words come as sets: the blocks that are free, and the images and rows that a stop may leave.
-use Rattle.std.specs.Prelude.{
-  ◌≡◌,
-  ◌≢◌,
-  ◌⊎◌,
-  ℕ,
-  ◌-◌,
-  ◌<◌,
-  ◌≤◌,
-  ◌^◌,
-  List,
-  length,
-  Some,
-  Bool,
-  true,
-  false,
-}
+use Rattle.std.specs.Prelude.{◌≡◌, ◌≢◌, ◌⊎◌, ℕ, ◌-◌, ◌<◌, ◌≤◌, ◌^◌, List, length, Bool, true, false}
 use Rattle.sha2.specs.Sha256.{sha256}
-use Rattle.deposit_name.specs.Name.{Name}
 use Rattle.vault_volume.specs.Image.{DiffersOnlyIn}
 use Rattle.vault_volume.specs.Extents.{AreChosen, HasAtLeast, Takes, block_count, part_bytes}
 use Rattle.extent_map.specs.Staged.{StagedPart}
-use Rattle.custody_records.specs.Records.{PartRecord, Records}
+use Rattle.custody_records.specs.Records.{Records}
 use Rattle.custody_records.specs.Rows.{Rows}
 use Rattle.custody_records.specs.Form.{form_of, InForm, HasCurrentSchema}
 use Rattle.custody_machine.specs.declared.damage.Damage.TheVariants.{NoRecord}
 use Rattle.custody_machine.specs.State.{empty}
-use Rattle.custody_machine.specs.Machine.{
-  Command,
-  Register,
-  Receive,
-  Statement,
-  Check,
-  Release,
-  Hold,
-  Lift,
-  Purge,
-  Answer,
-}
+use Rattle.custody_machine.specs.Machine.{Command, Register, Receive, Statement, Check, Release, Hold, Lift, Purge, Answer}
 use Rattle.custody_machine.specs.History.{Event, Answered, AnsweredOtherCall, ShutDown}
 use Rattle.custody_machine.specs.StoredState.{IsPartBlock, AreWhole, IsVolumeOf}
 use Rattle.custody_machine.specs.Damage.{IsDamaged}
-use Rattle.custody_machine.specs.Moves.{
-  Place,
-  Serving,
-  Shut,
-  Left,
-  MayLeave,
-  MayLeaveWithin,
-  Moves,
-  IsBegun,
-}
+use Rattle.custody_machine.specs.Moves.{Place, Serving, Shut, Left, MayLeave, MayLeaveWithin, Moves, IsBegun}
 
 -- ---- free blocks
 

@@ -8,24 +8,9 @@ use Rattle.custody_records.specs.Rows.{MetaRow, Rows, first_meta}
 use Rattle.custody_records.specs.RowsOfRecords.{digits_of}
 use Rattle.custody_records.specs.Form.{form_of, OutOfForm, InForm, natural}
 use Rattle.custody_machine.specs.declared.damage.Damage.{Damage}
-use Rattle.custody_machine.specs.declared.damage.Damage.TheVariants.{
-  NoRecord,
-  Head,
-  Volume,
-  Schema,
-  Form,
-  Extent,
-  Overlap,
-  Link,
-  Digest,
-}
+use Rattle.custody_machine.specs.declared.damage.Damage.TheVariants.{NoRecord, Head, Volume, Schema, Form, Extent, Overlap, Link, Digest}
 use Rattle.custody_machine.specs.State.{State}
-use Rattle.custody_machine.specs.StoredState.{
-  HaveExtentsInRange,
-  HaveBlocksOnce,
-  AreLinked,
-  StandsFor,
-}
+use Rattle.custody_machine.specs.StoredState.{HaveExtentsInRange, HaveBlocksOnce, AreLinked, StandsFor}
 
 -- a row of `meta` is of a volume with this number and this image
 pub record IsRowOf (meta : MetaRow) (number : ℕ) (image : List ℕ) : Type 0 where

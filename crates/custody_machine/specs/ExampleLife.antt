@@ -1,22 +1,5 @@
 -- One life of a custody, so that the laws speak of something: a command of each kind is accepted, and what is released is fetched (Specification 2, Part A section 7 and Part B sections 4, 6 and 7).
-use Rattle.std.specs.Prelude.{
-  ◌≡◌,
-  ◌≢◌,
-  ℕ,
-  ◌+◌,
-  ◌*◌,
-  List,
-  [],
-  ◌∷◌,
-  ◌++◌,
-  map,
-  None,
-  true,
-  false,
-  codes,
-  Ok,
-  Err,
-}
+use Rattle.std.specs.Prelude.{◌≡◌, ◌≢◌, ℕ, ◌+◌, ◌*◌, List, [], ◌∷◌, ◌++◌, map, None, true, false, codes, Ok, Err}
 use Rattle.deposit_name.specs.declared.kinds.Kind.TheVariants.{Full}
 use Rattle.desk.specs.declared.checks.Check.TheVariants.{Frame}
 use Rattle.desk.specs.declared.grounds.Ground.TheVariants.{Operator}
@@ -25,31 +8,7 @@ use Rattle.custody_records.specs.Keys.{PartKey, NoticeKey}
 use Rattle.custody_machine.specs.declared.answers.Refusal.TheVariants.{DroppedAfterKeeping}
 use Rattle.custody_machine.specs.declared.command.Statement as statement
 use Rattle.custody_machine.specs.State.{State, Held, empty}
-use Rattle.custody_machine.specs.Machine.{
-  Register,
-  Receive,
-  Statement,
-  Check,
-  Release,
-  Hold,
-  Lift,
-  Purge,
-  Record,
-  OfRegistry,
-  OfPart,
-  OfNotice,
-  OfRelease,
-  OfHold,
-  OfLifting,
-  OfPurge,
-  Reply,
-  Accept,
-  Accepted,
-  TimedCommand,
-  step,
-  state_after,
-  after,
-}
+use Rattle.custody_machine.specs.Machine.{Register, Receive, Statement, Check, Release, Hold, Lift, Purge, Record, OfRegistry, OfPart, OfNotice, OfRelease, OfHold, OfLifting, OfPurge, Reply, Accept, Accepted, TimedCommand, step, state_after, after}
 use Rattle.custody_machine.specs.History.{Event, Answered, StoppedAtRest}
 use Rattle.custody_machine.specs.Examples.{HasExamples, FindsCommands, opening_events, pair_of}
 use Rattle.custody_machine.specs.FetchResult.{fetch_result}

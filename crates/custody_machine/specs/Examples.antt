@@ -1,32 +1,8 @@
 -- Histories of each kind, so that the laws speak of something: for each command that is accepted, a stop within it and a failed commit, found and not found; a failed opening between two stops; a failed volume; a repeat; and calls that are none, after which the custody is open or closed.
 use Rattle.std.specs.Prelude.{◌≡◌, ◌≢◌, ℕ, List, [], ◌∷◌, Some, true, false}
 use Rattle.custody_machine.specs.State.{State}
-use Rattle.custody_machine.specs.Machine.{
-  Command,
-  TimedCommand,
-  Reply,
-  Accept,
-  step,
-  Accepted,
-  Failed,
-  VolumeFailed,
-  StoreFailed,
-  Closed,
-}
-use Rattle.custody_machine.specs.History.{
-  Pair,
-  Opened,
-  NotOpened,
-  Event,
-  Answered,
-  AnsweredOtherCall,
-  ShutDown,
-  StoppedAtRest,
-  StoppedWithin,
-  OpenedWith,
-  IsHistory,
-  found,
-}
+use Rattle.custody_machine.specs.Machine.{Command, TimedCommand, Reply, Accept, step, Accepted, Failed, VolumeFailed, StoreFailed, Closed}
+use Rattle.custody_machine.specs.History.{Pair, Opened, NotOpened, Event, Answered, AnsweredOtherCall, ShutDown, StoppedAtRest, StoppedWithin, OpenedWith, IsHistory, found}
 
 -- what is found of an intact custody in a state
 abbrev pub pair_of : State → Pair

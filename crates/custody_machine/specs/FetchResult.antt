@@ -1,32 +1,12 @@
 -- What a release hands over (Specification 2, Part B section 6): the bytes of one of its parts, by the part's name.
-use Rattle.std.specs.Prelude.{
-  ◌≡◌,
-  ◌↔◌,
-  ◌⊎◌,
-  ℕ,
-  List,
-  Contains,
-  Option,
-  Some,
-  None,
-  false,
-  true,
-  if◌then◌else◌,
-  Result,
-  Ok,
-  Err,
-}
+use Rattle.std.specs.Prelude.{◌≡◌, ◌↔◌, ◌⊎◌, ℕ, List, Contains, Option, Some, None, false, true, if◌then◌else◌, Result, Ok, Err}
 use Rattle.std.specs.FinMap.{get}
 use Rattle.deposit_name.specs.declared.errors.NameError.{NameError}
 use Rattle.deposit_name.specs.Name.{Name}
 use Rattle.deposit_verify.specs.Verdict.{contains_text}
 use Rattle.custody_records.specs.Records.{Release, Records, key_of}
 use Rattle.custody_machine.specs.declared.answers.Refusal.{Refusal}
-use Rattle.custody_machine.specs.declared.answers.Refusal.TheVariants.{
-  DroppedAfterKeeping,
-  NotInRelease,
-  ReleaseUnknown,
-}
+use Rattle.custody_machine.specs.declared.answers.Refusal.TheVariants.{DroppedAfterKeeping, NotInRelease, ReleaseUnknown}
 use Rattle.custody_machine.specs.NameReading.{read_name}
 use Rattle.custody_machine.specs.State.{State, Part, Held}
 use Rattle.custody_machine.specs.Machine.{part_under_name, is_dropped, bytes_held}

@@ -1,52 +1,13 @@
 -- What may happen to a custody, whenever it is stopped, and the commands that are found when it is opened again.
 use Rattle.std.specs.Option.{option_or}
-use Rattle.std.specs.Prelude.{
-  ◌≡◌,
-  ℕ,
-  List,
-  [],
-  ◌∷◌,
-  ◌++◌,
-  Option,
-  Some,
-  None,
-  Bool,
-  true,
-  false,
-  not,
-  ◌⊎◌,
-  if◌then◌else◌,
-  Ok,
-}
+use Rattle.std.specs.Prelude.{◌≡◌, ℕ, List, [], ◌∷◌, ◌++◌, Option, Some, None, Bool, true, false, not, ◌⊎◌, if◌then◌else◌, Ok}
 use Rattle.std.specs.FinMap.{get}
 use Rattle.deposit_name.specs.Name.{Name}
 use Rattle.custody_records.specs.Keys.{PartKey}
 use Rattle.custody_records.specs.Records.{key_of}
 use Rattle.custody_machine.specs.NameReading.{read_name}
 use Rattle.custody_machine.specs.State.{State, Part, Held}
-use Rattle.custody_machine.specs.Machine.{
-  Receive,
-  Command,
-  TimedCommand,
-  Step,
-  Refuse,
-  Accept,
-  Reply,
-  step,
-  state_after,
-  after,
-  Answer,
-  Accepted,
-  Refused,
-  Failed,
-  Failure,
-  NoMemory,
-  VolumeFailed,
-  StoreFailed,
-  Closed,
-  Damaged,
-  MayAnswer,
-}
+use Rattle.custody_machine.specs.Machine.{Receive, Command, TimedCommand, Step, Refuse, Accept, Reply, step, state_after, after, Answer, Accepted, Refused, Failed, Failure, NoMemory, VolumeFailed, StoreFailed, Closed, Damaged, MayAnswer}
 use Rattle.custody_machine.specs.SameValues.{is_same_state}
 
 -- ---- what a stop may leave, and what opening may answer. The contracts of the calls cite these too

@@ -13,11 +13,7 @@ use Rattle.desk.specs.Standing.{ground_stands, is_receipt}
 use Rattle.desk.specs.declared.grounds.Ground.{Ground}
 use Rattle.desk.specs.declared.notices.Notice as desk
 use Rattle.desk.specs.declared.notices.NoticeKind.{NoticeKind}
-use Rattle.desk.specs.declared.notices.NoticeKind.TheVariants.{
-  Receipt,
-  Failure as FailureNotice,
-  Absence,
-}
+use Rattle.desk.specs.declared.notices.NoticeKind.TheVariants.{Receipt, Failure as FailureNotice, Absence}
 use Rattle.deposit_verify.specs.declared.base.Base.{Base}
 use Rattle.deposit_verify.specs.declared.verdict.Verdict.{Verdict}
 use Rattle.deposit_verify.specs.declared.verdict.Verdict.TheVariants.{Pass, Fail}
@@ -31,54 +27,16 @@ use Rattle.custody_records.specs.Records.{Notice, key_of, lifted_at, name_of, ne
 use Rattle.custody_records.specs.Tables.{is_rising}
 pub use Rattle.custody_machine.specs.declared.damage.Damage.{Damage}
 pub use Rattle.custody_machine.specs.declared.answers.Refusal.{Refusal}
-pub use Rattle.custody_machine.specs.declared.answers.Refusal.TheVariants.{
-  NameRefused,
-  RegistryUnknown,
-  DateOutOfRange,
-  Size,
-  OtherBytes,
-  DroppedAfterKeeping,
-  RevisionNotDue,
-  AlreadyStated,
-  TypeDiffers,
-  PartOutOfOrder,
-  VolumeFull,
-  PartsDiffer,
-  LaterDayPassed,
-  NotYetDue,
-  DayHasVerdict,
-  GroundDoesNotStand,
-  ReferenceUsed,
-  NotInRelease,
-  ReleaseUnknown,
-  HoldReferenceUsed,
-  HoldUnknown,
-}
+pub use Rattle.custody_machine.specs.declared.answers.Refusal.TheVariants.{NameRefused, RegistryUnknown, DateOutOfRange, Size, OtherBytes, DroppedAfterKeeping, RevisionNotDue, AlreadyStated, TypeDiffers, PartOutOfOrder, VolumeFull, PartsDiffer, LaterDayPassed, NotYetDue, DayHasVerdict, GroundDoesNotStand, ReferenceUsed, NotInRelease, ReleaseUnknown, HoldReferenceUsed, HoldUnknown}
 pub use Rattle.custody_machine.specs.declared.answers.Failure.{Failure}
-pub use Rattle.custody_machine.specs.declared.answers.Failure.TheVariants.{
-  NoMemory,
-  VolumeFailed,
-  StoreFailed,
-  Closed,
-  Damaged,
-}
+pub use Rattle.custody_machine.specs.declared.answers.Failure.TheVariants.{NoMemory, VolumeFailed, StoreFailed, Closed, Damaged}
 use Rattle.custody_machine.specs.declared.damage.Damage.TheVariants.{Digest}
 pub use Rattle.extent_map.specs.Limits.{max_part_len}
 use Rattle.custody_machine.specs.NameReading.{read_name}
 use Rattle.custody_machine.specs.SameValues.{is_same_ground}
 use Rattle.custody_machine.specs.MapValues.{map_keyed}
 use Rattle.custody_machine.specs.declared.command.Statement as statement
-use Rattle.custody_machine.specs.State.{
-  State,
-  Part,
-  Content,
-  Held,
-  Dropped,
-  part_numbers,
-  key_with_part,
-  is_notice_of,
-  has_notice,
-}
+use Rattle.custody_machine.specs.State.{State, Part, Content, Held, Dropped, part_numbers, key_with_part, is_notice_of, has_notice}
 
 -- ---- what is asked and answered
 

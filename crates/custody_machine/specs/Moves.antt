@@ -1,21 +1,5 @@
 -- What may happen to a database and a volume: the moves of a custody over records and images, which the contracts of the calls and the laws both cite.
-use Rattle.std.specs.Prelude.{
-  ◌≡◌,
-  ◌≢◌,
-  ◌⊎◌,
-  ℕ,
-  List,
-  [],
-  ◌∷◌,
-  ◌++◌,
-  Option,
-  Some,
-  None,
-  true,
-  if◌then◌else◌,
-  MatchOption,
-  Contains,
-}
+use Rattle.std.specs.Prelude.{◌≡◌, ◌≢◌, ◌⊎◌, ℕ, List, [], ◌∷◌, ◌++◌, Option, Some, None, true, if◌then◌else◌, MatchOption, Contains}
 use Rattle.std.specs.FinMap.{get}
 use Rattle.extent_map.specs.declared.extent.Extent.{Extent}
 use Rattle.vault_volume.specs.Extents.{part_bytes}
@@ -24,54 +8,9 @@ use Rattle.custody_records.specs.Records.{PartRecord, Records}
 use Rattle.custody_records.specs.Rows.{Rows}
 use Rattle.custody_records.specs.Form.{form_of, InForm}
 use Rattle.custody_machine.specs.State.{State}
-use Rattle.custody_machine.specs.Machine.{
-  Command,
-  TimedCommand,
-  after,
-  deciding_keys,
-  Answer,
-  Accepted,
-  Refused,
-  Failed,
-  Failure,
-  NoMemory,
-  VolumeFailed,
-  StoreFailed,
-  Closed,
-  Damage,
-  Damaged,
-  MayAnswer,
-}
-use Rattle.custody_machine.specs.History.{
-  IsFoundWithin,
-  MayFind,
-  doubt_of,
-  is_open_after,
-  Pair,
-  Opened,
-  NotOpened,
-  Event,
-  Answered,
-  AnsweredOtherCall,
-  ShutDown,
-  StoppedAtRest,
-  StoppedWithin,
-  OpenedWith,
-  IsHistory,
-  found,
-  WasReceived,
-}
-use Rattle.custody_machine.specs.StoredState.{
-  AreWholeOnVolume,
-  part_of,
-  state_in,
-  StandsFor,
-  HasDigestAt,
-  HasDigests,
-  IsSound,
-  KeepsParts,
-  OpensFrom,
-}
+use Rattle.custody_machine.specs.Machine.{Command, TimedCommand, after, deciding_keys, Answer, Accepted, Refused, Failed, Failure, NoMemory, VolumeFailed, StoreFailed, Closed, Damage, Damaged, MayAnswer}
+use Rattle.custody_machine.specs.History.{IsFoundWithin, MayFind, doubt_of, is_open_after, Pair, Opened, NotOpened, Event, Answered, AnsweredOtherCall, ShutDown, StoppedAtRest, StoppedWithin, OpenedWith, IsHistory, found, WasReceived}
+use Rattle.custody_machine.specs.StoredState.{AreWholeOnVolume, part_of, state_in, StandsFor, HasDigestAt, HasDigests, IsSound, KeepsParts, OpensFrom}
 use Rattle.custody_machine.specs.Damage.{IsFirstDamage}
 
 -- between two events

@@ -1,48 +1,12 @@
 -- The name that a text is, as a function (Specification 2, Part A section 5). Only its law is used: `IsReading`, which says it by the names in form and their texts.
-use Rattle.std.specs.Prelude.{
-  ◌≡◌,
-  ◌↔◌,
-  ℕ,
-  zero,
-  suc,
-  ◌+◌,
-  ◌-◌,
-  List,
-  [],
-  ◌∷◌,
-  length,
-  take,
-  drop,
-  Option,
-  Some,
-  None,
-  Bool,
-  ◌==◌,
-  if◌then◌else◌,
-  option_map,
-  codes,
-  nat_eq,
-  Result,
-  Ok,
-  Err,
-  bytes_eq,
-}
+use Rattle.std.specs.Prelude.{◌≡◌, ◌↔◌, ℕ, zero, suc, ◌+◌, ◌-◌, List, [], ◌∷◌, length, take, drop, Option, Some, None, Bool, ◌==◌, if◌then◌else◌, option_map, codes, Result, Ok, Err, bytes_eq}
 use Rattle.std.specs.List.{list_any}
 use Rattle.std.specs.Option.{option_and_then}
-use Rattle.std.specs.Cmp.Lexicographic.{pointwise}
 use Rattle.schedule.specs.Schedule.{last_day}
 use Rattle.schedule.specs.Text.{day_text}
 use Rattle.deposit_name.specs.declared.kinds.Kind.{Kind}
 use Rattle.deposit_name.specs.declared.errors.NameError.{NameError}
-use Rattle.deposit_name.specs.declared.errors.NameError.TheVariants.{
-  Suffix,
-  Pieces,
-  Tld,
-  Date,
-  Kind as KindFault,
-  Part,
-  Revision,
-}
+use Rattle.deposit_name.specs.declared.errors.NameError.TheVariants.{Suffix, Pieces, Tld, Date, Kind as KindFault, Part, Revision}
 use Rattle.deposit_name.specs.Identifiers.{is_tld}
 use Rattle.deposit_name.specs.Name.{Name, IsName, first_name_day, name_text, part_text, rev_text}
 use Rattle.deposit_name.specs.Fault.{NamePieces, IsFault}

@@ -1,17 +1,5 @@
 -- The release that records make, whatever the volume holds.
-use Rattle.std.specs.Prelude.{
-  ◌≡◌,
-  ℕ,
-  List,
-  Option,
-  Some,
-  None,
-  true,
-  ◌&&◌,
-  is_some,
-  if◌then◌else◌,
-  bytes_eq,
-}
+use Rattle.std.specs.Prelude.{◌≡◌, ℕ, List, Option, Some, None, true, ◌&&◌, is_some, if◌then◌else◌, bytes_eq}
 use Rattle.std.specs.FinMap.{entries}
 use Rattle.std.specs.List.{filter_map, list_all}
 use Rattle.deposit_name.specs.Name.{name_text}

@@ -1,26 +1,5 @@
 -- Commands that come again, and what is kept of those that were accepted.
-use Rattle.std.specs.Prelude.{
-  ◌≡◌,
-  ◌↔◌,
-  ◌⊎◌,
-  ℕ,
-  List,
-  [],
-  ◌∷◌,
-  ◌++◌,
-  Option,
-  Some,
-  None,
-  is_some,
-  Bool,
-  true,
-  false,
-  ◌&&◌,
-  ◌==◌,
-  if◌then◌else◌,
-  Ok,
-  bytes_eq,
-}
+use Rattle.std.specs.Prelude.{◌≡◌, ◌↔◌, ◌⊎◌, ℕ, List, [], ◌∷◌, ◌++◌, Option, Some, None, is_some, Bool, true, false, ◌&&◌, ◌==◌, if◌then◌else◌, Ok, bytes_eq}
 use Rattle.std.specs.List.{list_any}
 use Rattle.deposit_name.specs.Name.{Name}
 use Rattle.desk.specs.declared.notices.NoticeKind.TheVariants.{Absence}
@@ -28,57 +7,8 @@ use Rattle.deposit_verify.specs.declared.verdict.Verdict.{Verdict}
 use Rattle.custody_records.specs.Records.{key_of, lifted_at}
 use Rattle.custody_machine.specs.NameReading.{read_name}
 use Rattle.custody_machine.specs.State.{State, Held}
-use Rattle.custody_machine.specs.Machine.{
-  Command,
-  Register,
-  Receive,
-  Statement,
-  Check,
-  Release,
-  Hold,
-  Lift,
-  Purge,
-  notice_kind,
-  without_bytes,
-  DroppedAfterKeeping,
-  Record,
-  OfRegistry,
-  OfPart,
-  OfNotice,
-  OfRelease,
-  OfHold,
-  OfLifting,
-  OfPurge,
-  Reply,
-  Step,
-  Refuse,
-  Accept,
-  TimedCommand,
-  step,
-  state_after,
-  after,
-  part_under_name,
-  is_dropped,
-  Answer,
-  Accepted,
-  Refused,
-  Failed,
-  NoMemory,
-  VolumeFailed,
-  StoreFailed,
-  Closed,
-  Damaged,
-  HasRecord,
-}
-use Rattle.custody_machine.specs.History.{
-  Event,
-  Answered,
-  OpenedWith,
-  Pair,
-  Opened,
-  IsHistory,
-  found,
-}
+use Rattle.custody_machine.specs.Machine.{Command, Register, Receive, Statement, Check, Release, Hold, Lift, Purge, notice_kind, without_bytes, DroppedAfterKeeping, Record, OfRegistry, OfPart, OfNotice, OfRelease, OfHold, OfLifting, OfPurge, Reply, Step, Refuse, Accept, TimedCommand, step, state_after, after, part_under_name, is_dropped, Answer, Accepted, Refused, Failed, NoMemory, VolumeFailed, StoreFailed, Closed, Damaged, HasRecord}
+use Rattle.custody_machine.specs.History.{Event, Answered, OpenedWith, Pair, Opened, IsHistory, found}
 
 -- ---- keys
 

@@ -10,38 +10,7 @@ use Rattle.custody_records.specs.Records.{PartRecord, Records, key_of, new_hold}
 use Rattle.custody_machine.specs.declared.command.Statement as statement
 use Rattle.custody_machine.specs.NameReading.{read_name}
 use Rattle.custody_machine.specs.State.{State}
-use Rattle.custody_machine.specs.Machine.{
-  Command,
-  Register,
-  Receive,
-  Statement,
-  Check,
-  Release,
-  Hold,
-  Lift,
-  Purge,
-  Record,
-  OfRegistry,
-  OfPart,
-  Step,
-  Refuse,
-  Accept,
-  Refusal,
-  OtherBytes,
-  VolumeFull,
-  step,
-  hold_of,
-  hold_step,
-  lift_step,
-  received_part,
-  state_with_registry,
-  state_with_part,
-  statement_step,
-  check_step,
-  new_release,
-  purge_step,
-  release_step,
-}
+use Rattle.custody_machine.specs.Machine.{Command, Register, Receive, Statement, Check, Release, Hold, Lift, Purge, Record, OfRegistry, OfPart, Step, Refuse, Accept, Refusal, OtherBytes, VolumeFull, step, hold_of, hold_step, lift_step, received_part, state_with_registry, state_with_part, statement_step, check_step, new_release, purge_step, release_step}
 use Rattle.custody_machine.specs.StoredState.{part_of, state_in}
 
 -- ---- what may be decided

@@ -1,17 +1,5 @@
 -- Whether two values are the same, as tests.
-use Rattle.std.specs.Prelude.{
-  ℕ,
-  Option,
-  Some,
-  None,
-  Bool,
-  true,
-  false,
-  ◌&&◌,
-  nat_eq,
-  ◌==◌,
-  bytes_eq,
-}
+use Rattle.std.specs.Prelude.{ℕ, Option, Some, None, Bool, true, false, ◌&&◌, nat_eq, ◌==◌, bytes_eq}
 use Rattle.std.specs.Cmp.Lexicographic.{pointwise}
 use Rattle.std.specs.FinMap.{FinMap, entries}
 use Rattle.std.specs.declared.cmp.Ordering.{Ordering}

@@ -1,28 +1,5 @@
 -- What database and volume hold, and the state that they stand for.
-use Rattle.std.specs.Prelude.{
-  ◌≡◌,
-  ◌⊎◌,
-  ℕ,
-  suc,
-  ◌-◌,
-  ◌*◌,
-  ◌<◌,
-  All,
-  List,
-  length,
-  Option,
-  Some,
-  None,
-  is_some,
-  Bool,
-  true,
-  false,
-  ◌&&◌,
-  Result,
-  Ok,
-  Err,
-  bytes_eq,
-}
+use Rattle.std.specs.Prelude.{◌≡◌, ◌⊎◌, ℕ, suc, ◌-◌, ◌*◌, ◌<◌, All, List, length, Option, Some, None, is_some, Bool, true, false, ◌&&◌, Result, Ok, Err, bytes_eq}
 use Rattle.std.specs.List.{list_all}
 use Rattle.std.specs.FinMap.{get}
 use Rattle.desk.specs.Standing.{is_receipt}
@@ -34,29 +11,14 @@ use Rattle.desk.specs.declared.notices.NoticeKind.{NoticeKind}
 use Rattle.desk.specs.declared.notices.NoticeKind.TheVariants.{Receipt, Failure, Absence}
 use Rattle.extent_map.specs.declared.extent.Extent.{Extent}
 use Rattle.vault_volume.specs.Image.{bytes_at}
-use Rattle.vault_volume.specs.Extents.{
-  IsExtentOf,
-  AreApart,
-  IsInAny,
-  block_count,
-  blocks_of,
-  part_bytes,
-}
+use Rattle.vault_volume.specs.Extents.{IsExtentOf, AreApart, IsInAny, block_count, blocks_of, part_bytes}
 use Rattle.vault_volume.specs.Head.{head_of}
 use Rattle.custody_records.specs.Keys.{PartKey, NoticeKey}
 use Rattle.custody_records.specs.Records.{PartRecord, Notice, Release, Hold, Records, key_of}
 use Rattle.custody_records.specs.Rows.{Rows}
 use Rattle.custody_records.specs.Form.{form_of, InForm}
 use Rattle.custody_machine.specs.NameReading.{read_name}
-use Rattle.custody_machine.specs.State.{
-  State,
-  Part,
-  Content,
-  Held,
-  Dropped,
-  key_with_part,
-  has_notice,
-}
+use Rattle.custody_machine.specs.State.{State, Part, Content, Held, Dropped, key_with_part, has_notice}
 use Rattle.custody_machine.specs.Machine.{is_absence, is_failure_of}
 use Rattle.custody_machine.specs.MapValues.{map_values}
 

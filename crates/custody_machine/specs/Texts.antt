@@ -6,17 +6,7 @@ use Rattle.custody_machine.specs.declared.answers.Refusal.TheVariants.{NameRefus
 use Rattle.custody_machine.specs.declared.answers.Failure.{Failure}
 use Rattle.custody_machine.specs.declared.answers.Failure.TheVariants.{Damaged}
 use Rattle.custody_machine.specs.declared.damage.Damage.{Damage}
-use Rattle.custody_machine.specs.declared.damage.Damage.TheVariants.{
-  NoRecord,
-  Head,
-  Volume,
-  Schema,
-  Form,
-  Extent,
-  Overlap,
-  Link,
-  Digest,
-}
+use Rattle.custody_machine.specs.declared.damage.Damage.TheVariants.{NoRecord, Head, Volume, Schema, Form, Extent, Overlap, Link, Digest}
 use Rattle.custody_machine.specs.Codes.{CodeRow, failure_code, refusal_code, code_row_text}
 
 abbrev pub damage_text : Damage → List ℕ

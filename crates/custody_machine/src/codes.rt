@@ -1,12 +1,6 @@
 //! What a refusal or a failure is told as: one row each.
 ghost use Rattle.std.specs.Prelude.{◌≡◌, ◌++◌, codes, decimal};
-ghost use Rattle.custody_machine.specs.Codes.{
-  failure_code,
-  http_number,
-  refusal_code,
-  code_row,
-  exit_number,
-};
+ghost use Rattle.custody_machine.specs.Codes.{failure_code, http_number, refusal_code, code_row, exit_number};
 ghost use Rattle.custody_machine.specs.Machine.{refusal_number};
 
 use crate::{Failure, Refusal};

@@ -5,30 +5,11 @@ ghost use Rattle.custody_machine.specs.Damage.{IsRefinement};
 ghost use Rattle.custody_machine.specs.State.{State};
 ghost use Rattle.custody_machine.specs.FetchResult.{FetchesOne, FetchesHeld};
 ghost use Rattle.custody_machine.specs.Machine.{TestsAreInOrder};
-ghost use Rattle.custody_machine.specs.History.{
-  OpeningsAreRight,
-  NothingIsTakenBack,
-  AcceptedIsFound,
-  HeldAsReceived,
-};
+ghost use Rattle.custody_machine.specs.History.{OpeningsAreRight, NothingIsTakenBack, AcceptedIsFound, HeldAsReceived};
 ghost use Rattle.custody_machine.specs.Examples.{HistoriesHappen};
 ghost use Rattle.custody_machine.specs.ExampleLife.{CustodyLives};
-ghost use Rattle.custody_machine.specs.Moves.{
-  MovesAreHistories,
-  PlacesAreRight,
-  NoDamageIsReported,
-  ReadsBackAsReceived,
-  FindsOne,
-  AnswersAreMoves,
-};
-ghost use Rattle.custody_machine.specs.Retries.{
-  KeysAreCompared,
-  ActsOnce,
-  RepeatsAreAnswered,
-  NothingIsRemoved,
-  RepliesAreRecords,
-  AcknowledgedIsKept,
-};
+ghost use Rattle.custody_machine.specs.Moves.{MovesAreHistories, PlacesAreRight, NoDamageIsReported, ReadsBackAsReceived, FindsOne, AnswersAreMoves};
+ghost use Rattle.custody_machine.specs.Retries.{KeysAreCompared, ActsOnce, RepeatsAreAnswered, NothingIsRemoved, RepliesAreRecords, AcknowledgedIsKept};
 
 use deposit_verify::law_verdict;
 

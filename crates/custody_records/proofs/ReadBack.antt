@@ -1,5 +1,5 @@
 -- The row that is written for a record is read back as that record.
-use Rattle.std.proofs.Common.{◌≡◌, ℕ, suc, pos, ◌+◌, ◌<◌, List, [], ◌∷◌, ◌++◌, ◌==◌, length, get_or, true, ◌&&◌, cond, Option, Some, None, refl, sym, ◌∙◌, ap, arith, take}
+use Rattle.std.proofs.Common.{◌≡◌, ℕ, suc, pos, ◌+◌, ◌<◌, List, [], ◌∷◌, ◌++◌, ◌==◌, length, get_or, true, ◌&&◌, cond, Option, Some, None, refl, ◌∙◌, ap, arith, take}
 use Rattle.std.specs.Prelude.{option_map, All}
 use Rattle.std.specs.Str.{bytes_eq}
 use Rattle.std.specs.Option.{option_and_then}

@@ -1,36 +1,5 @@
 -- What the rows of the tables stand for: whether they are in form, and the records that they make.
-use Rattle.std.specs.Prelude.{
-  ◌≡◌,
-  ℕ,
-  ℤ,
-  pos,
-  negsuc,
-  ◌+◌,
-  ◌*◌,
-  ◌-◌,
-  List,
-  [],
-  ◌∷◌,
-  length,
-  Option,
-  Some,
-  None,
-  Bool,
-  true,
-  false,
-  not,
-  ◌&&◌,
-  ◌||◌,
-  ◌==◌,
-  nat_lt,
-  if◌then◌else◌,
-  is_some,
-  option_map,
-  find,
-  Result,
-  Ok,
-  Err,
-}
+use Rattle.std.specs.Prelude.{◌≡◌, ℕ, ℤ, pos, negsuc, ◌+◌, ◌*◌, ◌-◌, List, [], ◌∷◌, length, Option, Some, None, Bool, true, false, not, ◌&&◌, ◌||◌, ◌==◌, nat_lt, if◌then◌else◌, is_some, option_map, find, Result, Ok, Err}
 use Rattle.std.specs.Option.{option_and_then}
 use Rattle.std.specs.Str.{bytes_eq}
 use Rattle.std.specs.declared.cmp.Ordering.{Ordering}
@@ -46,35 +15,11 @@ use Rattle.deposit_name.specs.Name.{first_name_day, kind_text}
 use Rattle.desk.specs.Checks.{check_number}
 use Rattle.desk.specs.Grounds.{ground_text}
 use Rattle.desk.specs.declared.checks.Check.{Check}
-use Rattle.desk.specs.declared.checks.Check.TheVariants.{
-  Frame,
-  Envelope,
-  Name,
-  Statement,
-  Weekday,
-  PrevId,
-  IdTaken,
-  Menu,
-  Files,
-  Table,
-  Counts,
-  References,
-  Deletes,
-}
+use Rattle.desk.specs.declared.checks.Check.TheVariants.{Frame, Envelope, Name, Statement, Weekday, PrevId, IdTaken, Menu, Files, Table, Counts, References, Deletes}
 use Rattle.desk.specs.declared.notices.NoticeKind.{NoticeKind}
 use Rattle.desk.specs.declared.notices.NoticeKind.TheVariants.{Receipt, Failure, Absence}
 use Rattle.desk.specs.declared.grounds.Ground.{Ground}
-use Rattle.desk.specs.declared.grounds.Ground.TheVariants.{
-  Operator,
-  Termination,
-  NoNotices,
-  SundayFailed,
-  FiveFailed,
-  Insolvency,
-  Critical,
-  Order,
-  Audit,
-}
+use Rattle.desk.specs.declared.grounds.Ground.TheVariants.{Operator, Termination, NoNotices, SundayFailed, FiveFailed, Insolvency, Critical, Order, Audit}
 use Rattle.extent_map.specs.declared.extent.Extent.{Extent}
 use Rattle.extent_map.specs.Limits.{fewest_blocks, most_blocks, max_part_len}
 use Rattle.custody_records.specs.declared.damage.RowDamage.{RowDamage}
@@ -82,17 +27,7 @@ use Rattle.custody_records.specs.declared.damage.RowDamage.TheVariants as damage
 use Rattle.custody_records.specs.Keys.{text_cmp, PartKey, part_cmp, NoticeKey, notice_cmp}
 use Rattle.custody_records.specs.Names.{lines_of}
 use Rattle.custody_records.specs.Records.{PartRecord, Notice, Release, Hold, Records}
-use Rattle.custody_records.specs.Rows.{
-  MetaRow,
-  RegistryRow,
-  PartRow,
-  NoticeRow,
-  HandoverRow,
-  HoldRow,
-  Rows,
-  first_meta,
-  greatest_integer,
-}
+use Rattle.custody_records.specs.Rows.{MetaRow, RegistryRow, PartRow, NoticeRow, HandoverRow, HoldRow, Rows, first_meta, greatest_integer}
 use Rattle.custody_records.specs.RowsOfRecords.{text_of_lines}
 
 -- ---- fields

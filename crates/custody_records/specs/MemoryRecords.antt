@@ -3,18 +3,7 @@ use Rattle.custody_records.specs.declared.records.Records as held
 use Rattle.custody_records.specs.Keys.{text_cmp, part_cmp, notice_cmp}
 use Rattle.custody_records.specs.Records.{Records}
 use Rattle.custody_records.specs.Tables.{HasRoom, table_map}
-use Rattle.custody_records.specs.TypedRecords.{
-  registry_key,
-  registry_value,
-  key_of_part,
-  part_value,
-  notice_key,
-  notice_value,
-  release_key,
-  release_value,
-  hold_key,
-  hold_value,
-}
+use Rattle.custody_records.specs.TypedRecords.{registry_key, registry_value, key_of_part, part_value, notice_key, notice_value, release_key, release_value, hold_key, hold_value}
 
 abbrev pub records_of : held.Records → Records
 records_of r = record {

@@ -1,18 +1,5 @@
 -- The records of parts after the bytes were dropped whose keeping year is over.
-use Rattle.std.specs.Prelude.{
-  ℕ,
-  nat_lt,
-  ◌==◌,
-  Bool,
-  not,
-  ◌&&◌,
-  if◌then◌else◌,
-  List,
-  map,
-  None,
-  is_some,
-  is_none,
-}
+use Rattle.std.specs.Prelude.{ℕ, nat_lt, ◌==◌, Bool, not, ◌&&◌, if◌then◌else◌, List, map, None, is_some, is_none}
 use Rattle.std.specs.FinMap.{FinMap, entries}
 use Rattle.std.specs.List.{list_any}
 use Rattle.std.specs.Str.{bytes_eq}

@@ -10,14 +10,7 @@ use Rattle.desk.specs.declared.notices.NoticeKind.{NoticeKind}
 use Rattle.desk.specs.declared.grounds.Ground.{Ground}
 use Rattle.extent_map.specs.declared.extent.Extent.{Extent}
 use Rattle.extent_map.specs.Staged.{StagedPart}
-use Rattle.custody_records.specs.Keys.{
-  text_cmp,
-  PartKey,
-  part_cmp,
-  revision_cmp,
-  NoticeKey,
-  notice_cmp,
-}
+use Rattle.custody_records.specs.Keys.{text_cmp, PartKey, part_cmp, revision_cmp, NoticeKey, notice_cmp}
 
 -- a part: its kind, when it was received, its length and SHA-256, and the extents of its bytes
 pub record PartRecord : Type 0 where

@@ -1,19 +1,5 @@
 -- The tables of a custody as rows, in the order in which they were added. A table that is not there is None.
-use Rattle.std.specs.Prelude.{
-  ℕ,
-  ℤ,
-  pos,
-  if◌then◌else◌,
-  List,
-  [],
-  ◌∷◌,
-  ◌++◌,
-  Option,
-  Some,
-  map,
-  option_map,
-  slice_get,
-}
+use Rattle.std.specs.Prelude.{ℕ, ℤ, pos, if◌then◌else◌, List, [], ◌∷◌, ◌++◌, Option, Some, map, option_map, slice_get}
 use Rattle.std.specs.Str.{bytes_eq}
 use Rattle.std.specs.Option.{option_and_then}
 

@@ -1,26 +1,5 @@
 -- The rows that are written for records, and the forms that records have to have for it.
-use Rattle.std.specs.Prelude.{
-  ◌≡◌,
-  ℕ,
-  pos,
-  ◌^◌,
-  ◌<◌,
-  ◌≤◌,
-  List,
-  [],
-  ◌∷◌,
-  ◌++◌,
-  length,
-  Option,
-  Some,
-  None,
-  Bool,
-  not,
-  ◌==◌,
-  IsTrue,
-  option_map,
-  All,
-}
+use Rattle.std.specs.Prelude.{◌≡◌, ℕ, pos, ◌^◌, ◌<◌, ◌≤◌, List, [], ◌∷◌, ◌++◌, length, Option, Some, None, Bool, not, ◌==◌, IsTrue, option_map, All}
 use Rattle.std.specs.List.{list_all}
 use Rattle.std.specs.Int.{IsInRange, w32, w64, to_be_bytes}
 use Rattle.hex.specs.Hex.{encode_lower}
@@ -35,14 +14,7 @@ use Rattle.extent_map.specs.declared.extent.Extent.{Extent}
 use Rattle.extent_map.specs.Limits.{max_part_len}
 use Rattle.custody_records.specs.Keys.{PartKey, NoticeKey}
 use Rattle.custody_records.specs.Records.{PartRecord, Notice, Release, Hold}
-use Rattle.custody_records.specs.Rows.{
-  RegistryRow,
-  PartRow,
-  NoticeRow,
-  HandoverRow,
-  HoldRow,
-  greatest_integer,
-}
+use Rattle.custody_records.specs.Rows.{RegistryRow, PartRow, NoticeRow, HandoverRow, HoldRow, greatest_integer}
 
 -- ---- registries
 

@@ -19,15 +19,7 @@ use Rattle.custody_records.specs.declared.releases.ReleaseColumns.{ReleaseColumn
 use Rattle.custody_records.specs.Keys.{PartKey, NoticeKey}
 use Rattle.custody_records.specs.Records.{PartRecord, Notice, Release, Hold, key_of}
 use Rattle.custody_records.specs.Rows.{MetaRow, PartRow, NoticeRow, HandoverRow, HoldRow}
-use Rattle.custody_records.specs.Form.{
-  natural,
-  is_within,
-  is_number,
-  is_deposit_day,
-  is_moment,
-  kind_in,
-  number_in,
-}
+use Rattle.custody_records.specs.Form.{natural, is_within, is_number, is_deposit_day, is_moment, kind_in, number_in}
 use Rattle.custody_records.specs.RowsOfRecords.{digits_of}
 
 -- ---- registries

@@ -1,19 +1,5 @@
 //! Extents as bytes: start and count of each as four bytes each, the greatest first.
-ghost use Rattle.std.specs.Prelude.{
-  ◌≡◌,
-  ◌≤◌,
-  ◌<◌,
-  ◌*◌,
-  ◌==◌,
-  if◌then◌else◌,
-  [],
-  ◌∷◌,
-  length,
-  option_map,
-  IfNone,
-  IfSome,
-  MatchResult,
-};
+ghost use Rattle.std.specs.Prelude.{◌≡◌, ◌≤◌, ◌<◌, ◌*◌, ◌==◌, if◌then◌else◌, [], ◌∷◌, length, option_map, IfNone, IfSome, MatchResult};
 ghost use Rattle.arrayvec.specs.ArrayVec.{array_vec_len};
 ghost use Rattle.custody_records.specs.Form.{extents_in, blob_extents};
 ghost use Rattle.custody_records.specs.RowsOfRecords.{blob_of};

@@ -6,13 +6,7 @@ ghost use Rattle.custody_records.specs.inside.Orders.{text_exact, text_total};
 ghost use Rattle.custody_records.specs.Records as records;
 ghost use Rattle.custody_records.specs.Purge.{is_hold_of_part, is_on_hold};
 ghost use Rattle.custody_records.specs.Tables.{table_map};
-ghost use Rattle.custody_records.specs.TypedRecords.{
-  hold_entry,
-  hold_key,
-  hold_row,
-  hold_value,
-  key_of_part,
-};
+ghost use Rattle.custody_records.specs.TypedRecords.{hold_entry, hold_key, hold_row, hold_value, key_of_part};
 
 use crate::Part;
 use crate::tables::{Keyed, SortedRows};

@@ -1,18 +1,5 @@
 //! The names of a release as lines of text.
-ghost use Rattle.std.specs.Prelude.{
-  ◌≡◌,
-  ◌==◌,
-  count_by,
-  length,
-  IfOk,
-  MatchResult,
-  OnOk,
-  OnErr,
-  IsTrue,
-  [],
-  ◌∷◌,
-  ◌++◌,
-};
+ghost use Rattle.std.specs.Prelude.{◌≡◌, ◌==◌, count_by, length, IfOk, MatchResult, OnOk, OnErr, IsTrue, [], ◌∷◌, ◌++◌};
 ghost use Rattle.std.specs.List.{list_all};
 ghost use Rattle.deposit_name.specs.Name.{IsName, name_text};
 ghost use Rattle.custody_records.specs.Form.{lines_in};

@@ -1,25 +1,10 @@
 //! Notices as rows.
 ghost use Rattle.std.specs.Prelude.{◌≡◌, None, Some, if◌then◌else◌, option_map};
-ghost use Rattle.custody_records.specs.Form.{
-  check_in,
-  is_within,
-  natural,
-  notice_in,
-  notice_kind_in,
-};
+ghost use Rattle.custody_records.specs.Form.{check_in, is_within, natural, notice_in, notice_kind_in};
 ghost use Rattle.custody_records.specs.Keys.{notice_cmp, text_cmp};
-ghost use Rattle.custody_records.specs.inside.Orders.{
-  notice_exact,
-  notice_registries_ascend,
-  notice_total,
-};
+ghost use Rattle.custody_records.specs.inside.Orders.{notice_exact, notice_registries_ascend, notice_total};
 ghost use Rattle.custody_records.specs.Records as records;
-ghost use Rattle.custody_records.specs.TypedRecords.{
-  notice_entry,
-  notice_key,
-  notice_row,
-  notice_value,
-};
+ghost use Rattle.custody_records.specs.TypedRecords.{notice_entry, notice_key, notice_row, notice_value};
 
 use crate::NoticeKey;
 use crate::fields::number_within;

@@ -2,21 +2,9 @@
 ghost use Rattle.std.specs.Prelude.{◌≡◌, MatchResult};
 ghost use Rattle.custody_records.specs.Form.{part_in};
 ghost use Rattle.custody_records.specs.Keys.{part_cmp, revision_cmp, text_cmp};
-ghost use Rattle.custody_records.specs.inside.Orders.{
-  part_exact,
-  part_registries_ascend,
-  part_revisions_ascend,
-  part_total,
-};
+ghost use Rattle.custody_records.specs.inside.Orders.{part_exact, part_registries_ascend, part_revisions_ascend, part_total};
 ghost use Rattle.custody_records.specs.Records.{PartRecord, key_of};
-ghost use Rattle.custody_records.specs.TypedRecords.{
-  part_entry,
-  key_of_part,
-  part_row,
-  part_value,
-  name_in,
-  received_in,
-};
+ghost use Rattle.custody_records.specs.TypedRecords.{part_entry, key_of_part, part_row, part_value, name_in, received_in};
 ghost use Rattle.custody_records.specs.declared.errors.RowError.TheVariants.{OutOfForm};
 
 use crate::extents::read_extents;

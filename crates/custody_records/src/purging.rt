@@ -1,5 +1,5 @@
 //! Bytes of parts that are dropped.
-ghost use Rattle.std.specs.Prelude.{◌≡◌, length};
+ghost use Rattle.std.specs.Prelude.{◌≡◌};
 ghost use Rattle.custody_records.specs.Purge.{is_due, dropped_if_due, entries_without_due};
 ghost use Rattle.std.specs.FinMap.{entries};
 ghost use Rattle.custody_records.specs.Keys.{part_cmp, text_cmp};

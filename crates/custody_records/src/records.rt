@@ -1,32 +1,10 @@
 //! The records of a custody in memory.
-ghost use Rattle.std.specs.Prelude.{
-  ◌≡◌,
-  true,
-  None,
-  IsSome,
-  IfSome,
-  OnOk,
-  OnErr,
-  IsErrOf,
-  option_map,
-  option_copied,
-};
+ghost use Rattle.std.specs.Prelude.{◌≡◌, true, None, IsSome, IfSome, OnOk, OnErr, IsErrOf, option_map, option_copied};
 ghost use Rattle.std.specs.FinMap.{get, entries};
 ghost use Rattle.custody_records.specs.Purge.{entries_without_due, is_due};
 ghost use Rattle.custody_records.specs.Keys.{text_cmp, part_cmp, notice_cmp};
 ghost use Rattle.custody_records.specs.Tables.{row_entries, is_rising, table_map};
-ghost use Rattle.custody_records.specs.TypedRecords.{
-  registry_key,
-  registry_value,
-  key_of_part,
-  part_value,
-  notice_key,
-  notice_value,
-  release_key,
-  release_value,
-  hold_key,
-  hold_value,
-};
+ghost use Rattle.custody_records.specs.TypedRecords.{registry_key, registry_value, key_of_part, part_value, notice_key, notice_value, release_key, release_value, hold_key, hold_value};
 
 use crate::tables::SortedRows;
 use crate::{Hold, NoticeKey, Part, PartKey, Registry, Release, RowError, purging};

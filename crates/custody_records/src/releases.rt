@@ -4,12 +4,7 @@ ghost use Rattle.custody_records.specs.Form.{ground_in, release_in};
 ghost use Rattle.custody_records.specs.Keys.{text_cmp};
 ghost use Rattle.custody_records.specs.inside.Orders.{text_exact, text_total};
 ghost use Rattle.custody_records.specs.Records as records;
-ghost use Rattle.custody_records.specs.TypedRecords.{
-  release_entry,
-  release_key,
-  release_value,
-  handover_row,
-};
+ghost use Rattle.custody_records.specs.TypedRecords.{release_entry, release_key, release_value, handover_row};
 ghost use Rattle.custody_records.specs.declared.errors.RowError.TheVariants.{OutOfForm};
 
 use crate::tables::Keyed;

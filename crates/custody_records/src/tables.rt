@@ -1,18 +1,5 @@
 //! A table in memory: rows in the order of their keys, each key once.
-ghost use Rattle.std.specs.Prelude.{
-  ◌≡◌,
-  ◌≤◌,
-  length,
-  true,
-  None,
-  IsSome,
-  IfSome,
-  OnOk,
-  OnErr,
-  IsErrOf,
-  option_map,
-  option_copied,
-};
+ghost use Rattle.std.specs.Prelude.{◌≡◌, ◌≤◌, length, true, None, IsSome, IfSome, OnOk, OnErr, IsErrOf, option_map, option_copied};
 ghost use Rattle.std.specs.Cmp.{IsTotalOrder};
 ghost use Rattle.std.specs.FinMap.{IsAntisymmetric, empty, entries, get, insert};
 ghost use Rattle.std.specs.List.{filter};

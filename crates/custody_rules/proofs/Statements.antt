@@ -1,19 +1,18 @@
 -- What the records tell of a statement is what the machine decides of it, in their state with any image.
 use Rattle.std.proofs.Common.{◌≡◌, ◌≢◌, inl, inr, ℕ, List, Option, Some, None, Bool, true, false, not, ◌&&◌, ◌||◌, ◌==◌, nat_lt, cond, refl, ◌∙◌, ap, is_none}
-use Rattle.std.specs.Prelude.{option_map, unwrap_or, if◌then◌else◌}
+use Rattle.std.specs.Prelude.{unwrap_or, if◌then◌else◌}
 use Rattle.std.specs.List.{find, list_any}
 use Rattle.std.specs.Option.{option_and_then}
 use Rattle.std.specs.FinMap.{entries, get}
 use Rattle.schedule.specs.Schedule.{day_of}
-use Rattle.extent_map.specs.declared.extent.Extent.{Extent}
 use Rattle.custody_records.specs.Keys.{NoticeKey}
-use Rattle.custody_records.specs.Records.{Notice, PartRecord, Records, key_of}
+use Rattle.custody_records.specs.Records.{Notice, Records, key_of}
 use Rattle.custody_machine.specs.declared.command.Statement as statement
 use Rattle.custody_machine.specs.State.{State, part_numbers, key_with_part, has_notice, is_notice_of}
-use Rattle.custody_machine.specs.StoredState.{part_of, content_of, state_in}
+use Rattle.custody_machine.specs.StoredState.{state_in}
 use Rattle.custody_machine.specs.declared.answers.Refusal.{Refusal}
 use Rattle.custody_machine.specs.declared.answers.Refusal.TheVariants.{RegistryUnknown, DateOutOfRange, DroppedAfterKeeping, AlreadyStated, TypeDiffers, PartsDiffer, LaterDayPassed, OtherBytes, VolumeFull}
-use Rattle.custody_machine.specs.Machine.{Statement, OfNotice, Accept, revision_part, is_dropped, are_bytes_dropped, first_part, is_verdict_of, if_of_id, has_dropped_part, has_other_count, kept_verdict, statement_tests, first_refusal, step}
+use Rattle.custody_machine.specs.Machine.{Statement, OfNotice, Accept, first_part, is_verdict_of, if_of_id, has_other_count, kept_verdict, statement_tests, first_refusal, step}
 use Rattle.custody_machine.specs.Rulings.{AddsVerdict, RefuseRuling, KeptRuling, GoRuling, Decides}
 use Rattle.custody_machine.proofs.Accepting.{step_none, step_refuses}
 use Rattle.custody_machine.proofs.Keeping.{Again, asked_again}

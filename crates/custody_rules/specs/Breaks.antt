@@ -1,17 +1,7 @@
 -- What is wrong among records.
 use Rattle.custody_records.specs.Records.{Records}
 use Rattle.custody_machine.specs.declared.damage.Damage.{Damage}
-use Rattle.custody_machine.specs.declared.damage.Damage.TheVariants.{
-  NoRecord,
-  Head,
-  Volume,
-  Schema,
-  Form,
-  Extent,
-  Overlap,
-  Link,
-  Digest,
-}
+use Rattle.custody_machine.specs.declared.damage.Damage.TheVariants.{NoRecord, Head, Volume, Schema, Form, Extent, Overlap, Link, Digest}
 use Rattle.custody_machine.specs.StoredState.{HaveExtentsInRange, HaveBlocksOnce, AreLinked}
 
 -- the first of the rules among records that these break: no other damage is theirs

@@ -1,26 +1,5 @@
 -- What the tests of a part read in the records.
-use Rattle.std.specs.Prelude.{
-  ◌≡◌,
-  ℕ,
-  List,
-  Option,
-  Some,
-  None,
-  Bool,
-  true,
-  false,
-  ◌&&◌,
-  ◌||◌,
-  ◌==◌,
-  not,
-  nat_lt,
-  count_by,
-  is_none,
-  is_some,
-  if◌then◌else◌,
-  Ok,
-  bytes_eq,
-}
+use Rattle.std.specs.Prelude.{◌≡◌, ℕ, List, Option, Some, None, Bool, true, false, ◌&&◌, ◌||◌, ◌==◌, not, nat_lt, count_by, is_none, is_some, if◌then◌else◌, Ok, bytes_eq}
 use Rattle.std.specs.List.{find, list_any}
 use Rattle.std.specs.FinMap.{entries, get}
 use Rattle.std.specs.Option.{option_and_then}

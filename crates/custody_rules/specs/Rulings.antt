@@ -1,21 +1,6 @@
 -- The rulings of the code, as those of the machine.
-use Rattle.custody_records.specs.TypedRecords.{
-  notice_key,
-  notice_value,
-  part_value,
-  release_key,
-  release_value,
-  hold_key,
-  hold_value,
-}
-use Rattle.custody_machine.specs.Machine.{
-  Record,
-  OfRegistry,
-  OfNotice,
-  OfRelease,
-  OfHold,
-  OfLifting,
-}
+use Rattle.custody_records.specs.TypedRecords.{notice_key, notice_value, part_value, release_key, release_value, hold_key, hold_value}
+use Rattle.custody_machine.specs.Machine.{Record, OfRegistry, OfNotice, OfRelease, OfHold, OfLifting}
 use Rattle.custody_machine.specs.Rulings as machine
 use Rattle.custody_rules.specs.declared.ruling.Change as change
 use Rattle.custody_rules.specs.declared.ruling.Change.TheVariants as makes

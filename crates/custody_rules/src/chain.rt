@@ -2,14 +2,7 @@
 ghost use Rattle.std.specs.Prelude.{◌≡◌, List, ℕ, IfOk};
 ghost use Rattle.std.specs.List.{list_any};
 ghost use Rattle.custody_records.specs.MemoryRecords.{records_of};
-ghost use Rattle.custody_machine.specs.Machine.{
-  chain_of,
-  has_dropped_part,
-  held_chain,
-  later_names,
-  latest_full,
-  passed_first_names,
-};
+ghost use Rattle.custody_machine.specs.Machine.{chain_of, has_dropped_part, held_chain, later_names, latest_full, passed_first_names};
 ghost use Rattle.custody_machine.specs.StoredState.{state_in};
 ghost use Rattle.custody_rules.specs.inside.Chains.{is_first_of_passed_in};
 

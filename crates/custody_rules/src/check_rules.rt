@@ -1,28 +1,12 @@
 //! How a check is judged by the records.
-ghost use Rattle.std.specs.Prelude.{
-  ◌≡◌,
-  ◌≢◌,
-  ◌==◌,
-  ◌||◌,
-  List,
-  None,
-  Some,
-  IfSome,
-  ℕ,
-  find,
-  nat_lt,
-};
+ghost use Rattle.std.specs.Prelude.{◌≡◌, ◌≢◌, ◌==◌, ◌||◌, List, None, Some, IfSome, ℕ, find};
 ghost use Rattle.std.specs.FinMap.{entries, get};
-ghost use Rattle.schedule.specs.Schedule.{day_of};
 ghost use Rattle.custody_records.specs.MemoryRecords.{records_of};
 ghost use Rattle.custody_machine.specs.Machine.{Check, check_tests, first_refusal, is_absence};
 ghost use Rattle.custody_machine.specs.Rulings.{Decides};
 ghost use Rattle.custody_machine.specs.State.{is_notice_of};
 ghost use Rattle.custody_machine.specs.StoredState.{state_in};
-ghost use Rattle.custody_machine.specs.declared.answers.Refusal.TheVariants.{
-  OtherBytes,
-  VolumeFull,
-};
+ghost use Rattle.custody_machine.specs.declared.answers.Refusal.TheVariants.{OtherBytes, VolumeFull};
 ghost use Rattle.custody_rules.specs.Rulings.{ruling_of};
 
 use crate::days::{absence_of, has_verdict};

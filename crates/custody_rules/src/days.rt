@@ -4,13 +4,7 @@ ghost use Rattle.std.specs.FinMap.{entries};
 ghost use Rattle.desk.specs.Standing.{is_receipt};
 ghost use Rattle.custody_records.specs.MemoryRecords.{records_of};
 ghost use Rattle.custody_records.specs.TypedRecords.{notice_entry};
-ghost use Rattle.custody_machine.specs.Machine.{
-  is_absence,
-  is_failure_of,
-  is_receipt_of,
-  is_verdict,
-  is_verdict_of,
-};
+ghost use Rattle.custody_machine.specs.Machine.{is_absence, is_failure_of, is_receipt_of, is_verdict, is_verdict_of};
 ghost use Rattle.custody_machine.specs.State.{has_notice, is_notice_of};
 
 use custody_records::Records;

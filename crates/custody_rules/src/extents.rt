@@ -2,7 +2,6 @@
 ghost use Rattle.std.specs.Prelude.{◌≡◌, ◌↔◌, IsTrue, All, true, false};
 ghost use Rattle.vault_volume.specs.Extents.{blocks_of};
 ghost use Rattle.custody_records.specs.MemoryRecords.{records_of};
-ghost use Rattle.custody_records.specs.TypedRecords.{part_value};
 ghost use Rattle.custody_machine.specs.StoredState.{HaveExtentsInRange, AreExtents};
 ghost use Rattle.custody_rules.specs.Blocks.{IsInRange, part_extents};
 

@@ -1,33 +1,8 @@
 //! How a command is judged by the records, before any volume is looked at.
-ghost use Rattle.std.specs.Prelude.{
-  ◌≡◌,
-  ◌≢◌,
-  ◌≤◌,
-  ◌+◌,
-  ◌-◌,
-  ◌==◌,
-  ◌&&◌,
-  ◌||◌,
-  ℕ,
-  List,
-  Ok,
-  None,
-  Some,
-  not,
-  nat_lt,
-  true,
-  length,
-  find,
-  count_by,
-  is_some,
-  IfSome,
-  option_map,
-  option_copied,
-};
+ghost use Rattle.std.specs.Prelude.{◌≡◌, ◌≢◌, ◌+◌, ◌-◌, ◌==◌, ◌&&◌, ◌||◌, ℕ, List, Ok, None, Some, not, nat_lt, length, count_by, is_some, IfSome, option_map, option_copied};
 ghost use Rattle.std.specs.List.{list_any};
 ghost use Rattle.std.specs.FinMap.{get};
 ghost use Rattle.schedule.specs.Schedule.{day_of};
-ghost use Rattle.deposit_name.specs.Name.{is_same_kind};
 ghost use Rattle.desk.specs.Standing.{is_receipt};
 ghost use Rattle.custody_records.specs.Records.{key_of};
 ghost use Rattle.custody_records.specs.MemoryRecords.{records_of};
@@ -35,19 +10,8 @@ ghost use Rattle.custody_records.specs.TypedRecords.{key_of_part, part_value};
 ghost use Rattle.custody_machine.specs.NameReading.{read_name};
 ghost use Rattle.custody_machine.specs.State.{part_numbers, key_with_part, has_notice};
 ghost use Rattle.custody_machine.specs.StoredState.{state_in};
-ghost use Rattle.custody_machine.specs.Machine.{
-  Register,
-  is_failure_of,
-  is_verdict_of,
-  part_under_name,
-  max_part_len,
-  receive_tests,
-  first_refusal,
-};
-ghost use Rattle.custody_machine.specs.declared.answers.Refusal.TheVariants.{
-  OtherBytes,
-  VolumeFull,
-};
+ghost use Rattle.custody_machine.specs.Machine.{Register, is_failure_of, is_verdict_of, part_under_name, max_part_len, receive_tests, first_refusal};
+ghost use Rattle.custody_machine.specs.declared.answers.Refusal.TheVariants.{OtherBytes, VolumeFull};
 ghost use Rattle.custody_machine.specs.Commands.{command_of};
 ghost use Rattle.custody_machine.specs.Rulings.{Decides, DecidesPart};
 ghost use Rattle.custody_rules.specs.Rulings.{ruling_of};

@@ -1,39 +1,13 @@
 //! Whether the records belong together: each record is looked up among the others.
 ghost use Rattle.std.specs.Prelude.{◌≡◌, ℕ, List, ◌&&◌, ◌==◌, true, false, Ok, IfOk};
 ghost use Rattle.std.specs.BTreeSet.{contains};
-ghost use Rattle.std.specs.FinMap.{get};
-ghost use Rattle.std.specs.List.{list_all, list_any};
-ghost use Rattle.custody_machine.specs.Machine.{is_failure_of};
+ghost use Rattle.std.specs.List.{list_all};
 ghost use Rattle.custody_machine.specs.NameReading.{read_name};
-ghost use Rattle.custody_machine.specs.State.{has_notice};
-ghost use Rattle.custody_machine.specs.StoredState.{
-  AreLinked,
-  is_part_of,
-  is_name_of_part,
-  revision_of,
-};
+ghost use Rattle.custody_machine.specs.StoredState.{AreLinked, is_name_of_part, revision_of};
 ghost use Rattle.custody_records.specs.MemoryRecords.{records_of};
-ghost use Rattle.custody_records.specs.TypedRecords.{
-  notice_key,
-  notice_value,
-  key_of_part,
-  part_value,
-  release_value,
-  hold_value,
-};
+ghost use Rattle.custody_records.specs.TypedRecords.{notice_key, notice_value, key_of_part, part_value, release_value, hold_value};
 ghost use Rattle.custody_rules.specs.inside.Orders.{failed_revision_cmp};
-ghost use Rattle.custody_rules.specs.inside.Links.{
-  has_parts,
-  is_revision_due,
-  is_in_series,
-  has_registry,
-  is_notice_linked,
-  is_numbered,
-  is_part_linked,
-  is_release_linked,
-  is_hold_linked,
-  each_passes,
-};
+ghost use Rattle.custody_rules.specs.inside.Links.{has_parts, is_revision_due, is_in_series, has_registry, is_notice_linked, is_numbered, is_part_linked, is_release_linked, is_hold_linked, each_passes};
 
 use crate::revision::has_part_of;
 use crate::unique_keys::{FailedRevision, failed_revisions, revision_of};

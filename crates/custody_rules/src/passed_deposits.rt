@@ -5,14 +5,7 @@ ghost use Rattle.custody_machine.specs.Machine.{first_part, known_of, latest_id,
 ghost use Rattle.custody_machine.specs.StoredState.{state_in};
 ghost use Rattle.custody_records.specs.MemoryRecords.{records_of};
 ghost use Rattle.deposit_verify.specs.Known.{known_in};
-ghost use Rattle.custody_rules.specs.inside.PassedDeposits.{
-  greatest_notice_number,
-  later_pair,
-  passed_pair,
-  passed_deposit_of,
-  passed_deposits_of,
-  tells_full_in,
-};
+ghost use Rattle.custody_rules.specs.inside.PassedDeposits.{greatest_notice_number, later_pair, passed_pair, passed_deposit_of, passed_deposits_of, tells_full_in};
 
 use crate::revision::has_part_of;
 use custody_machine::Statement;

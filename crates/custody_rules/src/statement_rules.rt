@@ -1,58 +1,18 @@
 //! How a statement is judged by the records.
-ghost use Rattle.std.specs.Prelude.{
-  ◌≡◌,
-  ◌≢◌,
-  ◌≤◌,
-  ◌&&◌,
-  ◌||◌,
-  not,
-  List,
-  None,
-  Some,
-  IfSome,
-  ℕ,
-  nat_lt,
-  count_by,
-  find,
-  is_some,
-  option_map,
-  option_copied,
-};
+ghost use Rattle.std.specs.Prelude.{◌≡◌, ◌≢◌, ◌&&◌, ◌||◌, not, List, None, Some, IfSome, ℕ, nat_lt, option_map, option_copied};
 ghost use Rattle.std.specs.FinMap.{entries, get};
 ghost use Rattle.std.specs.List.{list_any};
 ghost use Rattle.schedule.specs.Schedule.{day_of};
 ghost use Rattle.custody_records.specs.Records.{key_of};
 ghost use Rattle.custody_records.specs.MemoryRecords.{records_of};
-ghost use Rattle.custody_records.specs.TypedRecords.{notice_entry, part_value};
-ghost use Rattle.custody_machine.specs.State.{
-  part_numbers,
-  key_with_part,
-  has_notice,
-  is_notice_of,
-};
-ghost use Rattle.custody_machine.specs.Machine.{
-  Statement as Stated,
-  first_part,
-  is_verdict_of,
-  has_id,
-  statement_tests,
-  first_refusal,
-};
-ghost use Rattle.custody_machine.specs.declared.answers.Refusal.TheVariants.{
-  OtherBytes,
-  VolumeFull,
-};
+ghost use Rattle.custody_records.specs.TypedRecords.{notice_entry};
+ghost use Rattle.custody_machine.specs.State.{part_numbers, key_with_part, has_notice};
+ghost use Rattle.custody_machine.specs.Machine.{Statement as Stated, first_part, is_verdict_of, has_id, statement_tests, first_refusal};
+ghost use Rattle.custody_machine.specs.declared.answers.Refusal.TheVariants.{OtherBytes, VolumeFull};
 ghost use Rattle.custody_machine.specs.StoredState.{state_in};
 ghost use Rattle.custody_machine.specs.Rulings.{Decides};
 ghost use Rattle.custody_rules.specs.Rulings.{ruling_of};
-ghost use Rattle.custody_rules.specs.Judging.{
-  are_parts_as_stated_in,
-  differs_in_number,
-  is_later_receipt,
-  is_of_other_kind,
-  is_without_bytes,
-  kept_verdict_in,
-};
+ghost use Rattle.custody_rules.specs.Judging.{are_parts_as_stated_in, differs_in_number, is_later_receipt, is_of_other_kind, is_without_bytes, kept_verdict_in};
 
 use crate::days::{has_verdict_on, verdict_on};
 use crate::revision::{count_parts, has_dropped_part, has_other_kind};

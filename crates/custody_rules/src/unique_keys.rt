@@ -4,21 +4,9 @@ ghost use Rattle.std.specs.BTreeSet.{contains};
 ghost use Rattle.std.proofs.lemmas.Map.Lookups.{CmpEqualImpliesEq};
 ghost use Rattle.desk.specs.declared.notices.Notice.{Notice};
 ghost use Rattle.custody_rules.specs.declared.unique_keys.FailedRevision.{FailedRevision};
-ghost use Rattle.custody_rules.specs.inside.UniqueKeys.{
-  HaveNoRivals,
-  HaveUniqueKeys,
-  IsKeyAmong,
-  subject_of,
-  received_day_of,
-  failed_revision_of,
-};
+ghost use Rattle.custody_rules.specs.inside.UniqueKeys.{HaveNoRivals, HaveUniqueKeys, IsKeyAmong, subject_of, received_day_of, failed_revision_of};
 ghost use Rattle.custody_machine.specs.StoredState.{revision_of};
-ghost use Rattle.custody_rules.specs.inside.Orders.{
-  exact_subjects,
-  exact_received_days,
-  exact_failed_revisions,
-  failed_revision_cmp,
-};
+ghost use Rattle.custody_rules.specs.inside.Orders.{exact_subjects, exact_received_days, exact_failed_revisions, failed_revision_cmp};
 
 use deposit_name::Tld;
 use desk::{Notice, NoticeKind};

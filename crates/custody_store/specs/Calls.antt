@@ -1,38 +1,10 @@
 -- What one call of the database does, whatever its error is told as.
-use Rattle.std.specs.Prelude.{
-  ◌≡◌,
-  ◌⊎◌,
-  ℕ,
-  List,
-  [],
-  ◌∷◌,
-  Vec,
-  true,
-  false,
-  Result,
-  Ok,
-  Err,
-  IsTrue,
-  MatchResult,
-  OnOk,
-  OnErr,
-}
+use Rattle.std.specs.Prelude.{◌≡◌, ◌⊎◌, ℕ, List, [], ◌∷◌, Vec, true, false, Result, Ok, Err, IsTrue, MatchResult, OnOk, OnErr}
 use Rattle.std.specs.declared.alloc.Global.{Global}
 use Rattle.sqlite.specs.Order.{Row}
 use Rattle.sqlite.specs.Tree.{Trees}
 use Rattle.sqlite.specs.declared.error.Error.{Error}
-use Rattle.sqlite.specs.State.{
-  State,
-  HasCleanDisk,
-  Survives,
-  Executes,
-  ExecutesInside,
-  CommitsBy,
-  CommitsShowing,
-  FailsToQuery,
-  Shows,
-  Shown as Answered,
-}
+use Rattle.sqlite.specs.State.{State, HasCleanDisk, Survives, Executes, ExecutesInside, CommitsBy, CommitsShowing, FailsToQuery, Shows, Shown as Answered}
 use Rattle.sqlite.specs.Store.{Ghosts}
 use Rattle.sqlite.specs.Held.{Held, state}
 

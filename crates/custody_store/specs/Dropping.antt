@@ -1,25 +1,5 @@
 -- The rows after the bytes of the parts were dropped whose keeping is over, and whose day is not on hold.
-use Rattle.std.specs.Prelude.{
-  ℕ,
-  ℤ,
-  pos,
-  int_lt,
-  int_le,
-  Bool,
-  not,
-  ◌&&◌,
-  if◌then◌else◌,
-  List,
-  length,
-  map,
-  filter,
-  None,
-  is_some,
-  is_none,
-  option_map,
-  unwrap_or,
-  [],
-}
+use Rattle.std.specs.Prelude.{ℕ, ℤ, pos, int_lt, int_le, Bool, not, ◌&&◌, if◌then◌else◌, List, length, map, filter, None, is_some, is_none, option_map, unwrap_or, []}
 use Rattle.std.specs.List.{list_any}
 use Rattle.std.specs.Str.{bytes_eq}
 use Rattle.custody_records.specs.Rows.{HoldRow, PartRow, Rows}

@@ -1,21 +1,5 @@
 -- The rows that a database holds, by the list of its tables.
-use Rattle.std.specs.Prelude.{
-  ℕ,
-  ℤ,
-  ◌+◌,
-  ◌-◌,
-  ◌&&◌,
-  Bool,
-  List,
-  map,
-  find,
-  codes,
-  bytes_eq,
-  Option,
-  Some,
-  None,
-  option_map,
-}
+use Rattle.std.specs.Prelude.{ℕ, ℤ, ◌+◌, ◌-◌, ◌&&◌, Bool, List, map, find, codes, bytes_eq, Option, Some, None, option_map}
 use Rattle.sqlite.specs.declared.types.Value.{Value}
 use Rattle.sqlite.specs.declared.types.Value.TheVariants.{Null, Int, Real, Text, Blob}
 use Rattle.sqlite.specs.Order.{Row, column, bytes}
@@ -26,15 +10,7 @@ use Rattle.sqlite_catalog.specs.Listing.{is_table_row}
 use Rattle.std.specs.List.{list_any}
 use Rattle.sqlite.specs.Schema.{Schema}
 use Rattle.sqlite_schema.specs.Names.{same_name}
-use Rattle.custody_records.specs.Rows.{
-  MetaRow,
-  RegistryRow,
-  PartRow,
-  NoticeRow,
-  HandoverRow,
-  HoldRow,
-  Rows,
-}
+use Rattle.custody_records.specs.Rows.{MetaRow, RegistryRow, PartRow, NoticeRow, HandoverRow, HoldRow, Rows}
 
 abbrev pub bytes_unless_null : Value → Option (List ℕ)
 bytes_unless_null Null = None

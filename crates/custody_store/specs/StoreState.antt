@@ -1,22 +1,5 @@
 -- What a store shows of its records, and what a call does to them.
-use Rattle.std.specs.Prelude.{
-  ◌≡◌,
-  ◌⊎◌,
-  ◌||◌,
-  ◌&&◌,
-  ◌++◌,
-  ℕ,
-  List,
-  Bool,
-  true,
-  false,
-  not,
-  codes,
-  Result,
-  IsTrue,
-  OnOk,
-  OnErr,
-}
+use Rattle.std.specs.Prelude.{◌≡◌, ◌⊎◌, ◌||◌, ◌&&◌, ◌++◌, ℕ, List, Bool, true, false, not, codes, Result, IsTrue, OnOk, OnErr}
 use Rattle.std.specs.List.{AllByRecursion}
 use Rattle.sqlite_trees.specs.declared.store.Shape.TheVariants as shape
 use Rattle.sqlite.specs.Store.{Ghosts}

@@ -4,13 +4,7 @@ ghost use Rattle.sqlite.specs.State.{HasCleanDisk, Survives, ExecutesInside, Kee
 ghost use Rattle.sqlite.specs.Held.{state};
 ghost use Rattle.sqlite.specs.Change.{next_tree};
 ghost use Rattle.custody_store.specs.Calls.{AreRun, RunsTogether};
-ghost use Rattle.custody_store.specs.Statements.{
-  create_hold_text,
-  create_table_statements,
-  insert_meta_text,
-  insert_meta_values,
-  create_statements,
-};
+ghost use Rattle.custody_store.specs.Statements.{create_hold_text, create_table_statements, insert_meta_text, insert_meta_values, create_statements};
 ghost use Rattle.custody_store.specs.Schema.{no_schema, first_schema, record_schema};
 ghost use Rattle.custody_store.specs.inside.Making.{IsMakingTables, HasMadeTables, empty_trees};
 ghost use Rattle.custody_records.specs.Rows.{initial_rows};

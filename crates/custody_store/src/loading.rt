@@ -1,16 +1,5 @@
 //! The records of all rows.
-ghost use Rattle.std.specs.Prelude.{
-  ◌≡◌,
-  codes,
-  map,
-  Some,
-  None,
-  is_some,
-  option_map,
-  IfOk,
-  IfErr,
-  MatchResult,
-};
+ghost use Rattle.std.specs.Prelude.{◌≡◌, codes, map, Some, None, is_some, option_map, IfOk, IfErr, MatchResult};
 ghost use Rattle.custody_records.specs.Form.{form_after, in_form_or, records_in, InForm, OutOfForm};
 ghost use Rattle.custody_records.specs.MemoryRecords.{records_of};
 ghost use Rattle.custody_records.specs.Records.{new_records};

@@ -1,17 +1,5 @@
 //! The row of meta.
-ghost use Rattle.std.specs.Prelude.{
-  ◌≡◌,
-  false,
-  codes,
-  map,
-  Ok,
-  Some,
-  None,
-  IfOk,
-  IfErr,
-  option_map,
-  slice_get,
-};
+ghost use Rattle.std.specs.Prelude.{◌≡◌, false, codes, map, Ok, Some, None, IfOk, IfErr, option_map, slice_get};
 ghost use Rattle.custody_records.specs.Rows.{first_meta};
 ghost use Rattle.custody_records.specs.TypedRecords.{meta_of};
 ghost use Rattle.custody_store.specs.Reading.{answered_meta};

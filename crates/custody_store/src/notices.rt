@@ -5,12 +5,7 @@ ghost use Rattle.custody_records.specs.Keys.{NoticeKey, notice_cmp};
 ghost use Rattle.custody_records.specs.Records as specs;
 ghost use Rattle.custody_records.specs.Rows.{NoticeRow};
 ghost use Rattle.custody_records.specs.TypedRecords.{notice_row};
-ghost use Rattle.custody_records.specs.RowsOfRecords.{
-  IsNoticeKind,
-  kind_number,
-  kind_rev,
-  kind_id,
-};
+ghost use Rattle.custody_records.specs.RowsOfRecords.{IsNoticeKind, kind_number, kind_rev, kind_id};
 ghost use Rattle.custody_store.specs.Reading.{answered_notice};
 
 use crate::calls::ask;

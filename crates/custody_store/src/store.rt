@@ -1,87 +1,22 @@
 //! The store: a connection with the tables of the records.
-ghost use Rattle.std.specs.Prelude.{
-  ◌≡◌,
-  ◌^◌,
-  ◌<◌,
-  ◌≤◌,
-  true,
-  false,
-  pos,
-  Ok,
-  Err,
-  IfOk,
-  IfErr,
-  MatchResult,
-};
+ghost use Rattle.std.specs.Prelude.{◌≡◌, ◌^◌, ◌<◌, ◌≤◌, true, false, pos, Ok, Err, IfOk, IfErr, MatchResult};
 ghost use Rattle.sqlite.specs.Held.{state};
 ghost use Rattle.sqlite.specs.State.{HasCleanDisk, Executes};
 ghost use Rattle.std.specs.Int.{IsInRange};
 ghost use Rattle.schedule.specs.Schedule.{IsDay, IsMoment};
 ghost use Rattle.deposit_name.specs.Identifiers.{IsTld};
-ghost use Rattle.custody_records.specs.Rows.{
-  greatest_integer,
-  initial_rows,
-  with_registry_row,
-  with_part_row,
-  with_notice_row,
-  with_handover_row,
-  with_hold_row,
-  with_lifting,
-};
+ghost use Rattle.custody_records.specs.Rows.{greatest_integer, initial_rows, with_registry_row, with_part_row, with_notice_row, with_handover_row, with_hold_row, with_lifting};
 ghost use Rattle.custody_records.specs.Form.{form_of, InForm, OutOfForm};
 ghost use Rattle.custody_records.specs.MemoryRecords.{records_of};
 ghost use Rattle.custody_records.specs.declared.damage.RowDamage.{RowDamage};
 ghost use Rattle.custody_records.specs.declared.damage.RowDamage.TheVariants as damage;
-ghost use Rattle.custody_records.specs.RowsOfRecords.{
-  digits_of,
-  row_of_registry,
-  IsNotice,
-  IsRelease,
-  IsHold,
-};
-ghost use Rattle.custody_records.specs.TypedRecords.{
-  notice_key,
-  notice_value,
-  release_key,
-  release_value,
-  hold_key,
-  hold_value,
-};
+ghost use Rattle.custody_records.specs.RowsOfRecords.{digits_of, row_of_registry, IsNotice, IsRelease, IsHold};
+ghost use Rattle.custody_records.specs.TypedRecords.{notice_key, notice_value, release_key, release_value, hold_key, hold_value};
 ghost use Rattle.custody_store.specs.Calls.{RunsStatement, RunsTogether};
-ghost use Rattle.custody_store.specs.Statements.{
-  create_statements,
-  migrate_statements,
-  insert_registry_text,
-  insert_registry_values,
-  insert_part_text,
-  insert_part_values,
-  insert_notice_text,
-  insert_notice_values,
-  insert_handover_text,
-  insert_handover_values,
-  insert_hold_text,
-  insert_hold_values,
-  lift_text,
-  lift_values,
-  drop_due_text,
-  drop_due_values,
-};
+ghost use Rattle.custody_store.specs.Statements.{create_statements, migrate_statements, insert_registry_text, insert_registry_values, insert_part_text, insert_part_values, insert_notice_text, insert_notice_values, insert_handover_text, insert_handover_values, insert_hold_text, insert_hold_values, lift_text, lift_values, drop_due_text, drop_due_values};
 ghost use Rattle.custody_store.specs.Dropping.{rows_without_due, count_due_rows};
-ghost use Rattle.custody_store.specs.TypedRows.{
-  staged_row,
-  typed_notice_row,
-  typed_release_row,
-  typed_hold_row,
-};
-ghost use Rattle.custody_store.specs.StoreState.{
-  store_state,
-  Commits,
-  CreatesTables,
-  Migrates,
-  ChangesNothing,
-  has_any_table,
-  has_all_tables,
-};
+ghost use Rattle.custody_store.specs.TypedRows.{staged_row, typed_notice_row, typed_release_row, typed_hold_row};
+ghost use Rattle.custody_store.specs.StoreState.{store_state, Commits, CreatesTables, Migrates, ChangesNothing, has_any_table, has_all_tables};
 
 use crate::calls::{change, run};
 use crate::creating::create_all;

@@ -1,18 +1,5 @@
 //! Records as rows of tables, and the one way to read a table.
-ghost use Rattle.std.specs.Prelude.{
-  ◌≡◌,
-  List,
-  [],
-  ◌∷◌,
-  Option,
-  None,
-  Some,
-  map,
-  IfOk,
-  IfErr,
-  OnOk,
-  IsErrOf,
-};
+ghost use Rattle.std.specs.Prelude.{◌≡◌, List, [], ◌∷◌, Option, None, Some, map, IfOk, IfErr, OnOk, IsErrOf};
 ghost use Rattle.std.specs.FinMap.{FinMap};
 ghost use Rattle.std.specs.declared.cmp.Ordering.{Ordering};
 ghost use Rattle.sqlite.specs.Order as sql;

@@ -1,12 +1,7 @@
 //! Which tables a database has.
-ghost use Rattle.std.specs.Prelude.{◌≡◌, ◌||◌, ◌&&◌, codes};
+ghost use Rattle.std.specs.Prelude.{◌≡◌, ◌||◌, ◌&&◌};
 ghost use Rattle.custody_store.specs.Reading.{has_table};
-ghost use Rattle.custody_store.specs.StoreState.{
-  store_state,
-  has_any_table,
-  has_all_tables,
-  has_earlier_tables,
-};
+ghost use Rattle.custody_store.specs.StoreState.{store_state, has_any_table, has_all_tables, has_earlier_tables};
 
 use sqlite::{Alter, Connection};
 use sqlite_schema::names::same_name;

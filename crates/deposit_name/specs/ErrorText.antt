@@ -1,15 +1,7 @@
 -- The numbers of the faults of names.
 use Rattle.std.specs.Prelude.{ℕ, List, codes}
 use Rattle.deposit_name.specs.declared.errors.NameError.{NameError}
-use Rattle.deposit_name.specs.declared.errors.NameError.TheVariants.{
-  Suffix,
-  Pieces,
-  Tld,
-  Date,
-  Kind,
-  Part,
-  Revision,
-}
+use Rattle.deposit_name.specs.declared.errors.NameError.TheVariants.{Suffix, Pieces, Tld, Date, Kind, Part, Revision}
 
 abbrev pub name_error_text : NameError → List ℕ
 name_error_text Suffix = codes "N1"

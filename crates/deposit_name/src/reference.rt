@@ -1,12 +1,7 @@
 //! The references of releases.
-ghost use Rattle.std.specs.Prelude.{◌≡◌, ◌↔◌, Some, IfSome, IsTrue, length};
+ghost use Rattle.std.specs.Prelude.{◌≡◌, ◌↔◌, Some, IfSome, IsTrue};
 ghost use Rattle.std.specs.List.{list_all};
-ghost use Rattle.deposit_name.specs.Identifiers.{
-  is_reference_byte,
-  IsReference,
-  is_reference,
-  passing_text,
-};
+ghost use Rattle.deposit_name.specs.Identifiers.{is_reference_byte, IsReference, is_reference, passing_text};
 
 use crate::ascii::ascii_str;
 use crate::short_text::ShortText;

@@ -1,5 +1,5 @@
 //! Top-level domains.
-ghost use Rattle.std.specs.Prelude.{◌≡◌, ◌↔◌, Some, IfSome, IsTrue, length};
+ghost use Rattle.std.specs.Prelude.{◌≡◌, ◌↔◌, Some, IfSome, IsTrue};
 ghost use Rattle.std.specs.List.{list_all};
 ghost use Rattle.deposit_name.specs.Identifiers.{is_tld_byte, IsTld, is_tld, passing_text};
 

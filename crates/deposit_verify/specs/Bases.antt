@@ -1,25 +1,7 @@
 -- The keys of a chain of deposits as a function of their bytes. Only its law is used: `AreBases`, which says it by `IsBase`.
-use Rattle.std.specs.Prelude.{
-  ◌≡◌,
-  ℕ,
-  List,
-  [],
-  ◌∷◌,
-  Option,
-  Some,
-  None,
-  if◌then◌else◌,
-  fold,
-  map,
-  option_and_then,
-}
+use Rattle.std.specs.Prelude.{◌≡◌, ℕ, List, [], ◌∷◌, Option, Some, None, if◌then◌else◌, fold, map, option_and_then}
 use Rattle.dnrd_csv.specs.Text.{key_rows}
-use Rattle.deposit_name.specs.declared.table.TableName.TheVariants.{
-  Domain,
-  Host,
-  Contact,
-  Registrar,
-}
+use Rattle.deposit_name.specs.declared.table.TableName.TheVariants.{Domain, Host, Contact, Registrar}
 use Rattle.deposit_name.specs.declared.table.TableName.{TableName}
 use Rattle.envelope.specs.Envelope.{Env}
 use Rattle.envelope.specs.Readers.{envelope_at, frame_at}

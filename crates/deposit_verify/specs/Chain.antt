@@ -7,13 +7,7 @@ use Rattle.deposit_name.specs.declared.table.TableName.{TableName}
 use Rattle.envelope.specs.Envelope.{Env}
 use Rattle.deposit_verify.specs.declared.base.Base.{Base}
 use Rattle.deposit_verify.specs.Checks.{HasMenu}
-use Rattle.deposit_verify.specs.Deposit.{
-  HasDeletes,
-  HasEnvelope,
-  HasFiles,
-  IsTableFile,
-  contents_files,
-}
+use Rattle.deposit_verify.specs.Deposit.{HasDeletes, HasEnvelope, HasFiles, IsTableFile, contents_files}
 use Rattle.deposit_verify.specs.Keys.{AreKeys, IsContained, IsNamed, keys_in}
 
 -- the deposit is read: it has its menu, its files, their tables, and the keys that it deletes

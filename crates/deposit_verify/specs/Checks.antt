@@ -1,24 +1,5 @@
 -- The thirteen checks of a deposit, each said by what the deposit reads as, and the verdict.
-use Rattle.std.specs.Prelude.{
-  ◌≡◌,
-  ◌≢◌,
-  ◌<◌,
-  ⊤,
-  ℕ,
-  List,
-  [],
-  ◌∷◌,
-  Contains,
-  IfSome,
-  IsTrue,
-  Option,
-  Some,
-  None,
-  codes,
-  length,
-  map,
-  take,
-}
+use Rattle.std.specs.Prelude.{◌≡◌, ◌≢◌, ◌<◌, ⊤, ℕ, List, [], ◌∷◌, Contains, IfSome, IsTrue, Option, Some, None, codes, length, map, take}
 use Rattle.std.specs.List.{AllZip}
 use Rattle.std.specs.List.Sorted.{IsStrictlyIncreasing}
 use Rattle.schedule.specs.Schedule.{is_sunday}
@@ -26,12 +7,7 @@ use Rattle.deposit_name.specs.Name.{Name}
 use Rattle.deposit_name.specs.declared.kinds.Kind.{Kind}
 use Rattle.deposit_name.specs.declared.kinds.Kind.TheVariants.{Full, Diff, Incr}
 use Rattle.deposit_name.specs.declared.table.TableName.{TableName}
-use Rattle.deposit_name.specs.declared.table.TableName.TheVariants.{
-  Domain,
-  Host,
-  Contact,
-  Registrar,
-}
+use Rattle.deposit_name.specs.declared.table.TableName.TheVariants.{Domain, Host, Contact, Registrar}
 use Rattle.desk.specs.Checks.{check_number}
 use Rattle.desk.specs.declared.checks.Check.{Check}
 use Rattle.desk.specs.declared.checks.Check.TheVariants as check
@@ -42,15 +18,7 @@ use Rattle.deposit_verify.specs.declared.verdict.Verdict.{Verdict}
 use Rattle.deposit_verify.specs.declared.verdict.Verdict.TheVariants.{Pass, Fail}
 use Rattle.deposit_verify.specs.Known.{Known}
 use Rattle.deposit_verify.specs.declared.base.Base.{Base}
-use Rattle.deposit_verify.specs.Deposit.{
-  AreTables,
-  HasDeletes,
-  HasEnvelope,
-  HasFiles,
-  IsTableFile,
-  contents_files,
-  deletes_of,
-}
+use Rattle.deposit_verify.specs.Deposit.{AreTables, HasDeletes, HasEnvelope, HasFiles, IsTableFile, contents_files, deletes_of}
 use Rattle.deposit_verify.specs.Keys.{IsKeyAfter, IsNumberOf, keys_in}
 use Rattle.deposit_verify.specs.Places.{all_tables, table_place}
 use Rattle.deposit_verify.specs.References.{AreReferencesKept}

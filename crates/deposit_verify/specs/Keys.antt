@@ -1,27 +1,11 @@
 -- The keys that a deposit names, and those that there are after it (RFC 8909, section 5.1: what is deleted, and what is contained).
 use Rattle.std.specs.Prelude.{◌≡◌, ◌≢◌, ◌↔◌, ◌⊎◌, ℕ, List, [], ◌∷◌, AllPairs, Contains, length}
 use Rattle.deposit_name.specs.declared.table.TableName.{TableName}
-use Rattle.deposit_name.specs.declared.table.TableName.TheVariants.{
-  Domain,
-  DomainContacts,
-  DomainStatuses,
-  DomainNameServers,
-  Host,
-  HostAddresses,
-  Contact,
-  Registrar,
-}
+use Rattle.deposit_name.specs.declared.table.TableName.TheVariants.{Domain, DomainContacts, DomainStatuses, DomainNameServers, Host, HostAddresses, Contact, Registrar}
 use Rattle.envelope.specs.Envelope.{Env}
 use Rattle.envelope.specs.declared.envelope.FileEntry.{FileEntry}
 use Rattle.deposit_verify.specs.declared.base.Base.{Base}
-use Rattle.deposit_verify.specs.Deposit.{
-  IsKeyFileOf,
-  HasFiles,
-  IsTableOf,
-  contents_files,
-  deletes_files,
-  deletes_of,
-}
+use Rattle.deposit_verify.specs.Deposit.{IsKeyFileOf, HasFiles, IsTableOf, contents_files, deletes_files, deletes_of}
 use Rattle.deposit_verify.specs.References.{column}
 
 -- the keys of a table that is counted

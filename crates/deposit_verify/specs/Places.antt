@@ -1,16 +1,7 @@
 -- The tables of a deposit, in their order.
 use Rattle.std.specs.Prelude.{ℕ, List, [], ◌∷◌}
 use Rattle.deposit_name.specs.declared.table.TableName.{TableName}
-use Rattle.deposit_name.specs.declared.table.TableName.TheVariants.{
-  Domain,
-  DomainContacts,
-  DomainStatuses,
-  DomainNameServers,
-  Host,
-  HostAddresses,
-  Contact,
-  Registrar,
-}
+use Rattle.deposit_name.specs.declared.table.TableName.TheVariants.{Domain, DomainContacts, DomainStatuses, DomainNameServers, Host, HostAddresses, Contact, Registrar}
 
 -- all tables, in the order of a deposit
 abbrev pub all_tables : List TableName

@@ -1,16 +1,7 @@
 -- Which objects of a full deposit name which others, by their keys.
 use Rattle.std.specs.Prelude.{◌≢◌, ℕ, List, [], All, Contains, map, slice_index_or}
 use Rattle.deposit_name.specs.declared.table.TableName.{TableName}
-use Rattle.deposit_name.specs.declared.table.TableName.TheVariants.{
-  Domain,
-  DomainContacts,
-  DomainStatuses,
-  DomainNameServers,
-  Host,
-  HostAddresses,
-  Contact,
-  Registrar,
-}
+use Rattle.deposit_name.specs.declared.table.TableName.TheVariants.{Domain, DomainContacts, DomainStatuses, DomainNameServers, Host, HostAddresses, Contact, Registrar}
 
 -- the texts of a column, from 0
 abbrev pub column : ℕ → List (List (List ℕ)) → List (List ℕ)

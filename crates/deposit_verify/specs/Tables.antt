@@ -1,20 +1,5 @@
 -- Tables as they were read, for private clauses.
-use Rattle.std.specs.Prelude.{
-  ◌≡◌,
-  ◌≢◌,
-  ◌<◌,
-  ℕ,
-  List,
-  [],
-  All,
-  AllPairs,
-  IsTrue,
-  Option,
-  Some,
-  None,
-  length,
-  slice_index_or,
-}
+use Rattle.std.specs.Prelude.{◌≡◌, ◌≢◌, ◌<◌, ℕ, List, [], All, AllPairs, IsTrue, Option, Some, None, length, slice_index_or}
 use Rattle.std.specs.List.{AllZip}
 use Rattle.deposit_name.specs.declared.table.TableName.{TableName}
 use Rattle.deposit_name.specs.Tables.{has_deletes}
@@ -29,16 +14,7 @@ use Rattle.envelope.specs.Envelope.{Env}
 use Rattle.deposit_verify.specs.Checks.{AreRowCounts}
 use Rattle.deposit_verify.specs.Places.{table_place}
 use Rattle.deposit_verify.specs.References.{AreReferencesKept, column}
-use Rattle.deposit_verify.specs.Deposit.{
-  AreFiles,
-  IsKeyFileOf,
-  IsKeyFile,
-  IsTableOf,
-  contents_files,
-  deletes_files,
-  deletes_of,
-  all_entries,
-}
+use Rattle.deposit_verify.specs.Deposit.{AreFiles, IsKeyFileOf, IsKeyFile, IsTableOf, contents_files, deletes_files, deletes_of, all_entries}
 use Rattle.deposit_verify.specs.Rows.{rows_under}
 
 -- the tables that the files were read as

@@ -1,33 +1,5 @@
 -- The verdict on a deposit as a function of its bytes and of what is known of it (Specification 2, Part A, section 7). Only its law is used: `IsLawful`, which says it by `IsVerdict`.
-use Rattle.std.specs.Prelude.{
-  ◌≡◌,
-  ◌==◌,
-  ◌&&◌,
-  ◌||◌,
-  not,
-  ℕ,
-  Bool,
-  true,
-  false,
-  List,
-  [],
-  ◌∷◌,
-  ◌++◌,
-  Option,
-  Some,
-  None,
-  if◌then◌else◌,
-  is_none,
-  is_some,
-  length,
-  map,
-  nat_lt,
-  option_and_then,
-  option_map,
-  take,
-  drop,
-  unwrap_or,
-}
+use Rattle.std.specs.Prelude.{◌≡◌, ◌==◌, ◌&&◌, ◌||◌, not, ℕ, Bool, true, false, List, [], ◌∷◌, ◌++◌, Option, Some, None, if◌then◌else◌, is_none, is_some, length, map, nat_lt, option_and_then, option_map, take, drop, unwrap_or}
 use Rattle.std.specs.Cmp.Lexicographic.{pointwise}
 use Rattle.std.specs.List.{list_all, list_any}
 use Rattle.std.specs.Set.{distinct_count}
@@ -38,16 +10,7 @@ use Rattle.deposit_name.specs.Name.{Name, is_same_kind}
 use Rattle.deposit_name.specs.declared.kinds.Kind.{Kind}
 use Rattle.deposit_name.specs.declared.kinds.Kind.TheVariants.{Full, Diff, Incr}
 use Rattle.deposit_name.specs.declared.table.TableName.{TableName}
-use Rattle.deposit_name.specs.declared.table.TableName.TheVariants.{
-  Domain,
-  DomainContacts,
-  DomainStatuses,
-  DomainNameServers,
-  Host,
-  HostAddresses,
-  Contact,
-  Registrar,
-}
+use Rattle.deposit_name.specs.declared.table.TableName.TheVariants.{Domain, DomainContacts, DomainStatuses, DomainNameServers, Host, HostAddresses, Contact, Registrar}
 use Rattle.desk.specs.declared.checks.Check.{Check}
 use Rattle.desk.specs.declared.checks.Check.TheVariants as check
 use Rattle.dnrd_csv.specs.Readers.{table_at}

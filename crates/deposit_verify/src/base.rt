@@ -1,37 +1,11 @@
 //! The keys of a chain of deposits.
-ghost use Rattle.std.specs.Prelude.{
-  ◌≡◌,
-  ◌↔◌,
-  ◌++◌,
-  ◌∷◌,
-  [],
-  true,
-  ℕ,
-  List,
-  Some,
-  None,
-  IfOk,
-  IfSome,
-  IsTrue,
-  MatchOption,
-  OnOk,
-  if◌then◌else◌,
-  map,
-  option_map,
-};
+ghost use Rattle.std.specs.Prelude.{◌≡◌, ◌↔◌, ◌++◌, ◌∷◌, [], true, ℕ, List, Some, None, IfOk, IfSome, IsTrue, MatchOption, OnOk, if◌then◌else◌, map, option_map};
 ghost use Rattle.std.specs.Set.{distinct_count};
 ghost use Rattle.std.specs.Str.{bytes_eq};
 ghost use Rattle.deposit_name.specs.Tables.{has_deletes};
 ghost use Rattle.dnrd_csv.specs.Text.{key_rows};
 ghost use Rattle.envelope.specs.Envelope.{env_of};
-ghost use Rattle.deposit_verify.specs.Bases.{
-  base_after,
-  base_at,
-  base_then,
-  no_keys,
-  reading_at,
-  reading_of,
-};
+ghost use Rattle.deposit_verify.specs.Bases.{base_after, base_at, base_then, no_keys, reading_at, reading_of};
 ghost use Rattle.deposit_verify.specs.Chain.{IsBase, IsFirstOfChain, IsLaterOfChain};
 ghost use Rattle.deposit_verify.specs.Tables.{AreCountable};
 ghost use Rattle.deposit_verify.specs.Verdict.{are_key_counts, is_full, keys_after_files};

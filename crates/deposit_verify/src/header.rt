@@ -3,14 +3,7 @@ ghost use Rattle.std.specs.Prelude.{◌≡◌, ◌↔◌, IsTrue, Contains, Matc
 ghost use Rattle.envelope.specs.Envelope.{env_of};
 ghost use Rattle.schedule.specs.Schedule.{is_sunday};
 ghost use Rattle.deposit_name.specs.declared.kinds.Kind.TheVariants.{Full};
-ghost use Rattle.deposit_verify.specs.Checks.{
-  AgreesWithName,
-  PassesBelow,
-  FollowsFull,
-  FollowsPassed,
-  IsLeastFailing,
-  CheckSays,
-};
+ghost use Rattle.deposit_verify.specs.Checks.{AgreesWithName, PassesBelow, FollowsFull, FollowsPassed, IsLeastFailing, CheckSays};
 ghost use Rattle.deposit_verify.specs.Known.{known_in};
 
 use crate::about::About;

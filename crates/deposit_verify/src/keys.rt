@@ -1,13 +1,9 @@
 //! The keys of tables, and their order.
-ghost use Rattle.std.specs.Prelude.{◌≡◌, ◌<◌, ◌↔◌, [], All, Contains, IfOk, IsTrue, get_or, length};
+ghost use Rattle.std.specs.Prelude.{◌≡◌, ◌<◌, ◌↔◌, All, Contains, IfOk, IsTrue, length};
 ghost use Rattle.std.specs.List.Sorted.{IsSorted};
 ghost use Rattle.dnrd_csv.specs.inside.RowKeys.{borrowed_texts};
 ghost use Rattle.deposit_verify.specs.References.{column};
-ghost use Rattle.deposit_verify.specs.inside.SortedKeys.{
-  AreSortedKeys,
-  AreSortedTexts,
-  borrowed_text_cmp,
-};
+ghost use Rattle.deposit_verify.specs.inside.SortedKeys.{AreSortedKeys, AreSortedTexts, borrowed_text_cmp};
 
 use dnrd_csv::{Keys, Rows};
 use std::alloc::{AllocError, Global};

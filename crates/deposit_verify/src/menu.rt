@@ -1,14 +1,8 @@
 //! The menu of a deposit: its objects, and the files that belong to them.
-ghost use Rattle.std.specs.Prelude.{◌≡◌, ◌<◌, ◌↔◌, [], IsTrue, get_or, map, length};
+ghost use Rattle.std.specs.Prelude.{◌≡◌, ◌<◌, ◌↔◌, [], IsTrue, get_or, map};
 ghost use Rattle.envelope.specs.Envelope.{env_of};
 ghost use Rattle.deposit_verify.specs.Deposit.{deletes_of};
-ghost use Rattle.deposit_verify.specs.Checks.{
-  HasContents,
-  HasMenu,
-  StandInOrder,
-  counted_uris,
-  object_uris,
-};
+ghost use Rattle.deposit_verify.specs.Checks.{HasContents, HasMenu, StandInOrder, counted_uris, object_uris};
 ghost use Rattle.deposit_verify.specs.Places.{all_tables};
 
 use crate::places::table_place;

@@ -2,16 +2,7 @@
 ghost use Rattle.std.specs.Prelude.{◌<◌, ◌↔◌, IfOk, IsTrue, length};
 ghost use Rattle.dnrd_csv.specs.Table.{columns_of};
 ghost use Rattle.deposit_verify.specs.inside.SortedKeys.{AreSortedKeys};
-ghost use Rattle.deposit_verify.specs.References.{
-  AreKeysOf,
-  AreKeysOrEmpty,
-  AreReferencesKept,
-  ContactsAreThere,
-  DomainsAreThere,
-  HostsAreThere,
-  RegistrarsAreThere,
-  column as texts_in,
-};
+ghost use Rattle.deposit_verify.specs.References.{AreKeysOf, AreKeysOrEmpty, AreReferencesKept, ContactsAreThere, DomainsAreThere, HostsAreThere, RegistrarsAreThere, column as texts_in};
 ghost use Rattle.deposit_verify.specs.Tables.{AreAllTables, table_of};
 
 use crate::keys::{has_key, sorted_keys};

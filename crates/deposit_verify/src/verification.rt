@@ -1,35 +1,10 @@
 //! The verdict on a deposit.
-ghost use Rattle.std.specs.Prelude.{
-  ◌≡◌,
-  ◌||◌,
-  ℕ,
-  List,
-  Some,
-  IfOk,
-  IsTrue,
-  MatchOption,
-  map,
-  length,
-  ◌↔◌,
-};
+ghost use Rattle.std.specs.Prelude.{◌≡◌, ◌||◌, Some, IfOk, IsTrue, map, length, ◌↔◌};
 ghost use Rattle.envelope.specs.Envelope.{IsEnvelope, env_of};
 ghost use Rattle.deposit_name.specs.declared.kinds.Kind.TheVariants.{Full};
-ghost use Rattle.deposit_verify.specs.Checks.{
-  AreRowCounts,
-  PassesBelow,
-  HasMenu,
-  IsLeast,
-  IsVerdict,
-  CheckSays,
-};
+ghost use Rattle.deposit_verify.specs.Checks.{AreRowCounts, PassesBelow, HasMenu, IsLeast, IsVerdict, CheckSays};
 ghost use Rattle.deposit_verify.specs.Known.{Known, known_in};
-ghost use Rattle.deposit_verify.specs.Tables.{
-  AreAllTables,
-  AreCountable,
-  FullSays,
-  TablesSay,
-  table_of,
-};
+ghost use Rattle.deposit_verify.specs.Tables.{AreAllTables, AreCountable, FullSays, TablesSay, table_of};
 ghost use Rattle.deposit_verify.specs.Verdict.{chain_counts, is_full, verdict};
 ghost use Rattle.dnrd_csv.specs.Text.{key_rows};
 

@@ -2,21 +2,7 @@
 use Rattle.std.specs.Prelude.{ℕ, List}
 use Rattle.schedule.specs.Text.{two_digits}
 use Rattle.desk.specs.declared.checks.Check.{Check}
-use Rattle.desk.specs.declared.checks.Check.TheVariants.{
-  Frame,
-  Envelope,
-  Name,
-  Statement,
-  Weekday,
-  PrevId,
-  IdTaken,
-  Menu,
-  Files,
-  Table,
-  Counts,
-  References,
-  Deletes,
-}
+use Rattle.desk.specs.declared.checks.Check.TheVariants.{Frame, Envelope, Name, Statement, Weekday, PrevId, IdTaken, Menu, Files, Table, Counts, References, Deletes}
 
 abbrev pub check_number : Check → ℕ
 check_number Frame = 1

@@ -1,17 +1,7 @@
 -- The grounds of a release, by their texts.
 use Rattle.std.specs.Prelude.{ℕ, List, codes}
 use Rattle.desk.specs.declared.grounds.Ground.{Ground}
-use Rattle.desk.specs.declared.grounds.Ground.TheVariants.{
-  Operator,
-  Termination,
-  NoNotices,
-  SundayFailed,
-  FiveFailed,
-  Insolvency,
-  Critical,
-  Order,
-  Audit,
-}
+use Rattle.desk.specs.declared.grounds.Ground.TheVariants.{Operator, Termination, NoNotices, SundayFailed, FiveFailed, Insolvency, Critical, Order, Audit}
 
 abbrev pub ground_text : Ground → List ℕ
 ground_text Operator = codes "operator"

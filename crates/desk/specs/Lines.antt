@@ -1,18 +1,5 @@
 -- The report of a registry: one line a notice.
-use Rattle.std.specs.Prelude.{
-  ◌-◌,
-  ◌≤◌,
-  ℕ,
-  List,
-  ◌++◌,
-  codes,
-  decimal,
-  flat_map,
-  length,
-  replicate,
-  take,
-  Option,
-}
+use Rattle.std.specs.Prelude.{◌-◌, ◌≤◌, ℕ, List, ◌++◌, codes, decimal, flat_map, length, replicate, take, Option}
 use Rattle.std.specs.Io.KnownBytes.{Appends}
 use Rattle.schedule.specs.Text.{day_text, moment_text, two_digits}
 use Rattle.desk.specs.Checks.{check_text}

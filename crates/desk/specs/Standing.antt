@@ -1,18 +1,5 @@
 -- When a ground of a release stands (Specification 2, Part B section 6), by the notices of a registry.
-use Rattle.std.specs.Prelude.{
-  ◌+◌,
-  ◌==◌,
-  ◌&&◌,
-  ℕ,
-  Bool,
-  true,
-  false,
-  List,
-  count_by,
-  nat_le,
-  nat_lt,
-  not,
-}
+use Rattle.std.specs.Prelude.{◌+◌, ◌==◌, ◌&&◌, ℕ, Bool, true, false, List, count_by, nat_le, nat_lt, not}
 use Rattle.std.specs.List.{list_any}
 use Rattle.schedule.specs.Schedule.{is_sunday}
 use Rattle.desk.specs.declared.grounds.Ground.{Ground}

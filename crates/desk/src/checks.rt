@@ -1,5 +1,5 @@
 //! The checks of a deposit.
-ghost use Rattle.std.specs.Prelude.{◌≡◌, ℕ, Some, IfSome};
+ghost use Rattle.std.specs.Prelude.{◌≡◌, Some, IfSome};
 ghost use Rattle.desk.specs.Checks.{check_number, check_text};
 
 use std::fmt;

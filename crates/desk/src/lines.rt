@@ -1,14 +1,7 @@
 //! The lines of a report.
 ghost use Rattle.std.specs.Prelude.{◌≡◌, ◌+◌, ◌≤◌, ◌++◌, length, replicate};
 ghost use Rattle.arrayvec.specs.ArrayVec.{array_vec_len};
-ghost use Rattle.desk.specs.Lines.{
-  id_text,
-  notice_kind_text,
-  left_aligned_text,
-  line,
-  revision_text,
-  right_aligned_text,
-};
+ghost use Rattle.desk.specs.Lines.{id_text, notice_kind_text, left_aligned_text, line, revision_text, right_aligned_text};
 
 use crate::notices::{Notice, NoticeKind};
 use deposit_name::{LineBytes, append};

@@ -1,14 +1,7 @@
 //! When the grounds of releases stand.
 ghost use Rattle.std.specs.Prelude.{◌≡◌, count_by};
 ghost use Rattle.std.specs.List.{list_any};
-ghost use Rattle.desk.specs.Standing.{
-  ground_stands,
-  is_loss,
-  is_made_good_by,
-  is_receipt,
-  is_recent_loss,
-  is_sunday_lost,
-};
+ghost use Rattle.desk.specs.Standing.{ground_stands, is_loss, is_made_good_by, is_receipt, is_recent_loss, is_sunday_lost};
 
 use crate::grounds::Ground;
 use crate::notices::{Notice, NoticeKind};

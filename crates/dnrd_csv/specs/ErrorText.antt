@@ -1,14 +1,7 @@
 -- The numbers of the refusals of a table's file.
 use Rattle.std.specs.Prelude.{ℕ, List, codes}
 use Rattle.dnrd_csv.specs.declared.errors.TableError.{TableError}
-use Rattle.dnrd_csv.specs.declared.errors.TableError.TheVariants.{
-  NotUtf8,
-  NotRows,
-  ColumnCount,
-  FieldForm,
-  DuplicateKey,
-  OutOfMemory,
-}
+use Rattle.dnrd_csv.specs.declared.errors.TableError.TheVariants.{NotUtf8, NotRows, ColumnCount, FieldForm, DuplicateKey, OutOfMemory}
 
 abbrev pub table_error_text : TableError → List ℕ
 table_error_text NotUtf8 = codes "K1"

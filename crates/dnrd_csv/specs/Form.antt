@@ -1,18 +1,5 @@
 -- The forms of fields.
-use Rattle.std.specs.Prelude.{
-  ◌≡◌,
-  ◌≢◌,
-  ◌≤◌,
-  ◌⊎◌,
-  ℕ,
-  List,
-  [],
-  All,
-  IsUtf8,
-  codes,
-  length,
-  slice_index,
-}
+use Rattle.std.specs.Prelude.{◌≡◌, ◌≢◌, ◌≤◌, ◌⊎◌, ℕ, List, [], All, IsUtf8, codes, length, slice_index}
 use Rattle.std.specs.Int.{IsInRange}
 use Rattle.schedule.specs.Text.{IsMomentText}
 use Rattle.dnrd_csv.specs.declared.form.Form.{Form}

@@ -1,26 +1,5 @@
 -- The forms of fields as tests: each passes just where `HasForm` holds, which `law_table_reader` says of whole tables.
-use Rattle.std.specs.Prelude.{
-  ◌==◌,
-  ◌&&◌,
-  ◌||◌,
-  not,
-  ℕ,
-  ◌+◌,
-  ◌*◌,
-  Bool,
-  false,
-  List,
-  [],
-  Option,
-  Some,
-  None,
-  codes,
-  length,
-  nat_le,
-  nat_lt,
-  take,
-  slice_index,
-}
+use Rattle.std.specs.Prelude.{◌==◌, ◌&&◌, ◌||◌, not, ℕ, ◌+◌, ◌*◌, Bool, false, List, [], Option, Some, None, codes, length, nat_le, nat_lt, take, slice_index}
 use Rattle.std.specs.Int.{is_in_range}
 use Rattle.std.specs.List.{list_all}
 use Rattle.std.specs.Str.{bytes_eq, is_utf8}

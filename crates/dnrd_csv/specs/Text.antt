@@ -1,22 +1,5 @@
 -- The one text of a list of rows (RFC 4180, section 2, with one choice wherever it leaves two).
-use Rattle.std.specs.Prelude.{
-  ◌≡◌,
-  ◌≢◌,
-  ◌==◌,
-  ◌||◌,
-  ℕ,
-  Bool,
-  false,
-  List,
-  [],
-  ◌∷◌,
-  ◌++◌,
-  All,
-  map,
-  flat_map,
-  nat_eq,
-  if◌then◌else◌,
-}
+use Rattle.std.specs.Prelude.{◌≡◌, ◌≢◌, ◌==◌, ◌||◌, ℕ, Bool, false, List, [], ◌∷◌, ◌++◌, All, map, flat_map, nat_eq, if◌then◌else◌}
 use Rattle.std.specs.List.{join_with_byte, list_any, starts_with}
 
 -- a comma, a quote, a carriage return or a line feed

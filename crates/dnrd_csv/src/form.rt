@@ -1,17 +1,7 @@
 // The forms of fields.
 
-ghost use Rattle.std.specs.Prelude.{◌≡◌, ◌≢◌, ◌⊎◌, ◌≤◌, ◌↔◌, [], All, IsTrue, codes, length};
-ghost use Rattle.dnrd_csv.specs.Form.{
-  HasForm,
-  IsAddressByte,
-  IsDigit,
-  IsGurid,
-  IsHostNameByte,
-  IsIdByte,
-  IsRoidByte,
-  IsStatusByte,
-  IsTextOfBytes,
-};
+ghost use Rattle.std.specs.Prelude.{◌≡◌, ◌≢◌, ◌⊎◌, ◌≤◌, ◌↔◌, IsTrue, codes, length};
+ghost use Rattle.dnrd_csv.specs.Form.{HasForm, IsAddressByte, IsDigit, IsGurid, IsHostNameByte, IsIdByte, IsRoidByte, IsStatusByte, IsTextOfBytes};
 
 use schedule::read_moment;
 use std::str;

@@ -1,26 +1,5 @@
 //! Reading rows in their one spelling.
-ghost use Rattle.std.specs.Prelude.{
-  ◌≡◌,
-  ◌≢◌,
-  ◌⊎◌,
-  ◌↔◌,
-  ◌++◌,
-  [],
-  true,
-  false,
-  ℕ,
-  List,
-  All,
-  IfErr,
-  IfOk,
-  IfSome,
-  IsSome,
-  IsTrue,
-  IsUtf8,
-  OnOk,
-  length,
-  nat_eq,
-};
+ghost use Rattle.std.specs.Prelude.{◌≡◌, ◌≢◌, ◌⊎◌, ◌↔◌, ◌++◌, [], true, false, ℕ, List, IfErr, IfOk, IfSome, IsSome, IsTrue, IsUtf8, OnOk, length, nat_eq};
 ghost use Rattle.std.specs.List.{starts_with};
 ghost use Rattle.csv.specs.Records.{fields_of, partial_of};
 ghost use Rattle.dnrd_csv.specs.inside.RowReading.{IsAtRow, RefusesRow, RefusesRows};

@@ -1,21 +1,5 @@
 //! Whether rows have the forms and the keys of a table.
-ghost use Rattle.std.specs.Prelude.{
-  ◌≡◌,
-  ◌≤◌,
-  ◌<◌,
-  ◌↔◌,
-  ◌++◌,
-  ◌∷◌,
-  [],
-  true,
-  All,
-  IfOk,
-  IsTrue,
-  get_or,
-  length,
-  map,
-  take,
-};
+ghost use Rattle.std.specs.Prelude.{◌≡◌, ◌≤◌, ◌<◌, ◌↔◌, [], true, All, IfOk, IsTrue, get_or, length, map, take};
 ghost use Rattle.std.specs.List.{AllZip};
 ghost use Rattle.dnrd_csv.specs.Form.{HasForm};
 ghost use Rattle.dnrd_csv.specs.inside.RowKeys.{Ascend, keys_of, padded_key, borrowed_texts};

@@ -1,27 +1,9 @@
 //! The rows of a file.
-ghost use Rattle.std.specs.Prelude.{
-  ◌≡◌,
-  ◌≢◌,
-  ◌<◌,
-  ◌++◌,
-  ◌==◌,
-  ◌↔◌,
-  [],
-  ℕ,
-  List,
-  All,
-  IfNone,
-  IfSome,
-  IsTrue,
-  OnOk,
-  flat_map,
-  get_or,
-  length,
-};
+ghost use Rattle.std.specs.Prelude.{◌≡◌, ◌≢◌, ◌<◌, ◌++◌, ◌==◌, ◌↔◌, [], ℕ, List, All, IfNone, IfSome, IsTrue, OnOk, flat_map, get_or, length};
 ghost use Rattle.csv.specs.Records.{fields_of};
 ghost use Rattle.dnrd_csv.specs.inside.Fields.{AreRowsOf};
 ghost use Rattle.dnrd_csv.specs.Table.{HaveWidth};
-ghost use Rattle.dnrd_csv.specs.Text.{IsRow, key_rows, table_text};
+ghost use Rattle.dnrd_csv.specs.Text.{key_rows, table_text};
 
 use crate::spelling::{field_at, write_row};
 use csv::ByteRecord;

@@ -1,20 +1,5 @@
 //! Writing fields and rows in their one spelling.
-ghost use Rattle.std.specs.Prelude.{
-  ◌≡◌,
-  ◌-◌,
-  ◌<◌,
-  ◌≤◌,
-  ◌==◌,
-  ◌++◌,
-  ◌∷◌,
-  [],
-  OnOk,
-  drop,
-  get_or,
-  if◌then◌else◌,
-  length,
-  take,
-};
+ghost use Rattle.std.specs.Prelude.{◌≡◌, ◌-◌, ◌<◌, ◌≤◌, ◌==◌, ◌++◌, ◌∷◌, [], OnOk, drop, get_or, if◌then◌else◌, length, take};
 ghost use Rattle.std.specs.List.{list_any};
 ghost use Rattle.csv.specs.Records.{fields_of};
 ghost use Rattle.dnrd_csv.specs.Text.{calls_for_quotes, escaped_field, field_text, row_text};

@@ -1,17 +1,5 @@
 //! Reading and writing tables, and files of deleted keys.
-ghost use Rattle.std.specs.Prelude.{
-  ◌≡◌,
-  ◌≤◌,
-  true,
-  ℕ,
-  List,
-  All,
-  IfErr,
-  IfOk,
-  MatchResult,
-  length,
-  take,
-};
+ghost use Rattle.std.specs.Prelude.{◌≡◌, ◌≤◌, true, ℕ, List, IfErr, IfOk, MatchResult, length, take};
 ghost use Rattle.deposit_name.specs.Tables.{has_deletes};
 ghost use Rattle.dnrd_csv.specs.Table.{IsTable, RefusesTableFile, columns_of, key_columns_of};
 ghost use Rattle.dnrd_csv.specs.Text.{key_rows, table_text};

@@ -1,25 +1,5 @@
 -- What is read of a JSON value that stands for an envelope. The text is compared afterwards, so what has a default or one form is not looked at here.
-use Rattle.std.specs.Prelude.{
-  ◌≡◌,
-  ℕ,
-  List,
-  [],
-  ◌∷◌,
-  length,
-  take,
-  codes,
-  Option,
-  Some,
-  None,
-  option_map,
-  option_and_then,
-  Result,
-  Ok,
-  Err,
-  is_none,
-  nat_le,
-  if◌then◌else◌,
-}
+use Rattle.std.specs.Prelude.{◌≡◌, ℕ, List, [], ◌∷◌, length, take, codes, Option, Some, None, option_map, option_and_then, Result, Ok, Err, is_none, nat_le, if◌then◌else◌}
 use Rattle.std.specs.Result.{result_ok}
 use Rattle.std.specs.List.{list_all}
 use Rattle.hex.specs.Hex.{decode_sized}

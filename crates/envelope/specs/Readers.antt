@@ -1,33 +1,5 @@
 -- Frame and envelope as functions of a text (RFC 8909, section 5.1). Only their law is used: `AreReaders`, which says them by `IsFrame`, and by `IsEnvelope` and `env_text`.
-use Rattle.std.specs.Prelude.{
-  ◌≡◌,
-  ◌≢◌,
-  ◌↔◌,
-  ◌==◌,
-  ◌&&◌,
-  ◌+◌,
-  ◌*◌,
-  ◌-◌,
-  ◌^◌,
-  ℕ,
-  Bool,
-  true,
-  false,
-  List,
-  [],
-  ◌∷◌,
-  fold,
-  length,
-  map,
-  take,
-  drop,
-  Option,
-  Some,
-  None,
-  if◌then◌else◌,
-  nat_le,
-  nat_lt,
-}
+use Rattle.std.specs.Prelude.{◌≡◌, ◌≢◌, ◌↔◌, ◌==◌, ◌&&◌, ◌+◌, ◌*◌, ◌-◌, ◌^◌, ℕ, Bool, true, false, List, [], ◌∷◌, fold, length, map, take, drop, Option, Some, None, if◌then◌else◌, nat_le, nat_lt}
 use Rattle.std.specs.Cmp.Lexicographic.{slice_cmp}
 use Rattle.std.specs.List.{list_all}
 use Rattle.std.specs.Ordering.{is_lt, nat_cmp}

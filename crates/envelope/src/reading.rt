@@ -1,72 +1,16 @@
 //! Reading an envelope: the JSON value of the text, the envelope that the value stands for, its text, and the comparison.
-ghost use Rattle.std.specs.Prelude.{
-  ◌≡◌,
-  ◌-◌,
-  ◌≤◌,
-  ◌<◌,
-  ◌^◌,
-  ℕ,
-  List,
-  Option,
-  Some,
-  None,
-  Ok,
-  option_map,
-  IfSome,
-  IfOk,
-  IsUtf8,
-  IsTrue,
-  IsErrOf,
-  All,
-  length,
-};
+ghost use Rattle.std.specs.Prelude.{◌≡◌, ◌-◌, ◌≤◌, ◌<◌, Option, Some, None, Ok, option_map, IfSome, IfOk, IsUtf8, IsTrue, IsErrOf, All, length};
 ghost use Rattle.serde_json.specs.View.{items_view, members_view};
 ghost use Rattle.serde_json.specs.Read.{read};
 ghost use Rattle.serde_json.specs.View as json;
 ghost use Rattle.std.specs.List.{list_all};
 ghost use Rattle.deposit_name.specs.Tables.{has_deletes};
 ghost use Rattle.deposit_name.specs.Identifiers.{IsTld, IsDepositId};
-ghost use Rattle.schedule.specs.Reading.{day_at};
 ghost use Rattle.schedule.specs.Schedule.{IsDay};
 ghost use Rattle.envelope.specs.Uri.{is_uri};
-ghost use Rattle.envelope.specs.Envelope.{
-  Env,
-  IsFile,
-  IsCount,
-  FitsKind,
-  UrisRise,
-  IsHeader,
-  IsMenu,
-  IsEnvelope,
-  env_of,
-  env_text,
-  text_max,
-};
+ghost use Rattle.envelope.specs.Envelope.{Env, IsFile, IsCount, FitsKind, UrisRise, IsHeader, IsMenu, IsEnvelope, env_of, env_text, text_max};
 ghost use Rattle.envelope.specs.declared.errors.EnvError.TheVariants.{Spelling};
-ghost use Rattle.envelope.specs.JsonReading.{
-  GivesReading,
-  number_at,
-  text_at,
-  digest_at,
-  file_at,
-  uri_at,
-  each_at,
-  counts_of,
-  files_at,
-  uris_at,
-  counts_at,
-  kind_at,
-  deletes_at,
-  id_at,
-  prev_id_at,
-  watermark_at,
-  count_at,
-  header_at,
-  tld_at,
-  menu_at,
-  resend_at,
-  env_at,
-};
+ghost use Rattle.envelope.specs.JsonReading.{GivesReading, number_at, text_at, file_at, uri_at, each_at, counts_of, files_at, uris_at, counts_at, kind_at, deletes_at, id_at, prev_id_at, watermark_at, count_at, header_at, tld_at, menu_at, resend_at, env_at};
 
 use crate::envelope::{Count, Envelope, FileEntry, Header, Menu};
 use crate::errors::EnvError;

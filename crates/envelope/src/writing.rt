@@ -1,40 +1,8 @@
 //! Writing the one text of an envelope.
-ghost use Rattle.std.specs.Prelude.{
-  ◌≡◌,
-  ◌++◌,
-  ◌∷◌,
-  [],
-  List,
-  codes,
-  decimal,
-  map,
-  OnOk,
-  IfOk,
-  Some,
-  None,
-  option_map,
-};
+ghost use Rattle.std.specs.Prelude.{◌≡◌, ◌++◌, codes, decimal, map, OnOk, IfOk, Some, option_map};
 ghost use Rattle.schedule.specs.Text.{day_text};
 ghost use Rattle.hex.specs.Hex.{encode_lower};
-ghost use Rattle.envelope.specs.Envelope.{
-  env_of,
-  quoted_text,
-  array_text,
-  object_text,
-  file_text,
-  count_member,
-  counts_text,
-  files_text,
-  header_text,
-  menu_text,
-  later_member,
-  later_member_if,
-  type_text,
-  comma_before,
-  front_text,
-  back_text,
-  env_text,
-};
+ghost use Rattle.envelope.specs.Envelope.{env_of, quoted_text, array_text, file_text, count_member, counts_text, files_text, header_text, menu_text, later_member, later_member_if, type_text, comma_before, front_text, back_text, env_text};
 
 use crate::envelope::{Count, Envelope, FileEntry, Header, Menu};
 use crate::uri::Uri;

@@ -1,18 +1,5 @@
 -- What an order does over the two files of a folder.
-use Rattle.std.specs.Prelude.{
-  ◌≡◌,
-  ℕ,
-  List,
-  [],
-  Option,
-  None,
-  Some,
-  true,
-  false,
-  take,
-  IfSome,
-  MatchOption,
-}
+use Rattle.std.specs.Prelude.{◌≡◌, ℕ, List, [], Option, None, Some, true, false, take, IfSome, MatchOption}
 use Rattle.vault_volume.specs.declared.volume.Volume as volume
 use Rattle.vault_volume.specs.declared.file.FileVolume.{FileVolume}
 use Rattle.vault_volume.specs.File.{is_new_file}
@@ -23,13 +10,7 @@ use Rattle.answer_lines.specs.Printing.{Writer}
 use Rattle.agent_cli.specs.declared.order.Deed.{Deed}
 use Rattle.agent_cli.specs.declared.order.Deed.TheVariants as deed
 use Rattle.agent_cli.specs.declared.order.Order.{Order}
-use Rattle.escrow.specs.VaultCalls.{
-  HasServedConnections,
-  HasPrintedReady,
-  IsCarriedOut,
-  HasPrintedInitError,
-  HasPrintedOpenFailure,
-}
+use Rattle.escrow.specs.VaultCalls.{HasServedConnections, HasPrintedReady, IsCarriedOut, HasPrintedInitError, HasPrintedOpenFailure}
 
 -- a database has no table, no index and no view
 abbrev pub ListsNothing : State → Type 0

@@ -1,17 +1,7 @@
 //! The program `escrow`: a registry data escrow agent over the two files of a folder.
 #![tactic(auto)]
 
-ghost use Rattle.std.specs.Prelude.{
-  ◌≡◌,
-  ◌⊎◌,
-  IfErr,
-  IfOk,
-  IfSome,
-  MatchResult,
-  OnOk,
-  map,
-  string_bytes,
-};
+ghost use Rattle.std.specs.Prelude.{◌≡◌, ◌⊎◌, IfErr, IfOk, IfSome, MatchResult, OnOk, map, string_bytes};
 ghost use Rattle.std.specs.Process.{exit_status};
 ghost use Rattle.sqlite.specs.Files.{over_files};
 ghost use Rattle.std.specs.Io.KnownBytes.{Appends};

@@ -3,13 +3,7 @@ ghost use Rattle.std.specs.Prelude.{◌≡◌, ◌-◌, ◌^◌, ◌<◌, ◌≤
 ghost use Rattle.answer_lines.specs.Lines.{line_text};
 ghost use Rattle.answer_lines.specs.Printing.{WritesWholeAt, as_line};
 ghost use Rattle.answer_lines.specs.Statuses.{IsStatusAfter};
-ghost use Rattle.escrow.specs.VaultCalls.{
-  HasServedConnections,
-  HasPrintedReady,
-  IsCarriedOut,
-  HasPrintedInitError,
-  HasPrintedOpenFailure,
-};
+ghost use Rattle.escrow.specs.VaultCalls.{HasServedConnections, HasPrintedReady, IsCarriedOut, HasPrintedInitError, HasPrintedOpenFailure};
 ghost use Rattle.http_api.specs.Connections.{AreConnections};
 
 use agent_cli::{Deed, act};

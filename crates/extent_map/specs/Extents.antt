@@ -1,20 +1,5 @@
 -- Extents as sets of blocks, and what is done to the set of free blocks.
-use Rattle.std.specs.Prelude.{
-  ◌≡◌,
-  ◌⊎◌,
-  ℕ,
-  zero,
-  suc,
-  ◌+◌,
-  ◌<◌,
-  ◌≤◌,
-  List,
-  [],
-  ◌∷◌,
-  All,
-  AllPairs,
-  sum_by,
-}
+use Rattle.std.specs.Prelude.{◌≡◌, ◌⊎◌, ℕ, zero, suc, ◌+◌, ◌<◌, ◌≤◌, List, [], ◌∷◌, All, AllPairs, sum_by}
 use Rattle.extent_map.specs.declared.extent.Extent.{Extent}
 
 -- the block is in the extent

@@ -1,47 +1,7 @@
 //! The map: one bit a block, 1 where it is free, with the number of free blocks beside them.
-ghost use Rattle.std.specs.Prelude.{
-  ◌≡◌,
-  ◌+◌,
-  ◌*◌,
-  ◌^◌,
-  ◌<◌,
-  ◌≤◌,
-  ℕ,
-  [],
-  ◌∷◌,
-  vec_len,
-  All,
-  false,
-  IsTrue,
-  IfSome,
-  IfNone,
-  IfOk,
-  IfErr,
-  IsErr,
-  IsErrOf,
-};
+ghost use Rattle.std.specs.Prelude.{◌≡◌, ◌+◌, ◌*◌, ◌^◌, ◌<◌, ◌≤◌, ℕ, [], ◌∷◌, vec_len, All, false, IsTrue, IfSome, IfNone, IfOk, IfErr, IsErr, IsErrOf};
 ghost use Rattle.extent_map.specs.Words.{bit, one_count};
-ghost use Rattle.extent_map.specs.Extents.{
-  AllIn,
-  AreApart,
-  AreChosen,
-  AreLowest,
-  AreRising,
-  blocks_of,
-  HasAtLeast,
-  HasFewer,
-  IsExtentOf,
-  IsUsed,
-  IsFirstFit,
-  IsFreeOf,
-  IsFreeRun,
-  IsIn,
-  IsInAny,
-  Takes,
-  GivesBack,
-  SameFree,
-  HasCount,
-};
+ghost use Rattle.extent_map.specs.Extents.{AllIn, AreApart, AreChosen, AreLowest, AreRising, blocks_of, HasAtLeast, HasFewer, IsExtentOf, IsUsed, IsFirstFit, IsFreeOf, IsFreeRun, IsIn, Takes, GivesBack, SameFree, HasCount};
 
 use crate::words::{clear_run, first_fit, first_one, first_zero, set_run};
 use crate::{Extent, MapError};

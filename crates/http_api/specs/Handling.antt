@@ -1,26 +1,5 @@
 -- What is answered to a request, and what the agent does for it.
-use Rattle.std.specs.Prelude.{
-  ◌≡◌,
-  ◌≤◌,
-  ◌^◌,
-  ◌⊎◌,
-  ◌++◌,
-  [],
-  ◌∷◌,
-  ℕ,
-  List,
-  codes,
-  length,
-  Option,
-  Some,
-  None,
-  Result,
-  Ok,
-  Err,
-  IfSome,
-  is_some,
-  if◌then◌else◌,
-}
+use Rattle.std.specs.Prelude.{◌≡◌, ◌≤◌, ◌^◌, ◌⊎◌, ◌++◌, [], ◌∷◌, ℕ, List, codes, length, Option, Some, None, Result, Ok, Err, IfSome, is_some, if◌then◌else◌}
 use Rattle.std.specs.FinMap.{get}
 use Rattle.vault_volume.specs.declared.volume.Volume as volume
 use Rattle.sqlite.specs.Store.{Ghosts}
@@ -29,11 +8,7 @@ use Rattle.custody_machine.specs.declared.answers.Refusal.{Refusal}
 use Rattle.custody_machine.specs.declared.answers.Refusal.TheVariants.{RegistryUnknown}
 use Rattle.custody_machine.specs.declared.answers.Failure.{Failure}
 use Rattle.custody_machine.specs.declared.answers.Failure.TheVariants.{NoMemory, Closed}
-use Rattle.custody_machine.specs.declared.codes.HttpStatus.TheVariants.{
-  BadRequest,
-  NotFound,
-  ContentTooLarge,
-}
+use Rattle.custody_machine.specs.declared.codes.HttpStatus.TheVariants.{BadRequest, NotFound, ContentTooLarge}
 use Rattle.custody_machine.specs.Codes as machine
 use Rattle.custody_machine.specs.Texts.{refusal_text, failure_text}
 use Rattle.custody_machine.specs.Machine.{Receive}
@@ -49,13 +24,7 @@ use Rattle.custody.specs.Fetching.{HasFetched}
 use Rattle.custody.specs.Receiving.{HasEndedEarly}
 use Rattle.answer_lines.specs.Printing.{reply_text}
 use Rattle.answer_lines.specs.State.{registry_report_text}
-use Rattle.http_request.specs.RequestMeaning.{
-  RequestMeaning,
-  bad,
-  asks_for,
-  RequestMeans,
-  SendsPart,
-}
+use Rattle.http_request.specs.RequestMeaning.{RequestMeaning, bad, asks_for, RequestMeans, SendsPart}
 use Rattle.http_request.specs.declared.faults.Method.{Method}
 use Rattle.http_request.specs.declared.faults.RequestFault.{RequestFault}
 use Rattle.http_request.specs.declared.faults.RequestFault.TheVariants as fault

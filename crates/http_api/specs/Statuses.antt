@@ -2,25 +2,9 @@
 use Rattle.std.specs.Prelude.{List, ℕ, ◌++◌, codes, decimal}
 use Rattle.custody_machine.specs.Codes.{http_number}
 use Rattle.custody_machine.specs.declared.codes.HttpStatus.{HttpStatus}
-use Rattle.custody_machine.specs.declared.codes.HttpStatus.TheVariants.{
-  BadRequest,
-  NotFound,
-  Conflict,
-  Gone,
-  ContentTooLarge,
-  InternalServerError,
-  ServiceUnavailable,
-  InsufficientStorage,
-}
+use Rattle.custody_machine.specs.declared.codes.HttpStatus.TheVariants.{BadRequest, NotFound, Conflict, Gone, ContentTooLarge, InternalServerError, ServiceUnavailable, InsufficientStorage}
 use Rattle.http_api.specs.declared.status.ResponseStatus.{ResponseStatus}
-use Rattle.http_api.specs.declared.status.ResponseStatus.TheVariants.{
-  Done,
-  Created,
-  MethodNotAllowed,
-  LengthRequired,
-  NotImplemented,
-  Coded,
-}
+use Rattle.http_api.specs.declared.status.ResponseStatus.TheVariants.{Done, Created, MethodNotAllowed, LengthRequired, NotImplemented, Coded}
 
 abbrev pub phrase : HttpStatus → List ℕ
 phrase BadRequest = codes "Bad Request"

@@ -1,18 +1,7 @@
 //! What is told of faults, refusals, failures and replies, as responses.
 ghost use Rattle.std.specs.Prelude.{◌≡◌, Result, Ok};
-ghost use Rattle.custody.specs.declared.answers.Reply as of_custody;
 ghost use Rattle.http_api.specs.Responses.{response_view};
-ghost use Rattle.http_api.specs.Handling.{
-  allowed_method,
-  failure_response,
-  fault_response,
-  fault_row,
-  new_record_status,
-  refusal_response,
-  refused_response,
-  response_of,
-  reply_status,
-};
+ghost use Rattle.http_api.specs.Handling.{allowed_method, failure_response, fault_response, fault_row, new_record_status, refusal_response, refused_response, response_of, reply_status};
 
 use crate::ResponseStatus;
 use crate::response::{Body, Response};

@@ -1,18 +1,5 @@
 //! Connections, one after the other.
-ghost use Rattle.std.specs.Prelude.{
-  ◌≡◌,
-  ◌<◌,
-  ℕ,
-  Some,
-  None,
-  Ok,
-  Err,
-  IfOk,
-  IfErr,
-  IfSome,
-  OnOk,
-  OnErr,
-};
+ghost use Rattle.std.specs.Prelude.{◌≡◌, ◌<◌, ℕ, Some, None, Ok, Err, IfOk, IfErr, IfSome, OnOk, OnErr};
 ghost use Rattle.http_api.specs.Connections.{AreConnections, IsConnection};
 
 use crate::client::{REQUEST_SECONDS, RESPONSE_SECONDS, TimedStream, end_connection};

@@ -1,45 +1,13 @@
 //! One request, one response.
-ghost use Rattle.std.specs.Prelude.{
-  ◌≡◌,
-  ◌≤◌,
-  ◌++◌,
-  ℕ,
-  List,
-  length,
-  take,
-  Err,
-  Some,
-  None,
-  Result,
-  IfOk,
-  IfErr,
-  IfSome,
-  OnOk,
-  OnErr,
-};
+ghost use Rattle.std.specs.Prelude.{◌≡◌, ◌≤◌, ◌++◌, ℕ, List, length, take, Err, Some, None, Result, IfOk, IfErr, IfSome, OnOk};
 ghost use Rattle.std.specs.Io.KnownBytes.{Appends, Keeps};
 ghost use Rattle.desk.specs.Lines.{AppendsBeginning};
 ghost use Rattle.custody.specs.Fetching.{HasFetched};
 ghost use Rattle.custody.specs.declared.answers.Refused as not_accepted;
 ghost use Rattle.http_request.specs.Errors.{IsRequestError, IsBodyError};
 ghost use Rattle.http_request.specs.ActionView.{action_view};
-ghost use Rattle.http_api.specs.Responses.{
-  HttpResponse,
-  message_view,
-  response_view,
-  response_bytes,
-};
-ghost use Rattle.http_api.specs.Handling.{
-  IsCompletedAs,
-  ErrorLeaves,
-  HasReceivedPart,
-  IsRequestPerformed,
-  IsNoCommand,
-  IsServed,
-  IsActionPerformed,
-  IsRequestServed,
-  fetch_response,
-};
+ghost use Rattle.http_api.specs.Responses.{HttpResponse, message_view, response_view, response_bytes};
+ghost use Rattle.http_api.specs.Handling.{IsCompletedAs, ErrorLeaves, HasReceivedPart, IsRequestPerformed, IsNoCommand, IsServed, IsActionPerformed, IsRequestServed, fetch_response};
 
 use crate::ResponseStatus;
 use crate::answering::{

@@ -4,15 +4,7 @@ ghost use Rattle.std.specs.Io.KnownBytes.{Appends};
 ghost use Rattle.arrayvec.specs.ArrayVec.{array_vec_len};
 ghost use Rattle.desk.specs.Lines.{AppendsBeginning, report_text};
 ghost use Rattle.answer_lines.specs.Printing.{reply_text};
-ghost use Rattle.http_api.specs.Responses.{
-  allow_line,
-  http_response,
-  response_head,
-  message_view,
-  report_view,
-  response_view,
-  response_bytes,
-};
+ghost use Rattle.http_api.specs.Responses.{allow_line, http_response, response_head, message_view, report_view, response_view, response_bytes};
 ghost use Rattle.http_api.specs.Statuses.{status_text};
 
 use crate::ResponseStatus;

@@ -8,27 +8,8 @@ use Rattle.deposit_name.specs.Name.{kind_text}
 use Rattle.desk.specs.declared.grounds.Ground.{Ground}
 use Rattle.desk.specs.Grounds.{ground_text}
 use Rattle.custody_machine.specs.declared.command.Statement as statement
-use Rattle.custody_machine.specs.Machine.{
-  Command,
-  Register,
-  Receive,
-  Statement,
-  Check,
-  Release,
-  Hold,
-  Lift,
-  Purge,
-}
-use Rattle.http_request.specs.Bodies.{
-  StatementTexts,
-  ReleaseTexts,
-  HoldTexts,
-  IsJsonOf,
-  registration_json,
-  statement_json,
-  release_json,
-  hold_json,
-}
+use Rattle.custody_machine.specs.Machine.{Command, Register, Receive, Statement, Check, Release, Hold, Lift, Purge}
+use Rattle.http_request.specs.Bodies.{StatementTexts, ReleaseTexts, HoldTexts, IsJsonOf, registration_json, statement_json, release_json, hold_json}
 use Rattle.http_request.specs.Paths.{Target}
 use Rattle.http_request.specs.declared.routes.Route.{Route}
 use Rattle.http_request.specs.declared.routes.Route.TheVariants as route

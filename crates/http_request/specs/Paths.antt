@@ -1,23 +1,5 @@
 -- The routes of the HTTP interface, and what its paths name.
-use Rattle.std.specs.Prelude.{
-  ◌≡◌,
-  ◌<◌,
-  ℕ,
-  List,
-  [],
-  ◌∷◌,
-  ◌++◌,
-  length,
-  codes,
-  Bool,
-  true,
-  false,
-  Option,
-  Some,
-  None,
-  ◌==◌,
-  ◌||◌,
-}
+use Rattle.std.specs.Prelude.{◌≡◌, ◌<◌, ℕ, List, [], ◌∷◌, ◌++◌, length, codes, Bool, true, false, Option, Some, None, ◌==◌, ◌||◌}
 use Rattle.std.specs.Char.{is_ascii_alphanumeric}
 use Rattle.std.specs.List.{list_any, AllZip}
 use Rattle.http_request.specs.declared.faults.Method.{Method}

@@ -1,13 +1,7 @@
 -- What is known of a request once its head is read.
 use Rattle.std.specs.Prelude.{◌≡◌, ◌≢◌, ◌<◌, ◌≤◌, ℕ, List, [], true, Option, Some, None}
 use Rattle.httparse.specs.Grammar.{RequestHead}
-use Rattle.http_request.specs.RequestMeaning.{
-  RequestFault,
-  AreContentLength,
-  content_lengths,
-  method_text,
-  HasNoFaultBelow,
-}
+use Rattle.http_request.specs.RequestMeaning.{RequestFault, AreContentLength, content_lengths, method_text, HasNoFaultBelow}
 use Rattle.std.specs.List.{list_all}
 use Rattle.http_request.specs.declared.faults.RequestFault.TheVariants as fault
 use Rattle.http_request.specs.declared.plan.Plan.{Plan}

@@ -1,25 +1,5 @@
 -- What the bytes of a request ask for, or the least of A1 to A10 that stands (RFC 9112, with the grammar of a head as httparse has it).
-use Rattle.std.specs.Prelude.{
-  ◌≡◌,
-  ◌≢◌,
-  ◌<◌,
-  ◌≤◌,
-  ◌⊎◌,
-  ℕ,
-  List,
-  [],
-  ◌∷◌,
-  length,
-  take,
-  map,
-  codes,
-  true,
-  false,
-  Option,
-  Some,
-  None,
-  if◌then◌else◌,
-}
+use Rattle.std.specs.Prelude.{◌≡◌, ◌≢◌, ◌<◌, ◌≤◌, ◌⊎◌, ℕ, List, [], ◌∷◌, length, take, map, codes, true, false, Option, Some, None, if◌then◌else◌}
 use Rattle.std.specs.Char.{is_ascii_digit, to_ascii_lowercase}
 use Rattle.std.specs.Int.{IsInRange}
 use Rattle.std.specs.List.{list_all}
@@ -28,14 +8,7 @@ use Rattle.std.specs.Str.Parse.{digits_value}
 use Rattle.httparse.specs.Grammar.{RequestHead, ReadsRequest}
 use Rattle.httparse.specs.Spans.{name_and_value}
 use Rattle.http_request.specs.Head.{IsShortHead, HasNoShortHead}
-use Rattle.http_request.specs.Paths.{
-  Target,
-  NamesTarget,
-  is_target_byte,
-  limit_of,
-  method_of,
-  target_at,
-}
+use Rattle.http_request.specs.Paths.{Target, NamesTarget, is_target_byte, limit_of, method_of, target_at}
 use Rattle.http_request.specs.declared.routes.Route.TheVariants.{Deposit}
 use Rattle.http_request.specs.Action.{RequestAction, Means}
 pub use Rattle.http_request.specs.declared.faults.Method.{Method}

@@ -1,18 +1,8 @@
 //! What the JSON body of a request stands for.
-ghost use Rattle.std.specs.Prelude.{◌≡◌, ◌≤◌, ℕ, Some, IfSome, option_map, string_bytes};
-ghost use Rattle.serde_json.specs.Data.{Data};
+ghost use Rattle.std.specs.Prelude.{◌≡◌, Some, option_map};
 ghost use Rattle.serde_json.specs.View as json;
 ghost use Rattle.serde_json.specs.View.{members_view};
-ghost use Rattle.http_request.specs.inside.BodyReading.{
-  next_member,
-  end_of,
-  next_text,
-  next_u64,
-  registration_text,
-  statement_fields,
-  release_fields,
-  hold_fields,
-};
+ghost use Rattle.http_request.specs.inside.BodyReading.{next_member, end_of, next_text, next_u64, registration_text, statement_fields, release_fields, hold_fields};
 ghost use Rattle.http_request.specs.inside.BodyTexts.{statement_texts, release_texts, hold_texts};
 
 use serde_json::Value;

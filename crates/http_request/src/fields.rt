@@ -1,5 +1,5 @@
 //! The fields of a head.
-ghost use Rattle.std.specs.Prelude.{◌≡◌, ◌≤◌, ◌^◌, ◌<◌, ℕ, length, map, All, IfSome, IfNone, Some};
+ghost use Rattle.std.specs.Prelude.{◌<◌, ℕ, length, map, All, IfSome, IfNone, Some};
 ghost use Rattle.httparse.specs.Spans.{IsHeaderWithin, header_bytes};
 ghost use Rattle.http_request.specs.RequestMeaning.{values_named};
 ghost use Rattle.http_request.specs.inside.Fields.{AreFieldValues, IsNumeral};

@@ -6,21 +6,9 @@ ghost use Rattle.deposit_name.specs.Identifiers.{IsReference, IsTld};
 ghost use Rattle.custody_machine.specs.declared.command.Statement as statement;
 ghost use Rattle.serde_json.specs.Data.{Data};
 ghost use Rattle.serde_json.specs.View as json;
-ghost use Rattle.http_request.specs.Bodies.{
-  IsJsonOf,
-  registration_json,
-  statement_json,
-  release_json,
-  hold_json,
-};
+ghost use Rattle.http_request.specs.Bodies.{IsJsonOf, registration_json, statement_json, release_json, hold_json};
 ghost use Rattle.http_request.specs.inside.BodyTexts.{statement_texts, release_texts, hold_texts};
-ghost use Rattle.http_request.specs.Action.{
-  Means,
-  IsStatement,
-  texts_of_statement,
-  handover_texts,
-  held_day_texts,
-};
+ghost use Rattle.http_request.specs.Action.{Means, IsStatement, texts_of_statement, handover_texts, held_day_texts};
 ghost use Rattle.http_request.specs.Action as asked;
 ghost use Rattle.http_request.specs.ActionView.{action_view};
 ghost use Rattle.http_request.specs.Targets.{target_view};

@@ -1,33 +1,9 @@
 //! What a head asks for, and how long the body is that comes with it.
-ghost use Rattle.std.specs.Prelude.{
-  ◌≡◌,
-  ◌≤◌,
-  ℕ,
-  List,
-  [],
-  length,
-  drop,
-  take,
-  map,
-  true,
-  false,
-  Some,
-  IfOk,
-  IfErr,
-  IfSome,
-  IfNone,
-  IsTrue,
-  All,
-};
+ghost use Rattle.std.specs.Prelude.{◌≡◌, ℕ, List, length, map, false, Some, IfOk, IfErr, IfSome, IfNone, IsTrue};
 ghost use Rattle.std.specs.List.{list_all};
 ghost use Rattle.httparse.specs.Grammar.{RequestHead};
 ghost use Rattle.httparse.specs.Spans.{name_and_value};
-ghost use Rattle.http_request.specs.RequestMeaning.{
-  values_named,
-  HasFault,
-  HasNoFaultBelow,
-  fault_number,
-};
+ghost use Rattle.http_request.specs.RequestMeaning.{values_named, HasFault, HasNoFaultBelow, fault_number};
 ghost use Rattle.http_request.specs.inside.Fields.{AreFieldValues};
 ghost use Rattle.http_request.specs.Head.{CoversHead, IsHeadOf};
 ghost use Rattle.http_request.specs.Paths.{is_target_byte};

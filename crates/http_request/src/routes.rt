@@ -1,7 +1,6 @@
 //! The routes of the HTTP interface, and what a path names.
-ghost use Rattle.std.specs.Prelude.{◌≡◌, List, ℕ, IfOk, IfSome, IsTrue, IfNone};
+ghost use Rattle.std.specs.Prelude.{◌≡◌, IfOk, IfSome, IsTrue, IfNone};
 ghost use Rattle.std.specs.List.{list_all};
-ghost use Rattle.std.specs.Str.{IsUtf8};
 ghost use Rattle.http_request.specs.RouteTable.{route_table, is_table_prop};
 ghost use Rattle.http_request.specs.Paths.{is_target_byte, NamesTarget};
 ghost use Rattle.http_request.specs.Paths as paths;

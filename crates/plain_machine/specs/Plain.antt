@@ -9,13 +9,7 @@ use Rattle.custody_records.specs.Records.{Hold, Notice, key_of}
 use Rattle.custody_records.specs.declared.releases.Release.{Release}
 use Rattle.desk.specs.declared.notices.Notice as desk
 use Rattle.custody_records.specs.Tables.{table_map}
-use Rattle.custody_records.specs.TypedRecords.{
-  hold_key,
-  hold_value,
-  notice_key,
-  notice_value,
-  release_entry,
-}
+use Rattle.custody_records.specs.TypedRecords.{hold_key, hold_value, notice_key, notice_value, release_entry}
 use Rattle.plain_machine.specs.declared.holds.PlainHolds.{PlainHolds}
 use Rattle.plain_machine.specs.declared.notices.PlainNotices.{PlainNotices}
 use Rattle.plain_machine.specs.declared.state.PlainRegistry.{PlainRegistry}
@@ -26,21 +20,7 @@ use Rattle.plain_machine.specs.declared.state.PlainState.{PlainState}
 use Rattle.plain_machine.specs.declared.state.PlainAnswer.{PlainAnswer}
 use Rattle.plain_machine.specs.declared.state.PlainAnswer.TheVariants as answer
 use Rattle.custody_machine.specs.State.{State, Part, Content, Held, Dropped}
-use Rattle.custody_machine.specs.Machine.{
-  OfRegistry,
-  OfPart,
-  OfNotice,
-  OfRelease,
-  OfHold,
-  OfLifting,
-  OfPurge,
-  Step,
-  Refuse,
-  Accept,
-  content_len,
-  part_dropped_if_due,
-  greatest_number,
-}
+use Rattle.custody_machine.specs.Machine.{OfRegistry, OfPart, OfNotice, OfRelease, OfHold, OfLifting, OfPurge, Step, Refuse, Accept, content_len, part_dropped_if_due, greatest_number}
 
 abbrev pub plain_registry_entry : PlainRegistry → List ℕ × ℕ
 plain_registry_entry r = (r.tld, r.first_day)

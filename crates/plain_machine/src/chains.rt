@@ -3,17 +3,7 @@ ghost use Rattle.std.specs.Prelude.{◌≡◌, if◌then◌else◌, map, IfOk, S
 ghost use Rattle.std.specs.List.{filter, list_any};
 ghost use Rattle.std.specs.Option.{option_and_then};
 ghost use Rattle.deposit_verify.specs.Bases.{all_then, base_at, base_then};
-ghost use Rattle.custody_machine.specs.Machine.{
-  base_of,
-  chain_before,
-  chain_of,
-  has_dropped_part,
-  held_chain,
-  joined_bytes,
-  later_names,
-  latest_full,
-  passed_first_names,
-};
+ghost use Rattle.custody_machine.specs.Machine.{base_of, chain_before, chain_of, has_dropped_part, held_chain, joined_bytes, later_names, latest_full, passed_first_names};
 ghost use Rattle.deposit_name.specs.declared.kinds.Kind.TheVariants as kind;
 ghost use Rattle.deposit_name.specs.Name.{is_same_kind};
 ghost use Rattle.plain_machine.specs.inside.Listing.{is_first_at, listed_key};

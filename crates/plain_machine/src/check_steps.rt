@@ -2,16 +2,7 @@
 ghost use Rattle.std.specs.Prelude.{◌≡◌, ◌==◌, ◌&&◌, IfOk, OnErr, is_none, option_map};
 ghost use Rattle.schedule.specs.Schedule.{day_of};
 ghost use Rattle.custody_records.specs.TypedRecords.{notice_entry, notice_key, notice_value};
-ghost use Rattle.custody_machine.specs.Machine.{
-  absence_notice,
-  absence_of,
-  check_tests,
-  first_refusal,
-  is_day_outside,
-  is_verdict,
-  next_key,
-  step,
-};
+ghost use Rattle.custody_machine.specs.Machine.{absence_notice, absence_of, check_tests, first_refusal, is_day_outside, is_verdict, next_key, step};
 ghost use Rattle.custody_machine.specs.Machine as machine;
 ghost use Rattle.custody_machine.specs.State.{has_notice};
 ghost use Rattle.plain_machine.specs.Plain.{IsPlainStep, state_view};

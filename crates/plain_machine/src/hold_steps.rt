@@ -2,16 +2,7 @@
 ghost use Rattle.std.specs.Prelude.{◌≡◌, ◌&&◌, IfOk, IfSome, OnErr, is_none, is_some, option_map};
 ghost use Rattle.custody_records.specs.TypedRecords.{hold_key, hold_value};
 ghost use Rattle.custody_machine.specs.Machine as machine;
-ghost use Rattle.custody_machine.specs.Machine.{
-  Lift,
-  first_refusal,
-  hold_of,
-  hold_tests,
-  is_day_outside,
-  is_held_day,
-  kept_hold,
-  step,
-};
+ghost use Rattle.custody_machine.specs.Machine.{Lift, first_refusal, hold_of, hold_tests, is_day_outside, is_held_day, kept_hold, step};
 ghost use Rattle.plain_machine.specs.Plain.{IsPlainStep, state_view};
 
 use crate::state::{PlainAnswer, PlainState};

@@ -1,15 +1,5 @@
 //! Holds in the order of their references.
-ghost use Rattle.std.specs.Prelude.{
-  ◌≡◌,
-  true,
-  None,
-  length,
-  IfSome,
-  IsSome,
-  OnOk,
-  OnErr,
-  option_map,
-};
+ghost use Rattle.std.specs.Prelude.{◌≡◌, true, None, length, IfSome, IsSome, OnOk, OnErr, option_map};
 ghost use Rattle.std.specs.List.Sorted.{IsSearchInRange, IsBinarySearchResult};
 ghost use Rattle.std.specs.FinMap.{empty, get, insert};
 ghost use Rattle.custody_records.specs.Keys.{text_cmp};

@@ -6,13 +6,7 @@ ghost use Rattle.std.specs.List.Sorted.{IsSearchInRange, IsBinarySearchResult};
 ghost use Rattle.custody_records.specs.Keys.{part_cmp};
 ghost use Rattle.custody_records.specs.Records.{key_of};
 ghost use Rattle.custody_records.specs.Tables.{is_rising};
-ghost use Rattle.plain_machine.specs.inside.Listing.{
-  listed_entry,
-  listed_key,
-  listed_name,
-  listed_value,
-  listing_view,
-};
+ghost use Rattle.plain_machine.specs.inside.Listing.{listed_entry, listed_key, listed_name, listed_value, listing_view};
 ghost use Rattle.plain_machine.specs.DistinctPlaces.{have_distinct_places};
 
 use crate::state::PlainPart;

@@ -1,32 +1,11 @@
 //! What a notice tells.
-ghost use Rattle.std.specs.Prelude.{
-  ◌≡◌,
-  ◌++◌,
-  [],
-  ◌∷◌,
-  if◌then◌else◌,
-  map,
-  max,
-  IfOk,
-  OnOk,
-  nat_le,
-  bytes_eq,
-};
+ghost use Rattle.std.specs.Prelude.{◌≡◌, ◌++◌, [], ◌∷◌, if◌then◌else◌, map, max, IfOk, OnOk, nat_le, bytes_eq};
 ghost use Rattle.std.specs.List.{filter_map, list_all};
 ghost use Rattle.desk.specs.Standing.{is_receipt};
 ghost use Rattle.custody_records.specs.Keys.{notice_cmp};
 ghost use Rattle.custody_records.specs.TypedRecords.{notice_entry, notice_key};
 ghost use Rattle.custody_machine.specs.State.{is_notice_of};
-ghost use Rattle.custody_machine.specs.Machine.{
-  has_id,
-  is_absence,
-  is_failure_of,
-  is_receipt_of,
-  is_verdict,
-  is_verdict_of,
-  latest_id,
-  passed_deposit,
-};
+ghost use Rattle.custody_machine.specs.Machine.{has_id, is_absence, is_failure_of, is_receipt_of, is_verdict, is_verdict_of, latest_id, passed_deposit};
 ghost use Rattle.plain_machine.specs.Plain.{greatest_number_of, is_receipt_after, is_to};
 
 use custody_records::NoticeKey;

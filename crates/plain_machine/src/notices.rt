@@ -1,16 +1,5 @@
 //! Notices in the order of their registries and numbers.
-ghost use Rattle.std.specs.Prelude.{
-  ◌≡◌,
-  true,
-  None,
-  length,
-  IfOk,
-  IfSome,
-  OnOk,
-  OnErr,
-  find,
-  option_map,
-};
+ghost use Rattle.std.specs.Prelude.{◌≡◌, true, None, length, IfOk, IfSome, OnOk, OnErr, find, option_map};
 ghost use Rattle.std.specs.List.{filter, list_any};
 ghost use Rattle.std.specs.List.Sorted.{IsSearchInRange, IsBinarySearchResult};
 ghost use Rattle.std.specs.FinMap.{empty, entries, get, insert};

@@ -1,68 +1,15 @@
 //! The machine over whole byte strings.
-ghost use Rattle.std.specs.Prelude.{
-  ◌≡◌,
-  ◌≤◌,
-  ◌-◌,
-  ◌&&◌,
-  ◌||◌,
-  ◌==◌,
-  not,
-  if◌then◌else◌,
-  nat_lt,
-  ℕ,
-  List,
-  Ok,
-  Some,
-  IfOk,
-  OnErr,
-  find,
-  option_map,
-  length,
-  count_by,
-  is_some,
-  is_none,
-};
+ghost use Rattle.std.specs.Prelude.{◌≡◌, ◌≤◌, ◌-◌, ◌&&◌, ◌||◌, ◌==◌, not, if◌then◌else◌, nat_lt, ℕ, List, Ok, Some, IfOk, OnErr, find, option_map, length, count_by, is_some, is_none};
 ghost use Rattle.std.specs.List.{list_any};
 ghost use Rattle.deposit_name.specs.Name.{is_same_kind};
 ghost use Rattle.desk.specs.Standing.{is_receipt};
 ghost use Rattle.custody_records.specs.Records.{key_of};
 ghost use Rattle.plain_machine.specs.DistinctPlaces.{is_at_key};
-ghost use Rattle.plain_machine.specs.Plain.{
-  state_view,
-  part_view,
-  content_view,
-  IsPlainStep,
-  is_registry_of,
-};
+ghost use Rattle.plain_machine.specs.Plain.{state_view, part_view, content_view, IsPlainStep, is_registry_of};
 ghost use Rattle.custody_machine.specs.Commands.{command_of};
 ghost use Rattle.custody_machine.specs.NameReading.{read_name};
 ghost use Rattle.custody_machine.specs.State.{empty, key_with_part, has_notice, part_numbers};
-ghost use Rattle.custody_machine.specs.Machine.{
-  Register,
-  Receive,
-  step,
-  first_day_of,
-  part_under_name,
-  revision_part,
-  has_other_kind,
-  are_bytes_dropped,
-  is_held_with_other,
-  has_other_bytes,
-  is_dropped,
-  max_part_len,
-  is_day_outside,
-  is_outside,
-  is_tld_unregistered,
-  is_unregistered,
-  is_out_of_range,
-  is_failure_of,
-  is_revision_not_due,
-  is_stated,
-  is_new_beside_other_kind,
-  is_out_of_order,
-  receive_tests,
-  first_refusal,
-};
+ghost use Rattle.custody_machine.specs.Machine.{Register, Receive, step, first_day_of, part_under_name, revision_part, has_other_kind, are_bytes_dropped, is_held_with_other, has_other_bytes, is_dropped, max_part_len, is_day_outside, is_outside, is_tld_unregistered, is_unregistered, is_out_of_range, is_failure_of, is_revision_not_due, is_stated, is_new_beside_other_kind, is_out_of_order, receive_tests, first_refusal};
 
 use crate::holds::PlainHolds;
 use crate::notices::PlainNotices;

@@ -1,22 +1,8 @@
 //! What is done of a purge.
 ghost use Rattle.std.specs.Prelude.{◌≡◌, count_by, map};
 ghost use Rattle.custody_records.specs.Records.{key_of};
-ghost use Rattle.custody_machine.specs.Machine.{
-  Purge,
-  content_len,
-  part_dropped_if_due,
-  is_due_part,
-  step,
-};
-ghost use Rattle.plain_machine.specs.Plain.{
-  IsPlainStep,
-  content_view,
-  entry_after_purge,
-  holds_view,
-  plain_part_entry,
-  part_view,
-  state_view,
-};
+ghost use Rattle.custody_machine.specs.Machine.{Purge, content_len, is_due_part, step};
+ghost use Rattle.plain_machine.specs.Plain.{IsPlainStep, content_view, entry_after_purge, holds_view, plain_part_entry, part_view, state_view};
 ghost use Rattle.plain_machine.specs.declared.state.PlainPart.{PlainPart};
 
 use crate::holds::PlainHolds;

@@ -1,18 +1,9 @@
 //! What is done of a release.
-ghost use Rattle.std.specs.Prelude.{◌≡◌, ℕ, length, IfOk, IfSome, OnErr, find, option_map};
+ghost use Rattle.std.specs.Prelude.{◌≡◌, length, IfOk, IfSome, OnErr, find, option_map};
 ghost use Rattle.desk.specs.declared.grounds.Ground.{Ground};
 ghost use Rattle.custody_records.specs.TypedRecords.{release_value};
 ghost use Rattle.custody_machine.specs.Machine as machine;
-ghost use Rattle.custody_machine.specs.Machine.{
-  first_refusal,
-  has_ground,
-  held_names,
-  is_on_ground,
-  new_release,
-  release_of,
-  release_tests,
-  step,
-};
+ghost use Rattle.custody_machine.specs.Machine.{first_refusal, has_ground, held_names, is_on_ground, release_of, release_tests, step};
 ghost use Rattle.plain_machine.specs.Plain.{IsPlainStep, is_under, state_view};
 
 use crate::listing::Listing;

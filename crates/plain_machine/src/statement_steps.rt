@@ -1,50 +1,8 @@
 //! What is done of a statement.
-ghost use Rattle.std.specs.Prelude.{
-  ◌≡◌,
-  ◌++◌,
-  ◌&&◌,
-  find,
-  IfOk,
-  IfSome,
-  IfNone,
-  OnOk,
-  OnErr,
-  is_none,
-  not,
-  option_and_then,
-  option_map,
-};
+ghost use Rattle.std.specs.Prelude.{◌≡◌, ◌++◌, ◌&&◌, find, IfOk, IfSome, IfNone, OnOk, OnErr, is_none, not, option_and_then, option_map};
 ghost use Rattle.std.specs.List.{filter};
 ghost use Rattle.custody_records.specs.TypedRecords.{notice_entry, notice_key, notice_value};
-ghost use Rattle.custody_machine.specs.Machine.{
-  are_parts_as_stated,
-  bytes_held,
-  bytes_in,
-  count_parts,
-  has_other_count,
-  first_part,
-  first_refusal,
-  passed_full_deposits,
-  has_dropped_part,
-  has_later_receipt,
-  has_verdict,
-  if_of_id,
-  is_dropped,
-  is_full_revision,
-  is_outside,
-  joined_bytes,
-  kept_verdict,
-  known_of,
-  next_key,
-  notice_kind,
-  revision_part,
-  statement_tests,
-  step,
-  is_receipt_entry_of_full,
-  verdict_notice,
-  verdict_on,
-  recorded_verdict,
-};
+ghost use Rattle.custody_machine.specs.Machine.{are_parts_as_stated, bytes_held, bytes_in, count_parts, has_other_count, first_part, first_refusal, passed_full_deposits, has_dropped_part, has_later_receipt, has_verdict, if_of_id, is_dropped, is_full_revision, is_outside, joined_bytes, kept_verdict, known_of, next_key, notice_kind, revision_part, statement_tests, step, is_receipt_entry_of_full, verdict_notice, verdict_on, recorded_verdict};
 ghost use Rattle.custody_machine.specs.Machine as machine;
 ghost use Rattle.deposit_verify.specs.Known.{known_in};
 ghost use Rattle.plain_machine.specs.Plain.{IsPlainStep, content_view, is_in, state_view};

@@ -1,18 +1,5 @@
 -- The day of a text, as a function of the text.
-use Rattle.std.specs.Prelude.{
-  ℕ,
-  ◌+◌,
-  ◌-◌,
-  ◌*◌,
-  ◌&&◌,
-  List,
-  slice_index,
-  nat_le,
-  Option,
-  Some,
-  None,
-  if◌then◌else◌,
-}
+use Rattle.std.specs.Prelude.{ℕ, ◌+◌, ◌-◌, ◌*◌, ◌&&◌, List, slice_index, nat_le, Option, Some, None, if◌then◌else◌}
 use Rattle.std.specs.Str.{bytes_eq}
 use Rattle.schedule.specs.Calendar.{CivilDate, day_number}
 use Rattle.schedule.specs.Schedule.{last_day}

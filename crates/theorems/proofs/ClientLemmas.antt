@@ -8,7 +8,7 @@ use Rattle.custody_machine.specs.StoredState.{StandsFor, state_in}
 use Rattle.custody_machine.specs.Machine as machine
 use Rattle.custody_machine.specs.Machine.{Command, Purge, TimedCommand, Record, Reply, Accept, Accepted, Refused, Failed, after, state_after, step}
 use Rattle.custody_machine.specs.History as history
-use Rattle.custody_machine.specs.History.{Answered, AnsweredOtherCall, ShutDown, StoppedAtRest, OpenedWith, Opened, Pair, Condition, Running, Halted, Stopped, HappensAlong}
+use Rattle.custody_machine.specs.History.{Answered, OpenedWith, Opened, Pair, Condition, Running, Halted, Stopped, HappensAlong}
 use Rattle.custody_machine.specs.Moves.{Place, Serving, Shut, Left, Moves, IsBegun, IsInState}
 use Rattle.custody_machine.specs.Retries.{AsksAgain, IsAnsweredAgain, are_same_keys, first_record, has_same_key, command_key, once, step_record}
 use Rattle.custody_machine.proofs.Histories.{accepted_is_found, openings_are_right}

@@ -10,7 +10,7 @@ use Rattle.custody_machine.specs.declared.answers.Failure.TheVariants.{Closed}
 use Rattle.custody_machine.specs.Machine.{Command, TimedCommand, Failed}
 use Rattle.custody_machine.specs.Rulings.{command_bytes}
 use Rattle.custody_machine.specs.History as history
-use Rattle.custody_machine.specs.History.{Answered, AnsweredOtherCall, ShutDown, StoppedAtRest, Pair}
+use Rattle.custody_machine.specs.History.{Answered, StoppedAtRest, Pair}
 use Rattle.custody_machine.specs.Moves.{Place, Serving, Shut, Left, Moves, Finds}
 use Rattle.custody_machine.specs.Custody.{IsAtPlace, other_call_event}
 use Rattle.custody.specs.declared.answers.Record as code

@@ -13,7 +13,6 @@ use Rattle.custody_records.specs.Keys.{text_cmp, PartKey, part_cmp}
 use Rattle.custody_records.specs.inside.Orders.{part_total, part_exact}
 use Rattle.custody_records.specs.Purge.{is_on_hold}
 use Rattle.custody_records.specs.Records as kept_in
-use Rattle.custody_records.specs.Records.{key_of}
 use Rattle.custody_machine.specs.declared.answers.Refusal.{Refusal}
 use Rattle.custody_machine.specs.declared.answers.Failure.TheVariants.{NoMemory, VolumeFailed, StoreFailed, Closed, Damaged}
 use Rattle.custody_machine.specs.NameReading.{read_name}

@@ -1,75 +1,23 @@
 -- What a client over HTTP may rely on, whenever the service is stopped, and however often it sends a request again (Specification 2, Part B).
-use Rattle.std.specs.Prelude.{
-  ◌≡◌,
-  ◌⊎◌,
-  ℕ,
-  List,
-  [],
-  ◌∷◌,
-  ◌++◌,
-  map,
-  Contains,
-  count_by,
-  Some,
-  is_some,
-  true,
-  false,
-}
+use Rattle.std.specs.Prelude.{◌≡◌, ◌⊎◌, ℕ, List, [], ◌∷◌, ◌++◌, map, Contains, count_by, Some, is_some, true, false}
 use Rattle.std.specs.List.{flat_map}
 use Rattle.custody_machine.specs.declared.answers.Failure.{Failure}
-use Rattle.custody_machine.specs.declared.answers.Failure.TheVariants.{
-  NoMemory,
-  VolumeFailed,
-  StoreFailed,
-  Closed,
-  Damaged,
-}
+use Rattle.custody_machine.specs.declared.answers.Failure.TheVariants.{NoMemory, VolumeFailed, StoreFailed, Closed, Damaged}
 use Rattle.custody_machine.specs.declared.answers.Refusal.TheVariants.{DroppedAfterKeeping}
 use Rattle.custody_machine.specs.State.{State}
 use Rattle.custody_machine.specs.Machine as machine
 use Rattle.custody_machine.specs.Machine.{Command, Purge, TimedCommand, Record, after}
 use Rattle.custody_machine.specs.History as history
-use Rattle.custody_machine.specs.History.{
-  Answered,
-  AnsweredOtherCall,
-  ShutDown,
-  StoppedAtRest,
-  OpenedWith,
-  Opened,
-  Pair,
-}
+use Rattle.custody_machine.specs.History.{Answered, AnsweredOtherCall, ShutDown, StoppedAtRest, OpenedWith, Opened, Pair}
 use Rattle.custody_machine.specs.Moves.{Place, IsInState}
-use Rattle.custody_machine.specs.Retries.{
-  AsksAgain,
-  IsDroppedSince,
-  IsOfCommand,
-  StillHas,
-  first_record,
-  has_same_key,
-  command_key,
-  once,
-}
+use Rattle.custody_machine.specs.Retries.{AsksAgain, IsDroppedSince, IsOfCommand, StillHas, first_record, has_same_key, command_key, once}
 use Rattle.http_request.specs.RequestMeaning.{RequestMeaning, RequestMeans, asks_for}
 use Rattle.http_request.specs.Action.{Do}
 use Rattle.http_api.specs.Responses.{HttpResponse, response_bytes, text_response}
 use Rattle.http_api.specs.Handling.{failure_response, refusal_response}
 use Rattle.http_api.specs.declared.status.ResponseStatus.TheVariants.{Done}
 use Rattle.theorems.specs.Responses.{response_to, record_text, tells_accepted, tells_failure}
-use Rattle.theorems.specs.Service.{
-  ServiceEvent,
-  Exchange,
-  Exchanged,
-  Unread,
-  StoppedInRequest,
-  OutsideRequest,
-  IsBeginning,
-  IsServiceHistory,
-  IsUp,
-  Responds,
-  delivered_exchanges,
-  found_by_service,
-  state_by_service,
-}
+use Rattle.theorems.specs.Service.{ServiceEvent, Exchange, Exchanged, Unread, StoppedInRequest, OutsideRequest, IsBeginning, IsServiceHistory, IsUp, Responds, delivered_exchanges, found_by_service, state_by_service}
 
 -- a request asks for a command
 abbrev pub AsksFor : Exchange → Command → Type 0

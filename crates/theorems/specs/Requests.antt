@@ -19,14 +19,7 @@ use Rattle.http_api.specs.declared.handling.ServeError.TheVariants as failed
 use Rattle.http_api.specs.Responses.{HttpResponse, response_bytes}
 use Rattle.http_api.specs.Handling as served
 use Rattle.http_api.specs.Handling.{IsServed}
-use Rattle.theorems.specs.Service.{
-  ServiceEvent,
-  Exchanged,
-  Unread,
-  StoppedInRequest,
-  OutsideRequest,
-  ServiceMoves,
-}
+use Rattle.theorems.specs.Service.{ServiceEvent, Exchanged, Unread, StoppedInRequest, OutsideRequest, ServiceMoves}
 
 -- one call of `serve_one`: the bytes that its reader has, its moment, and what its writer holds before it and after it
 pub record ServeCall : Type 0 where

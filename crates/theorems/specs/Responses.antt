@@ -2,27 +2,9 @@
 use Rattle.std.specs.Prelude.{ℕ, List, [], ◌++◌, length, Bool, true, false, if◌then◌else◌}
 use Rattle.custody_records.specs.Records.{name_of}
 use Rattle.custody_records.specs.RowsOfRecords.{text_of_lines}
-use Rattle.custody_machine.specs.declared.codes.HttpStatus.TheVariants.{
-  InternalServerError,
-  ServiceUnavailable,
-}
+use Rattle.custody_machine.specs.declared.codes.HttpStatus.TheVariants.{InternalServerError, ServiceUnavailable}
 use Rattle.custody_machine.specs.Machine as machine
-use Rattle.custody_machine.specs.Machine.{
-  Record,
-  OfRegistry,
-  OfPart,
-  OfNotice,
-  OfRelease,
-  OfHold,
-  OfLifting,
-  OfPurge,
-  Reply,
-  Accepted,
-  Refused,
-  Failed,
-  content_len,
-  told_notice,
-}
+use Rattle.custody_machine.specs.Machine.{Record, OfRegistry, OfPart, OfNotice, OfRelease, OfHold, OfLifting, OfPurge, Reply, Accepted, Refused, Failed, content_len, told_notice}
 use Rattle.answer_lines.specs.Lines.{line_text}
 use Rattle.answer_lines.specs.Printing.{as_line}
 use Rattle.answer_lines.specs.declared.lines.Line.{Line}

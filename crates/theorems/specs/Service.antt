@@ -1,35 +1,12 @@
 -- What may happen to a custody that is served over HTTP: requests by their bytes, with what was written of each response (RFC 9110, section 3), stops and openings.
-use Rattle.std.specs.Prelude.{
-  ◌≡◌,
-  ◌⊎◌,
-  ◌≤◌,
-  ℕ,
-  List,
-  [],
-  ◌∷◌,
-  length,
-  take,
-  Option,
-  None,
-  Some,
-  if◌then◌else◌,
-  Result,
-  Err,
-  bytes_eq,
-}
+use Rattle.std.specs.Prelude.{◌≡◌, ◌⊎◌, ◌≤◌, ℕ, List, [], ◌∷◌, length, take, Option, None, Some, if◌then◌else◌, Result, Err, bytes_eq}
 use Rattle.std.specs.List.{filter_map}
 use Rattle.custody_machine.specs.declared.answers.Failure.TheVariants.{Closed}
 use Rattle.custody_machine.specs.State.{State}
 use Rattle.custody_machine.specs.Machine as machine
 use Rattle.custody_machine.specs.Machine.{TimedCommand, after}
 use Rattle.custody_machine.specs.History as history
-use Rattle.custody_machine.specs.History.{
-  Answered,
-  AnsweredOtherCall,
-  ShutDown,
-  StoppedAtRest,
-  OpenedWith,
-}
+use Rattle.custody_machine.specs.History.{Answered, AnsweredOtherCall, ShutDown, StoppedAtRest}
 use Rattle.custody_machine.specs.Moves.{Place, Serving, Shut, Left, Moves, IsBegun}
 use Rattle.custody_machine.specs.Custody.{other_call_event}
 use Rattle.custody.specs.declared.answers.Refused as not_accepted
@@ -37,22 +14,10 @@ use Rattle.custody.specs.declared.answers.Refused.TheVariants as refused
 use Rattle.custody.specs.Answers.{stays_open}
 use Rattle.custody.specs.Fetching.{IsFetched}
 use Rattle.http_request.specs.declared.faults.RequestFault.TheVariants as fault
-use Rattle.http_request.specs.RequestMeaning.{
-  RequestMeaning,
-  RequestMeans,
-  SendsPart,
-  asks_for,
-  bad,
-}
+use Rattle.http_request.specs.RequestMeaning.{RequestMeaning, RequestMeans, SendsPart, asks_for, bad}
 use Rattle.http_request.specs.Action.{RequestAction, Do, Report, Fetch}
 use Rattle.http_api.specs.Responses.{HttpResponse, response_bytes}
-use Rattle.http_api.specs.Handling.{
-  failure_response,
-  fault_response,
-  fetch_response,
-  no_memory_response,
-  registry_report,
-}
+use Rattle.http_api.specs.Handling.{failure_response, fault_response, fetch_response, no_memory_response, registry_report}
 use Rattle.theorems.specs.Responses.{response_to}
 
 -- ---- events

@@ -1,19 +1,6 @@
 -- What an open custody leaves, and what it does from an opening to a stop, in the machine's words.
 use Rattle.std.specs.Option.{option_or}
-use Rattle.std.specs.Prelude.{
-  ◌≡◌,
-  ℕ,
-  List,
-  [],
-  ◌∷◌,
-  ◌++◌,
-  length,
-  Option,
-  None,
-  true,
-  false,
-  Result,
-}
+use Rattle.std.specs.Prelude.{◌≡◌, ℕ, List, [], ◌∷◌, ◌++◌, length, Option, None, true, false, Result}
 use Rattle.vault_volume.specs.declared.volume.Volume as volume
 use Rattle.vault_volume.specs.Vault.{IsFree}
 use Rattle.sqlite.specs.Store.{Ghosts}
@@ -21,55 +8,17 @@ use Rattle.custody_records.specs.Records.{Records}
 use Rattle.custody_records.specs.Rows.{Rows}
 use Rattle.custody_records.specs.Form.{form_of, InForm}
 use Rattle.custody_machine.specs.State.{State, empty}
-use Rattle.custody_machine.specs.Machine.{
-  Command,
-  TimedCommand,
-  after,
-  Answer,
-  Accepted,
-  Refused,
-  Failed,
-}
+use Rattle.custody_machine.specs.Machine.{Command, TimedCommand, after, Answer, Accepted, Refused, Failed}
 use Rattle.custody_machine.specs.declared.answers.Failure.{Failure}
-use Rattle.custody_machine.specs.History.{
-  MayFind,
-  Pair,
-  Event,
-  Opened,
-  NotOpened,
-  StoppedAtRest,
-  StoppedWithin,
-  OpenedWith,
-  doubt_of,
-}
+use Rattle.custody_machine.specs.History.{MayFind, Pair, Event, Opened, NotOpened, StoppedAtRest, StoppedWithin, OpenedWith, doubt_of}
 use Rattle.custody_machine.specs.StoredState.{IsPartBlock, StandsFor, HasDigests, IsSound, state_in}
-use Rattle.custody_machine.specs.Moves.{
-  Place,
-  Serving,
-  Left,
-  MayLeave,
-  MayNotOpen,
-  Finds,
-  AnswersAlong,
-  MovesBy,
-  answer_events,
-  MovesAlong,
-}
+use Rattle.custody_machine.specs.Moves.{Place, Serving, Left, MayLeave, MayNotOpen, Finds, AnswersAlong, MovesBy, answer_events, MovesAlong}
 use Rattle.custody_machine.specs.Custody.{IsAtPlace}
 use Rattle.custody.specs.declared.answers.Reply.{Reply}
 use Rattle.custody.specs.declared.answers.Refused as not_accepted
 use Rattle.custody.specs.declared.custody.Custody.{Custody}
 use Rattle.custody.specs.Answers.{answer_of}
-use Rattle.custody.specs.OpenCustody.{
-  current_records,
-  store_state_of,
-  image_of,
-  MayLeaveImage,
-  MayLeaveImageSince,
-  KeepsPast,
-  KeepsImage,
-  KeepsRows,
-}
+use Rattle.custody.specs.OpenCustody.{current_records, store_state_of, image_of, MayLeaveImage, MayLeaveImageSince, KeepsPast, KeepsImage, KeepsRows}
 use Rattle.custody.specs.Custody.{open_custody_of, is_open, HasApplied, HasRun}
 
 -- ---- answers

@@ -2,18 +2,8 @@
 //! what this speaks of.
 ghost use Rattle.custody_machine.specs.State.{State};
 ghost use Rattle.theorems.specs.Sessions.{IsServing, place_of};
-ghost use Rattle.theorems.specs.Clients.{
-  AcceptedIsFoundOnce,
-  BodiesAreTheSame,
-  ClientsEndAsOnce,
-  ServiceAnswersRepeats,
-};
-ghost use Rattle.theorems.specs.Requests.{
-  IsCustodyAt,
-  RequestsMove,
-  RequestsMayStop,
-  MayStopAfterwards,
-};
+ghost use Rattle.theorems.specs.Clients.{AcceptedIsFoundOnce, BodiesAreTheSame, ClientsEndAsOnce, ServiceAnswersRepeats};
+ghost use Rattle.theorems.specs.Requests.{IsCustodyAt, RequestsMove, RequestsMayStop, MayStopAfterwards};
 ghost use Rattle.theorems.specs.WholeResponses.{ClientsCanTell, NoResponseBeginsAnother};
 
 use custody::Custody;

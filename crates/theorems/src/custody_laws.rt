@@ -3,18 +3,7 @@ ghost use Rattle.custody_store.specs.StoreState.{store_state};
 ghost use Rattle.custody_machine.specs.StoredState.{StandsFor};
 ghost use Rattle.custody_machine.specs.Moves.{MayLeave};
 ghost use Rattle.custody.specs.Opening.{HasAllTables};
-ghost use Rattle.theorems.specs.Sessions.{
-  IsServing,
-  place_of,
-  state_of_custody,
-  StopLeaves,
-  SparesFreeBlocks,
-  RunsMove,
-  StopsMove,
-  MayStopAtRest,
-  SessionsGoOn,
-  OpeningsMayFail,
-};
+ghost use Rattle.theorems.specs.Sessions.{IsServing, place_of, state_of_custody, StopLeaves, SparesFreeBlocks, RunsMove, StopsMove, MayStopAtRest, SessionsGoOn, OpeningsMayFail};
 ghost use Rattle.theorems.specs.OtherCallMoves.{OtherCallsMove, OtherCallsStop};
 
 use custody::Custody;

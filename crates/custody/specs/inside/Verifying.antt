@@ -6,21 +6,9 @@ use Rattle.deposit_verify.specs.declared.verdict.Verdict.{Verdict}
 use Rattle.custody_records.specs.Keys.{PartKey}
 use Rattle.custody_records.specs.Records.{PartRecord, Records, key_of}
 use Rattle.custody_machine.specs.declared.command.Statement as statement
-use Rattle.custody_machine.specs.declared.answers.Failure.TheVariants.{
-  NoMemory,
-  VolumeFailed,
-  StoreFailed,
-  Closed,
-  Damaged,
-}
+use Rattle.custody_machine.specs.declared.answers.Failure.TheVariants.{NoMemory, VolumeFailed, StoreFailed, Closed, Damaged}
 use Rattle.custody_machine.specs.declared.damage.Damage.TheVariants.{Digest}
-use Rattle.custody_machine.specs.Machine.{
-  first_part,
-  held_chain,
-  part_keys,
-  verdict_keys,
-  verdict_on,
-}
+use Rattle.custody_machine.specs.Machine.{first_part, held_chain, part_keys, verdict_keys, verdict_on}
 use Rattle.custody_machine.specs.StoredState.{state_in, HasDigestAt}
 use Rattle.custody.specs.declared.answers.Refused.{Refused}
 use Rattle.custody.specs.declared.answers.Refused.TheVariants as refused

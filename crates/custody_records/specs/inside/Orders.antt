@@ -8,14 +8,7 @@ use Rattle.std.proofs.lemmas.Cmp.{alike_right}
 use Rattle.std.proofs.lemmas.Map.Lookups.{exact_pairs, exact_bytes, exact_unsigned}
 use Rattle.std.specs.Cmp.{IsTotalOrder, nat_cmp_total, on_total, then_total}
 use Rattle.std.specs.Cmp.Lexicographic.{nat_list_cmp_total}
-use Rattle.custody_records.specs.Keys.{
-  text_cmp,
-  PartKey,
-  part_cmp,
-  revision_cmp,
-  NoticeKey,
-  notice_cmp,
-}
+use Rattle.custody_records.specs.Keys.{text_cmp, PartKey, part_cmp, revision_cmp, NoticeKey, notice_cmp}
 
 pub text_total : IsTotalOrder text_cmp
 text_total = nat_list_cmp_total

@@ -1,10 +1,7 @@
 -- How a hold is judged whose registry is known, by whether its day is out of range.
 use Rattle.std.specs.Prelude.{ℕ, List, Bool, if◌then◌else◌}
 use Rattle.custody_machine.specs.declared.answers.Refusal.{Refusal}
-use Rattle.custody_machine.specs.declared.answers.Refusal.TheVariants.{
-  DateOutOfRange,
-  HoldReferenceUsed,
-}
+use Rattle.custody_machine.specs.declared.answers.Refusal.TheVariants.{DateOutOfRange, HoldReferenceUsed}
 use Rattle.custody_machine.specs.Rulings.{Ruling, RefuseRuling, GoRuling, AddsHold}
 
 -- of a new reference

@@ -1,19 +1,5 @@
 -- What one record has to find among the others, as tests: records belong together where each record finds it.
-use Rattle.std.specs.Prelude.{
-  ℕ,
-  ◌-◌,
-  List,
-  Option,
-  Some,
-  None,
-  is_some,
-  Bool,
-  true,
-  ◌&&◌,
-  ◌||◌,
-  ◌==◌,
-  nat_le,
-}
+use Rattle.std.specs.Prelude.{ℕ, ◌-◌, List, Option, Some, None, is_some, Bool, true, ◌&&◌, ◌||◌, ◌==◌, nat_le}
 use Rattle.std.specs.List.{list_all}
 use Rattle.std.specs.FinMap.{FinMap, get, entries}
 use Rattle.std.specs.declared.cmp.Ordering.{Ordering}

@@ -3,12 +3,7 @@ use Rattle.std.proofs.Common.{ℕ, List, Option, Some, None, refl, ap}
 use Rattle.std.specs.Option.{option_cmp}
 use Rattle.std.specs.Ordering.{nat_cmp, ordering_then}
 use Rattle.std.specs.declared.cmp.Ordering.{Ordering}
-use Rattle.std.proofs.lemmas.Map.Lookups.{
-  CmpEqualImpliesEq,
-  exact_pairs,
-  exact_bytes,
-  exact_unsigned,
-}
+use Rattle.std.proofs.lemmas.Map.Lookups.{CmpEqualImpliesEq, exact_pairs, exact_bytes, exact_unsigned}
 use Rattle.custody_records.specs.Keys.{text_cmp}
 use Rattle.custody_rules.specs.declared.unique_keys.Subject.{Subject}
 use Rattle.custody_rules.specs.declared.unique_keys.ReceivedDay.{ReceivedDay}

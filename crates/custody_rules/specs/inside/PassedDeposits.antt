@@ -1,19 +1,5 @@
 -- The deposits that passed and the greatest number, as the rows of notices tell them.
-use Rattle.std.specs.Prelude.{
-  ℕ,
-  max,
-  List,
-  [],
-  ◌∷◌,
-  Option,
-  Some,
-  None,
-  Bool,
-  false,
-  if◌then◌else◌,
-  nat_le,
-  option_map,
-}
+use Rattle.std.specs.Prelude.{ℕ, max, List, [], ◌∷◌, Option, Some, None, Bool, false, if◌then◌else◌, nat_le, option_map}
 use Rattle.std.specs.List.{filter_map}
 use Rattle.std.specs.FinMap.{get}
 use Rattle.deposit_name.specs.declared.kinds.Kind.TheVariants.{Full}

@@ -1,17 +1,5 @@
 -- The names that a release lists, as the rows of parts have them.
-use Rattle.std.specs.Prelude.{
-  ◌≡◌,
-  ℕ,
-  List,
-  [],
-  ◌∷◌,
-  Option,
-  Some,
-  None,
-  true,
-  is_some,
-  if◌then◌else◌,
-}
+use Rattle.std.specs.Prelude.{◌≡◌, ℕ, List, [], ◌∷◌, Option, Some, None, true, is_some, if◌then◌else◌}
 use Rattle.std.specs.List.{filter_map}
 use Rattle.deposit_name.specs.Name.{IsName, name_text}
 use Rattle.custody_records.specs.declared.parts.Part.{Part}

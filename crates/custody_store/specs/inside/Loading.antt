@@ -1,13 +1,7 @@
 -- What a query of all tables but meta answers.
 use Rattle.std.specs.Prelude.{map, Some, option_map}
 use Rattle.custody_records.specs.Rows.{Rows}
-use Rattle.custody_store.specs.Reading.{
-  answered_registry,
-  answered_part,
-  answered_notice,
-  answered_handover,
-  answered_hold,
-}
+use Rattle.custody_store.specs.Reading.{answered_registry, answered_part, answered_notice, answered_handover, answered_hold}
 use Rattle.custody_store.specs.declared.loading.TableRows.{TableRows}
 
 -- the rows, with those that were answered

@@ -1,14 +1,7 @@
 -- A reader at the start of a row, and why a text is refused.
 use Rattle.std.specs.Borrow.{Bor}
 use Rattle.std.specs.Prelude.{◌≡◌, ◌≢◌, ◌++◌, ℕ, List, Some, IsUtf8}
-use Rattle.csv.specs.Reading.{
-  Ready,
-  default_config,
-  reader_config,
-  reader_state,
-  reader_trim,
-  source_of,
-}
+use Rattle.csv.specs.Reading.{Ready, default_config, reader_config, reader_state, reader_trim, source_of}
 use Rattle.csv.specs.declared.parser.State.TheVariants as st
 use Rattle.csv.specs.declared.reader.Reader.{Reader}
 use Rattle.csv.specs.declared.reader.Trim.TheVariants as trim

@@ -1,17 +1,5 @@
 -- The parts in the order of their places, each with whether its bytes are held.
-use Rattle.std.specs.Prelude.{
-  ℕ,
-  List,
-  Option,
-  None,
-  Some,
-  Bool,
-  not,
-  ◌&&◌,
-  ◌==◌,
-  if◌then◌else◌,
-  bytes_eq,
-}
+use Rattle.std.specs.Prelude.{ℕ, List, Option, None, Some, Bool, not, ◌&&◌, ◌==◌, if◌then◌else◌, bytes_eq}
 use Rattle.std.specs.FinMap.{FinMap}
 use Rattle.deposit_name.specs.declared.kinds.Kind.{Kind}
 use Rattle.deposit_name.specs.Name.{name_text}

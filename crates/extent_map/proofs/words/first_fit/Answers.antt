@@ -1,6 +1,5 @@
 use Rattle.std.proofs.Common.{◌≡◌, ◌*◌, ◌<◌, ◌≤◌, ⊎_elim, length, arith}
 use Rattle.std.proofs.lemmas.Bool.{cases_lt}
-use Rattle.extent_map.specs.Words.{IsOneIn}
 use Rattle.extent_map.proofs.BitLemmas.{past_end, no_run}
 use Rattle.extent_map.proofs.words.first_fit.Goals as goal
 

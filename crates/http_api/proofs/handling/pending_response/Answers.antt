@@ -1,4 +1,4 @@
-use Rattle.std.proofs.Common.{◌∙◌, ◌++◌, ℕ, List, Err, Option, Some, None, IfSome, ap, arith, refl, subst, sym}
+use Rattle.std.proofs.Common.{◌∙◌, ◌++◌, ℕ, Err, Option, Some, IfSome, ap, arith, refl, subst, sym}
 use Rattle.std.proofs.lemmas.Result.{IfOk-weaker, IfErr-weaker}
 use Rattle.http_request.specs.ActionView.{action_view}
 use Rattle.http_request.specs.Head.{rest_of}

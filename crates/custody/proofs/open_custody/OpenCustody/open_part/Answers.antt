@@ -1,4 +1,4 @@
-use Rattle.std.proofs.Common.{◌≡◌, inl, [], ℕ, false, refl, sym, ap, subst, arith, Err}
+use Rattle.std.proofs.Common.{◌≡◌, inl, ℕ, false, refl, sym, ap, subst, arith, Err}
 use Rattle.vault_volume.specs.Extents.{HasFewer, block_count}
 use Rattle.vault_volume.specs.Image.{DiffersOnlyIn}
 use Rattle.vault_volume.specs.Disk.{LeavesOnly}
@@ -9,7 +9,7 @@ use Rattle.custody_machine.specs.Rulings.{AddsPart, GoRuling}
 use Rattle.custody.specs.declared.open_custody.OpenCustody.{OpenCustody}
 use Rattle.custody.specs.declared.answers.Refused.{Refused}
 use Rattle.custody.specs.Answers.{may_change}
-use Rattle.custody.specs.OpenCustody.{current_records, image_of}
+use Rattle.custody.specs.OpenCustody.{image_of}
 use Rattle.custody.proofs.Done.{no_memory_done}
 use Rattle.custody.proofs.Uploads.{part_sized, unstaged_unchanged}
 use Rattle.custody.proofs.OpenCustodyLemmas.{leaves_more, stays_still}
