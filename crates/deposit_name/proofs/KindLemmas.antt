@@ -7,11 +7,6 @@ use Rattle.deposit_name.specs.Name.{is_same_kind}
 
 pub same_kind_decides : (one other : Kind) → Decides (is_same_kind one other) (one ≡ other)
 same_kind_decides Full Full = (λ _. refl, λ _. refl)
-same_kind_decides Full Diff = (λ e. cc e, λ e. cc e)
-same_kind_decides Full Incr = (λ e. cc e, λ e. cc e)
-same_kind_decides Diff Full = (λ e. cc e, λ e. cc e)
 same_kind_decides Diff Diff = (λ _. refl, λ _. refl)
-same_kind_decides Diff Incr = (λ e. cc e, λ e. cc e)
-same_kind_decides Incr Full = (λ e. cc e, λ e. cc e)
-same_kind_decides Incr Diff = (λ e. cc e, λ e. cc e)
 same_kind_decides Incr Incr = (λ _. refl, λ _. refl)
+same_kind_decides _ _ = (λ e. cc e, λ e. cc e)

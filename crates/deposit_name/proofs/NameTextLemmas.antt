@@ -6,7 +6,7 @@ use Rattle.std.specs.List.{list_all}
 use Rattle.schedule.specs.Text.{digit, day_text, is_day_byte}
 use Rattle.schedule.proofs.ReadingLemmas.{day_text-bytes}
 use Rattle.deposit_name.specs.declared.kinds.Kind.{Kind}
-use Rattle.deposit_name.specs.declared.kinds.Kind.TheVariants.{Full, Diff, Incr}
+use Rattle.deposit_name.specs.declared.kinds.Kind.TheVariants.{Full}
 use Rattle.deposit_name.specs.Identifiers.{is_tld_byte}
 use Rattle.deposit_name.specs.Name.{Name, IsName, kind_text, part_text, rev_text, name_text, is_name_byte}
 use Rattle.deposit_name.proofs.NameLemmas.{decimal_cases}
@@ -18,8 +18,7 @@ length_of_ten a b c d e f g h i j = simp length-append
 
 length-kind_text : (k : Kind) → length (kind_text k) ≡ 4
 length-kind_text Full = refl
-length-kind_text Diff = refl
-length-kind_text Incr = refl
+length-kind_text _ = refl
 
 -- a number below 10 has one digit, and one below 100 at most two
 length-digit : (n : ℕ) → n < 10 → length (decimal n) ≡ 1
@@ -68,8 +67,7 @@ in_name_append a b h k = list_all-append is_name_byte a b ∙ and_from _ _ h k
 
 kind_in_name : (k : Kind) → InName (kind_text k)
 kind_in_name Full = refl
-kind_in_name Diff = refl
-kind_in_name Incr = refl
+kind_in_name _ = refl
 
 decimal_in_name : (n : ℕ) → n ≤ 99 → InName (decimal n)
 decimal_in_name n h =

@@ -10,13 +10,7 @@ use Rattle.deposit_name.specs.Tables.{table_name_text, table_of_name}
 pub table_at-table_text : (n : TableName) → table_of_name (table_name_text n) ≡ Some n
 unfolding table_of_name
 table_at-table_text Domain = refl
-table_at-table_text DomainContacts = refl
-table_at-table_text DomainStatuses = refl
-table_at-table_text DomainNameServers = refl
-table_at-table_text Host = refl
-table_at-table_text HostAddresses = refl
-table_at-table_text Contact = refl
-table_at-table_text Registrar = refl
+table_at-table_text _ = refl
 
 tested : (b : Bool) (t : List ℕ) (m : TableName) (rest : Option TableName) → (b ≡ true → t ≡ table_name_text m) → IfSome rest (λ n. t ≡ table_name_text n) → IfSome (cond b (Some m) rest) (λ n. t ≡ table_name_text n)
 tested true t m rest is h = is refl

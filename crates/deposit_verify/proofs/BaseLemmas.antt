@@ -8,7 +8,7 @@ use Rattle.std.proofs.lemmas.Slice.Eq.{bytes_eq-Decides}
 use Rattle.deposit_name.specs.Tables.{has_deletes}
 use Rattle.deposit_name.specs.declared.kinds.Kind.TheVariants.{Full}
 use Rattle.deposit_name.specs.declared.table.TableName.{TableName}
-use Rattle.deposit_name.specs.declared.table.TableName.TheVariants.{Domain, DomainContacts, DomainStatuses, DomainNameServers, Host, HostAddresses, Contact, Registrar}
+use Rattle.deposit_name.specs.declared.table.TableName.TheVariants.{Domain}
 use Rattle.dnrd_csv.specs.Readers.{IsTableReader}
 use Rattle.envelope.specs.Envelope.{Env, env_text}
 use Rattle.envelope.specs.Readers.{AreReaders, envelope_at, frame_at}
@@ -30,7 +30,8 @@ use Rattle.deposit_verify.proofs.CountsDecided.{after_is, deletes_some, deletes_
 use Rattle.deposit_name.proofs.KindLemmas.{same_kind_decides}
 use Rattle.deposit_verify.proofs.HeaderDecided.{menu_decides}
 use Rattle.deposit_verify.proofs.KeyCounts.{after_distinct}
-use Rattle.deposit_verify.proofs.Lifted.{OneReading}
+use Rattle.deposit_verify.specs.inside.Reading.{OneReading}
+use Rattle.deposit_verify.proofs.Lifted.{answered, in_envelope, one_envelope}
 use Rattle.deposit_verify.proofs.Readings.{deleted_are, tables_are, under_once}
 
 -- the deposit is read as this
@@ -112,26 +113,11 @@ reading_from reader joined v rest tables deleted d menu from = record {
 
 -- ---- there is one way to read a deposit
 
-pub one_envelope : OneReading → (joined : List ℕ) (v w : Env) (rest more : List ℕ) → IsDeposit joined v rest → IsDeposit joined w more → (w ≡ v) × (more ≡ rest)
-one_envelope one joined v w rest more d e =
-    let frames = one.frame joined (env_text w) (env_text v) more rest e.framed d.framed in
-    (one.envelope w v e.in_form d.in_form frames.0, frames.1)
-
 pub contained_in : OneReading → (joined : List ℕ) (v : Env) (rest : List ℕ) → IsDeposit joined v rest → (name : TableName) (key : List ℕ) → DepositContains joined name key ↔ IsContained v rest name key
-contained_in one joined v rest d name key = (
-  λ h.
-      let same = one_envelope one joined v h.0 rest h.1 d h.2 in
-      subst (λ (r : List ℕ). IsContained v r name key) same.1 (subst (λ (w : Env). IsContained w h.1 name key) same.0 h.3),
-  λ here. (v, rest, d, here),
-)
+contained_in one joined v rest d name key = in_envelope one joined v rest d (λ w more. IsContained w more name key)
 
 pub named_in : OneReading → (joined : List ℕ) (v : Env) (rest : List ℕ) → IsDeposit joined v rest → (name : TableName) (key : List ℕ) → DepositNames joined name key ↔ IsNamed v rest name key
-named_in one joined v rest d name key = (
-  λ h.
-      let same = one_envelope one joined v h.0 rest h.1 d h.2 in
-      subst (λ (r : List ℕ). IsNamed v r name key) same.1 (subst (λ (w : Env). IsNamed w h.1 name key) same.0 h.3),
-  λ here. (v, rest, d, here),
-)
+named_in one joined v rest d name key = in_envelope one joined v rest d (λ w more. IsNamed w more name key)
 
 module _ (reader : IsTableReader) where
   pub is_read : (joined : List ℕ) (r : DepositReading) (h : IsReading joined r) → IsRead r.envelope h.rest
@@ -155,13 +141,7 @@ module _ (reader : IsTableReader) where
 -- the tables that are counted
 in_after : (base : Base) (r : DepositReading) (name : TableName) → IsTrue (has_deletes name) → keys_in (base_after base r) name ≡ keys_after_files r.envelope (keys_in base name) r.tables r.deleted name
 in_after base r Domain h = refl
-in_after base r DomainContacts h = cc h
-in_after base r DomainStatuses h = cc h
-in_after base r DomainNameServers h = cc h
-in_after base r Host h = refl
-in_after base r HostAddresses h = cc h
-in_after base r Contact h = refl
-in_after base r Registrar h = refl
+in_after base r _ h = cc h
 
 like_keys : (P Q : List ℕ → Type 0) (keys : List (List ℕ)) → ((key : List ℕ) → P key ↔ Q key) → AreKeys P keys → AreKeys Q keys
 like_keys P Q keys is are = record { once = are.once; same = λ key. (λ has. (is key).0 ((are.same key).0 has), λ q. (are.same key).1 ((is key).1 q)) }
@@ -189,27 +169,20 @@ module _ (reader : IsTableReader) (one : OneReading) (joined : List ℕ) (r : De
 
 none_once : (name : TableName) → AllPairs (λ x y. x ≢ y) (keys_in no_keys name)
 none_once Domain = λ i j d below inside. absurd (omega (arith, inside))
-none_once DomainContacts = λ i j d below inside. absurd (omega (arith, inside))
-none_once DomainStatuses = λ i j d below inside. absurd (omega (arith, inside))
-none_once DomainNameServers = λ i j d below inside. absurd (omega (arith, inside))
-none_once Host = λ i j d below inside. absurd (omega (arith, inside))
-none_once HostAddresses = λ i j d below inside. absurd (omega (arith, inside))
-none_once Contact = λ i j d below inside. absurd (omega (arith, inside))
-none_once Registrar = λ i j d below inside. absurd (omega (arith, inside))
+none_once _ = λ i j d below inside. absurd (omega (arith, inside))
 
 none_there : (name : TableName) (key : List ℕ) → Contains (keys_in no_keys name) key → ⊥
 none_there Domain key has = absurd (omega (arith, has.1))
-none_there DomainContacts key has = absurd (omega (arith, has.1))
-none_there DomainStatuses key has = absurd (omega (arith, has.1))
-none_there DomainNameServers key has = absurd (omega (arith, has.1))
-none_there Host key has = absurd (omega (arith, has.1))
-none_there HostAddresses key has = absurd (omega (arith, has.1))
-none_there Contact key has = absurd (omega (arith, has.1))
-none_there Registrar key has = absurd (omega (arith, has.1))
+none_there _ key has = absurd (omega (arith, has.1))
 
 chain_more : (chain : List (List ℕ)) (joined : List ℕ) → IsChain chain → IsLaterOfChain joined → IsChain (chain ++ joined ∷ [])
 chain_more [] joined is later = absurd is
 chain_more (first ∷ rest) joined is later = (is.0, All-push IsLaterOfChain rest joined is.1 later)
+
+-- the keys after a later deposit, and none where it is not one
+abbrev IsThen : List ℕ → Base → Option Base → Type 0
+IsThen joined base o =
+    MatchOption o (¬ IsLaterOfChain joined) (λ next. IsLaterOfChain joined × ((chain : List (List ℕ)) → IsBase chain base → IsBase (chain ++ joined ∷ []) next))
 
 module _ (readers : AreReaders) (reader : IsTableReader) (one : OneReading) (joined : List ℕ) where
   first_base : (r : DepositReading) → IsReading joined r → r.envelope.kind ≡ Full → IsBase (joined ∷ []) (base_after no_keys r)
@@ -255,13 +228,10 @@ module _ (readers : AreReaders) (reader : IsTableReader) (one : OneReading) (joi
       by (Some r) at = by_kind r at (is_full r.envelope.kind) refl
 
   -- and after a later one
-  pub later_law : (base : Base) → MatchOption (base_then base joined) (¬ IsLaterOfChain joined) (λ next. IsLaterOfChain joined × ((chain : List (List ℕ)) → IsBase chain base → IsBase (chain ++ joined ∷ []) next))
+  pub later_law : (base : Base) → IsThen joined base (base_then base joined)
   later_law base = by (reading_at joined) refl
     where
-      Follows : Base → Type 0
-      Follows next = IsLaterOfChain joined × ((chain : List (List ℕ)) → IsBase chain base → IsBase (chain ++ joined ∷ []) next)
-
-      by_kind : (r : DepositReading) → reading_at joined ≡ Some r → (b : Bool) → is_full r.envelope.kind ≡ b → MatchOption (cond b None (Some (base_after base r))) (¬ IsLaterOfChain joined) Follows
+      by_kind : (r : DepositReading) → reading_at joined ≡ Some r → (b : Bool) → is_full r.envelope.kind ≡ b → IsThen joined base (cond b None (Some (base_after base r)))
       by_kind r at true full = λ later.
           let h = reading_found readers joined r at in
           let same = one_envelope one joined r.envelope later.0 h.rest later.1 h.deposit later.2 in
@@ -271,31 +241,17 @@ module _ (readers : AreReaders) (reader : IsTableReader) (one : OneReading) (joi
           let other = not_from_Decides _ (same_kind_decides r.envelope.kind Full) partial in
           ((r.envelope, h.rest, h.deposit, (other, is_read reader joined r h)), λ chain is. later_base r h other chain base is)
 
-      by : (o : Option DepositReading) → reading_at joined ≡ o → MatchOption (option_and_then (after_later base) o) (¬ IsLaterOfChain joined) Follows
+      by : (o : Option DepositReading) → reading_at joined ≡ o → IsThen joined base (option_and_then (after_later base) o)
       by None at = λ later.
           let there = has_reading reader joined later.0 later.1 later.2 later.3.1 in
           let clash : ◌≡◌ {A = Option DepositReading} (Some there.0) None = sym (reading_is readers joined there.0 there.1) ∙ at in cc clash
       by (Some r) at = by_kind r at (is_full r.envelope.kind) refl
 
--- ---- the functions, by what was read
-
-pub first_none : (joined : List ℕ) → None ≡ reading_at joined → base_of_first joined ≡ None
-first_none joined at = ap (option_and_then after_first) (sym at)
-
-pub first_partial : (joined : List ℕ) (r : DepositReading) → Some r ≡ reading_at joined → is_full r.envelope.kind ≡ false → base_of_first joined ≡ None
-first_partial joined r at partial = ap (option_and_then after_first) (sym at) ∙ ap (λ (b : Bool). cond b (Some (base_after no_keys r)) None) partial
-
-pub first_full : (joined : List ℕ) (r : DepositReading) → Some r ≡ reading_at joined → is_full r.envelope.kind ≡ true → base_of_first joined ≡ Some (base_after no_keys r)
-first_full joined r at full = ap (option_and_then after_first) (sym at) ∙ ap (λ (b : Bool). cond b (Some (base_after no_keys r)) None) full
-
-pub later_none : (base : Base) (joined : List ℕ) → None ≡ reading_at joined → base_then base joined ≡ None
-later_none base joined at = ap (option_and_then (after_later base)) (sym at)
-
-pub later_full : (base : Base) (joined : List ℕ) (r : DepositReading) → Some r ≡ reading_at joined → is_full r.envelope.kind ≡ true → base_then base joined ≡ None
-later_full base joined r at full = ap (option_and_then (after_later base)) (sym at) ∙ ap (λ (b : Bool). cond b None (Some (base_after base r))) full
-
-pub later_partial : (base : Base) (joined : List ℕ) (r : DepositReading) → Some r ≡ reading_at joined → is_full r.envelope.kind ≡ false → base_then base joined ≡ Some (base_after base r)
-later_partial base joined r at partial = ap (option_and_then (after_later base)) (sym at) ∙ ap (λ (b : Bool). cond b None (Some (base_after base r))) partial
+  -- what the code says of it
+  pub then_law : (base next : Base) (is : Bool) → cond is (Some next) None ≡ base_then base joined
+      → (IsTrue is ↔ IsLaterOfChain joined) × (IsTrue is → (chain : List (List ℕ)) → IsBase chain base → IsBase (chain ++ joined ∷ []) next)
+  then_law base next is e =
+      answered (IsLaterOfChain joined) (λ after. (chain : List (List ℕ)) → IsBase chain base → IsBase (chain ++ joined ∷ []) after) (base_then base joined) next is (later_law base) e
 
 pub at_one : (joined : List ℕ) → base_at (joined ∷ []) ≡ base_of_first joined
 unfolding base_at
@@ -311,7 +267,7 @@ module _ (readers : AreReaders) (reader : IsTableReader) (one : OneReading) wher
       → (b : Base) → option_and_then (λ (base : Base). base_then base joined) found ≡ Some b → IsBase (chain ++ joined ∷ []) b
   next_some chain joined None ok b e = cc e
   next_some chain joined (Some base) ok b e =
-      let law = subst (λ (o : Option Base). MatchOption o (¬ IsLaterOfChain joined) (λ next. IsLaterOfChain joined × ((chain : List (List ℕ)) → IsBase chain base → IsBase (chain ++ joined ∷ []) next))) e (later_law readers reader one joined base) in
+      let law = subst (IsThen joined base) e (later_law readers reader one joined base) in
       law.1 chain (ok base refl)
 
   all_some : (later : List (List ℕ)) (chain : List (List ℕ)) (found : Option Base) → ((b : Base) → found ≡ Some b → IsBase chain b) → (base : Base) → all_then found later ≡ Some base → IsBase (chain ++ later) base
@@ -324,7 +280,7 @@ module _ (readers : AreReaders) (reader : IsTableReader) (one : OneReading) wher
       → option_and_then (λ (base : Base). base_then base joined) found ≡ None → ¬ IsChain (first ∷ (xs ++ joined ∷ []))
   next_none first xs joined None without e = λ is. without refl (chain_front first xs joined is).0
   next_none first xs joined (Some base) without e =
-      let law = subst (λ (o : Option Base). MatchOption o (¬ IsLaterOfChain joined) (λ next. IsLaterOfChain joined × ((chain : List (List ℕ)) → IsBase chain base → IsBase (chain ++ joined ∷ []) next))) e (later_law readers reader one joined base) in
+      let law = subst (IsThen joined base) e (later_law readers reader one joined base) in
       λ is. law (chain_front first xs joined is).1
 
   all_none : (later : List (List ℕ)) (first : List ℕ) (xs : List (List ℕ)) (found : Option Base) → (found ≡ None → ¬ IsChain (first ∷ xs)) → all_then found later ≡ None → ¬ IsChain (first ∷ (xs ++ later))

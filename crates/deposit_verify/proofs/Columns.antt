@@ -11,15 +11,15 @@ length-column i rows = length-map rows (λ row. get_or row i [])
 pub get_or-column : (i : ℕ) (rows : List (List (List ℕ))) (n : ℕ) (d : List ℕ) → n < length rows → get_or (column i rows) n d ≡ get_or (get_or rows n []) i []
 get_or-column i rows n d inside = get_or-map (λ row. get_or row i []) rows n [] d inside
 
-pub column_more : (i : ℕ) (rows : List (List (List ℕ))) (n : ℕ) → n < length rows → take (n + 1) (column i rows) ≡ take n (column i rows) ++ get_or (get_or rows n []) i [] ∷ []
-column_more i rows n inside =
-    let placed : n < length (column i rows) = omega (arith, length-column i rows) in
-    take_more (column i rows) n [] placed
-    ∙ ap (λ (t : List ℕ). take n (column i rows) ++ t ∷ []) (get_or-column i rows n [] inside)
-
 -- the texts of keys, and one more key
 pub texts_more : (keys : List (Bor (List ℕ))) (key : Bor (List ℕ)) → borrowed_texts (keys ++ key ∷ []) ≡ borrowed_texts keys ++ key.now ∷ []
 texts_more keys key = map-append (λ k. k.now) keys (key ∷ [])
+
+-- the first of some texts, and the next
+pub texts_next : (keys : List (Bor (List ℕ))) (key : Bor (List ℕ)) (texts : List (List ℕ)) (n : ℕ) → n < length texts → borrowed_texts keys ≡ take n texts → key.now ≡ get_or texts n []
+    → borrowed_texts (keys ++ key ∷ []) ≡ take (n + 1) texts
+texts_next keys key texts n inside before here =
+    texts_more keys key ∙ ap (λ (ts : List (List ℕ)). ts ++ key.now ∷ []) before ∙ ap (λ (t : List ℕ). take n texts ++ t ∷ []) here ∙ sym (take_more texts n [] inside)
 
 -- what holds of a column, one row more at a time
 pub column_holds : (P : List ℕ → Type 0) (i : ℕ) (rows : List (List (List ℕ))) (n : ℕ) → n < length rows → All P (take n (column i rows)) → P (get_or (get_or rows n []) i []) → All P (take (n + 1) (column i rows))

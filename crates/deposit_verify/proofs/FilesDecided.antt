@@ -7,6 +7,7 @@ use Rattle.std.specs.List.{AllZip, concat}
 use Rattle.std.specs.Str.{bytes_eq}
 use Rattle.std.proofs.lemmas.Bool.Decides.{Decides-and, Decides-at, Decides-eqb, Decides-like, not_from_Decides}
 use Rattle.std.proofs.lemmas.List.{take-append-drop}
+use Rattle.std.proofs.lemmas.Option.{same_Some}
 use Rattle.std.proofs.lemmas.Slice.Eq.{bytes_eq-Decides}
 use Rattle.sha2.specs.Sha256.{sha256}
 use Rattle.deposit_name.specs.declared.kinds.Kind.TheVariants.{Full}
@@ -22,7 +23,7 @@ use Rattle.deposit_verify.specs.Checks.{AreRowCounts, HasMenu, HasTables, counte
 use Rattle.deposit_verify.specs.Deposit.{AreFiles, contents_files, deletes_files, deletes_of, all_entries, HasFiles, IsFileOf, IsKeyFile, IsTableFile, IsTableOf}
 use Rattle.deposit_verify.specs.References.{AreKeysOf, AreKeysOrEmpty, AreReferencesKept, column}
 use Rattle.deposit_verify.specs.Tables.{AreReadAs, table_of}
-use Rattle.deposit_verify.specs.Verdict.{are_row_counts, are_keys_of, are_keys_or_empty, are_references_kept, contains_text, files_behind, is_file_of, is_key_file, passes_if_full, rows_at, tables_at, with_tables}
+use Rattle.deposit_verify.specs.Verdict.{are_row_counts, are_keys_of, are_keys_or_empty, are_references_kept, contains_text, files_behind, is_file_of, is_key_file, passes_if_full, rows_at, rows_of_each, tables_at, with_tables}
 use Rattle.deposit_verify.proofs.CutLemmas.{same_file}
 use Rattle.deposit_name.proofs.KindLemmas.{same_kind_decides}
 use Rattle.deposit_verify.proofs.HeaderDecided.{contains_decides, implies_decides}
@@ -43,8 +44,7 @@ file_decides entry file =
 
 pub files_found : (entries : List FileEntry) (bytes : List ℕ) (files : List (List ℕ)) → files_behind entries bytes ≡ Some files → AreFiles entries bytes files
 files_found [] [] [] e = record { joined = refl; each = tt }
-files_found [] [] (file ∷ files) e = cc e
-files_found [] (byte ∷ bytes) files e = cc e
+files_found [] _ _ e = cc e
 files_found (entry ∷ entries) bytes files e = by (is_file_of entry file) refl (files_behind entries rest) refl e (files_found entries rest)
   where
     file : List ℕ
@@ -91,9 +91,30 @@ in_files v rest files are P test decides =
 -- ---- their tables
 
 pub both_some : {A B C : Type 0} (f : A → B → C) (o : Option A) (p : Option B) → is_some (option_and_then (λ a. option_map (f a) p) o) ≡ (is_some o && is_some p)
-both_some f None p = refl
-both_some f (Some a) None = refl
 both_some f (Some a) (Some b) = refl
+both_some f _ _ = refl
+
+pub each_parts : (read : FileEntry → List ℕ → Option (List (List (List ℕ)))) (e : FileEntry) (es : List FileEntry) (f : List ℕ) (fs : List (List ℕ)) (t : List (List (List ℕ))) (ts : List (List (List (List ℕ))))
+    → rows_of_each read (e ∷ es) (f ∷ fs) ≡ Some (t ∷ ts) → (read e f ≡ Some t) × (rows_of_each read es fs ≡ Some ts)
+each_parts read e es f fs t ts whole = by (read e f) refl (rows_of_each read es fs) refl whole
+  where
+    by : (o : Option (List (List (List ℕ)))) → read e f ≡ o → (p : Option (List (List (List (List ℕ))))) → rows_of_each read es fs ≡ p
+        → option_and_then (λ (rows : List (List (List ℕ))). option_map (λ (others : List (List (List (List ℕ)))). rows ∷ others) p) o ≡ Some (t ∷ ts) → (read e f ≡ Some t) × (rows_of_each read es fs ≡ Some ts)
+    by None is p are same = cc same
+    by (Some rows) is None are same = cc same
+    by (Some rows) is (Some others) are same =
+        let both : rows ∷ others ≡ t ∷ ts = same_Some _ _ same in
+        let first : rows ≡ t = cc both in
+        let rest : others ≡ ts = cc both in
+        (is ∙ ap Some first, are ∙ ap Some rest)
+
+pub each_nothing : (read : FileEntry → List ℕ → Option (List (List (List ℕ)))) (e : FileEntry) (es : List FileEntry) (f : List ℕ) (fs : List (List ℕ)) → rows_of_each read (e ∷ es) (f ∷ fs) ≡ Some [] → ⊥
+each_nothing read e es f fs whole = by (read e f) (rows_of_each read es fs) whole
+  where
+    by : (o : Option (List (List (List ℕ)))) (p : Option (List (List (List (List ℕ))))) → option_and_then (λ (rows : List (List (List ℕ))). option_map (λ (others : List (List (List (List ℕ)))). rows ∷ others) p) o ≡ Some [] → ⊥
+    by None p same = cc same
+    by (Some rows) None same = cc same
+    by (Some rows) (Some others) same = let both : rows ∷ others ≡ [] = same_Some _ _ same in cc both
 
 module _ (reader : IsTableReader) where
   read_decides : (columns : List Form) (key : ℕ) (file : List ℕ) → Decides (is_some (table_at columns key file)) ((rows : List (List (List ℕ))) × IsTable columns key file rows)
@@ -104,34 +125,25 @@ module _ (reader : IsTableReader) where
 
   tables_decide : (entries : List FileEntry) (files : List (List ℕ)) → Decides (is_some (tables_at entries files)) (AllZip IsTableFile entries files)
   tables_decide [] [] = (λ _. tt, λ _. refl)
-  tables_decide [] (file ∷ files) = (λ e. cc e, λ h. absurd h)
-  tables_decide (entry ∷ entries) [] = (λ e. cc e, λ h. absurd h)
   tables_decide (entry ∷ entries) (file ∷ files) =
       Decides-at _ _ (both_some (λ rows tables. rows ∷ tables) (rows_at entry file) (tables_at entries files))
       (Decides-and _ _ (read_decides (columns_of entry.name) (key_columns_of entry.name) file) (tables_decide entries files))
+  tables_decide _ _ = (λ e. cc e, λ h. absurd h)
 
   pub tables_found : (entries : List FileEntry) (files : List (List ℕ)) (tables : List (List (List (List ℕ)))) → tables_at entries files ≡ Some tables → AreReadAs entries files tables
   tables_found [] [] [] e = record { count = refl; each = λ i d inside. absurd (omega (arith, inside)) }
-  tables_found [] [] (table ∷ tables) e = cc e
-  tables_found [] (file ∷ files) tables e = cc e
+  tables_found [] _ _ e = cc e
   tables_found (entry ∷ entries) [] tables e = cc e
-  tables_found (entry ∷ entries) (file ∷ files) tables e = by (rows_at entry file) refl (tables_at entries files) refl e (tables_found entries files)
+  tables_found (entry ∷ entries) (file ∷ files) [] e = absurd (each_nothing rows_at entry entries file files e)
+  tables_found (entry ∷ entries) (file ∷ files) (rows ∷ ts) e =
+      let parts = each_parts rows_at entry entries file files rows ts e in
+      let are = tables_found entries files ts parts.1 in
+      record { count = ap suc are.count; each = each parts.0 are }
     where
-      by : (o : Option (List (List (List ℕ)))) → rows_at entry file ≡ o → (p : Option (List (List (List (List ℕ))))) → tables_at entries files ≡ p
-          → option_and_then (λ (rows : List (List (List ℕ))). option_map (λ (ts : List (List (List (List ℕ)))). rows ∷ ts) p) o ≡ Some tables
-          → ((ts : List (List (List (List ℕ)))) → tables_at entries files ≡ Some ts → AreReadAs entries files ts) → AreReadAs (entry ∷ entries) (file ∷ files) tables
-      by None read p others e more = cc e
-      by (Some rows) read None others e more = cc e
-      by (Some rows) read (Some ts) others e more =
-          let same : rows ∷ ts ≡ tables = cc e in
-          let are = more ts others in
-          let first : IsTableOf entry.name file rows = (reader.some (columns_of entry.name) (key_columns_of entry.name) file rows).0 read in
-          subst (AreReadAs (entry ∷ entries) (file ∷ files)) same (record { count = ap suc are.count; each = each first are })
-        where
-          each : IsTableOf entry.name file rows → AreReadAs entries files ts → (i : ℕ) (d : FileEntry) → i < length (entry ∷ entries)
-              → IsTableOf (get_or (entry ∷ entries) i d).name (get_or (file ∷ files) i []) (get_or (rows ∷ ts) i [])
-          each first are zero d inside = first
-          each first are (suc i) d inside = are.each i d (omega (arith, inside))
+      each : rows_at entry file ≡ Some rows → AreReadAs entries files ts → (i : ℕ) (d : FileEntry) → i < length (entry ∷ entries)
+          → IsTableOf (get_or (entry ∷ entries) i d).name (get_or (file ∷ files) i []) (get_or (rows ∷ ts) i [])
+      each read are zero d inside = (reader.some (columns_of entry.name) (key_columns_of entry.name) file rows).0 read
+      each read are (suc i) d inside = are.each i d (omega (arith, inside))
 
   pub table_decides : (v : Env) (rest : List ℕ) (files : List (List ℕ)) → AreFiles (all_entries v) rest files
       → Decides (is_some (with_tables v (Some files)).tables) (HasFiles v rest (λ fs. AllZip IsTableFile v.contents (contents_files v fs)))

@@ -93,19 +93,17 @@ same_place one other same = sym (all_tables_right one Domain).1 ∙ ap (λ i. ge
 
 same_places : (one other : List TableName) → map table_place one ≡ map table_place other → one ≡ other
 same_places [] [] e = refl
-same_places [] (y ∷ ys) e = cc e
-same_places (x ∷ xs) [] e = cc e
 same_places (x ∷ xs) (y ∷ ys) e =
     let head : table_place x ≡ table_place y = cc e in
     let tail : map table_place xs ≡ map table_place ys = cc e in
     let first = same_place x y head in
     let rest = same_places xs ys tail in
     λ i. first i ∷ rest i
+same_places _ _ e = cc e
 
 contents_decide : (kind : Kind) (names : List TableName) → Decides (has_contents kind names) (HasContents kind names)
 contents_decide Full names = Decides-like _ (same_places names all_tables) (ap (map table_place)) (bytes_eq-Decides (map table_place names) (map table_place all_tables))
-contents_decide Diff names = order_decides names
-contents_decide Incr names = order_decides names
+contents_decide _ names = order_decides names
 
 pub menu_decides : (v : Env) → Decides (has_menu v) (HasMenu v)
 menu_decides v =

@@ -6,9 +6,9 @@ use Rattle.std.proofs.lemmas.List.{drop-map, get_or-map, length-map, take-map}
 use Rattle.dnrd_csv.specs.inside.RowKeys.{borrowed_texts}
 use Rattle.deposit_name.specs.Tables.{has_deletes}
 use Rattle.deposit_name.specs.declared.kinds.Kind.{Kind}
-use Rattle.deposit_name.specs.declared.kinds.Kind.TheVariants.{Full, Diff, Incr}
+use Rattle.deposit_name.specs.declared.kinds.Kind.TheVariants.{Full}
 use Rattle.deposit_name.specs.declared.table.TableName.{TableName}
-use Rattle.deposit_name.specs.declared.table.TableName.TheVariants.{Domain, DomainContacts, DomainStatuses, DomainNameServers, Host, HostAddresses, Contact, Registrar}
+use Rattle.deposit_name.specs.declared.table.TableName.TheVariants.{Domain}
 use Rattle.desk.specs.declared.checks.Check.{Check}
 use Rattle.desk.specs.declared.checks.Check.TheVariants as check
 use Rattle.envelope.specs.Envelope.{Env, FitsKind, IsEnvelope}
@@ -31,13 +31,7 @@ use Rattle.deposit_verify.proofs.Verdicts.{below_all, below_more}
 -- the table at the place of a name
 pub all_tables_right : (name : TableName) (d : TableName) → (table_place name < 8) × (get_or all_tables (table_place name) d ≡ name)
 all_tables_right Domain d = (omega arith, refl)
-all_tables_right DomainContacts d = (omega arith, refl)
-all_tables_right DomainStatuses d = (omega arith, refl)
-all_tables_right DomainNameServers d = (omega arith, refl)
-all_tables_right Host d = (omega arith, refl)
-all_tables_right HostAddresses d = (omega arith, refl)
-all_tables_right Contact d = (omega arith, refl)
-all_tables_right Registrar d = (omega arith, refl)
+all_tables_right _ d = (omega arith, refl)
 
 -- the file of each table, where all are there
 pub named_at : (entries : List FileEntry) → map (λ f. f.name) entries ≡ all_tables → (name : TableName) (e : FileEntry) → (table_place name < length entries) × ((get_or entries (table_place name) e).name ≡ name)
@@ -91,12 +85,9 @@ pub named_deletes : (v : Env) → IsEnvelope v → All (λ entry. IsTrue (has_de
 named_deletes v form = by_kind v.kind v.deletes form.deletes
   where
     by_kind : (kind : Kind) (deletes : Option (List FileEntry)) → FitsKind kind deletes → All (λ entry. IsTrue (has_deletes entry.name)) (unwrap_or deletes [])
-    by_kind Full None fits = All-nil (λ entry. IsTrue (has_deletes entry.name))
     by_kind Full (Some ds) fits = absurd fits
-    by_kind Diff None fits = All-nil (λ entry. IsTrue (has_deletes entry.name))
-    by_kind Diff (Some ds) fits = fits.named
-    by_kind Incr None fits = All-nil (λ entry. IsTrue (has_deletes entry.name))
-    by_kind Incr (Some ds) fits = fits.named
+    by_kind _ (Some ds) fits = fits.named
+    by_kind kind None fits = All-nil (λ entry. IsTrue (has_deletes entry.name))
 
 -- ---- the checks from that of the files on, each where the lower ones hold
 
@@ -161,16 +152,7 @@ tables_fail one v rest k files tables read check.References says below = (
       (λ full. (files, read.are, (table_of tables, under_names v rest files tables read full, says.1.0)), λ partial. absurd (partial says.0)),
 )
 tables_fail one v rest k files tables read check.Frame says below = absurd says.1
-tables_fail one v rest k files tables read check.Envelope says below = absurd says.1
-tables_fail one v rest k files tables read check.Name says below = absurd says.1
-tables_fail one v rest k files tables read check.Statement says below = absurd says.1
-tables_fail one v rest k files tables read check.Weekday says below = absurd says.1
-tables_fail one v rest k files tables read check.PrevId says below = absurd says.1
-tables_fail one v rest k files tables read check.IdTaken says below = absurd says.1
-tables_fail one v rest k files tables read check.Menu says below = absurd says.1
-tables_fail one v rest k files tables read check.Files says below = absurd says.1
-tables_fail one v rest k files tables read check.Table says below = absurd says.1
-tables_fail one v rest k files tables read check.Deletes says below = absurd says.1
+tables_fail one v rest k files tables read _ says below = absurd says.1
 
 pub references_hold : (v : Env) (rest : List ℕ) (k : Known) (files : List (List ℕ)) (tables : List (List (List (List ℕ)))) → AreRead v rest files tables
     → TablesSay v tables None → (v.kind ≢ Full → AreChainCounts v rest k) → PassesBelow (CheckSays v rest k) 9 → PassesBelow (CheckSays v rest k) 13
@@ -217,15 +199,7 @@ unread_fails v rest k form menu check.Table unread below = table_fails v rest k 
 unread_fails v rest k form menu check.Deletes unread below =
     deletes_fail v rest k unread.0 unread.2 form (record { menu = menu; are = unread.1; read = unread.3 }) unread.4 below
 unread_fails v rest k form menu check.Frame unread below = absurd unread
-unread_fails v rest k form menu check.Envelope unread below = absurd unread
-unread_fails v rest k form menu check.Name unread below = absurd unread
-unread_fails v rest k form menu check.Statement unread below = absurd unread
-unread_fails v rest k form menu check.Weekday unread below = absurd unread
-unread_fails v rest k form menu check.PrevId unread below = absurd unread
-unread_fails v rest k form menu check.IdTaken unread below = absurd unread
-unread_fails v rest k form menu check.Menu unread below = absurd unread
-unread_fails v rest k form menu check.Counts unread below = absurd unread
-unread_fails v rest k form menu check.References unread below = absurd unread
+unread_fails v rest k form menu _ unread below = absurd unread
 
 -- it is not there
 pub unread_not : (v : Env) (rest : List ℕ) (c : Check) → IsUnread v rest c → HasFiles v rest (λ fs. AllZip IsTableFile v.contents (contents_files v fs)) → HasDeletes v rest → ⊥
@@ -233,15 +207,7 @@ unread_not v rest check.Files unread tables deletes = unread tables.0 tables.1
 unread_not v rest check.Table unread tables deletes = no_tables v rest unread.0 unread.1 unread.2 tables
 unread_not v rest check.Deletes unread tables deletes = unread.4 (only_deletes v rest unread.0 unread.1 deletes)
 unread_not v rest check.Frame unread tables deletes = unread
-unread_not v rest check.Envelope unread tables deletes = unread
-unread_not v rest check.Name unread tables deletes = unread
-unread_not v rest check.Statement unread tables deletes = unread
-unread_not v rest check.Weekday unread tables deletes = unread
-unread_not v rest check.PrevId unread tables deletes = unread
-unread_not v rest check.IdTaken unread tables deletes = unread
-unread_not v rest check.Menu unread tables deletes = unread
-unread_not v rest check.Counts unread tables deletes = unread
-unread_not v rest check.References unread tables deletes = unread
+unread_not v rest _ unread tables deletes = unread
 
 -- the counts of a chain that are wrong
 pub chain_fails : (v : Env) (rest : List ℕ) (k : Known) (files : List (List ℕ)) (tables : List (List (List (List ℕ)))) → AreRead v rest files tables

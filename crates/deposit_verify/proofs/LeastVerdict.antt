@@ -21,7 +21,8 @@ use Rattle.deposit_verify.proofs.FilesDecided.{counts_decide, deletes_decide, fi
 use Rattle.deposit_verify.proofs.CountsDecided.{chain_decides}
 use Rattle.deposit_name.proofs.KindLemmas.{same_kind_decides}
 use Rattle.deposit_verify.proofs.HeaderDecided.{contains_decides, menu_decides, name_decides, passed_decides, weekday_decides}
-use Rattle.deposit_verify.proofs.Lifted.{OneReading, least}
+use Rattle.deposit_verify.specs.inside.Reading.{OneReading}
+use Rattle.deposit_verify.proofs.Lifted.{least}
 use Rattle.deposit_verify.proofs.Uniques.{OneText}
 use Rattle.deposit_verify.proofs.Verdicts.{below_all, below_more, below_none}
 

@@ -16,8 +16,7 @@ same_whole xs ys i past over same = sym (take_all i xs past) ∙ same ∙ take_a
 
 -- a fact of two lists, at a place
 pub zip_at : {A B : Type 0} (R : A → B → Type 0) (xs : List A) (ys : List B) (i : ℕ) (d : A) (e : B) → AllZip R xs ys → i < length xs → R (get_or xs i d) (get_or ys i e)
-zip_at R [] [] i d e all inside = absurd (omega arith)
-zip_at R [] (y ∷ ys) i d e all inside = absurd all
+zip_at R [] ys i d e all inside = absurd (omega arith)
 zip_at R (x ∷ xs) [] i d e all inside = absurd all
 zip_at R (x ∷ xs) (y ∷ ys) zero d e all inside = all.0
 zip_at R (x ∷ xs) (y ∷ ys) (suc i) d e all inside = zip_at R xs ys i d e all.1 (omega arith)
@@ -26,15 +25,13 @@ zip_at R (x ∷ xs) (y ∷ ys) (suc i) d e all inside = zip_at R xs ys i d e all
 pub zip_from : {A B : Type 0} (R : A → B → Type 0) (xs : List A) (ys : List B) (d : A) (e : B) → length xs ≡ length ys
     → ((i : ℕ) → i < length xs → R (get_or xs i d) (get_or ys i e)) → AllZip R xs ys
 zip_from R [] [] d e same each = tt
-zip_from R [] (y ∷ ys) d e same each = absurd (omega arith)
-zip_from R (x ∷ xs) [] d e same each = absurd (omega arith)
 zip_from R (x ∷ xs) (y ∷ ys) d e same each = (each zero (omega arith), zip_from R xs ys d e (omega arith) (λ i inside. each (suc i) (omega arith)))
+zip_from R _ _ d e same each = absurd (omega arith)
 
 pub zip_length : {A B : Type 0} (R : A → B → Type 0) (xs : List A) (ys : List B) → AllZip R xs ys → length xs ≡ length ys
 zip_length R [] [] all = refl
-zip_length R [] (y ∷ ys) all = absurd all
-zip_length R (x ∷ xs) [] all = absurd all
 zip_length R (x ∷ xs) (y ∷ ys) all = ap suc (zip_length R xs ys all.1)
+zip_length R _ _ all = absurd all
 
 -- the answer of a test whose opposite failed
 pub unnegated : (b : Bool) → false ≡ not b → b ≡ true

@@ -29,7 +29,7 @@ use Rattle.deposit_verify.proofs.CountsDecided.{contained_is}
 use Rattle.deposit_verify.proofs.FilesDecided.{some_of, table_decides, tables_found}
 use Rattle.deposit_verify.proofs.Judged.{files_parted}
 use Rattle.deposit_verify.proofs.KeyCounts.{bytes_laws, false_from, member_decides}
-use Rattle.deposit_verify.proofs.Lifted.{OneReading}
+use Rattle.deposit_verify.specs.inside.Reading.{OneReading}
 use Rattle.deposit_verify.proofs.Lists.{no_entry, zip_from}
 use Rattle.deposit_verify.proofs.Readings.{AreApart, apart_contents, under_once}
 

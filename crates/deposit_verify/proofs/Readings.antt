@@ -1,5 +1,5 @@
 -- What was read of files is what the functions give, and the keys among it are those that the deposit names.
-use Rattle.std.proofs.Common.{◌≡◌, ◌≢◌, ◌<◌, ◌==◌, ◌↔◌, ◌∷◌, ◌∙◌, [], ℕ, suc, All, AllPairs, Bool, true, false, IsTrue, List, Option, Some, None, Contains, ap, arith, cond, get_or, inl, inr, length, map, option_and_then, option_map, refl, subst, sym, take}
+use Rattle.std.proofs.Common.{◌≡◌, ◌≢◌, ◌<◌, ◌==◌, ◌↔◌, ◌∷◌, ◌∙◌, [], ℕ, suc, All, AllPairs, Bool, true, false, IsTrue, List, Option, Some, Contains, ap, arith, cond, get_or, inl, inr, length, map, option_and_then, option_map, refl, subst, sym, take}
 use Rattle.std.specs.List.{AllByRecursion}
 use Rattle.std.proofs.lemmas.Bool.Decides.{Decides-eqb}
 use Rattle.std.proofs.lemmas.List.{get_or-map, get_or_default, length-map}
@@ -7,9 +7,9 @@ use Rattle.std.proofs.lemmas.List.Kept.{AllPairs-from_increasing}
 use Rattle.std.proofs.lemmas.Option.{same_Some}
 use Rattle.deposit_name.specs.Tables.{has_deletes}
 use Rattle.deposit_name.specs.declared.kinds.Kind.{Kind}
-use Rattle.deposit_name.specs.declared.kinds.Kind.TheVariants.{Full, Diff, Incr}
+use Rattle.deposit_name.specs.declared.kinds.Kind.TheVariants.{Full}
 use Rattle.deposit_name.specs.declared.table.TableName.{TableName}
-use Rattle.deposit_name.specs.declared.table.TableName.TheVariants.{Domain, DomainContacts, DomainStatuses, DomainNameServers, Host, HostAddresses, Contact, Registrar}
+use Rattle.deposit_name.specs.declared.table.TableName.TheVariants.{Domain}
 use Rattle.dnrd_csv.specs.Readers.{IsTableReader}
 use Rattle.dnrd_csv.specs.Table.{IsTable, columns_of, key_columns_of}
 use Rattle.dnrd_csv.specs.Text.{key_rows}
@@ -25,6 +25,7 @@ use Rattle.deposit_verify.specs.Rows.{rows_under}
 use Rattle.deposit_verify.specs.Tables.{AreCountable, AreKeysReadAs, AreReadAs, AreReadFrom}
 use Rattle.deposit_verify.specs.Verdict.{deleted_keys_at, rows_of_each, key_rows_at, rows_at, tables_at}
 use Rattle.deposit_verify.proofs.Columns.{get_or-column, length-column}
+use Rattle.deposit_verify.proofs.FilesDecided.{each_nothing, each_parts}
 use Rattle.deposit_verify.proofs.HeaderDecided.{order_decides, same_place}
 use Rattle.deposit_verify.proofs.Judged.{files_parted}
 use Rattle.deposit_verify.proofs.KeyCounts.{false_from}
@@ -38,35 +39,10 @@ Rows = List (List (List ℕ))
 each_are : (read : FileEntry → List ℕ → Option Rows) (entries : List FileEntry) (files : List (List ℕ)) (tables : List Rows) → length tables ≡ length entries → length files ≡ length entries
     → ((i : ℕ) (e : FileEntry) → i < length entries → read (get_or entries i e) (get_or files i []) ≡ Some (get_or tables i [])) → rows_of_each read entries files ≡ Some tables
 each_are read [] [] [] n m each = refl
-each_are read [] [] (t ∷ ts) n m each = absurd (omega arith)
-each_are read [] (f ∷ fs) ts n m each = absurd (omega arith)
-each_are read (e ∷ es) [] ts n m each = absurd (omega arith)
-each_are read (e ∷ es) (f ∷ fs) [] n m each = absurd (omega arith)
 each_are read (e ∷ es) (f ∷ fs) (t ∷ ts) n m each =
     ap (λ (o : Option Rows). option_and_then (λ (rows : Rows). option_map (λ (others : List Rows). rows ∷ others) (rows_of_each read es fs)) o) (each 0 e (omega arith))
     ∙ ap (option_map (λ (others : List Rows). t ∷ others)) (each_are read es fs ts (omega arith) (omega arith) (λ i d inside. each (suc i) d (omega arith)))
-
-each_parts : (read : FileEntry → List ℕ → Option Rows) (e : FileEntry) (es : List FileEntry) (f : List ℕ) (fs : List (List ℕ)) (t : Rows) (ts : List Rows)
-    → rows_of_each read (e ∷ es) (f ∷ fs) ≡ Some (t ∷ ts) → (read e f ≡ Some t) × (rows_of_each read es fs ≡ Some ts)
-each_parts read e es f fs t ts whole = by (read e f) refl (rows_of_each read es fs) refl whole
-  where
-    by : (o : Option Rows) → read e f ≡ o → (p : Option (List Rows)) → rows_of_each read es fs ≡ p
-        → option_and_then (λ (rows : Rows). option_map (λ (others : List Rows). rows ∷ others) p) o ≡ Some (t ∷ ts) → (read e f ≡ Some t) × (rows_of_each read es fs ≡ Some ts)
-    by None is p are same = cc same
-    by (Some rows) is None are same = cc same
-    by (Some rows) is (Some others) are same =
-        let both : rows ∷ others ≡ t ∷ ts = same_Some _ _ same in
-        let first : rows ≡ t = cc both in
-        let rest : others ≡ ts = cc both in
-        (is ∙ ap Some first, are ∙ ap Some rest)
-
-each_nothing : (read : FileEntry → List ℕ → Option Rows) (e : FileEntry) (es : List FileEntry) (f : List ℕ) (fs : List (List ℕ)) → rows_of_each read (e ∷ es) (f ∷ fs) ≡ Some [] → ⊥
-each_nothing read e es f fs whole = by (read e f) (rows_of_each read es fs) whole
-  where
-    by : (o : Option Rows) (p : Option (List Rows)) → option_and_then (λ (rows : Rows). option_map (λ (others : List Rows). rows ∷ others) p) o ≡ Some [] → ⊥
-    by None p same = cc same
-    by (Some rows) None same = cc same
-    by (Some rows) (Some others) same = let both : rows ∷ others ≡ [] = same_Some _ _ same in cc both
+each_are read _ _ _ n m each = absurd (omega arith)
 
 pub tables_are : IsTableReader → (v : Env) (rest : List ℕ) (files : List (List ℕ)) (tables : List Rows) → AreFiles (all_entries v) rest files → AreReadAs v.contents (contents_files v files) tables
     → tables_at v.contents (contents_files v files) ≡ Some tables
@@ -108,17 +84,15 @@ apart_contents v menu = by v.kind menu.contents
   where
     by : (k : Kind) → HasContents k (map (λ (f : FileEntry). f.name) v.contents) → AreApart v.contents
     by Full same = apart_in_order v.contents (subst StandInOrder (sym same) ((order_decides all_tables).0 refl))
-    by Diff order = apart_in_order v.contents order
-    by Incr order = apart_in_order v.contents order
+    by _ order = apart_in_order v.contents order
 
 -- ---- the keys under a name
 
 module _ (read : FileEntry → List ℕ → Option Rows) (Reads : TableName → List ℕ → Rows → Type 0) (law : (e : FileEntry) (f : List ℕ) (rows : Rows) → (read e f ≡ Some rows) ↔ Reads e.name f rows) (name : TableName) (key : List ℕ) where
   later_place : (n : ℕ) (es : List FileEntry) (fs : List (List ℕ)) → AllByRecursion (λ (f : FileEntry). n < table_place f.name) es → AnyZip (HasKey Reads name key) es fs → n < table_place name
-  later_place n [] fs all any = absurd any
-  later_place n (e ∷ es) [] all any = absurd any
   later_place n (e ∷ es) (f ∷ fs) all (inl here) = subst (λ (m : TableName). n < table_place m) here.0 all.0
   later_place n (e ∷ es) (f ∷ fs) all (inr there) = later_place n es fs all.1 there
+  later_place n _ _ all any = absurd any
 
   pub key_there : (es : List FileEntry) (fs : List (List ℕ)) (ts : List Rows) → AreApart es → rows_of_each read es fs ≡ Some ts → AnyZip (HasKey Reads name key) es fs → Contains (column 0 (rows_under es ts name)) key
   key_there [] fs ts apart whole any = absurd any
@@ -172,23 +146,11 @@ column_once columns file rows some table = λ i j d below inside same.
 
 some_columns : (name : TableName) → 0 < length (columns_of name)
 some_columns Domain = omega arith
-some_columns DomainContacts = omega arith
-some_columns DomainStatuses = omega arith
-some_columns DomainNameServers = omega arith
-some_columns Host = omega arith
-some_columns HostAddresses = omega arith
-some_columns Contact = omega arith
-some_columns Registrar = omega arith
+some_columns _ = omega arith
 
 one_key : (name : TableName) → IsTrue (has_deletes name) → key_columns_of name ≡ 1
 one_key Domain h = refl
-one_key DomainContacts h = cc h
-one_key DomainStatuses h = cc h
-one_key DomainNameServers h = cc h
-one_key Host h = refl
-one_key HostAddresses h = cc h
-one_key Contact h = refl
-one_key Registrar h = refl
+one_key _ h = cc h
 
 pub under_once : IsTableReader → (name : TableName) → IsTrue (has_deletes name) → (es : List FileEntry) (fs : List (List ℕ)) (ts : List Rows) → tables_at es fs ≡ Some ts → AllPairs (λ one other. one ≢ other) (column 0 (rows_under es ts name))
 under_once reader name keyed [] fs ts whole = λ i j d below inside. absurd (omega (arith, inside))

@@ -15,18 +15,7 @@ numbered =
 
 numbered_right : (c : Check) → get_or numbered (check_number c) Frame ≡ c
 numbered_right Frame = refl
-numbered_right Envelope = refl
-numbered_right Name = refl
-numbered_right Statement = refl
-numbered_right Weekday = refl
-numbered_right PrevId = refl
-numbered_right IdTaken = refl
-numbered_right Menu = refl
-numbered_right Files = refl
-numbered_right Table = refl
-numbered_right Counts = refl
-numbered_right References = refl
-numbered_right Deletes = refl
+numbered_right _ = refl
 
 -- no two checks have one number
 pub same_check : (c d : Check) → check_number c ≡ check_number d → c ≡ d
@@ -35,18 +24,7 @@ same_check c d same = sym (numbered_right c) ∙ ap (λ (n : ℕ). get_or number
 -- no check is below the first
 pub below_none : (P : Check → Type 0) → PassesBelow P 1
 below_none P Frame h = absurd (omega arith)
-below_none P Envelope h = absurd (omega arith)
-below_none P Name h = absurd (omega arith)
-below_none P Statement h = absurd (omega arith)
-below_none P Weekday h = absurd (omega arith)
-below_none P PrevId h = absurd (omega arith)
-below_none P IdTaken h = absurd (omega arith)
-below_none P Menu h = absurd (omega arith)
-below_none P Files h = absurd (omega arith)
-below_none P Table h = absurd (omega arith)
-below_none P Counts h = absurd (omega arith)
-below_none P References h = absurd (omega arith)
-below_none P Deletes h = absurd (omega arith)
+below_none P _ h = absurd (omega arith)
 
 -- one check more
 pub below_more : (P : Check → Type 0) (c : Check) → PassesBelow P (check_number c) → P c → PassesBelow P (check_number c + 1)
@@ -58,18 +36,7 @@ below_more P c before here d h = elim (eqb_tells (check_number d) (check_number 
 -- all checks
 pub below_all : (P : Check → Type 0) → PassesBelow P 14 → (c : Check) → P c
 below_all P all Frame = all Frame (omega arith)
-below_all P all Envelope = all Envelope (omega arith)
-below_all P all Name = all Name (omega arith)
-below_all P all Statement = all Statement (omega arith)
-below_all P all Weekday = all Weekday (omega arith)
-below_all P all PrevId = all PrevId (omega arith)
-below_all P all IdTaken = all IdTaken (omega arith)
-below_all P all Menu = all Menu (omega arith)
-below_all P all Files = all Files (omega arith)
-below_all P all Table = all Table (omega arith)
-below_all P all Counts = all Counts (omega arith)
-below_all P all References = all References (omega arith)
-below_all P all Deletes = all Deletes (omega arith)
+below_all P all c = all c (omega arith)
 
 -- no two verdicts are the least
 pub one_least : (P : Check → Type 0) (v w : Verdict) → IsLeast P v → IsLeast P w → v ≡ w

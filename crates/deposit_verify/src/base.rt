@@ -5,19 +5,22 @@ ghost use Rattle.std.specs.Str.{bytes_eq};
 ghost use Rattle.deposit_name.specs.Tables.{has_deletes};
 ghost use Rattle.dnrd_csv.specs.Text.{key_rows};
 ghost use Rattle.envelope.specs.Envelope.{env_of};
-ghost use Rattle.deposit_verify.specs.Bases.{base_after, base_at, base_then, no_keys, reading_at, reading_of};
+ghost use Rattle.deposit_verify.specs.Bases.{base_after, base_at, base_of_first, base_then, no_keys, reading_at, reading_of};
 ghost use Rattle.deposit_verify.specs.Chain.{IsBase, IsFirstOfChain, IsLaterOfChain};
+ghost use Rattle.deposit_verify.specs.Rows.{keys_after};
 ghost use Rattle.deposit_verify.specs.Tables.{AreCountable};
 ghost use Rattle.deposit_verify.specs.Verdict.{are_key_counts, is_full, keys_after_files};
+ghost use Rattle.deposit_verify.specs.inside.SortedKeys.{AreNamedKeys};
+ghost use Rattle.dnrd_csv.specs.inside.RowKeys.{borrowed_texts};
 
 use crate::files_read::{FilesRead, deletes_of, read_files};
 use crate::key_set::KeySet;
 use crate::keys::sorted_texts;
+use crate::laws::law_reading;
 use crate::menu::has_menu;
 use crate::named_keys::{contained_keys, deleted_keys};
 use deposit_name::{Kind, TableName};
-use dnrd_csv::law_table_reader;
-use envelope::{EnvError, Envelope, law_one_reading, law_readers, read_envelope, split_frame};
+use envelope::{EnvError, Envelope, read_envelope, split_frame};
 use std::alloc::{AllocError, Global};
 
 /// The keys that there are after the deposits of a chain, a full one and later ones that are not full: those of
@@ -54,9 +57,7 @@ fn read_whole(alloc: Global, joined: &[u8]) -> Result<Option<WholeDeposit>, Allo
     ensures countable { IfOk result (λ read. IfSome read
         (λ whole. AreCountable (env_of whole.envelope) whole.files.tables.items whole.files.deleted.items)) }
 {
-    law_one_reading();
-    law_readers();
-    law_table_reader();
+    law_reading();
     let Ok(frame) = split_frame(joined) else {
         return Ok(None);
     };
@@ -74,6 +75,26 @@ fn read_whole(alloc: Global, joined: &[u8]) -> Result<Option<WholeDeposit>, Allo
     }
 }
 
+// The keys that a deposit contains in a table, and those that it names there, in ascending order.
+fn named_keys<'f>(
+    alloc: Global,
+    envelope: &Envelope,
+    files: &'f FilesRead,
+    name: TableName,
+) -> Result<(Vec<&'f [u8]>, Vec<&'f [u8]>), AllocError>
+    requires files { AreCountable (env_of envelope.now) files.now.tables.items files.now.deleted.items }
+    requires name { has_deletes name ≡ true }
+    ensures named { IfOk result (λ keys. AreNamedKeys keys.0.items keys.1.items) }
+    ensures after { IfOk result (λ keys. (before : List (List ℕ))
+        → keys_after before (borrowed_texts keys.0.items) (borrowed_texts keys.1.items)
+        ≡ keys_after_files (env_of envelope.now) before files.now.tables.items (map key_rows files.now.deleted.items) name) }
+{
+    let contained = contained_keys(alloc, &envelope.contents, &files.tables, name)?;
+    let deleted = deleted_keys(alloc, deletes_of(envelope), &files.deleted, name)?;
+    let named = sorted_texts(alloc, &contained, &deleted)?;
+    Ok((contained, named))
+}
+
 // How many keys of a table there are after a deposit.
 fn count_after(
     alloc: Global,
@@ -88,10 +109,8 @@ fn count_after(
         (keys_after_files (env_of envelope.now) keys.now files.now.tables.items
         (map key_rows files.now.deleted.items) name)) }
 {
-    let contained = contained_keys(alloc, &envelope.contents, &files.tables, name)?;
-    let deleted = deleted_keys(alloc, deletes_of(envelope), &files.deleted, name)?;
-    let named = sorted_texts(alloc, &contained, &deleted)?;
-    Ok(keys.count_after(&contained, &named))
+    let found = named_keys(alloc, envelope, files, name)?;
+    Ok(keys.count_after(&found.0, &found.1))
 }
 
 // Brings the keys of a table to those after a deposit.
@@ -108,10 +127,8 @@ fn change(
         ≡ keys_after_files (env_of envelope.now) keys.old files.now.tables.items
         (map key_rows files.now.deleted.items) name) }
 {
-    let contained = contained_keys(alloc, &envelope.contents, &files.tables, name)?;
-    let deleted = deleted_keys(alloc, deletes_of(envelope), &files.deleted, name)?;
-    let named = sorted_texts(alloc, &contained, &deleted)?;
-    keys.change(alloc, &contained, &named)
+    let found = named_keys(alloc, envelope, files, name)?;
+    keys.change(alloc, &found.0, &found.1)
 }
 
 impl Base {
@@ -125,18 +142,8 @@ impl Base {
         // It is the one that is a function of the same.
         ensures computed { IfOk result (λ base. base ≡ base_at (joined.now ∷ [])) }
     {
-        law_one_reading();
-        law_readers();
-        law_table_reader();
-        let Some(whole) = read_whole(alloc, joined)? else {
-            return Ok(None);
-        };
-        if !is_full(&whole.envelope) {
-            return Ok(None);
-        }
-        let mut base = Base::empty(alloc);
-        base.follow(alloc, &whole.envelope, &whole.files)?;
-        Ok(Some(base))
+        law_reading();
+        Base::of_first(alloc, joined)
     }
 
     /// Brings the keys to those after a later deposit of the chain, and says whether it is read and not full. Where it is
@@ -153,9 +160,28 @@ impl Base {
         ensures computed { IfOk result (λ is. (if is then Some self.new else None)
             ≡ base_then self.old joined.now) }
     {
-        law_one_reading();
-        law_readers();
-        law_table_reader();
+        law_reading();
+        self.follow_later(alloc, joined)
+    }
+
+    fn of_first(alloc: Global, joined: &[u8]) -> Result<Option<Base>, AllocError>
+        ensures { IfOk result (λ base. base ≡ base_of_first joined.now) }
+    {
+        let Some(whole) = read_whole(alloc, joined)? else {
+            return Ok(None);
+        };
+        if !is_full(&whole.envelope) {
+            return Ok(None);
+        }
+        let mut base = Base::empty(alloc);
+        base.follow(alloc, &whole.envelope, &whole.files)?;
+        Ok(Some(base))
+    }
+
+    fn follow_later(&mut self, alloc: Global, joined: &[u8]) -> Result<bool, AllocError>
+        ensures { IfOk result (λ is. (if is then Some self.new else None)
+            ≡ base_then self.old joined.now) }
+    {
         let Some(whole) = read_whole(alloc, joined)? else {
             return Ok(false);
         };

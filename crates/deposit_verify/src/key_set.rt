@@ -4,7 +4,7 @@ ghost use Rattle.std.specs.List.Sorted.{IsSorted};
 ghost use Rattle.std.specs.Set.{is_member};
 ghost use Rattle.std.specs.Str.{bytes_eq};
 ghost use Rattle.dnrd_csv.specs.inside.RowKeys.{borrowed_texts};
-ghost use Rattle.deposit_verify.specs.inside.SortedKeys.{owned_texts, borrowed_text_cmp};
+ghost use Rattle.deposit_verify.specs.inside.SortedKeys.{AreNamedKeys, owned_texts, borrowed_text_cmp};
 
 use crate::keys::has_key;
 use std::alloc::{AllocError, Global};
@@ -79,7 +79,7 @@ fn add_keys(keys: &mut Vec<Vec<u8>>, alloc: Global, added: &[&[u8]]) -> Result<(
 }
 
 impl KeySet {
-    ghost use Rattle.std.specs.Prelude.{◌≢◌, AllPairs, Contains, []};
+    ghost use Rattle.std.specs.Prelude.{[]};
     ghost use Rattle.std.specs.Set.{distinct_count};
     ghost use Rattle.deposit_verify.specs.Rows.{keys_after};
 
@@ -94,10 +94,7 @@ impl KeySet {
 
     /// How many keys there are after a deposit that contains some, and names others.
     pub fn count_after(&self, contained: &[&[u8]], named: &[&[u8]]) -> usize
-        requires once { AllPairs (λ one other. one ≢ other) (borrowed_texts contained.now) }
-        requires among { (text : List ℕ) → Contains (borrowed_texts contained.now) text
-            → Contains (borrowed_texts named.now) text }
-        requires sorted { IsSorted borrowed_text_cmp named.now }
+        requires { AreNamedKeys contained.now named.now }
         ensures { result
             ≡ distinct_count bytes_eq (keys_after self.now (borrowed_texts contained.now) (borrowed_texts named.now)) }
     {
@@ -111,10 +108,7 @@ impl KeySet {
         contained: &[&[u8]],
         named: &[&[u8]],
     ) -> Result<(), AllocError>
-        requires once { AllPairs (λ one other. one ≢ other) (borrowed_texts contained.now) }
-        requires among { (text : List ℕ) → Contains (borrowed_texts contained.now) text
-            → Contains (borrowed_texts named.now) text }
-        requires sorted { IsSorted borrowed_text_cmp named.now }
+        requires { AreNamedKeys contained.now named.now }
         ensures { OnOk result (self.new
             ≡ keys_after self.old (borrowed_texts contained.now) (borrowed_texts named.now)) }
     {

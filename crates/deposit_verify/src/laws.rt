@@ -6,10 +6,24 @@ ghost use Rattle.deposit_verify.specs.Bases.{AreBases};
 ghost use Rattle.deposit_verify.specs.Chain.{AreChainKeys};
 ghost use Rattle.deposit_verify.specs.Numbers.{AreChainNumbers};
 ghost use Rattle.deposit_verify.specs.Verdict.{IsLawful};
+ghost use Rattle.deposit_verify.specs.inside.Reading.{OneReading};
+ghost use Rattle.dnrd_csv.specs.Readers.{IsTableReader};
+ghost use Rattle.envelope.specs.Readers.{AreReaders};
 ghost use Rattle.deposit_verify.specs.declared.verdict.Verdict.{Verdict};
 
 use dnrd_csv::{law_one_text, law_table_reader};
 use envelope::{law_one_reading, law_readers};
+
+/// Deposits are read in one way.
+pub(crate) fn law_reading()
+    ensures one { OneReading }
+    ensures readers { AreReaders }
+    ensures tables { IsTableReader }
+{
+    law_one_reading();
+    law_readers();
+    law_table_reader();
+}
 
 /// No deposit has two verdicts.
 pub fn law_one_verdict()
@@ -21,10 +35,8 @@ pub fn law_one_verdict()
 pub fn law_verdict()
     ensures { IsLawful }
 {
-    law_one_reading();
-    law_readers();
+    law_reading();
     law_one_text();
-    law_table_reader();
 }
 
 /// The keys of a chain of deposits: those of a chain of one, and how each deposit changes them.
@@ -37,9 +49,7 @@ pub fn law_chains()
 pub fn law_bases()
     ensures { AreBases }
 {
-    law_one_reading();
-    law_readers();
-    law_table_reader();
+    law_reading();
 }
 
 /// How many keys a chain has: as many as the rows of a full deposit, and as before after one that names none. And what
@@ -47,6 +57,5 @@ pub fn law_bases()
 pub fn law_chain_numbers()
     ensures { AreChainNumbers }
 {
-    law_one_reading();
-    law_table_reader();
+    law_reading();
 }

@@ -1,8 +1,10 @@
 //! Whether whatever an object names is there.
-ghost use Rattle.std.specs.Prelude.{◌<◌, ◌↔◌, IfOk, IsTrue, length};
+ghost use Rattle.std.specs.List.Sorted.{IsSorted};
+ghost use Rattle.std.specs.Prelude.{◌<◌, ◌↔◌, All, IfOk, IsTrue, length};
+ghost use Rattle.dnrd_csv.specs.inside.RowKeys.{borrowed_texts};
 ghost use Rattle.dnrd_csv.specs.Table.{columns_of};
-ghost use Rattle.deposit_verify.specs.inside.SortedKeys.{AreSortedKeys};
-ghost use Rattle.deposit_verify.specs.References.{AreKeysOf, AreKeysOrEmpty, AreReferencesKept, ContactsAreThere, DomainsAreThere, HostsAreThere, RegistrarsAreThere, column as texts_in};
+ghost use Rattle.deposit_verify.specs.inside.SortedKeys.{AreSortedKeys, IsKeyIn, borrowed_text_cmp};
+ghost use Rattle.deposit_verify.specs.References.{AreReferencesKept, ContactsAreThere, DomainsAreThere, HostsAreThere, RegistrarsAreThere, column as texts_in};
 ghost use Rattle.deposit_verify.specs.Tables.{AreAllTables, table_of};
 
 use crate::keys::{has_key, sorted_keys};
@@ -23,45 +25,34 @@ fn keys_of<'t>(
     sorted_keys(alloc, table(tables, name))
 }
 
-// Whether each text of a column is a key of a table, whose keys are given in ascending order.
-fn are_keys_of(
-    tables: &[Rows],
-    of: TableName,
-    keys: &[&[u8]],
-    name: TableName,
-    column: usize,
-) -> bool
-    requires tables { AreAllTables tables.now }
-    requires keys { AreSortedKeys keys.now (table_of tables.now of) }
-    requires column { column < length (columns_of name) }
-    ensures { IsTrue result ↔ AreKeysOf (table_of tables.now of) (texts_in column (table_of tables.now name)) }
+// Whether a text is one of the keys, which ascend, or empty where it may be.
+fn is_key_in(keys: &[&[u8]], text: &[u8], may_be_empty: bool) -> bool
+    requires { IsSorted borrowed_text_cmp keys.now }
+    ensures { IsTrue result ↔ IsKeyIn may_be_empty (borrowed_texts keys.now) text.now }
 {
-    let rows = table(tables, name);
-    for i in 0..rows.len() {
-        if !has_key(keys, rows.field(i, column)) {
-            return false;
-        }
+    if may_be_empty && text.is_empty() {
+        return true;
     }
-    true
+    has_key(keys, text)
 }
 
-// The same where a text may be empty.
-fn are_keys_or_empty(
+// Whether each text of a column is a key of a table, whose keys are given in ascending order, or empty where it may be.
+fn are_keys(
     tables: &[Rows],
     of: TableName,
     keys: &[&[u8]],
     name: TableName,
     column: usize,
+    may_be_empty: bool,
 ) -> bool
     requires tables { AreAllTables tables.now }
     requires keys { AreSortedKeys keys.now (table_of tables.now of) }
     requires column { column < length (columns_of name) }
-    ensures { IsTrue result ↔ AreKeysOrEmpty (table_of tables.now of) (texts_in column (table_of tables.now name)) }
+    ensures { IsTrue result ↔ All (IsKeyIn may_be_empty (texts_in 0 (table_of tables.now of))) (texts_in column (table_of tables.now name)) }
 {
     let rows = table(tables, name);
     for i in 0..rows.len() {
-        let text = rows.field(i, column);
-        if !text.is_empty() && !has_key(keys, text) {
+        if !is_key_in(keys, rows.field(i, column), may_be_empty) {
             return false;
         }
     }
@@ -75,9 +66,9 @@ fn registrars_are_there(alloc: Global, tables: &[Rows]) -> Result<bool, AllocErr
     let of = TableName::Registrar;
     let keys = keys_of(alloc, tables, of)?;
     Ok(
-        are_keys_of(tables, of, &keys, TableName::Domain, 3)
-            && are_keys_of(tables, of, &keys, TableName::Host, 2)
-            && are_keys_of(tables, of, &keys, TableName::Contact, 2),
+        are_keys(tables, of, &keys, TableName::Domain, 3, false)
+            && are_keys(tables, of, &keys, TableName::Host, 2, false)
+            && are_keys(tables, of, &keys, TableName::Contact, 2, false),
     )
 }
 
@@ -88,8 +79,8 @@ fn contacts_are_there(alloc: Global, tables: &[Rows]) -> Result<bool, AllocError
     let of = TableName::Contact;
     let keys = keys_of(alloc, tables, of)?;
     Ok(
-        are_keys_or_empty(tables, of, &keys, TableName::Domain, 2)
-            && are_keys_of(tables, of, &keys, TableName::DomainContacts, 2),
+        are_keys(tables, of, &keys, TableName::Domain, 2, true)
+            && are_keys(tables, of, &keys, TableName::DomainContacts, 2, false),
     )
 }
 
@@ -100,9 +91,9 @@ fn domains_are_there(alloc: Global, tables: &[Rows]) -> Result<bool, AllocError>
     let of = TableName::Domain;
     let keys = keys_of(alloc, tables, of)?;
     Ok(
-        are_keys_of(tables, of, &keys, TableName::DomainContacts, 0)
-            && are_keys_of(tables, of, &keys, TableName::DomainStatuses, 0)
-            && are_keys_of(tables, of, &keys, TableName::DomainNameServers, 0),
+        are_keys(tables, of, &keys, TableName::DomainContacts, 0, false)
+            && are_keys(tables, of, &keys, TableName::DomainStatuses, 0, false)
+            && are_keys(tables, of, &keys, TableName::DomainNameServers, 0, false),
     )
 }
 
@@ -113,8 +104,8 @@ fn hosts_are_there(alloc: Global, tables: &[Rows]) -> Result<bool, AllocError>
     let of = TableName::Host;
     let keys = keys_of(alloc, tables, of)?;
     Ok(
-        are_keys_of(tables, of, &keys, TableName::DomainNameServers, 1)
-            && are_keys_of(tables, of, &keys, TableName::HostAddresses, 0),
+        are_keys(tables, of, &keys, TableName::DomainNameServers, 1, false)
+            && are_keys(tables, of, &keys, TableName::HostAddresses, 0, false),
     )
 }
 

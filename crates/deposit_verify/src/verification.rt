@@ -12,13 +12,13 @@ use crate::about::About;
 use crate::base::Base;
 use crate::files_read::{FilesRead, read_files};
 use crate::header::header_fault;
-use crate::laws::law_verdict;
+use crate::laws::{law_reading, law_verdict};
 use crate::references::are_references_kept;
 use crate::verdict::Verdict;
 use deposit_name::Kind;
 use desk::Check;
 use dnrd_csv::{Rows, law_one_text, law_table_reader};
-use envelope::{Count, EnvError, Envelope, law_one_reading, read_envelope, split_frame};
+use envelope::{Count, EnvError, Envelope, read_envelope, split_frame};
 use std::alloc::{AllocError, Global};
 
 // Whether counts are the numbers of rows of their tables.
@@ -109,19 +109,11 @@ fn judge_files(
     Ok(Verdict::Pass)
 }
 
-/// Verifies a deposit: its parts, joined in order, against what is known of it.
-///
-/// # Errors
-///
-/// Want of memory, and nothing else.
-pub fn verify(alloc: Global, joined: &[u8], about: &About) -> Result<Verdict, AllocError>
-    // The verdict names the least of the thirteen checks that fails, or is a pass where none does.
-    ensures least { IfOk result (IsVerdict joined.now (known_in about.now)) }
-    // It is the one that is a function of the same.
-    ensures computed { IfOk result (λ v. v ≡ verdict joined.now (known_in about.now)) }
+// The verdict names the least of the thirteen checks that fails, or is a pass where none does.
+fn judge(alloc: Global, joined: &[u8], about: &About) -> Result<Verdict, AllocError>
+    ensures { IfOk result (IsVerdict joined.now (known_in about.now)) }
 {
-    law_one_reading();
-    law_verdict();
+    law_reading();
     let Ok(frame) = split_frame(joined) else {
         return Ok(Verdict::Fail(Check::Frame));
     };
@@ -134,4 +126,19 @@ pub fn verify(alloc: Global, joined: &[u8], about: &About) -> Result<Verdict, Al
         return Ok(Verdict::Fail(fault));
     }
     judge_files(alloc, &envelope, frame.rest, &about.base)
+}
+
+/// Verifies a deposit: its parts, joined in order, against what is known of it.
+///
+/// # Errors
+///
+/// Want of memory, and nothing else.
+pub fn verify(alloc: Global, joined: &[u8], about: &About) -> Result<Verdict, AllocError>
+    // The verdict names the least of the thirteen checks that fails, or is a pass where none does.
+    ensures least { IfOk result (IsVerdict joined.now (known_in about.now)) }
+    // It is the one that is a function of the same.
+    ensures computed { IfOk result (λ v. v ≡ verdict joined.now (known_in about.now)) }
+{
+    law_verdict();
+    judge(alloc, joined, about)
 }

@@ -4,7 +4,7 @@ use Rattle.std.proofs.Common.{◌≡◌, ◌≢◌, ◌==◌, ◌&&◌, ◌+◌,
 use Rattle.std.specs.Bool.{Decides}
 use Rattle.std.specs.Cmp.Lexicographic.{pointwise}
 use Rattle.std.specs.Int.{IsInRange, is_in_range}
-use Rattle.std.specs.List.{AllByRecursion, AllZip, IsDistinct, list_all, starts_with}
+use Rattle.std.specs.List.{AllZip, IsDistinct, list_all, starts_with}
 use Rattle.std.specs.Str.{bytes_eq, is_utf8}
 use Rattle.std.proofs.lemmas.Bool.{and_parts, leb-true, le-leb}
 use Rattle.std.proofs.lemmas.Bool.Decides.{Decides-and, Decides-by_and, Decides-eqb, Decides-like, Decides-ltb, Decides-not, Decides-or}
@@ -118,36 +118,27 @@ row_decides ([] ∷ []) = (λ e. cc e, λ h. absurd (h.1 refl))
 row_decides ((byte ∷ field) ∷ []) = (λ _. (λ e. cc e, λ e. cc e), λ _. refl)
 row_decides (field ∷ next ∷ fields) = (λ _. (λ e. cc e, λ e. cc e), λ _. refl)
 
-unmarked_decides : (bytes : List ℕ) → Decides (not (starts_with nat_eq bytes byte_order_mark)) (starts_with nat_eq bytes byte_order_mark ≡ false)
-unmarked_decides bytes = by (starts_with nat_eq bytes byte_order_mark)
-  where
-    by : (b : Bool) → Decides (not b) (b ≡ false)
-    by true = (λ e. cc e, λ e. cc e)
-    by false = (λ _. refl, λ _. refl)
+false_decides : (b : Bool) → Decides (not b) (b ≡ false)
+false_decides true = (λ e. cc e, λ e. cc e)
+false_decides false = (λ _. refl, λ _. refl)
 
 text_of_decides : (bytes : List ℕ) (rows : List (List (List ℕ))) → Decides (is_text_of bytes rows) (IsTextOf bytes rows)
 text_of_decides bytes rows =
     Decides-like _ (λ h. record { rows_in_form = h.0; unmarked = h.1.0; text = h.1.1 }) (λ h. (h.rows_in_form, (h.unmarked, h.text)))
-    (Decides-and _ _ (all_decides is_row IsRow row_decides rows) (Decides-and _ _ (unmarked_decides bytes) (bytes_eq-Decides bytes (table_text rows))))
+    (Decides-and _ _ (all_decides is_row IsRow row_decides rows) (Decides-and _ _ (false_decides (starts_with nat_eq bytes byte_order_mark)) (bytes_eq-Decides bytes (table_text rows))))
 
 forms_decide : (columns : List Form) (rows : List (List (List ℕ))) → Decides (have_forms columns rows) (HaveForms columns rows)
 forms_decide columns rows = all_decides (λ row. pointwise has_form columns row) (λ row. AllZip HasForm columns row) (λ row. zip_decides has_form HasForm form_decides columns row) rows
 
 -- ---- keys
 
-apart_decides : (key : List (List ℕ)) (keys : List (List (List ℕ))) → Decides (list_all (λ other. not (same_key key other)) keys) (AllByRecursion (λ other. same_key key other ≡ false) keys)
-apart_decides key keys =
-    Decides-like _ (recursion_from_All _ keys) (All-from_recursion _ keys)
-    (all_decides (λ other. not (same_key key other)) (λ other. same_key key other ≡ false) (λ other. by (same_key key other)) keys)
-  where
-    by : (b : Bool) → Decides (not b) (b ≡ false)
-    by true = (λ e. cc e, λ e. cc e)
-    by false = (λ _. refl, λ _. refl)
-
 distinct_decides : (keys : List (List (List ℕ))) → Decides (are_distinct keys) (IsDistinct same_key keys)
 unfolding IsDistinct
 distinct_decides [] = (λ _. tt, λ _. refl)
-distinct_decides (key ∷ keys) = Decides-and _ _ (apart_decides key keys) (distinct_decides keys)
+distinct_decides (key ∷ keys) = Decides-and _ _ (
+    Decides-like _ (recursion_from_All _ keys) (All-from_recursion _ keys)
+    (all_decides (λ other. not (same_key key other)) (λ other. same_key key other ≡ false) (λ other. false_decides (same_key key other)) keys)
+    ) (distinct_decides keys)
 
 keys_decide : (key : ℕ) (rows : List (List (List ℕ))) → Decides (are_distinct (map (take key) rows)) (HaveDistinctKeys key rows)
 keys_decide key rows =

@@ -2,7 +2,7 @@
 use Rattle.std.proofs.Common.{◌≡◌, ◌≢◌, ◌≤◌, ◌*◌, ◌%◌, ◌++◌, ◌∷◌, ◌∙◌, [], ℕ, List, All, ap, arith, drop, length, refl, suc, sym, take, zero}
 use Rattle.std.specs.List.{AllByRecursion}
 use Rattle.std.proofs.lemmas.List.{length-drop, length-take, take-append-drop}
-use Rattle.std.proofs.lemmas.List.Elements.{All-from_recursion, recursion_from_All}
+use Rattle.std.proofs.lemmas.List.Elements.{All-drop, All-from_recursion, All-head, All-take, recursion_from_All}
 use Rattle.std.proofs.Math.Nat.{mul-mod_left}
 use Rattle.dnrd_csv.specs.inside.Fields.{AreRowsOf}
 use Rattle.dnrd_csv.specs.inside.Rows.{rows_from}
@@ -30,28 +30,18 @@ each_wide width zero fields fits = tt
 each_wide width (suc count) fields fits = (first_wide width count fields fits, each_wide width count (drop width fields) (less width count fields fits))
 
 -- a row of one field or more, which is not empty if it is alone
-is_row_of : (width : ℕ) (row : List (List ℕ)) → 1 ≤ width → length row ≡ width → (width ≡ 1 → AllByRecursion (λ field. field ≢ []) row) → IsRow row
+is_row_of : (width : ℕ) (row : List (List ℕ)) → 1 ≤ width → length row ≡ width → (width ≡ 1 → All (λ field. field ≢ []) row) → IsRow row
 is_row_of width [] some wide filled = absurd (omega (arith, some, wide))
-is_row_of width (field ∷ []) some wide filled = ((λ e. cc e), (λ e. (filled (sym wide)).0 (cc e)))
+is_row_of width (field ∷ []) some wide filled = ((λ e. cc e), (λ e. All-head (λ f. f ≢ []) field [] (filled (sym wide)) (cc e)))
 is_row_of width (field ∷ next ∷ row) some wide filled = ((λ e. cc e), (λ e. cc e))
 
-filled_front : (n : ℕ) (fields : List (List ℕ)) → AllByRecursion (λ field. field ≢ []) fields → AllByRecursion (λ field. field ≢ []) (take n fields)
-filled_front zero fields filled = tt
-filled_front (suc n) [] filled = tt
-filled_front (suc n) (field ∷ fields) filled = (filled.0, filled_front n fields filled.1)
-
-filled_rest : (n : ℕ) (fields : List (List ℕ)) → AllByRecursion (λ field. field ≢ []) fields → AllByRecursion (λ field. field ≢ []) (drop n fields)
-filled_rest zero fields filled = filled
-filled_rest (suc n) [] filled = tt
-filled_rest (suc n) (field ∷ fields) filled = filled_rest n fields filled.1
-
-each_in_form : (width count : ℕ) (fields : List (List ℕ)) → 1 ≤ width → length fields ≡ count * width → (width ≡ 1 → AllByRecursion (λ field. field ≢ []) fields)
+each_in_form : (width count : ℕ) (fields : List (List ℕ)) → 1 ≤ width → length fields ≡ count * width → (width ≡ 1 → All (λ field. field ≢ []) fields)
     → AllByRecursion IsRow (rows_from width count fields)
 unfolding rows_from
 each_in_form width zero fields some fits filled = tt
 each_in_form width (suc count) fields some fits filled = (
-  is_row_of width (take width fields) some (first_wide width count fields fits) (λ one. filled_front width fields (filled one)),
-  each_in_form width count (drop width fields) some (less width count fields fits) (λ one. filled_rest width fields (filled one)),
+  is_row_of width (take width fields) some (first_wide width count fields fits) (λ one. All-take (λ f. f ≢ []) width fields (filled one)),
+  each_in_form width count (drop width fields) some (less width count fields fits) (λ one. All-drop (λ f. f ≢ []) width fields (filled one)),
 )
 
 -- they are the rows of the fields, if no field is empty where each row has one alone
@@ -59,8 +49,7 @@ pub rows_of_fields : (width count : ℕ) (fields : List (List ℕ)) → 1 ≤ wi
     → AreRowsOf width fields (rows_from width count fields)
 rows_of_fields width count fields some fits filled = record {
   some = some;
-  in_form = All-from_recursion IsRow (rows_from width count fields)
-      (each_in_form width count fields some fits (λ one. recursion_from_All (λ field. field ≢ []) fields (filled one)));
+  in_form = All-from_recursion IsRow (rows_from width count fields) (each_in_form width count fields some fits filled);
   width_right = All-from_recursion (λ row. length row ≡ width) (rows_from width count fields) (each_wide width count fields fits);
   fields_right = flat-rows_from width count fields fits;
 }

@@ -10,7 +10,8 @@ use Rattle.std.specs.List.{IsDistinct}
 use Rattle.std.specs.List.Sorted.{IsPermutation, IsSorted, IsSortedBy}
 use Rattle.std.specs.Str.{bytes_eq}
 use Rattle.std.proofs.lemmas.Cmp.{lists_equiv, lists_total, nat_list_cmp_total, nat_list_eq_equiv}
-use Rattle.std.proofs.lemmas.List.{get_or_default, get_or-map, length-map, length-take, map-append, take-take, take_more}
+use Rattle.std.proofs.lemmas.List.{get_or_default, get_or-map, length-map, length-take, take-take, take_more}
+use Rattle.std.proofs.lemmas.Bool.{false_from_ne_true}
 use Rattle.std.proofs.lemmas.Bool.Decides.{eqb_tells}
 use Rattle.std.proofs.lemmas.List.Sorted.{IsPermutation-map, ranks_by, sorted_far}
 use Rattle.std.proofs.lemmas.Map.Keys.{IsDistinct-IsPermutation, IsDistinct-from_apart}
@@ -143,10 +144,6 @@ is_less Less e = refl
 is_less Equal e = cc e
 is_less Greater e = cc e
 
--- one more borrowed key
-pub texts_more : (keys : List (List (Bor (List ℕ)))) (key : List (Bor (List ℕ))) → map borrowed_texts (keys ++ key ∷ []) ≡ map borrowed_texts keys ++ borrowed_texts key ∷ []
-texts_more keys key = map-append borrowed_texts keys (key ∷ [])
-
 -- of two keys that differ, the one that is not above is below
 below_if : (order back : Ordering) → back ≡ ordering_reverse order → is_lt back ≡ false → (order ≡ Equal → ⊥) → order ≡ Less
 below_if Less back turned up apart = refl
@@ -171,16 +168,12 @@ rises keys sorted apart i j d below inside =
     let less = below_if (key_cmp one other) (key_cmp other one) (key_order.antisymm other one) not_above (λ equal. apart i j d below inside (at_one ∙ same_if one other equal ∙ sym at_other)) in
     ap (λ (k : List (List ℕ)). key_cmp k (get_or (map borrowed_texts keys) j d)) at_one ∙ ap (key_cmp one) at_other ∙ less
 
-differ : (same : Bool) → (same ≡ true → ⊥) → same ≡ false
-differ true apart = absurd (apart refl)
-differ false apart = refl
-
 -- keys that differ do so in each order
 pub permuted_differ : (keys moved : List (List (Bor (List ℕ)))) → IsPermutation keys moved → AllPairs (λ one other. one ≢ other) (map borrowed_texts keys) → AllPairs (λ one other. one ≢ other) (map borrowed_texts moved)
 permuted_differ keys moved there apart =
     let texts = map borrowed_texts keys in
     let distinct : IsDistinct same_key texts =
-    IsDistinct-from_apart same_key texts (λ i j d below inside. differ _ (λ same. apart i j d below inside ((same_key-Decides (get_or texts i d) (get_or texts j d)).0 same))) in
+    IsDistinct-from_apart same_key texts (λ i j d below inside. false_from_ne_true _ (λ same. apart i j d below inside ((same_key-Decides (get_or texts i d) (get_or texts j d)).0 same))) in
     AllPairs-from_IsDistinct same_key-Decides (map borrowed_texts moved)
     (IsDistinct-IsPermutation same_key same_key-laws.symm texts (map borrowed_texts moved) (IsPermutation-map borrowed_texts keys moved there) distinct)
 

@@ -1,12 +1,12 @@
 -- The records of a text are its only rows.
 use Rattle.std.specs.Prelude.{nat_eq, false, true}
-use Rattle.std.proofs.Common.{Bor, ◌≡◌, ◌≢◌, ◌++◌, ◌∷◌, ◌∙◌, [], ℕ, List, Option, Some, None, refl, ap, sym, inl, inr, All, append_assoc}
+use Rattle.std.proofs.Common.{Bor, ◌≡◌, ◌≢◌, ◌++◌, ◌∷◌, ◌∙◌, [], ℕ, List, Some, refl, ap, sym, inl, inr, All, append_assoc}
 use Rattle.std.specs.List.{AllByRecursion, starts_with}
 use Rattle.std.proofs.lemmas.Bool.{and_parts, cases_Bool, eqb-true}
 use Rattle.std.proofs.lemmas.List.Elements.{recursion_from_All}
+use Rattle.std.proofs.lemmas.Option.{same_Some}
 use Rattle.csv.specs.Machine.{Read, next_record}
 use Rattle.csv.specs.Reading.{AreRecords, ReadRecord, Reached, default_config, is_bom, source_of, strip_bom, took_first}
-use Rattle.csv.specs.declared.parser.State.{State}
 use Rattle.csv.specs.declared.reader.Reader.{Reader}
 use Rattle.csv.proofs.ReadFacts.{rows-end, rows-more}
 use Rattle.csv.specs.declared.parser.State.TheVariants as st
@@ -61,25 +61,17 @@ one_text xs ys first second same =
     let are = records_of xs (recursion_from_All IsRow xs first) in
     only_records ys xs (recursion_from_All IsRow ys second) (rw same at are)
 
--- the fields of a read, and what it leaves
-fields_read : Option Read → List (List ℕ)
-fields_read None = []
-fields_read (Some read) = read.0
-
-left_read : Option Read → List ℕ
-left_read None = []
-left_read (Some read) = read.2
-
-state_read : Option Read → State
-state_read None = st.StartRecord
-state_read (Some read) = read.1
+-- what is read of a text with a row at its front
+front_is : (read : Read) (text : List ℕ) (row : List (List ℕ)) (tail : List ℕ) → next_record default_config st.StartRecord [] [] text ≡ Some read → IsRow row → text ≡ row_text row ++ tail
+    → read ≡ (row, st.StartRecord, tail)
+front_is read text row tail found is_row is =
+    same_Some read (row, st.StartRecord, tail) (sym found ∙ ap (λ (t : List ℕ). next_record default_config st.StartRecord [] [] t) is ∙ reads_row row tail is_row)
 
 -- two rows at the front of a text are one, and so is what follows
 same_front : (x y : List (List ℕ)) (left right : List ℕ) → IsRow x → IsRow y → row_text x ++ left ≡ row_text y ++ right → (x ≡ y) × (left ≡ right)
-unfolding fields_read left_read
 same_front x y left right first second same =
-    let joined = sym (reads_row x left first) ∙ ap (λ (t : List ℕ). next_record default_config st.StartRecord [] [] t) same ∙ reads_row y right second in
-    (ap fields_read joined, ap left_read joined)
+    let one = front_is (x, st.StartRecord, left) (row_text x ++ left) y right (reads_row x left first) second same in
+    (ap (λ (r : Read). r.0) one, ap (λ (r : Read). r.2) one)
 
 not_empty : (x : List (List ℕ)) (left : List ℕ) → IsRow x → row_text x ++ left ≡ [] → ⊥
 unfolding next_record
@@ -130,25 +122,22 @@ read_is old new fields text at read =
 -- a row at the front is what is read
 pub read_front : (old new : Reader (Bor (List ℕ))) (fields : List (List ℕ)) (text : List ℕ) → IsAtRow old text → ReadRecord (λ s. Some s.now) old new true fields
     → (row : List (List ℕ)) (tail : List ℕ) → IsRow row → text ≡ row_text row ++ tail → fields ≡ row
-unfolding fields_read
 read_front old new fields text at read row tail is_row is =
     let given = read_is old new fields text at read in
-    let joined = sym given.found ∙ ap (λ (t : List ℕ). next_record default_config st.StartRecord [] [] t) is ∙ reads_row row tail is_row in
-    given.fields_are ∙ ap fields_read joined
+    given.fields_are ∙ ap (λ (r : Read). r.0) (front_is given.read text row tail given.found is_row is)
 
 -- a read of the row at the front stands after it
 pub at_next : (old new : Reader (Bor (List ℕ))) (fields : List (List ℕ)) (text rest : List ℕ) → IsAtRow old text → ReadRecord (λ s. Some s.now) old new true fields
     → took_first new ≡ true → IsRow fields → text ≡ row_text fields ++ rest → IsAtRow new rest
-unfolding left_read state_read
 at_next old new fields text rest at read first row is =
     let given = read_is old new fields text at read in
-    let joined = sym given.found ∙ ap (λ (t : List ℕ). next_record default_config st.StartRecord [] [] t) is ∙ reads_row fields rest row in
+    let front = front_is given.read text fields rest given.found row is in
     record {
       untrimmed = read.3 ∙ at.untrimmed;
       ready = inl first;
       config = read.2 ∙ at.config;
-      start = sym given.state_is ∙ ap state_read joined;
-      source = given.source ∙ ap Some (sym given.left_is ∙ ap left_read joined);
+      start = sym given.state_is ∙ ap (λ (r : Read). r.1) front;
+      source = given.source ∙ ap Some (sym given.left_is ∙ ap (λ (r : Read). r.2) front);
     }
 
 -- where no record is read, no row stands at the front

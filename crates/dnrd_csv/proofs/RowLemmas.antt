@@ -1,9 +1,9 @@
 -- Rows of one width in one list of fields, and what holds of each of them.
 use Rattle.std.specs.Prelude.{flat_map}
 use Rattle.std.proofs.Common.{◌≡◌, ◌<◌, ◌+◌, ◌*◌, ◌++◌, ◌∷◌, ◌∙◌, [], ℕ, List, All, None, Some, add-one, ap, append_assoc, arith, drop, get_or, length, refl, suc, sym, take, zero}
-use Rattle.std.specs.List.{AllByRecursion, AllZip}
+use Rattle.std.specs.List.{AllZip}
 use Rattle.std.proofs.lemmas.List.{append-nil, drop-drop, get_or-drop, get_or-take, length-append, length-drop, length-take, take_more}
-use Rattle.std.proofs.lemmas.List.Elements.{recursion_from_All}
+use Rattle.std.proofs.lemmas.List.Elements.{All-head, All-tail}
 use Rattle.std.proofs.Math.Seq.{drop-append_seam, take-append_seam}
 use Rattle.csv.specs.Records.{field_at}
 use Rattle.dnrd_csv.specs.inside.Rows.{rows_from}
@@ -17,27 +17,26 @@ pub flat-push : (rows : List (List (List ℕ))) (row : List (List ℕ)) → flat
 flat-push [] row = append-nil row
 flat-push (first ∷ rows) row = ap (λ (t : List (List ℕ)). first ++ t) (flat-push rows row) ∙ sym (append_assoc first (flat rows) row)
 
-counted : (width : ℕ) (rows : List (List (List ℕ))) → AllByRecursion (λ row. length row ≡ width) rows → length (flat rows) ≡ length rows * width
-counted width [] each = omega arith
-counted width (row ∷ rows) each = length-append row (flat rows) ∙ ap (λ (n : ℕ). length row + n) (counted width rows each.1) ∙ ap (λ (n : ℕ). n + length rows * width) each.0 ∙ omega arith
-
 -- the fields of rows of one width are so many
 pub flat_len : (width : ℕ) (rows : List (List (List ℕ))) → All (λ row. length row ≡ width) rows → length (flat rows) ≡ length rows * width
-flat_len width rows each = counted width rows (recursion_from_All (λ row. length row ≡ width) rows each)
-
-cut : (width : ℕ) (rows : List (List (List ℕ))) → AllByRecursion (λ row. length row ≡ width) rows → rows_from width (length rows) (flat rows) ≡ rows
-unfolding rows_from
-cut width [] each = refl
-cut width (row ∷ rows) each =
-    let first : take width (row ++ flat rows) ≡ row = ap (λ (n : ℕ). take n (row ++ flat rows)) (sym each.0) ∙ take-append_seam row (flat rows) in
-    let others : drop width (row ++ flat rows) ≡ flat rows = ap (λ (n : ℕ). drop n (row ++ flat rows)) (sym each.0) ∙ drop-append_seam row (flat rows) in
-    ap (λ (r : List (List ℕ)). r ∷ rows_from width (length rows) (drop width (row ++ flat rows))) first
-    ∙ ap (λ (t : List (List ℕ)). row ∷ rows_from width (length rows) t) others
-    ∙ ap (λ (t : List (List (List ℕ))). row ∷ t) (cut width rows each.1)
+flat_len width [] each = omega arith
+flat_len width (row ∷ rows) each =
+    length-append row (flat rows)
+    ∙ ap (λ (n : ℕ). length row + n) (flat_len width rows (All-tail (λ r. length r ≡ width) row rows each))
+    ∙ ap (λ (n : ℕ). n + length rows * width) (All-head (λ r. length r ≡ width) row rows each)
+    ∙ omega arith
 
 -- and, cut again, they are the rows
 pub flat_cut : (width : ℕ) (rows : List (List (List ℕ))) → All (λ row. length row ≡ width) rows → rows_from width (length rows) (flat rows) ≡ rows
-flat_cut width rows each = cut width rows (recursion_from_All (λ row. length row ≡ width) rows each)
+unfolding rows_from
+flat_cut width [] each = refl
+flat_cut width (row ∷ rows) each =
+    let wide = sym (All-head (λ r. length r ≡ width) row rows each) in
+    let first : take width (row ++ flat rows) ≡ row = ap (λ (n : ℕ). take n (row ++ flat rows)) wide ∙ take-append_seam row (flat rows) in
+    let others : drop width (row ++ flat rows) ≡ flat rows = ap (λ (n : ℕ). drop n (row ++ flat rows)) wide ∙ drop-append_seam row (flat rows) in
+    ap (λ (r : List (List ℕ)). r ∷ rows_from width (length rows) (drop width (row ++ flat rows))) first
+    ∙ ap (λ (t : List (List ℕ)). row ∷ rows_from width (length rows) t) others
+    ∙ ap (λ (t : List (List (List ℕ))). row ∷ t) (flat_cut width rows (All-tail (λ r. length r ≡ width) row rows each))
 
 pub length-rows_from : (width count : ℕ) (fields : List (List ℕ)) → length (rows_from width count fields) ≡ count
 unfolding rows_from
@@ -77,19 +76,16 @@ ones zero (field ∷ fields) fits = cc fits
 ones (suc count) [] fits = cc fits
 ones (suc count) (field ∷ fields) fits = ap (λ (t : List (List (List ℕ))). (field ∷ []) ∷ t) (ones count fields (omega (arith, fits)))
 
-one_wide : (width count : ℕ) (fields : List (List ℕ)) → length fields ≡ count * width → AllByRecursion (λ row. length row ≡ 1) (rows_from width count fields)
-    → key_rows fields ≡ rows_from width count fields
-unfolding rows_from
-one_wide width zero fields fits each = ones zero fields (omega (arith, fits))
-one_wide width (suc count) fields fits each =
-    let one : width ≡ 1 = omega (arith, each.0, length-take width fields, fits) in
-    let len = rw one at fits in
-    ones (suc count) fields (omega (arith, len)) ∙ ap (λ (n : ℕ). rows_from n (suc count) fields) (sym one)
-
 -- the fields of rows that have one each
 pub singles : (width count : ℕ) (fields : List (List ℕ)) → length fields ≡ count * width → All (λ row. length row ≡ 1) (rows_from width count fields)
     → key_rows fields ≡ rows_from width count fields
-singles width count fields fits each = one_wide width count fields fits (recursion_from_All (λ row. length row ≡ 1) (rows_from width count fields) each)
+unfolding rows_from
+singles width zero fields fits each = ones zero fields (omega (arith, fits))
+singles width (suc count) fields fits each =
+    let first = All-head (λ r. length r ≡ 1) (take width fields) (rows_from width count (drop width fields)) each in
+    let one : width ≡ 1 = omega (arith, first, length-take width fields, fits) in
+    let len = rw one at fits in
+    ones (suc count) fields (omega (arith, len)) ∙ ap (λ (n : ℕ). rows_from n (suc count) fields) (sym one)
 
 -- a field inside
 pub field_there : (fields : List (List ℕ)) (i : ℕ) → i < length fields → field_at fields i ≡ Some (get_or fields i [])

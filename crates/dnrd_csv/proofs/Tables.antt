@@ -32,6 +32,5 @@ pub refuses : (columns : List Form) (key : ℕ) (bytes : List ℕ) (f : TableErr
 refuses columns key bytes fault.NotUtf8 wrong = wrong
 refuses columns key bytes fault.NotRows wrong = wrong
 refuses columns key bytes fault.ColumnCount wrong = wrong
-refuses columns key bytes fault.FieldForm wrong = absurd wrong
-refuses columns key bytes fault.DuplicateKey wrong = absurd wrong
 refuses columns key bytes fault.OutOfMemory wrong = tt
+refuses columns key bytes _ wrong = absurd wrong

@@ -87,12 +87,9 @@ walked_none text width reader fields at empty partial = record {
 -- what is refused where a row is to follow
 pub refused_rest : (text : List ℕ) (width : ℕ) (reader : Reader (Bor (List ℕ))) (fields : Row) (count : ℕ) (even : Bool) (rest : List ℕ)
     → Walked text width reader fields count even rest → IsUtf8 text → rest ≢ [] → (f : TableError) → RefusesRow rest f → RefusesRows width text f
-refused_rest text width reader fields count even rest walked utf8 some fault.NotUtf8 wrong = absurd wrong
 refused_rest text width reader fields count even rest walked utf8 some fault.NotRows wrong = (utf8, not_rows text walked.all rest walked.in_form walked.text_is some wrong)
-refused_rest text width reader fields count even rest walked utf8 some fault.ColumnCount wrong = absurd wrong
-refused_rest text width reader fields count even rest walked utf8 some fault.FieldForm wrong = absurd wrong
-refused_rest text width reader fields count even rest walked utf8 some fault.DuplicateKey wrong = absurd wrong
 refused_rest text width reader fields count even rest walked utf8 some fault.OutOfMemory wrong = tt
+refused_rest text width reader fields count even rest walked utf8 some _ wrong = absurd wrong
 
 -- at the end the text is that of the rows
 pub walked_text : (text : List ℕ) (width : ℕ) (reader : Reader (Bor (List ℕ))) (fields : Row) (count : ℕ) (even : Bool) (rest : List ℕ)

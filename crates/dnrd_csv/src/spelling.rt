@@ -8,6 +8,7 @@ use csv::ByteRecord;
 use std::alloc::AllocError;
 
 /// The field at a place.
+#[tactic(auto, using(crate::proofs::RowLemmas::field_there))]
 pub fn field_at(fields: &ByteRecord, i: usize) -> &[u8]
     requires { i < length (fields_of fields.now) }
     ensures { result.now ≡ get_or (fields_of fields.now) i [] }

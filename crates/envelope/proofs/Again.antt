@@ -1,11 +1,11 @@
 -- The JSON value of an envelope in form is read as the envelope.
-use Rattle.std.proofs.Common.{◌≡◌, ℕ, ◌≤◌, Bool, true, cond, List, [], ◌∷◌, ◌++◌, length, take, map, codes, Option, Some, None, option_map, option_and_then, refl, ap, ◌∙◌, arith, IsTrue, le-leb, nat_le}
+use Rattle.std.proofs.Common.{◌≡◌, ℕ, ◌≤◌, Bool, true, cond, List, [], ◌∷◌, ◌++◌, length, take, get_or, map, codes, Option, Some, None, option_map, option_and_then, refl, ap, ◌∙◌, arith, IsTrue, le-leb}
 use Rattle.std.specs.Prelude.{IfSome, All, is_none}
-use Rattle.std.specs.List.{AllByRecursion, list_all}
+use Rattle.std.specs.List.{list_all}
 use Rattle.std.specs.Result.{result_ok}
-use Rattle.std.proofs.lemmas.List.Elements.{recursion_from_All}
+use Rattle.std.proofs.lemmas.List.Elements.{All-head, All-tail}
 use Rattle.std.proofs.lemmas.List.{take_at}
-use Rattle.std.proofs.lemmas.Bool.{and_from}
+use Rattle.std.proofs.lemmas.Bool.Decides.{Decides-by_and}
 use Rattle.hex.specs.Hex.{encode_lower}
 use Rattle.hex.proofs.HexLemmas.{decode_sized-encode_lower}
 use Rattle.schedule.specs.Reading.{day_at}
@@ -25,8 +25,9 @@ use Rattle.envelope.specs.Uri.{is_uri}
 use Rattle.envelope.specs.declared.envelope.FileEntry.{FileEntry}
 use Rattle.envelope.specs.declared.envelope.Count.{Count}
 use Rattle.envelope.specs.Envelope.{Env, IsFile, IsCount, AreDeletes, FitsKind, IsEnvelope, file_length_max, type_text}
-use Rattle.envelope.specs.JsonReading.{◌>>=◌, number_at, text_at, digest_at, file_at, uri_at, each_at, count_at, counts_of, short_list, files_at, uris_at, counts_at, kind_at, deletes_member_at, deletes_at, id_at, prev_id_at, watermark_at, tld_at, header_at, menu_at, resend_at, env_at}
-use Rattle.envelope.proofs.Values.{members_from, file_data, files_data, count_pair, counts_data, header_data, uris_data, menu_data, watermark_data, whole, env_data}
+use Rattle.envelope.specs.JsonReading.{◌>>=◌, number_at, text_at, digest_at, file_at, uri_at, each_at, count_at, counts_of, files_at, uris_at, counts_at, kind_at, deletes_member_at, deletes_at, id_at, prev_id_at, watermark_at, tld_at, header_at, menu_at, resend_at, env_at}
+use Rattle.envelope.proofs.Values.{members_from, file_data, files_data, count_pair, counts_data, header_data, menu_data, watermark_data, env_with, env_data}
+use Rattle.envelope.proofs.Plain.{IsUri}
 
 if_true : {A : Type 0} (b : Bool) (x : A) → b ≡ true → cond b (Some x) None ≡ Some x
 if_true b x h = ap (λ t. cond t (Some x) None) h
@@ -52,138 +53,61 @@ file_again : (f : FileEntry) → IsFile f → file_at (file_data f) ≡ Some f
 unfolding file_at text_at
 file_again f h = rw (number_again file_length_max f.length h.small, table_at-table_text f.name, digest_again f h) refl
 
-each_again : {X : Type 0} (f : Data → Option X) (g : X → Data) (xs : List X) → AllByRecursion (λ x. f (g x) ≡ Some x) xs → each_at f (items_of (map g xs)) ≡ Some xs
+each_again : {X : Type 0} (P : X → Type 0) (f : Data → Option X) (g : X → Data) → ((x : X) → P x → f (g x) ≡ Some x) → (xs : List X) → All P xs → each_at f (items_of (map g xs)) ≡ Some xs
 unfolding each_at
-each_again f g [] h = refl
-each_again f g (x ∷ xs) h =
-    ap (λ o. o >>= λ y. each_at f (items_of (map g xs)) >>= λ ys. Some (y ∷ ys)) h.0 ∙ ap (λ o. o >>= λ ys. Some (x ∷ ys)) (each_again f g xs h.1)
-
-weaker : {X : Type 0} (P Q : X → Type 0) → ((x : X) → P x → Q x) → (xs : List X) → AllByRecursion P xs → AllByRecursion Q xs
-weaker P Q h [] p = tt
-weaker P Q h (x ∷ xs) p = (h x p.0, weaker P Q h xs p.1)
-
-few_again : {X : Type 0} (limit : ℕ) (xs : List X) → length xs ≤ limit → short_list limit xs ≡ Some xs
-few_again limit xs h = if_true _ xs (le-leb (length xs) limit h)
+each_again P f g again [] h = refl
+each_again P f g again (x ∷ xs) h = rw (again x (All-head P x xs h), each_again P f g again xs (All-tail P x xs h)) refl
 
 files_again : (limit : ℕ) (fs : List FileEntry) → length fs ≤ limit → All IsFile fs → files_at limit (files_data fs) ≡ Some fs
 unfolding files_at
-files_again limit fs small h =
-    ap (λ o. o >>= λ gs. short_list limit gs) (each_again file_at file_data fs (weaker IsFile (λ f. file_at (file_data f) ≡ Some f) file_again fs (recursion_from_All IsFile fs h)))
-    ∙ few_again limit fs small
+files_again limit fs small h = rw (each_again IsFile file_at file_data file_again fs h, le-leb (length fs) limit small) refl
 
-uri_again : (u : List ℕ) → IsTrue (is_uri u) → uri_at (string u) ≡ Some u
+uri_again : (u : List ℕ) → IsUri u → uri_at (string u) ≡ Some u
 unfolding uri_at
 uri_again u h = if_true (is_uri u) u h
 
-uris_again : (us : List (List ℕ)) → 1 ≤ length us → length us ≤ 16 → All (λ u. IsTrue (is_uri u)) us → uris_at (uris_data us) ≡ Some us
-unfolding uris_at
-uris_again us some small h =
-    ap (λ o. o >>= λ vs. cond (nat_le 1 (length vs)) (short_list 16 vs) None)
-    (each_again uri_at string us (weaker (λ u. IsTrue (is_uri u)) (λ u. uri_at (string u) ≡ Some u) uri_again us (recursion_from_All (λ u. IsTrue (is_uri u)) us h)))
-    ∙ ap (λ b. cond b (short_list 16 us) None) (le-leb 1 (length us) some) ∙ few_again 16 us small
+menu_again : (us : List (List ℕ)) → 1 ≤ length us → length us ≤ 16 → All IsUri us → menu_at (menu_data us) ≡ Some us
+unfolding menu_at uris_at
+menu_again us some small h = rw (each_again IsUri uri_at string uri_again us h, le-leb 1 (length us) some, le-leb (length us) 16 small) refl
 
 count_again : (c : Count) → IsCount c → count_at c.uri (number (unsigned c.count)) ≡ Some c
 unfolding count_at
 count_again c h =
-    let wrap : List ℕ → ℕ → Count = λ u n. record { uri = u; count = n } in
     let most : c.count ≤ 4294967295 = omega (arith, h.count) in
-    ap (λ o. o >>= λ u. number_at 4294967295 (number (unsigned c.count)) >>= λ n. Some (wrap u n)) (if_true (is_uri c.uri) c.uri h.uri)
-    ∙ ap (λ o. o >>= λ n. Some (wrap c.uri n)) (number_again 4294967295 c.count most)
+    rw (if_true (is_uri c.uri) c.uri h.uri, number_again 4294967295 c.count most) refl
 
-each_count_again : (cs : List Count) → AllByRecursion IsCount cs → counts_of (members_from (map count_pair cs)) ≡ Some cs
+each_count_again : (cs : List Count) → All IsCount cs → counts_of (members_from (map count_pair cs)) ≡ Some cs
 unfolding counts_of
 each_count_again [] h = refl
-each_count_again (c ∷ cs) h =
-    ap (λ o. o >>= λ x. counts_of (members_from (map count_pair cs)) >>= λ xs. Some (x ∷ xs)) (count_again c h.0) ∙ ap (λ o. o >>= λ xs. Some (c ∷ xs)) (each_count_again cs h.1)
+each_count_again (c ∷ cs) h = rw (count_again c (All-head IsCount c cs h), each_count_again cs (All-tail IsCount c cs h)) refl
 
 counts_again : (cs : List Count) → length cs ≤ 16 → All IsCount cs → counts_at (counts_data cs) ≡ Some cs
 unfolding counts_at
-counts_again cs small h = ap (λ o. o >>= λ xs. short_list 16 xs) (each_count_again cs (recursion_from_All IsCount cs h)) ∙ few_again 16 cs small
-
-tld_again : (cs : List Count) (t : List ℕ) → IsTld t → tld_at (header_data cs t) ≡ Some t
-unfolding tld_at text_at
-tld_again cs t h = if_true (is_tld t) t ((is_tld-IsTld t).1 h)
+counts_again cs small h = rw (each_count_again cs h, le-leb (length cs) 16 small) refl
 
 header_again : (cs : List Count) (t : List ℕ) → length cs ≤ 16 → All IsCount cs → IsTld t → header_at (header_data cs t) ≡ Some (cs, t)
-unfolding header_at
-header_again cs t small h ht = rw (counts_again cs small h, tld_again cs t ht) refl
+unfolding header_at tld_at text_at
+header_again cs t small h ht = rw (counts_again cs small h, if_true (is_tld t) t ((is_tld-IsTld t).1 ht)) refl
 
-menu_again : (us : List (List ℕ)) → 1 ≤ length us → length us ≤ 16 → All (λ u. IsTrue (is_uri u)) us → menu_at (menu_data us) ≡ Some us
-unfolding menu_at
-menu_again us some small h = uris_again us some small h
+-- what stands under each name
+abbrev found_in : Data → List (Option Data)
+found_in d = map (λ name. get name d) (
+    codes "contents" ∷ codes "deletes" ∷ codes "header" ∷ codes "id" ∷ codes "prevId" ∷ codes "rdeMenu" ∷ codes "resend" ∷ codes "type" ∷ codes "watermark" ∷ [])
 
-get_contents : (contents : Data) (deletes : Option Data) (header id : Data) (prev : Option Data) (menu resend kind watermark : Data) → get (codes "contents") (whole contents deletes header id prev menu resend kind watermark) ≡ Some contents
-unfolding whole
-get_contents c None h i None m r k w = refl
-get_contents c None h i (Some p) m r k w = refl
-get_contents c (Some d) h i None m r k w = refl
-get_contents c (Some d) h i (Some p) m r k w = refl
+found : (deletes prev : Option Data) (v : Env) → found_in (env_with deletes prev v)
+    ≡ Some (files_data v.contents) ∷ deletes ∷ Some (header_data v.count v.tld) ∷ Some (string v.id) ∷ prev ∷ Some (menu_data v.object_uris)
+    ∷ Some (number (unsigned v.resend)) ∷ Some (string (type_text v.kind)) ∷ Some (watermark_data v.watermark) ∷ []
+unfolding env_with
+found None None v = refl
+found None (Some p) v = refl
+found (Some d) None v = refl
+found (Some d) (Some p) v = refl
 
-get_header : (contents : Data) (deletes : Option Data) (header id : Data) (prev : Option Data) (menu resend kind watermark : Data) → get (codes "header") (whole contents deletes header id prev menu resend kind watermark) ≡ Some header
-unfolding whole
-get_header c None h i None m r k w = refl
-get_header c None h i (Some p) m r k w = refl
-get_header c (Some d) h i None m r k w = refl
-get_header c (Some d) h i (Some p) m r k w = refl
-
-get_id : (contents : Data) (deletes : Option Data) (header id : Data) (prev : Option Data) (menu resend kind watermark : Data) → get (codes "id") (whole contents deletes header id prev menu resend kind watermark) ≡ Some id
-unfolding whole
-get_id c None h i None m r k w = refl
-get_id c None h i (Some p) m r k w = refl
-get_id c (Some d) h i None m r k w = refl
-get_id c (Some d) h i (Some p) m r k w = refl
-
-get_menu : (contents : Data) (deletes : Option Data) (header id : Data) (prev : Option Data) (menu resend kind watermark : Data) → get (codes "rdeMenu") (whole contents deletes header id prev menu resend kind watermark) ≡ Some menu
-unfolding whole
-get_menu c None h i None m r k w = refl
-get_menu c None h i (Some p) m r k w = refl
-get_menu c (Some d) h i None m r k w = refl
-get_menu c (Some d) h i (Some p) m r k w = refl
-
-get_resend : (contents : Data) (deletes : Option Data) (header id : Data) (prev : Option Data) (menu resend kind watermark : Data) → get (codes "resend") (whole contents deletes header id prev menu resend kind watermark) ≡ Some resend
-unfolding whole
-get_resend c None h i None m r k w = refl
-get_resend c None h i (Some p) m r k w = refl
-get_resend c (Some d) h i None m r k w = refl
-get_resend c (Some d) h i (Some p) m r k w = refl
-
-get_kind : (contents : Data) (deletes : Option Data) (header id : Data) (prev : Option Data) (menu resend kind watermark : Data) → get (codes "type") (whole contents deletes header id prev menu resend kind watermark) ≡ Some kind
-unfolding whole
-get_kind c None h i None m r k w = refl
-get_kind c None h i (Some p) m r k w = refl
-get_kind c (Some d) h i None m r k w = refl
-get_kind c (Some d) h i (Some p) m r k w = refl
-
-get_watermark : (contents : Data) (deletes : Option Data) (header id : Data) (prev : Option Data) (menu resend kind watermark : Data) → get (codes "watermark") (whole contents deletes header id prev menu resend kind watermark) ≡ Some watermark
-unfolding whole
-get_watermark c None h i None m r k w = refl
-get_watermark c None h i (Some p) m r k w = refl
-get_watermark c (Some d) h i None m r k w = refl
-get_watermark c (Some d) h i (Some p) m r k w = refl
-
-get_deletes : (contents : Data) (deletes : Option Data) (header id : Data) (prev : Option Data) (menu resend kind watermark : Data) → get (codes "deletes") (whole contents deletes header id prev menu resend kind watermark) ≡ deletes
-unfolding whole
-get_deletes c None h i None m r k w = refl
-get_deletes c None h i (Some p) m r k w = refl
-get_deletes c (Some d) h i None m r k w = refl
-get_deletes c (Some d) h i (Some p) m r k w = refl
-
-get_prev : (contents : Data) (deletes : Option Data) (header id : Data) (prev : Option Data) (menu resend kind watermark : Data) → get (codes "prevId") (whole contents deletes header id prev menu resend kind watermark) ≡ prev
-unfolding whole
-get_prev c None h i None m r k w = refl
-get_prev c None h i (Some p) m r k w = refl
-get_prev c (Some d) h i None m r k w = refl
-get_prev c (Some d) h i (Some p) m r k w = refl
-
-all_named : (ds : List FileEntry) → AllByRecursion (λ f. IsTrue (has_deletes f.name)) ds → list_all (λ f. has_deletes f.name) ds ≡ true
-all_named [] h = refl
-all_named (f ∷ ds) h = and_from _ _ h.0 (all_named ds h.1)
+all_named : (ds : List FileEntry) → All (λ f. IsTrue (has_deletes f.name)) ds → list_all (λ f. has_deletes f.name) ds ≡ true
+all_named ds h = (Decides-by_and (λ f. has_deletes f.name) (λ f. IsTrue (has_deletes f.name)) (list_all (λ f. has_deletes f.name)) (λ f. (λ e. e, λ e. e)) refl (λ _ _. refl) ds).1 h
 
 deleted_again : (ds : List FileEntry) (d : Data) → AreDeletes ds → get (codes "deletes") d ≡ Some (files_data ds) → deletes_member_at d ≡ Some (Some ds)
-deleted_again ds d h e =
-    ap (λ o. o >>= λ x. files_at 4 x >>= λ fs. cond (list_all (λ f. has_deletes f.name) fs) (Some (Some fs)) None) e
-    ∙ ap (λ o. o >>= λ fs. cond (list_all (λ f. has_deletes f.name) fs) (Some (Some fs)) None) (files_again 4 ds h.few h.files)
-    ∙ ap (λ b. cond b (Some (Some ds)) None) (all_named ds (recursion_from_All (λ f. IsTrue (has_deletes f.name)) ds h.named))
+deleted_again ds d h e = rw (e, files_again 4 ds h.few h.files, all_named ds h.named) refl
 
 deletes_again : (k : Kind) (o : Option (List FileEntry)) (d : Data) → FitsKind k o → get (codes "deletes") d ≡ option_map files_data o → deletes_at k d ≡ Some o
 unfolding deletes_at
@@ -217,28 +141,21 @@ watermark_again d day e h =
 pub env_again : (v : Env) → IsEnvelope v → env_at (env_data v) ≡ Some v
 unfolding env_at
 env_again v h =
-    let c = files_data v.contents in
-    let ds = option_map files_data v.deletes in
-    let hd = header_data v.count v.tld in
-    let i = string v.id in
-    let p = option_map string v.prev_id in
-    let m = menu_data v.object_uris in
-    let r = number (unsigned v.resend) in
-    let k = string (type_text v.kind) in
-    let w = watermark_data v.watermark in
-    let d = whole c ds hd i p m r k w in
+    let d = env_data v in
+    let all = found (option_map files_data v.deletes) (option_map string v.prev_id) v in
+    let at = λ (k : ℕ). ap (λ os. get_or os k None) all in
     rw (
-      get_contents c ds hd i p m r k w,
+      at 0,
       files_again 8 v.contents h.contents_few h.contents,
-      text_again (codes "type") d (type_text v.kind) (get_kind c ds hd i p m r k w),
+      text_again (codes "type") d (type_text v.kind) (at 7),
       kind_again v.kind,
-      deletes_again v.kind v.deletes d h.deletes (get_deletes c ds hd i p m r k w),
-      get_header c ds hd i p m r k w,
+      deletes_again v.kind v.deletes d h.deletes (at 1),
+      at 2,
       header_again v.count v.tld h.count_few h.counts h.tld,
-      id_again (codes "id") d v.id (get_id c ds hd i p m r k w) h.id,
-      prev_again v.prev_id d (get_prev c ds hd i p m r k w) h.prev_id,
-      get_menu c ds hd i p m r k w,
+      id_again (codes "id") d v.id (at 3) h.id,
+      prev_again v.prev_id d (at 4) h.prev_id,
+      at 5,
       menu_again v.object_uris h.object_uris_some h.object_uris_few h.object_uris,
-      resend_again d v.resend (get_resend c ds hd i p m r k w) h.resend,
-      watermark_again d v.watermark (get_watermark c ds hd i p m r k w) h.watermark,
+      resend_again d v.resend (at 6) h.resend,
+      watermark_again d v.watermark (at 8) h.watermark,
     ) refl

@@ -1,6 +1,8 @@
 -- Reading the items of an array one after the other, as a loop does.
-use Rattle.std.proofs.Common.{◌≡◌, ℕ, ◌+◌, ◌<◌, ◌≤◌, List, [], ◌∷◌, ◌++◌, length, drop, get_or, map, Option, Some, None, option_map, String, Global, string_bytes, refl, sym, ap, ◌∙◌, append_assoc, Bool, Less}
-use Rattle.std.proofs.lemmas.Option.{cond_some, same_Some}
+use Rattle.std.proofs.Common.{◌≡◌, ℕ, ◌+◌, ◌<◌, ◌≤◌, List, [], ◌∷◌, ◌++◌, length, drop, get_or, map, Option, Some, None, option_map, String, Global, string_bytes, refl, sym, ap, ◌∙◌, append_assoc, subst, Less}
+use Rattle.std.proofs.lemmas.Option.{cond_some, option_and_then_some, same_Some}
+use Rattle.std.specs.Prelude.{All}
+use Rattle.std.proofs.lemmas.List.Elements.{All-push}
 use Rattle.std.specs.List.{AllByRecursion}
 use Rattle.std.specs.List.Sorted.{IsStrictlySortedBy}
 use Rattle.std.specs.Map.{keys_of}
@@ -9,7 +11,8 @@ use Rattle.std.specs.Cmp.Lexicographic.{slice_cmp}
 use Rattle.std.specs.Ordering.{nat_cmp}
 use Rattle.deposit_name.specs.Identifiers.{passing_text}
 use Rattle.envelope.specs.Uri.{is_uri}
-use Rattle.std.proofs.lemmas.List.{append-nil, drop_more, drop_all}
+use Rattle.envelope.specs.Envelope.{IsCount, UrisRise}
+use Rattle.std.proofs.lemmas.List.{append-nil, drop_more, drop_all, map_push}
 use Rattle.serde_json.specs.Data.{Data}
 use Rattle.serde_json.specs.View.{view, items_view, members_view}
 use Rattle.serde_json.specs.declared.value.Value.{Value}
@@ -27,72 +30,81 @@ regroup front x None = refl
 nothing_more : {X : Type 0} (front : List X) → with_front front (Some []) ≡ Some front
 nothing_more front = ap Some (append-nil front)
 
-pub each_more : {X : Type 0} (f : Data → Option X) (front : List X) (vs : List Value) (i : ℕ) (v : Value) (x : X) (total : Option (List X)) → i < length vs → v ≡ get_or vs i v → Some x ≡ f (view v)
-    → with_front front (each_at f (items_view (drop i vs))) ≡ total → with_front (front ++ x ∷ []) (each_at f (items_view (drop (i + 1) vs))) ≡ total
-unfolding each_at
-each_more f front vs i v x total within is found so_far =
-    let here : drop i vs ≡ v ∷ drop (i + 1) vs = drop_more vs i v within ∙ ap (λ w. w ∷ drop (i + 1) vs) (sym is) in
-    let one : with_front front (each_at f (items_view (drop i vs))) ≡ with_front (front ++ x ∷ []) (each_at f (items_view (drop (i + 1) vs))) = rw (here, ← found) (regroup front x (each_at f (items_view (drop (i + 1) vs)))) in
-    sym one ∙ so_far
+-- the first so many items have been read, and each is in form
+pub record ReadSoFar {X : Type 0} (f : Data → Option X) (P : X → Type 0) (vs : List Value) (i : ℕ) (front : List X) : Type 0 where
+  pub so_far : with_front front (each_at f (items_view (drop i vs))) ≡ each_at f (items_view vs)
+  pub valid : All P front
 
-pub each_stops : {X : Type 0} (f : Data → Option X) (front : List X) (vs : List Value) (i : ℕ) (v : Value) (total : Option (List X)) → i < length vs → v ≡ get_or vs i v → None ≡ f (view v)
-    → with_front front (each_at f (items_view (drop i vs))) ≡ total → total ≡ None
-unfolding each_at
-each_stops f front vs i v total within is found so_far =
-    let here : drop i vs ≡ v ∷ drop (i + 1) vs = drop_more vs i v within ∙ ap (λ w. w ∷ drop (i + 1) vs) (sym is) in
-    let one : with_front front (each_at f (items_view (drop i vs))) ≡ None = rw (here, ← found) refl in
-    sym so_far ∙ one
+module _ {X : Type 0} {f : Data → Option X} {P : X → Type 0} {vs : List Value} {i : ℕ} {front : List X} (read : ReadSoFar f P vs i front) where
+  pub each_more : {v : Value} {x : X} → i < length vs → v ≡ get_or vs i v → Some x ≡ f (view v) → P x → ReadSoFar f P vs (i + 1) (front ++ x ∷ [])
+  unfolding each_at
+  each_more {v} {x} within is found in_form =
+      let left = each_at f (items_view (drop (i + 1) vs)) in
+      let here : with_front front (each_at f (items_view (drop i vs))) ≡ with_front (front ++ x ∷ []) left = rw (drop_more vs i v within, ← is, ← found) (regroup front x left) in
+      record { so_far = sym here ∙ read.so_far; valid = All-push P front x read.valid in_form }
 
-pub each_done : {X : Type 0} (f : Data → Option X) (front : List X) (vs : List Value) (i : ℕ) (total : Option (List X)) → length vs ≤ i
-    → with_front front (each_at f (items_view (drop i vs))) ≡ total → total ≡ Some front
-unfolding each_at
-each_done f front vs i total past so_far =
-    let here : drop i vs ≡ [] = drop_all i vs past in
-    let one : with_front front (each_at f (items_view (drop i vs))) ≡ Some front = rw here (nothing_more front) in
-    sym so_far ∙ one
+  pub each_stops : {v : Value} → i < length vs → v ≡ get_or vs i v → None ≡ f (view v) → each_at f (items_view vs) ≡ None
+  unfolding each_at
+  each_stops {v} within is found = sym read.so_far ∙ rw (drop_more vs i v within, ← is, ← found) refl
+
+  pub each_done : length vs ≤ i → each_at f (items_view vs) ≡ Some front
+  unfolding each_at
+  each_done past = sym read.so_far ∙ rw (drop_all i vs past) (nothing_more front)
 
 -- ---- the members of an object
 
 abbrev pub Entry : Type 0
 Entry = String Global × Value
 
-pub counts_more : (front : List Count) (e : Entry) (rest : List Entry) (x : Count) (total : Option (List Count)) → Some x ≡ count_at (string_bytes e.0) (view e.1)
-    → with_front front (counts_of (members_view (e ∷ rest))) ≡ total → with_front (front ++ x ∷ []) (counts_of (members_view rest)) ≡ total
-unfolding counts_of
-counts_more front e rest x total found so_far =
-    let one : with_front front (counts_of (members_view (e ∷ rest))) ≡ with_front (front ++ x ∷ []) (counts_of (members_view rest)) = rw (← found) (regroup front x (counts_of (members_view rest))) in
-    sym one ∙ so_far
-
-pub counts_stop : (front : List Count) (e : Entry) (rest : List Entry) (total : Option (List Count)) → None ≡ count_at (string_bytes e.0) (view e.1)
-    → with_front front (counts_of (members_view (e ∷ rest))) ≡ total → total ≡ None
-unfolding counts_of
-counts_stop front e rest total found so_far =
-    let one : with_front front (counts_of (members_view (e ∷ rest))) ≡ None = rw (← found) refl in
-    sym so_far ∙ one
-
-pub counts_done : (front : List Count) (total : Option (List Count)) → with_front front (counts_of (members_view [])) ≡ total → total ≡ Some front
-unfolding counts_of
-counts_done front total so_far = sym so_far ∙ nothing_more front
-
 -- a count that was read has its name's URI
-passing_is : (test : List ℕ → Bool) (k u : List ℕ) → passing_text test k ≡ Some u → u ≡ k
-passing_is test k u e = sym (cond_some (test k) k u e).1
-
-count_parts : (o : Option (List ℕ)) (m : Option ℕ) (x : Count) → Some x ≡ (o >>= λ u. m >>= λ n. Some (record { uri = u; count = n })) → o ≡ Some x.uri
-count_parts None m x e = cc
-count_parts (Some u) None x e = cc
-count_parts (Some u) (Some n) x e = ap Some (ap (λ c. c.uri) (same_Some (record { uri = u; count = n }) x (sym e)))
-
-pub count_at-uri : (k : List ℕ) (d : Data) (x : Count) → Some x ≡ count_at k d → x.uri ≡ k
+count_at-uri : (k : List ℕ) (d : Data) (x : Count) → Some x ≡ count_at k d → x.uri ≡ k
 unfolding count_at
-count_at-uri k d x e = passing_is is_uri k x.uri (count_parts (passing_text is_uri k) (number_at 4294967295 d) x e)
+count_at-uri k d x e =
+    option_and_then_some (λ u. number_at 4294967295 d >>= λ n. Some (record { uri = u; count = n })) (passing_text is_uri k) x (sym e) (λ u passed more.
+    option_and_then_some (λ n. Some (record { uri = u; count = n })) (number_at 4294967295 d) x more (λ n _ last.
+    sym ((cond_some (is_uri k) k u passed).1 ∙ ap (λ c. c.uri) (same_Some _ x last))))
 
 -- the names of a map rise
 above : (k : String Global) (es : List Entry) → AllByRecursion (λ y. string_cmp k y ≡ Less) (keys_of es) → AllByRecursion (λ y. slice_cmp nat_cmp (string_bytes k) y ≡ Less) (map (λ e. string_bytes e.0) es)
 above k [] h = tt
 above k (e ∷ es) h = (h.0, above k es h.1)
 
-pub sorted_names : (es : List Entry) → IsStrictlySortedBy string_cmp (keys_of es) → IsStrictlySortedBy (slice_cmp nat_cmp) (map (λ e. string_bytes e.0) es)
+sorted_names : (es : List Entry) → IsStrictlySortedBy string_cmp (keys_of es) → IsStrictlySortedBy (slice_cmp nat_cmp) (map (λ e. string_bytes e.0) es)
 unfolding IsStrictlySortedBy
 sorted_names [] h = tt
 sorted_names (e ∷ es) h = (above e.0 es h.0, sorted_names es h.1)
+
+-- the members before those that are left have been read: each in form, and under its name
+pub record CountsSoFar (members left : List Entry) (front : List Count) : Type 0 where
+  pub so_far : with_front front (counts_of (members_view left)) ≡ counts_of (members_view members)
+  pub done : List Entry
+  pub parts : members ≡ done ++ left
+  pub named : map (λ c. c.uri) front ≡ map (λ e. string_bytes e.0) done
+  pub valid : All IsCount front
+
+module _ {members left : List Entry} {front : List Count} (read : CountsSoFar members left front) where
+  pub counts_more : {e : Entry} {rest : List Entry} {x : Count} {name : List ℕ} → left ≡ e ∷ rest → name ≡ string_bytes e.0 → Some x ≡ count_at name (view e.1) → IsCount x
+      → CountsSoFar members rest (front ++ x ∷ [])
+  unfolding counts_of
+  counts_more {e} {rest} {x} is named found in_form =
+      let found_there = rw named at found in
+      let here : with_front front (counts_of (members_view left)) ≡ with_front (front ++ x ∷ []) (counts_of (members_view rest)) = rw (is, ← found_there) (regroup front x (counts_of (members_view rest))) in
+      record {
+        so_far = sym here ∙ read.so_far;
+        done = read.done ++ e ∷ [];
+        parts = read.parts ∙ ap (λ es. read.done ++ es) is ∙ sym (append_assoc read.done (e ∷ []) rest);
+        named = map_push (λ c. c.uri) front x ∙ ap (λ us. us ++ x.uri ∷ []) read.named
+            ∙ ap (λ u. map (λ m. string_bytes m.0) read.done ++ u ∷ []) (count_at-uri (string_bytes e.0) (view e.1) x found_there) ∙ sym (map_push (λ m. string_bytes m.0) read.done e);
+        valid = All-push IsCount front x read.valid in_form;
+      }
+
+  pub counts_stop : {e : Entry} {rest : List Entry} {name : List ℕ} → left ≡ e ∷ rest → name ≡ string_bytes e.0 → None ≡ count_at name (view e.1) → counts_of (members_view members) ≡ None
+  unfolding counts_of
+  counts_stop is named found = let found_there = rw named at found in sym read.so_far ∙ rw (is, ← found_there) refl
+
+  pub counts_done : left ≡ [] → counts_of (members_view members) ≡ Some front
+  unfolding counts_of
+  counts_done is = sym read.so_far ∙ rw is (nothing_more front)
+
+  pub counts_rise : left ≡ [] → IsStrictlySortedBy string_cmp (keys_of members) → UrisRise front
+  counts_rise is sorted = rw read.named (sorted_names read.done (subst (λ es. IsStrictlySortedBy string_cmp (keys_of es)) (read.parts ∙ rw is (append-nil read.done)) sorted))

@@ -74,7 +74,7 @@ less_decides Less = (λ _. refl, λ _. refl)
 less_decides Equal = (λ e. cc e, λ e. cc e)
 less_decides Greater = (λ e. cc e, λ e. cc e)
 
-rise_decides : (texts : List (List ℕ)) → Decides (are_rising_texts texts) (IsStrictlySortedBy (slice_cmp nat_cmp) texts)
+pub rise_decides : (texts : List (List ℕ)) → Decides (are_rising_texts texts) (IsStrictlySortedBy (slice_cmp nat_cmp) texts)
 unfolding IsStrictlySortedBy
 rise_decides [] = (λ _. tt, λ _. refl)
 rise_decides (text ∷ texts) = Decides-and _ _ (

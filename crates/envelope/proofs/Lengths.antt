@@ -1,11 +1,10 @@
 -- How long the text of an envelope in form may be.
-use Rattle.std.proofs.Common.{◌≡◌, ℕ, ◌+◌, ◌*◌, ◌≤◌, ◌<◌, ◌&&◌, nat_le, List, [], ◌∷◌, ◌++◌, length, map, codes, decimal, Option, Some, None, arith, length-append, IsTrue}
+use Rattle.std.proofs.Common.{◌≡◌, ℕ, ◌+◌, ◌*◌, ◌≤◌, ◌<◌, ◌&&◌, nat_le, List, [], ◌∷◌, ◌++◌, length, map, codes, decimal, Option, Some, None, arith, length-append}
 use Rattle.std.specs.Prelude.{IfSome, All}
-use Rattle.std.specs.List.{AllByRecursion, join_with_byte, list_all}
+use Rattle.std.specs.List.{join_with_byte, list_all}
 use Rattle.std.proofs.lemmas.Bool.{and_parts, leb-true}
 use Rattle.std.proofs.lemmas.Fmt.{length-decimal-le}
-use Rattle.std.proofs.lemmas.List.{length-map}
-use Rattle.std.proofs.lemmas.List.Elements.{recursion_from_All}
+use Rattle.std.proofs.lemmas.List.Elements.{All-head, All-tail}
 use Rattle.hex.specs.Hex.{encode_lower, lower_digits}
 use Rattle.hex.proofs.HexLemmas.{length-encode_with}
 use Rattle.schedule.specs.Text.{day_text}
@@ -15,11 +14,12 @@ use Rattle.deposit_name.specs.Tables.{table_name_text}
 use Rattle.deposit_name.specs.declared.table.TableName.{TableName}
 use Rattle.deposit_name.specs.declared.table.TableName.TheVariants.{Domain, DomainContacts, DomainStatuses, DomainNameServers, Host, HostAddresses, Contact, Registrar}
 use Rattle.deposit_name.specs.declared.kinds.Kind.{Kind}
+use Rattle.envelope.proofs.Plain.{IsUri, deletes_in_form}
 use Rattle.deposit_name.specs.declared.kinds.Kind.TheVariants.{Full, Diff, Incr}
-use Rattle.envelope.specs.Uri.{is_uri, is_uri_byte}
+use Rattle.envelope.specs.Uri.{is_uri_byte}
 use Rattle.envelope.specs.declared.envelope.FileEntry.{FileEntry}
 use Rattle.envelope.specs.declared.envelope.Count.{Count}
-use Rattle.envelope.specs.Envelope.{Env, IsFile, IsCount, FitsKind, IsEnvelope, quoted_text, member_text, object_text, array_text, file_text, count_member, counts_text, files_text, header_text, menu_text, type_text, later_member, later_member_if, env_text, text_max}
+use Rattle.envelope.specs.Envelope.{Env, IsFile, IsCount, AreDeletes, IsEnvelope, quoted_text, member_text, object_text, array_text, file_text, count_member, counts_text, files_text, header_text, menu_text, type_text, later_member, later_member_if, env_text, text_max}
 
 -- ---- the parts of a text
 
@@ -46,20 +46,16 @@ object_most : (ms : List (List ℕ × List ℕ)) → length (object_text ms) ≤
 object_most ms = omega (arith, length-append (join_with_byte 44 (map member_text ms)) (125 ∷ []), members_most ms)
 
 -- items of less than 128 bytes with their commas
-items_most : (ts : List (List ℕ)) → AllByRecursion (λ t. length t < 128) ts → length (join_with_byte 44 ts) ≤ 128 * length ts
-items_most [] h = omega arith
-items_most (t ∷ []) h = omega (arith, h.0)
-items_most (t ∷ u ∷ ts) h = omega (arith, h.0, length-append t (44 ∷ join_with_byte 44 (u ∷ ts)), items_most (u ∷ ts) h.1)
-
-each_short : {X : Type 0} (P : X → Type 0) (text : X → List ℕ) → ((x : X) → P x → length (text x) < 128) → (xs : List X) → AllByRecursion P xs → AllByRecursion (λ t. length t < 128) (map text xs)
-each_short P text h [] p = tt
-each_short P text h (x ∷ xs) p = (h x p.0, each_short P text h xs p.1)
+items_most : {X : Type 0} (P : X → Type 0) (text : X → List ℕ) → ((x : X) → P x → length (text x) < 128) → (xs : List X) → All P xs → length (join_with_byte 44 (map text xs)) ≤ 128 * length xs
+items_most P text short [] h = omega arith
+items_most P text short (x ∷ []) h = omega (arith, short x (All-head P x [] h))
+items_most P text short (x ∷ y ∷ xs) h =
+    omega (arith, short x (All-head P x (y ∷ xs) h), length-append (text x) (44 ∷ join_with_byte 44 (map text (y ∷ xs))), items_most P text short (y ∷ xs) (All-tail P x (y ∷ xs) h))
 
 -- a list between two brackets
 list_most : {X : Type 0} (P : X → Type 0) (text : X → List ℕ) → ((x : X) → P x → length (text x) < 128) → (xs : List X) → All P xs
     → length (join_with_byte 44 (map text xs) ++ 93 ∷ []) ≤ 1 + 128 * length xs
-list_most P text h xs p =
-    omega (arith, length-append (join_with_byte 44 (map text xs)) (93 ∷ []), items_most (map text xs) (each_short P text h xs (recursion_from_All P xs p)), length-map xs text)
+list_most P text short xs h = omega (arith, length-append (join_with_byte 44 (map text xs)) (93 ∷ []), items_most P text short xs h)
 
 -- ---- the parts of an envelope
 
@@ -73,7 +69,7 @@ table_most HostAddresses = omega arith
 table_most Contact = omega arith
 table_most Registrar = omega arith
 
-uri_most : (u : List ℕ) → IsTrue (is_uri u) → length u ≤ 64
+uri_most : (u : List ℕ) → IsUri u → length u ≤ 64
 uri_most u h = leb-true (length u) 64 (and_parts (nat_le 1 (length u)) (nat_le (length u) 64) (and_parts (nat_le 1 (length u) && nat_le (length u) 64) (list_all is_uri_byte u) h).0).1
 
 file_most : (f : FileEntry) → IsFile f → length (file_text f) < 128
@@ -91,23 +87,20 @@ count_most c h =
     omega (arith, length-member (c.uri, decimal c.count), uri_most c.uri h.uri, n)
 
 counts_most : (cs : List Count) → All IsCount cs → length (counts_text cs) ≤ 2 + 128 * length cs
-counts_most cs h =
-    omega (arith, length-append (join_with_byte 44 (map count_member cs)) (125 ∷ []), items_most (map count_member cs) (each_short IsCount count_member count_most cs (recursion_from_All IsCount cs h)), length-map cs count_member)
+counts_most cs h = omega (arith, length-append (join_with_byte 44 (map count_member cs)) (125 ∷ []), items_most IsCount count_member count_most cs h)
 
-uris_most : (us : List (List ℕ)) → All (λ u. IsTrue (is_uri u)) us → length (array_text (map quoted_text us)) ≤ 2 + 128 * length us
-uris_most us h = omega (arith, list_most (λ u. IsTrue (is_uri u)) quoted_text (λ u g. omega (arith, length-quoted u, uri_most u g)) us h)
+uris_most : (us : List (List ℕ)) → All IsUri us → length (array_text (map quoted_text us)) ≤ 2 + 128 * length us
+uris_most us h = omega (arith, list_most IsUri quoted_text (λ u g. omega (arith, length-quoted u, uri_most u g)) us h)
 
 header_most : (cs : List Count) (tld : List ℕ) → All IsCount cs → length (header_text cs tld) ≤ 22 + 128 * length cs + length tld
 header_most cs tld h = omega (arith, object_most ((codes "count", counts_text cs) ∷ (codes "tld", quoted_text tld) ∷ []), counts_most cs h, length-quoted tld)
 
-menu_most : (us : List (List ℕ)) → All (λ u. IsTrue (is_uri u)) us → length (menu_text us) ≤ 32 + 128 * length us
+menu_most : (us : List (List ℕ)) → All IsUri us → length (menu_text us) ≤ 32 + 128 * length us
 menu_most us h = omega (arith, object_most ((codes "objURI", array_text (map quoted_text us)) ∷ (codes "version", quoted_text (codes "1.0")) ∷ []), uris_most us h)
 
-deletes_most : (k : Kind) (o : Option (List FileEntry)) → FitsKind k o → length (later_member_if (codes "deletes") files_text o) ≤ 600
-deletes_most k None h = omega arith
-deletes_most Full (Some ds) h = absurd h
-deletes_most Diff (Some ds) h = omega (arith, length-later (codes "deletes") (files_text ds), files_most ds h.files, h.few)
-deletes_most Incr (Some ds) h = omega (arith, length-later (codes "deletes") (files_text ds), files_most ds h.files, h.few)
+deletes_most : (o : Option (List FileEntry)) → IfSome o AreDeletes → length (later_member_if (codes "deletes") files_text o) ≤ 600
+deletes_most None h = omega arith
+deletes_most (Some ds) h = omega (arith, length-later (codes "deletes") (files_text ds), files_most ds h.files, h.few)
 
 prev_most : (o : Option (List ℕ)) → IfSome o IsDepositId → length (later_member_if (codes "prevId") quoted_text o) ≤ 30
 prev_most None h = omega arith
@@ -143,7 +136,7 @@ env_most v h =
       length-member (codes "contents", files_text v.contents),
       files_most v.contents h.contents,
       h.contents_few,
-      deletes_most v.kind v.deletes h.deletes,
+      deletes_most v.deletes (deletes_in_form v.kind v.deletes h.deletes),
       length-later (codes "header") (header_text v.count v.tld),
       header_most v.count v.tld h.counts,
       h.count_few,

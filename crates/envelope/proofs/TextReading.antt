@@ -1,34 +1,23 @@
 -- The frame and the envelope that are read of a text are those whose text it is.
 use Rattle.std.specs.Prelude.{◌↔◌, nat_lt}
-use Rattle.std.proofs.Common.{◌≡◌, ◌<◌, ◌+◌, ◌*◌, ◌-◌, ◌/◌, ◌%◌, ◌^◌, ◌++◌, ◌∷◌, ◌∙◌, [], ℕ, zero, suc, List, Option, Some, None, ap, append_assoc, arith, cond, drop, drop_at, length, length-append, option_and_then, refl, subst, sym, take, take_at, true, ◌&&◌}
+use Rattle.std.proofs.Common.{◌≡◌, ◌^◌, ◌++◌, ◌∙◌, ℕ, List, Option, Some, None, ap, cond, drop, drop_at, length, option_and_then, refl, subst, sym, take, take_at, true, ◌&&◌}
 use Rattle.std.specs.Str.{bytes_eq}
 use Rattle.std.proofs.lemmas.Bool.{and_from, and_parts, lt-ltb, ltb-true}
-use Rattle.std.proofs.lemmas.List.Sums.{fold-append}
-use Rattle.std.proofs.lemmas.Option.{cond_some, option_and_then_some}
+use Rattle.std.proofs.lemmas.List.{drop-drop}
+use Rattle.std.proofs.lemmas.Option.{cond_some, option_and_then_some, same_Some}
 use Rattle.std.proofs.lemmas.Slice.Eq.{bytes_eq-Decides}
-use Rattle.std.proofs.Math.Nat.{pow-succ'}
 use Rattle.serde_json.specs.Read.{read}
 use Rattle.envelope.specs.Envelope.{Env, IsEnvelope, env_text}
-use Rattle.envelope.specs.Frame.{IsFrame, fixed_digits, frame, with_length}
+use Rattle.envelope.specs.Frame.{IsFrame, frame, with_length}
 use Rattle.envelope.specs.JsonReading.{◌>>=◌, env_at}
 use Rattle.envelope.specs.Readers.{AreReaders, after_head, after_length, envelope_at, frame_at, length_shown, number_shown, parts_shown, spelled_env}
 use Rattle.envelope.proofs.Again.{env_again}
-use Rattle.envelope.proofs.Digits.{length-fixed_digits, without_length}
+use Rattle.envelope.proofs.Digits.{not_refused, number_again, one_refusal, without_length}
 use Rattle.envelope.proofs.FormDecided.{envelope_decides}
 use Rattle.envelope.proofs.Forms.{env_reads}
+use Rattle.envelope.proofs.Lengths.{env_most}
 
 -- ---- frames
-
--- a number is the one that its digits show
-number_again : (width n : ℕ) → n < 10 ^ width → number_shown (fixed_digits width n) ≡ n
-unfolding fixed_digits
-number_again zero n small = omega (arith, small)
-number_again (suc width) n small =
-    let power : 10 ^ suc width ≡ 10 * 10 ^ width = pow-succ' 10 width in
-    let front = number_again width (n / 10) (omega arith) in
-    fold-append (λ number digit. number * 10 + (digit - 48)) 0 (fixed_digits width (n / 10)) ((48 + n % 10) ∷ [])
-    ∙ ap (λ m. m * 10 + (48 + n % 10 - 48)) front
-    ∙ omega arith
 
 -- the parts of a frame are those that it shows
 parts_again : (text envelope rest : List ℕ) → IsFrame text envelope rest → parts_shown text ≡ (envelope, rest)
@@ -37,9 +26,7 @@ parts_again text envelope rest is =
     let behind : after_head text ≡ with_length n (envelope ++ rest) = ap (drop 5) is.1 in
     let cut = without_length n (envelope ++ rest) (after_head text) behind in
     let shown : length_shown text ≡ n = ap number_shown cut.1 ∙ number_again 8 n is.0 in
-    let later : after_length text ≡ envelope ++ rest =
-    ap (drop 9) (behind ∙ sym (append_assoc (fixed_digits 8 n) (10 ∷ []) (envelope ++ rest)))
-    ∙ drop_at (fixed_digits 8 n ++ 10 ∷ []) (envelope ++ rest) 9 (length-append (fixed_digits 8 n) (10 ∷ []) ∙ ap (λ k. k + 1) (length-fixed_digits 8 n)) in
+    let later : after_length text ≡ envelope ++ rest = sym (drop-drop 1 8 (after_head text)) ∙ ap (drop 1) cut.2 in
     let first : take (length_shown text) (after_length text) ≡ envelope = (λ i. take (shown i) (later i)) ∙ take_at envelope rest n refl in
     let second : drop (length_shown text) (after_length text) ≡ rest = (λ i. drop (shown i) (later i)) ∙ drop_at envelope rest n refl in
     λ i. (first i, second i)
@@ -80,7 +67,12 @@ envelope_is text v is =
     ∙ ap (option_and_then (spelled_env text)) (env_again v is.0)
     ∙ ap (λ b. cond b (Some v) None) (and_from _ _ ((envelope_decides v).1 is.0) ((bytes_eq-Decides text (env_text v)).1 is.1))
 
+pub one_envelope : (v w : Env) → IsEnvelope v → IsEnvelope w → env_text v ≡ env_text w → v ≡ w
+one_envelope v w hv hw e = same_Some v w (sym (envelope_is (env_text v) v (hv, refl)) ∙ envelope_is (env_text v) w (hw, e))
+
 -- ---- both
+
+pub ruleset one_reading = (one_envelope, env_most, one_refusal, not_refused)
 
 -- what reads something where a fact holds reads nothing just where it never holds
 none_is : {X : Type 0} (found : Option X) (P : X → Type 0) → ((x : X) → (found ≡ Some x) ↔ P x) → (found ≡ None) ↔ ((x : X) → ¬ P x)

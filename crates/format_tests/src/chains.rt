@@ -1,40 +1,10 @@
 //! Chains of deposits: which keys there are after them, and counts of deposits that are not full.
+use crate::deposits::{DIFF, FULL, framed};
 use deposit_name::{DepositId, DepositName};
 use deposit_verify::{About, Base, Verdict, law_bases, law_chains, verify};
 use desk::Check;
 use std::alloc::{AllocError, Global};
 use std::test::Fail;
-
-/// The SHA-256 of no bytes.
-const NO_BYTES: &str = "e3b0c44298fc1c149afbf4c8996fb92427ae41e4649b934ca495991b7852b855";
-
-/// A full deposit with no rows. `<none>` stands for the digest of no bytes, `<ns>` for what URIs begin with, `<count>` for
-/// the number of registrars.
-const FULL: &str = concat!(
-    r#"{"contents":[{"length":0,"name":"domain","sha256":"<none>"},"#,
-    r#"{"length":0,"name":"domainContacts","sha256":"<none>"},"#,
-    r#"{"length":0,"name":"domainStatuses","sha256":"<none>"},"#,
-    r#"{"length":0,"name":"domainNameServers","sha256":"<none>"},"#,
-    r#"{"length":0,"name":"host","sha256":"<none>"},"#,
-    r#"{"length":0,"name":"hostAddresses","sha256":"<none>"},"#,
-    r#"{"length":0,"name":"contact","sha256":"<none>"},"#,
-    r#"{"length":0,"name":"registrar","sha256":"<none>"}],"#,
-    r#""header":{"count":{"<ns>csvContact-1.0":0,"<ns>csvDomain-1.0":0,"<ns>csvHost-1.0":0,"#,
-    r#""<ns>csvRegistrar-1.0":<count>},"tld":"example"},"id":"20260802001","#,
-    r#""rdeMenu":{"objURI":["<ns>csvContact-1.0","<ns>csvDomain-1.0","<ns>csvHost-1.0","#,
-    r#""<ns>csvRegistrar-1.0","<ns>rdeHeader-1.0"],"version":"1.0"},"#,
-    r#""resend":0,"type":"FULL","watermark":"2026-08-02T00:00:00Z"}"#,
-);
-
-/// A deposit of the next day that is not full.
-const PARTIAL: &str = concat!(
-    r#"{"contents":[<contents>],"deletes":[<deletes>],"#,
-    r#""header":{"count":{"<ns>csvContact-1.0":0,"<ns>csvDomain-1.0":0,"<ns>csvHost-1.0":0,"#,
-    r#""<ns>csvRegistrar-1.0":<count>},"tld":"example"},"id":"20260803001","prevId":"20260802001","#,
-    r#""rdeMenu":{"objURI":["<ns>csvContact-1.0","<ns>csvDomain-1.0","<ns>csvHost-1.0","#,
-    r#""<ns>csvRegistrar-1.0","<ns>rdeHeader-1.0"],"version":"1.0"},"#,
-    r#""resend":0,"type":"DIFF","watermark":"2026-08-03T00:00:00Z"}"#,
-);
 
 /// The registrar R1, and its key among those that are deleted, once and twice.
 const R1: &str = "R1,Example,292,ok\n";
@@ -108,32 +78,19 @@ static CASES: [Case; 12] = [
     (&[BRINGS, DELETES, BOTH], BRINGS, 1, true),
 ];
 
-fn filled(
-    alloc: Global,
-    envelope: &str,
-    deposit: Deposit,
-    count: u32,
-) -> Result<String, AllocError> {
-    let text = envelope.replacen(alloc, "<contents>", deposit.contents, 1)?;
-    let text = text.replacen(alloc, "<deletes>", deposit.deletes, 1)?;
-    let count = format!(in alloc; "{count}")?;
-    let text = text.replacen(alloc, "<count>", count.as_str(), 1)?;
-    let text = text.replace(alloc, "<none>", NO_BYTES)?;
-    text.replace(alloc, "<ns>", "urn:ietf:params:xml:ns:")
-}
-
 fn joined(
     alloc: Global,
     envelope: &str,
     deposit: Deposit,
     count: u32,
 ) -> Result<String, AllocError> {
-    let envelope = filled(alloc, envelope, deposit, count)?;
-    let mut joined = format!(in alloc; "RDE1 {:08}\n{}", envelope.len(), envelope)?;
-    for file in deposit.files {
-        joined.push_str(file)?;
-    }
-    Ok(joined)
+    let contents = format!(in alloc; "\"contents\":[{}]", deposit.contents)?;
+    let deletes = format!(in alloc; "\"deletes\":[{}]", deposit.deletes)?;
+    let count = format!(in alloc; "csvRegistrar-1.0\":{count}")?;
+    let text = envelope.replacen(alloc, "\"contents\":[]", contents.as_str(), 1)?;
+    let text = text.replacen(alloc, "\"deletes\":[]", deletes.as_str(), 1)?;
+    let text = text.replacen(alloc, "csvRegistrar-1.0\":0", count.as_str(), 1)?;
+    framed(alloc, text.as_str(), deposit.files)
 }
 
 /// The keys after the full deposit.
@@ -146,7 +103,7 @@ fn first(alloc: Global) -> Option<Base> {
 fn base(alloc: Global, chain: &[Deposit]) -> Option<Base> {
     let mut base = first(alloc)?;
     for deposit in chain {
-        let joined = joined(alloc, PARTIAL, *deposit, 0).ok()?;
+        let joined = joined(alloc, DIFF, *deposit, 0).ok()?;
         if base.then(alloc, joined.as_bytes()) != Ok(true) {
             return None;
         }
@@ -164,7 +121,7 @@ fn verdict(alloc: Global, deposit: Deposit, count: u32, base: Option<Base>) -> O
         passed: Vec::new(alloc),
         base,
     };
-    let joined = joined(alloc, PARTIAL, deposit, count).ok()?;
+    let joined = joined(alloc, DIFF, deposit, count).ok()?;
     verify(alloc, joined.as_bytes(), &about).ok()
 }
 
@@ -214,8 +171,8 @@ fn is_no_later(alloc: Global, joined: &[u8]) -> bool {
 fn takes_no_other_deposits(rt: HostRuntime) -> Result<(), Fail> {
     let alloc = rt.alloc();
     let full = joined(alloc, FULL, NOTHING, 0)?;
-    let partial = joined(alloc, PARTIAL, BRINGS, 1)?;
-    let refused = joined(alloc, PARTIAL, REFUSED, 1)?;
+    let partial = joined(alloc, DIFF, BRINGS, 1)?;
+    let refused = joined(alloc, DIFF, REFUSED, 1)?;
     assert!(rt; is_no_first(alloc, b"") && is_no_later(alloc, b""));
     assert!(rt; is_no_first(alloc, partial.as_bytes()));
     assert!(rt; is_no_later(alloc, full.as_bytes()));

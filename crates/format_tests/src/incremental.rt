@@ -1,20 +1,11 @@
 //! Incremental deposits: their names, their envelopes, and which deposit each of them follows.
+use crate::deposits::{DIFF, filled, framed};
 use deposit_name::{DepositId, DepositName, Kind};
 use deposit_verify::{About, Verdict, verify};
 use desk::Check;
 use envelope::{EnvError, read_envelope, write_envelope};
 use std::alloc::{AllocError, Global};
 use std::test::Fail;
-
-/// An incremental deposit with no files. `<prev>` stands for the member `prevId`, `<ns>` for what URIs begin with.
-const INCR: &str = concat!(
-    r#"{"contents":[],"deletes":[],"#,
-    r#""header":{"count":{"<ns>csvContact-1.0":0,"<ns>csvDomain-1.0":0,"<ns>csvHost-1.0":0,"#,
-    r#""<ns>csvRegistrar-1.0":0},"tld":"example"},"id":"20260803001",<prev>"#,
-    r#""rdeMenu":{"objURI":["<ns>csvContact-1.0","<ns>csvDomain-1.0","<ns>csvHost-1.0","#,
-    r#""<ns>csvRegistrar-1.0","<ns>rdeHeader-1.0"],"version":"1.0"},"#,
-    r#""resend":0,"type":"INCR","watermark":"2026-08-03T00:00:00Z"}"#,
-);
 
 const NAME: &[u8] = b"example_2026-08-03_incr_S1_R0.ryde";
 
@@ -47,14 +38,15 @@ static CASES: [Case; 7] = [
     (PREV_LATER, LATER, FULL, Verdict::Fail(Check::PrevId)),
 ];
 
+/// The envelope of an incremental deposit with no files.
 fn text(alloc: Global, prev: &str) -> Result<String, AllocError> {
-    let text = INCR.replacen(alloc, "<prev>", prev, 1)?;
-    text.replace(alloc, "<ns>", "urn:ietf:params:xml:ns:")
+    let text = DIFF.replacen(alloc, PREV_FULL, prev, 1)?;
+    let text = text.replacen(alloc, "DIFF", "INCR", 1)?;
+    filled(alloc, text.as_str())
 }
 
 fn joined(alloc: Global, prev: &str) -> Result<String, AllocError> {
-    let text = text(alloc, prev)?;
-    format!(in alloc; "RDE1 {:08}\n{}", text.len(), text)
+    framed(alloc, text(alloc, prev)?.as_str(), &[])
 }
 
 fn about(alloc: Global, latest: &[u8], full: &[u8]) -> Option<About> {

@@ -8,6 +8,8 @@ mod chains;
 #[cfg(test)]
 mod days;
 #[cfg(test)]
+mod deposits;
+#[cfg(test)]
 mod envelopes;
 #[cfg(test)]
 mod incremental;

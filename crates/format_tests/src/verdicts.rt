@@ -1,39 +1,10 @@
 //! Worked deposits with their verdicts. The lengths and digests of files come from another program.
+use crate::deposits::{DIFF, FULL, framed};
 use deposit_name::{DepositId, DepositName};
 use deposit_verify::{About, Verdict, law_one_verdict, verify};
 use desk::Check;
 use std::alloc::{AllocError, Global};
 use std::test::Fail;
-
-/// The SHA-256 of no bytes.
-const NO_BYTES: &str = "e3b0c44298fc1c149afbf4c8996fb92427ae41e4649b934ca495991b7852b855";
-
-/// A full deposit with no rows. `<none>` stands for the digest of no bytes, `<ns>` for what URIs begin with.
-const FULL: &str = concat!(
-    r#"{"contents":[{"length":0,"name":"domain","sha256":"<none>"},"#,
-    r#"{"length":0,"name":"domainContacts","sha256":"<none>"},"#,
-    r#"{"length":0,"name":"domainStatuses","sha256":"<none>"},"#,
-    r#"{"length":0,"name":"domainNameServers","sha256":"<none>"},"#,
-    r#"{"length":0,"name":"host","sha256":"<none>"},"#,
-    r#"{"length":0,"name":"hostAddresses","sha256":"<none>"},"#,
-    r#"{"length":0,"name":"contact","sha256":"<none>"},"#,
-    r#"{"length":0,"name":"registrar","sha256":"<none>"}],"#,
-    r#""header":{"count":{"<ns>csvContact-1.0":0,"<ns>csvDomain-1.0":0,"<ns>csvHost-1.0":0,"#,
-    r#""<ns>csvRegistrar-1.0":0},"tld":"example"},"id":"20260802001","#,
-    r#""rdeMenu":{"objURI":["<ns>csvContact-1.0","<ns>csvDomain-1.0","<ns>csvHost-1.0","#,
-    r#""<ns>csvRegistrar-1.0","<ns>rdeHeader-1.0"],"version":"1.0"},"#,
-    r#""resend":0,"type":"FULL","watermark":"2026-08-02T00:00:00Z"}"#,
-);
-
-/// A differential deposit with no files, which follows the full one.
-const DIFF: &str = concat!(
-    r#"{"contents":[],"deletes":[],"#,
-    r#""header":{"count":{"<ns>csvContact-1.0":0,"<ns>csvDomain-1.0":0,"<ns>csvHost-1.0":0,"#,
-    r#""<ns>csvRegistrar-1.0":0},"tld":"example"},"id":"20260803001","prevId":"20260802001","#,
-    r#""rdeMenu":{"objURI":["<ns>csvContact-1.0","<ns>csvDomain-1.0","<ns>csvHost-1.0","#,
-    r#""<ns>csvRegistrar-1.0","<ns>rdeHeader-1.0"],"version":"1.0"},"#,
-    r#""resend":0,"type":"DIFF","watermark":"2026-08-03T00:00:00Z"}"#,
-);
 
 const FULL_NAME: &str = "example_2026-08-02_full_S1_R0.ryde";
 
@@ -457,22 +428,12 @@ fn about(alloc: Global, (name, id, latest): Known) -> Option<About> {
     })
 }
 
-fn changed(alloc: Global, text: &str, changes: &[Change]) -> Result<String, AllocError> {
-    let mut changed = String::from_str(alloc, text)?;
-    for (from, to) in changes {
+fn joined(alloc: Global, case: &Case) -> Result<String, AllocError> {
+    let mut changed = String::from_str(alloc, case.envelope)?;
+    for (from, to) in case.changes {
         changed = changed.replacen(alloc, *from, to, 1)?;
     }
-    let digests = changed.replace(alloc, "<none>", NO_BYTES)?;
-    digests.replace(alloc, "<ns>", "urn:ietf:params:xml:ns:")
-}
-
-fn joined(alloc: Global, case: &Case) -> Result<String, AllocError> {
-    let envelope = changed(alloc, case.envelope, case.changes)?;
-    let mut joined = format!(in alloc; "RDE1 {:08}\n{}", envelope.len(), envelope)?;
-    for file in case.files {
-        joined.push_str(file)?;
-    }
-    Ok(joined)
+    framed(alloc, changed.as_str(), case.files)
 }
 
 fn verdict_on(alloc: Global, case: &Case) -> Option<Verdict> {

@@ -1,6 +1,6 @@
 -- Keys in order, for private clauses.
 use Rattle.std.specs.Borrow.{Bor}
-use Rattle.std.specs.Prelude.{◌↔◌, ◌++◌, ℕ, List, Contains, Vec, map}
+use Rattle.std.specs.Prelude.{◌≢◌, ◌↔◌, ◌++◌, [], ℕ, Bool, true, false, AllPairs, List, Contains, Vec, map}
 use Rattle.std.specs.Cmp.Lexicographic.{slice_cmp}
 use Rattle.std.specs.List.Sorted.{IsSorted}
 use Rattle.std.specs.declared.alloc.Global.{Global}
@@ -26,3 +26,14 @@ pub record AreSortedTexts (keys : List (Bor (List ℕ))) (contained deleted : Li
 pub record AreSortedKeys (keys : List (Bor (List ℕ))) (rows : List (List (List ℕ))) : Type 0 where
   pub sorted : IsSorted borrowed_text_cmp keys
   pub same : (text : List ℕ) → Contains (borrowed_texts keys) text ↔ Contains (column 0 rows) text
+
+-- keys that a deposit contains, each once, and those that it names, in order
+pub record AreNamedKeys (contained named : List (Bor (List ℕ))) : Type 0 where
+  pub once : AllPairs (λ one other. one ≢ other) (borrowed_texts contained)
+  pub among : (text : List ℕ) → Contains (borrowed_texts contained) text → Contains (borrowed_texts named) text
+  pub sorted : IsSorted borrowed_text_cmp named
+
+-- a text is one of the keys, or empty where it may be
+abbrev pub IsKeyIn : Bool → List (List ℕ) → List ℕ → Type 0
+IsKeyIn false keys text = Contains keys text
+IsKeyIn true keys text = text ≢ [] → Contains keys text

@@ -20,18 +20,14 @@ pub record IsAtRow (reader : Reader (Bor (List ℕ))) (text : List ℕ) : Type 0
 
 -- no row stands at the front of a text, or memory ran out
 abbrev pub RefusesRow : List ℕ → TableError → Type 0
-RefusesRow text fault.NotUtf8 = ⊥
 RefusesRow text fault.NotRows = (row : List (List ℕ)) (rest : List ℕ) → IsRow row → text ≢ row_text row ++ rest
-RefusesRow text fault.ColumnCount = ⊥
-RefusesRow text fault.FieldForm = ⊥
-RefusesRow text fault.DuplicateKey = ⊥
 RefusesRow text fault.OutOfMemory = Unit {0}
+RefusesRow text _ = ⊥
 
 -- the bytes are not the text of any rows, or of rows of another width, or memory ran out
 abbrev pub RefusesRows : ℕ → List ℕ → TableError → Type 0
 RefusesRows width bytes fault.NotUtf8 = ¬ IsUtf8 bytes
 RefusesRows width bytes fault.NotRows = IsUtf8 bytes × ((rows : List (List (List ℕ))) → ¬ IsTextOf bytes rows)
 RefusesRows width bytes fault.ColumnCount = IsUtf8 bytes × (rows : List (List (List ℕ))) × IsTextOf bytes rows × ¬ HaveWidth width rows
-RefusesRows width bytes fault.FieldForm = ⊥
-RefusesRows width bytes fault.DuplicateKey = ⊥
 RefusesRows width bytes fault.OutOfMemory = Unit {0}
+RefusesRows width bytes _ = ⊥

@@ -2,28 +2,27 @@ use Rattle.std.proofs.Common.{◌≡◌, None, Some, subst, sym}
 use Rattle.envelope.specs.Envelope.{env_text, env_of}
 use Rattle.deposit_verify.specs.Checks.{HasMenu}
 use Rattle.deposit_verify.specs.Tables.{AreReadFrom, IsUnread}
-use Rattle.deposit_verify.proofs.BaseLemmas.{is_read, one_envelope, reading_from, reading_is, reading_none}
+use Rattle.deposit_verify.proofs.BaseLemmas.{is_read, reading_from, reading_is, reading_none}
 use Rattle.deposit_verify.proofs.Judged.{unread_not}
-use Rattle.deposit_verify.proofs.Lifted.{OneReading, deposit_of}
+use Rattle.deposit_verify.proofs.Lifted.{deposit_of, one_envelope}
 use Rattle.deposit_verify.proofs.Readings.{countable}
 use Rattle.deposit_verify.proofs.base.read_whole.Goals as goal
 
 pub returns-in_default-clause-value : goal.returns-in_default-clause-value
-returns-in_default-clause-value c = sym (reading_none c.law_readers.ensures c.args.joined.now (λ r h. c.in_default.ensures.only (env_text r.envelope) h.rest h.deposit.framed))
+returns-in_default-clause-value c = sym (reading_none c.law_reading.ensures.readers c.args.joined.now (λ r h. c.in_default.ensures.only (env_text r.envelope) h.rest h.deposit.framed))
 
 pub returns-in-Err-Spelling-clause-value : goal.returns-in-Err-Spelling-clause-value
-returns-in-Err-Spelling-clause-value c = sym (reading_none c.law_readers.ensures c.args.joined.now (λ r h.
-    let same = c.law_one_reading.ensures.frame c.args.joined.now _ (env_text r.envelope) _ h.rest c.in-Ok.ensures.frame h.deposit.framed in
+returns-in-Err-Spelling-clause-value c = sym (reading_none c.law_reading.ensures.readers c.args.joined.now (λ r h.
+    let same = c.law_reading.ensures.one.frame c.args.joined.now _ (env_text r.envelope) _ h.rest c.in-Ok.ensures.frame h.deposit.framed in
     let none : Some r.envelope ≡ None = rw c.in-Err-Spelling.field-0-is at (c.in-Err-Spelling.ensures.only r.envelope h.deposit.in_form same.0) in
     cc none))
 
 pub returns-then-not-has_menu-clause-value : goal.returns-then-not-has_menu-clause-value
-returns-then-not-has_menu-clause-value c = sym (reading_none c.law_readers.ensures c.args.joined.now (λ r h.
+returns-then-not-has_menu-clause-value c = sym (reading_none c.law_reading.ensures.readers c.args.joined.now (λ r h.
     let v = env_of c.in-Ok-read_envelope.envelope in
-    let one : OneReading = record { envelope = c.law_one_reading.ensures.envelope; frame = c.law_one_reading.ensures.frame } in
     let found = c.in-Ok-read_envelope.ensures.found in
     let deposit = deposit_of c.args.joined.now _ c.in-Ok.frame.rest.now v c.in-Ok.ensures.frame found.0 found.1 in
-    let same = one_envelope one c.args.joined.now v r.envelope c.in-Ok.frame.rest.now h.rest deposit h.deposit in
+    let same = one_envelope c.law_reading.ensures.one c.args.joined.now v r.envelope c.in-Ok.frame.rest.now h.rest deposit h.deposit in
     cc (c.has_menu.ensures.1 (subst HasMenu same.0 h.menu), c.if-not-has_menu.true)))
 
 pub returns-in-Ok-2-clause-value : goal.returns-in-Ok-2-clause-value
@@ -32,24 +31,23 @@ returns-in-Ok-2-clause-value c =
     let found = c.in-Ok-read_envelope.ensures.found in
     let deposit = deposit_of c.args.joined.now _ c.in-Ok.frame.rest.now v c.in-Ok.ensures.frame found.0 found.1 in
     let from : AreReadFrom v c.in-Ok.frame.rest.now c.in-Ok-2.files.tables.items c.in-Ok-2.files.deleted.items = rw c.in-Ok-2.is at c.in_ok-files.ensures in
-    sym (reading_is c.law_readers.ensures c.args.joined.now _
-    (reading_from c.law_table_reader.ensures c.args.joined.now v c.in-Ok.frame.rest.now _ _ deposit (c.has_menu.ensures.0 c.if-not-has_menu.false) from))
+    sym (reading_is c.law_reading.ensures.readers c.args.joined.now _
+    (reading_from c.law_reading.ensures.tables c.args.joined.now v c.in-Ok.frame.rest.now _ _ deposit (c.has_menu.ensures.0 c.if-not-has_menu.false) from))
 
 pub returns-in-Ok-2-clause-countable : goal.returns-in-Ok-2-clause-countable
 returns-in-Ok-2-clause-countable c =
     let v = env_of c.in-Ok-read_envelope.envelope in
     let from : AreReadFrom v c.in-Ok.frame.rest.now c.in-Ok-2.files.tables.items c.in-Ok-2.files.deleted.items = rw c.in-Ok-2.is at c.in_ok-files.ensures in
-    countable c.law_table_reader.ensures v c.in-Ok.frame.rest.now _ _ from
+    countable c.law_reading.ensures.tables v c.in-Ok.frame.rest.now _ _ from
 
 pub returns-in-Err-clause-value : goal.returns-in-Err-clause-value
-returns-in-Err-clause-value c = sym (reading_none c.law_readers.ensures c.args.joined.now (λ r h.
+returns-in-Err-clause-value c = sym (reading_none c.law_reading.ensures.readers c.args.joined.now (λ r h.
     let v = env_of c.in-Ok-read_envelope.envelope in
     let rest = c.in-Ok.frame.rest.now in
-    let one : OneReading = record { envelope = c.law_one_reading.ensures.envelope; frame = c.law_one_reading.ensures.frame } in
     let found = c.in-Ok-read_envelope.ensures.found in
     let deposit = deposit_of c.args.joined.now _ rest v c.in-Ok.ensures.frame found.0 found.1 in
-    let same = one_envelope one c.args.joined.now r.envelope v h.rest rest h.deposit deposit in
+    let same = one_envelope c.law_reading.ensures.one c.args.joined.now r.envelope v h.rest rest h.deposit deposit in
     let unread : IsUnread v rest c.in-Err.field-0 = rw c.in-Err.is at c.in_ok-files.ensures in
     let moved = rw (same.0, same.1) at unread in
-    let read = is_read c.law_table_reader.ensures c.args.joined.now r h in
+    let read = is_read c.law_reading.ensures.tables c.args.joined.now r h in
     unread_not r.envelope h.rest c.in-Err.field-0 moved read.tables read.deletes))

@@ -1,6 +1,6 @@
-use Rattle.std.proofs.Common.{◌≡◌, ℕ, ◌+◌, ◌^◌, ◌<◌, ◌≤◌, [], ◌∷◌, length, ap, sym, subst, ◌∙◌, arith}
+use Rattle.std.proofs.Common.{◌≡◌, ℕ, ◌+◌, ◌^◌, ◌<◌, ◌≤◌, [], ◌∷◌, ap, sym, subst, ◌∙◌, arith}
 use Rattle.std.proofs.lemmas.List.{with_items_is}
-use Rattle.extent_map.specs.Words.{bit, one_count, IsOneIn}
+use Rattle.extent_map.specs.Words.{one_count, IsOneIn}
 use Rattle.extent_map.specs.Extents.{GivesBack}
 use Rattle.extent_map.proofs.BitLemmas.{ones_le}
 use Rattle.extent_map.proofs.SetLemmas.{gives, AreInRange, given_in_range}
@@ -19,7 +19,8 @@ overflow_add-self c =
     let map = c.args.self.now in
     let e = c.args.extent.now in
     let new = c.set_run.new.words in
-    let sum = more (one_count new map.blocks) (one_count map.words.items map.blocks) e.count map.free (c.set_run.ensures.count map.blocks c.requires.0.2 ∙ ap (λ l. one_count l map.blocks + e.count) c.deref_mut.ensures.value) map.counted in
+    let end = rw c.deref_mut.ensures.value at c.set_run.ensures in
+    let sum = more (one_count new map.blocks) (one_count map.words.items map.blocks) e.count map.free (end.count map.blocks c.requires.0.2) map.counted in
     let fits : map.free + e.count < 2 ^ 32 = small (map.free + e.count) (one_count new map.blocks) map.blocks sum (ones_le new map.blocks) map.small in
     record { fits = fits }
 
@@ -29,21 +30,18 @@ invariant_of-self-clause-in_range c =
     let map = c.args.self.now in
     let e = c.args.extent.now in
     let new = c.set_run.new.words in
-    let was = c.deref_mut.ensures.value in
-    let end = c.set_run.ensures in
-    let gave = gives map.words.items new e (λ b lt. end.below b lt ∙ ap (λ l. bit l b) was) (λ b le. end.above b le ∙ ap (λ l. bit l b) was) end.here in
-    subst (AreInRange map.blocks) (sym (with_items_is map.words new (end.length ∙ ap length was ∙ sym map.words.ok.0))) (given_in_range map.blocks map.words.items new e map.in_range c.requires.0 gave)
+    let end = rw c.deref_mut.ensures.value at c.set_run.ensures in
+    let gave = gives map.words.items new e end.below end.above end.here in
+    subst (AreInRange map.blocks) (sym (with_items_is map.words new (end.length ∙ sym map.words.ok.0))) (given_in_range map.blocks map.words.items new e map.in_range c.requires.0 gave)
 
 pub invariant_of-self-clause-counted : goal.invariant_of-self-clause-counted
 unfolding IsFree
 invariant_of-self-clause-counted c =
     let map = c.args.self.now in
-    let e = c.args.extent.now in
     let new = c.set_run.new.words in
-    let was = c.deref_mut.ensures.value in
-    let end = c.set_run.ensures in
-    more (one_count new map.blocks) (one_count map.words.items map.blocks) e.count map.free (end.count map.blocks c.requires.0.2 ∙ ap (λ l. one_count l map.blocks + e.count) was) map.counted
-    ∙ sym (ap (λ l. one_count l map.blocks) (with_items_is map.words new (end.length ∙ ap length was ∙ sym map.words.ok.0)))
+    let end = rw c.deref_mut.ensures.value at c.set_run.ensures in
+    more (one_count new map.blocks) (one_count map.words.items map.blocks) c.args.extent.now.count map.free (end.count map.blocks c.requires.0.2) map.counted
+    ∙ sym (ap (λ l. one_count l map.blocks) (with_items_is map.words new (end.length ∙ sym map.words.ok.0)))
 
 pub returns-clause-freed : goal.returns-clause-freed
 unfolding IsFree
@@ -51,7 +49,5 @@ returns-clause-freed c =
     let map = c.args.self.now in
     let e = c.args.extent.now in
     let new = c.set_run.new.words in
-    let was = c.deref_mut.ensures.value in
-    let end = c.set_run.ensures in
-    let gave = gives map.words.items new e (λ b lt. end.below b lt ∙ ap (λ l. bit l b) was) (λ b le. end.above b le ∙ ap (λ l. bit l b) was) end.here in
-    subst (λ l. GivesBack (IsOneIn map.words.items) (e ∷ []) (IsOneIn l)) (sym (with_items_is map.words new (end.length ∙ ap length was ∙ sym map.words.ok.0))) gave
+    let end = rw c.deref_mut.ensures.value at c.set_run.ensures in
+    subst (λ l. GivesBack (IsOneIn map.words.items) (e ∷ []) (IsOneIn l)) (sym (with_items_is map.words new (end.length ∙ sym map.words.ok.0))) (gives map.words.items new e end.below end.above end.here)
