@@ -1,44 +1,28 @@
 -- The rows of a group stand together in a table.
-use Rattle.std.proofs.Common.{◌≡◌, ◌⊎◌, inl, inr, ℕ, zero, suc, ◌<◌, ◌≤◌, Bool, true, false, cond, List, [], ◌∷◌, length, get_or, take, drop, refl, sym, ap, ◌∙◌, arith}
+use Rattle.std.proofs.Common.{◌≡◌, ◌⊎◌, inl, inr, ℕ, zero, suc, ◌<◌, ◌≤◌, Bool, true, false, cond, List, [], ◌∷◌, length, get_or, take, drop, refl, ap, ◌∙◌, arith}
 use Rattle.std.specs.List.{filter}
 use Rattle.std.specs.List.Sorted.{IsNonDecreasingBy, IsPartitionedBy}
 use Rattle.std.specs.Ordering.{is_lt, is_le, is_eq, ordering_index}
 use Rattle.std.specs.declared.cmp.Ordering.{Ordering}
-use Rattle.std.specs.declared.cmp.Ordering.TheVariants.{Less, Equal, Greater}
+use Rattle.std.specs.declared.cmp.Ordering.TheVariants.{Less}
 use Rattle.std.proofs.lemmas.Bool.{and_parts, cases_lt}
 use Rattle.custody_records.specs.Tables.{row_entries, is_below_all, is_rising}
 use Rattle.custody_records.proofs.TableLemmas.{below_at}
 
 not_eq_lt : (o : Ordering) → is_lt o ≡ true → is_eq o ≡ false
-not_eq_lt Less e = refl
-not_eq_lt Equal e = cc
-not_eq_lt Greater e = refl
+not_eq_lt o e = grind arith
 
 not_eq_gt : (o : Ordering) → is_le o ≡ false → is_eq o ≡ false
-not_eq_gt Less e = refl
-not_eq_gt Equal e = cc
-not_eq_gt Greater e = refl
+not_eq_gt o e = grind arith
 
 eq_between : (o : Ordering) → is_lt o ≡ false → is_le o ≡ true → is_eq o ≡ true
-eq_between Less e h = cc
-eq_between Equal e h = refl
-eq_between Greater e h = cc
+eq_between o e h = grind arith
 
 lt_below : (a b : Ordering) → ordering_index a ≤ ordering_index b → is_lt b ≡ true → is_lt a ≡ true
-lt_below Less b le e = refl
-lt_below Equal Less le e = absurd (omega arith)
-lt_below Equal Equal le e = cc
-lt_below Equal Greater le e = cc
-lt_below Greater Less le e = absurd (omega arith)
-lt_below Greater Equal le e = cc
-lt_below Greater Greater le e = cc
+lt_below a b le e = grind arith
 
 le_below : (a b : Ordering) → ordering_index a ≤ ordering_index b → is_le b ≡ true → is_le a ≡ true
-le_below Less b le e = refl
-le_below Equal b le e = refl
-le_below Greater Less le e = absurd (omega arith)
-le_below Greater Equal le e = absurd (omega arith)
-le_below Greater Greater le e = cc
+le_below a b le e = grind arith
 
 -- ---- rows in an order, as a search sees them
 
@@ -83,8 +67,7 @@ filter_entries {Row} {K} {X} key value test (row ∷ rows) = by (test (key row, 
     by : (b : Bool) → filter test (row_entries key value rows) ≡ row_entries key value (filter (λ r. test (key r, value r)) rows)
         → cond b ((key row, value row) ∷ filter test (row_entries key value rows)) (filter test (row_entries key value rows))
         ≡ row_entries key value (cond b (row ∷ filter (λ r. test (key r, value r)) rows) (filter (λ r. test (key r, value r)) rows))
-    by true rest = ap (λ (l : List (K × X)). (key row, value row) ∷ l) rest
-    by false rest = rest
+    by b rest = grind arith
 
 -- two tests in either order
 pub filter_swap : {X : Type 0} (p q : X → Bool) (xs : List X) → filter p (filter q xs) ≡ filter q (filter p xs)
@@ -92,10 +75,7 @@ filter_swap p q [] = refl
 filter_swap {X} p q (x ∷ xs) = by (p x) (q x) refl refl (filter_swap p q xs)
   where
     by : (a b : Bool) → p x ≡ a → q x ≡ b → filter p (filter q xs) ≡ filter q (filter p xs) → filter p (cond b (x ∷ filter q xs) (filter q xs)) ≡ filter q (cond a (x ∷ filter p xs) (filter p xs))
-    by true true pass pass_too rest = (λ i. cond (pass i) (x ∷ filter p (filter q xs)) (filter p (filter q xs))) ∙ ap (λ (l : List X). x ∷ l) rest ∙ sym (λ i. cond (pass_too i) (x ∷ filter q (filter p xs)) (filter q (filter p xs)))
-    by true false pass fails rest = rest ∙ sym (λ i. cond (fails i) (x ∷ filter q (filter p xs)) (filter q (filter p xs)))
-    by false true fails pass rest = (λ i. cond (fails i) (x ∷ filter p (filter q xs)) (filter p (filter q xs))) ∙ rest
-    by false false fails fails_too rest = rest
+    by a b first second rest = grind arith
 
 -- ---- a table, beside a group
 

@@ -1,3 +1,4 @@
+pub mod EachChanged
 pub mod FieldLemmas
 pub mod Gathered
 pub mod FormLemmas

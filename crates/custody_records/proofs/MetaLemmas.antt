@@ -1,6 +1,6 @@
 -- The row of the volume, and its number as digits.
-use Rattle.std.proofs.Common.{◌≡◌, ℕ, ◌<◌, ◌^◌, List, Bool, true, false, ◌&&◌, cond, Some, None, refl, sym, ◌∙◌, ap}
-use Rattle.std.specs.Prelude.{Ok, option_map}
+use Rattle.std.proofs.Common.{◌≡◌, ℕ, ◌<◌, ◌^◌, List, Bool, true, false, cond, Some, None, refl, sym, ◌∙◌, ap, arith}
+use Rattle.std.specs.Prelude.{Ok}
 use Rattle.std.specs.Str.{bytes_eq}
 use Rattle.std.specs.Int.{w64, to_be_bytes}
 use Rattle.std.proofs.lemmas.Slice.Eq.{bytes_eq-Decides}
@@ -8,7 +8,7 @@ use Rattle.hex.specs.Hex.{decode_sized}
 use Rattle.hex.proofs.HexLemmas.{decode_sized-encode_lower}
 use Rattle.extent_map.proofs.ByteLemmas.{IsBytes-to_be_bytes}
 use Rattle.custody_records.specs.Rows.{MetaRow}
-use Rattle.custody_records.specs.Form.{natural, is_number, is_within, number_in, is_meta}
+use Rattle.custody_records.specs.Form.{natural, number_in, is_meta}
 use Rattle.custody_records.specs.RowsOfRecords.{digits_of}
 use Rattle.custody_records.specs.TypedRecords.{meta_of, meta_volume}
 use Rattle.custody_records.proofs.FormLemmas.{number_in-digits}
@@ -34,11 +34,4 @@ number_not_read text apart = by (bytes_eq text (digits_of (number_in text))) ref
 
 -- what a row's volume is
 pub volume_of-meta_of : (row : MetaRow) → meta_volume (meta_of row) ≡ cond (is_meta row) (Some (number_in row.number, natural row.blocks)) None
-volume_of-meta_of row = by (is_number 1 row.one) (bytes_eq row.number (digits_of (number_in row.number))) (is_within 2 262_144 row.blocks)
-  where
-    by : (one digits blocks : Bool) → cond (one && blocks) (option_map {U = ℕ × ℕ} (λ (n : ℕ). (n, natural row.blocks)) (cond digits (Some (number_in row.number)) None)) None ≡ cond (one && (digits && blocks)) (Some (number_in row.number, natural row.blocks)) None
-    by true true true = refl
-    by true true false = refl
-    by true false true = refl
-    by true false false = refl
-    by false digits blocks = refl
+volume_of-meta_of row = grind arith

@@ -84,12 +84,10 @@ release_read_back reference release h =
 -- ---- holds
 
 lifting_passes : (lifted : Option ℕ) → IsLifting lifted → is_lifting (option_map pos lifted) ≡ true
-lifting_passes None h = refl
-lifting_passes (Some at) h = moment_passes at h
+lifting_passes lifted h = grind (arith, moment_passes)
 
 lifting_back : (lifted : Option ℕ) → option_map natural (option_map pos lifted) ≡ lifted
-lifting_back None = refl
-lifting_back (Some at) = refl
+lifting_back lifted = grind arith
 
 pub hold_read_back : (reference : List ℕ) (hold : Hold) → IsHold reference hold → hold_in (row_of_hold reference hold) ≡ Some (reference, hold)
 hold_read_back reference hold h =

@@ -32,13 +32,10 @@ any_entries key value test [] = refl
 any_entries key value test (row ∷ rows) = ap (λ b. test (key row, value row) || b) (any_entries key value test rows)
 
 less_is : (o : Ordering) → is_lt o ≡ true → o ≡ Less
-less_is Less e = refl
-less_is Equal e = cc
-less_is Greater e = cc
+less_is o e = grind arith
 
 T_true : (b : Bool) → T b → b ≡ true
-T_true true h = refl
-T_true false h = absurd h
+T_true b h = grind arith
 
 module _ {Row K : Type 0} (order : K → K → Ordering) (key : Row → K) where
   -- ---- the entries
@@ -47,7 +44,7 @@ module _ {Row K : Type 0} (order : K → K → Ordering) (key : Row → K) where
   below_entries value low [] = refl
   below_entries value low (row ∷ rows) = ap (λ b. is_lt (order low (key row)) && b) (below_entries value low rows)
 
-  rising_entries : {X : Type 0} (value : Row → X) (rows : List Row) → is_sorted order (row_entries key value rows) ≡ is_rising order key rows
+  pub rising_entries : {X : Type 0} (value : Row → X) (rows : List Row) → is_sorted order (row_entries key value rows) ≡ is_rising order key rows
   rising_entries value [] = refl
   rising_entries value (row ∷ rows) = λ i. below_entries value (key row) rows i && rising_entries value rows i
 
@@ -65,8 +62,7 @@ module _ {Row K : Type 0} (order : K → K → Ordering) (key : Row → K) where
     where
       by : (b : Bool) → find order sought (row_entries key value rows) ≡ option_map value (row_at order key rows sought)
           → cond b (Some (value row)) (find order sought (row_entries key value rows)) ≡ option_map value (cond b (Some row) (row_at order key rows sought))
-      by true rest = refl
-      by false rest = rest
+      by b rest = grind arith
 
   -- what the map has is what the row has
   pub get_table : {X : Type 0} (value : Row → X) (rows : List Row) (sought : K) → is_rising order key rows ≡ true → get (table_map order key value rows) sought ≡ option_map value (row_at order key rows sought)
@@ -117,9 +113,30 @@ module _ {Row K : Type 0} (order : K → K → Ordering) (key : Row → K) where
         ∙ not_found rows sought (λ i d lt. apart (suc i) d (omega arith))
       where
         is_eq_turned : (a b : Ordering) → b ≡ ordering_reverse a → is_eq b ≡ is_eq a
-        is_eq_turned Less b e = ap is_eq e
-        is_eq_turned Equal b e = ap is_eq e
-        is_eq_turned Greater b e = ap is_eq e
+        is_eq_turned a b e = grind arith
+
+    -- ---- an entry that is put among those of rows
+
+    -- by how the first key compares with its own
+    put_by : {X : Type 0} (value : Row → X) (row first : Row) (rows : List Row) (o : Ordering) → order (key first) (key row) ≡ o
+        → put order (key row) (value row) (row_entries key value (first ∷ rows))
+        ≡ by_order (ordering_reverse o) (row_entries key value (row ∷ first ∷ rows)) ((key first, value row) ∷ row_entries key value rows) ((key first, value first) ∷ put order (key row) (value row) (row_entries key value rows))
+    put_by value row first rows o e =
+        ap (λ x. by_order x (row_entries key value (row ∷ first ∷ rows)) ((key first, value row) ∷ row_entries key value rows) ((key first, value first) ∷ put order (key row) (value row) (row_entries key value rows))) (turned _ _ o e)
+
+    -- rows that have it too
+    module _ (old new : List Row) (row : Row) (is_put : (X : Type 0) (value : Row → X) → put order (key row) (value row) (row_entries key value old) ≡ row_entries key value new) (rising : is_rising order key old ≡ true) where
+      -- their keys still rise
+      rising_put : is_rising order key new ≡ true
+      rising_put = sym (rising_entries (λ r. r) new) ∙ T_true _ (subst (λ es. T (is_sorted order es)) (is_put Row (λ r. r)) (is_sorted-put order o (key row) row (row_entries key (λ r. r) old) (sorted_entries (λ r. r) old rising)))
+
+      -- and the map has the row's value at its key
+      map_put : {X : Type 0} (value : Row → X) → table_map order key value new ≡ insert (table_map order key value old) (key row) (value row)
+      unfolding table_map
+      map_put {X} value = same_entries_map _ _ (
+          entries-from_sorted order (row_entries key value new) (sorted_entries value new rising_put)
+          ∙ sym (is_put X value)
+          ∙ sym (entries-insert o (from_sorted (row_entries key value old)) (key row) (value row) ∙ ap (put order (key row) (value row)) (entries-from_sorted order (row_entries key value old) (sorted_entries value old rising))))
 
     -- ---- a row more
 
@@ -130,26 +147,20 @@ module _ {Row K : Type 0} (order : K → K → Ordering) (key : Row → K) where
     put_added value [] zero row below above = refl
     put_added value [] (suc place) row below above = refl
     put_added value (r ∷ rows) zero row below above =
-        ap (λ x. by_order x ((key row, value row) ∷ (key r, value r) ∷ row_entries key value rows) ((key r, value row) ∷ row_entries key value rows) ((key r, value r) ∷ put order (key row) (value row) (row_entries key value rows))) (turned _ _ Greater (above 0 row (omega arith) (omega arith)))
+        put_by value row r rows Greater (above 0 row (omega arith) (omega arith))
     put_added value (r ∷ rows) (suc place) row below above =
-        ap (λ x. by_order x ((key row, value row) ∷ (key r, value r) ∷ row_entries key value rows) ((key r, value row) ∷ row_entries key value rows) ((key r, value r) ∷ put order (key row) (value row) (row_entries key value rows))) (turned _ _ Less (below 0 row (omega arith) (omega arith)))
+        put_by value row r rows Less (below 0 row (omega arith) (omega arith))
         ∙ ap (λ l. (key r, value r) ∷ l) (put_added value rows place row (λ i d lt within. below (suc i) d (omega arith) (omega arith)) (λ i d le within. above (suc i) d (omega arith) (omega arith)))
 
     module _ {old new : List Row} {row : Row} (added : IsAdded order key old new row) (rising : is_rising order key old ≡ true) where
-      entries_added : {X : Type 0} (value : Row → X) → put order (key row) (value row) (row_entries key value old) ≡ row_entries key value new
-      entries_added value = put_added value old added.place row added.below added.above ∙ ap (row_entries key value) (sym added.is)
+      entries_added : (X : Type 0) (value : Row → X) → put order (key row) (value row) (row_entries key value old) ≡ row_entries key value new
+      entries_added X value = put_added value old added.place row added.below added.above ∙ ap (row_entries key value) (sym added.is)
 
-      -- the keys still rise
       pub rising_added : is_rising order key new ≡ true
-      rising_added = sym (rising_entries (λ r. r) new) ∙ T_true _ (subst (λ es. T (is_sorted order es)) (entries_added (λ r. r)) (is_sorted-put order o (key row) row (row_entries key (λ r. r) old) (sorted_entries (λ r. r) old rising)))
+      rising_added = rising_put old new row entries_added rising
 
-      -- and the map has one entry more
       pub map_added : {X : Type 0} (value : Row → X) → table_map order key value new ≡ insert (table_map order key value old) (key row) (value row)
-      unfolding table_map
-      map_added value = same_entries_map _ _ (
-          entries-from_sorted order (row_entries key value new) (sorted_entries value new rising_added)
-          ∙ sym (entries_added value)
-          ∙ sym (entries-insert o (from_sorted (row_entries key value old)) (key row) (value row) ∙ ap (put order (key row) (value row)) (entries-from_sorted order (row_entries key value old) (sorted_entries value old rising))))
+      map_added = map_put old new row entries_added rising
 
     -- ---- a row in the place of another
 
@@ -157,29 +168,23 @@ module _ {Row K : Type 0} (order : K → K → Ordering) (key : Row → K) where
         → put order (key row) (value row) (row_entries key value rows) ≡ row_entries key value (set rows i row)
     put_replaced value [] i row exact rising lt same = absurd (omega arith)
     put_replaced value (r ∷ rows) zero row exact rising lt same =
-        ap (λ x. by_order x ((key row, value row) ∷ (key r, value r) ∷ row_entries key value rows) ((key r, value row) ∷ row_entries key value rows) ((key r, value r) ∷ put order (key row) (value row) (row_entries key value rows))) (turned _ _ Equal (same r))
+        put_by value row r rows Equal (same r)
         ∙ ap (λ k. (k, value row) ∷ row_entries key value rows) (exact (key r) (key row) (same r))
     put_replaced value (r ∷ rows) (suc i) row exact rising lt same =
         let split = and_parts (is_below_all order key (key r) rows) (is_rising order key rows) rising in
         let less : order (key r) (key row) ≡ Less = sym (alike_right o (key (get_or rows i r)) (key row) (key r) (same r)) ∙ below_at (key r) rows i r split.0 (omega arith) in
-        ap (λ x. by_order x ((key row, value row) ∷ (key r, value r) ∷ row_entries key value rows) ((key r, value row) ∷ row_entries key value rows) ((key r, value r) ∷ put order (key row) (value row) (row_entries key value rows))) (turned _ _ Less less)
+        put_by value row r rows Less less
         ∙ ap (λ l. (key r, value r) ∷ l) (put_replaced value rows i row exact split.1 (omega arith) same)
 
     module _ (exact : IsAntisymmetric order) (old new : List Row) (row : Row) (i : ℕ) (is : new ≡ set old i row) (lt : i < length old) (same : (d : Row) → order (key (get_or old i d)) (key row) ≡ Equal) (rising : is_rising order key old ≡ true) where
-      entries_replaced : {X : Type 0} (value : Row → X) → put order (key row) (value row) (row_entries key value old) ≡ row_entries key value new
-      entries_replaced value = put_replaced value old i row exact rising lt same ∙ ap (row_entries key value) (sym is)
+      entries_replaced : (X : Type 0) (value : Row → X) → put order (key row) (value row) (row_entries key value old) ≡ row_entries key value new
+      entries_replaced X value = put_replaced value old i row exact rising lt same ∙ ap (row_entries key value) (sym is)
 
-      -- the keys still rise
       pub rising_replaced : is_rising order key new ≡ true
-      rising_replaced = sym (rising_entries (λ r. r) new) ∙ T_true _ (subst (λ es. T (is_sorted order es)) (entries_replaced (λ r. r)) (is_sorted-put order o (key row) row (row_entries key (λ r. r) old) (sorted_entries (λ r. r) old rising)))
+      rising_replaced = rising_put old new row entries_replaced rising
 
-      -- and the map has the row's value at its key
       pub map_replaced : {X : Type 0} (value : Row → X) → table_map order key value new ≡ insert (table_map order key value old) (key row) (value row)
-      unfolding table_map
-      map_replaced value = same_entries_map _ _ (
-          entries-from_sorted order (row_entries key value new) (sorted_entries value new rising_replaced)
-          ∙ sym (entries_replaced value)
-          ∙ sym (entries-insert o (from_sorted (row_entries key value old)) (key row) (value row) ∙ ap (put order (key row) (value row)) (entries-from_sorted order (row_entries key value old) (sorted_entries value old rising))))
+      map_replaced = map_put old new row entries_replaced rising
 
 -- ---- a map, as the table of its entries
 
@@ -233,15 +238,13 @@ module _ {Row K : Type 0} (order : K → K → Ordering) (key : Row → K) (o : 
   absent_row value sought none = by (row_at order key rows sought) (sym (get_table order key value rows sought rising) ∙ none)
     where
       by : (found : Option Row) → option_map value found ≡ None → found ≡ None
-      by None e = refl
-      by (Some row) e = cc
+      by found e = grind arith
 
   pub present_row : {X : Type 0} (value : Row → X) (sought : K) → is_some (row_at order key rows sought) ≡ true → is_some (get (table_map order key value rows) sought) ≡ true
   present_row value sought some = ap is_some (get_table order key value rows sought rising) ∙ by (row_at order key rows sought) some
     where
       by : (found : Option Row) → is_some found ≡ true → is_some (option_map value found) ≡ true
-      by None e = cc
-      by (Some row) e = refl
+      by found e = grind arith
 
 pub not_both : {A : Type 0} (o : Option A) (x : A) → o ≡ Some x → o ≡ None → ⊥
 not_both o x some none = let clash : Some x ≡ None = sym some ∙ none in cc

@@ -121,12 +121,7 @@ impl<T: Keyed> SortedRows<T> {
         requires new { get (table_map T.order T.key_of T.value_of self.old.rows.items) (T.key_of row) ≡ None }
         ensures { table_map T.order T.key_of T.value_of self.new.rows.items ≡ insert (table_map T.order T.key_of T.value_of self.old.rows.items) (T.key_of row) (T.value_of row) }
     {
-        match self.place_of(&row.key()) {
-            Err(place) => {
-                let _ = self.rows.insert(place, row);
-            }
-            Ok(_) => unreachable!(),
-        }
+        let _ = self.try_add(row);
     }
 
     /// Puts a row in the place of the one that has its key.

@@ -6,7 +6,9 @@ use Rattle.sqlite.specs.Command.{Command}
 use Rattle.sqlite.specs.Command.TheVariants.{Insert, Update, Commit, Release}
 use Rattle.sqlite.specs.Source.{Source}
 use Rattle.sqlite_schema.specs.declared.program.Program.{Program}
-use Rattle.sqlite.specs.Tree.{Trees}
+use Rattle.sqlite.specs.Tree.{Trees, with_tree}
+use Rattle.sqlite_trees.specs.declared.store.Shape.TheVariants as shape
+use Rattle.sqlite_trees.specs.View.{IsShaped}
 use Rattle.sqlite.specs.declared.error.Error.{Error}
 use Rattle.sqlite.specs.Effect.{Database, IsDatabase}
 use Rattle.sqlite.specs.Does.{Tally, Does}
@@ -21,6 +23,7 @@ use Rattle.custody_records.specs.Rows.{Rows}
 use Rattle.custody_store.specs.Reading.{rows_in, has_table}
 use Rattle.custody_store.specs.StoreState.{StoreState, HasOnlyTables, HasTablesAmongOthers, HaveOwnTrees, HasSchemaAtRest, IsAtRest, IsReady, HasFirstTables, HasSchemaTablesFirst, SchemaBeginsWith, AreOrdered, SameTablesAndRows, as_store_state, IsOneCommit, Commits}
 use Rattle.custody_store.specs.Calls.{LeavesCommitted, RunsStatement}
+use Rattle.custody_store.proofs.TableLemmas.{OthersStay, held_rows, rows_among, rows_after, ordered_as, ordered_with, held_as}
 use Rattle.custody_store.proofs.ModeLemmas.{ended, runs_mode}
 use Rattle.custody_store.proofs.StatementLemmas.{IsMeaning, IsMeaningOver, beginning_with}
 
@@ -107,14 +110,25 @@ Changes s sql params command change =
     (tally : Tally) (after : Database) → Does s.step_limit (mode_of s) params s.now (statement_of sql (understood s.now.schema sql)) None command (Ok (tally, after)) → IsDatabase after
     → (after.schema ≡ s.now.schema) × HasTablesAmongOthers record_schema.tables after × (rows_in after.trees ≡ change (rows_in s.now.trees))
 
--- the same tables in the schema that a statement leaves
-pub among_still : (db after : Database) → HasTablesAmongOthers record_schema.tables db → after.schema ≡ db.schema → IsDatabase after → AreOrdered record_schema.tables after.trees → HasTablesAmongOthers record_schema.tables after
-among_still db after tables same sound ordered = record {
-  begins = subst (SchemaBeginsWith record_schema.tables) (sym same) tables.begins;
-  apart = subst (λ (t : Schema). HaveOwnTrees t.tables) (sym same) tables.apart;
-  sound = sound;
-  ordered = ordered;
-}
+-- the rows of the table in this tree changed, and nothing else
+pub one_table : (s : State) → HasTablesAmongOthers record_schema.tables s.now → (after : Database) (tree : ℕ) (change : Rows → Rows) → after.schema ≡ s.now.schema → IsDatabase after → IsShaped shape.Table (after.trees tree)
+    → OthersStay record_schema.tables tree s.now.trees after.trees → held_rows (with_tree s.now.trees tree (after.trees tree)) ≡ change (held_rows s.now.trees)
+    → (after.schema ≡ s.now.schema) × HasTablesAmongOthers record_schema.tables after × (rows_in after.trees ≡ change (rows_in s.now.trees))
+one_table s tables after tree change same sound shaped others changed =
+    let trees = s.now.trees in
+    let rows = with_tree trees tree (after.trees tree) in
+    let begins = subst (SchemaBeginsWith record_schema.tables) (sym same) tables.begins in
+    let have = rows_after record_schema.tables tree trees after.trees trees (after.trees tree) others refl (refl, (refl, (refl, (refl, (refl, (refl, tt)))))) in
+    let is = rows_among after.trees after.schema begins sound ∙ held_as rows after.trees have ∙ changed ∙ sym (ap change (rows_among trees s.now.schema tables.begins tables.sound)) in (
+      same,
+      record {
+        begins = begins;
+        apart = subst (λ (t : Schema). HaveOwnTrees t.tables) (sym same) tables.apart;
+        sound = sound;
+        ordered = ordered_as record_schema.tables rows after.trees have (ordered_with record_schema.tables tree trees (after.trees tree) tables.ordered shaped);
+      },
+      is,
+    )
 
 module _ (sql : List ℕ) (params : Row) (command : Command) (means : IsMeaning record_schema.tables sql command) (writes : WritesRows command) where
   means_in : (schema : Schema) → SchemaBeginsWith record_schema.tables schema → IsMeaningOver schema sql command

@@ -1,5 +1,5 @@
 -- The UPDATE that drops the bytes of the parts whose keeping is over, and whose day is not on hold, changes just their rows.
-use Rattle.std.proofs.Common.{◌≡◌, inl, inr, ℕ, pos, ◌&&◌, Bool, true, false, cond, min, not, List, [], ◌∷◌, map, None, Ok, Err, Result, IfOk, refl, sym, ap, ap₂, subst, ◌∙◌, arith}
+use Rattle.std.proofs.Common.{◌≡◌, inl, inr, ℕ, pos, ◌&&◌, Bool, true, false, cond, min, not, List, [], ◌∷◌, map, None, Ok, Err, Result, IfOk, refl, sym, ap, ap₂, ◌∙◌}
 use Rattle.std.specs.Prelude.{length, unwrap_or, int_lt}
 use Rattle.std.specs.List.{list_all}
 use Rattle.std.specs.Str.{bytes_eq}
@@ -33,16 +33,16 @@ use Rattle.sqlite.proofs.Callers.{statement_of}
 use Rattle.custody_store.specs.Schema.{record_schema, part_table}
 use Rattle.custody_store.specs.Reading.{rows_in, stored_part_row, stored_hold_row}
 use Rattle.custody_store.specs.Dropping.{is_hold_of_row, is_due_row, dropped_row, row_dropped_if_due, rows_without_due, count_due_rows, is_same_number}
-use Rattle.custody_store.specs.StoreState.{HasTablesAmongOthers, SchemaBeginsWith, IsReady}
+use Rattle.custody_store.specs.StoreState.{HasTablesAmongOthers, IsReady}
 use Rattle.custody_store.specs.Statements.{drop_due_text, drop_due_values}
 use Rattle.custody_store.proofs.StatementLemmas.{hold_tests, parts_and_holds, due_tests, dropped_places, drop_due_program, drop_due_is}
-use Rattle.custody_store.proofs.TableLemmas.{rows_among, held_rows}
+use Rattle.custody_store.proofs.TableLemmas.{rows_among}
 use Rattle.custody_store.proofs.HoldLemmas.{IsHoldRow, hold_rows, hold_at}
 use Rattle.custody_store.proofs.EditLemmas.{changed_where}
 use Rattle.custody_store.proofs.UpdateLemmas.{Rewrites, rewrites, passes, heir}
 use Rattle.custody_store.proofs.ColumnLemmas.{cast_at, int_at, text_at}
 use Rattle.custody_store.proofs.TestLemmas.{is_held, is_unset, is_over, is_number, is_text, none_counted, any_same, map_has, count_same}
-use Rattle.custody_store.proofs.CommitLemmas.{Changes, among_still, written, update_writes}
+use Rattle.custody_store.proofs.CommitLemmas.{Changes, one_table, written, update_writes}
 use Rattle.custody_store.proofs.RowLemmas.{at_tree}
 
 abbrev part_at : Table
@@ -168,22 +168,10 @@ module _ (today : ℕ) (s : State) (tables : HasTablesAmongOthers record_schema.
   changes_due tally after does sound =
       let it = drops tally after does in
       let trees = s.now.trees in
-      let meta : after.trees 0 ≡ trees 0 = it.others.0 (λ e. omega (arith, e)) in
-      let registries : after.trees 1 ≡ trees 1 = it.others.1.0 (λ e. omega (arith, e)) in
-      let notices : after.trees 5 ≡ trees 5 = it.others.1.1.1.0 (λ e. omega (arith, e)) in
-      let handovers : after.trees 7 ≡ trees 7 = it.others.1.1.1.1.0 (λ e. omega (arith, e)) in
-      let holds : after.trees 9 ≡ trees 9 = it.others.1.1.1.1.1.0 (λ e. omega (arith, e)) in
-      let was = rows_among trees s.now.schema tables.begins tables.sound in
-      let is = rows_among after.trees after.schema (subst (SchemaBeginsWith record_schema.tables) (sym it.schema) tables.begins) sound in
       let drop = row_dropped_if_due (map stored_hold_row (trees 9)) today in
       let read : map stored_part_row (changed_where (due today trees) (dropped today trees) parts) ≡ map drop (map stored_part_row parts) =
       map-map stored_part_row (λ r. cond (due today trees r) (dropped today trees r) r) parts ∙ map_has _ _ parts (λ r h. part_row_is today trees holds_are r (part_rows r h)) ∙ sym (map-map drop stored_part_row parts) in
-      let more : held_rows after.trees ≡ rows_without_due today (held_rows trees) = rw (meta, registries, notices, handovers, holds, it.here, read) refl in
-      let kept = tables.ordered in (
-        it.schema,
-        among_still s.now after tables it.schema sound (rw (meta, registries, notices, handovers, holds) (kept.0, (kept.1.0, (it.shaped, (kept.1.1.1.0, (kept.1.1.1.1.0, (kept.1.1.1.1.1.0, tt))))))),
-        is ∙ more ∙ sym (ap (rows_without_due today) was),
-      )
+      one_table s tables after 3 (rows_without_due today) it.schema sound it.shaped it.others (rw (it.here, read) refl)
 
   -- how many rows it changed
   counts_due : (tally : Tally) (after : Database)

@@ -1,22 +1,22 @@
--- The ends of the transaction that makes the tables, or adds that of holds.
-use Rattle.std.proofs.Common.{◌≡◌, ◌⊎◌, inl, inr, true, false, Ok, Err, Result, OnOk, OnErr, IsTrue, refl, sym, ap, subst, ◌∙◌}
-use Rattle.std.specs.Result.{IsErr}
-use Rattle.sqlite.specs.Tree.{Trees}
+-- The transaction that makes the tables, or adds that of holds.
+use Rattle.std.proofs.Common.{◌≡◌, ◌⊎◌, inl, inr, ℕ, pos, [], ◌∷◌, true, false, List, Ok, Err, Result, OnOk, OnErr, IsTrue, refl, sym, ap, subst, ◌∙◌}
 use Rattle.sqlite.specs.Effect.{Database}
-use Rattle.sqlite.specs.declared.error.Error.{Error}
-use Rattle.sqlite.specs.Steps.{FailsToCommit}
-use Rattle.sqlite.specs.State.{State, HasCleanDisk, Survives, KeepsCommit, IsRolledBack, Shows}
+use Rattle.sqlite.specs.State.{State, HasCleanDisk}
 use Rattle.sqlite.specs.Store.{Ghosts}
 use Rattle.sqlite.specs.Held.{Held, state}
-use Rattle.sqlite.proofs.Callers.{survives_begin}
 use Rattle.custody_store.specs.Schema.{no_schema, first_schema, record_schema}
-use Rattle.custody_records.specs.Rows.{Rows, migrated_rows}
+use Rattle.custody_records.specs.Rows.{Rows, initial_rows, migrated_rows}
 use Rattle.custody_store.specs.Reading.{rows_in}
 use Rattle.custody_store.specs.inside.Making.{IsMakingTables, HasMadeTables, empty_trees}
 use Rattle.custody_store.specs.StoreState.{HasOnlyTables, IsAtRest, IsReady, HasSchemaAtRest, IsBare, SameTablesAndRows, MayLeaveRows, IsOneCreation, CreatesTables, IsOneMigration, Migrates, as_store_state, store_state}
-use Rattle.custody_store.specs.Calls.{LeavesCommitted}
+use Rattle.custody_store.specs.Calls.{LeavesCommitted, SqlStatement, AreRun, RunsTogether}
+use Rattle.custody_store.specs.Statements.{insert_meta_text, insert_meta_values, create_statements, set_schema_text, migrate_statements}
 use Rattle.custody_store.proofs.AmongLemmas.{as_made}
-use Rattle.custody_store.proofs.CommitLemmas.{at_rest, ready_at, stands_at, trusts}
+use Rattle.custody_store.proofs.CommitLemmas.{at_rest, ready_at, stands_at}
+use Rattle.custody_store.proofs.SchemaLemmas.{all_creations, hold_creation, makes_all, makes_hold}
+use Rattle.custody_store.proofs.MakingLemmas.{makes_each, puts_meta}
+use Rattle.custody_store.proofs.MigrationLemmas.{without_holds, sets_schema}
+use Rattle.custody_store.proofs.TogetherLemmas.{only_run}
 
 -- Tables of schema 2 are there at once with these rows, or the database stands as it stood.
 pub record IsOneEnd {A E : Type 0} (old new : State) (after : Rows) (result : Result A E) : Type 0 where
@@ -25,66 +25,58 @@ pub record IsOneEnd {A E : Type 0} (old new : State) (after : Rows) (result : Re
   pub kept : OnErr result (IsTrue new.is_open → SameTablesAndRows (as_store_state old) (as_store_state new))
   pub left : (rows : Rows) → MayLeaveRows new rows → MayLeaveRows old rows ⊎ (rows ≡ after)
 
-module _ (old new : State) (was : IsAtRest old) (settled : LeavesCommitted new) (clean : HasCleanDisk new) (after : Rows) where
-  kept : (mid : State) → (IsTrue mid.is_open → mid.committed ≡ old.committed) → IsRolledBack mid new → IsTrue new.is_open → SameTablesAndRows (as_store_state old) (as_store_state new)
-  kept mid same undone is_open =
-      let both = undone.undone is_open in
-      stands_at old new (at_rest new is_open undone.autocommit (both.1 ∙ sym both.0) settled) (both.0 ∙ same (undone.was_open is_open) ∙ was.committed)
+module _ {S : Type 0} (g : Ghosts S) (statements : List SqlStatement) (old new : Held S) (settled : LeavesCommitted (state g new)) (mode : old.in_transaction ≡ false → new.in_transaction ≡ false) (clean : HasCleanDisk (state g new)) (was : IsAtRest (state g old)) (after : Rows)
+    (makes : (last : Held S) → AreRun g statements (record old { in_transaction = true }) last → HasMadeTables after (state g old).now (state g last)) where
+  left : {A E : Type 0} (r : Result A E) → RunsTogether g statements old new r → (rows : Rows) → MayLeaveRows (state g new) rows → MayLeaveRows (state g old) rows ⊎ (rows ≡ after)
+  left r runs rows h = elim (runs.left clean h.0 h.1) [ inl before ↦ inl (h.0, before, h.2) | inr did ↦ inr (h.2 ∙ ap rows_in did.2 ∙ (makes did.0 did.1).rows_are) ]
 
-  pub undone : {A E : Type 0} (mid : State) (r : Result A E) → IsErr r → (IsTrue mid.is_open → mid.committed ≡ old.committed) → IsRolledBack mid new → Survives old new (λ _. ⊥) → IsOneEnd old new after r
-  undone mid (Ok x) is same back survives = absurd (let e = is in cc)
-  undone mid (Err e) is same back survives = record {
+  one_end : {A E : Type 0} (r : Result A E) → RunsTogether g statements old new r → IsOneEnd (state g old) (state g new) after r
+  one_end (Ok x) runs =
+      let did = runs.done clean in
+      let made = makes did.0 did.1 in
+      let shows = did.2 in
+      let tables = as_made (state g new).now (subst (HasOnlyTables record_schema) (sym shows.now_is) made.tables) in
+      record {
+        done = (ready_at (state g new) shows.is_open shows.mode (shows.committed_is ∙ sym shows.now_is) settled tables, ap (λ (d : Database). rows_in d.trees) shows.now_is ∙ made.rows_are);
+        made = ap (λ (d : Database). d.schema) shows.now_is ∙ made.tables.schema_is;
+        kept = tt;
+        left = left (Ok x) runs;
+      }
+  one_end (Err e) runs = record {
     done = tt;
     made = tt;
-    kept = kept mid same back;
-    left = λ rows h. elim (survives.crash clean h.0 h.1) [ inl before ↦ inl (h.0, before, h.2) | inr none ↦ absurd none ];
+    kept = λ is_open. let both = runs.kept clean was.autocommit was.committed is_open in stands_at (state g old) (state g new) (at_rest (state g new) is_open (mode was.autocommit) (both.1 ∙ sym both.0) settled) both.0;
+    left = left (Err e) runs;
   }
 
-  module _ (mid : State) (made : HasMadeTables after old.now mid) (survives : Survives old new (λ db. db ≡ mid.now.trees)) where
-    left : (rows : Rows) → MayLeaveRows new rows → MayLeaveRows old rows ⊎ (rows ≡ after)
-    left rows h = elim (survives.crash clean h.0 h.1) [ inl before ↦ inl (h.0, before, h.2) | inr is ↦ inr (h.2 ∙ ap rows_in is ∙ made.rows_are) ]
+-- ---- what the transaction makes
 
-    pub committed : {A E : Type 0} (x : A) → Shows mid new mid.now mid.now false → IsOneEnd {E = E} old new after (Ok x)
-    committed x shows = record {
-      done = (ready_at new shows.is_open shows.mode (shows.committed_is ∙ sym shows.now_is) settled (as_made new.now (subst (HasOnlyTables record_schema) (sym shows.now_is) made.tables)), ap (λ (d : Database). rows_in d.trees) shows.now_is ∙ made.rows_are);
-      made = ap (λ (d : Database). d.schema) shows.now_is ∙ made.tables.schema_is;
-      kept = tt;
-      left = left;
-    }
+creates : {S : Type 0} (g : Ghosts S) (digits : List ℕ) (blocks : ℕ) (old last : Held S) → IsBare (state g old) → AreRun g (create_statements digits blocks) (record old { in_transaction = true }) last → HasMadeTables (initial_rows digits (pos blocks)) (state g old).now (state g last)
+creates g digits blocks old last bare ran =
+    let first = (state g old).now in
+    let begun : Held _ = record old { in_transaction = true } in
+    let start : IsMakingTables no_schema first empty_trees (state g begun) = record { is_open = bare.rest.is_open; inside = refl; committed = bare.rest.committed; schema_is = bare.schema; sound = bare.sound; rows_are = tt } in
+    let made = makes_each g no_schema all_creations ((insert_meta_text, insert_meta_values digits blocks) ∷ []) first empty_trees begun last makes_all start ran in
+    let put = only_run g (insert_meta_text, insert_meta_values digits blocks) made.0 last made.2 in
+    puts_meta digits (pos blocks) first (state g made.0) (state g last) put.0 made.1 put.1
 
-    pub uncommitted : {A E : Type 0} (e : Error) (x : E) → FailsToCommit mid new e → IsOneEnd {A = A} old new after (Err x)
-    uncommitted e x (inl fails) = record { done = tt; made = tt; kept = kept mid (λ _. made.committed ∙ sym was.committed) fails.3; left = left }
-    uncommitted e x (inr late) = absurd (let b = made.inside in let f = late.1 in cc)
+adds_holds : {S : Type 0} (g : Ghosts S) (old last : Held S) → HasSchemaAtRest first_schema (state g old) → AreRun g migrate_statements (record old { in_transaction = true }) last → HasMadeTables (migrated_rows (rows_in (state g old).now.trees)) (state g old).now (state g last)
+adds_holds g old last ready ran =
+    let first = (state g old).now in
+    let begun : Held _ = record old { in_transaction = true } in
+    let start : IsMakingTables first_schema first (without_holds first.trees) (state g begun) = record {
+      is_open = ready.rest.is_open;
+      inside = refl;
+      committed = ready.rest.committed;
+      schema_is = ready.tables.schema_is;
+      sound = ready.tables.sound;
+      rows_are = (refl, (refl, (refl, (refl, (refl, tt)))));
+    } in
+    let made = makes_each g first_schema hold_creation ((set_schema_text, []) ∷ []) first (without_holds first.trees) begun last (refl, makes_hold, tt) start ran in
+    let set = only_run g (set_schema_text, []) made.0 last made.2 in
+    sets_schema first (state g made.0) (state g last) set.0 ready.tables made.1 set.1
 
--- ---- where the transaction begins
-
-starts : (old : State) → IsBare old → IsMakingTables no_schema old.now empty_trees (record old { in_transaction = true })
-starts old bare = record { is_open = bare.rest.is_open; inside = refl; committed = bare.rest.committed; schema_is = bare.schema; sound = bare.sound; rows_are = tt }
-
-starts_earlier : (old : State) → HasSchemaAtRest first_schema old → IsMakingTables first_schema old.now old.now.trees (record old { in_transaction = true })
-starts_earlier old ready = record {
-  is_open = ready.rest.is_open;
-  inside = refl;
-  committed = ready.rest.committed;
-  schema_is = ready.tables.schema_is;
-  sound = ready.tables.sound;
-  rows_are = (refl, (refl, (refl, (refl, (refl, tt)))));
-}
-
-module _ {S : Type 0} (g : Ghosts S) (old begun : Held S) (is : begun ≡ record old { in_transaction = true }) where
-  pub starts_at : IsBare (state g old) → IsMakingTables no_schema (state g old).now empty_trees (state g begun)
-  starts_at bare = subst (λ h. IsMakingTables no_schema (state g old).now empty_trees (state g h)) (sym is) (starts (state g old) bare)
-
-  pub starts_earlier_at : HasSchemaAtRest first_schema (state g old) → IsMakingTables first_schema (state g old).now (state g old).now.trees (state g begun)
-  starts_earlier_at ready = subst (λ h. IsMakingTables first_schema (state g old).now (state g old).now.trees (state g h)) (sym is) (starts_earlier (state g old) ready)
-
-  pub keeps_at : (mid : State) → KeepsCommit (state g begun) mid → IsTrue mid.is_open → mid.committed ≡ (state g old).committed
-  keeps_at mid keeps is_open = keeps.committed is_open ∙ ap (λ h. (state g h).committed) is
-
-  pub survives_at : (new : State) (P : Trees → Type 0) → Survives (state g begun) new P → Survives (state g old) new P
-  survives_at new P h = survives_begin g old new P (subst (λ b. Survives (state g b) new P) is h)
-
--- ---- what the call is, which ends with no transaction open, whatever it wrote
+-- ---- what the call is
 
 one_founding : {A E : Type 0} (old new : State) (after : Rows) (r : Result A E) → IsBare old → IsOneEnd old new after r → IsOneCreation (as_store_state old) (as_store_state new) after r
 one_founding old new after (Ok x) bare end = record { done = end.done; made = end.made; kept = tt; left = end.left }
@@ -94,17 +86,17 @@ one_migration : {A E : Type 0} (old new : State) (r : Result A E) → HasSchemaA
 one_migration old new (Ok x) ready end = record { done = end.done; made = end.made; kept = tt; left = end.left }
 one_migration old new (Err e) ready end = record { done = tt; made = tt; kept = λ is_open. let still = end.kept is_open in (still.earlier ready, still.rows); left = end.left }
 
-module _ {S A E : Type 0} (g : Ghosts S) (old end exit : Held S) (same : end ≡ exit) (P : Trees → Type 0) (r : Result A E) (survives : Survives (state g old) (state g end) P) (ended : (state g end).in_transaction ≡ false) where
-  pub founds : (after : Rows) → (HasCleanDisk (state g end) → IsBare (state g old) → IsOneEnd (state g old) (state g end) after r) → CreatesTables (store_state g old) (store_state g exit) after r
-  founds after effect = subst (λ h. CreatesTables (store_state g old) (store_state g h) after r) same (record {
-    trust = trusts (state g old) (state g end) P survives;
-    mode = λ _. ended;
-    effect = λ clean bare. one_founding (state g old) (state g end) after r bare (effect clean bare);
-  })
+module _ {S A E : Type 0} (g : Ghosts S) (old new : Held S) (r : Result A E) (settled : LeavesCommitted (state g new)) (trust : HasCleanDisk (state g new) → HasCleanDisk (state g old)) (mode : old.in_transaction ≡ false → new.in_transaction ≡ false) where
+  pub founds : (digits : List ℕ) (blocks : ℕ) → RunsTogether g (create_statements digits blocks) old new r → CreatesTables (store_state g old) (store_state g new) (initial_rows digits (pos blocks)) r
+  founds digits blocks runs = record {
+    trust = trust;
+    mode = mode;
+    effect = λ clean bare. one_founding (state g old) (state g new) _ r bare (one_end g _ old new settled mode clean bare.rest _ (λ last. creates g digits blocks old last bare) r runs);
+  }
 
-  pub migrates : (HasCleanDisk (state g end) → HasSchemaAtRest first_schema (state g old) → IsOneEnd (state g old) (state g end) (migrated_rows (rows_in (state g old).now.trees)) r) → Migrates (store_state g old) (store_state g exit) r
-  migrates effect = subst (λ h. Migrates (store_state g old) (store_state g h) r) same (record {
-    trust = trusts (state g old) (state g end) P survives;
-    mode = λ _. ended;
-    effect = λ clean ready. one_migration (state g old) (state g end) r ready (effect clean ready);
-  })
+  pub migrates : RunsTogether g migrate_statements old new r → Migrates (store_state g old) (store_state g new) r
+  migrates runs = record {
+    trust = trust;
+    mode = mode;
+    effect = λ clean ready. one_migration (state g old) (state g new) r ready (one_end g _ old new settled mode clean ready.rest _ (λ last. adds_holds g old last ready) r runs);
+  }

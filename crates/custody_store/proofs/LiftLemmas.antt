@@ -1,5 +1,5 @@
 -- The UPDATE that lifts a hold changes just the row of its reference.
-use Rattle.std.proofs.Common.{◌≡◌, inl, inr, ℕ, pos, ◌&&◌, Bool, true, false, cond, List, [], ◌∷◌, map, Result, refl, sym, ap, subst, ◌∙◌, arith}
+use Rattle.std.proofs.Common.{◌≡◌, inl, inr, ℕ, pos, ◌&&◌, Bool, true, false, cond, List, [], ◌∷◌, map, Result, refl, sym, ap, ◌∙◌}
 use Rattle.std.specs.Str.{bytes_eq}
 use Rattle.std.proofs.lemmas.Bool.{cases_Bool}
 use Rattle.sqlite.specs.declared.types.Value.TheVariants.{Text}
@@ -18,16 +18,15 @@ use Rattle.sqlite.proofs.Callers.{statement_of}
 use Rattle.custody_records.specs.Rows.{row_with_lifting, with_lifting}
 use Rattle.custody_store.specs.Schema.{record_schema}
 use Rattle.custody_store.specs.Reading.{rows_in, stored_hold_row}
-use Rattle.custody_store.specs.StoreState.{HasTablesAmongOthers, SchemaBeginsWith, as_store_state, Commits}
+use Rattle.custody_store.specs.StoreState.{HasTablesAmongOthers, as_store_state, Commits}
 use Rattle.custody_store.specs.Calls.{RunsStatement}
 use Rattle.custody_store.specs.Statements.{lift_text, lift_values}
 use Rattle.custody_store.proofs.StatementLemmas.{lift_tests, lifted_places, lift_program, lift_is}
-use Rattle.custody_store.proofs.TableLemmas.{rows_among, held_rows}
 use Rattle.custody_store.proofs.EditLemmas.{changed_where}
 use Rattle.custody_store.proofs.UpdateLemmas.{rewrites, passes, heir}
 use Rattle.custody_store.proofs.TestLemmas.{is_text, map_has}
 use Rattle.custody_store.proofs.HoldLemmas.{hold_at, IsHoldRow, hold_rows}
-use Rattle.custody_store.proofs.CommitLemmas.{Changes, among_still, commits_change, update_writes}
+use Rattle.custody_store.proofs.CommitLemmas.{Changes, one_table, commits_change, update_writes}
 use Rattle.sqlite_rules.proofs.ListLemmas.{has_front}
 use Rattle.custody_store.proofs.AmongLemmas.{record_quiet}
 use Rattle.custody_store.proofs.RowLemmas.{cast_int}
@@ -67,21 +66,9 @@ module _ (reference : List ℕ) (at : ℕ) where
   changes_lifted s tables tally after does sound =
       let trees = s.now.trees in
       let it = rewrites record_schema.tables record_quiet s 5 hold_at (inner 9 end) lift_tests lifted_places (lift_values reference at) among (statement_of lift_text (understood s.now.schema lift_text)) tables.begins tables.apart (inr (inr (inr (inr (inr (inl refl)))))) (λ others. refl) refl tables.ordered.1.1.1.1.1.0 (λ r. refl) (λ r. refl) tally after does in
-      let meta : after.trees 0 ≡ trees 0 = it.others.0 (λ e. omega (arith, e)) in
-      let registries : after.trees 1 ≡ trees 1 = it.others.1.0 (λ e. omega (arith, e)) in
-      let parts : after.trees 3 ≡ trees 3 = it.others.1.1.0 (λ e. omega (arith, e)) in
-      let notices : after.trees 5 ≡ trees 5 = it.others.1.1.1.0 (λ e. omega (arith, e)) in
-      let handovers : after.trees 7 ≡ trees 7 = it.others.1.1.1.1.0 (λ e. omega (arith, e)) in
-      let was = rows_among trees s.now.schema tables.begins tables.sound in
-      let is = rows_among after.trees after.schema (subst (SchemaBeginsWith record_schema.tables) (sym it.schema) tables.begins) sound in
       let read : map stored_hold_row (changed_where sought lifted (trees 9)) ≡ map (row_with_lifting reference at) (map stored_hold_row (trees 9)) =
       map-map stored_hold_row (λ r. cond (sought r) (lifted r) r) (trees 9) ∙ map_has _ _ (trees 9) (λ r h. hold_row_is r (hold_rows s.now.schema trees tables.sound (has_front s.now.schema.tables record_schema.tables tables.begins.0 hold_at tables.begins.1 (inr (inr (inr (inr (inr (inl refl))))))) r h)) ∙ sym (map-map (row_with_lifting reference at) stored_hold_row (trees 9)) in
-      let more : held_rows after.trees ≡ with_lifting reference at (held_rows trees) = rw (meta, registries, parts, notices, handovers, it.here, read) refl in
-      let kept = tables.ordered in (
-        it.schema,
-        among_still s.now after tables it.schema sound (rw (meta, registries, parts, notices, handovers) (kept.0, (kept.1.0, (kept.1.1.0, (kept.1.1.1.0, (kept.1.1.1.1.0, (it.shaped, tt))))))),
-        is ∙ more ∙ sym (ap (with_lifting reference at) was),
-      )
+      one_table s tables after 9 (with_lifting reference at) it.schema sound it.shaped it.others (rw (it.here, read) refl)
 
   pub lifts : {A E : Type 0} (old new : State) (r : Result A E) → RunsStatement lift_text (lift_values reference at) old new r → Commits (as_store_state old) (as_store_state new) (with_lifting reference at (rows_in old.now.trees)) r
   lifts old new r = commits_change lift_text (lift_values reference at) (Update 5 lift_program) lift_is (update_writes 5 lift_program) old new (with_lifting reference at) r (λ ready. changes_lifted old ready.tables)

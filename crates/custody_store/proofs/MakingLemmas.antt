@@ -9,17 +9,19 @@ use Rattle.sqlite.specs.Compile.{table_defined_by}
 use Rattle.sqlite.specs.Command.TheVariants.{CreateTable}
 use Rattle.sqlite.specs.Listing.{understood}
 use Rattle.sqlite.specs.Effect.{Database}
+use Rattle.sqlite.specs.Store.{Ghosts}
+use Rattle.sqlite.specs.Held.{Held, state}
 use Rattle.sqlite.specs.Does.{Tally, lacks_sequence}
 use Rattle.sqlite.specs.State.{State, Writes, ExecutesInside}
 use Rattle.sqlite.proofs.Callers.{command_of, statement_of, runs_as}
-use Rattle.std.proofs.Common.{ℤ, pos, arith}
+use Rattle.std.proofs.Common.{ℤ, pos}
 use Rattle.sqlite.specs.declared.types.Value.TheVariants.{Null, Int, Text}
 use Rattle.sqlite.specs.Order.{Row}
 use Rattle.sqlite.specs.Cast.{cast_row}
 use Rattle.sqlite.specs.Command.TheVariants.{Insert}
 use Rattle.sqlite.specs.Edit.{edit_of}
 use Rattle.sqlite.specs.Rowids.TheVariants.{Chosen}
-use Rattle.sqlite.specs.Tree.{put_row}
+use Rattle.sqlite.specs.Tree.{put_row, with_tree}
 use Rattle.sqlite.specs.Does.{Does}
 use Rattle.sqlite.specs.State.{mode_of}
 use Rattle.sqlite.proofs.Callers.{one_step}
@@ -31,7 +33,9 @@ use Rattle.custody_store.specs.Reading.{rows_in}
 use Rattle.custody_store.specs.inside.Making.{HasMadeTables, empty_trees}
 use Rattle.custody_store.specs.Statements.{insert_meta_text}
 use Rattle.custody_store.proofs.StatementLemmas.{meta_source, insert_meta_is, over_schema_2}
-use Rattle.custody_store.proofs.TableLemmas.{rows_held, held_rows, sound_as}
+use Rattle.custody_store.specs.Calls.{SqlStatement, AreRun}
+use Rattle.custody_store.proofs.SchemaLemmas.{Creation, AreCreations}
+use Rattle.custody_store.proofs.TableLemmas.{rows_held, held_rows, sound_as, rows_after, ordered_as, held_as}
 use Rattle.custody_store.proofs.InsertLemmas.{went, same_value, puts}
 use Rattle.custody_store.proofs.RowLemmas.{cast_null, cast_int, at_tree}
 use Rattle.sqlite_resolve.specs.declared.compiled.Compiled.{Compiled}
@@ -50,7 +54,7 @@ meant : (sql : List ℕ) (table : Table) (r : Result Compiled CompileError) → 
 meant sql table (Ok c) h = h
 meant sql table (Err e) h = absurd h
 
-pub makes : (sql : List ℕ) (old new : State) (count : ℕ) → ExecutesInside 0 sql [] old new (Ok count) → (schema : Schema) (table : Table) (first : Database) (rows : Trees) → rows (next_tree schema) ≡ [] → IsCreateText schema sql table → IsMakingTables schema first rows old
+makes : (sql : List ℕ) (old new : State) (count : ℕ) → ExecutesInside 0 sql [] old new (Ok count) → (schema : Schema) (table : Table) (first : Database) (rows : Trees) → rows (next_tree schema) ≡ [] → IsCreateText schema sql table → IsMakingTables schema first rows old
     → IsMakingTables (created schema table) first rows new
 makes sql old new count h schema table first rows none text making =
     let means = meant sql table (understood schema sql) text.means in
@@ -75,6 +79,22 @@ makes sql old new count h schema table first rows none text making =
       rows_are = subst (λ (t : Trees). AllByRecursion (λ u. t u.tree ≡ rows u.tree) (created schema table).tables) (sym trees) (all_push (λ t. one.0.trees t.tree ≡ rows t.tree) schema.tables _ (still_are rows old.now.trees one.0.trees schema.tables others making.rows_are) (fresh ∙ sym none));
     }
 
+-- the schema after these tables
+abbrev all_created : Schema → List Creation → Schema
+all_created schema [] = schema
+all_created schema (it ∷ more) = all_created (created schema it.1) more
+
+-- their statements, before others
+abbrev creations_and : List Creation → List SqlStatement → List SqlStatement
+creations_and [] others = others
+creations_and (it ∷ more) others = (it.0, []) ∷ creations_and more others
+
+pub makes_each : {S : Type 0} (g : Ghosts S) (schema : Schema) (creations : List Creation) (others : List SqlStatement) (first : Database) (rows : Trees) (old new : Held S) → AreCreations schema rows creations → IsMakingTables schema first rows (state g old)
+    → AreRun g (creations_and creations others) old new → (mid : Held S) × IsMakingTables (all_created schema creations) first rows (state g mid) × AreRun g others mid new
+makes_each g schema [] others first rows old new are making ran = (old, making, ran)
+makes_each g schema (it ∷ more) others first rows old new are making ran =
+    makes_each g (created schema it.1) more others first rows ran.1 new are.2 (makes it.0 (state g old) (state g ran.1) ran.0 ran.2 schema it.1 first rows are.0 are.1 making) ran.3
+
 -- ---- the row of meta
 
 module _ (number : List ℕ) (blocks : ℤ) where
@@ -97,20 +117,15 @@ module _ (number : List ℕ) (blocks : ℤ) where
       let edit = edit_of trees (at_tree 0 meta_table) [] Chosen 0 (source ∷ []) in
       let wrote = subst (λ rows. EditWrites record_schema (mode_of old).keys trees (edit_of trees (at_tree 0 meta_table) [] Chosen 0 rows) (Ok new.now.trees)) it.source.1 it.applied in
       let put = one_step record_schema (mode_of old).keys trees new.now.trees edit refl wrote in
-      let empty = making.rows_are in
-      let rows : new.now.trees 0 ≡ source ∷ [] = put.rows ∙ ap (λ row. put_row (with_rowid Chosen (trees 0) row) (trees 0)) typed ∙ ap (put_row source) empty.0 in
-      let registries : new.now.trees 1 ≡ [] = put.tables.1.0 (λ e. omega (arith, e)) ∙ empty.1.0 in
-      let parts : new.now.trees 3 ≡ [] = put.tables.1.1.0 (λ e. omega (arith, e)) ∙ empty.1.1.0 in
-      let notices : new.now.trees 5 ≡ [] = put.tables.1.1.1.0 (λ e. omega (arith, e)) ∙ empty.1.1.1.0 in
-      let handovers : new.now.trees 7 ≡ [] = put.tables.1.1.1.1.0 (λ e. omega (arith, e)) ∙ empty.1.1.1.1.0 in
-      let holds : new.now.trees 9 ≡ [] = put.tables.1.1.1.1.1.0 (λ e. omega (arith, e)) ∙ empty.1.1.1.1.1.0 in
+      let rows : new.now.trees 0 ≡ source ∷ [] = put.rows ∙ ap (λ row. put_row (with_rowid Chosen (trees 0) row) (trees 0)) typed ∙ ap (put_row source) making.rows_are.0 in
+      let all = with_tree empty_trees 0 (source ∷ []) in
+      let have = rows_after record_schema.tables 0 trees new.now.trees empty_trees (source ∷ []) put.tables rows making.rows_are in
       let schema : new.now.schema ≡ record_schema = it.schema in
       let now : rows_in new.now.trees ≡ held_rows new.now.trees = rows_held new.now.trees (sound_as record_schema new.now schema w.sound) in
-      let same : held_rows new.now.trees ≡ initial_rows number blocks = rw (rows, registries, parts, notices, handovers, holds) refl in
       record {
         is_open = w.shown.is_open;
         inside = h.1.mode;
         committed = h.1.committed_is ∙ making.committed;
-        tables = record { schema_is = schema; sound = w.sound; ordered = rw (rows, registries, parts, notices, handovers, holds) (((tt, tt), (refl, tt)), ((tt, tt), ((tt, tt), ((tt, tt), ((tt, tt), ((tt, tt), tt)))))) };
-        rows_are = now ∙ same;
+        tables = record { schema_is = schema; sound = w.sound; ordered = ordered_as record_schema.tables all new.now.trees have (((tt, tt), (refl, tt)), ((tt, tt), ((tt, tt), ((tt, tt), ((tt, tt), ((tt, tt), tt)))))) };
+        rows_are = now ∙ held_as all new.now.trees have;
       }

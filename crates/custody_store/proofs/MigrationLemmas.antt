@@ -1,5 +1,5 @@
 -- The UPDATE that writes the number of schema 2 into meta, in the transaction that has made the table of holds.
-use Rattle.std.proofs.Common.{◌≡◌, inl, ℕ, pos, [], ◌∷◌, map, codes, None, Ok, refl, sym, ap, subst, ◌∙◌, arith}
+use Rattle.std.proofs.Common.{◌≡◌, inl, ℕ, pos, [], ◌∷◌, map, codes, None, Ok, refl, sym, ap, subst, ◌∙◌}
 use Rattle.std.proofs.lemmas.Bool.{and_parts}
 use Rattle.sqlite.specs.Order.{Row}
 use Rattle.sqlite.specs.Term.{Env}
@@ -28,7 +28,7 @@ use Rattle.sqlite.specs.Schema.{Schema}
 use Rattle.custody_store.proofs.AmongLemmas.{record_quiet, record_apart}
 use Rattle.custody_store.specs.Statements.{set_schema_text}
 use Rattle.custody_store.proofs.StatementLemmas.{set_schema_places, set_schema_program, set_schema_is, over_schema_2}
-use Rattle.custody_store.proofs.TableLemmas.{rows_first, rows_held, held_beside, held_rows, sound_as}
+use Rattle.custody_store.proofs.TableLemmas.{rows_first, rows_held, held_beside, held_rows, sound_as, rows_after, ordered_as, held_as}
 use Rattle.custody_store.proofs.UpdateLemmas.{rewrites, heir, heir_rowid}
 use Rattle.custody_store.proofs.TestLemmas.{map_has}
 use Rattle.custody_store.proofs.ColumnLemmas.{cast_at}
@@ -39,17 +39,6 @@ use Rattle.custody_store.proofs.RowLemmas.{at_tree, cast_int}
 -- the rows of a database of schema 1, of which the tree that the table of holds gets has none
 abbrev pub without_holds : Trees → Trees
 without_holds trees = with_tree trees (next_tree first_schema) []
-
--- a transaction over schema 1 that has made nothing yet
-pub before_holds : (first : Database) (s : State) → IsMakingTables first_schema first first.trees s → IsMakingTables first_schema first (without_holds first.trees) s
-before_holds first s making = record {
-  is_open = making.is_open;
-  inside = making.inside;
-  committed = making.committed;
-  schema_is = making.schema_is;
-  sound = making.sound;
-  rows_are = making.rows_are;
-}
 
 abbrev meta_at : Table
 meta_at = at_tree 0 meta_table
@@ -94,18 +83,15 @@ sets_schema first old new count tables making h =
     let apart = subst (λ (t : Schema). HaveOwnTrees t.tables) (sym making.schema_is) record_apart in
     let it = rewrites record_schema.tables record_quiet old 0 meta_at (inner 0 end) [] set_schema_places [] alone text begins apart (inl refl) (λ others. refl) refl shaped (λ r. refl) (λ r. refl) w.tally new.now w.changed in
     let schema : new.now.schema ≡ record_schema = it.schema ∙ making.schema_is in
-    let registries : after 1 ≡ first.trees 1 = it.others.1.0 (λ e. omega (arith, e)) ∙ was.1.0 in
-    let parts : after 3 ≡ first.trees 3 = it.others.1.1.0 (λ e. omega (arith, e)) ∙ was.1.1.0 in
-    let notices : after 5 ≡ first.trees 5 = it.others.1.1.1.0 (λ e. omega (arith, e)) ∙ was.1.1.1.0 in
-    let handovers : after 7 ≡ first.trees 7 = it.others.1.1.1.1.0 (λ e. omega (arith, e)) ∙ was.1.1.1.1.0 in
-    let holds : after 9 ≡ [] = it.others.1.1.1.1.1.0 (λ e. omega (arith, e)) ∙ was.1.1.1.1.1.0 in
+    let all = with_tree (without_holds first.trees) 0 (after 0) in
+    let have = rows_after record_schema.tables 0 trees after (without_holds first.trees) (after 0) it.others refl was in
     let read : map stored_meta_row (after 0) ≡ map in_schema_2 (map stored_meta_row (first.trees 0)) =
     ap (map stored_meta_row) it.here ∙ map-map stored_meta_row set (trees 0) ∙ map_has _ _ (trees 0) (set_is trees before shaped) ∙ sym (map-map in_schema_2 stored_meta_row (trees 0)) ∙ ap (λ rows. map in_schema_2 (map stored_meta_row rows)) was.0 in
-    let same : held_rows after ≡ migrated_rows (held_beside None first.trees) = rw (registries, parts, notices, handovers, holds, read) refl in
+    let same : held_rows after ≡ migrated_rows (held_beside None first.trees) = held_as all after have ∙ rw read refl in
     record {
       is_open = w.shown.is_open;
       inside = h.1.mode;
       committed = h.1.committed_is ∙ making.committed;
-      tables = record { schema_is = schema; sound = w.sound; ordered = rw (registries, parts, notices, handovers, holds) (it.shaped, (up.1.0, (up.1.1.0, (up.1.1.1.0, (up.1.1.1.1.0, ((tt, tt), tt)))))) };
+      tables = record { schema_is = schema; sound = w.sound; ordered = ordered_as record_schema.tables all after have (it.shaped, (up.1.0, (up.1.1.0, (up.1.1.1.0, (up.1.1.1.1.0, ((tt, tt), tt)))))) };
       rows_are = rows_held after (sound_as record_schema new.now schema w.sound) ∙ same ∙ sym (ap migrated_rows (earlier_rows first tables));
     }

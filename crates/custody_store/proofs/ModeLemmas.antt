@@ -36,13 +36,14 @@ is_change (written.Insert way name columns rows clauses shown) = true
 is_change (written.Update name sets test shown) = true
 is_change _ = false
 
-abbrev of_change : Checked Parsed → Bool
-of_change (Ok p) = is_change p.statement
-of_change (Err e) = false
+-- the text was parsed, and its statement passes
+abbrev pub of_parsed : (Statement → Bool) → Checked Parsed → Bool
+of_parsed is (Ok p) = is p.statement
+of_parsed is (Err e) = false
 
 -- the text is an INSERT or an UPDATE
 abbrev pub is_change_text : List ℕ → Bool
-is_change_text sql = of_change (first sql)
+is_change_text sql = of_parsed is_change (first sql)
 
 abbrev keeps_mode : Command → Bool
 keeps_mode (Select q names) = true
@@ -67,7 +68,37 @@ pub either : {A : Type 0} (test : A → Bool) (b : Bool) (x y : Checked A) → O
 either test true x y hx hy = hx
 either test false x y hx hy = hy
 
--- ---- what a text is compiled to
+-- ---- what a text is compiled to, where a test of its statement decides one of its command and its RETURNING
+
+module _ (is : Statement → Bool) (test : Command → Option Returning → Bool) (meant : (schema : Schema) (p : Parsed) (base : ℕ) → is p.statement ≡ true → OnChecked (λ (found : Command × Option Returning). test found.0 found.1) (meaning schema p base)) where
+  abbrev passes : Compiled → Bool
+  passes c = test c.command c.returning
+
+  planned_passes : (schema : Schema) (p : Parsed) → is p.statement ≡ true → OnChecked (λ (plan : List Name × (Command × Option Returning)). test plan.1.0 plan.1.1) (planned schema p)
+  unfolding planned
+  planned_passes schema p h =
+      such_then (λ (found : Command × Option Returning). test found.0 found.1) (λ (plan : List Name × (Command × Option Returning)). test plan.1.0 plan.1.1) (meaning schema p _) _ (meant schema p _ h) (λ found k. k)
+
+  of_first : (r : Checked Parsed) → of_parsed is r ≡ true → OnChecked (λ p. is p.statement) r
+  of_first (Ok p) h = h
+  of_first (Err e) h = tt
+
+  compiled_passes : (schema : Schema) (sql : List ℕ) → of_parsed is (first sql) ≡ true → OnChecked passes (compiled schema sql)
+  unfolding compiled
+  compiled_passes schema sql h =
+      such_then (λ p. is p.statement) passes (first sql) _ (of_first (first sql) h) (λ p k.
+      such_then (λ (plan : List Name × (Command × Option Returning)). test plan.1.0 plan.1.1) passes (planned schema p) _ (planned_passes schema p k) (λ plan j. j))
+
+  selected : (r : Result Compiled CompileError) → OnChecked passes r → OnChecked passes (if_select r)
+  selected (Ok c) h = either passes (is_select c.command) (Ok c) (Err NoSuchTable) h tt
+  selected (Err e) h = tt
+
+  pub understood_passes : (schema : Schema) (sql : List ℕ) → of_parsed is (first sql) ≡ true → OnChecked passes (understood schema sql)
+  unfolding understood
+  understood_passes schema sql h =
+      either passes (reads_listing schema sql) (if_select (compiled listing_schema sql)) (compiled schema sql) (selected (compiled listing_schema sql) (compiled_passes listing_schema sql h)) (compiled_passes schema sql h)
+
+-- ---- a statement that changes rows
 
 insert_keeps : (schema : Schema) (base : ℕ) (name : Name) (columns : List Name) (rows : Rows) → OnChecked keeps_mode (insert schema base name columns rows)
 unfolding insert
@@ -104,32 +135,8 @@ meaning_keeps schema p base is =
     any_then (λ (found : Command × Option Returning). keeps_mode found.0) (returning schema base p.statement) _ (λ shown.
     such_then keeps_mode (λ (found : Command × Option Returning). keeps_mode found.0) (command schema p.formats base p.statement) _ (command_keeps schema p.formats base p.statement is) (λ c h. h))
 
-planned_keeps : (schema : Schema) (p : Parsed) → is_change p.statement ≡ true → OnChecked (λ (plan : List Name × (Command × Option Returning)). keeps_mode plan.1.0) (planned schema p)
-unfolding planned
-planned_keeps schema p is =
-    such_then (λ (found : Command × Option Returning). keeps_mode found.0) (λ (plan : List Name × (Command × Option Returning)). keeps_mode plan.1.0) (meaning schema p _) _ (meaning_keeps schema p _ is) (λ found h. h)
-
-of_first : (r : Checked Parsed) → of_change r ≡ true → OnChecked (λ p. is_change p.statement) r
-of_first (Ok p) is = is
-of_first (Err e) is = tt
-
-abbrev compiled_keeps_mode : Compiled → Bool
-compiled_keeps_mode c = keeps_mode c.command
-
-compiled_keeps : (schema : Schema) (sql : List ℕ) → is_change_text sql ≡ true → OnChecked compiled_keeps_mode (compiled schema sql)
-unfolding compiled
-compiled_keeps schema sql is =
-    such_then (λ p. is_change p.statement) compiled_keeps_mode (first sql) _ (of_first (first sql) is) (λ p h.
-    such_then (λ (plan : List Name × (Command × Option Returning)). keeps_mode plan.1.0) compiled_keeps_mode (planned schema p) _ (planned_keeps schema p h) (λ plan k. k))
-
-selected : (r : Result Compiled CompileError) → OnChecked compiled_keeps_mode r → OnChecked compiled_keeps_mode (if_select r)
-selected (Ok c) h = either compiled_keeps_mode (is_select c.command) (Ok c) (Err NoSuchTable) h tt
-selected (Err e) h = tt
-
-understood_keeps : (schema : Schema) (sql : List ℕ) → is_change_text sql ≡ true → OnChecked compiled_keeps_mode (understood schema sql)
-unfolding understood
-understood_keeps schema sql is =
-    either compiled_keeps_mode (reads_listing schema sql) (if_select (compiled listing_schema sql)) (compiled schema sql) (selected (compiled listing_schema sql) (compiled_keeps listing_schema sql is)) (compiled_keeps schema sql is)
+understood_keeps : (schema : Schema) (sql : List ℕ) → is_change_text sql ≡ true → OnChecked (λ c. keeps_mode c.command) (understood schema sql)
+understood_keeps = understood_passes is_change (λ command returning. keeps_mode command) meaning_keeps
 
 -- ---- what it does
 
@@ -151,7 +158,7 @@ pub runs_mode : {A E : Type 0} (sql : List ℕ) (params : Row) (old new : State)
 unfolding ExecutesIn
 runs_mode sql params old new (Ok x) is runs clean mode =
     let h = (runs.ran clean).1 in
-    let kept : keeps_mode h.0.command ≡ true = subst (λ (r : Checked Compiled). OnChecked compiled_keeps_mode r) h.1.is (understood_keeps old.now.schema sql is) in
+    let kept : keeps_mode h.0.command ≡ true = subst (λ (r : Checked Compiled). OnChecked (λ c. keeps_mode c.command) r) h.1.is (understood_keeps old.now.schema sql is) in
     elim (cases_Bool (shows_rows false h.0)) [
       | inl shows ↦ absurd (let e = (rw shows at h.2).0 in cc)
       | inr hidden ↦ mode_of_run old new _ h.0.command _ _ _ kept (rw hidden at h.2) ∙ mode

@@ -1,5 +1,5 @@
 -- What the texts of the statements mean, over each schema whose first tables are these.
-use Rattle.std.proofs.Common.{◌≡◌, List, [], ◌∷◌, ◌++◌, ℕ, pos, negsuc, codes, true, false, None, refl}
+use Rattle.std.proofs.Common.{◌≡◌, List, [], ◌∷◌, ◌++◌, map, ℕ, zero, suc, pos, negsuc, codes, true, false, None, refl}
 use Rattle.sqlite.specs.declared.types.Value.TheVariants.{Null, Int}
 use Rattle.sqlite.specs.Term.{Term, lit, col, op1, op2}
 use Rattle.sqlite.specs.Query.{Query, Join, inner, counted, end}
@@ -20,7 +20,8 @@ use Rattle.sqlite.specs.Table.{Table}
 use Rattle.sqlite.specs.Schema.{Schema}
 use Rattle.sqlite_schema.specs.declared.schema.Index.{Index}
 use Rattle.sqlite_schema.specs.declared.schema.View.{View}
-use Rattle.custody_store.specs.Schema.{meta_schema, first_schema, record_schema}
+use Rattle.sqlite_schema.specs.declared.schema.Column.{Column}
+use Rattle.custody_store.specs.Schema.{meta_schema, first_schema, record_schema, meta_table, registry_table, part_table, notice_table, handover_table, hold_table}
 use Rattle.custody_store.specs.Statements.{insert_meta_text, insert_registry_text, insert_part_text, insert_notice_text, insert_handover_text, insert_hold_text, drop_due_text, lift_text, set_schema_text}
 use Rattle.custody_store.proofs.ModeLemmas.{is_change_text}
 use Rattle.custody_store.proofs.QueryLemmas.{is_query_text}
@@ -66,6 +67,7 @@ pub record IsSelectionOver (schema : Schema) (sql : List ℕ) (tree : ℕ) (proj
   pub is : command_of (understood schema sql) ≡ Select (record { lets = []; body = in_order tree project }) names
   pub plain : IsPlain (understood schema sql)
   pub unlisted : reads_listing schema sql ≡ false
+  pub query : is_query_text sql ≡ true
 
 -- the same over each schema whose first tables are these
 abbrev pub IsSelection : List Table → List ℕ → ℕ → List Term → List (List ℕ) → Type 0
@@ -73,149 +75,69 @@ IsSelection first sql tree project names = (others : List Table) (indexes : List
 
 -- ---- the statements
 
+-- so many columns of one row of the environment, from this one on
+abbrev pub columns_from : ℕ → ℕ → ℕ → List Term
+columns_from row first zero = []
+columns_from row first (suc n) = col row first ∷ columns_from row (suc first) n
+
+-- the columns that a table names
+abbrev pub names_of : Table → List (List ℕ)
+names_of t = map (λ (c : Column). c.name) t.columns
+
+-- one row of the parameters, whose rowid is chosen
+abbrev pub one_row : ℕ → Source
+one_row n = Values (lit Null ∷ columns_from 0 0 n) (suc n)
+
 abbrev pub meta_source : Source
-meta_source = Values (lit (Int (pos 1)) ∷ lit Null ∷ lit (Int (pos 2)) ∷ col 0 0 ∷ col 0 1 ∷ []) 5
+meta_source = Values (lit (Int (pos 1)) ∷ lit Null ∷ lit (Int (pos 2)) ∷ columns_from 0 0 2) 5
 
 pub insert_meta_is : IsInsertion record_schema.tables insert_meta_text 0 meta_source
 unfolding understood everything
 insert_meta_is others indexes views = record { is = refl; plain = (refl, refl); changes = refl }
 
-abbrev pub registry_source : Source
-registry_source = Values (lit Null ∷ col 0 0 ∷ col 0 1 ∷ []) 3
-
-pub insert_registry_is : IsInsertion record_schema.tables insert_registry_text 1 registry_source
+pub insert_registry_is : IsInsertion record_schema.tables insert_registry_text 1 (one_row 2)
 unfolding understood everything
 insert_registry_is others indexes views = record { is = refl; plain = (refl, refl); changes = refl }
 
-abbrev pub part_source : Source
-part_source = Values (lit Null ∷ col 0 0 ∷ col 0 1 ∷ col 0 2 ∷ col 0 3 ∷ col 0 4 ∷ col 0 5 ∷ col 0 6 ∷ col 0 7 ∷ col 0 8 ∷ col 0 9 ∷ []) 11
-
-pub insert_part_is : IsInsertion record_schema.tables insert_part_text 2 part_source
+pub insert_part_is : IsInsertion record_schema.tables insert_part_text 2 (one_row 10)
 unfolding understood everything
 insert_part_is others indexes views = record { is = refl; plain = (refl, refl); changes = refl }
 
-abbrev pub notice_source : Source
-notice_source = Values (lit Null ∷ col 0 0 ∷ col 0 1 ∷ col 0 2 ∷ col 0 3 ∷ col 0 4 ∷ col 0 5 ∷ col 0 6 ∷ []) 8
-
-pub insert_notice_is : IsInsertion record_schema.tables insert_notice_text 3 notice_source
+pub insert_notice_is : IsInsertion record_schema.tables insert_notice_text 3 (one_row 7)
 unfolding understood everything
 insert_notice_is others indexes views = record { is = refl; plain = (refl, refl); changes = refl }
 
-abbrev pub handover_source : Source
-handover_source = Values (lit Null ∷ col 0 0 ∷ col 0 1 ∷ col 0 2 ∷ col 0 3 ∷ col 0 4 ∷ []) 6
-
-pub insert_handover_is : IsInsertion record_schema.tables insert_handover_text 4 handover_source
+pub insert_handover_is : IsInsertion record_schema.tables insert_handover_text 4 (one_row 5)
 unfolding understood everything
 insert_handover_is others indexes views = record { is = refl; plain = (refl, refl); changes = refl }
 
-abbrev pub hold_source : Source
-hold_source = Values (lit Null ∷ col 0 0 ∷ col 0 1 ∷ col 0 2 ∷ col 0 3 ∷ col 0 4 ∷ []) 6
-
-pub insert_hold_is : IsInsertion record_schema.tables insert_hold_text 5 hold_source
+pub insert_hold_is : IsInsertion record_schema.tables insert_hold_text 5 (one_row 5)
 unfolding understood everything
 insert_hold_is others indexes views = record { is = refl; plain = (refl, refl); changes = refl }
 
-abbrev pub select_meta_text : List ℕ
-select_meta_text = codes "SELECT one, schema_no, number, blocks FROM meta ORDER BY rowid"
-
-abbrev pub meta_places : List Term
-meta_places = col 1 0 ∷ col 1 2 ∷ col 1 3 ∷ col 1 4 ∷ []
-
-abbrev pub meta_names : List (List ℕ)
-meta_names = codes "one" ∷ codes "schema_no" ∷ codes "number" ∷ codes "blocks" ∷ []
-
-pub select_meta_is : IsSelection meta_schema.tables select_meta_text 0 meta_places meta_names
+pub select_meta_is : IsSelection meta_schema.tables (codes "SELECT one, schema_no, number, blocks FROM meta ORDER BY rowid") 0 (col 1 0 ∷ columns_from 1 2 3) (names_of meta_table)
 unfolding understood everything
-select_meta_is others indexes views = record { is = refl; plain = (refl, refl); unlisted = refl }
+select_meta_is others indexes views = record { is = refl; plain = (refl, refl); unlisted = refl; query = refl }
 
-pub select_meta_query : is_query_text select_meta_text ≡ true
+pub select_registry_is : IsSelection first_schema.tables (codes "SELECT tld, first_day FROM registry ORDER BY rowid") 1 (columns_from 1 1 2) (names_of registry_table)
 unfolding understood everything
-select_meta_query = refl
+select_registry_is others indexes views = record { is = refl; plain = (refl, refl); unlisted = refl; query = refl }
 
-abbrev pub select_registry_text : List ℕ
-select_registry_text = codes "SELECT tld, first_day FROM registry ORDER BY rowid"
-
-abbrev pub registry_places : List Term
-registry_places = col 1 1 ∷ col 1 2 ∷ []
-
-abbrev pub registry_names : List (List ℕ)
-registry_names = codes "tld" ∷ codes "first_day" ∷ []
-
-pub select_registry_is : IsSelection first_schema.tables select_registry_text 1 registry_places registry_names
+pub select_part_is : IsSelection first_schema.tables (codes "SELECT tld, day, rev, part, kind, received, keep_day, len, sha, extents FROM part ORDER BY rowid") 3 (columns_from 1 1 10) (names_of part_table)
 unfolding understood everything
-select_registry_is others indexes views = record { is = refl; plain = (refl, refl); unlisted = refl }
+select_part_is others indexes views = record { is = refl; plain = (refl, refl); unlisted = refl; query = refl }
 
-pub select_registry_query : is_query_text select_registry_text ≡ true
+pub select_notice_is : IsSelection first_schema.tables (codes "SELECT tld, number, kind, day, rev, id, at FROM notice ORDER BY rowid") 5 (columns_from 1 1 7) (names_of notice_table)
 unfolding understood everything
-select_registry_query = refl
+select_notice_is others indexes views = record { is = refl; plain = (refl, refl); unlisted = refl; query = refl }
 
-abbrev pub select_part_text : List ℕ
-select_part_text = codes "SELECT tld, day, rev, part, kind, received, keep_day, len, sha, extents FROM part ORDER BY rowid"
-
-abbrev pub part_places : List Term
-part_places = col 1 1 ∷ col 1 2 ∷ col 1 3 ∷ col 1 4 ∷ col 1 5 ∷ col 1 6 ∷ col 1 7 ∷ col 1 8 ∷ col 1 9 ∷ col 1 10 ∷ []
-
-abbrev pub part_names : List (List ℕ)
-part_names = codes "tld" ∷ codes "day" ∷ codes "rev" ∷ codes "part" ∷ codes "kind" ∷ codes "received" ∷ codes "keep_day" ∷ codes "len" ∷ codes "sha" ∷ codes "extents" ∷ []
-
-pub select_part_is : IsSelection first_schema.tables select_part_text 3 part_places part_names
+pub select_handover_is : IsSelection first_schema.tables (codes "SELECT reference, tld, ground, at, names FROM handover ORDER BY rowid") 7 (columns_from 1 1 5) (names_of handover_table)
 unfolding understood everything
-select_part_is others indexes views = record { is = refl; plain = (refl, refl); unlisted = refl }
+select_handover_is others indexes views = record { is = refl; plain = (refl, refl); unlisted = refl; query = refl }
 
-pub select_part_query : is_query_text select_part_text ≡ true
+pub select_hold_is : IsSelection record_schema.tables (codes "SELECT reference, tld, day, at, lifted FROM hold ORDER BY rowid") 9 (columns_from 1 1 5) (names_of hold_table)
 unfolding understood everything
-select_part_query = refl
-
-abbrev pub select_notice_text : List ℕ
-select_notice_text = codes "SELECT tld, number, kind, day, rev, id, at FROM notice ORDER BY rowid"
-
-abbrev pub notice_places : List Term
-notice_places = col 1 1 ∷ col 1 2 ∷ col 1 3 ∷ col 1 4 ∷ col 1 5 ∷ col 1 6 ∷ col 1 7 ∷ []
-
-abbrev pub notice_names : List (List ℕ)
-notice_names = codes "tld" ∷ codes "number" ∷ codes "kind" ∷ codes "day" ∷ codes "rev" ∷ codes "id" ∷ codes "at" ∷ []
-
-pub select_notice_is : IsSelection first_schema.tables select_notice_text 5 notice_places notice_names
-unfolding understood everything
-select_notice_is others indexes views = record { is = refl; plain = (refl, refl); unlisted = refl }
-
-pub select_notice_query : is_query_text select_notice_text ≡ true
-unfolding understood everything
-select_notice_query = refl
-
-abbrev pub select_handover_text : List ℕ
-select_handover_text = codes "SELECT reference, tld, ground, at, names FROM handover ORDER BY rowid"
-
-abbrev pub handover_places : List Term
-handover_places = col 1 1 ∷ col 1 2 ∷ col 1 3 ∷ col 1 4 ∷ col 1 5 ∷ []
-
-abbrev pub handover_names : List (List ℕ)
-handover_names = codes "reference" ∷ codes "tld" ∷ codes "ground" ∷ codes "at" ∷ codes "names" ∷ []
-
-pub select_handover_is : IsSelection first_schema.tables select_handover_text 7 handover_places handover_names
-unfolding understood everything
-select_handover_is others indexes views = record { is = refl; plain = (refl, refl); unlisted = refl }
-
-pub select_handover_query : is_query_text select_handover_text ≡ true
-unfolding understood everything
-select_handover_query = refl
-
-abbrev pub select_hold_text : List ℕ
-select_hold_text = codes "SELECT reference, tld, day, at, lifted FROM hold ORDER BY rowid"
-
-abbrev pub hold_places : List Term
-hold_places = col 1 1 ∷ col 1 2 ∷ col 1 3 ∷ col 1 4 ∷ col 1 5 ∷ []
-
-abbrev pub hold_names : List (List ℕ)
-hold_names = codes "reference" ∷ codes "tld" ∷ codes "day" ∷ codes "at" ∷ codes "lifted" ∷ []
-
-pub select_hold_is : IsSelection record_schema.tables select_hold_text 9 hold_places hold_names
-unfolding understood everything
-select_hold_is others indexes views = record { is = refl; plain = (refl, refl); unlisted = refl }
-
-pub select_hold_query : is_query_text select_hold_text ≡ true
-unfolding understood everything
-select_hold_query = refl
+select_hold_is others indexes views = record { is = refl; plain = (refl, refl); unlisted = refl; query = refl }
 
 -- ---- those that change rows
 
@@ -248,7 +170,7 @@ abbrev pub due_tests : List Term
 due_tests = op1 Not (op2 (Is Binary) (col 1 10) (lit Null)) ∷ op2 (Compare Lt Binary) (col 1 7) (col 0 0) ∷ op1 Not (col 2 0) ∷ []
 
 abbrev pub dropped_places : List Term
-dropped_places = col 1 0 ∷ col 1 0 ∷ col 1 1 ∷ col 1 2 ∷ col 1 3 ∷ col 1 4 ∷ col 1 5 ∷ col 1 6 ∷ col 1 7 ∷ col 1 8 ∷ col 1 9 ∷ lit Null ∷ []
+dropped_places = col 1 0 ∷ columns_from 1 0 10 ++ lit Null ∷ []
 
 abbrev pub drop_due_program : Program
 drop_due_program = updating parts_and_holds due_tests dropped_places
@@ -261,7 +183,7 @@ abbrev pub lift_tests : List Term
 lift_tests = op2 (Compare Eq Binary) (col 1 1) (col 0 0) ∷ []
 
 abbrev pub lifted_places : List Term
-lifted_places = col 1 0 ∷ col 1 0 ∷ col 1 1 ∷ col 1 2 ∷ col 1 3 ∷ col 1 4 ∷ col 0 1 ∷ []
+lifted_places = col 1 0 ∷ columns_from 1 0 5 ++ col 0 1 ∷ []
 
 abbrev pub lift_program : Program
 lift_program = updating (inner 9 end) lift_tests lifted_places

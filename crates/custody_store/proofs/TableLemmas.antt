@@ -1,5 +1,6 @@
 -- The rows of a database that has the tables, or begins with them.
-use Rattle.std.proofs.Common.{◌≡◌, inl, inr, ℕ, ◌-◌, ℤ, pos, ◌+ℤ◌, ◌<ℤ◌, ◌&&◌, Bool, List, [], ◌∷◌, ◌++◌, map, filter, find, fold, codes, bytes_eq, option_map, Option, Some, drop, refl, ap, subst, ◌∙◌, IsTrue, Less, int_cmp, arith}
+use Rattle.std.proofs.Common.{◌≡◌, ◌≢◌, inl, inr, ℕ, ◌-◌, ℤ, pos, ◌+ℤ◌, ◌<ℤ◌, ◌&&◌, Bool, List, [], ◌∷◌, ◌++◌, map, filter, find, fold, codes, bytes_eq, option_map, Option, Some, drop, refl, sym, ap, subst, ◌∙◌, IsTrue, Less, int_cmp, arith}
+use Rattle.std.specs.Prelude.{◌==◌}
 use Rattle.std.specs.List.{AllByRecursion, AllZip}
 use Rattle.std.proofs.lemmas.Int.{ints}
 use Rattle.std.proofs.lemmas.Bool.{cases_Bool}
@@ -7,9 +8,10 @@ use Rattle.std.proofs.lemmas.Bool.Decides.{nat_tests}
 use Rattle.sqlite.specs.declared.types.Value.TheVariants.{Int}
 use Rattle.sqlite.specs.Order.{Row, column, bytes, value_cmp}
 use Rattle.sqlite_value.proofs.OrderLemmas.{value_cmp-Int}
-use Rattle.sqlite.specs.Tree.{Trees, rowid, put_row, IsTable}
+use Rattle.sqlite.specs.Tree.{Trees, rowid, put_row, with_tree, IsTable}
 use Rattle.sqlite_trees.specs.Objects.{catalog_tree, number_in}
-use Rattle.sqlite_trees.specs.View.{is_int}
+use Rattle.sqlite_trees.specs.View.{is_int, IsShaped}
+use Rattle.sqlite_trees.specs.declared.store.Shape.TheVariants as shape
 use Rattle.sqlite_rules.specs.Edit.{id_in, next_rowid}
 use Rattle.sqlite_rules.proofs.TableLemmas.{int_is}
 use Rattle.sqlite_catalog.specs.Listing.{is_table_row, IsTableRow, IsSound}
@@ -18,7 +20,7 @@ use Rattle.sqlite.specs.Schema.{Schema}
 use Rattle.sqlite.specs.Effect.{Database, IsDatabase}
 use Rattle.custody_store.specs.Schema.{meta_schema, first_schema, record_schema}
 use Rattle.custody_records.specs.Rows.{HoldRow, Rows}
-use Rattle.custody_store.specs.StoreState.{SchemaBeginsWith}
+use Rattle.custody_store.specs.StoreState.{AreOrdered, SchemaBeginsWith}
 use Rattle.custody_store.specs.Reading.{stored_meta_row, stored_registry_row, stored_part_row, stored_notice_row, stored_handover_row, stored_hold_row, tree_named, rows_in}
 
 -- a database whose schema is known
@@ -119,6 +121,40 @@ pub meta_first : (trees : Trees) (schema : Schema) → SchemaBeginsWith meta_sch
 meta_first trees schema begins sound =
     let m = named (codes "meta") trees ∙ meta_named begins.0 _ (subst (AllZip IsTableRow (filter is_table_row (trees catalog_tree))) begins.1 sound.lists.listed.tables) in
     rw m refl
+
+-- ---- the rows of one table changed
+
+-- those of each other of these tables are as they were
+abbrev pub OthersStay : List Table → ℕ → Trees → Trees → Type 0
+OthersStay tables tree old new = AllByRecursion (λ t. t.tree ≢ tree → new t.tree ≡ old t.tree) tables
+
+-- each of these tables has these rows
+abbrev pub HaveRows : List Table → Trees → Trees → Type 0
+HaveRows tables rows trees = AllByRecursion (λ t. trees t.tree ≡ rows t.tree) tables
+
+pub rows_after : (tables : List Table) (tree : ℕ) (old new before : Trees) (rows : List Row) → OthersStay tables tree old new → new tree ≡ rows → HaveRows tables before old → HaveRows tables (with_tree before tree rows) new
+rows_after [] tree old new before rows others here was = tt
+rows_after (t ∷ tables) tree old new before rows others here was = (
+  elim (cases_Bool (t.tree == tree)) [
+    | inl is ↦ let same : t.tree ≡ tree = grind (arith, nat_tests) in rw is (ap new same ∙ here)
+    | inr other ↦ rw other (others.0 (λ e. grind (arith, nat_tests)) ∙ was.0)
+  ],
+  rows_after tables tree old new before rows others.1 here was.1,
+)
+
+pub ordered_with : (tables : List Table) (tree : ℕ) (trees : Trees) (rows : List Row) → AreOrdered tables trees → IsShaped shape.Table rows → AreOrdered tables (with_tree trees tree rows)
+ordered_with [] tree trees rows up shaped = tt
+ordered_with (t ∷ tables) tree trees rows up shaped = (
+  elim (cases_Bool (t.tree == tree)) [ inl is ↦ rw is shaped | inr other ↦ rw other up.0 ],
+  ordered_with tables tree trees rows up.1 shaped,
+)
+
+pub ordered_as : (tables : List Table) (rows trees : Trees) → HaveRows tables rows trees → AreOrdered tables rows → AreOrdered tables trees
+ordered_as [] rows trees have up = tt
+ordered_as (t ∷ tables) rows trees have up = (subst (IsShaped shape.Table) (sym have.0) up.0, ordered_as tables rows trees have.1 up.1)
+
+pub held_as : (rows trees : Trees) → HaveRows record_schema.tables rows trees → held_rows trees ≡ held_rows rows
+held_as rows trees have = rw (have.0, have.1.0, have.1.1.0, have.1.1.1.0, have.1.1.1.1.0, have.1.1.1.1.1.0) refl
 
 -- ---- a row with the next rowid goes to the end
 

@@ -1,18 +1,26 @@
 -- One transaction of statements, at each of its ends.
-use Rattle.std.proofs.Common.{◌≡◌, ◌⊎◌, inl, inr, List, [], ◌∷◌, ◌++◌, true, false, Ok, Err, Result, IsTrue, sym, ap, subst, ◌∙◌}
+use Rattle.std.proofs.Common.{◌≡◌, ◌⊎◌, inl, inr, ℕ, ◌+◌, ◌<◌, ◌≤◌, List, [], ◌∷◌, ◌++◌, length, map, drop, get_or, true, false, Ok, Err, Result, IsTrue, refl, sym, ap, subst, ◌∙◌, arith}
 use Rattle.std.specs.Result.{IsErr}
+use Rattle.std.proofs.lemmas.List.{drop_all, drop_more}
 use Rattle.sqlite.specs.Tree.{Trees}
 use Rattle.sqlite.specs.declared.error.Error.{Error}
 use Rattle.sqlite.specs.Store.{Ghosts}
 use Rattle.sqlite.specs.Steps.{FailsToCommit}
-use Rattle.sqlite.specs.State.{HasCleanDisk, Survives, IsRolledBack, Shows}
+use Rattle.sqlite.specs.State.{HasCleanDisk, Survives, KeepsCommit, IsRolledBack, Shows, ExecutesInside}
 use Rattle.sqlite.specs.Held.{Held, state}
+use Rattle.sqlite.proofs.StateLemmas.{survives_then}
+use Rattle.sqlite.proofs.Callers.{survives_begin}
 use Rattle.custody_store.specs.Calls.{SqlStatement, AreRun, RunsTogether}
 
--- the statements of one list, and then those of another
-pub run_then : {S : Type 0} (g : Ghosts S) (first second : List SqlStatement) (old mid new : Held S) → AreRun g first old mid → AreRun g second mid new → AreRun g (first ++ second) old new
-run_then g [] second old mid new same ran = subst (λ h. AreRun g second h new) (sym same) ran
-run_then g (it ∷ first) second old mid new before ran = (before.0, before.1, before.2, run_then g first second before.1 mid new before.3 ran)
+-- the next statement, after which those that are left make a run of all
+pub run_next : {S X : Type 0} (g : Ghosts S) (f : X → SqlStatement) (others : List SqlStatement) (xs : List X) (i : ℕ) (x : X) (old mid new last : Held S) → i < length xs → ((last : Held S) → AreRun g (map f (drop i xs) ++ others) mid last → AreRun g (map f xs ++ others) old last)
+    → (count : ℕ) → ExecutesInside 0 (f (get_or xs i x)).0 (f (get_or xs i x)).1 (state g mid) (state g new) (Ok count) → AreRun g (map f (drop (i + 1) xs) ++ others) new last → AreRun g (map f xs ++ others) old last
+run_next g f others xs i x old mid new last low before count executes ran = before last (subst (λ l. AreRun g (map f l ++ others) mid last) (sym (drop_more xs i x low)) (count, new, executes, ran))
+
+-- and the last, after all those
+pub run_last : {S X : Type 0} (g : Ghosts S) (f : X → SqlStatement) (it : SqlStatement) (xs : List X) (i : ℕ) (old mid new : Held S) → length xs ≤ i → ((last : Held S) → AreRun g (map f (drop i xs) ++ it ∷ []) mid last → AreRun g (map f xs ++ it ∷ []) old last)
+    → (count : ℕ) → ExecutesInside 0 it.0 it.1 (state g mid) (state g new) (Ok count) → AreRun g (map f xs ++ it ∷ []) old new
+run_last g f it xs i old mid new all before count executes = before new (subst (λ l. AreRun g (map f l ++ it ∷ []) mid new) (sym (drop_all i xs all)) (count, new, executes, refl))
 
 -- inside a transaction it stays so
 pub still_inside : {S : Type 0} (g : Ghosts S) (statements : List SqlStatement) (old new : Held S) → IsTrue old.in_transaction → AreRun g statements old new → IsTrue new.in_transaction
@@ -24,52 +32,62 @@ pub keeps_committed : {S : Type 0} (g : Ghosts S) (statements : List SqlStatemen
 keeps_committed g [] old new same = ap (λ h. (state g h).committed) (sym same)
 keeps_committed g (it ∷ rest) old new ran = keeps_committed g rest ran.1 new ran.3 ∙ ran.2.1.committed_is
 
-module _ {S : Type 0} (g : Ghosts S) (statements : List SqlStatement) (old begun : Held S) (is : begun ≡ record old { in_transaction = true }) where
-  pub inside : IsTrue begun.in_transaction
+-- the one statement of a list
+pub only_run : {S : Type 0} (g : Ghosts S) (it : SqlStatement) (old new : Held S) → AreRun g (it ∷ []) old new → (count : ℕ) × ExecutesInside 0 it.0 it.1 (state g old) (state g new) (Ok count)
+only_run g it old new ran = (ran.0, subst (λ h. ExecutesInside 0 it.0 it.1 (state g old) (state g h) (Ok ran.0)) ran.3 ran.2)
+
+module _ {S : Type 0} (g : Ghosts S) (statements : List SqlStatement) (old begun mid end exit : Held S) (is : begun ≡ record old { in_transaction = true }) (same : end ≡ exit) (within : Survives (state g begun) (state g mid) (λ _. ⊥)) where
+  inside : IsTrue begun.in_transaction
   inside = ap (λ h. h.in_transaction) is
 
-  from_old : (last : Held S) → AreRun g statements begun last → AreRun g statements (record old { in_transaction = true }) last
-  from_old last = subst (λ h. AreRun g statements h last) is
+  survives : (P : Trees → Type 0) → Survives (state g mid) (state g end) P → Survives (state g old) (state g end) P
+  survives P h = survives_begin g old (state g end) P (subst (λ b. Survives (state g b) (state g end) P) is (survives_then (state g begun) (state g mid) (state g end) _ _ P (λ _ db none. absurd none) (λ _ db k. k) within h))
 
-  module _ (mid end exit : Held S) (same : end ≡ exit) where
-    -- what stands where it was rolled back
-    back : IsRolledBack (state g mid) (state g end) → (IsTrue (state g mid).is_open → (state g mid).committed ≡ (state g old).committed) → (state g old).committed ≡ (state g old).now → IsTrue (state g end).is_open
-        → ((state g end).now ≡ (state g old).now) × ((state g end).committed ≡ (state g old).now)
-    back undone kept settled is_open =
-        let both = undone.undone is_open in
-        let was = kept (undone.was_open is_open) ∙ settled in
-        (both.0 ∙ was, both.1 ∙ was)
+  -- what stands where it was rolled back
+  back : IsRolledBack (state g mid) (state g end) → (IsTrue (state g mid).is_open → (state g mid).committed ≡ (state g begun).committed) → (state g old).committed ≡ (state g old).now → IsTrue (state g end).is_open
+      → ((state g end).now ≡ (state g old).now) × ((state g end).committed ≡ (state g old).now)
+  back undone kept settled is_open =
+      let both = undone.undone is_open in
+      let was = kept (undone.was_open is_open) ∙ ap (λ h. (state g h).committed) is ∙ settled in
+      (both.0 ∙ was, both.1 ∙ was)
 
-    module _ (survives : Survives (state g old) (state g end) (λ db. db ≡ (state g mid).now.trees)) (ran : HasCleanDisk (state g end) → AreRun g statements begun mid) where
-      left : HasCleanDisk (state g end) → (db : Trees) → (state g end).may_leave db → (state g old).may_leave db ⊎ ((last : Held S) × AreRun g statements (record old { in_transaction = true }) last × (db ≡ (state g last).now.trees))
-      left clean db h = elim (survives.crash clean db h) [ inl before ↦ inl before | inr is_mid ↦ inr (mid, from_old mid (ran clean), is_mid) ]
+  module _ (last : Survives (state g mid) (state g end) (λ db. db ≡ (state g mid).now.trees)) (runs : HasCleanDisk (state g mid) → IsTrue begun.in_transaction → AreRun g statements begun mid) where
+    ran : HasCleanDisk (state g end) → AreRun g statements begun mid
+    ran clean = runs (omega (arith, clean, last.clean)) inside
 
-      pub committed_whole : {A E : Type 0} (x : A) → (HasCleanDisk (state g end) → Shows (state g mid) (state g end) (state g mid).now (state g mid).now false) → RunsTogether {E = E} g statements old exit (Ok x)
-      committed_whole {A = A} {E = E} x shows = subst (λ h. RunsTogether {A = A} {E = E} g statements old h (Ok x)) same (record {
-        done = λ clean. (mid, from_old mid (ran clean), shows clean);
-        kept = λ clean autocommit settled. tt;
-        left = left;
-      })
+    from_old : HasCleanDisk (state g end) → AreRun g statements (record old { in_transaction = true }) mid
+    from_old clean = subst (λ h. AreRun g statements h mid) is (ran clean)
 
-      pub not_committed : {A E : Type 0} (x : E) → (HasCleanDisk (state g end) → (e : Error) × FailsToCommit (state g mid) (state g end) e) → RunsTogether {A = A} g statements old exit (Err x)
-      not_committed {A = A} {E = E} x fails = subst (λ h. RunsTogether {A = A} {E = E} g statements old h (Err x)) same (record {
-        done = λ clean. tt;
-        kept = λ clean autocommit settled. elim (fails clean).1 [
-          | inl failed ↦ back failed.3 (λ _. keeps_committed g statements begun mid (ran clean) ∙ ap (λ h. (state g h).committed) is) settled
-          | inr late ↦ absurd (let b = still_inside g statements begun mid inside (ran clean) in let f = late.1 in cc)
-        ];
-        left = left;
-      })
+    left : HasCleanDisk (state g end) → (db : Trees) → (state g end).may_leave db → (state g old).may_leave db ⊎ ((last : Held S) × AreRun g statements (record old { in_transaction = true }) last × (db ≡ (state g last).now.trees))
+    left clean db h = elim ((survives _ last).crash clean db h) [ inl before ↦ inl before | inr is_mid ↦ inr (mid, from_old clean, is_mid) ]
 
-    -- it stopped at one of its statements
-    pub undone_whole : {A E : Type 0} (r : Result A E) → IsErr r → (HasCleanDisk (state g end) → IsTrue (state g mid).is_open → (state g mid).committed ≡ (state g old).committed) → (HasCleanDisk (state g end) → IsRolledBack (state g mid) (state g end))
-        → Survives (state g old) (state g end) (λ _. ⊥) → RunsTogether g statements old exit r
-    undone_whole (Ok x) failed kept undone survives = absurd (let e = failed in cc)
-    undone_whole {A = A} {E = E} (Err x) failed kept undone survives = subst (λ h. RunsTogether {A = A} {E = E} g statements old h (Err x)) same (record {
-      done = λ clean. tt;
-      kept = λ clean autocommit settled. back (undone clean) (kept clean) settled;
-      left = λ clean db h. elim (survives.crash clean db h) [ inl before ↦ inl before | inr none ↦ absurd none ];
+    pub committed_whole : {A E : Type 0} (x : A) → (HasCleanDisk (state g end) → Shows (state g mid) (state g end) (state g mid).now (state g mid).now false) → RunsTogether {E = E} g statements old exit (Ok x)
+    committed_whole {A = A} {E = E} x shows = subst (λ h. RunsTogether {A = A} {E = E} g statements old h (Ok x)) same (record {
+      done = λ clean. (mid, from_old clean, shows clean);
+      kept = λ clean autocommit settled. tt;
+      left = left;
     })
+
+    pub not_committed : {A E : Type 0} (r : Result A E) → IsErr r → (HasCleanDisk (state g end) → (e : Error) × FailsToCommit (state g mid) (state g end) e) → RunsTogether g statements old exit r
+    not_committed (Ok x) failed fails = absurd (let e = failed in cc)
+    not_committed {A = A} {E = E} (Err x) failed fails = subst (λ h. RunsTogether {A = A} {E = E} g statements old h (Err x)) same (record {
+      done = λ clean. tt;
+      kept = λ clean autocommit settled. elim (fails clean).1 [
+        | inl failed ↦ back failed.3 (λ _. keeps_committed g statements begun mid (ran clean)) settled
+        | inr late ↦ absurd (let b = still_inside g statements begun mid inside (ran clean) in let f = late.1 in cc)
+      ];
+      left = left;
+    })
+
+  -- it stopped at one of its statements
+  pub undone_whole : {A E : Type 0} (r : Result A E) → IsErr r → (HasCleanDisk (state g mid) → KeepsCommit (state g begun) (state g mid)) → (HasCleanDisk (state g end) → IsRolledBack (state g mid) (state g end))
+      → Survives (state g mid) (state g end) (λ _. ⊥) → RunsTogether g statements old exit r
+  undone_whole (Ok x) failed keeps undone last = absurd (let e = failed in cc)
+  undone_whole {A = A} {E = E} (Err x) failed keeps undone last = subst (λ h. RunsTogether {A = A} {E = E} g statements old h (Err x)) same (record {
+    done = λ clean. tt;
+    kept = λ clean autocommit settled. let before : HasCleanDisk (state g mid) = omega (arith, clean, last.clean) in back (undone clean) (keeps before).committed settled;
+    left = λ clean db h. elim ((survives _ last).crash clean db h) [ inl before ↦ inl before | inr none ↦ absurd none ];
+  })
 
 -- nothing was begun, since a transaction was open
 pub not_begun : {S A E : Type 0} (g : Ghosts S) (statements : List SqlStatement) (old : Held S) (x : E) → IsTrue old.in_transaction → RunsTogether {A = A} g statements old old (Err x)

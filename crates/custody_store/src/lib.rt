@@ -16,6 +16,7 @@ mod releases;
 mod store;
 mod stored_rows;
 mod tables;
+mod together;
 mod values;
 
 pub use faults::StoreFault;

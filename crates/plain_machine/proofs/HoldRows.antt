@@ -34,9 +34,6 @@ module _ (rows : List given.Hold) (rising : is_rising text_cmp hold_key rows ≡
     pub map_lifted : (hold : Hold) → get (table_map text_cmp hold_key hold_value rows) reference ≡ Some hold
         → table_map text_cmp hold_key hold_value (set rows i lifted_row) ≡ insert (table_map text_cmp hold_key hold_value rows) reference (lifted_at at hold)
     map_lifted hold got =
-        let value : hold_value row ≡ hold = some_same (hold_value row) hold (row_got ∙ got) in
+        let value : hold_value row ≡ hold = cc (row_got ∙ got) in
         map_replaced text_cmp hold_key text_total text_exact rows _ lifted_row i refl lt same_row rising hold_value
         ∙ (λ j. insert (table_map text_cmp hold_key hold_value rows) (row_key j) (lifted_at at (value j)))
-      where
-        some_same : (a b : Hold) → Some a ≡ Some b → a ≡ b
-        some_same a b e = cc

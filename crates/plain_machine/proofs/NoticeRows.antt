@@ -1,5 +1,5 @@
 -- What the plain program finds among its notices is what the map of them has.
-use Rattle.std.proofs.Common.{◌≡◌, ◌<◌, ◌+◌, ℕ, max, take, length, get_or, List, [], ◌∷◌, ◌++◌, map, Option, Some, None, Bool, true, false, ◌||◌, cond, refl, sym, ◌∙◌, ap, find, arith}
+use Rattle.std.proofs.Common.{◌≡◌, ◌<◌, ◌+◌, ℕ, max, take, length, get_or, List, [], ◌∷◌, ◌++◌, map, Option, Some, None, Bool, true, false, cond, refl, sym, ◌∙◌, ap, find, arith}
 use Rattle.std.specs.Prelude.{option_map, bytes_eq}
 use Rattle.std.specs.List.{cons_option, filter, filter_map, list_any}
 use Rattle.std.specs.FinMap as fin
@@ -11,22 +11,14 @@ use Rattle.std.proofs.lemmas.List.Elements.{filter_map-append}
 use Rattle.desk.specs.declared.notices.Notice as desk
 use Rattle.custody_records.specs.Keys.{NoticeKey, notice_cmp}
 use Rattle.custody_records.specs.Records.{Notice}
-use Rattle.custody_records.specs.Tables.{row_entries, is_rising, table_map}
+use Rattle.custody_records.specs.Tables.{is_rising, table_map}
 use Rattle.custody_records.specs.TypedRecords.{notice_entry, notice_key, notice_value}
 use Rattle.custody_records.specs.inside.Orders.{notice_exact}
 use Rattle.custody_records.proofs.GroupLemmas.{filter_entries}
-use Rattle.custody_records.proofs.TableLemmas.{entries-table_map}
+use Rattle.custody_records.proofs.TableLemmas.{any_entries, entries-table_map}
 use Rattle.custody_machine.specs.Machine.{greatest_number, next_key}
 use Rattle.custody_machine.proofs.SameValues.{text_decides}
 use Rattle.plain_machine.specs.Plain.{greatest_number_of}
-
-entries_mapped : (rows : List desk.Notice) → row_entries notice_key notice_value rows ≡ map notice_entry rows
-entries_mapped [] = refl
-entries_mapped (n ∷ rows) = ap (λ (l : List (NoticeKey × Notice)). notice_entry n ∷ l) (entries_mapped rows)
-
-any_mapped : (test : NoticeKey × Notice → Bool) (rows : List desk.Notice) → list_any (λ n. test (notice_entry n)) rows ≡ list_any test (map notice_entry rows)
-any_mapped test [] = refl
-any_mapped test (n ∷ rows) = ap (λ b. test (notice_entry n) || b) (any_mapped test rows)
 
 find_mapped : (test : NoticeKey × Notice → Bool) (rows : List desk.Notice) → option_map notice_entry (find (λ n. test (notice_entry n)) rows) ≡ find test (map notice_entry rows)
 find_mapped test [] = refl
@@ -43,10 +35,10 @@ filter_mapped f (n ∷ rows) = ap (cons_option (f (notice_entry n))) (filter_map
 
 module _ (rows found : List desk.Notice) (is : found ≡ rows) (rising : is_rising notice_cmp notice_key rows ≡ true) where
   pub entries_are : map notice_entry found ≡ entries (table_map notice_cmp notice_key notice_value rows)
-  entries_are = ap (map notice_entry) is ∙ sym (entries_mapped rows) ∙ sym (entries-table_map notice_cmp notice_key notice_value rows rising)
+  entries_are = ap (map notice_entry) is ∙ sym (entries-table_map notice_cmp notice_key notice_value rows rising)
 
   pub any_shown : (test : NoticeKey × Notice → Bool) → list_any (λ n. test (notice_entry n)) found ≡ list_any test (entries (table_map notice_cmp notice_key notice_value rows))
-  any_shown test = any_mapped test found ∙ ap (list_any test) entries_are
+  any_shown test = sym (any_entries notice_key notice_value test found) ∙ ap (list_any test) entries_are
 
   pub find_shown : (test : NoticeKey × Notice → Bool) → option_map notice_entry (find (λ n. test (notice_entry n)) found) ≡ find test (entries (table_map notice_cmp notice_key notice_value rows))
   find_shown test = find_mapped test found ∙ ap (find test) entries_are
@@ -56,8 +48,7 @@ module _ (rows found : List desk.Notice) (is : found ≡ rows) (rising : is_risi
 
   pub tested_shown : {X : Type 0} (test : NoticeKey × Notice → Bool) (f : NoticeKey × Notice → Option X)
       → filter_map (λ n. f (notice_entry n)) (filter (λ n. test (notice_entry n)) found) ≡ filter_map f (filter test (entries (table_map notice_cmp notice_key notice_value rows)))
-  tested_shown test f = filter_mapped f (filter (λ n. test (notice_entry n)) found) ∙ ap (filter_map f) (sym (entries_mapped (filter (λ n. test (notice_entry n)) found))
-      ∙ sym (filter_entries notice_key notice_value test found) ∙ ap (filter test) (entries_mapped found ∙ entries_are))
+  tested_shown test f = filter_mapped f (filter (λ n. test (notice_entry n)) found) ∙ ap (filter_map f) (sym (filter_entries notice_key notice_value test found) ∙ ap (filter test) entries_are)
 
 -- ---- a row more
 

@@ -8,7 +8,7 @@ use Rattle.deposit_name.specs.Name.{Name, is_same_kind}
 use Rattle.deposit_verify.specs.Bases.{all_then, base_at}
 use Rattle.custody_records.specs.Keys.{PartKey, part_cmp}
 use Rattle.custody_records.specs.Records.{name_of}
-use Rattle.custody_records.specs.Tables.{row_entries, is_rising}
+use Rattle.custody_records.specs.Tables.{is_rising}
 use Rattle.custody_machine.specs.Machine.{latest_full}
 use Rattle.custody_machine.specs.State.{Part}
 use Rattle.plain_machine.specs.declared.state.PlainPart.{PlainPart}
@@ -19,11 +19,6 @@ use Rattle.plain_machine.proofs.NoticeRows.{row_more}
 use Rattle.plain_machine.proofs.PlainReleases.{listed_entries}
 
 -- ---- the parts that pass a test of their places
-
--- the entries of rows, one for each
-rows_mapped : (rows : List ListedPart) → row_entries listed_key listed_value rows ≡ map (λ l. (listed_key l, listed_value l)) rows
-rows_mapped [] = refl
-rows_mapped (l ∷ rows) = ap (λ (es : List (PartKey × (Kind × Bool))). (listed_key l, listed_value l) ∷ es) (rows_mapped rows)
 
 -- the names of those that pass a test, of what a function gives
 names_mapped : {A B : Type 0} (f : A → B) (test : B → Bool) (name : B → Name) (items : List A) → map name (filter test (map f items)) ≡ map (λ item. name (f item)) (filter (λ item. test (f item)) items)
@@ -40,7 +35,7 @@ pub names_passing : (test : PartKey → Bool) (parts : List PlainPart) (rows : L
     → map (λ (l : ListedPart). l.name) (filter (λ l. test (listed_key l)) rows) ≡ map (λ (e : PartKey × Part). name_of e.0 e.1.kind) (filter (λ e. test e.0) (entries (from_entries {R = part_cmp} (map plain_part_entry parts))))
 names_passing test parts rows rising is =
     sym (names_mapped (λ l. (listed_key l, listed_value l)) passes name_listed rows)
-    ∙ ap (λ es. map name_listed (filter passes es)) (sym (rows_mapped rows) ∙ listed_entries parts rows rising is)
+    ∙ ap (λ es. map name_listed (filter passes es)) (listed_entries parts rows rising is)
     ∙ names_mapped (λ (e : PartKey × Part). (e.0, listed_value_of e.1)) passes name_listed (entries (from_entries {R = part_cmp} (map plain_part_entry parts)))
   where
     passes : PartKey × (Kind × Bool) → Bool

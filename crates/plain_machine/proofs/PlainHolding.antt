@@ -1,7 +1,6 @@
 -- What the plain program does of a hold and of its lifting is the machine's.
 use Rattle.std.proofs.Common.{◌≡◌, ℕ, List, Option, Some, None, true, false, cond, refl, sym, ◌∙◌, ap, is_none}
 use Rattle.std.specs.Prelude.{option_map}
-use Rattle.std.specs.FinMap.{get}
 use Rattle.custody_records.specs.declared.holds.Hold as given
 use Rattle.custody_records.specs.Records.{Hold, lifted_at, new_hold}
 use Rattle.custody_records.specs.TypedRecords.{hold_key, hold_value}
@@ -11,7 +10,7 @@ use Rattle.custody_machine.specs.declared.answers.Refusal.TheVariants.{HoldUnkno
 use Rattle.custody_machine.specs.Machine as machine
 use Rattle.custody_machine.specs.Machine.{Lift, OfHold, OfLifting, Accept, first_refusal, hold_of, hold_tests, kept_hold, lift_step, step, unless_kept, state_with_hold}
 use Rattle.custody_machine.proofs.Accepting.{step_none, step_refuses}
-use Rattle.custody_machine.proofs.Holding.{held_by, lifted_by, lifting_is, none_stand_to, unheld_of}
+use Rattle.custody_machine.proofs.Holding.{held_by, lifted_by, lifting_is}
 use Rattle.plain_machine.specs.declared.state.PlainAnswer.TheVariants as answer
 use Rattle.plain_machine.specs.Plain.{IsPlainStep}
 
@@ -25,10 +24,6 @@ module _ (s : State) (reference tld : List ℕ) (day now : ℕ) where
   pub repeats_hold : (h : given.Hold) → first_refusal (hold_tests s reference tld day now) ≡ None → kept_hold s reference tld day ≡ Some (hold_value h) → hold_key h ≡ reference
       → IsPlainStep (answer.Hold h.reference h.tld h.day h.at h.lifted true) s s (step s (machine.Hold reference tld day) now)
   repeats_hold h none e is = ruled_hold (Some (hold_value h)) none e ∙ ap (λ r. Accept (record { entry = OfHold r (hold_value h); is_repeat = true }) s) (sym is)
-
-  -- what is neither refused nor kept has a new reference
-  pub reference_is_new : first_refusal (hold_tests s reference tld day now) ≡ None → kept_hold s reference tld day ≡ None → get s.holds reference ≡ None
-  reference_is_new none e = unheld_of s reference tld day now (none_stand_to s reference tld day now none) e
 
   pub holds_new : (new : State) → first_refusal (hold_tests s reference tld day now) ≡ None → kept_hold s reference tld day ≡ None → new ≡ state_with_hold s reference (new_hold tld day now)
       → IsPlainStep (answer.Hold reference tld day now None false) s new (step s (machine.Hold reference tld day) now)

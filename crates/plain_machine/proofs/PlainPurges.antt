@@ -1,5 +1,5 @@
 -- What a purge does to the plain program's parts.
-use Rattle.std.proofs.Common.{◌≡◌, ◌+◌, ◌<◌, ℕ, List, [], ◌∷◌, ◌++◌, length, take, drop, set, get_or, map, Option, Some, None, is_none, Bool, true, false, not, ◌&&◌, ◌||◌, cond, refl, sym, ◌∙◌, ap, ap₂, find, arith}
+use Rattle.std.proofs.Common.{◌≡◌, ◌+◌, ℕ, List, [], ◌∷◌, ◌++◌, length, map, Option, Some, None, is_none, Bool, true, false, not, ◌&&◌, ◌||◌, cond, refl, sym, ◌∙◌, ap, find, arith}
 use Rattle.std.specs.Prelude.{count_by, option_map}
 use Rattle.std.specs.Ordering.{is_eq}
 use Rattle.std.specs.declared.cmp.Ordering.{Ordering}
@@ -8,7 +8,6 @@ use Rattle.std.specs.FinMap as fin
 use Rattle.std.specs.FinMap.{FinMap, entries, entries-insert, from_entries, get, get-entries, insert, put}
 use Rattle.std.specs.FinMap.Entries.{by_order}
 use Rattle.std.proofs.lemmas.Bool.{and_parts}
-use Rattle.std.proofs.lemmas.List.{map-append, take_more, take_more_set, drop-set-lt, drop_more}
 use Rattle.std.proofs.lemmas.List.Sums.{sum_by-cons}
 use Rattle.schedule.specs.Schedule.{day_of}
 use Rattle.custody_records.specs.Keys.{PartKey, part_cmp, text_cmp}
@@ -166,36 +165,3 @@ once_tried parts later p false is once none = ap have_distinct_places is ∙ onc
 
 pub purges : (s new : State) (now count : ℕ) → count ≡ count_due s (day_of now) → new ≡ state_without_due s (day_of now) → IsPlainStep (answer.Purge count) s new (step s Purge now)
 purges s new now count counts is = step_none s Purge now refl ∙ (λ i. Accept (record { entry = OfPurge (sym counts i); is_repeat = false }) (sym is i))
-
--- ---- a part more of the loop
-
-head_of : List PlainPart → PlainPart → PlainPart
-head_of [] d = d
-head_of (x ∷ xs) d = x
-
-tail_of : List PlainPart → List PlainPart
-tail_of [] = []
-tail_of (x ∷ xs) = xs
-
-module _ (holds : FinMap text_cmp Hold) (today : ℕ) (old items : List PlainPart) (i : ℕ) (new d : PlainPart) (lt : i < length items) (same : length items ≡ length old) (rest : drop i items ≡ drop i old) where
-  within : i < length old
-  within = omega (arith, lt, same)
-
-  unfolded : get_or items i d ∷ drop (i + 1) items ≡ get_or old i d ∷ drop (i + 1) old
-  unfolded = sym (drop_more items i d lt) ∙ rest ∙ drop_more old i d within
-
-  item_same : get_or items i d ≡ get_or old i d
-  unfolding head_of
-  item_same = ap (λ l. head_of l d) unfolded
-
-  pub rest_next : drop (i + 1) (set items i new) ≡ drop (i + 1) old
-  unfolding tail_of
-  rest_next = drop-set-lt (i + 1) items i new (omega arith) ∙ ap tail_of unfolded
-
-  pub done_next : map plain_part_entry (take i items) ≡ map (entry_after_purge holds today) (map plain_part_entry (take i old)) → plain_part_entry new ≡ entry_after_purge holds today (plain_part_entry (get_or items i d))
-      → map plain_part_entry (take (i + 1) (set items i new)) ≡ map (entry_after_purge holds today) (map plain_part_entry (take (i + 1) old))
-  done_next done value =
-      ap (map plain_part_entry) (take_more_set items i new lt) ∙ map-append plain_part_entry (take i items) (new ∷ [])
-      ∙ ap₂ (λ (xs : List (PartKey × Part)) (e : PartKey × Part). xs ++ e ∷ []) done (value ∙ ap (λ (x : PlainPart). entry_after_purge holds today (plain_part_entry x)) item_same)
-      ∙ sym (map-append (entry_after_purge holds today) (map plain_part_entry (take i old)) (plain_part_entry (get_or old i d) ∷ []))
-      ∙ ap (map (entry_after_purge holds today)) (sym (map-append plain_part_entry (take i old) (get_or old i d ∷ [])) ∙ ap (map plain_part_entry) (sym (take_more old i d within)))

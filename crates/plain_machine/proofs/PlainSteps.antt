@@ -1,9 +1,10 @@
 -- The plain program's answers are the machine's steps.
-use Rattle.std.proofs.Common.{◌≡◌, ◌==◌, ◌||◌, not, ℕ, List, [], ◌∷◌, ◌++◌, length, Option, Some, None, true, false, ◌&&◌, map, refl, sym, ◌∙◌, ap, subst, is_none, Ok}
+use Rattle.std.proofs.Common.{◌≡◌, ℕ, List, [], ◌∷◌, ◌++◌, length, Option, Some, None, true, false, ◌&&◌, map, refl, sym, ◌∙◌, ap, subst, is_none, Ok}
 use Rattle.std.specs.List.{list_any}
 use Rattle.std.specs.FinMap.{IsAntisymmetric, get, insert, from_entries, get-from_entries, from_entries_push}
 use Rattle.std.specs.Cmp.{IsTotalOrder}
 use Rattle.std.specs.declared.cmp.Ordering.{Ordering}
+use Rattle.std.proofs.lemmas.List.{map-append}
 use Rattle.std.proofs.lemmas.Map.Lookups.{exact_bytes}
 use Rattle.deposit_name.specs.Name.{Name}
 use Rattle.deposit_name.specs.declared.errors.NameError.{NameError}
@@ -18,14 +19,14 @@ use Rattle.plain_machine.specs.declared.state.PlainAnswer.TheVariants as answer
 use Rattle.custody_machine.specs.NameReading.{read_name}
 use Rattle.plain_machine.specs.Plain.{plain_registry_entry, plain_part_entry, part_view, IsPlainStep}
 use Rattle.custody_machine.specs.State.{State, Part, part_numbers}
-use Rattle.custody_machine.specs.Machine.{Register, Receive, Statement, Check, content_len, absence_notice, absence_of, check_tests, OfRegistry, OfPart, OfNotice, statement_tests, kept_verdict, next_key, verdict_notice, verdict_on, state_with_notice, notice_step, count_parts, first_part, Step, Accept, first_day_of, part_at, revision_part, part_under_name, has_other_kind, has_other_bytes, is_dropped, refusal_of, step, state_with_registry, state_with_part, received_part, receive_tests, named_tests, first_refusal}
+use Rattle.custody_machine.specs.Machine.{Register, Receive, Statement, Check, content_len, absence_notice, absence_of, check_tests, OfRegistry, OfPart, OfNotice, statement_tests, kept_verdict, next_key, verdict_notice, verdict_on, state_with_notice, notice_step, Step, Accept, first_day_of, part_at, revision_part, part_under_name, has_other_kind, has_other_bytes, is_dropped, refusal_of, step, state_with_registry, state_with_part, received_part, receive_tests, named_tests, first_refusal}
 use Rattle.custody_records.specs.inside.Orders.{text_total, part_total, part_exact}
 use Rattle.custody_machine.specs.declared.answers.Refusal.{Refusal}
 use Rattle.custody_machine.specs.declared.answers.Refusal.TheVariants.{NameRefused}
 use Rattle.custody_machine.proofs.Accepting.{none_stand, step_none, step_refuses, step_refuses_text, registered, answered, rules_part, held_bytes, place_is_empty}
 use Rattle.custody_machine.proofs.Accepting.{recorded_is}
 use Rattle.custody_machine.proofs.Composed.{register_repeats}
-use Rattle.custody_machine.proofs.Stated.{none_stand_of, stated_by}
+use Rattle.custody_machine.proofs.Stated.{stated_by}
 use Rattle.custody_machine.proofs.Checked.{missed_by}
 use Rattle.custody_machine.specs.declared.command.Statement as statement
 use Rattle.custody_records.specs.Keys.{NoticeKey}
@@ -36,12 +37,8 @@ use Rattle.desk.specs.declared.notices.Notice as desk
 -- ---- an entry more
 
 module _ {K X E : Type 0} {R : K → K → Ordering} (total : IsTotalOrder R) (exact : IsAntisymmetric R) (entry_of : E → K × X) where
-  map-append : (es fs : List E) → map entry_of (es ++ fs) ≡ map entry_of es ++ map entry_of fs
-  map-append [] fs = refl
-  map-append (e ∷ es) fs = ap (λ l. entry_of e ∷ l) (map-append es fs)
-
   pub pushed : (es : List E) (e : E) → get (from_entries {R = R} (map entry_of es)) (entry_of e).0 ≡ None → from_entries {R = R} (map entry_of (es ++ e ∷ [])) ≡ insert (from_entries (map entry_of es)) (entry_of e).0 (entry_of e).1
-  pushed es e none = ap from_entries (map-append es (e ∷ [])) ∙ from_entries_push total exact (map entry_of es) (entry_of e).0 (entry_of e).1 (sym (get-from_entries total (map entry_of es) (entry_of e).0) ∙ none)
+  pushed es e none = ap from_entries (map-append entry_of es (e ∷ [])) ∙ from_entries_push total exact (map entry_of es) (entry_of e).0 (entry_of e).1 (sym (get-from_entries total (map entry_of es) (entry_of e).0) ∙ none)
 
 pub registry_pushed : (es : List PlainRegistry) (r : PlainRegistry) → get (from_entries {R = text_cmp} (map plain_registry_entry es)) r.tld ≡ None → from_entries {R = text_cmp} (map plain_registry_entry (es ++ r ∷ [])) ≡ insert (from_entries (map plain_registry_entry es)) r.tld r.first_day
 registry_pushed = pushed text_total exact_bytes plain_registry_entry
@@ -108,10 +105,6 @@ module _ (s : State) (st : statement.Statement) (now : ℕ) where
   states_new n new none e key value is =
       ruled_stated None none e ∙ ap (λ k. notice_step s k (verdict_notice st (verdict_on s st) now)) (sym key) ∙ ap (notice_step s (notice_key n)) (sym value)
       ∙ ap (Accept (record { entry = OfNotice (notice_key n) (notice_value n); is_repeat = false })) (sym is)
-
-  -- what is not refused has a part
-  pub has_parts : first_refusal (statement_tests s st now) ≡ None → count_parts s (first_part st) ≡ 0 → ⊥
-  has_parts none count = let clash : true ≡ false = sym (ap (λ n. n == 0 || not (n == st.parts)) count) ∙ (none_stand_of s st now none).number in cc
 
 module _ (s : State) (tld : List ℕ) (day now : ℕ) where
   pub refuses_check : (q : Refusal) → first_refusal (check_tests s tld day now) ≡ Some q → IsPlainStep (answer.Refused q) s s (step s (Check tld day) now)

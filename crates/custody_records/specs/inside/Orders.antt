@@ -43,23 +43,15 @@ ascends {K} {R} o a b c low = by (R a b) (R b c) refl refl low
     by Less Greater is next low = rw next (high (R a c))
       where
         high : (r : Ordering) → ordering_index r ≤ 2
-        high Less = omega arith
-        high Equal = omega arith
-        high Greater = omega arith
+        high r = grind arith
     by Equal second is next low = let same : R a c ≡ R b c = o.congr a b c is in rw same (omega arith)
     by Greater second is next low = cc
 
 first_in_order : (o rest : Ordering) → ordering_then o rest ≡ Less → is_gt o ≡ false
-first_in_order Less rest e = refl
-first_in_order Equal rest e = refl
-first_in_order Greater rest e = cc
+first_in_order o rest e = grind arith
 
 three_in_order : (a b c d : Ordering) → ordering_then a (ordering_then b (ordering_then c d)) ≡ Less → is_gt (ordering_then a (ordering_then b c)) ≡ false
-three_in_order Less b c d e = refl
-three_in_order Equal Less c d e = refl
-three_in_order Equal Equal c d e = first_in_order c d e
-three_in_order Equal Greater c d e = cc
-three_in_order Greater b c d e = cc
+three_in_order a b c d e = grind arith
 
 pub part_registries_ascend : (tld : List ℕ) (a b : PartKey) → part_cmp a b ≡ Less → ordering_index (text_cmp a.tld tld) ≤ ordering_index (text_cmp b.tld tld)
 part_registries_ascend tld a b less = ascends text_total a.tld b.tld tld (first_in_order (text_cmp a.tld b.tld) _ less)

@@ -2,11 +2,8 @@ use Rattle.std.proofs.Common.{◌∷◌, List, sym, ◌∙◌, arith}
 use Rattle.std.specs.Prelude.{option_map}
 use Rattle.extent_map.specs.declared.extent.Extent.{Extent}
 use Rattle.custody_records.specs.Form.{blob_extents}
-use Rattle.custody_records.proofs.ReadLemmas.{drop_range, extents_short, extents_first}
+use Rattle.custody_records.proofs.ReadLemmas.{drop_range, extents_first}
 use Rattle.custody_records.proofs.extents.first_extent.Goals as goal
-
-pub returns-then-bytes-lt8-clause-short : goal.returns-then-bytes-lt8-clause-short
-returns-then-bytes-lt8-clause-short c = extents_short c.args.bytes.now (omega arith)
 
 pub returns-clause-first : goal.returns-clause-first
 returns-clause-first c =

@@ -1,12 +1,15 @@
+use Rattle.std.proofs.Common.{[], refl}
 use Rattle.sqlite.specs.Held.{state}
-use Rattle.custody_store.specs.Calls.{row_items}
-use Rattle.custody_store.proofs.StatementLemmas.{select_meta_text, select_meta_query}
-use Rattle.custody_store.proofs.SelectLemmas.{reads}
-use Rattle.custody_store.proofs.FindLemmas.{finds_meta}
+use Rattle.custody_store.specs.Reading.{stored_meta_row, answered_meta}
+use Rattle.custody_store.proofs.TableLemmas.{meta_first}
+use Rattle.custody_store.proofs.StatementLemmas.{select_meta_is}
+use Rattle.custody_store.proofs.FindLemmas.{found, only_reads}
 use Rattle.custody_store.proofs.meta.select_meta.Goals as goal
 
 pub returns-clause-found : goal.returns-clause-found
-returns-clause-found g c clean at = finds_meta (state g.S.Store c.args.db.now) (state g.S.Store c.ask.new.db) _ clean at c.ask.ensures.asks
+returns-clause-found g c clean at =
+    let old = state g.S.Store c.args.db.now in
+    found select_meta_is (λ rows. rows.meta) stored_meta_row answered_meta old (state g.S.Store c.ask.new.db) _ clean at refl at.ordered.0.0 (meta_first old.now.trees old.now.schema at.begins at.sound) refl c.ask.ensures.asks
 
 pub returns-clause-reads : goal.returns-clause-reads
-returns-clause-reads g c = reads select_meta_text select_meta_query row_items (state g.S.Store c.args.db.now) (state g.S.Store c.ask.new.db) _ c.ask.ensures.asks
+returns-clause-reads g c = only_reads (select_meta_is [] [] []) (state g.S.Store c.args.db.now) (state g.S.Store c.ask.new.db) _ c.ask.ensures.asks

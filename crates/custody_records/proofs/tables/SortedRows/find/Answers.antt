@@ -12,9 +12,6 @@ returns-in-Ok-clause-found g c =
     (ap Some c.index.ensures ∙ sym (found_at order key g.met.T.Keyed.total table.rows.items c.args.sought.now c.in-Ok.place c.index.result.now table.rising c.in-Ok.ensures.range (c.in-Ok.ensures.place c.index.result.now)))
     ∙ sym (get_table order key g.T.Keyed.value_of table.rows.items c.args.sought.now table.rising)
 
-pub returns-in-Ok-clause-key : goal.returns-in-Ok-clause-key
-returns-in-Ok-clause-key g c = ap g.T.Keyed.key_of c.index.ensures ∙ g.met.T.Keyed.exact _ _ (c.in-Ok.ensures.place c.index.result.now)
-
 pub returns-in-Err-clause-found : goal.returns-in-Err-clause-found
 returns-in-Err-clause-found g c =
     let order = g.T.Keyed.order in

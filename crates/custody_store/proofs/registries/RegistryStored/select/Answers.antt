@@ -1,12 +1,12 @@
+use Rattle.std.proofs.Common.{[], refl}
 use Rattle.sqlite.specs.Held.{state}
-use Rattle.custody_store.specs.Calls.{row_items}
-use Rattle.custody_store.proofs.StatementLemmas.{select_registry_text, select_registry_query}
-use Rattle.custody_store.proofs.SelectLemmas.{reads}
-use Rattle.custody_store.proofs.FindLemmas.{finds_registry}
+use Rattle.custody_store.specs.Reading.{stored_registry_row, answered_registry}
+use Rattle.custody_store.proofs.StatementLemmas.{select_registry_is}
+use Rattle.custody_store.proofs.FindLemmas.{found_in_both, only_reads}
 use Rattle.custody_store.proofs.registries.RegistryStored.select.Goals as goal
 
 pub returns-clause-found : goal.returns-clause-found
-returns-clause-found g c clean at = finds_registry (state g.S.Store c.args.db.now) (state g.S.Store c.ask.new.db) _ clean at.0 c.ask.ensures.asks
+returns-clause-found g c clean at = found_in_both select_registry_is (λ rows. rows.registries) stored_registry_row answered_registry (state g.S.Store c.args.db.now) (state g.S.Store c.ask.new.db) _ clean at.0 refl at.0.ordered.1.0.0 refl refl c.ask.ensures.asks
 
 pub returns-clause-reads : goal.returns-clause-reads
-returns-clause-reads g c = reads select_registry_text select_registry_query row_items (state g.S.Store c.args.db.now) (state g.S.Store c.ask.new.db) _ c.ask.ensures.asks
+returns-clause-reads g c = only_reads (select_registry_is [] [] []) (state g.S.Store c.args.db.now) (state g.S.Store c.ask.new.db) _ c.ask.ensures.asks

@@ -1,12 +1,12 @@
+use Rattle.std.proofs.Common.{[], refl}
 use Rattle.sqlite.specs.Held.{state}
-use Rattle.custody_store.specs.Calls.{row_items}
-use Rattle.custody_store.proofs.StatementLemmas.{select_handover_text, select_handover_query}
-use Rattle.custody_store.proofs.SelectLemmas.{reads}
-use Rattle.custody_store.proofs.FindLemmas.{finds_handover}
+use Rattle.custody_store.specs.Reading.{stored_handover_row, answered_handover}
+use Rattle.custody_store.proofs.StatementLemmas.{select_handover_is}
+use Rattle.custody_store.proofs.FindLemmas.{found_in_both, only_reads}
 use Rattle.custody_store.proofs.releases.ReleaseStored.select.Goals as goal
 
 pub returns-clause-found : goal.returns-clause-found
-returns-clause-found g c clean at = finds_handover (state g.S.Store c.args.db.now) (state g.S.Store c.ask.new.db) _ clean at.0 c.ask.ensures.asks
+returns-clause-found g c clean at = found_in_both select_handover_is (λ rows. rows.handovers) stored_handover_row answered_handover (state g.S.Store c.args.db.now) (state g.S.Store c.ask.new.db) _ clean at.0 refl at.0.ordered.1.1.1.1.0.0 refl refl c.ask.ensures.asks
 
 pub returns-clause-reads : goal.returns-clause-reads
-returns-clause-reads g c = reads select_handover_text select_handover_query row_items (state g.S.Store c.args.db.now) (state g.S.Store c.ask.new.db) _ c.ask.ensures.asks
+returns-clause-reads g c = only_reads (select_handover_is [] [] []) (state g.S.Store c.args.db.now) (state g.S.Store c.ask.new.db) _ c.ask.ensures.asks

@@ -4,7 +4,7 @@ use Rattle.std.specs.Option.{IfSome}
 use Rattle.custody_records.specs.TypedRecords.{hold_key, hold_value}
 use Rattle.plain_machine.specs.Plain.{state_view}
 use Rattle.plain_machine.proofs.PlainSteps.{as_answered}
-use Rattle.plain_machine.proofs.PlainHolding.{holds_new, reference_is_new, refuses_hold, repeats_hold}
+use Rattle.plain_machine.proofs.PlainHolding.{holds_new, refuses_hold, repeats_hold}
 use Rattle.plain_machine.proofs.state.PlainState.hold.Goals as goal
 
 pub returns-in-Some-clause-step : goal.returns-in-Some-clause-step
@@ -15,11 +15,6 @@ returns-in-Some-kept_hold-clause-step c =
     as_answered _ _ _ _ _ c.hold_answer.ensures (repeats_hold (state_view c.args.self.now) c.args.reference c.args.tld c.args.day c.args.now c.in-Some-kept_hold.hold.now (sym c.refusal_of_hold.ensures ∙ c.in_default.is)
     (sym c.kept_hold.ensures.found ∙ ap (option_map (λ h. hold_value h.now)) c.in-Some-kept_hold.is)
     (subst (λ o. IfSome o (λ h. hold_key h.now ≡ c.args.reference)) c.in-Some-kept_hold.is c.kept_hold.ensures.key))
-
-pub add-requires : goal.add-requires
-add-requires c = record {
-  new = reference_is_new (state_view c.args.self.now) c.args.reference c.args.tld c.args.day c.args.now (sym c.refusal_of_hold.ensures ∙ c.in_default.is) (sym c.kept_hold.ensures.found ∙ ap (option_map (λ h. hold_value h.now)) c.in_default-kept_hold.is);
-}
 
 pub returns-clause-step : goal.returns-clause-step
 returns-clause-step c =

@@ -4,7 +4,7 @@ use Rattle.std.specs.FinMap.{get}
 use Rattle.custody_records.specs.TypedRecords.{notice_entry}
 use Rattle.plain_machine.specs.Plain.{notices_view, state_view}
 use Rattle.plain_machine.proofs.NoticeRows.{number_is_new}
-use Rattle.plain_machine.proofs.PlainSteps.{as_answered, refuses_stated, repeats_stated, states_new, has_parts}
+use Rattle.plain_machine.proofs.PlainSteps.{as_answered, refuses_stated, repeats_stated, states_new}
 use Rattle.plain_machine.proofs.state.PlainState.receive_statement.Goals as goal
 
 pub returns-in-Some-clause-step : goal.returns-in-Some-clause-step
@@ -14,9 +14,6 @@ pub returns-in-Some-kept_verdict-clause-step : goal.returns-in-Some-kept_verdict
 returns-in-Some-kept_verdict-clause-step c =
     as_answered _ _ _ _ _ c.notice_answer.ensures (repeats_stated (state_view c.args.self.now) c.args.stated.now c.args.now c.in-Some-kept_verdict.notice (sym c.refusal_of_statement.ensures ∙ c.in_default.is)
     (sym c.kept_verdict.ensures ∙ ap (option_map notice_entry) c.in-Some-kept_verdict.is))
-
-pub unreachable-requires : goal.unreachable-requires
-unreachable-requires c = has_parts (state_view c.args.self.now) c.args.stated.now c.args.now (sym c.refusal_of_statement.ensures ∙ c.in_default.is) c.in_default-first_name.ensures.none
 
 pub add-requires : goal.add-requires
 add-requires c = record { new = ap (get (notices_view c.args.self.now.notices)) c.in_ok-notice.ensures.key ∙ number_is_new (notices_view c.args.self.now.notices) c.args.stated.now.tld }

@@ -1,9 +1,0 @@
-use Rattle.std.proofs.Common.{ℕ, ap}
-use Rattle.std.proofs.lemmas.Result.{on_ok_weaker}
-use Rattle.std.specs.FinMap.{FinMap}
-use Rattle.custody_records.specs.MemoryRecords.{records_of}
-use Rattle.custody_records.specs.Keys.{text_cmp}
-use Rattle.custody_records.proofs.records.Records.try_add_registry.Goals as goal
-
-pub returns-clause-added : goal.returns-clause-added
-returns-clause-added c = on_ok_weaker c.try_add.result (ap (λ (m : FinMap text_cmp ℕ). record (records_of c.args.self.now) { registries = m })) c.try_add.ensures.added
