@@ -33,7 +33,7 @@ use Rattle.custody_machine.specs.Examples.{pair_of}
 use Rattle.custody_machine.specs.FetchResult.{fetch_result}
 use Rattle.custody_machine.specs.ExampleLife.{clock_moment, example_tld, example_file_name, example_part_key, example_statement, example_notice_key, entries_until_release, entries_until_hold, example_life, commands_of, new_reply, reply_again, IsAccepted, AreAccepted, life_events, CustodyLives}
 use Rattle.custody_machine.proofs.MapValues.{map_keyed-empty, map_keyed-insert}
-use Rattle.custody_machine.proofs.Accepting.{read_of, step_none, insert_here}
+use Rattle.custody_machine.proofs.Accepting.{read_of, step_none, step_repeats, insert_here}
 use Rattle.custody_machine.proofs.Examples.{has_examples}
 
 -- ---- a name, a verdict and a day
@@ -159,46 +159,42 @@ apart test a b passes fails same = let clash : true ≡ false = sym passes ∙ a
 made : (old new : State) (c : Command) (now : ℕ) (record_made : Record) → refusal_of old c now ≡ None → kept_record old c ≡ None → effect old c now ≡ Accept (new_reply record_made) new → step old c now ≡ Accept (new_reply record_made) new
 made old new c now record_made stands repeats gives = step_none old c now stands ∙ (λ i. unless_kept old (repeats i) (gives i))
 
--- and a repeat is answered by its record
-repeated : (s : State) (c : Command) (now : ℕ) (record_kept : Record) → refusal_of s c now ≡ None → kept_record s c ≡ Some record_kept → step s c now ≡ Accept (record { entry = record_kept; is_repeat = true }) s
-repeated s c now record_kept stands repeats = step_none s c now stands ∙ ap (λ o. unless_kept s o (effect s c now)) repeats
-
 accepted : (old new : State) (c : Command) (now : ℕ) (record_made : Record) → step old c now ≡ Accept (new_reply record_made) new → new ≢ old → step new c now ≡ Accept (reply_again record_made) new → IsAccepted old new (c, now) record_made
 accepted old new c now record_made accepts changes again = record { accepts = accepts; changes = changes; again = again; examples = has_examples old new c now (new_reply record_made) accepts }
 
 registering : IsAccepted empty registered (Register example_tld 20_667, clock_moment 20_667 9 0) (OfRegistry example_tld 20_667)
-registering = accepted _ _ _ _ _ (made _ _ _ _ _ refl (simp (get-empty {X = ℕ} text_cmp)) refl) (apart (λ state. is_some (get state.registries example_tld)) _ _ (ap is_some first_day) (ap is_some (get-empty text_cmp example_tld))) (repeated _ _ _ _ refl (simp first_day))
+registering = accepted _ _ _ _ _ (made _ _ _ _ _ refl (simp (get-empty {X = ℕ} text_cmp)) refl) (apart (λ state. is_some (get state.registries example_tld)) _ _ (ap is_some first_day) (ap is_some (get-empty text_cmp example_tld))) (step_repeats _ _ _ _ refl (simp first_day))
 
 receiving : IsAccepted registered received (Receive example_file_name (codes "hello"), clock_moment 20_667 10 0) (OfPart example_part_key part)
 receiving = accepted _ _ _ _ _
     (made _ _ _ _ _ (simp (name_read, first_day, get-empty {X = Part} part_cmp, no_notices)) (simp (name_read, get-empty {X = Part} part_cmp)) (simp name_read))
-    (apart (λ state. is_some (get state.parts example_part_key)) _ _ (ap is_some (one_part part example_part_key)) (ap is_some (get-empty {X = Part} part_cmp example_part_key))) (repeated _ _ _ _ (simp (name_read, first_day, one_part, no_notices)) (simp (name_read, one_part)))
+    (apart (λ state. is_some (get state.parts example_part_key)) _ _ (ap is_some (one_part part example_part_key)) (ap is_some (get-empty {X = Part} part_cmp example_part_key))) (step_repeats _ _ _ _ (simp (name_read, first_day, one_part, no_notices)) (simp (name_read, one_part)))
 
 stating : IsLawful → IsAccepted received stated (Statement example_statement, clock_moment 20_667 10 5) (OfNotice (example_notice_key 1) failure)
 stating lawful = accepted _ _ _ _ _
     (made _ _ _ _ _ (simp (first_day, one_part, no_notices)) (simp (one_part, no_notices)) (simp (one_part, no_notices, fails)))
-    (apart (λ state. length (entries state.notices) == 1) _ _ (ap (λ (es : List (NoticeKey × Notice)). length es == 1) one_notice) (ap (λ (es : List (NoticeKey × Notice)). length es == 1) no_notices)) (repeated _ _ _ _ (simp (first_day, one_part, one_notice)) (simp (one_part, one_notice)))
+    (apart (λ state. length (entries state.notices) == 1) _ _ (ap (λ (es : List (NoticeKey × Notice)). length es == 1) one_notice) (ap (λ (es : List (NoticeKey × Notice)). length es == 1) no_notices)) (step_repeats _ _ _ _ (simp (first_day, one_part, one_notice)) (simp (one_part, one_notice)))
   where
     fails : (known : Known) → verdict (codes "hello") known ≡ Fail Frame
     fails known = sym (lawful.only (codes "hello") known (Fail Frame) (hello_fails known))
 
 checking : IsAccepted stated checked (Check example_tld 20_668, clock_moment 20_670 0 0) (OfNotice (example_notice_key 2) absence)
-checking = accepted _ _ _ _ _ (made _ _ _ _ _ (simp (first_day, one_notice)) (simp one_notice) (simp one_notice)) (apart (λ state. length (entries state.notices) == 2) _ _ (ap (λ (es : List (NoticeKey × Notice)). length es == 2) two_notices) (ap (λ (es : List (NoticeKey × Notice)). length es == 2) one_notice)) (repeated _ _ _ _ (simp (first_day, two_notices)) (simp two_notices))
+checking = accepted _ _ _ _ _ (made _ _ _ _ _ (simp (first_day, one_notice)) (simp one_notice) (simp one_notice)) (apart (λ state. length (entries state.notices) == 2) _ _ (ap (λ (es : List (NoticeKey × Notice)). length es == 2) two_notices) (ap (λ (es : List (NoticeKey × Notice)). length es == 2) one_notice)) (step_repeats _ _ _ _ (simp (first_day, two_notices)) (simp two_notices))
 
 releasing : IsAccepted checked released (Release (codes "R-1") example_tld Operator, clock_moment 20_670 3 0) (OfRelease (codes "R-1") release)
 releasing = accepted _ _ _ _ _
     (made _ _ _ _ _ (simp (first_day, get-empty {X = records.Release} text_cmp)) (simp (get-empty {X = records.Release} text_cmp)) (simp (one_entry, sym file_of_name)))
-    (apart (λ state. is_some (get state.releases (codes "R-1"))) _ _ (ap is_some released_under) (ap is_some (get-empty text_cmp (codes "R-1")))) (repeated _ _ _ _ (simp (first_day, released_under)) (simp released_under))
+    (apart (λ state. is_some (get state.releases (codes "R-1"))) _ _ (ap is_some released_under) (ap is_some (get-empty text_cmp (codes "R-1")))) (step_repeats _ _ _ _ (simp (first_day, released_under)) (simp released_under))
 
 holding : IsAccepted released held (Hold (codes "H-1") example_tld 20_667, clock_moment 21_032 9 0) (OfHold (codes "H-1") standing)
 holding = accepted _ _ _ _ _
     (made _ _ _ _ _ (simp (first_day, get-empty {X = records.Hold} text_cmp)) (simp (get-empty {X = records.Hold} text_cmp)) refl)
-    (apart (λ state. is_some (get state.holds (codes "H-1"))) _ _ (ap is_some held_under) (ap is_some (get-empty text_cmp (codes "H-1")))) (repeated _ _ _ _ (simp (first_day, held_under)) (simp held_under))
+    (apart (λ state. is_some (get state.holds (codes "H-1"))) _ _ (ap is_some held_under) (ap is_some (get-empty text_cmp (codes "H-1")))) (step_repeats _ _ _ _ (simp (first_day, held_under)) (simp held_under))
 
 lifting : IsAccepted held lifted (Lift (codes "H-1"), clock_moment 21_033 9 0) (OfLifting (codes "H-1") (clock_moment 21_033 9 0))
 lifting = accepted _ _ _ _ _
     (made _ _ _ _ _ (simp held_under) (simp held_under) (simp held_under))
-    (apart (λ state. is_some (lifting_of state (codes "H-1"))) _ _ (simp lifted_under) (simp held_under)) (repeated _ _ _ _ (simp lifted_under) (simp lifted_under))
+    (apart (λ state. is_some (lifting_of state (codes "H-1"))) _ _ (simp lifted_under) (simp held_under)) (step_repeats _ _ _ _ (simp lifted_under) (simp lifted_under))
 
 -- a purge of one part, with these holds
 dropping : (holds : fin.FinMap text_cmp records.Hold) (old new : Part) → part_dropped_if_due holds 21_033 example_part_key old ≡ new → map_keyed (part_dropped_if_due holds 21_033) (insert (fin.empty {R = part_cmp}) example_part_key old) ≡ insert fin.empty example_part_key new

@@ -1,33 +1,48 @@
 -- What acceptance of a command tells, and what refuses it.
-use Rattle.std.proofs.Common.{◌≡◌, ℕ, zero, suc, List, [], ◌∷◌, Option, Some, None, Bool, true, false, not, ◌||◌, refl, sym, ◌∙◌, ap, subst, cond, ◌==◌, length, Result, Ok, Err, arith}
+use Rattle.std.proofs.Common.{◌≡◌, ℕ, zero, suc, List, [], ◌∷◌, Option, Some, None, Bool, true, false, not, ◌||◌, refl, sym, ◌∙◌, ap, subst, cond, ◌==◌, length, Result, Ok, Err, arith, is_some}
 use Rattle.std.specs.Prelude.{option_map, bytes_eq}
 use Rattle.std.specs.List.{list_any}
 use Rattle.std.specs.Int.{IsInRange}
 use Rattle.std.specs.Ordering.{eq_by_cmp, is_eq, nat_cmp}
-use Rattle.std.specs.FinMap.{FinMap, get, insert, get-insert, get_tied}
+use Rattle.std.specs.FinMap.{FinMap, IsAntisymmetric, get, insert, get-insert, get_tied}
 use Rattle.std.specs.Cmp.{IsTotalOrder, tied_itself, Equal-is}
 use Rattle.std.specs.declared.cmp.Ordering.{Ordering}
 use Rattle.std.specs.Option.{option_and_then}
+use Rattle.std.proofs.lemmas.Bool.{not-false}
 use Rattle.std.proofs.lemmas.Bool.Decides.{Decides-eqb}
-use Rattle.std.proofs.lemmas.Option.{cond_some}
-use Rattle.deposit_name.specs.declared.kinds.Kind.{Kind}
+use Rattle.std.proofs.lemmas.Option.{same_Some}
 use Rattle.deposit_name.specs.declared.errors.NameError.{NameError}
 use Rattle.deposit_name.specs.Name.{Name, IsName, name_text, is_same_kind}
 use Rattle.deposit_name.specs.Fault.{IsFault}
-use Rattle.custody_records.specs.Records.{key_of}
+use Rattle.custody_records.specs.Keys.{PartKey}
+use Rattle.custody_records.specs.Records.{Hold, key_of, lifted_at}
 use Rattle.custody_records.specs.Tables.{is_rising}
 use Rattle.custody_machine.specs.NameReading.{read_name}
 use Rattle.custody_machine.specs.State.{State, Part, Content, Held, Dropped, part_numbers}
-use Rattle.custody_machine.specs.Machine.{Command, Test, refusal_number, TestsAreInOrder, Register, Receive, Statement, Check, Release, Hold, Lift, Purge, Refusal, NameRefused, RegistryUnknown, DateOutOfRange, Size, OtherBytes, DroppedAfterKeeping, RevisionNotDue, AlreadyStated, TypeDiffers, PartOutOfOrder, OfRegistry, OfPart, Reply, Step, Refuse, Accept, part_at, part_of_kind, part_under_name, has_other_kind, is_held_with, is_held_with_other, has_other_bytes, is_dropped, are_bytes_dropped, revision_part, refusal_of, state_with_part, received_part, if_held_with, kept_part_record, kept_record, effect, receive_step, unless_kept, unless_refused, step, is_unregistered, is_out_of_range, is_out_of_size, is_revision_not_due, is_stated, is_new_beside_other_kind, is_out_of_order, receive_tests, named_tests, first_refusal}
+use Rattle.custody_machine.specs.Machine.{Command, Test, refusal_number, TestsAreInOrder, Register, Receive, Lift, Record, OfLifting, hold_of, lift_step, state_with_hold, Refusal, NameRefused, RegistryUnknown, DateOutOfRange, Size, OtherBytes, DroppedAfterKeeping, RevisionNotDue, AlreadyStated, TypeDiffers, PartOutOfOrder, OfRegistry, OfPart, Reply, Step, Refuse, Accept, part_at, part_of_kind, part_under_name, has_other_kind, is_held_with, is_held_with_other, has_other_bytes, is_dropped, are_bytes_dropped, revision_part, refusal_of, state_with_part, received_part, if_held_with, kept_part_record, kept_record, effect, receive_step, unless_kept, unless_refused, step, is_unregistered, is_out_of_range, is_out_of_size, is_revision_not_due, is_stated, is_new_beside_other_kind, is_out_of_order, receive_tests, named_tests, first_refusal}
 use Rattle.custody_machine.proofs.NameReading.{read_is, is_reading}
+use Rattle.custody_machine.proofs.Options.{mapped, unmapped, passing, passing_of}
 use Rattle.custody_machine.proofs.SameValues.{text_decides}
 use Rattle.custody_machine.proofs.Series.{is_place}
 
 -- ---- what acceptance tells
 
-pub none_head : {A : Type 0} (b : Bool) (x : A) (o : Option A) → cond b (Some x) o ≡ None → (b ≡ false) × (o ≡ None)
-none_head true x o e = cc
-none_head false x o e = (refl, e)
+-- none of the tests stands
+abbrev pub AllFail : List Test → Type 0
+AllFail [] = Unit {0}
+AllFail (test ∷ others) = (test.1 ≡ false) × AllFail others
+
+pub all_fail : (tests : List Test) → first_refusal tests ≡ None → AllFail tests
+all_fail [] e = tt
+all_fail (test ∷ others) e = by test.1 e (all_fail others)
+  where
+    by : (b : Bool) → cond b (Some test.0) (first_refusal others) ≡ None → (first_refusal others ≡ None → AllFail others) → (b ≡ false) × AllFail others
+    by true e rest = cc
+    by false e rest = (refl, rest e)
+
+pub none_of_all : (tests : List Test) → AllFail tests → first_refusal tests ≡ None
+none_of_all [] fail = refl
+none_of_all (test ∷ others) fail = ap (λ b. cond b (Some test.0) (first_refusal others)) fail.0 ∙ none_of_all others fail.1
 
 -- none of the refusals of a part stands
 pub record NoneStands (s : State) (name : Name) (sent : List ℕ) (now : ℕ) : Type 0 where
@@ -44,30 +59,20 @@ pub record NoneStands (s : State) (name : Name) (sent : List ℕ) (now : ℕ) : 
 module _ (s : State) (name : Name) (bytes : List ℕ) (now : ℕ) where
   pub none_stand : first_refusal (receive_tests s name bytes now) ≡ None → NoneStands s name bytes now
   none_stand e =
-      let b = none_head (is_unregistered s name) RegistryUnknown _ e in
-      let c = none_head (is_out_of_range s name now) DateOutOfRange _ b.1 in
-      let d = none_head (is_out_of_size (length bytes)) Size _ c.1 in
-      let f = none_head (has_other_bytes bytes (part_under_name s name)) OtherBytes _ d.1 in
-      let g = none_head (is_dropped (part_under_name s name)) DroppedAfterKeeping _ f.1 in
-      let h = none_head (is_revision_not_due s name) RevisionNotDue _ g.1 in
-      let i = none_head (is_stated s name) AlreadyStated _ h.1 in
-      let j = none_head (is_new_beside_other_kind s name) TypeDiffers _ i.1 in
-      let k = none_head (is_out_of_order s name) PartOutOfOrder _ j.1 in
-      record { registry = b.0; date = c.0; size = d.0; bytes = f.0; dropped = g.0; due = h.0; stated = i.0; kind = j.0; order = k.0 }
+      let f = all_fail (receive_tests s name bytes now) e in
+      let g = f.1.1.1.1 in
+      record { registry = f.0; date = f.1.0; size = f.1.1.0; bytes = f.1.1.1.0; dropped = g.0; due = g.1.0; stated = g.1.1.0; kind = g.1.1.1.0; order = g.1.1.1.1.0 }
+
+  pub find_none : NoneStands s name bytes now → first_refusal (receive_tests s name bytes now) ≡ None
+  find_none h = none_of_all (receive_tests s name bytes now) (h.registry, (h.date, (h.size, (h.bytes, (h.dropped, (h.due, (h.stated, (h.kind, (h.order, tt)))))))))
 
 -- the refusals that follow those of the name
 abbrev pub part_refusals : (RegistryUnknown DateOutOfRange Size OtherBytes DroppedAfterKeeping RevisionNotDue AlreadyStated TypeDiffers PartOutOfOrder : Bool) → Option Refusal
 part_refusals a b c d e f g h i = cond a (Some RegistryUnknown) (cond b (Some DateOutOfRange) (cond c (Some Size) (cond d (Some OtherBytes) (cond e (Some DroppedAfterKeeping)
     (cond f (Some RevisionNotDue) (cond g (Some AlreadyStated) (cond h (Some TypeDiffers) (cond i (Some PartOutOfOrder) None))))))))
 
-nine_none : (a b c d e f g h i : Bool) → a ≡ false → b ≡ false → c ≡ false → d ≡ false → e ≡ false → f ≡ false → g ≡ false → h ≡ false → i ≡ false → part_refusals a b c d e f g h i ≡ None
-nine_none a b c d e f g h i p q r t u v w x y = rw (p, q, r, t, u, v, w, x, y) refl
-
 five_dropped : (a b c d e f g h i : Bool) → a ≡ false → b ≡ false → c ≡ false → d ≡ false → e ≡ true → part_refusals a b c d e f g h i ≡ Some DroppedAfterKeeping
 five_dropped a b c d e f g h i p q r t u = rw (p, q, r, t, u) refl
-
-pub find_none : (s : State) (name : Name) (bytes : List ℕ) (now : ℕ) → NoneStands s name bytes now → first_refusal (receive_tests s name bytes now) ≡ None
-find_none s name bytes now h = nine_none _ _ _ _ _ _ _ _ _ h.registry h.date h.size h.bytes h.dropped h.due h.stated h.kind h.order
 
 pub find_dropped : (s : State) (name : Name) (bytes : List ℕ) (now : ℕ) → is_unregistered s name ≡ false → is_out_of_range s name now ≡ false → is_out_of_size (length bytes) ≡ false → has_other_bytes bytes (part_under_name s name) ≡ false → is_dropped (part_under_name s name) ≡ true
     → first_refusal (receive_tests s name bytes now) ≡ Some DroppedAfterKeeping
@@ -94,18 +99,12 @@ refused_name s bytes now fault = refl
 
 -- the tests of each command stand in the order of their numbers
 pub tests_are_in_order : TestsAreInOrder
-tests_are_in_order s (Register tld day) now = refl
 tests_are_in_order s (Receive text bytes) now = by (read_name text)
   where
     by : (r : Result Name NameError) → is_rising nat_cmp (λ (test : Test). refusal_number test.0) (named_tests s r bytes now) ≡ true
     by (Err fault) = refl
     by (Ok name) = refl
-tests_are_in_order s (Statement stated) now = refl
-tests_are_in_order s (Check tld day) now = refl
-tests_are_in_order s (Release reference tld reason) now = refl
-tests_are_in_order s (Hold reference tld day) now = refl
-tests_are_in_order s (Lift reference) now = refl
-tests_are_in_order s Purge now = refl
+tests_are_in_order s command now = refl
 
 -- accepted: no refusal stands, and the step is that of a repeat or of the effect
 pub step_accepts : (s : State) (c : Command) (now : ℕ) (reply : Reply) (new : State) → step s c now ≡ Accept reply new → (refusal_of s c now ≡ None) × (unless_kept s (kept_record s c) (effect s c now) ≡ Accept reply new)
@@ -132,8 +131,20 @@ read_of text name h = (is_reading.names text name).1 h
 pub step_refuses_text : (s : State) (text bytes : List ℕ) (now : ℕ) (fault : NameError) → IsFault text fault → step s (Receive text bytes) now ≡ Refuse (NameRefused fault)
 step_refuses_text s text bytes now fault is = step_refuses s (Receive text bytes) now (NameRefused fault) (ap (λ r. first_refusal (named_tests s r bytes now)) ((is_reading.faults text fault).1 is) ∙ refused_name s bytes now fault)
 
+-- of a repeat, and of any other command
+pub step_repeats : (s : State) (c : Command) (now : ℕ) (entry : Record) → refusal_of s c now ≡ None → kept_record s c ≡ Some entry → step s c now ≡ Accept (record { entry = entry; is_repeat = true }) s
+step_repeats s c now entry none at = step_none s c now none ∙ ap (λ o. unless_kept s o (effect s c now)) at
+
 pub accept_inj : (r q : Reply) (s t : State) → Accept r s ≡ Accept q t → (r ≡ q) × (s ≡ t)
 accept_inj r q s t e = (cc, cc)
+
+-- what is no repeat has no record yet
+pub made_is_new : (s : State) (c : Command) (now : ℕ) (reply : Reply) (new : State) → step s c now ≡ Accept reply new → reply.is_repeat ≡ false → kept_record s c ≡ None
+made_is_new s c now reply new e first = by (kept_record s c) (step_accepts s c now reply new e).1
+  where
+    by : (o : Option Record) → unless_kept s o (effect s c now) ≡ Accept reply new → o ≡ None
+    by None e = refl
+    by (Some entry) e = let clash : true ≡ false = ap (λ (r : Reply). r.is_repeat) (accept_inj _ _ _ _ e).0 ∙ first in cc
 
 -- ---- maps
 
@@ -148,6 +159,22 @@ module _ {K X : Type 0} {R : K → K → Ordering} (o : IsTotalOrder R) where
       by : (b : Bool) → eq_by_cmp R q k ≡ b → cond b (Some v) (get m q) ≡ Some x
       by true t = let same : get m k ≡ get m q = get_tied o m q k ((Equal-is (R q k)).0 t) in cc
       by false t = e
+
+  -- and a key that is there stays
+  pub some_still : (m : FinMap R X) (k : K) (v : X) (q : K) → is_some (get m q) ≡ true → is_some (get (insert m k v) q) ≡ true
+  some_still m k v q h = ap is_some (get-insert o m k v q) ∙ by (eq_by_cmp R q k)
+    where
+      by : (b : Bool) → is_some (cond b (Some v) (get m q)) ≡ true
+      by true = refl
+      by false = h
+
+  -- what holds of the new entry, and of those from before, holds of each
+  pub inserted : IsAntisymmetric R → (m : FinMap R X) (k : K) (v : X) (P : K → X → Type 0) → P k v → ((q : K) (x : X) → get m q ≡ Some x → P q x) → (q : K) (x : X) → get (insert m k v) q ≡ Some x → P q x
+  inserted exact m k v P new old q x at = by (eq_by_cmp R q k) refl (sym (get-insert o m k v q) ∙ at)
+    where
+      by : (b : Bool) → eq_by_cmp R q k ≡ b → cond b (Some v) (get m q) ≡ Some x → P q x
+      by true t e = subst (λ z. P z x) (sym (exact q k ((Equal-is (R q k)).0 t))) (subst (P k) (same_Some v x e) new)
+      by false t e = old q x e
 
 or_true : (a b : Bool) → b ≡ true → (a || b) ≡ true
 or_true true b e = refl
@@ -190,11 +217,7 @@ pub held_bytes : (part : Part) (bytes : List ℕ) → is_held_with_other bytes p
 held_bytes part bytes other gone = by part.content other gone
   where
     by : (c : Content) → is_held_with_other bytes c ≡ false → are_bytes_dropped c ≡ false → c ≡ Held bytes
-    by (Held kept) other gone = ap Held ((text_decides kept bytes).0 (not_false (bytes_eq kept bytes) other))
-      where
-        not_false : (b : Bool) → not b ≡ false → b ≡ true
-        not_false true e = refl
-        not_false false e = cc
+    by (Held kept) other gone = ap Held ((text_decides kept bytes).0 (not-false (bytes_eq kept bytes) other))
     by (Dropped n) other gone = cc
 
 -- a part that is recorded is answered, and one that is not is recorded
@@ -214,37 +237,74 @@ rules_part s text bytes now name named other dropped =
         let same : is_held_with bytes part.content ≡ true = ap (is_held_with bytes) (held_bytes part bytes other dropped) ∙ (text_decides bytes bytes).1 refl in
         ap (λ b. unless_kept s (option_map (λ (part : Part). OfPart (key_of name) part) (cond b (Some part) None)) (receive_step s (Ok name) bytes now)) same
 
--- what acceptance of a part tells
-pub record Receives (s : State) (text bytes : List ℕ) (now : ℕ) (reply : Reply) (new : State) : Type 0 where
-  pub name : Name
-  pub named : read_name text ≡ Ok name
-  pub none : NoneStands s name bytes now
-  pub outcome : answered s name bytes now (part_under_name s name) ≡ Accept reply new
-
-pub receives : (s : State) (text bytes : List ℕ) (now : ℕ) (reply : Reply) (new : State) → step s (Receive text bytes) now ≡ Accept reply new → Receives s text bytes now reply new
-receives s text bytes now reply new e =
-    let h = step_accepts s (Receive text bytes) now reply new e in by (read_name text) refl h.0 h.1
-  where
-    by : (r : Result Name NameError) → read_name text ≡ r → first_refusal (named_tests s r bytes now) ≡ None → unless_kept s (kept_record s (Receive text bytes)) (effect s (Receive text bytes) now) ≡ Accept reply new → Receives s text bytes now reply new
-    by (Err fault) named none outcome = let stands = refused_name s bytes now fault in cc
-    by (Ok name) named none outcome =
-        let stand = none_stand s name bytes now none in
-        record { name = name; named = named; none = stand; outcome = sym (rules_part s text bytes now name named stand.bytes stand.dropped) ∙ outcome }
-
 -- the step of a registration, by what is known of its registry
 abbrev pub registered : State → List ℕ → ℕ → ℕ → Option ℕ → Step
 registered s tld day now o = unless_kept s (option_map (λ (d : ℕ). OfRegistry tld d) o) (effect s (Register tld day) now)
 
-pub of_kind_some : (kind : Kind) (part found : Part) → part_of_kind kind part ≡ Some found → (is_same_kind part.kind kind ≡ true) × (part ≡ found)
-of_kind_some kind part found e = cond_some (is_same_kind part.kind kind) part found e
-
 -- the part recorded under a name
 pub recorded_is : (s : State) (name : Name) (part : Part) → part_under_name s name ≡ Some part → (part_at s (key_of name) ≡ Some part) × (is_same_kind part.kind name.kind ≡ true)
-recorded_is s name part e = by (part_at s (key_of name)) e
-  where
-    by : (o : Option Part) → option_and_then (part_of_kind name.kind) o ≡ Some part → (o ≡ Some part) × (is_same_kind part.kind name.kind ≡ true)
-    by None e = cc
-    by (Some found) e = let h = of_kind_some name.kind found part e in (ap Some h.1, subst (λ (p : Part). is_same_kind p.kind name.kind ≡ true) h.1 h.0)
+recorded_is s name part = passing (λ (p : Part). is_same_kind p.kind name.kind) (part_at s (key_of name)) part
 
 pub recorded_of : (s : State) (name : Name) (part : Part) → part_at s (key_of name) ≡ Some part → is_same_kind part.kind name.kind ≡ true → part_under_name s name ≡ Some part
-recorded_of s name part at kind = ap (option_and_then (part_of_kind name.kind)) at ∙ ap (λ b. cond b (Some part) None) kind
+recorded_of s name part = passing_of (λ (p : Part). is_same_kind p.kind name.kind) (part_at s (key_of name)) part
+
+-- ---- an accepted command, by its outcome
+
+-- what is said of an accepted step
+abbrev pub OfAccepted : (Reply → State → Type 0) → Step → Type 0
+OfAccepted P (Refuse q) = Unit {0}
+OfAccepted P (Accept reply new) = P reply new
+
+-- what is said of the effect of a command that is no repeat, with what is known of a new part and of a hold that is lifted
+abbrev pub Makes : (Reply → State → Type 0) → State → Command → ℕ → Type 0
+Makes P s (Receive text bytes) now = (name : Name) → read_name text ≡ Ok name → NoneStands s name bytes now → part_under_name s name ≡ None
+    → P (record { entry = OfPart (key_of name) (received_part name bytes now); is_repeat = false }) (state_with_part s (key_of name) (received_part name bytes now))
+Makes P s (Lift reference) now = (hold : Hold) → get s.holds reference ≡ Some hold → hold.lifted ≡ None → P (record { entry = OfLifting reference now; is_repeat = false }) (state_with_hold s reference (lifted_at now hold))
+Makes P s c now = OfAccepted P (effect s c now)
+
+-- a name under which other bytes would be refused has no part that is not a repeat
+unrecorded : (key : PartKey) (bytes : List ℕ) (o : Option Part) → option_map (OfPart key) (option_and_then (if_held_with bytes) o) ≡ None → has_other_bytes bytes o ≡ false → is_dropped o ≡ false → o ≡ None
+unrecorded key bytes None at other dropped = refl
+unrecorded key bytes (Some part) at other dropped =
+    let same : is_held_with bytes part.content ≡ true = ap (is_held_with bytes) (held_bytes part bytes other dropped) ∙ (text_decides bytes bytes).1 refl in
+    let kept : None ≡ Some (OfPart key part) = sym at ∙ ap (λ b. option_map (OfPart key) (cond b (Some part) None)) same in cc
+
+made_of : (s : State) (c : Command) (now : ℕ) (P : Reply → State → Type 0) → refusal_of s c now ≡ None → kept_record s c ≡ None → Makes P s c now → OfAccepted P (effect s c now)
+made_of s (Receive text bytes) now P none new makes = by (read_name text) refl none new
+  where
+    by : (r : Result Name NameError) → read_name text ≡ r → first_refusal (named_tests s r bytes now) ≡ None → kept_part_record s r bytes ≡ None → OfAccepted P (receive_step s r bytes now)
+    by (Err fault) named none new = tt
+    by (Ok name) named none new = let stand = none_stand s name bytes now none in makes name named stand (unrecorded (key_of name) bytes (part_under_name s name) new stand.bytes stand.dropped)
+made_of s (Lift reference) now P none new makes = by (hold_of s reference) refl new
+  where
+    by : (o : Option Hold) → hold_of s reference ≡ o → option_map (OfLifting reference) (option_and_then (λ (hold : Hold). hold.lifted) o) ≡ None → OfAccepted P (lift_step s reference now o)
+    by None at new = tt
+    by (Some hold) at new = makes hold at (unmapped (OfLifting reference) hold.lifted new)
+made_of s c now P none new makes = makes
+
+-- An accepted command is a repeat, which leaves the state, or it has its effect.
+pub by_outcome : (s : State) (c : Command) (now : ℕ) (P : Reply → State → Type 0) → ((entry : Record) → refusal_of s c now ≡ None → kept_record s c ≡ Some entry → P (record { entry = entry; is_repeat = true }) s)
+    → (refusal_of s c now ≡ None → kept_record s c ≡ None → Makes P s c now) → (reply : Reply) (new : State) → step s c now ≡ Accept reply new → P reply new
+by_outcome s c now P repeats makes reply new e = let h = step_accepts s c now reply new e in subst (OfAccepted P) h.1 (by h.0 (kept_record s c) refl)
+  where
+    by : refusal_of s c now ≡ None → (o : Option Record) → kept_record s c ≡ o → OfAccepted P (unless_kept s o (effect s c now))
+    by none (Some entry) at = repeats entry none at
+    by none None at = made_of s c now P none at (makes none at)
+
+-- what is recorded under the name of a part that is repeated
+pub record RepeatsPart (s : State) (text bytes : List ℕ) (now : ℕ) (entry : Record) : Type 0 where
+  pub name : Name
+  pub named : read_name text ≡ Ok name
+  pub none : NoneStands s name bytes now
+  pub part : Part
+  pub at : part_under_name s name ≡ Some part
+  pub is : OfPart (key_of name) part ≡ entry
+
+pub repeats_part : (s : State) (text bytes : List ℕ) (now : ℕ) (entry : Record) → refusal_of s (Receive text bytes) now ≡ None → kept_record s (Receive text bytes) ≡ Some entry → RepeatsPart s text bytes now entry
+repeats_part s text bytes now entry none at = by (read_name text) refl none at
+  where
+    by : (r : Result Name NameError) → read_name text ≡ r → first_refusal (named_tests s r bytes now) ≡ None → kept_part_record s r bytes ≡ Some entry → RepeatsPart s text bytes now entry
+    by (Err fault) named none at = cc
+    by (Ok name) named none at =
+        let kept = mapped (OfPart (key_of name)) (option_and_then (if_held_with bytes) (part_under_name s name)) entry at in
+        record { name = name; named = named; none = none_stand s name bytes now none; part = kept.0; at = (passing (λ (p : Part). is_held_with bytes p.content) (part_under_name s name) kept.0 kept.1).0; is = kept.2 }

@@ -1,7 +1,7 @@
 -- A part that is kept, compared with the bytes of a command; and what a call leaves at its moments.
 use Rattle.std.specs.Prelude.{bytes_eq}
-use Rattle.std.proofs.Common.{◌≡◌, ◌≢◌, ◌⊎◌, inl, inr, ℕ, List, [], ◌∷◌, Option, Some, None, Bool, true, false, refl, sym, ◌∙◌, ap, subst, arith}
-use Rattle.std.specs.FinMap.{get}
+use Rattle.std.proofs.Common.{◌≡◌, ◌≢◌, ℕ, List, [], ◌∷◌, None, Bool, true, false, refl, sym, ◌∙◌, ap, subst, arith}
+use Rattle.std.proofs.lemmas.Option.{same_Some}
 use Rattle.deposit_name.specs.Name.{Name}
 use Rattle.sha2.specs.Sha256.{sha256}
 use Rattle.extent_map.specs.declared.extent.Extent.{Extent}
@@ -10,7 +10,7 @@ use Rattle.vault_volume.specs.Extents.{part_bytes}
 use Rattle.custody_records.specs.Keys.{PartKey}
 use Rattle.custody_records.specs.Records.{PartRecord, Records, key_of}
 use Rattle.custody_machine.specs.State.{State}
-use Rattle.custody_machine.specs.Machine.{Command, Register, Receive, Statement, Check, Release, Hold, Lift, Purge, OfPart, Reply, Step, Refuse, Accept, OtherBytes, refusal_of, step, deciding_keys, Accepted, Refused, Failed, Failure, NoMemory, VolumeFailed, Damaged, MayFail}
+use Rattle.custody_machine.specs.Machine.{Command, Receive, OfPart, Reply, Refuse, Accept, OtherBytes, refusal_of, step, deciding_keys, Accepted, Refused, Failed, Failure, NoMemory, VolumeFailed, Damaged, MayFail}
 use Rattle.custody_machine.specs.declared.damage.Damage.TheVariants.{Digest}
 use Rattle.custody_machine.specs.StoredState.{part_of, state_in, HasDigestAt}
 use Rattle.custody_machine.specs.Moves.{DependsOnBytes}
@@ -34,42 +34,24 @@ module _ (records : Records) (i : List ℕ) (command : Command) (now : ℕ) (nam
   reads_key other = by command (other_rules other) d.0.named
     where
       by : (command : Command) → step (state_in records i) command now ≡ Refuse OtherBytes → BringsPart command name → deciding_keys (state_in records i) command now ≡ key_of name ∷ []
-      by (Register tld first_day) refused under = absurd under
       by (Receive text bytes) refused under = reads_other (state_in records i) text bytes now name refused under
-      by (Statement stated) refused under = absurd under
-      by (Check tld day) refused under = absurd under
-      by (Release reference tld reason) refused under = absurd under
-      by (Hold reference tld day) refused under = absurd under
-      by (Lift reference) refused under = absurd under
-      by Purge refused under = absurd under
+      by command refused under = absurd under
 
   reads_none : refusal_of (state_in records i) command now ≡ None → deciding_keys (state_in records i) command now ≡ []
   reads_none none = by command none d.0.named
     where
       by : (command : Command) → refusal_of (state_in records i) command now ≡ None → BringsPart command name → deciding_keys (state_in records i) command now ≡ []
-      by (Register tld first_day) none under = absurd under
       by (Receive text bytes) none under = reads_accepted (state_in records i) text bytes now none
-      by (Statement stated) none under = absurd under
-      by (Check tld day) none under = absurd under
-      by (Release reference tld reason) none under = absurd under
-      by (Hold reference tld day) none under = absurd under
-      by (Lift reference) none under = absurd under
-      by Purge none under = absurd under
+      by command none under = absurd under
 
   pub same_rests : Compares Same (part_bytes i extents part.len) bytes part.digest → (reply : Reply) → DependsOnBytes records i command now (Accepted reply)
   same_rests same reply k within = absurd (nothing_in _ k (reads_none (step_accepts (state_in records i) command now _ _ (same_rules same)).0) within)
 
   has_digest : sha256 (part_bytes i extents part.len) ≡ part.digest → HasDigestAt i records (key_of name)
   has_digest is p es at held =
-      let one : part ≡ p = same_part part p (get records.parts (key_of name)) d.0.recorded at in
-      let all : extents ≡ es = same_extents extents es part.extents d.0.held (ap (λ (q : PartRecord). q.extents) one ∙ held) in
+      let one : part ≡ p = same_Some part p (sym d.0.recorded ∙ at) in
+      let all : extents ≡ es = same_Some extents es (sym d.0.held ∙ ap (λ (q : PartRecord). q.extents) one ∙ held) in
       subst (λ q. sha256 (part_bytes i es q.len) ≡ q.digest) one (subst (λ l. sha256 (part_bytes i l part.len) ≡ part.digest) all is)
-    where
-      same_part : (a b : PartRecord) (o : Option PartRecord) → o ≡ Some a → o ≡ Some b → a ≡ b
-      same_part a b o p q = cc
-
-      same_extents : (a b : List Extent) (o : Option (List Extent)) → o ≡ Some a → o ≡ Some b → a ≡ b
-      same_extents a b o p q = cc
 
   -- other bytes are told of a part that has its digest
   pub other_rests : Compares Other (part_bytes i extents part.len) bytes part.digest → DependsOnBytes records i command now (Refused OtherBytes)
@@ -86,29 +68,21 @@ module _ (records : Records) (i : List ℕ) (command : Command) (now : ℕ) (nam
       some_not_none e = cc
 
   -- whichever it is, memory or the volume may fail
-  pub may_fail : (failure : Failure) → ((r : Step) → (r ≡ Refuse OtherBytes) ⊎ ((reply : Reply) × (new : State) × (r ≡ Accept reply new)) → MayFail r (deciding_keys (state_in records i) command now) failure) → MayFail (step (state_in records i) command now) (deciding_keys (state_in records i) command now) failure
-  may_fail fault may = by (bytes_eq (part_bytes i extents part.len) bytes) refl
+  may_fail : (failure : Failure) → MayFail (Refuse OtherBytes) (deciding_keys (state_in records i) command now) failure → ((reply : Reply) (new : State) → MayFail (Accept reply new) (deciding_keys (state_in records i) command now) failure)
+      → MayFail (step (state_in records i) command now) (deciding_keys (state_in records i) command now) failure
+  may_fail failure refused accepted = by (bytes_eq (part_bytes i extents part.len) bytes) refl
     where
-      by : (b : Bool) → bytes_eq (part_bytes i extents part.len) bytes ≡ b → MayFail (step (state_in records i) command now) (deciding_keys (state_in records i) command now) fault
-      by true e = may _ (inr (_, _, same_rules ((text_decides (part_bytes i extents part.len) bytes).0 e)))
-      by false e = may _ (inl (other_rules (λ same. never ((text_decides (part_bytes i extents part.len) bytes).1 same) e)))
-        where
-          never : {b : Bool} → b ≡ true → b ≡ false → ⊥
-          never p q = cc
+      by : (b : Bool) → bytes_eq (part_bytes i extents part.len) bytes ≡ b → MayFail (step (state_in records i) command now) (deciding_keys (state_in records i) command now) failure
+      by true e = subst (λ r. MayFail r (deciding_keys (state_in records i) command now) failure) (sym (same_rules ((text_decides (part_bytes i extents part.len) bytes).0 e)))
+          (accepted (record { entry = OfPart (key_of name) (part_of i part); is_repeat = true }) (state_in records i))
+      by false e = subst (λ r. MayFail r (deciding_keys (state_in records i) command now) failure)
+          (sym (other_rules (λ same. let clash : false ≡ true = sym e ∙ (text_decides (part_bytes i extents part.len) bytes).1 same in cc))) refused
 
   pub no_memory_may_be : MayFail (step (state_in records i) command now) (deciding_keys (state_in records i) command now) NoMemory
-  no_memory_may_be = may_fail NoMemory by
-    where
-      by : (r : Step) → (r ≡ Refuse OtherBytes) ⊎ ((reply : Reply) × (new : State) × (r ≡ Accept reply new)) → MayFail r (deciding_keys (state_in records i) command now) NoMemory
-      by r (inl e) = subst (λ r. MayFail r (deciding_keys (state_in records i) command now) NoMemory) (sym e) refl
-      by r (inr e) = subst (λ r. MayFail r (deciding_keys (state_in records i) command now) NoMemory) (sym e.2) tt
+  no_memory_may_be = may_fail NoMemory refl (λ reply new. tt)
 
   pub volume_failed_may_be : MayFail (step (state_in records i) command now) (deciding_keys (state_in records i) command now) VolumeFailed
-  volume_failed_may_be = may_fail VolumeFailed by
-    where
-      by : (r : Step) → (r ≡ Refuse OtherBytes) ⊎ ((reply : Reply) × (new : State) × (r ≡ Accept reply new)) → MayFail r (deciding_keys (state_in records i) command now) VolumeFailed
-      by r (inl e) = subst (λ r. MayFail r (deciding_keys (state_in records i) command now) VolumeFailed) (sym e) refl
-      by r (inr e) = subst (λ r. MayFail r (deciding_keys (state_in records i) command now) VolumeFailed) (sym e.2) tt
+  volume_failed_may_be = may_fail VolumeFailed refl (λ reply new. tt)
 
 -- ---- moments
 

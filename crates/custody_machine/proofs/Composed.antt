@@ -1,35 +1,39 @@
 -- How the calls of volume, database and records make up a command of the machine.
-use Rattle.std.proofs.Common.{◌≡◌, ◌≢◌, ◌⊎◌, inl, inr, ℕ, zero, suc, ◌-◌, ◌<◌, ◌≤◌, ◌^◌, List, [], ◌∷◌, length, Option, Some, None, Bool, true, false, not, ◌&&◌, ◌||◌, if◌then◌else◌, refl, sym, ◌∙◌, ap, subst, is_some, is_none, nat_lt, ◌==◌, arith, Result, Ok, Err, Contains}
+use Rattle.std.proofs.Common.{◌≡◌, ◌≢◌, ◌⊎◌, inl, inr, ℕ, zero, suc, ◌+◌, ◌-◌, ◌<◌, ◌≤◌, ◌^◌, List, [], ◌∷◌, length, Option, Some, None, Bool, true, false, not, ◌&&◌, ◌||◌, if◌then◌else◌, refl, sym, ◌∙◌, ap, subst, is_some, is_none, nat_lt, ◌==◌, arith, Result, Ok, Err, Contains}
 use Rattle.std.specs.Prelude.{option_map, All, slice_index_or}
 use Rattle.std.specs.List.{list_any}
 use Rattle.std.specs.Option.{option_and_then}
-use Rattle.std.specs.FinMap.{get}
+use Rattle.std.specs.FinMap.{FinMap, get, insert}
+use Rattle.std.proofs.lemmas.Bool.{not-false}
 use Rattle.std.proofs.lemmas.Bool.Decides.{Decides-eqb, Decides-ltb, nat_tests}
 use Rattle.sha2.specs.Sha256.{sha256}
 use Rattle.deposit_name.specs.declared.kinds.Kind.{Kind}
 use Rattle.deposit_name.specs.declared.errors.NameError.{NameError}
 use Rattle.deposit_name.specs.Name.{Name, is_same_kind}
+use Rattle.desk.specs.Standing.{is_receipt}
 use Rattle.vault_volume.specs.Image.{DiffersOnlyIn}
 use Rattle.vault_volume.specs.Extents.{IsExtentOf, IsInAny, block_count}
 use Rattle.extent_map.specs.Staged.{StagedPart}
 use Rattle.vault_volume.proofs.ImageLemmas.{same_in, in_more, in_both}
-use Rattle.custody_records.specs.Keys.{PartKey, part_cmp}
+use Rattle.custody_records.specs.Keys.{PartKey, text_cmp, part_cmp, notice_cmp}
 use Rattle.custody_records.specs.Records.{PartRecord, Records, key_of, staged_record}
 use Rattle.custody_records.specs.Records as recorded_in
 use Rattle.custody_records.specs.Rows.{Rows}
 use Rattle.custody_records.specs.Form.{form_of, InForm}
 use Rattle.custody_machine.specs.NameReading.{read_name}
 use Rattle.custody_machine.specs.State.{State, Held, part_numbers, key_with_part, has_notice}
-use Rattle.custody_machine.specs.Machine.{Statement, Check, Release, Hold, Lift, Purge, keys_if_made, Command, Register, Receive, Refusal, NameRefused, RegistryUnknown, DateOutOfRange, Size, OtherBytes, DroppedAfterKeeping, RevisionNotDue, AlreadyStated, TypeDiffers, PartOutOfOrder, VolumeFull, PartsDiffer, LaterDayPassed, NotYetDue, DayHasVerdict, GroundDoesNotStand, ReferenceUsed, NotInRelease, ReleaseUnknown, HoldReferenceUsed, HoldUnknown, Record, OfRegistry, OfPart, Reply, Refuse, Accept, max_part_len, part_of_kind, part_under_name, revision_part, has_other_kind, is_failure_of, refusal_of, kept_record, effect, receive_step, unless_kept, unless_refused, step, state_of, state_after, received_part, state_with_part, TimedCommand, compared_keys, deciding_keys, Answer, Accepted, Failed, StoreFailed, MayFail, MayAnswer, named_tests, first_refusal, verdict_keys}
+use Rattle.custody_machine.specs.Machine.{count_parts, has_part_of_other_kind, Statement, keys_if_made, Command, Register, Receive, Refusal, NameRefused, OtherBytes, Record, OfRegistry, OfPart, Reply, Refuse, Accept, max_part_len, part_of_kind, part_under_name, revision_part, has_other_kind, is_failure_of, refusal_of, kept_record, effect, receive_step, unless_kept, unless_refused, step, state_of, state_after, received_part, state_with_part, TimedCommand, compared_keys, deciding_keys, Answer, Accepted, Failed, StoreFailed, MayFail, MayAnswer, named_tests, first_refusal, verdict_keys}
 use Rattle.custody_machine.specs.History.{IsFoundWithin, doubt_of, MayFind, is_open_after}
 use Rattle.custody_machine.specs.StoredState.{HaveBlock, IsPartBlock, AreWhole, IsVolumeOf, is_part_of, AreWholeOnVolume, part_of, state_in, KeepsParts, OpensFrom}
 use Rattle.custody_machine.specs.Moves.{Place, Serving, Shut, MayLeave, MayLeaveWithin, DependsOnBytes, place_after}
 use Rattle.custody_machine.specs.Custody.{IsPlaceable, IsInOrder, IsOnVolume, IsInStore, IsPlaced, IsDurable, IsAtPlace, AnswersCommand}
 use Rattle.custody_machine.proofs.MapValues.{get-map_values}
 use Rattle.custody_machine.proofs.Series.{prior_taken, is_place}
-use Rattle.custody_machine.proofs.Accepting.{accept_inj, NoneStands, refused_name, step_none, step_accepts, registered, receives, place_passes, insert_here}
-use Rattle.custody_records.specs.inside.Orders.{part_total}
-use Rattle.custody_machine.proofs.Stored.{state_in-elsewhere, digest-elsewhere, good-elsewhere, keeps_same, keeps_itself, keeps_on, whole-with_registry, good-with_registry, keeps-with_registry, state_in-with_part, inserted, part_still, IsInPlace, whole-with_part, good-with_part, keeps-with_part}
+use Rattle.custody_machine.proofs.Accepting as refused
+use Rattle.custody_machine.proofs.Options.{is_there}
+use Rattle.custody_machine.proofs.Accepting.{accept_inj, NoneStands, refused_name, step_none, step_accepts, registered, place_passes, insert_here, inserted}
+use Rattle.custody_records.specs.inside.Orders.{part_total, part_exact}
+use Rattle.custody_machine.proofs.Stored.{state_in-elsewhere, digest-elsewhere, good-elsewhere, keeps_same, keeps_itself, keeps_on, whole-with_registry, state_in-with_part, part_still, IsInPlace, whole-with_part, good-with_part, keeps-with_part}
 
 -- ---- which parts are read
 
@@ -69,27 +73,8 @@ reads_accepted s text bytes now e = ap (λ o. compared_keys o (read_name text)) 
 
 read_none : (q : Refusal) → q ≢ OtherBytes → (r : Result Name NameError) → compared_keys (Some q) r ≡ []
 read_none q other (Err fault) = refl
-read_none (NameRefused fault) other (Ok name) = refl
-read_none RegistryUnknown other (Ok name) = refl
-read_none DateOutOfRange other (Ok name) = refl
-read_none Size other (Ok name) = refl
 read_none OtherBytes other (Ok name) = absurd (other refl)
-read_none DroppedAfterKeeping other (Ok name) = refl
-read_none RevisionNotDue other (Ok name) = refl
-read_none AlreadyStated other (Ok name) = refl
-read_none TypeDiffers other (Ok name) = refl
-read_none PartOutOfOrder other (Ok name) = refl
-read_none VolumeFull other (Ok name) = refl
-read_none PartsDiffer other (Ok name) = refl
-read_none LaterDayPassed other (Ok name) = refl
-read_none NotYetDue other (Ok name) = refl
-read_none DayHasVerdict other (Ok name) = refl
-read_none GroundDoesNotStand other (Ok name) = refl
-read_none ReferenceUsed other (Ok name) = refl
-read_none NotInRelease other (Ok name) = refl
-read_none ReleaseUnknown other (Ok name) = refl
-read_none HoldReferenceUsed other (Ok name) = refl
-read_none HoldUnknown other (Ok name) = refl
+read_none q other (Ok name) = refl
 
 part_refused : (s : State) (text bytes : List ℕ) (now : ℕ) (q : Refusal) → step s (Receive text bytes) now ≡ Refuse q → q ≢ OtherBytes → deciding_keys s (Receive text bytes) now ≡ []
 part_refused s text bytes now q e other = ap (λ o. compared_keys o (read_name text)) (refusal_is s text bytes now q e) ∙ read_none q other (read_name text)
@@ -97,7 +82,6 @@ part_refused s text bytes now q e other = ap (λ o. compared_keys o (read_name t
 -- of a command that is refused, but not for its bytes
 pub reads_refused : (s : State) (command : Command) (now : ℕ) (q : Refusal) → step s command now ≡ Refuse q → q ≢ OtherBytes → deciding_keys s command now ≡ []
 unfolding step
-reads_refused s (Register tld day) now q e other = refl
 reads_refused s (Receive text bytes) now q e other = part_refused s text bytes now q e other
 reads_refused s (Statement stated) now q e other = by (refusal_of s (Statement stated) now) (kept_record s (Statement stated)) e
   where
@@ -105,16 +89,11 @@ reads_refused s (Statement stated) now q e other = by (refusal_of s (Statement s
     by None None e = cc
     by None (Some entry) e = refl
     by (Some r) k e = refl
-reads_refused s (Check tld day) now q e other = refl
-reads_refused s (Release reference tld reason) now q e other = refl
-reads_refused s (Hold reference tld day) now q e other = refl
-reads_refused s (Lift reference) now q e other = refl
-reads_refused s Purge now q e other = refl
+reads_refused s command now q e other = refl
 
 -- of a repeat
 pub reads_repeated : (s : State) (command : Command) (now : ℕ) (reply : Reply) (new : State) → step s command now ≡ Accept reply new → reply.is_repeat ≡ true → deciding_keys s command now ≡ []
 unfolding step
-reads_repeated s (Register tld day) now reply new e again = refl
 reads_repeated s (Receive text bytes) now reply new e again = reads_accepted s text bytes now (step_accepts s (Receive text bytes) now reply new e).0
 reads_repeated s (Statement stated) now reply new e again = by (refusal_of s (Statement stated) now) (kept_record s (Statement stated)) e
   where
@@ -122,11 +101,7 @@ reads_repeated s (Statement stated) now reply new e again = by (refusal_of s (St
     by None None e = let first : false ≡ true = ap (λ (r : Reply). r.is_repeat) (accept_inj _ _ _ _ e).0 ∙ again in cc
     by None (Some entry) e = refl
     by (Some r) k e = refl
-reads_repeated s (Check tld day) now reply new e again = refl
-reads_repeated s (Release reference tld reason) now reply new e again = refl
-reads_repeated s (Hold reference tld day) now reply new e again = refl
-reads_repeated s (Lift reference) now reply new e again = refl
-reads_repeated s Purge now reply new e again = refl
+reads_repeated s command now reply new e again = refl
 
 pub reads_other : (s : State) (text bytes : List ℕ) (now : ℕ) (name : Name) → step s (Receive text bytes) now ≡ Refuse OtherBytes → read_name text ≡ Ok name → deciding_keys s (Receive text bytes) now ≡ key_of name ∷ []
 reads_other s text bytes now name e named = λ i. compared_keys (refusal_is s text bytes now OtherBytes e i) (named i)
@@ -134,16 +109,6 @@ reads_other s text bytes now name e named = λ i. compared_keys (refusal_is s te
 -- ---- the same records, with an image that differs only in blocks that they leave
 
 module _ (records : Records) (free : ℕ → Type 0) (i : List ℕ) (good : AreWholeOnVolume records i) (unnamed : (b : ℕ) → IsPartBlock records b → ¬ free b) (head : ¬ free 0) where
-  pub opens_same : (P : State → Type 0) (r : Rows) (j : List ℕ) → form_of r ≡ InForm records → DiffersOnlyIn free i j → P (state_in records i) → OpensFrom records i P r j
-  opens_same P r j is differs p = record {
-    records = records;
-    in_form = is;
-    good = good-elsewhere free records i j differs unnamed head good;
-    keeps = keeps_same records i j (digest-elsewhere free records i j differs unnamed);
-    state = subst P (sym (state_in-elsewhere free records i j differs unnamed)) p;
-  }
-
-  -- they also open so from records and an image before
   pub opens_later : (old : Records) (before : List ℕ) (P : State → Type 0) (r : Rows) (j : List ℕ) → KeepsParts old before records i → form_of r ≡ InForm records → DiffersOnlyIn free i j → P (state_in records i) → OpensFrom old before P r j
   opens_later old before P r j keeps is differs p = record {
     records = records;
@@ -152,6 +117,10 @@ module _ (records : Records) (free : ℕ → Type 0) (i : List ℕ) (good : AreW
     keeps = keeps_on old records records before i j keeps (keeps_same records i j (digest-elsewhere free records i j differs unnamed));
     state = subst P (sym (state_in-elsewhere free records i j differs unnamed)) p;
   }
+
+  -- and from themselves
+  pub opens_same : (P : State → Type 0) (r : Rows) (j : List ℕ) → form_of r ≡ InForm records → DiffersOnlyIn free i j → P (state_in records i) → OpensFrom records i P r j
+  opens_same P r j = opens_later records i P r j (keeps_itself records i)
 
 module _ (records : Records) (size failures : ℕ) (free : ℕ → Type 0) (order : IsInOrder records size failures free) where
   pub named_used : (b : ℕ) → IsPartBlock records b → ¬ free b
@@ -162,11 +131,11 @@ module _ (records : Records) (size failures : ℕ) (free : ℕ → Type 0) (orde
 
 -- ---- where a custody is after an answer
 
-is_there : (records new : Records) (i later : List ℕ) (is_open b : Bool) (place : Place) → is_open ≡ b → (is_open ≡ true → (new ≡ records) × (later ≡ i)) → (closed : Place) → IsAtPlace false new later closed → IsAtPlace is_open new later (if b then Serving records i else closed)
-is_there records new i later true true place e same closed shut = (sym (same refl).0, sym (same refl).1)
-is_there records new i later false false place e same closed shut = shut
-is_there records new i later true false place e same closed shut = cc
-is_there records new i later false true place e same closed shut = cc
+is_at_place : (records new : Records) (i later : List ℕ) (is_open b : Bool) (place : Place) → is_open ≡ b → (is_open ≡ true → (new ≡ records) × (later ≡ i)) → (closed : Place) → IsAtPlace false new later closed → IsAtPlace is_open new later (if b then Serving records i else closed)
+is_at_place records new i later true true place e same closed shut = (sym (same refl).0, sym (same refl).1)
+is_at_place records new i later false false place e same closed shut = shut
+is_at_place records new i later true false place e same closed shut = cc
+is_at_place records new i later false true place e same closed shut = cc
 
 may_find_itself : (s : State) (doubt : Option TimedCommand) → MayFind s doubt s
 may_find_itself s None = refl
@@ -199,7 +168,7 @@ module _ (records : Records) (rows : Rows) (i : List ℕ) (size failures : ℕ) 
   changes_nothing command now answer is_open new later since rows_then images_then allowed rests opened goes_on during rows_same images_same = record {
     next = place_after records i command now answer records i;
     moves = (records, i, allowed, rests, keeps_itself records i, refl);
-    is_at = is_there records new i later is_open (is_open_after answer) (Serving records i) opened goes_on (Shut records i (doubt_of command now answer)) tt;
+    is_at = is_at_place records new i later is_open (is_open_after answer) (Serving records i) opened goes_on (Shut records i (doubt_of command now answer)) tt;
     leaves = record {
       within = λ r j left w. before_commit command now r j left (during j w);
       at_exit = λ r j left w. exit (is_open_after answer) r j (rows_same r left) (images_same j w);
@@ -220,6 +189,22 @@ pub record IsChange (records : Records) (i : List ℕ) (free : ℕ → Type 0) (
   pub head : ¬ g 0
   pub fewer : (b : ℕ) → g b → free b
   pub moved : DiffersOnlyIn free i j
+
+-- a change of other tables than that of the parts
+module _ (records : Records) (registries : FinMap text_cmp ℕ) (notices : FinMap notice_cmp recorded_in.Notice) (releases : FinMap text_cmp recorded_in.Release) (holds : FinMap text_cmp recorded_in.Hold)
+    (i : List ℕ) (size failures : ℕ) (free : ℕ → Type 0) (order : IsInOrder records size failures free) (whole : AreWhole (record records { registries = registries; notices = notices; releases = releases; holds = holds })) where
+  pub tables_change : AreWholeOnVolume records i → IsChange records i free (record records { registries = registries; notices = notices; releases = releases; holds = holds }) i free
+  tables_change good = record {
+    good = record { whole = whole; volume = record { head = good.volume.head; size = good.volume.size } };
+    keeps = record { kept = λ key part at. (part, at, inl refl); digests = λ key has. has };
+    unnamed = named_used records size failures free order;
+    head = head_used records size failures free order;
+    fewer = λ b f. f;
+    moved = same_in free i;
+  }
+
+  pub tables_in_order : (failures_then : ℕ) → failures_then < 2 ^ 64 - 1 → IsInOrder (record records { registries = registries; notices = notices; releases = releases; holds = holds }) size failures_then free
+  tables_in_order failures_then count = record { whole = whole; blocks = order.blocks; placeable = order.placeable; count = count }
 
 module _ (records : Records) (rows : Rows) (i : List ℕ) (size failures : ℕ) (free : ℕ → Type 0) (is_ready : Type 0) (left_rows : Rows → Type 0) (left_images : List ℕ → Type 0)
     (order : IsInOrder records size failures free) (volume : IsOnVolume records i free left_images) (store : IsInStore records rows is_ready left_rows)
@@ -273,17 +258,10 @@ register_adds records i tld day now e = step_none (state_in records i) (Register
 
 module _ (records : Records) (i : List ℕ) (size failures failures_then : ℕ) (free free_then : ℕ → Type 0) (order : IsInOrder records size failures free) (tld : List ℕ) (day : ℕ) where
   pub registry_changes : AreWholeOnVolume records i → IsChange records i free (recorded_in.with_registry records tld day) i free
-  registry_changes good = record {
-    good = good-with_registry records i tld day good;
-    keeps = keeps-with_registry records i tld day;
-    unnamed = named_used records size failures free order;
-    head = head_used records size failures free order;
-    fewer = λ b f. f;
-    moved = same_in free i;
-  }
+  registry_changes good = tables_change records (insert records.registries tld day) records.notices records.releases records.holds i size failures free order (whole-with_registry records tld day order.whole) good
 
   pub registry_in_order : failures_then < 2 ^ 64 - 1 → IsInOrder (recorded_in.with_registry records tld day) size failures_then free
-  registry_in_order count = record { whole = whole-with_registry records tld day order.whole; blocks = order.blocks; placeable = order.placeable; count = count }
+  registry_in_order = tables_in_order records (insert records.registries tld day) records.notices records.releases records.holds i size failures free order (whole-with_registry records tld day order.whole) failures_then
 
 -- ---- the parts of a revision
 
@@ -309,37 +287,20 @@ module _ (records : Records) (i : List ℕ) (whole : AreWhole records) (n : Name
 module _ (records : Records) (i : List ℕ) (whole : AreWhole records) (text bytes : List ℕ) (now : ℕ) (n : Name) (named : read_name text ≡ Ok n) (empty_place : get records.parts (key_of n) ≡ None)
     (ruled : step (state_in records i) (Receive text bytes) now ≡ Accept (record { entry = OfPart (key_of n) (received_part n bytes now); is_repeat = false }) (state_with_part (state_in records i) (key_of n) (received_part n bytes now))) where
   none_stand : NoneStands (state_in records i) n bytes now
-  none_stand = let r = receives (state_in records i) text bytes now _ _ ruled in
-      subst (λ (m : Name). NoneStands (state_in records i) m bytes now) (one r.name n (read_name text) r.named named) r.none
-    where
-      one : (a b : Name) (o : Result Name NameError) → o ≡ Ok a → o ≡ Ok b → a ≡ b
-      one a b o p q = cc
+  none_stand = refused.none_stand (state_in records i) n bytes now (ap (λ r. first_refusal (named_tests (state_in records i) r bytes now)) (sym named) ∙ (step_accepts (state_in records i) (Receive text bytes) now _ _ ruled).0)
 
   known : is_some (get records.registries n.tld) ≡ true
-  known = not_none (get records.registries n.tld) none_stand.registry
-    where
-      not_none : (o : Option ℕ) → is_none o ≡ false → is_some o ≡ true
-      not_none None e = cc
-      not_none (Some d) e = refl
+  known = is_there (get records.registries n.tld) none_stand.registry
 
   is_new_name : is_none (part_under_name (state_in records i) n) ≡ true
   is_new_name = ap (λ o. is_none (option_and_then (part_of_kind n.kind) o)) (get-map_values part_cmp (part_of i) records.parts (key_of n) ∙ ap (option_map (part_of i)) empty_place)
 
   series : (m : ℕ) → n.part ≡ suc (suc m) → is_part_of n.kind (get records.parts (key_with_part (key_of n) (suc m))) ≡ true
   series m e =
-      let count = counted_to (is_none (part_under_name (state_in records i) n)) is_new_name _ none_stand.order in
+      let count = not-false _ (ap (λ b. b && not (count_parts (state_in records i) n + 1 == n.part)) (sym is_new_name) ∙ none_stand.order) in
       let taken = prior_taken (λ place. is_some (revision_part (state_in records i) n place)) (closed records i whole n) n.part m ((Decides-eqb _ _).0 count) e in
       by (get records.parts (key_with_part (key_of n) (suc m))) refl (ap is_some (sym (place_is records i whole n (suc m))) ∙ taken.0) taken.1
     where
-      counted_to : (b : Bool) → b ≡ true → (t : Bool) → (b && not t) ≡ false → t ≡ true
-      counted_to true e true h = refl
-      counted_to true e false h = cc
-      counted_to false e t h = cc
-
-      second : (b : Bool) → b ≡ true → (t : Bool) → (b && t) ≡ false → t ≡ false
-      second true e t h = h
-      second false e t h = cc
-
       by : (o : Option PartRecord) → get records.parts (key_with_part (key_of n) (suc m)) ≡ o → is_some (option_map (part_of i) o) ≡ true → m < 8 → is_part_of n.kind o ≡ true
       by None at h lt = cc
       by (Some prior) at h lt = by_kind (is_same_kind prior.kind n.kind) refl
@@ -349,20 +310,21 @@ module _ (records : Records) (i : List ℕ) (whole : AreWhole records) (text byt
           by_kind false k =
               let other : has_other_kind n.kind (revision_part (state_in records i) n (suc m)) ≡ true = ap (has_other_kind n.kind) (place_is records i whole n (suc m) ∙ ap (option_map (part_of i)) at) ∙ ap not k in
               let some : list_any (λ place. has_other_kind n.kind (revision_part (state_in records i) n place)) part_numbers ≡ true = place_passes (λ place. has_other_kind n.kind (revision_part (state_in records i) n place)) part_numbers (suc m) (is_place m lt) other in
-              let none : list_any (λ place. has_other_kind n.kind (revision_part (state_in records i) n place)) part_numbers ≡ false = second (is_none (part_under_name (state_in records i) n)) is_new_name _ none_stand.kind in cc
+              let none : list_any (λ place. has_other_kind n.kind (revision_part (state_in records i) n place)) part_numbers ≡ false = ap (λ b. b && has_part_of_other_kind (state_in records i) n) (sym is_new_name) ∙ none_stand.kind in cc
 
   due : 0 < n.rev → has_notice records.notices n.tld n.day (is_failure_of (n.rev - 1)) ≡ true
-  due lt = by (is_none (part_under_name (state_in records i) n)) is_new_name _ (nat_lt 0 n.rev) (Decides-ltb 0 n.rev).1 _ none_stand.due
+  due lt = by received (nat_lt 0 n.rev) failed (ap (λ b. b && (received || (nat_lt 0 n.rev && not failed))) (sym is_new_name) ∙ none_stand.due) ((Decides-ltb 0 n.rev).1 lt)
     where
-      by : (b : Bool) → b ≡ true → (r s : Bool) → (0 < n.rev → s ≡ true) → (t : Bool) → (b && (r || (s && not t))) ≡ false → t ≡ true
-      by b e r s p t h = of b e r s (p lt) t h
-        where
-          of : (b : Bool) → b ≡ true → (r s : Bool) → s ≡ true → (t : Bool) → (b && (r || (s && not t))) ≡ false → t ≡ true
-          of true e r true p true h = refl
-          of true e true true p false h = cc
-          of true e false true p false h = cc
-          of true e r false p t h = cc
-          of false e r s p t h = cc
+      received : Bool
+      received = has_notice records.notices n.tld n.day is_receipt
+
+      failed : Bool
+      failed = has_notice records.notices n.tld n.day (is_failure_of (n.rev - 1))
+
+      by : (received above failed : Bool) → (received || (above && not failed)) ≡ false → above ≡ true → failed ≡ true
+      by true above failed h is = cc
+      by false true failed h is = not-false failed h
+      by false false failed h is = cc
 
   -- the part is neither empty nor too long
   pub has_size : (0 < length bytes) × (length bytes ≤ 1_048_576)
@@ -390,7 +352,7 @@ module _ (records : Records) (i : List ℕ) (whole : AreWhole records) (text byt
 
     -- a block that a part names then is one of those before, or of the new part
     named_then : (b : ℕ) → IsPartBlock (recorded_in.with_part records (key_of n) (staged_record n now staged)) b → IsPartBlock records b ⊎ IsInAny staged.extents b
-    named_then b is = inserted records.parts (key_of n) (staged_record n now staged) (λ q r. HaveBlock r.extents b → IsPartBlock records b ⊎ IsInAny staged.extents b) (λ within. inr within) (λ q r at within. inl (q, r, at, within)) is.0 is.1 is.2 is.3
+    named_then b is = inserted part_total part_exact records.parts (key_of n) (staged_record n now staged) (λ q r. HaveBlock r.extents b → IsPartBlock records b ⊎ IsInAny staged.extents b) (λ within. inr within) (λ q r at within. inl (q, r, at, within)) is.0 is.1 is.2 is.3
 
     -- the blocks that are free then are those that may be placed
     pub part_in_order : (failures_then : ℕ) → failures_then < 2 ^ 64 - 1 → IsInOrder (recorded_in.with_part records (key_of n) (staged_record n now staged)) size failures_then g

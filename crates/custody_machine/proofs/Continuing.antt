@@ -9,7 +9,6 @@ use Rattle.std.specs.FinMap.{FinMap, entries, get, get-insert}
 use Rattle.std.specs.Cmp.{Equal-is}
 use Rattle.std.specs.Option.{option_and_then}
 use Rattle.std.proofs.lemmas.Bool.Decides.{Decides-eqb}
-use Rattle.std.proofs.lemmas.Option.{cond_some}
 use Rattle.schedule.specs.Schedule.{day_of}
 use Rattle.deposit_name.specs.declared.kinds.Kind.{Kind}
 use Rattle.deposit_name.specs.Name.{Name, is_same_kind}
@@ -23,17 +22,17 @@ use Rattle.custody_records.specs.Records.{Notice, key_of, lifted_at}
 use Rattle.custody_machine.specs.declared.command.Statement as statement
 use Rattle.custody_machine.specs.NameReading.{read_name}
 use Rattle.custody_machine.specs.State.{State, Part, Held, part_numbers, key_with_part, is_notice_of, has_notice}
-use Rattle.custody_machine.specs.Machine.{Check, Release, Hold, Lift, Purge, OfRelease, OfHold, OfLifting, OfPurge, kept_hold, lifting_of, state_with_hold, kept_release, without_bytes, is_due_part, part_dropped_if_due, count_due, state_without_due, absence_of, absence_notice, is_absence, is_tld_unregistered, OfNotice, first_part, if_of_id, has_id, is_verdict_of, recorded_verdict, has_verdict, are_parts_as_stated, kept_verdict, state_with_notice, next_key, verdict_notice, notice_kind, verdict_on, Command, Register, Receive, Statement, Record, OfRegistry, OfPart, Reply, Step, Refuse, Accept, first_day_of, part_at, part_under_name, has_other_kind, revision_part, state_with_registry, state_with_part, state_with_release, received_part, step, state_of, HasRecord, is_unregistered, is_out_of_size}
+use Rattle.custody_machine.specs.Machine.{Check, Release, Hold, Lift, Purge, OfRelease, OfHold, OfLifting, kept_hold, lifting_of, state_with_hold, kept_release, without_bytes, is_due_part, part_dropped_if_due, state_without_due, absence_of, absence_notice, is_absence, is_tld_unregistered, OfNotice, first_part, if_of_id, has_id, is_verdict_of, recorded_verdict, has_verdict, are_parts_as_stated, kept_verdict, state_with_notice, next_key, verdict_notice, notice_kind, Command, Register, Receive, Statement, Record, OfRegistry, OfPart, Reply, Step, Refuse, Accept, first_day_of, part_at, part_under_name, has_other_kind, revision_part, state_with_registry, state_with_part, state_with_release, received_part, step, state_of, refusal_of, kept_record, has_part_of_other_kind, HasRecord, is_unregistered, is_out_of_size}
 use Rattle.custody_machine.specs.Retries.{IsKeptAs, StillHas, KeepsRecords, NothingIsRemoved}
 use Rattle.custody_machine.proofs.MapValues.{get-map_keyed}
 use Rattle.custody_machine.proofs.SameValues.{text_decides}
 use Rattle.custody_records.specs.inside.Orders.{text_total, part_total, part_exact, notice_total}
-use Rattle.custody_machine.proofs.Entries.{passes_found, any_of_found, found_where_any, get_found, find_insert, next_is_new}
-use Rattle.custody_machine.proofs.Stated.{NoneStandsOf, stated_by, IsStated, accepts_statement}
-use Rattle.custody_machine.proofs.Checked.{missed_by, accepts_check}
-use Rattle.custody_machine.proofs.Released.{released_by, IsReleased, accepts_release, unused_of}
-use Rattle.custody_machine.proofs.Accepting.{NoneStands, step_accepts, accept_inj, insert_new, place_is_empty, answered, Receives, receives, registered}
-use Rattle.custody_machine.proofs.Holding.{IsHeld, IsKeptHold, IsLifted, accepts_hold, accepts_lift, held_by, held_stays, hold_stays, lifted_by, lifted_stays, lifting_stays, unheld_of}
+use Rattle.custody_machine.proofs.Entries.{any_is_found, get_found, find_insert, next_is_new}
+use Rattle.custody_machine.proofs.Stated.{NoneStandsOf, none_stand_of}
+use Rattle.custody_machine.proofs.Released.{none_stand_for, unused_of}
+use Rattle.custody_machine.proofs.Options.{passing, unmapped}
+use Rattle.custody_machine.proofs.Accepting.{NoneStands, Makes, by_outcome, insert_new, place_is_empty}
+use Rattle.custody_machine.proofs.Holding.{IsKeptHold, held_stays, hold_stays, lifted_stays, lifting_stays, none_stand_to, unheld_of}
 
 -- ---- nothing is removed
 
@@ -77,62 +76,12 @@ keeps_lifting s reference hold now there standing entry e = still (state_with_ho
 
 -- of each part its bytes may be dropped, and nothing else
 pub keeps_dropping : (s : State) (today : ℕ) → KeepsRecords s (state_without_due s today)
-keeps_dropping s today (OfPart key part) e = (OfPart key (part_dropped_if_due s.holds today key part), get-map_keyed part_cmp part_exact (part_dropped_if_due s.holds today) s.parts key ∙ ap (option_map (part_dropped_if_due s.holds today key)) e, by (is_due_part s.holds today key part))
-  where
-    by : (b : Bool) → IsKeptAs (OfPart key part) (OfPart key (cond b (without_bytes part) part))
-    by true = inr refl
-    by false = inl refl
+keeps_dropping s today (OfPart key part) e = (
+  OfPart key (part_dropped_if_due s.holds today key part),
+  get-map_keyed part_cmp part_exact (part_dropped_if_due s.holds today) s.parts key ∙ ap (option_map (part_dropped_if_due s.holds today key)) e,
+  elim (is_due_part s.holds today key part) as (λ b. IsKeptAs (OfPart key part) (OfPart key (cond b (without_bytes part) part))) [ true ↦ inr refl | false ↦ inl refl ],
+)
 keeps_dropping s today entry e = still (state_without_due s today) entry e
-
--- what a purge does
-pub purges : (s : State) (now : ℕ) (reply : Reply) (new : State) → step s Purge now ≡ Accept reply new → (record { entry = OfPurge (count_due s (day_of now)); is_repeat = false } ≡ reply) × (state_without_due s (day_of now) ≡ new)
-purges s now reply new e = accept_inj _ _ _ _ (step_accepts s Purge now reply new e).1
-
-pub step_keeps : (s : State) (c : Command) (now : ℕ) (reply : Reply) (new : State) → step s c now ≡ Accept reply new → KeepsRecords s new
-step_keeps s (Register tld day) now reply new e = by (first_day_of s tld) refl (step_accepts s (Register tld day) now reply new e).1
-  where
-    by : (o : Option ℕ) → first_day_of s tld ≡ o → registered s tld day now o ≡ Accept reply new → KeepsRecords s new
-    by (Some kept) at e = subst (KeepsRecords s) (accept_inj _ _ _ _ e).1 (keeps_itself s)
-    by None at e = subst (KeepsRecords s) (accept_inj _ _ _ _ e).1 (keeps_registering s tld day at)
-step_keeps s (Receive text bytes) now reply new e = let r = receives s text bytes now reply new e in by r (part_under_name s r.name) refl r.outcome
-  where
-    by : (r : Receives s text bytes now reply new) (o : Option Part) → part_under_name s r.name ≡ o → answered s r.name bytes now o ≡ Accept reply new → KeepsRecords s new
-    by r (Some kept) at e = subst (KeepsRecords s) (accept_inj _ _ _ _ e).1 (keeps_itself s)
-    by r None at e = subst (KeepsRecords s) (accept_inj _ _ _ _ e).1 (keeps_adding s (key_of r.name) _
-        (place_is_empty s text r.name r.named at (ap (λ o. is_none o && list_any (λ place. has_other_kind r.name.kind (revision_part s r.name place)) part_numbers) (sym at) ∙ r.none.kind)))
-step_keeps s (Statement stated) now reply new e = let r = accepts_statement s stated now reply new e in by (kept_verdict s stated) r.outcome
-  where
-    by : (o : Option (NoticeKey × Notice)) → stated_by s stated now o ≡ Accept reply new → KeepsRecords s new
-    by (Some kept) e = subst (KeepsRecords s) (accept_inj _ _ _ _ e).1 (keeps_itself s)
-    by None e = subst (KeepsRecords s) (accept_inj _ _ _ _ e).1 (keeps_noticing s (next_key s.notices stated.tld) _ (next_is_new s.notices stated.tld))
-step_keeps s (Check tld day) now reply new e = by (absence_of s tld day) (accepts_check s tld day now reply new e).outcome
-  where
-    by : (o : Option (NoticeKey × Notice)) → missed_by s tld day now o ≡ Accept reply new → KeepsRecords s new
-    by (Some kept) e = subst (KeepsRecords s) (accept_inj _ _ _ _ e).1 (keeps_itself s)
-    by None e = subst (KeepsRecords s) (accept_inj _ _ _ _ e).1 (keeps_noticing s (next_key s.notices tld) _ (next_is_new s.notices tld))
-step_keeps s (Release reference tld reason) now reply new e = let r = accepts_release s reference tld reason now reply new e in by r (kept_release s reference tld reason) refl r.outcome
-  where
-    by : (r : IsReleased s reference tld reason now reply new) (o : Option kept_in.Release) → kept_release s reference tld reason ≡ o → released_by s reference tld reason now o ≡ Accept reply new → KeepsRecords s new
-    by r (Some kept) at e = subst (KeepsRecords s) (accept_inj _ _ _ _ e).1 (keeps_itself s)
-    by r None at e = subst (KeepsRecords s) (accept_inj _ _ _ _ e).1 (keeps_releasing s reference _ (unused_of s reference tld reason now r.none at))
-step_keeps s (Hold reference tld day) now reply new e = let r = accepts_hold s reference tld day now reply new e in by r (kept_hold s reference tld day) refl r.outcome
-  where
-    by : (r : IsHeld s reference tld day now reply new) (o : Option kept_in.Hold) → kept_hold s reference tld day ≡ o → held_by s reference tld day now o ≡ Accept reply new → KeepsRecords s new
-    by r (Some kept) at e = subst (KeepsRecords s) (accept_inj _ _ _ _ e).1 (keeps_itself s)
-    by r None at e = subst (KeepsRecords s) (accept_inj _ _ _ _ e).1 (keeps_holding s reference _ (unheld_of s reference tld day now r.none at))
-step_keeps s (Lift reference) now reply new e = let r = accepts_lift s reference now reply new e in by r r.hold.lifted refl r.outcome
-  where
-    by : (r : IsLifted s reference now reply new) (o : Option ℕ) → r.hold.lifted ≡ o → lifted_by s reference now r.hold o ≡ Accept reply new → KeepsRecords s new
-    by r (Some moment) at e = subst (KeepsRecords s) (accept_inj _ _ _ _ e).1 (keeps_itself s)
-    by r None at e = subst (KeepsRecords s) (accept_inj _ _ _ _ e).1 (keeps_lifting s reference r.hold now r.at at)
-step_keeps s Purge now reply new e = subst (KeepsRecords s) (purges s now reply new e).1 (keeps_dropping s (day_of now))
-
-pub nothing_is_removed : NothingIsRemoved
-nothing_is_removed old command now = by (step old command now) refl
-  where
-    by : (r : Step) → step old command now ≡ r → KeepsRecords old (state_of old r)
-    by (Refuse q) e = keeps_itself old
-    by (Accept reply new) e = step_keeps old command now reply new e
 
 -- ---- a command that comes again
 
@@ -183,6 +132,13 @@ pub and_both : (a b : Bool) → (a && b) ≡ true → (a ≡ true) × (b ≡ tru
 and_both true b h = (refl, h)
 and_both false b h = cc
 
+-- a notice of a registry's day that passes a test
+pub notice_tells : (tld : List ℕ) (day : ℕ) (test : NoticeKind → Bool) (entry : NoticeKey × Notice) → is_notice_of tld day test entry ≡ true → (entry.0.tld ≡ tld) × (entry.1.day ≡ day) × (test entry.1.kind ≡ true)
+notice_tells tld day test entry passes =
+    let on = and_both _ _ passes in
+    let rest = and_both _ _ on.1 in
+    ((text_decides entry.0.tld tld).0 on.0, (Decides-eqb entry.1.day day).0 rest.0, rest.1)
+
 -- an entry is a verdict on the revision
 abbrev pub is_verdict_on : statement.Statement → NoticeKey × Notice → Bool
 is_verdict_on st = is_notice_of st.tld st.day (is_verdict_of st.rev)
@@ -221,12 +177,8 @@ pub record KeepsHold (s : State) (reference tld : List ℕ) (day : ℕ) (entry :
 pub kept_tells : (s : State) (st : statement.Statement) (kept : NoticeKey × Notice) → kept_verdict s st ≡ Some kept → (are_parts_as_stated s st ≡ true) × (recorded_verdict s st ≡ Some kept) × (has_id st.id kept.1.kind ≡ true)
 kept_tells s st kept e = by (are_parts_as_stated s st) refl e
   where
-    by_id : (o : Option (NoticeKey × Notice)) → option_and_then (if_of_id st.id) o ≡ Some kept → (o ≡ Some kept) × (has_id st.id kept.1.kind ≡ true)
-    by_id None e = cc
-    by_id (Some found) e = let h = cond_some (has_id st.id found.1.kind) found kept e in (ap Some h.1, ap (λ (x : NoticeKey × Notice). has_id st.id x.1.kind) (sym h.1) ∙ h.0)
-
     by : (b : Bool) → are_parts_as_stated s st ≡ b → (if b then option_and_then (if_of_id st.id) (recorded_verdict s st) else None) ≡ Some kept → (are_parts_as_stated s st ≡ true) × (recorded_verdict s st ≡ Some kept) × (has_id st.id kept.1.kind ≡ true)
-    by true t e = let h = by_id (recorded_verdict s st) e in (t, h.0, h.1)
+    by true t e = let h = passing (λ (x : NoticeKey × Notice). has_id st.id x.1.kind) (recorded_verdict s st) kept e in (t, h.0, h.1)
     by false t e = cc
 
 pub kept_of : (s : State) (st : statement.Statement) (kept : NoticeKey × Notice) → are_parts_as_stated s st ≡ true → recorded_verdict s st ≡ Some kept → has_id st.id kept.1.kind ≡ true → kept_verdict s st ≡ Some kept
@@ -235,10 +187,7 @@ kept_of s st kept as_stated told has = ap (λ b. if b then option_and_then (if_o
 -- the first notice of a day that passes a test is one of the day's
 pub first_is_there : (s : State) (tld : List ℕ) (day : ℕ) (test : NoticeKind → Bool) (found : NoticeKey × Notice) → list.find (is_notice_of tld day test) (entries s.notices) ≡ Some found
     → (get s.notices found.0 ≡ Some found.1) × (has_notice s.notices tld day test ≡ true)
-first_is_there s tld day test found e = (
-  get_found notice_total s.notices (is_notice_of tld day test) found e,
-  any_of_found (is_notice_of tld day test) (is_notice_of tld day test) (entries s.notices) found e (passes_found (is_notice_of tld day test) (entries s.notices) found e),
-)
+first_is_there s tld day test found e = (get_found notice_total s.notices (is_notice_of tld day test) found e, any_is_found (is_notice_of tld day test) (entries s.notices) ∙ ap is_some e)
 
 pub told_is_there : (s : State) (st : statement.Statement) (kept : NoticeKey × Notice) → recorded_verdict s st ≡ Some kept → (get s.notices kept.0 ≡ Some kept.1) × (has_verdict s st ≡ true)
 told_is_there s st kept e = first_is_there s st.tld st.day (is_verdict_of st.rev) kept e
@@ -304,11 +253,7 @@ continues_holding s reference hold records = record { records = records; verdict
 
 -- a part without its bytes is of its kind
 pub kind_stays : (holds : FinMap text_cmp kept_in.Hold) (today : ℕ) (key : PartKey) (part : Part) → (part_dropped_if_due holds today key part).kind ≡ part.kind
-kind_stays holds today key part = by (is_due_part holds today key part)
-  where
-    by : (b : Bool) → (cond b (without_bytes part) part).kind ≡ part.kind
-    by true = refl
-    by false = refl
+kind_stays holds today key part = elim (is_due_part holds today key part) as (λ b. (cond b (without_bytes part) part).kind ≡ part.kind) [ true ↦ refl | false ↦ refl ]
 
 pub continues_dropping : (s : State) (today : ℕ) → Continues s (state_without_due s today)
 continues_dropping s today = record {
@@ -347,11 +292,9 @@ found_still s tld notice test first other day found e =
     miss : (b : Bool) → is_notice_of other day test (next_key s.notices tld, notice) ≡ b → is_notice_of other day test (next_key s.notices tld, notice) ≡ false
     miss false t = t
     miss true t =
-        let x = and_both _ _ t in let y = and_both _ _ x.1 in
-        let a : tld ≡ other = (text_decides tld other).0 x.0 in
-        let b : notice.day ≡ day = (Decides-eqb notice.day day).0 y.0 in
-        let there : has_notice s.notices tld notice.day test ≡ true = (λ i. has_notice s.notices (a i) (b i) test) ∙ (first_is_there s other day test found e).1 in
-        let clash : true ≡ false = sym there ∙ first y.1 in cc
+        let on = notice_tells other day test (next_key s.notices tld, notice) t in
+        let there : has_notice s.notices tld notice.day test ≡ true = (λ i. has_notice s.notices (on.0 i) (on.1 i) test) ∙ (first_is_there s other day test found e).1 in
+        let clash : true ≡ false = sym there ∙ first on.2 in cc
 
 pub continues_noticing : (s : State) (tld : List ℕ) (notice : Notice) → IsFirst s tld notice → Continues s (state_with_notice s (next_key s.notices tld) notice)
 continues_noticing s tld notice first = record {
@@ -377,55 +320,29 @@ verdict_is_first s st v now unstated = record {
 
 -- an absence is the first of its day, where there is none
 pub absence_is_first : (s : State) (tld : List ℕ) (day now : ℕ) → absence_of s tld day ≡ None → IsFirst s tld (absence_notice day now)
-absence_is_first s tld day now at = record { verdict = λ rev is. cc; absence = λ is. by (has_notice s.notices tld day is_absence) refl }
-  where
-    by : (b : Bool) → has_notice s.notices tld day is_absence ≡ b → b ≡ false
-    by false h = refl
-    by true h = let found = found_where_any (is_notice_of tld day is_absence) (entries s.notices) h in let clash : Some found.0 ≡ None = sym found.1 ∙ at in cc
+absence_is_first s tld day now at = record { verdict = λ rev is. cc; absence = λ is. any_is_found (is_notice_of tld day is_absence) (entries s.notices) ∙ ap is_some at }
 
 -- where no verdict is kept and none of the refusals stands, the revision has none
 pub unstated_of : (s : State) (st : statement.Statement) (now : ℕ) → NoneStandsOf s st now → kept_verdict s st ≡ None → has_verdict s st ≡ false
 unstated_of s st now none e = ap (λ o. is_none o && has_verdict s st) (sym e) ∙ none.stated
 
 pub step_continues : (s : State) (c : Command) (now : ℕ) (reply : Reply) (new : State) → step s c now ≡ Accept reply new → Continues s new
-step_continues s (Register tld day) now reply new e = record { records = step_keeps s (Register tld day) now reply new e; verdicts = λ st kept h. by st kept h (first_day_of s tld) (step_accepts s (Register tld day) now reply new e).1; absences = λ other at kept h. absent other at kept h (first_day_of s tld) (step_accepts s (Register tld day) now reply new e).1 }
+step_continues s c now = by_outcome s c now (λ _ new. Continues s new) (λ entry none at. continues_itself s) (made c)
   where
-    by : (st : statement.Statement) (kept : NoticeKey × Notice) → kept_verdict s st ≡ Some kept → (o : Option ℕ) → registered s tld day now o ≡ Accept reply new → kept_verdict new st ≡ Some kept
-    by st kept h (Some first) e = subst (λ t. kept_verdict t st ≡ Some kept) (accept_inj _ _ _ _ e).1 h
-    by st kept h None e = subst (λ t. kept_verdict t st ≡ Some kept) (accept_inj _ _ _ _ e).1 h
+    made : (c : Command) → refusal_of s c now ≡ None → kept_record s c ≡ None → Makes (λ _ new. Continues s new) s c now
+    made (Register tld day) none at = record { records = keeps_registering s tld day (unmapped _ (first_day_of s tld) at); verdicts = λ st kept e. e; absences = λ other at kept e. e }
+    made (Receive text bytes) none at = λ name named stand fresh. continues_adding s text bytes now name stand fresh (keeps_adding s (key_of name) _
+        (place_is_empty s text name named fresh (ap (λ o. is_none o && has_part_of_other_kind s name) (sym fresh) ∙ stand.kind)))
+    made (Statement st) none at = continues_noticing s st.tld _ (verdict_is_first s st _ now (unstated_of s st now (none_stand_of s st now none) (unmapped _ (kept_verdict s st) at)))
+    made (Check tld day) none at = continues_noticing s tld _ (absence_is_first s tld day now (unmapped _ (absence_of s tld day) at))
+    made (Release reference tld reason) none at = continues_releasing s reference _ (unused_of s reference tld reason now (none_stand_for s reference tld reason now none) (unmapped _ (kept_release s reference tld reason) at))
+    made (Hold reference tld day) none at = continues_holding s reference _ (keeps_holding s reference _ (unheld_of s reference tld day now (none_stand_to s reference tld day now none) (unmapped _ (kept_hold s reference tld day) at)))
+    made (Lift reference) none at = λ hold there standing. continues_holding s reference _ (keeps_lifting s reference hold now there standing)
+    made Purge none at = continues_dropping s (day_of now)
 
-    absent : (other : List ℕ) (at : ℕ) (kept : NoticeKey × Notice) → absence_of s other at ≡ Some kept → (o : Option ℕ) → registered s tld day now o ≡ Accept reply new → absence_of new other at ≡ Some kept
-    absent other at kept h (Some first) e = subst (λ t. absence_of t other at ≡ Some kept) (accept_inj _ _ _ _ e).1 h
-    absent other at kept h None e = subst (λ t. absence_of t other at ≡ Some kept) (accept_inj _ _ _ _ e).1 h
-step_continues s (Receive text bytes) now reply new e = let r = receives s text bytes now reply new e in by r (part_under_name s r.name) refl r.outcome
+pub nothing_is_removed : NothingIsRemoved
+nothing_is_removed old command now = by (step old command now) refl
   where
-    by : (r : Receives s text bytes now reply new) (o : Option Part) → part_under_name s r.name ≡ o → answered s r.name bytes now o ≡ Accept reply new → Continues s new
-    by r (Some kept) at e = subst (Continues s) (accept_inj _ _ _ _ e).1 (continues_itself s)
-    by r None at e = subst (Continues s) (accept_inj _ _ _ _ e).1 (continues_adding s text bytes now r.name r.none at (keeps_adding s (key_of r.name) _
-        (place_is_empty s text r.name r.named at (ap (λ o. is_none o && list_any (λ place. has_other_kind r.name.kind (revision_part s r.name place)) part_numbers) (sym at) ∙ r.none.kind))))
-step_continues s (Statement st) now reply new e = let r = accepts_statement s st now reply new e in by r (kept_verdict s st) refl r.outcome
-  where
-    by : (r : IsStated s st now reply new) (o : Option (NoticeKey × Notice)) → kept_verdict s st ≡ o → stated_by s st now o ≡ Accept reply new → Continues s new
-    by r (Some kept) at e = subst (Continues s) (accept_inj _ _ _ _ e).1 (continues_itself s)
-    by r None at e = subst (Continues s) (accept_inj _ _ _ _ e).1 (continues_noticing s st.tld (verdict_notice st (verdict_on s st) now) (verdict_is_first s st (verdict_on s st) now (unstated_of s st now r.none at)))
-step_continues s (Check tld day) now reply new e = let r = accepts_check s tld day now reply new e in by (absence_of s tld day) refl r.outcome
-  where
-    by : (o : Option (NoticeKey × Notice)) → absence_of s tld day ≡ o → missed_by s tld day now o ≡ Accept reply new → Continues s new
-    by (Some kept) at e = subst (Continues s) (accept_inj _ _ _ _ e).1 (continues_itself s)
-    by None at e = subst (Continues s) (accept_inj _ _ _ _ e).1 (continues_noticing s tld (absence_notice day now) (absence_is_first s tld day now at))
-step_continues s (Release reference tld reason) now reply new e = let r = accepts_release s reference tld reason now reply new e in by r (kept_release s reference tld reason) refl r.outcome
-  where
-    by : (r : IsReleased s reference tld reason now reply new) (o : Option kept_in.Release) → kept_release s reference tld reason ≡ o → released_by s reference tld reason now o ≡ Accept reply new → Continues s new
-    by r (Some kept) at e = subst (Continues s) (accept_inj _ _ _ _ e).1 (continues_itself s)
-    by r None at e = subst (Continues s) (accept_inj _ _ _ _ e).1 (continues_releasing s reference _ (unused_of s reference tld reason now r.none at))
-step_continues s (Hold reference tld day) now reply new e = let r = accepts_hold s reference tld day now reply new e in by r (kept_hold s reference tld day) refl r.outcome
-  where
-    by : (r : IsHeld s reference tld day now reply new) (o : Option kept_in.Hold) → kept_hold s reference tld day ≡ o → held_by s reference tld day now o ≡ Accept reply new → Continues s new
-    by r (Some kept) at e = subst (Continues s) (accept_inj _ _ _ _ e).1 (continues_itself s)
-    by r None at e = subst (Continues s) (accept_inj _ _ _ _ e).1 (continues_holding s reference _ (keeps_holding s reference _ (unheld_of s reference tld day now r.none at)))
-step_continues s (Lift reference) now reply new e = let r = accepts_lift s reference now reply new e in by r r.hold.lifted refl r.outcome
-  where
-    by : (r : IsLifted s reference now reply new) (o : Option ℕ) → r.hold.lifted ≡ o → lifted_by s reference now r.hold o ≡ Accept reply new → Continues s new
-    by r (Some moment) at e = subst (Continues s) (accept_inj _ _ _ _ e).1 (continues_itself s)
-    by r None at e = subst (Continues s) (accept_inj _ _ _ _ e).1 (continues_holding s reference _ (keeps_lifting s reference r.hold now r.at at))
-step_continues s Purge now reply new e = subst (Continues s) (purges s now reply new e).1 (continues_dropping s (day_of now))
+    by : (r : Step) → step old command now ≡ r → KeepsRecords old (state_of old r)
+    by (Refuse q) e = keeps_itself old
+    by (Accept reply new) e = (step_continues old command now reply new e).records

@@ -3,6 +3,7 @@ use Rattle.std.proofs.Common.{◌≡◌, ℕ, suc, ◌*◌, ◌<◌, ◌≤◌, 
 use Rattle.std.specs.Prelude.{slice_get, slice_index_or}
 use Rattle.std.specs.Bool.{Decides}
 use Rattle.std.proofs.lemmas.Bool.Decides.{Decides-eqb, Decides-ltb}
+use Rattle.std.proofs.lemmas.Option.{none-some, same_Some}
 use Rattle.extent_map.specs.declared.extent.Extent.{Extent}
 use Rattle.vault_volume.specs.Image.{bytes_at}
 use Rattle.vault_volume.specs.Extents.{IsExtentOf, AreApart, block_count, blocks_of}
@@ -100,23 +101,17 @@ stable_linked records denied = record {
 volume_stands : (rows : Rows) (image : List ℕ) (state : State) → StandsFor rows image state → (meta : MetaRow) (number : ℕ) → first_meta rows ≡ Some meta → bytes_at image 0 4096 ≡ head_of number → IsRowOf meta number image
 volume_stands rows image state s meta number is head =
     let row = meta_in_form rows s.records s.in_form in
-    let same : row.0 ≡ meta = one row.0 meta (first_meta rows) row.1 is in
+    let same : row.0 ≡ meta = same_Some row.0 meta (sym row.1 ∙ is) in
     subst (λ m. IsRowOf m number image) same (record {
       number_is = row.2.digits ∙ digits_by_head s.records.number number (sym s.good.volume.head ∙ head);
       size = s.good.volume.size ∙ ap (λ n. 4096 * n) (sym row.2.blocks);
     })
-  where
-    one : (a b : MetaRow) (o : Option MetaRow) → o ≡ Some a → o ≡ Some b → a ≡ b
-    one a b o p q = cc
 
 not_both : (form : Form) (damage : rows_damage.RowDamage) (records : Records) → form ≡ OutOfForm damage → form ≡ InForm records → ⊥
 not_both form damage records p q = cc
 
 pub damaged_stands : (damage : Damage) (rows : Rows) (image : List ℕ) (state : State) → IsDamaged damage rows image → ¬ StandsFor rows image state
-damaged_stands NoRecord rows image state none s = let row = meta_in_form rows s.records s.in_form in denied row.0 (first_meta rows) row.1 none
-  where
-    denied : (a : MetaRow) (o : Option MetaRow) → o ≡ Some a → o ≡ None → ⊥
-    denied a o p q = cc
+damaged_stands NoRecord rows image state none s = let row = meta_in_form rows s.records s.in_form in none-some row.0 (sym none ∙ row.1)
 damaged_stands Head rows image state denied s = let m = head_in_range s.records.number in denied m.0 m.1 (s.good.volume.head ∙ sym m.2)
 damaged_stands Volume rows image state d s = d.5 (volume_stands rows image state s d.0 d.1 d.3 d.4)
 damaged_stands Schema rows image state out s = not_both _ form.Schema s.records out s.in_form
@@ -179,14 +174,7 @@ in_order = NoRecord ∷ Head ∷ Volume ∷ Schema ∷ FormDamage ∷ ExtentDama
 
 at_its_number : (damage : Damage) → slice_get in_order (damage_number damage) ≡ Some damage
 at_its_number NoRecord = refl
-at_its_number Head = refl
-at_its_number Volume = refl
-at_its_number Schema = refl
-at_its_number FormDamage = refl
-at_its_number ExtentDamage = refl
-at_its_number Overlap = refl
-at_its_number Link = refl
-at_its_number Digest = refl
+at_its_number damage = refl
 
 one_of_number : (a b : Damage) → damage_number a ≡ damage_number b → a ≡ b
 one_of_number a b e = let same : Some a ≡ Some b = sym (at_its_number a) ∙ ap (slice_get in_order) e ∙ at_its_number b in cc

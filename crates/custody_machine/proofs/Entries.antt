@@ -1,7 +1,9 @@
 -- One more entry of a map, as tests of its entries see it; and the numbers of notices.
 use Rattle.std.proofs.lemmas.Bool.Decides.{Decides-eqb}
-use Rattle.std.proofs.Common.{◌≡◌, ◌==◌, is_some, ℕ, suc, ◌<◌, ◌≤◌, List, [], ◌∷◌, Some, None, Bool, true, false, ◌||◌, ◌&&◌, refl, sym, ◌∙◌, ap, subst, cond, arith}
+use Rattle.std.proofs.Common.{◌≡◌, ◌==◌, is_some, ℕ, suc, ◌<◌, ◌≤◌, List, [], ◌∷◌, ◌++◌, Option, Some, None, Bool, true, false, ◌||◌, ◌&&◌, refl, sym, ◌∙◌, ap, subst, cond, arith}
 use Rattle.std.specs.Prelude.{T, max, bytes_eq}
+use Rattle.std.specs.Option.{option_or}
+use Rattle.std.proofs.lemmas.List.Folds.{find-append, list_any-append}
 use Rattle.std.specs.List as list
 use Rattle.std.specs.List.{filter, list_any}
 use Rattle.std.specs.Ordering.{is_eq, is_lt, ordering_reverse}
@@ -14,6 +16,7 @@ use Rattle.custody_records.specs.Keys.{NoticeKey, notice_cmp}
 use Rattle.custody_records.specs.Records.{Notice}
 use Rattle.custody_records.specs.inside.Orders.{notice_exact, notice_total}
 use Rattle.custody_machine.specs.Machine.{greatest_number, next_number, next_key}
+use Rattle.custody_machine.proofs.Options.{none_is, some_is}
 use Rattle.custody_machine.proofs.SameValues.{text_decides}
 
 split : (a b : Bool) → T (a && b) → T a × T b
@@ -36,24 +39,22 @@ or_right false b q = q
 -- ---- lists of entries
 
 module _ {K X : Type 0} where
-  -- where some entry passes, the first that does is found
-  pub found_where_any : (test : K × X → Bool) (es : List (K × X)) → list_any test es ≡ true → (e : K × X) × (list.find test es ≡ Some e)
-  found_where_any test [] h = cc
-  found_where_any test (e ∷ es) h = by (test e) h (found_where_any test es)
+  -- an entry passes where one is found that does
+  pub any_is_found : (test : K × X → Bool) (es : List (K × X)) → list_any test es ≡ is_some (list.find test es)
+  any_is_found test [] = refl
+  any_is_found test (e ∷ es) = by (test e) (any_is_found test es)
     where
-      by : (b : Bool) → (b || list_any test es) ≡ true → (list_any test es ≡ true → (f : K × X) × (list.find test es ≡ Some f)) → (f : K × X) × (cond b (Some e) (list.find test es) ≡ Some f)
-      by true h rest = (e, refl)
-      by false h rest = rest h
+      by : (b : Bool) → list_any test es ≡ is_some (list.find test es) → (b || list_any test es) ≡ is_some (cond b (Some e) (list.find test es))
+      by true rest = refl
+      by false rest = rest
+
+  pub found_where_any : (test : K × X → Bool) (es : List (K × X)) → list_any test es ≡ true → (e : K × X) × (list.find test es ≡ Some e)
+  found_where_any test es h = some_is (list.find test es) (sym (any_is_found test es) ∙ h)
 
   pub none_found : (test : K × X → Bool) (es : List (K × X)) → list_any test es ≡ false → list.find test es ≡ None
-  none_found test [] h = refl
-  none_found test (e ∷ es) h = by (test e) h (none_found test es)
-    where
-      by : (b : Bool) → (b || list_any test es) ≡ false → (list_any test es ≡ false → list.find test es ≡ None) → cond b (Some e) (list.find test es) ≡ None
-      by true h rest = cc
-      by false h rest = rest h
+  none_found test es h = none_is (list.find test es) (sym (any_is_found test es) ∙ h)
 
-  -- what is found passes, and with any test that it passes some entry does
+  -- what is found passes
   pub passes_found : (test : K × X → Bool) (es : List (K × X)) (e : K × X) → list.find test es ≡ Some e → test e ≡ true
   passes_found test [] e h = cc
   passes_found test (x ∷ es) e h = by (test x) refl h (passes_found test es e)
@@ -61,14 +62,6 @@ module _ {K X : Type 0} where
       by : (b : Bool) → test x ≡ b → cond b (Some x) (list.find test es) ≡ Some e → (list.find test es ≡ Some e → test e ≡ true) → test e ≡ true
       by true t h rest = let same : x ≡ e = cc in ap test (sym same) ∙ t
       by false t h rest = rest h
-
-  pub any_of_found : (test other : K × X → Bool) (es : List (K × X)) (e : K × X) → list.find test es ≡ Some e → other e ≡ true → list_any other es ≡ true
-  any_of_found test other [] e h p = cc
-  any_of_found test other (x ∷ es) e h p = by (test x) h (any_of_found test other es e)
-    where
-      by : (b : Bool) → cond b (Some x) (list.find test es) ≡ Some e → (list.find test es ≡ Some e → other e ≡ true → list_any other es ≡ true) → (other x || list_any other es) ≡ true
-      by true h rest = let same : x ≡ e = cc in or_left (other x) _ (ap other same ∙ p)
-      by false h rest = or_right (other x) _ (rest h p)
 
 module _ {K X : Type 0} (R : K → K → Ordering) where
   any_at : IsAntisymmetric R → (test : K × X → Bool) (q : K) (x : X) (es : List (K × X)) → find R q es ≡ Some x → test (q, x) ≡ true → list_any test es ≡ true
@@ -89,53 +82,45 @@ module _ {K X : Type 0} (R : K → K → Ordering) where
       by true t h = cc
       by false t h = (t, h)
 
-  -- what passed before passes still
-  any_grows : (test : K × X → Bool) (k : K) (v : X) (es : List (K × X)) → find R k es ≡ None → list_any test es ≡ true → list_any test (put R k v es) ≡ true
-  any_grows test k v [] h some = cc
-  any_grows test k v (e ∷ es) h some = let n = none_here k e es h in by (R k e.0) n.0 (any_grows test k v es n.1)
-    where
-      more : (b : Bool) → (b || list_any test es) ≡ true → (list_any test es ≡ true → list_any test (put R k v es) ≡ true) → (b || list_any test (put R k v es)) ≡ true
-      more true p rest = refl
-      more false p rest = rest p
+  -- a new entry is put between those from before
+  abbrev IsPut : K → X → List (K × X) → List (K × X) → Type 0
+  IsPut k v es then = (xs : List (K × X)) × (ys : List (K × X)) × (es ≡ xs ++ ys) × (then ≡ xs ++ (k, v) ∷ ys)
 
-      by : (r : Ordering) → is_eq r ≡ false → (list_any test es ≡ true → list_any test (put R k v es) ≡ true) → list_any test (by_order r ((k, v) ∷ e ∷ es) ((e.0, v) ∷ es) (e ∷ put R k v es)) ≡ true
-      by Less q rest = or_right (test (k, v)) _ some
+  put_between : (k : K) (v : X) (es : List (K × X)) → find R k es ≡ None → IsPut k v es (put R k v es)
+  put_between k v [] h = ([], [], refl, refl)
+  put_between k v (e ∷ es) h = let n = none_here k e es h in by (R k e.0) n.0 (put_between k v es n.1)
+    where
+      by : (r : Ordering) → is_eq r ≡ false → IsPut k v es (put R k v es) → IsPut k v (e ∷ es) (by_order r ((k, v) ∷ e ∷ es) ((e.0, v) ∷ es) (e ∷ put R k v es))
+      by Less q rest = ([], e ∷ es, refl, refl)
       by Equal q rest = cc
-      by Greater q rest = more (test e) some rest
+      by Greater q rest = (e ∷ rest.0, rest.1, ap (λ l. e ∷ l) rest.2, ap (λ l. e ∷ l) rest.3)
 
-  -- an entry that does not pass changes nothing
-  module _ (test : K × X → Bool) (k : K) (v : X) (miss : test (k, v) ≡ false) where
-    any_put : (es : List (K × X)) → find R k es ≡ None → list_any test (put R k v es) ≡ list_any test es
-    any_put [] h = ap (λ b. b || false) miss
-    any_put (e ∷ es) h = let n = none_here k e es h in by (R k e.0) n.0 (any_put es n.1)
+  module _ (test : K × X → Bool) (k : K) (v : X) (es : List (K × X)) (new : find R k es ≡ None) where
+    place : IsPut k v es (put R k v es)
+    place = put_between k v es new
+
+    any_put : list_any test (put R k v es) ≡ (test (k, v) || list_any test es)
+    any_put = ap (list_any test) place.3 ∙ list_any-append test place.0 ((k, v) ∷ place.1) ∙ swap (list_any test place.0) (test (k, v)) (list_any test place.1)
+        ∙ ap (λ b. test (k, v) || b) (sym (ap (list_any test) place.2 ∙ list_any-append test place.0 place.1))
       where
-        by : (r : Ordering) → is_eq r ≡ false → list_any test (put R k v es) ≡ list_any test es → list_any test (by_order r ((k, v) ∷ e ∷ es) ((e.0, v) ∷ es) (e ∷ put R k v es)) ≡ (test e || list_any test es)
-        by Less q rest = ap (λ b. b || (test e || list_any test es)) miss
-        by Equal q rest = cc
-        by Greater q rest = ap (λ b. test e || b) rest
+        swap : (a b c : Bool) → (a || (b || c)) ≡ (b || (a || c))
+        swap true true c = refl
+        swap true false c = refl
+        swap false b c = refl
 
-    find_put : (es : List (K × X)) → find R k es ≡ None → list.find test (put R k v es) ≡ list.find test es
-    find_put [] h = ap (λ b. cond b (Some (k, v)) None) miss
-    find_put (e ∷ es) h = let n = none_here k e es h in by (R k e.0) n.0 (find_put es n.1)
+    found_before : list.find test es ≡ option_or (list.find test place.0) (list.find test place.1)
+    found_before = ap (list.find test) place.2 ∙ find-append test place.0 place.1
+
+    found_then : (b : Bool) → test (k, v) ≡ b → list.find test (put R k v es) ≡ option_or (list.find test place.0) (cond b (Some (k, v)) (list.find test place.1))
+    found_then b is = ap (list.find test) place.3 ∙ find-append test place.0 ((k, v) ∷ place.1) ∙ ap (λ c. option_or (list.find test place.0) (cond c (Some (k, v)) (list.find test place.1))) is
+
+    -- a new entry is found, where no other passes
+    found_new : test (k, v) ≡ true → list.find test es ≡ None → list.find test (put R k v es) ≡ Some (k, v)
+    found_new pass left = found_then true pass ∙ ap (λ o. option_or o (Some (k, v))) (none_before _ _ (sym found_before ∙ left))
       where
-        by : (r : Ordering) → is_eq r ≡ false → list.find test (put R k v es) ≡ list.find test es → list.find test (by_order r ((k, v) ∷ e ∷ es) ((e.0, v) ∷ es) (e ∷ put R k v es)) ≡ cond (test e) (Some e) (list.find test es)
-        by Less q rest = ap (λ b. cond b (Some (k, v)) (cond (test e) (Some e) (list.find test es))) miss
-        by Equal q rest = cc
-        by Greater q rest = ap (cond (test e) (Some e)) rest
-
-  -- a new entry is found, where no other passes
-  found_new : (test : K × X → Bool) (k : K) (v : X) (es : List (K × X)) → test (k, v) ≡ true → list.find test es ≡ None → find R k es ≡ None → list.find test (put R k v es) ≡ Some (k, v)
-  found_new test k v [] pass left h = ap (λ b. cond b (Some (k, v)) None) pass
-  found_new test k v (e ∷ es) pass left h = let n = none_here k e es h in let l = none_before (test e) left in by (R k e.0) n.0 (found_new test k v es pass l.1 n.1) l.0
-    where
-      none_before : (b : Bool) → cond b (Some e) (list.find test es) ≡ None → (b ≡ false) × (list.find test es ≡ None)
-      none_before true l = cc
-      none_before false l = (refl, l)
-
-      by : (r : Ordering) → is_eq r ≡ false → list.find test (put R k v es) ≡ Some (k, v) → test e ≡ false → list.find test (by_order r ((k, v) ∷ e ∷ es) ((e.0, v) ∷ es) (e ∷ put R k v es)) ≡ Some (k, v)
-      by Less q rest off = ap (λ b. cond b (Some (k, v)) (list.find test (e ∷ es))) pass
-      by Equal q rest off = cc
-      by Greater q rest off = ap (λ b. cond b (Some e) (list.find test (put R k v es))) off ∙ rest
+        none_before : (a b : Option (K × X)) → option_or a b ≡ None → a ≡ None
+        none_before None b e = refl
+        none_before (Some x) b e = cc
 
   module _ (o : IsTotalOrder R) where
     -- the key of an entry that is found behind is above
@@ -172,17 +157,19 @@ module _ {K X : Type 0} {R : K → K → Ordering} (o : IsTotalOrder R) (m : Fin
     none : find R k (entries m) ≡ None
     none = sym (get-entries m k) ∙ new
 
+    -- what passed before passes still
     pub any_insert_grows : (test : K × X → Bool) → list_any test (entries m) ≡ true → list_any test (entries (insert m k v)) ≡ true
-    any_insert_grows test h = ap (list_any test) (entries-insert o m k v) ∙ any_grows R test k v (entries m) none h
+    any_insert_grows test h = ap (list_any test) (entries-insert o m k v) ∙ any_put R test k v (entries m) none ∙ or_right (test (k, v)) _ h
 
+    -- an entry that does not pass changes nothing
     pub any_insert : (test : K × X → Bool) → test (k, v) ≡ false → list_any test (entries (insert m k v)) ≡ list_any test (entries m)
-    any_insert test miss = ap (list_any test) (entries-insert o m k v) ∙ any_put R test k v miss (entries m) none
+    any_insert test miss = ap (list_any test) (entries-insert o m k v) ∙ any_put R test k v (entries m) none ∙ ap (λ b. b || list_any test (entries m)) miss
 
     pub find_insert : (test : K × X → Bool) → test (k, v) ≡ false → list.find test (entries (insert m k v)) ≡ list.find test (entries m)
-    find_insert test miss = ap (list.find test) (entries-insert o m k v) ∙ find_put R test k v miss (entries m) none
+    find_insert test miss = ap (list.find test) (entries-insert o m k v) ∙ found_then R test k v (entries m) none false miss ∙ sym (found_before R test k v (entries m) none)
 
     pub find_new : (test : K × X → Bool) → test (k, v) ≡ true → list.find test (entries m) ≡ None → list.find test (entries (insert m k v)) ≡ Some (k, v)
-    find_new test pass left = ap (list.find test) (entries-insert o m k v) ∙ found_new R test k v (entries m) pass left none
+    find_new test pass left = ap (list.find test) (entries-insert o m k v) ∙ found_new R test k v (entries m) none pass left
 
 -- ---- numbers of notices
 

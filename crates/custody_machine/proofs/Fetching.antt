@@ -1,9 +1,8 @@
 -- What is fetched is one of four answers, each where it is so; and of records that belong together it is a part that is held.
-use Rattle.std.proofs.Common.{◌≡◌, inl, inr, ℕ, List, Contains, Option, Some, None, Bool, true, false, ◌&&◌, if◌then◌else◌, refl, sym, ◌∙◌, ap, subst, Result, Ok, Err}
+use Rattle.std.proofs.Common.{◌≡◌, inl, inr, ℕ, List, Contains, Option, Some, None, Bool, true, false, if◌then◌else◌, refl, sym, ◌∙◌, ap, subst, Result, Ok, Err}
 use Rattle.std.specs.Prelude.{option_map, bytes_eq}
 use Rattle.std.specs.FinMap.{get}
 use Rattle.std.specs.List.{list_all}
-use Rattle.std.specs.Option.{option_and_then}
 use Rattle.std.proofs.lemmas.List.Elements.{All-contains}
 use Rattle.std.proofs.lemmas.List.Sums.{AllPass-from_list_all}
 use Rattle.deposit_name.specs.declared.errors.NameError.{NameError}
@@ -15,10 +14,12 @@ use Rattle.custody_records.specs.Records.{PartRecord, Release, Records, key_of}
 use Rattle.custody_machine.specs.declared.answers.Refusal.TheVariants.{DroppedAfterKeeping, NotInRelease, ReleaseUnknown}
 use Rattle.custody_machine.specs.NameReading.{read_name}
 use Rattle.custody_machine.specs.State.{State, Part, Content, Held, Dropped}
-use Rattle.custody_machine.specs.Machine.{part_under_name, part_of_kind, is_dropped, are_bytes_dropped, bytes_held, bytes_in}
+use Rattle.custody_machine.specs.Machine.{part_under_name, is_dropped, are_bytes_dropped, bytes_held, bytes_in}
 use Rattle.custody_machine.specs.StoredState.{AreLinked, is_part_of, is_name_of_part, part_of, state_in}
 use Rattle.custody_machine.specs.FetchResult.{part_named, bytes_unless_dropped, release_result, fetch_result, ReleasesName, IsFetching, FetchesOne, FetchesHeld}
 use Rattle.custody_machine.proofs.MapValues.{get-map_values}
+use Rattle.custody_machine.proofs.Accepting.{recorded_of}
+use Rattle.custody_machine.proofs.Continuing.{and_both}
 
 -- ---- one of four
 
@@ -120,10 +121,6 @@ pub named_part : (records : Records) (tld text : List ℕ) → is_name_of_part r
     → (name : Name) × (part : PartRecord) × (read_name text ≡ Ok name) × (get records.parts (key_of name) ≡ Some part) × (is_same_kind part.kind name.kind ≡ true)
 named_part records tld text e = by (read_name text) refl e
   where
-    behind : (a b : Bool) → (a && b) ≡ true → b ≡ true
-    behind true b e = e
-    behind false b e = cc
-
     at : (name : Name) → read_name text ≡ Ok name → (o : Option PartRecord) → get records.parts (key_of name) ≡ o → is_part_of name.kind o ≡ true
         → (name : Name) × (part : PartRecord) × (read_name text ≡ Ok name) × (get records.parts (key_of name) ≡ Some part) × (is_same_kind part.kind name.kind ≡ true)
     at name is None there e = cc
@@ -132,7 +129,7 @@ named_part records tld text e = by (read_name text) refl e
     by : (r : Result Name NameError) → read_name text ≡ r → is_name_of_part records tld r ≡ true
         → (name : Name) × (part : PartRecord) × (read_name text ≡ Ok name) × (get records.parts (key_of name) ≡ Some part) × (is_same_kind part.kind name.kind ≡ true)
     by (Err fault) is e = cc
-    by (Ok name) is e = at name is (get records.parts (key_of name)) refl (behind (bytes_eq name.tld tld) (is_part_of name.kind (get records.parts (key_of name))) e)
+    by (Ok name) is e = at name is (get records.parts (key_of name)) refl (and_both (bytes_eq name.tld tld) _ e).1
 
 -- each name of a release of linked records is one
 pub released_part : (records : Records) (reference text : List ℕ) (release : Release) → AreLinked records → get records.releases reference ≡ Some release → Contains release.names text
@@ -146,9 +143,7 @@ released_part records reference text release linked at has =
 -- and is recorded so in their state
 pub recorded_part : (records : Records) (image : List ℕ) (name : Name) (part : PartRecord) → get records.parts (key_of name) ≡ Some part → is_same_kind part.kind name.kind ≡ true
     → part_under_name (state_in records image) name ≡ Some (part_of image part)
-recorded_part records image name part at same =
-    ap (λ o. option_and_then (part_of_kind name.kind) o) (get-map_values part_cmp (part_of image) records.parts (key_of name) ∙ ap (option_map (part_of image)) at)
-    ∙ ap (λ b. if b then Some (part_of image part) else None) same
+recorded_part records image name part at same = recorded_of (state_in records image) name (part_of image part) (get-map_values part_cmp (part_of image) records.parts (key_of name) ∙ ap (option_map (part_of image)) at) same
 
 pub fetches_held : FetchesHeld
 fetches_held records image reference text bytes linked e =

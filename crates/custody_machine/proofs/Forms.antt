@@ -1,14 +1,14 @@
 -- What it tells that rows are in form.
 use Rattle.std.specs.Prelude.{slice_get}
-use Rattle.std.proofs.Common.{◌≡◌, List, [], ◌∷◌, Option, Some, None, Bool, true, false, ◌&&◌, if◌then◌else◌, refl, ◌∙◌, ap}
-use Rattle.std.specs.Str.{bytes_eq}
+use Rattle.std.proofs.Common.{◌≡◌, List, [], ◌∷◌, Option, Some, None, Bool, true, false, ◌&&◌, if◌then◌else◌, ◌∙◌, ap}
 use Rattle.std.proofs.lemmas.Slice.Eq.{bytes_eq-Decides}
 use Rattle.custody_records.specs.declared.damage.RowDamage.TheVariants as damage
 use Rattle.custody_records.specs.Records.{Records}
 use Rattle.custody_records.specs.Rows.{MetaRow, Rows, first_meta}
-use Rattle.custody_records.specs.Form.{NoVault, OutOfForm, InForm, form_of, form_after, records_in, in_form_or, is_meta, is_number, number_in, natural, is_within, has_holds, is_schema}
+use Rattle.custody_records.specs.Form.{NoVault, OutOfForm, InForm, form_of, form_after, records_in, in_form_or, is_meta, is_number, number_in, natural, has_holds, is_schema}
 use Rattle.custody_records.specs.RowsOfRecords.{digits_of}
 use Rattle.custody_records.proofs.FormLemmas.{in_form_has}
+use Rattle.custody_machine.proofs.Continuing.{and_both}
 
 -- the number and the blocks of the volume are those of the row of `meta`
 pub record IsRecordsOf (meta : MetaRow) (records : Records) : Type 0 where
@@ -16,12 +16,7 @@ pub record IsRecordsOf (meta : MetaRow) (records : Records) : Type 0 where
   pub blocks : natural meta.blocks ≡ records.blocks
 
 digits_in_form : (meta : MetaRow) → is_meta meta ≡ true → meta.number ≡ digits_of (number_in meta.number)
-digits_in_form meta e = (bytes_eq-Decides _ _).0 (second (is_number 1 meta.one) (bytes_eq meta.number (digits_of (number_in meta.number))) (is_within 2 262_144 meta.blocks) e)
-  where
-    second : (a b c : Bool) → (a && (b && c)) ≡ true → b ≡ true
-    second true true c e = refl
-    second true false c e = cc
-    second false b c e = cc
+digits_in_form meta e = (bytes_eq-Decides _ _).0 (and_both _ _ (and_both (is_number 1 meta.one) _ e).1).0
 
 -- rows in form have a row of `meta`
 pub meta_in_form : (rows : Rows) (records : Records) → form_of rows ≡ InForm records → (meta : MetaRow) × (first_meta rows ≡ Some meta) × IsRecordsOf meta records

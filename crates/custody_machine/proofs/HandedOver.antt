@@ -1,17 +1,15 @@
 -- A new release, as one change of the records: what one tells that is accepted and no repeat, and that records belong together with it.
 use Rattle.std.specs.Prelude.{bytes_eq}
-use Rattle.std.proofs.Common.{◌≡◌, inl, ℕ, ◌-◌, ◌<◌, ◌^◌, List, [], ◌∷◌, Option, Some, None, Bool, true, false, not, ◌&&◌, refl, sym, ◌∙◌, ap, subst, is_some, is_none, cond}
+use Rattle.std.proofs.Common.{◌≡◌, ℕ, ◌-◌, ◌<◌, ◌^◌, List, [], ◌∷◌, Option, Some, None, true, false, not, ◌&&◌, refl, ◌∙◌, ap, is_some, cond}
 use Rattle.std.specs.List.{cons_option, filter_map}
-use Rattle.std.specs.FinMap.{FinMap, entries, get, insert, get-insert}
-use Rattle.std.specs.Ordering.{eq_by_cmp}
+use Rattle.std.specs.FinMap.{entries, get, insert}
 use Rattle.deposit_name.specs.Name.{name_text}
 use Rattle.desk.specs.declared.grounds.Ground.{Ground}
 use Rattle.extent_map.specs.declared.extent.Extent.{Extent}
-use Rattle.vault_volume.proofs.ImageLemmas.{same_in}
-use Rattle.custody_records.specs.Keys.{PartKey, part_cmp, text_cmp}
+use Rattle.custody_records.specs.Keys.{PartKey, part_cmp}
 use Rattle.custody_records.specs.Records.{PartRecord, Records, name_of}
 use Rattle.custody_records.specs.Records as recorded_in
-use Rattle.custody_records.specs.inside.Orders.{text_total}
+use Rattle.custody_records.specs.inside.Orders.{text_exact, text_total}
 use Rattle.custody_machine.specs.MapValues.{map_entries}
 use Rattle.custody_machine.specs.Machine as machine
 use Rattle.custody_machine.specs.Machine.{Release, OfRelease, Accept, step, are_bytes_dropped}
@@ -20,8 +18,11 @@ use Rattle.custody_machine.specs.StoredState.{AreWhole, AreWholeOnVolume, conten
 use Rattle.custody_machine.specs.Rulings.{AddsRelease, GoRuling, Decides}
 use Rattle.custody_machine.specs.Custody.{IsInOrder}
 use Rattle.custody_machine.proofs.MapValues.{entries-map_values}
-use Rattle.custody_machine.proofs.Released.{accepts_release}
-use Rattle.custody_machine.proofs.Composed.{IsChange, named_used, head_used}
+use Rattle.custody_machine.proofs.Options.{is_there}
+use Rattle.custody_machine.proofs.Accepting.{inserted, step_accepts}
+use Rattle.custody_machine.proofs.Released.{none_stand_for}
+use Rattle.custody_machine.proofs.Stored.{whole-beside}
+use Rattle.custody_machine.proofs.Composed.{IsChange, tables_change, tables_in_order}
 
 -- ---- the names, whatever the image
 
@@ -46,48 +47,19 @@ release_in records i tld reason now =
 
 -- ---- one release more
 
--- the releases after an insertion: the new one, and those before
-inserted_release : (m : FinMap text_cmp recorded_in.Release) (k : List ℕ) (release : recorded_in.Release) (P : recorded_in.Release → Type 0) → P release → ((q : List ℕ) (r : recorded_in.Release) → get m q ≡ Some r → P r) → (q : List ℕ) (r : recorded_in.Release) → get (insert m k release) q ≡ Some r → P r
-inserted_release m k release P new old q r at = by (eq_by_cmp text_cmp q k) (sym (get-insert text_total m k release q) ∙ at)
-  where
-    by : (b : Bool) → cond b (Some release) (get m q) ≡ Some r → P r
-    by true e = let is : release ≡ r = cc in subst P is new
-    by false e = old q r e
-
 module _ (records : Records) (whole : AreWhole records) (reference : List ℕ) (release : recorded_in.Release) (known : is_some (get records.registries release.tld) ≡ true) (names : AreRecordedNames records release.tld release.names) where
   pub whole-with_release : AreWhole (recorded_in.with_release records reference release)
-  whole-with_release = let l = whole.linked in record {
-    extents = whole.extents;
-    once = record { within = whole.once.within; between = whole.once.between };
-    linked = record {
-      part_registry = l.part_registry;
-      notice_registry = l.notice_registry;
-      release_registry = inserted_release records.releases reference release (λ r. is_some (get records.registries r.tld) ≡ true) known l.release_registry;
-      hold_registry = l.hold_registry;
-      released = inserted_release records.releases reference release (λ r. AreRecordedNames records r.tld r.names) names l.released;
-      series = l.series;
-      numbers = l.numbers;
-      verdict_parts = l.verdict_parts;
-      one_verdict = l.one_verdict;
-      due = l.due;
-      one_receipt = l.one_receipt;
-      one_absence = l.one_absence;
-    };
-  }
+  whole-with_release = let l = whole.linked in
+      whole-beside records records.registries (insert records.releases reference release) records.holds whole (λ tld h. h)
+      (inserted text_total text_exact records.releases reference release (λ _ r. (is_some (get records.registries r.tld) ≡ true) × AreRecordedNames records r.tld r.names) (known, names)
+      (λ q r at. (l.release_registry q r at, l.released q r at))) l.hold_registry
 
   module _ (i : List ℕ) (size failures failures_then : ℕ) (free : ℕ → Type 0) (order : IsInOrder records size failures free) where
     pub release_changes : AreWholeOnVolume records i → IsChange records i free (recorded_in.with_release records reference release) i free
-    release_changes good = record {
-      good = record { whole = whole-with_release; volume = record { head = good.volume.head; size = good.volume.size } };
-      keeps = record { kept = λ key part at. (part, at, inl refl); digests = λ key has. has };
-      unnamed = named_used records size failures free order;
-      head = head_used records size failures free order;
-      fewer = λ b f. f;
-      moved = same_in free i;
-    }
+    release_changes = tables_change records records.registries records.notices (insert records.releases reference release) records.holds i size failures free order whole-with_release
 
     pub release_in_order : failures_then < 2 ^ 64 - 1 → IsInOrder (recorded_in.with_release records reference release) size failures_then free
-    release_in_order count = record { whole = whole-with_release; blocks = order.blocks; placeable = order.placeable; count = count }
+    release_in_order = tables_in_order records records.registries records.notices (insert records.releases reference release) records.holds i size failures free order whole-with_release failures_then
 
 -- ---- a release that is made
 
@@ -98,8 +70,4 @@ module _ (records : Records) (i : List ℕ) (reference tld : List ℕ) (reason :
 
   -- its registry is known
   pub release_known : is_some (get records.registries tld) ≡ true
-  release_known = by (get records.registries tld) (accepts_release (state_in records i) reference tld reason now _ _ release_accepted).none.registry
-    where
-      by : (o : Option ℕ) → is_none o ≡ false → is_some o ≡ true
-      by None e = cc
-      by (Some first) e = refl
+  release_known = is_there (get records.registries tld) (none_stand_for (state_in records i) reference tld reason now (step_accepts (state_in records i) (Release reference tld reason) now _ _ release_accepted).0).registry

@@ -93,7 +93,6 @@ module _ (first : State) where
   fits_then (Running old) (StoppedAtRest pair) next f fits h = subst (λ c. Fits c (found_at_stop first f.commands f.in_doubt pair)) (sym h.1) (settles_as f old None pair fits.0 fits.1 h.0)
   fits_then (Running old) (StoppedWithin command now pair) next f fits h =
       subst (λ c. Fits c (found_at_stop first f.commands (option_or f.in_doubt (Some (command, now))) pair)) (sym h.1) (settles_within f old None command now pair fits.0 fits.1 h.0)
-  fits_then (Running old) (OpenedWith pair answer) next f fits h = absurd h
   fits_then (Halted old doubt) (Answered command now answer) next f fits h =
       subst (λ c. Fits c (found_after_event first f (Answered command now answer))) (sym h.1) (subst (λ a. Fits (Halted old doubt) (found_after_event first f (Answered command now a))) (sym h.0) (fits.0, or_none f.in_doubt ∙ fits.1))
   fits_then (Halted old doubt) AnsweredOtherCall next f fits h = subst (λ c. Fits c f) (sym h) fits
@@ -102,19 +101,15 @@ module _ (first : State) where
   fits_then (Halted old doubt) (StoppedWithin command now pair) next f fits h =
       subst (λ c. Fits c (found_at_stop first f.commands (option_or f.in_doubt (Some (command, now))) pair)) (sym h.1)
       (settles_within f old doubt command now pair fits.0 fits.1 (weaker pair (or_within old doubt command now) h.0))
-  fits_then (Halted old doubt) (OpenedWith pair answer) next f fits h = absurd h
-  fits_then (Stopped left) (Answered command now answer) next f fits h = absurd h
-  fits_then (Stopped left) AnsweredOtherCall next f fits h = absurd h
-  fits_then (Stopped left) ShutDown next f fits h = absurd h
   fits_then (Stopped left) (StoppedAtRest pair) next f fits h =
       subst (λ c. Fits c (found_at_stop first f.commands f.in_doubt pair)) (sym h.1) (subst (λ d. Fits (Stopped left) (found_at_stop first f.commands d pair)) (sym fits.1) (fits.0, refl))
-  fits_then (Stopped left) (StoppedWithin command now pair) next f fits h = absurd h
   fits_then (Stopped left) (OpenedWith pair (Opened state)) next f fits h =
       subst (λ c. Fits c f) (sym h.2) (sym fits.0.2 ∙ opened fits.0.0 left.opens fits.0.1 (subst (λ (p : Pair). p.opens ≡ Some state) h.0 h.1), fits.1)
     where
       opened : (s : State) (o : Option State) → o ≡ Some s → o ≡ Some state → s ≡ state
       opened s o p q = cc
   fits_then (Stopped left) (OpenedWith pair (NotOpened failure)) next f fits h = subst (λ c. Fits c f) (sym (h.2 ∙ ap Stopped h.0)) fits
+  fits_then c event next f fits h = absurd h
 
   pub fits_after : (c : Condition) (events : List Event) (last : Condition) (f : FoundCommands) → Fits c f → HappensAlong c events last → Fits last (found_after first f events)
   fits_after c [] last f fits run = subst (λ d. Fits d f) (sym run) fits
@@ -150,13 +145,9 @@ module _ (first : State) where
 
   found_more : (f : FoundCommands) (event : Event) → (more : List TimedCommand) × ((found_after_event first f event).commands ≡ f.commands ++ more)
   found_more f (Answered command now (Accepted reply)) = ((command, now) ∷ [], refl)
-  found_more f (Answered command now (Refused q)) = ([], sym (append-nil f.commands))
-  found_more f (Answered command now (Failed failure)) = ([], sym (append-nil f.commands))
-  found_more f AnsweredOtherCall = ([], sym (append-nil f.commands))
-  found_more f ShutDown = ([], sym (append-nil f.commands))
   found_more f (StoppedAtRest pair) = settled_more f.commands f.in_doubt pair
   found_more f (StoppedWithin command now pair) = settled_more f.commands (option_or f.in_doubt (Some (command, now))) pair
-  found_more f (OpenedWith pair answer) = ([], sym (append-nil f.commands))
+  found_more f event = ([], sym (append-nil f.commands))
 
   pub all_more : (f : FoundCommands) (events : List Event) → (more : List TimedCommand) × ((found_after first f events).commands ≡ f.commands ++ more)
   all_more f [] = ([], sym (append-nil f.commands))

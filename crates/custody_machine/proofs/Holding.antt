@@ -5,15 +5,16 @@ use Rattle.std.specs.FinMap.{get, get-insert}
 use Rattle.std.specs.Cmp.{Equal-is}
 use Rattle.std.specs.Option.{option_and_then}
 use Rattle.std.specs.Ordering.{eq_by_cmp}
-use Rattle.std.proofs.lemmas.Option.{cond_some}
+use Rattle.std.proofs.lemmas.Option.{option_and_then_some}
 use Rattle.custody_records.specs.Keys.{text_cmp}
 use Rattle.custody_records.specs.inside.Orders.{text_exact, text_total}
 use Rattle.custody_records.specs.Records as records
 use Rattle.custody_records.specs.Records.{lifted_at, new_hold}
 use Rattle.custody_machine.specs.State.{State}
-use Rattle.custody_machine.specs.Machine.{Hold, Lift, OfHold, OfLifting, Refusal, RegistryUnknown, DateOutOfRange, HoldReferenceUsed, Reply, Step, Accept, is_tld_unregistered, is_day_outside, hold_of, is_held_day, if_held_day, kept_hold, lifting_of, hold_tests, first_refusal, unless_kept, hold_step, lift_step, state_with_hold, step}
+use Rattle.custody_machine.specs.Machine.{OfHold, OfLifting, Refusal, RegistryUnknown, DateOutOfRange, HoldReferenceUsed, Step, is_tld_unregistered, is_day_outside, hold_of, is_held_day, kept_hold, lifting_of, hold_tests, first_refusal, unless_kept, hold_step, lift_step, state_with_hold}
 use Rattle.custody_machine.specs.Retries.{IsKeptAs, StillHas}
-use Rattle.custody_machine.proofs.Accepting.{insert_here, insert_new, none_head, step_accepts}
+use Rattle.custody_machine.proofs.Options.{passing, passing_of, unused}
+use Rattle.custody_machine.proofs.Accepting.{insert_new, all_fail}
 
 -- ---- acceptance
 
@@ -25,83 +26,39 @@ pub record NoneStandsTo (s : State) (reference tld : List ℕ) (day now : ℕ) :
 
 module _ (s : State) (reference tld : List ℕ) (day now : ℕ) where
   pub none_stand_to : first_refusal (hold_tests s reference tld day now) ≡ None → NoneStandsTo s reference tld day now
-  none_stand_to e =
-      let b = none_head _ RegistryUnknown _ e in
-      let c = none_head _ DateOutOfRange _ b.1 in
-      let d = none_head _ HoldReferenceUsed _ c.1 in
-      record { registry = b.0; date = c.0; used = d.0 }
+  none_stand_to e = let f = all_fail (hold_tests s reference tld day now) e in record { registry = f.0; date = f.1.0; used = f.1.1.0 }
 
 -- the refusals of a hold, in their order
 abbrev pub hold_refusals : (RegistryUnknown DateOutOfRange HoldReferenceUsed : Bool) → Option Refusal
 hold_refusals a b c = cond a (Some RegistryUnknown) (cond b (Some DateOutOfRange) (cond c (Some HoldReferenceUsed) None))
 
-three_none : (a b c : Bool) → a ≡ false → b ≡ false → c ≡ false → hold_refusals a b c ≡ None
-three_none a b c p q r = rw (p, q, r) refl
-
-pub find_none_to : (s : State) (reference tld : List ℕ) (day now : ℕ) → NoneStandsTo s reference tld day now → first_refusal (hold_tests s reference tld day now) ≡ None
-find_none_to s reference tld day now h = three_none _ _ _ h.registry h.date h.used
-
 -- the step of a hold, by the one that is kept
 abbrev pub held_by : State → List ℕ → List ℕ → ℕ → ℕ → Option records.Hold → Step
 held_by s reference tld day now o = unless_kept s (option_map (OfHold reference) o) (hold_step s reference (new_hold tld day now))
-
--- what acceptance of a hold tells
-pub record IsHeld (s : State) (reference tld : List ℕ) (day now : ℕ) (reply : Reply) (new : State) : Type 0 where
-  pub none : NoneStandsTo s reference tld day now
-  pub outcome : held_by s reference tld day now (kept_hold s reference tld day) ≡ Accept reply new
-
-pub accepts_hold : (s : State) (reference tld : List ℕ) (day now : ℕ) (reply : Reply) (new : State) → step s (Hold reference tld day) now ≡ Accept reply new → IsHeld s reference tld day now reply new
-accepts_hold s reference tld day now reply new e =
-    let h = step_accepts s (Hold reference tld day) now reply new e in record { none = none_stand_to s reference tld day now h.0; outcome = h.1 }
 
 -- the step of a lifting of a hold, by when it was lifted
 abbrev pub lifted_by : State → List ℕ → ℕ → records.Hold → Option ℕ → Step
 lifted_by s reference now hold o = unless_kept s (option_map (OfLifting reference) o) (lift_step s reference now (Some hold))
 
--- what acceptance of a lifting tells
-pub record IsLifted (s : State) (reference : List ℕ) (now : ℕ) (reply : Reply) (new : State) : Type 0 where
-  pub hold : records.Hold
-  pub at : get s.holds reference ≡ Some hold
-  pub outcome : lifted_by s reference now hold hold.lifted ≡ Accept reply new
-
-pub accepts_lift : (s : State) (reference : List ℕ) (now : ℕ) (reply : Reply) (new : State) → step s (Lift reference) now ≡ Accept reply new → IsLifted s reference now reply new
-accepts_lift s reference now reply new e = by (hold_of s reference) refl (step_accepts s (Lift reference) now reply new e).1
-  where
-    by : (o : Option records.Hold) → hold_of s reference ≡ o → unless_kept s (option_map (OfLifting reference) (option_and_then (λ (hold : records.Hold). hold.lifted) o)) (lift_step s reference now o) ≡ Accept reply new → IsLifted s reference now reply new
-    by None at e = cc
-    by (Some hold) at e = record { hold = hold; at = at; outcome = e }
-
 -- ---- the hold that is kept
 
 -- it is the one of the reference, of the registry and the day
 pub kept_hold_is : (s : State) (reference tld : List ℕ) (day : ℕ) (kept : records.Hold) → kept_hold s reference tld day ≡ Some kept → (get s.holds reference ≡ Some kept) × (is_held_day tld day kept ≡ true)
-kept_hold_is s reference tld day kept e = by (hold_of s reference) e
-  where
-    by : (o : Option records.Hold) → option_and_then (if_held_day tld day) o ≡ Some kept → (o ≡ Some kept) × (is_held_day tld day kept ≡ true)
-    by None e = cc
-    by (Some found) e = let h = cond_some (is_held_day tld day found) found kept e in (ap Some h.1, ap (is_held_day tld day) (sym h.1) ∙ h.0)
+kept_hold_is s reference tld day = passing (is_held_day tld day) (hold_of s reference)
 
 pub kept_hold_of : (s : State) (reference tld : List ℕ) (day : ℕ) (kept : records.Hold) → get s.holds reference ≡ Some kept → is_held_day tld day kept ≡ true → kept_hold s reference tld day ≡ Some kept
-kept_hold_of s reference tld day kept at on = ap (option_and_then (if_held_day tld day)) at ∙ ap (λ b. cond b (Some kept) None) on
+kept_hold_of s reference tld day = passing_of (is_held_day tld day) (hold_of s reference)
 
 -- where no hold is kept and none of the refusals stands, the reference is new
 pub unheld_of : (s : State) (reference tld : List ℕ) (day now : ℕ) → NoneStandsTo s reference tld day now → kept_hold s reference tld day ≡ None → get s.holds reference ≡ None
-unheld_of s reference tld day now none e = by (hold_of s reference) (ap (λ o. is_some (hold_of s reference) && is_none o) (sym e) ∙ none.used)
-  where
-    by : (o : Option records.Hold) → (is_some o && true) ≡ false → o ≡ None
-    by None h = refl
-    by (Some hold) h = cc
+unheld_of s reference tld day now none = unused (hold_of s reference) (kept_hold s reference tld day) none.used
 
 -- the moment of a lifting is that of the hold
 pub lifting_is : (s : State) (reference : List ℕ) (hold : records.Hold) → get s.holds reference ≡ Some hold → lifting_of s reference ≡ hold.lifted
 lifting_is s reference hold at = ap (option_and_then (λ (h : records.Hold). h.lifted)) at
 
 pub lifting_has : (s : State) (reference : List ℕ) (at : ℕ) → lifting_of s reference ≡ Some at → (hold : records.Hold) × (get s.holds reference ≡ Some hold) × (hold.lifted ≡ Some at)
-lifting_has s reference at e = by (hold_of s reference) refl e
-  where
-    by : (o : Option records.Hold) → hold_of s reference ≡ o → option_and_then (λ (h : records.Hold). h.lifted) o ≡ Some at → (hold : records.Hold) × (get s.holds reference ≡ Some hold) × (hold.lifted ≡ Some at)
-    by None is e = cc
-    by (Some hold) is e = (hold, is, e)
+lifting_has s reference at e = option_and_then_some (λ (h : records.Hold). h.lifted) (hold_of s reference) at e (λ hold is lifted. (hold, is, lifted))
 
 -- ---- what is kept of a hold
 
@@ -166,7 +123,3 @@ module _ (s : State) (reference : List ℕ) (hold : records.Hold) (now : ℕ) (t
       by : (b : Bool) → eq_by_cmp text_cmp q reference ≡ b → (h : records.Hold) × (get s.holds q ≡ Some h) × (h.lifted ≡ Some at) → StillHas then (OfLifting q at)
       by true t h = let clash : Some at ≡ None = sym h.2 ∙ ap (λ (x : records.Hold). x.lifted) (one q h.0 t h.1) ∙ standing in cc
       by false t h = (OfLifting q at, lifting_is then q h.0 (got q ∙ ap (λ b. cond b (Some (lifted_at now hold)) (get s.holds q)) t ∙ h.1) ∙ h.2, refl)
-
-  -- and is there, with the moment
-  pub lifted_here : get then.holds reference ≡ Some (lifted_at now hold)
-  lifted_here = insert_here text_total s.holds reference (lifted_at now hold)

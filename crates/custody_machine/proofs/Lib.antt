@@ -1,3 +1,4 @@
+pub mod Options
 pub mod NameReading
 pub mod MapValues
 pub mod Series

@@ -7,8 +7,8 @@ use Rattle.custody_records.specs.Keys.{part_cmp}
 use Rattle.custody_records.specs.Records.{Records}
 use Rattle.custody_records.specs.Rows.{Rows}
 use Rattle.custody_machine.specs.State.{State}
-use Rattle.custody_machine.specs.Machine.{Command, after, Answer, Failed, Failure, NoMemory, VolumeFailed, StoreFailed, Closed, Damage, Damaged, MayAnswer}
-use Rattle.custody_machine.specs.History.{IsFoundWithin, MayFind, doubt_of, is_open_after, Pair, Opened, NotOpened, MayOpen, Event, Answered, AnsweredOtherCall, ShutDown, StoppedAtRest, StoppedWithin, OpenedWith, Condition, Running, Halted, Stopped, OpensSoundly, Happens, HappensAlong, IsStart, FoundCommands, found, found_after, none_found}
+use Rattle.custody_machine.specs.Machine.{Command, TimedCommand, after, Answer, Failed, Failure, Closed, Damage, Damaged, MayAnswer}
+use Rattle.custody_machine.specs.History.{IsFoundWithin, MayFind, doubt_of, is_open_after, Pair, Opened, NotOpened, MayOpen, condition_after, Event, Answered, AnsweredOtherCall, ShutDown, StoppedAtRest, StoppedWithin, OpenedWith, Condition, Running, Halted, Stopped, OpensSoundly, Happens, HappensAlong, IsStart, FoundCommands, found, found_after, none_found}
 use Rattle.custody_machine.specs.StoredState.{part_of, content_of, state_in, StandsFor, HasDigests, IsSound, OpensFrom}
 use Rattle.custody_machine.specs.Moves.{Place, Serving, Shut, Left, MayLeave, Finds, MayNotOpen, Moves, MovesAlong, IsBegun, MovesAreHistories, IsInState, PlacesAreRight, reported_failure, NoDamageIsReported, ReadsBackAsReceived, FindsOne, AnswersAreMoves}
 use Rattle.custody_machine.proofs.MapValues.{get-map_values}
@@ -47,14 +47,9 @@ finds_one rows image a b f g =
 -- a condition of a history is that of a place, whose held parts have their digests
 abbrev pub Follows : Place → Condition → Type 0
 Follows (Serving records image) (Running state) = (state ≡ state_in records image) × HasDigests image records
-Follows (Serving records image) (Halted old doubt) = ⊥
-Follows (Serving records image) (Stopped pair) = ⊥
-Follows (Shut records image doubt) (Running state) = ⊥
 Follows (Shut records image doubt) (Halted old entry) = (old ≡ state_in records image) × (entry ≡ doubt) × HasDigests image records
-Follows (Shut records image doubt) (Stopped pair) = ⊥
-Follows (Left rows image) (Running state) = ⊥
-Follows (Left rows image) (Halted old doubt) = ⊥
 Follows (Left rows image) (Stopped pair) = (state : State) × StandsFor rows image state × IsSound rows image × (pair ≡ pair_of state)
+Follows place condition = ⊥
 
 -- an event goes from a condition to one that follows the place
 abbrev Goes : Condition → Event → Place → Type 0
@@ -72,7 +67,11 @@ module _ (records : Records) (image : List ℕ) (has : HasDigests image records)
   follows_left = (state_in o.records left, stands_of records image P rows left o, sound_of records image P rows left o has, is_pair)
 
 answered_follows : (records : Records) (image : List ℕ) (state : State) (command : Command) (now : ℕ) (answer : Answer) (next : Place) → Follows (Serving records image) (Running state) → Moves (Serving records image) (Answered command now answer) next → Goes (Running state) (Answered command now answer) next
-answered_follows records image state command now answer next follows m = by (is_open_after answer) refl
+answered_follows records image state command now answer next follows m = (
+  condition,
+  (state_in new later, allowed, refl),
+  subst (λ p. Follows p condition) (sym m.5) (by (is_open_after answer)),
+)
   where
     new : Records
     new = m.0
@@ -86,17 +85,21 @@ answered_follows records image state command now answer next follows m = by (is_
     allowed : MayAnswer state command now answer (state_in new later)
     allowed = subst (λ s. MayAnswer s command now answer (state_in new later)) old m.2
 
-    by : (b : Bool) → is_open_after answer ≡ b → Goes (Running state) (Answered command now answer) next
-    by true e = (
-      Running (state_in new later),
-      (state_in new later, allowed, sym (ap (λ b. if b then Running (state_in new later) else Halted state (doubt_of command now answer)) e)),
-      subst (λ p. Follows p (Running (state_in new later))) (sym (m.5 ∙ ap (λ b. if b then Serving new later else Shut records image (doubt_of command now answer)) e)) (refl, sound_from records new image later m.4 follows.1),
-    )
-    by false e = (
-      Halted state (doubt_of command now answer),
-      (state_in new later, allowed, sym (ap (λ b. if b then Running (state_in new later) else Halted state (doubt_of command now answer)) e)),
-      subst (λ p. Follows p (Halted state (doubt_of command now answer))) (sym (m.5 ∙ ap (λ b. if b then Serving new later else Shut records image (doubt_of command now answer)) e)) (follows.0, refl, follows.1),
-    )
+    condition : Condition
+    condition = condition_after state command now answer (state_in new later)
+
+    by : (b : Bool) → Follows (if b then Serving new later else Shut records image (doubt_of command now answer)) (if b then Running (state_in new later) else Halted state (doubt_of command now answer))
+    by true = (refl, sound_from records new image later m.4 follows.1)
+    by false = (follows.0, refl, follows.1)
+
+-- a stop of a closed custody, within a command or not
+shut_stops : (records : Records) (image : List ℕ) (doubt : Option TimedCommand) (old : State) (entry : Option TimedCommand) (pair : Pair) (next : Place) → Follows (Shut records image doubt) (Halted old entry)
+    → Moves (Shut records image doubt) (StoppedAtRest pair) next → Goes (Halted old entry) (StoppedAtRest pair) next
+shut_stops records image doubt old entry pair next follows m =
+    let P : State → Type 0 = MayFind (state_in records image) doubt in
+    let same : OpensSoundly (MayFind old entry) pair =
+    subst (λ s. OpensSoundly (MayFind s entry) pair) (sym follows.0) (subst (λ d. OpensSoundly (MayFind (state_in records image) d) pair) (sym follows.1) (opens_soundly records image follows.2 P m.0 m.1 pair m.2 m.3)) in
+    (Stopped pair, (same, refl), subst (λ p. Follows p (Stopped pair)) (sym m.4) (follows_left records image follows.2 P m.0 m.1 pair m.2 m.3))
 
 -- each move is an event of the history
 pub move_happens : (place : Place) (condition : Condition) (event : Event) (next : Place) → Follows place condition → Moves place event next → Goes condition event next
@@ -114,22 +117,9 @@ move_happens (Serving records image) (Running state) (OpenedWith pair answer) ne
 move_happens (Shut records image doubt) (Halted old entry) (Answered command now answer) next follows m = (Halted old entry, (m.0, refl), subst (λ p. Follows p (Halted old entry)) (sym m.1) follows)
 move_happens (Shut records image doubt) (Halted old entry) AnsweredOtherCall next follows m = (Halted old entry, refl, subst (λ p. Follows p (Halted old entry)) (sym m) follows)
 move_happens (Shut records image doubt) (Halted old entry) ShutDown next follows m = (Halted old entry, refl, subst (λ p. Follows p (Halted old entry)) (sym m) follows)
-move_happens (Shut records image doubt) (Halted old entry) (StoppedAtRest pair) next follows m =
-    let P : State → Type 0 = MayFind (state_in records image) doubt in (
-      Stopped pair,
-      ((λ (z : OpensSoundly (MayFind old entry) pair). z) (subst (λ s. OpensSoundly (MayFind s entry) pair) (sym follows.0) (subst (λ d. OpensSoundly (MayFind (state_in records image) d) pair) (sym follows.1) (opens_soundly records image follows.2 P m.0 m.1 pair m.2 m.3))), refl),
-      subst (λ p. Follows p (Stopped pair)) (sym m.4) (follows_left records image follows.2 P m.0 m.1 pair m.2 m.3),
-    )
-move_happens (Shut records image doubt) (Halted old entry) (StoppedWithin command now pair) next follows m =
-    let P : State → Type 0 = MayFind (state_in records image) doubt in (
-      Stopped pair,
-      ((λ (z : OpensSoundly (MayFind old entry) pair). z) (subst (λ s. OpensSoundly (MayFind s entry) pair) (sym follows.0) (subst (λ d. OpensSoundly (MayFind (state_in records image) d) pair) (sym follows.1) (opens_soundly records image follows.2 P m.0 m.1 pair m.2 m.3))), refl),
-      subst (λ p. Follows p (Stopped pair)) (sym m.4) (follows_left records image follows.2 P m.0 m.1 pair m.2 m.3),
-    )
+move_happens (Shut records image doubt) (Halted old entry) (StoppedAtRest pair) next follows m = shut_stops records image doubt old entry pair next follows m
+move_happens (Shut records image doubt) (Halted old entry) (StoppedWithin command now pair) next follows m = shut_stops records image doubt old entry pair next follows m
 move_happens (Shut records image doubt) (Halted old entry) (OpenedWith pair answer) next follows m = absurd m
-move_happens (Left rows image) (Stopped left) (Answered command now answer) next follows m = absurd m
-move_happens (Left rows image) (Stopped left) AnsweredOtherCall next follows m = absurd m
-move_happens (Left rows image) (Stopped left) ShutDown next follows m = absurd m
 move_happens (Left rows image) (Stopped left) (StoppedAtRest pair) next follows m = stopped rows image left pair m.0 m.1 next follows m.2 m.3 m.4
   where
     stopped : (rows : Rows) (image : List ℕ) (left pair : Pair) (others : Rows) (other : List ℕ) (next : Place) → Follows (Left rows image) (Stopped left) → MayLeave (Left rows image) others other → Finds others other pair → next ≡ Left others other → Goes (Stopped left) (StoppedAtRest pair) next
@@ -140,7 +130,6 @@ move_happens (Left rows image) (Stopped left) (StoppedAtRest pair) next follows 
         let P : State → Type 0 = λ found. found ≡ state_in s.records image in
         let same : pair ≡ left = is_pair s.records image has P others other pair o finds ∙ ap pair_of (o.state ∙ sym s.meaning) ∙ sym follows.3 in
         (Stopped left, (same, refl), subst (λ p. Follows p (Stopped left)) (sym is) (subst (λ q. Follows (Left others other) (Stopped q)) same (follows_left s.records image has P others other pair o finds)))
-move_happens (Left rows image) (Stopped left) (StoppedWithin command now pair) next follows m = absurd m
 move_happens (Left rows image) (Stopped left) (OpenedWith pair (Opened state)) next follows m =
     let finds = m.0 in let r = m.1 in
     let stands : StandsFor rows image state = record { records = r.0; in_form = r.1; good = r.2; meaning = r.3 } in
@@ -150,11 +139,9 @@ move_happens (Left rows image) (Stopped left) (OpenedWith pair (Opened state)) n
 move_happens (Left rows image) (Stopped left) (OpenedWith pair (NotOpened failure)) next follows m = failed rows image left pair failure m.2.0 m.2.1 next follows m.0 m.1 m.2.2 m.2.3
   where
     may_open : (rows : Rows) (image : List ℕ) (state : State) (opens : Option State) (failure : Failure) → StandsFor rows image state → MayNotOpen rows image failure → MayOpen opens (NotOpened failure)
-    may_open rows image state opens NoMemory stands may = tt
-    may_open rows image state opens VolumeFailed stands may = tt
-    may_open rows image state opens StoreFailed stands may = tt
     may_open rows image state opens Closed stands may = may
     may_open rows image state opens (Damaged damage) stands may = absurd (damaged_stands damage rows image state may.is_true stands)
+    may_open rows image state opens failure stands may = tt
 
     failed : (rows : Rows) (image : List ℕ) (left pair : Pair) (failure : Failure) (others : Rows) (other : List ℕ) (next : Place) → Follows (Left rows image) (Stopped left) → Finds rows image pair → MayNotOpen rows image failure → MayLeave (Left rows image) others other → next ≡ Left others other → Goes (Stopped left) (OpenedWith pair (NotOpened failure)) next
     failed rows image left pair failure others other next follows finds may leaves is =
@@ -168,12 +155,8 @@ move_happens (Left rows image) (Stopped left) (OpenedWith pair (NotOpened failur
           (same, may_open rows image follows.0 pair.opens failure s may, refl),
           subst (λ p. Follows p (Stopped pair)) (sym is) (state_in o.records other, stands_of s.records image P others other o, sound_of s.records image P others other o has, found),
         )
-move_happens (Serving records image) (Halted old entry) event next follows m = absurd follows
-move_happens (Serving records image) (Stopped left) event next follows m = absurd follows
-move_happens (Shut records image doubt) (Running state) event next follows m = absurd follows
-move_happens (Shut records image doubt) (Stopped left) event next follows m = absurd follows
-move_happens (Left rows image) (Running state) event next follows m = absurd follows
-move_happens (Left rows image) (Halted old entry) event next follows m = absurd follows
+move_happens (Left rows image) (Stopped left) event next follows m = absurd m
+move_happens place condition event next follows m = absurd follows
 
 pub moves_follow : (place : Place) (condition : Condition) (events : List Event) (end : Place) → Follows place condition → MovesAlong place events end → (last : Condition) × HappensAlong condition events last × Follows end last
 moves_follow place condition [] end follows m = (condition, refl, subst (λ p. Follows p condition) (sym m) follows)
@@ -202,12 +185,7 @@ is_in first (Left rows image) (Stopped pair) f follows fits =
     let opens : Some fits.0.0 ≡ Some follows.0 = sym fits.0.1 ∙ ap (λ (p : Pair). p.opens) follows.3 in
     let same : fits.0.0 ≡ follows.0 = cc in
     (subst (StandsFor rows image) (sym same ∙ fits.0.2) follows.1, follows.2)
-is_in first (Serving records image) (Halted old entry) f follows fits = absurd follows
-is_in first (Serving records image) (Stopped pair) f follows fits = absurd follows
-is_in first (Shut records image doubt) (Running state) f follows fits = absurd follows
-is_in first (Shut records image doubt) (Stopped pair) f follows fits = absurd follows
-is_in first (Left rows image) (Running state) f follows fits = absurd follows
-is_in first (Left rows image) (Halted old entry) f follows fits = absurd follows
+is_in first place condition f follows fits = absurd follows
 
 pub places_are_right : (first : State) → PlacesAreRight first
 places_are_right first start end events begun m =

@@ -1,11 +1,11 @@
 -- The name that is read in a text is the one whose text it is.
 use Rattle.std.proofs.Common.{◌≡◌, ◌≢◌, ◌⊎◌, ⊎_elim, inl, inr, ℕ, zero, suc, ◌+◌, ◌-◌, ◌<◌, ◌≤◌, List, [], ◌∷◌, ◌++◌, length, take, drop, Option, Some, None, Bool, true, false, ◌||◌, ◌==◌, cond, if◌then◌else◌, codes, refl, sym, ◌∙◌, ap, subst, arith, Result, Ok, Err, IfOk, IfErr, append_assoc, length-append}
 use Rattle.std.specs.Prelude.{option_map, bytes_eq}
-use Rattle.std.specs.Option.{option_and_then}
 use Rattle.std.specs.Int.{IsInRange}
 use Rattle.std.specs.Cmp.Lexicographic.{bytes_decides}
 use Rattle.std.proofs.lemmas.List.{take-append-drop, drop_at}
 use Rattle.std.proofs.lemmas.Bool.Decides.{Decides-eqb, not_from_Decides}
+use Rattle.std.proofs.lemmas.Option.{option_and_then_some}
 use Rattle.schedule.specs.Schedule.{last_day}
 use Rattle.schedule.specs.Text.{day_text}
 use Rattle.deposit_name.specs.declared.kinds.Kind.{Kind}
@@ -100,7 +100,11 @@ none_underscore (byte ∷ text) h = by (byte == 95) refl (none_underscore text h
 -- ---- five pieces
 
 pieces_found : (stem : List ℕ) (p : NamePieces) → pieces_in stem ≡ Some p → IsSplit stem p
-pieces_found stem p e = by (halves_of stem) refl e
+pieces_found stem p e =
+    option_and_then_some _ (halves_of stem) p e (λ t et e.
+    option_and_then_some _ (halves_of t.1) p e (λ d ed e.
+    option_and_then_some _ (halves_of d.1) p e (λ k ek e.
+    option_and_then_some _ (halves_of k.1) p e (λ q eq e. by_rev t d k q et ed ek eq (has_underscore q.1) refl e))))
   where
     by_rev : (t d k q : List ℕ × List ℕ) → halves_of stem ≡ Some t → halves_of t.1 ≡ Some d → halves_of d.1 ≡ Some k → halves_of k.1 ≡ Some q → (b : Bool) → has_underscore q.1 ≡ b
         → cond b None (Some (record { tld = t.0; date = d.0; kind = k.0; part = q.0; rev = q.1 })) ≡ Some p → IsSplit stem p
@@ -121,26 +125,6 @@ pieces_found stem p e = by (halves_of stem) refl e
           part = hq.1;
           rev = underscore_none q.1 u;
         })
-
-    by_part : (t d k : List ℕ × List ℕ) → halves_of stem ≡ Some t → halves_of t.1 ≡ Some d → halves_of d.1 ≡ Some k → (o : Option (List ℕ × List ℕ)) → halves_of k.1 ≡ o
-        → option_and_then (λ (part : List ℕ × List ℕ). if has_underscore part.1 then None else Some (record { tld = t.0; date = d.0; kind = k.0; part = part.0; rev = part.1 })) o ≡ Some p → IsSplit stem p
-    by_part t d k et ed ek None is e = cc
-    by_part t d k et ed ek (Some q) is e = by_rev t d k q et ed ek is (has_underscore q.1) refl e
-
-    by_kind : (t d : List ℕ × List ℕ) → halves_of stem ≡ Some t → halves_of t.1 ≡ Some d → (o : Option (List ℕ × List ℕ)) → halves_of d.1 ≡ o
-        → option_and_then (λ (kind : List ℕ × List ℕ). option_and_then (λ (part : List ℕ × List ℕ). if has_underscore part.1 then None else Some (record { tld = t.0; date = d.0; kind = kind.0; part = part.0; rev = part.1 })) (halves_of kind.1)) o ≡ Some p → IsSplit stem p
-    by_kind t d et ed None is e = cc
-    by_kind t d et ed (Some k) is e = by_part t d k et ed is (halves_of k.1) refl e
-
-    by_date : (t : List ℕ × List ℕ) → halves_of stem ≡ Some t → (o : Option (List ℕ × List ℕ)) → halves_of t.1 ≡ o
-        → option_and_then (λ (date : List ℕ × List ℕ). option_and_then (λ (kind : List ℕ × List ℕ). option_and_then (λ (part : List ℕ × List ℕ). if has_underscore part.1 then None else Some (record { tld = t.0; date = date.0; kind = kind.0; part = part.0; rev = part.1 })) (halves_of kind.1)) (halves_of date.1)) o ≡ Some p → IsSplit stem p
-    by_date t et None is e = cc
-    by_date t et (Some d) is e = by_kind t d et is (halves_of d.1) refl e
-
-    by : (o : Option (List ℕ × List ℕ)) → halves_of stem ≡ o
-        → option_and_then (λ (tld : List ℕ × List ℕ). option_and_then (λ (date : List ℕ × List ℕ). option_and_then (λ (kind : List ℕ × List ℕ). option_and_then (λ (part : List ℕ × List ℕ). if has_underscore part.1 then None else Some (record { tld = tld.0; date = date.0; kind = kind.0; part = part.0; rev = part.1 })) (halves_of kind.1)) (halves_of date.1)) (halves_of tld.1)) o ≡ Some p → IsSplit stem p
-    by None is e = cc
-    by (Some t) is e = by_date t is (halves_of t.1) refl e
 
 pieces_are : (stem : List ℕ) (p : NamePieces) → IsSplit stem p → pieces_in stem ≡ Some p
 pieces_are stem p h = rw (h.joined ∙ regroup p.tld p.date p.kind p.part p.rev, cut_is p.tld (p.date ++ 95 ∷ (p.kind ++ 95 ∷ (p.part ++ 95 ∷ p.rev))) h.tld, cut_is p.date (p.kind ++ 95 ∷ (p.part ++ 95 ∷ p.rev)) h.date, cut_is p.kind (p.part ++ 95 ∷ p.rev) h.kind, cut_is p.part p.rev h.part, none_underscore p.rev h.rev) refl

@@ -1,11 +1,11 @@
 -- A new notice, as one change of the records: what a statement tells that is accepted and no repeat, and that records belong together with its notice.
-use Rattle.std.proofs.Common.{◌≡◌, inl, ℕ, zero, suc, ◌+◌, ◌-◌, ◌<◌, ◌^◌, List, [], ◌∷◌, Option, Some, None, Bool, true, false, not, ◌&&◌, ◌||◌, ◌==◌, refl, sym, ◌∙◌, ap, subst, is_some, is_none, cond, arith, Contains, length}
-use Rattle.std.specs.Prelude.{option_map, slice_index_or}
+use Rattle.std.proofs.Common.{◌≡◌, ℕ, zero, suc, ◌+◌, ◌-◌, ◌<◌, ◌^◌, List, Option, Some, None, Bool, true, false, not, ◌&&◌, ◌||◌, ◌==◌, refl, sym, ◌∙◌, ap, is_some, arith, Contains}
+use Rattle.std.specs.Prelude.{option_map}
 use Rattle.std.specs.List.{list_any}
-use Rattle.std.specs.FinMap.{FinMap, entries, get, insert, get-insert}
-use Rattle.std.specs.Ordering.{eq_by_cmp}
-use Rattle.std.specs.Cmp.{Equal-is}
+use Rattle.std.proofs.lemmas.List.Folds.{list_any_at}
+use Rattle.std.specs.FinMap.{FinMap, entries, get, insert}
 use Rattle.std.specs.Prelude.{nat_lt}
+use Rattle.std.proofs.lemmas.Bool.{not-false}
 use Rattle.std.proofs.lemmas.Bool.Decides.{Decides-eqb, Decides-ltb, nat_tests}
 use Rattle.deposit_name.proofs.KindLemmas.{same_kind_decides}
 use Rattle.desk.specs.Standing.{is_receipt}
@@ -14,29 +14,25 @@ use Rattle.deposit_verify.specs.declared.verdict.Verdict.{Verdict}
 use Rattle.deposit_verify.specs.declared.verdict.Verdict.TheVariants.{Pass, Fail}
 use Rattle.desk.specs.declared.notices.NoticeKind.{NoticeKind}
 use Rattle.desk.specs.declared.notices.NoticeKind.TheVariants.{Receipt, Failure, Absence}
-use Rattle.vault_volume.proofs.ImageLemmas.{same_in}
 use Rattle.custody_records.specs.Keys.{PartKey, NoticeKey, notice_cmp}
 use Rattle.custody_records.specs.Records.{PartRecord, Notice, Records, key_of}
 use Rattle.custody_records.specs.Records as recorded_in
 use Rattle.custody_records.specs.inside.Orders.{notice_total, notice_exact}
 use Rattle.custody_machine.specs.declared.command.Statement as statement
 use Rattle.custody_machine.specs.State.{part_numbers, key_with_part, is_notice_of, has_notice}
-use Rattle.custody_machine.specs.Machine.{Statement, Check, absence_of, absence_notice, is_absence, OfNotice, Reply, Accept, step, deciding_keys, is_failure_of, is_verdict_of, has_other_kind, is_dropped, are_bytes_dropped, revision_part, first_part, has_dropped_part, has_verdict, kept_verdict, next_key, notice_kind, verdict_notice, verdict_on, state_with_notice, keys_if_made, verdict_keys}
+use Rattle.custody_machine.specs.Machine.{Statement, Check, absence_of, absence_notice, is_absence, OfNotice, Accept, step, deciding_keys, is_failure_of, is_verdict_of, has_other_kind, is_dropped, are_bytes_dropped, revision_part, first_part, has_dropped_part, has_verdict, kept_verdict, next_key, notice_kind, verdict_notice, verdict_on, keys_if_made, verdict_keys}
 use Rattle.custody_machine.specs.StoredState.{AreLinked, AreWhole, AreWholeOnVolume, AreOfOneDay, part_of, content_of, revision_of, state_in}
 use Rattle.custody_machine.specs.Rulings.{AddsVerdict, AddsAbsence, GoRuling, Decides}
 use Rattle.custody_machine.specs.Custody.{IsInOrder}
 use Rattle.custody_machine.proofs.SameValues.{text_decides}
-use Rattle.custody_machine.proofs.Accepting.{accept_inj, insert_new, step_accepts}
-use Rattle.custody_machine.proofs.Entries.{any_of_get, any_insert_grows, next_is_new, number_before, found_where_any, passes_found, get_found}
-use Rattle.custody_machine.proofs.Stated.{NoneStandsOf, accepts_statement, stated_by, IsStated}
-use Rattle.custody_machine.proofs.Checked.{IsChecked, accepts_check, missed_by}
-use Rattle.custody_machine.proofs.Continuing.{unstated_of}
-use Rattle.custody_machine.proofs.Composed.{IsChange, named_used, head_used, place_is, closed}
+use Rattle.custody_machine.proofs.Options.{some_is, unmapped, is_there}
+use Rattle.custody_machine.proofs.Accepting.{step_accepts, made_is_new, inserted, some_still}
+use Rattle.custody_machine.proofs.Entries.{any_is_found, any_of_get, any_insert_grows, next_is_new, number_before, found_where_any, passes_found, get_found}
+use Rattle.custody_machine.proofs.Stated.{NoneStandsOf, none_stand_of}
+use Rattle.custody_machine.proofs.Checked.{none_stand_on}
+use Rattle.custody_machine.proofs.Continuing.{notice_tells, unstated_of}
+use Rattle.custody_machine.proofs.Composed.{IsChange, tables_change, tables_in_order, place_is, closed}
 use Rattle.custody_machine.proofs.Series.{first_taken}
-
-and_both : (a b : Bool) → (a && b) ≡ true → (a ≡ true) × (b ≡ true)
-and_both true b h = (refl, h)
-and_both false b h = cc
 
 or_none : (a b : Bool) → (a || b) ≡ false → (a ≡ false) × (b ≡ false)
 or_none true b h = cc
@@ -56,15 +52,14 @@ pub record Finds (notices : FinMap notice_cmp Notice) (tld : List ℕ) (day : �
 pub finds : (notices : FinMap notice_cmp Notice) (tld : List ℕ) (day : ℕ) (test : NoticeKind → Bool) → has_notice notices tld day test ≡ true → Finds notices tld day test
 finds notices tld day test h =
     let found = found_where_any (is_notice_of tld day test) (entries notices) h in
-    let passes = and_both _ _ (passes_found (is_notice_of tld day test) (entries notices) found.0 found.1) in
-    let rest = and_both _ _ passes.1 in
+    let on = notice_tells tld day test found.0 (passes_found (is_notice_of tld day test) (entries notices) found.0 found.1) in
     record {
       key = found.0.0;
       notice = found.0.1;
       there = get_found notice_total notices (is_notice_of tld day test) found.0 found.1;
-      tld_is = (text_decides found.0.0.tld tld).0 passes.0;
-      day_is = (Decides-eqb found.0.1.day day).0 rest.0;
-      passes = rest.1;
+      tld_is = on.0;
+      day_is = on.1;
+      passes = on.2;
     }
 
 failure_is : (rev : ℕ) (kind : NoticeKind) → is_failure_of rev kind ≡ true → (revision_of kind ≡ Some rev) × (is_receipt kind ≡ false) × (is_verdict_of rev kind ≡ true)
@@ -85,13 +80,10 @@ module _ (records : Records) (linked : AreLinked records) (tld : List ℕ) (day 
 
   -- the revision before one with parts has failed, and has parts
   failed_before : (rev : ℕ) → is_some (get records.parts (first_of (suc rev))) ≡ true → Finds records.notices tld day (is_failure_of rev)
-  failed_before rev h = by (get records.parts (first_of (suc rev))) refl h
-    where
-      by : (o : Option PartRecord) → get records.parts (first_of (suc rev)) ≡ o → is_some o ≡ true → Finds records.notices tld day (is_failure_of rev)
-      by None at h = cc
-      by (Some part) at h =
-          let same : suc rev - 1 ≡ rev = omega arith in
-          finds records.notices tld day (is_failure_of rev) (ap (λ r. has_notice records.notices tld day (is_failure_of r)) (sym same) ∙ linked.due (first_of (suc rev)) part at (omega arith))
+  failed_before rev h =
+      let part = some_is (get records.parts (first_of (suc rev))) h in
+      let same : suc rev - 1 ≡ rev = omega arith in
+      finds records.notices tld day (is_failure_of rev) (ap (λ r. has_notice records.notices tld day (is_failure_of r)) (sym same) ∙ linked.due (first_of (suc rev)) part.0 part.1 (omega arith))
 
   has_parts : (rev : ℕ) (kind : NoticeKind → Bool) → ((k : NoticeKind) → kind k ≡ true → revision_of k ≡ Some rev) → Finds records.notices tld day kind → is_some (get records.parts (first_of rev)) ≡ true
   has_parts rev kind tells f = ap (λ (k : PartKey). is_some (get records.parts k)) (λ i. record { tld = sym f.tld_is i; day = sym f.day_is i; rev = rev; part = 1 })
@@ -145,29 +137,12 @@ module _ (records : Records) (linked : AreLinked records) (tld : List ℕ) (day 
 
 -- ---- what is noticed
 
-any_none : {X : Type 0} (test : X → Bool) (xs : List X) (k : ℕ) (d : X) → k < length xs → list_any test xs ≡ false → test (slice_index_or xs k d) ≡ false
-any_none test [] k d lt h = absurd (omega (arith, lt))
-any_none test (x ∷ xs) zero d lt h = (or_none (test x) _ h).0
-any_none test (x ∷ xs) (suc k) d lt h = any_none test xs k d (omega (arith, lt)) (or_none (test x) _ h).1
-
 none_of : {X : Type 0} (test : X → Bool) (xs : List X) (x : X) → Contains xs x → list_any test xs ≡ false → test x ≡ false
-none_of test xs x c h = ap test (sym c.2) ∙ any_none test xs c.0 x c.1 h
-
--- the notices after an insertion: the new one, and those before
-inserted_notice : (m : FinMap notice_cmp Notice) (k : NoticeKey) (notice : Notice) (P : NoticeKey → Notice → Type 0) → P k notice → ((q : NoticeKey) (n : Notice) → get m q ≡ Some n → P q n) → (q : NoticeKey) (n : Notice) → get (insert m k notice) q ≡ Some n → P q n
-inserted_notice m k notice P new old q n at = by (eq_by_cmp notice_cmp q k) refl (sym (get-insert notice_total m k notice q) ∙ at)
+none_of test xs x c h = by (test x) refl
   where
-    by : (b : Bool) → eq_by_cmp notice_cmp q k ≡ b → cond b (Some notice) (get m q) ≡ Some n → P q n
-    by true t e = let key : k ≡ q = sym (notice_exact q k ((Equal-is (notice_cmp q k)).0 t)) in
-        let is : notice ≡ n = cc in subst (λ z. P z n) key (subst (P k) is new)
-    by false t e = old q n e
-
-notice_still : (m : FinMap notice_cmp Notice) (k : NoticeKey) (notice : Notice) (q : NoticeKey) → get m k ≡ None → is_some (get m q) ≡ true → is_some (get (insert m k notice) q) ≡ true
-notice_still m k notice q new h = by (get m q) refl h
-  where
-    by : (o : Option Notice) → get m q ≡ o → is_some o ≡ true → is_some (get (insert m k notice) q) ≡ true
-    by None at h = cc
-    by (Some x) at h = ap is_some (insert_new notice_total m k notice q x new at)
+    by : (b : Bool) → test x ≡ b → b ≡ false
+    by true is = let some : list_any test xs ≡ true = list_any_at test xs c.0 x c.1 (ap test c.2 ∙ is) in cc
+    by false is = refl
 
 -- ---- a new notice that belongs to the records
 
@@ -198,10 +173,10 @@ module _ (records : Records) (whole : AreWhole records) (tld : List ℕ) (notice
       → ((j k : NoticeKey) (m n : Notice) → get records.notices j ≡ Some m → get records.notices k ≡ Some n → AreOfOneDay j m k n → Same m.kind → Same n.kind → j ≡ k)
       → (j k : NoticeKey) (m n : Notice) → get (insert records.notices key notice) j ≡ Some m → get (insert records.notices key notice) k ≡ Some n → AreOfOneDay j m k n → Same m.kind → Same n.kind → j ≡ k
   one_of_them Same alone one j k m n at_j at_k day is_m is_n =
-      inserted_notice records.notices key notice (λ j m. (k : NoticeKey) (n : Notice) → get (insert records.notices key notice) k ≡ Some n → AreOfOneDay j m k n → Same m.kind → Same n.kind → j ≡ k)
-      (λ k n at day is_m is_n. inserted_notice records.notices key notice (λ k n. AreOfOneDay key notice k n → Same n.kind → key ≡ k) (λ _ _. refl)
+      inserted notice_total notice_exact records.notices key notice (λ j m. (k : NoticeKey) (n : Notice) → get (insert records.notices key notice) k ≡ Some n → AreOfOneDay j m k n → Same m.kind → Same n.kind → j ≡ k)
+      (λ k n at day is_m is_n. inserted notice_total notice_exact records.notices key notice (λ k n. AreOfOneDay key notice k n → Same n.kind → key ≡ k) (λ _ _. refl)
       (λ k n at day is_n. absurd (alone is_m k n at (sym day.0) (sym day.1) is_n)) k n at day is_n)
-      (λ j m at_old k n at day is_m is_n. inserted_notice records.notices key notice (λ k n. AreOfOneDay j m k n → Same n.kind → j ≡ k)
+      (λ j m at_old k n at day is_m is_n. inserted notice_total notice_exact records.notices key notice (λ k n. AreOfOneDay j m k n → Same n.kind → j ≡ k)
       (λ day is_n. absurd (alone is_n j m at_old day.0 day.1 is_m))
       (λ k n at day is_n. one j k m n at_old at day is_m is_n) k n at day is_n)
       j m at_j k n at_k day is_m is_n
@@ -212,15 +187,15 @@ module _ (records : Records) (whole : AreWhole records) (tld : List ℕ) (notice
     once = record { within = whole.once.within; between = whole.once.between };
     linked = record {
       part_registry = l.part_registry;
-      notice_registry = inserted_notice records.notices key notice (λ q n. is_some (get records.registries q.tld) ≡ true) belongs.registry l.notice_registry;
+      notice_registry = inserted notice_total notice_exact records.notices key notice (λ q n. is_some (get records.registries q.tld) ≡ true) belongs.registry l.notice_registry;
       release_registry = l.release_registry;
       hold_registry = l.hold_registry;
       released = l.released;
       series = l.series;
-      numbers = inserted_notice records.notices key notice (λ q n. (m : ℕ) → q.number ≡ suc (suc m) → is_some (get (insert records.notices key notice) (record { tld = q.tld; number = suc m })) ≡ true)
-          (λ m e. notice_still records.notices key notice (record { tld = tld; number = suc m }) number_is_new (number_before records.notices tld m e))
-          (λ q n at m e. notice_still records.notices key notice (record { tld = q.tld; number = suc m }) number_is_new (l.numbers q n at m e));
-      verdict_parts = λ q n rev at is. inserted_notice records.notices key notice (λ q n. (rev : ℕ) → revision_of n.kind ≡ Some rev → is_some (get records.parts (record { tld = q.tld; day = n.day; rev = rev; part = 1 })) ≡ true)
+      numbers = inserted notice_total notice_exact records.notices key notice (λ q n. (m : ℕ) → q.number ≡ suc (suc m) → is_some (get (insert records.notices key notice) (record { tld = q.tld; number = suc m })) ≡ true)
+          (λ m e. some_still notice_total records.notices key notice (record { tld = tld; number = suc m }) (number_before records.notices tld m e))
+          (λ q n at m e. some_still notice_total records.notices key notice (record { tld = q.tld; number = suc m }) (l.numbers q n at m e));
+      verdict_parts = λ q n rev at is. inserted notice_total notice_exact records.notices key notice (λ q n. (rev : ℕ) → revision_of n.kind ≡ Some rev → is_some (get records.parts (record { tld = q.tld; day = n.day; rev = rev; part = 1 })) ≡ true)
           belongs.parts (λ q n at rev is. l.verdict_parts q n rev at is) q n at rev is;
       one_verdict = λ j k m n rev. one_of_them (λ kind. revision_of kind ≡ Some rev) (belongs.verdict rev) (λ j k m n. l.one_verdict j k m n rev) j k m n;
       due = λ q p at lt. any_insert_grows notice_total records.notices key notice number_is_new (is_notice_of q.tld q.day (is_failure_of (q.rev - 1))) (l.due q p at lt);
@@ -229,52 +204,27 @@ module _ (records : Records) (whole : AreWhole records) (tld : List ℕ) (notice
     };
   }
 
-  module _ (i : List ℕ) where
-    pub good-with_notice : AreWholeOnVolume records i → AreWholeOnVolume (recorded_in.with_notice records (next_key records.notices tld) notice) i
-    good-with_notice g = record { whole = whole-with_notice; volume = record { head = g.volume.head; size = g.volume.size } }
+  module _ (i : List ℕ) (size failures failures_then : ℕ) (free : ℕ → Type 0) (order : IsInOrder records size failures free) where
+    pub notice_changes : AreWholeOnVolume records i → IsChange records i free (recorded_in.with_notice records (next_key records.notices tld) notice) i free
+    notice_changes = tables_change records records.registries (insert records.notices key notice) records.releases records.holds i size failures free order whole-with_notice
 
-    module _ (size failures failures_then : ℕ) (free : ℕ → Type 0) (order : IsInOrder records size failures free) where
-      pub notice_changes : AreWholeOnVolume records i → IsChange records i free (recorded_in.with_notice records (next_key records.notices tld) notice) i free
-      notice_changes good = record {
-        good = good-with_notice good;
-        keeps = record { kept = λ key part at. (part, at, inl refl); digests = λ key has. has };
-        unnamed = named_used records size failures free order;
-        head = head_used records size failures free order;
-        fewer = λ b f. f;
-        moved = same_in free i;
-      }
-
-      pub notice_in_order : failures_then < 2 ^ 64 - 1 → IsInOrder (recorded_in.with_notice records (next_key records.notices tld) notice) size failures_then free
-      notice_in_order count = record { whole = whole-with_notice; blocks = order.blocks; placeable = order.placeable; count = count }
+    pub notice_in_order : failures_then < 2 ^ 64 - 1 → IsInOrder (recorded_in.with_notice records (next_key records.notices tld) notice) size failures_then free
+    notice_in_order = tables_in_order records records.registries (insert records.notices key notice) records.releases records.holds i size failures free order whole-with_notice failures_then
 
 -- ---- the notice of a verdict
 
 module _ (records : Records) (i : List ℕ) (whole : AreWhole records) (st : statement.Statement) (now : ℕ) (d : Decides (GoRuling (AddsVerdict st)) records (Statement st) now) where
-  stated : IsStated (state_in records i) st now (record { entry = OfNotice (next_key records.notices st.tld) (verdict_notice st (verdict_on (state_in records i) st) now); is_repeat = false })
-      (state_with_notice (state_in records i) (next_key records.notices st.tld) (verdict_notice st (verdict_on (state_in records i) st) now))
-  stated = accepts_statement (state_in records i) st now _ _ (d.1 i)
+  none_stands : NoneStandsOf (state_in records i) st now
+  none_stands = none_stand_of (state_in records i) st now (step_accepts (state_in records i) (Statement st) now _ _ (d.1 i)).0
 
-  pub none_stands : NoneStandsOf (state_in records i) st now
-  none_stands = stated.none
-
-  pub not_kept : kept_verdict (state_in records i) st ≡ None
-  not_kept = by (kept_verdict (state_in records i) st) refl stated.outcome
-    where
-      by : (o : Option (NoticeKey × Notice)) → kept_verdict (state_in records i) st ≡ o
-          → stated_by (state_in records i) st now o ≡ Accept (record { entry = OfNotice (next_key records.notices st.tld) (verdict_notice st (verdict_on (state_in records i) st) now); is_repeat = false })
-          (state_with_notice (state_in records i) (next_key records.notices st.tld) (verdict_notice st (verdict_on (state_in records i) st) now)) → o ≡ None
-      by None at e = refl
-      by (Some kept) at e = let repeat : true ≡ false = ap (λ (r : Reply). r.is_repeat) (accept_inj _ _ _ _ e).0 in cc
+  not_kept : kept_verdict (state_in records i) st ≡ None
+  not_kept = unmapped _ (kept_verdict (state_in records i) st) (made_is_new (state_in records i) (Statement st) now _ _ (d.1 i) refl)
 
   pub no_verdict : has_verdict (state_in records i) st ≡ false
   no_verdict = unstated_of (state_in records i) st now none_stands not_kept
 
   pub registry_known : is_some (get records.registries st.tld) ≡ true
-  registry_known = not_none (get records.registries st.tld) none_stands.registry
-    where
-      not_none : (o : Option ℕ) → is_none o ≡ false → is_some o ≡ true
-      not_none None e = cc
-      not_none (Some d) e = refl
+  registry_known = is_there (get records.registries st.tld) none_stands.registry
 
   pub verdict_accepted : step (state_in records i) (Statement st) now
       ≡ Accept (record { entry = OfNotice (next_key records.notices st.tld) (verdict_notice st (verdict_on (state_in records i) st) now); is_repeat = false })
@@ -294,12 +244,8 @@ module _ (records : Records) (i : List ℕ) (whole : AreWhole records) (st : sta
       dropped : has_dropped_part (state_in records i) (first_part st) ≡ false
       dropped = ap (λ b. not b && has_dropped_part (state_in records i) (first_part st)) (sym no_verdict) ∙ none_stands.dropped
 
-      same : (b : Bool) → not b ≡ false → b ≡ true
-      same true e = refl
-      same false e = cc
-
       kind : part.kind ≡ st.kind
-      kind = (same_kind_decides part.kind st.kind).0 (same _ (ap (has_other_kind st.kind) (sym is) ∙ none_of (λ place. has_other_kind st.kind (revision_part (state_in records i) (first_part st) place)) part_numbers place within none_stands.kind))
+      kind = (same_kind_decides part.kind st.kind).0 (not-false _ (ap (has_other_kind st.kind) (sym is) ∙ none_of (λ place. has_other_kind st.kind (revision_part (state_in records i) (first_part st) place)) part_numbers place within none_stands.kind))
 
       held : (o : Option (List Extent)) → is_dropped (revision_part (state_in records i) (first_part st) place) ≡ false → (extents : List Extent) × (part.extents ≡ Some extents)
       held o not_dropped = by part.extents refl (ap is_dropped (sym is) ∙ not_dropped)
@@ -358,18 +304,8 @@ module _ (records : Records) (i : List ℕ) (whole : AreWhole records) (st : sta
 -- ---- the notice of an absence
 
 module _ (records : Records) (i : List ℕ) (tld : List ℕ) (day now : ℕ) (d : Decides (GoRuling (AddsAbsence tld day)) records (Check tld day) now) where
-  checked : IsChecked (state_in records i) tld day now (record { entry = OfNotice (next_key records.notices tld) (absence_notice day now); is_repeat = false })
-      (state_with_notice (state_in records i) (next_key records.notices tld) (absence_notice day now))
-  checked = accepts_check (state_in records i) tld day now _ _ (d.1 i)
-
   not_missed : absence_of (state_in records i) tld day ≡ None
-  not_missed = by (absence_of (state_in records i) tld day) refl checked.outcome
-    where
-      by : (o : Option (NoticeKey × Notice)) → absence_of (state_in records i) tld day ≡ o
-          → missed_by (state_in records i) tld day now o ≡ Accept (record { entry = OfNotice (next_key records.notices tld) (absence_notice day now); is_repeat = false })
-          (state_with_notice (state_in records i) (next_key records.notices tld) (absence_notice day now)) → o ≡ None
-      by None at e = refl
-      by (Some kept) at e = let repeat : true ≡ false = ap (λ (r : Reply). r.is_repeat) (accept_inj _ _ _ _ e).0 in cc
+  not_missed = unmapped _ (absence_of (state_in records i) tld day) (made_is_new (state_in records i) (Check tld day) now _ _ (d.1 i) refl)
 
   pub absence_accepted : step (state_in records i) (Check tld day) now
       ≡ Accept (record { entry = OfNotice (next_key records.notices tld) (absence_notice day now); is_repeat = false })
@@ -378,17 +314,12 @@ module _ (records : Records) (i : List ℕ) (tld : List ℕ) (day now : ℕ) (d 
 
   pub absence_belongs : Belongs records tld (absence_notice day now)
   absence_belongs = record {
-    registry = known (get records.registries tld) checked.none.registry;
+    registry = is_there (get records.registries tld) (none_stand_on (state_in records i) tld day now (step_accepts (state_in records i) (Check tld day) now _ _ (d.1 i)).0).registry;
     parts = λ rev is. cc;
     verdict = λ rev is. cc;
     receipt = λ is. cc;
     absence = λ _ q n at tld_is day_is is.
         let there : has_notice records.notices tld day is_absence ≡ true = any_of_get notice_total records.notices notice_exact (is_notice_of tld day is_absence) q n at
         (λ j. (text_decides q.tld tld).1 tld_is j && ((Decides-eqb n.day day).1 day_is j && is j)) in
-        let found = found_where_any (is_notice_of tld day is_absence) (entries records.notices) there in
-        let clash : Some found.0 ≡ None = sym found.1 ∙ not_missed in cc;
+        let clash : true ≡ false = sym there ∙ any_is_found (is_notice_of tld day is_absence) (entries records.notices) ∙ ap is_some not_missed in cc;
   }
-    where
-      known : (o : Option ℕ) → is_none o ≡ false → is_some o ≡ true
-      known None e = cc
-      known (Some first) e = refl

@@ -6,45 +6,35 @@ use Rattle.std.proofs.lemmas.List.{length-take-le}
 use Rattle.std.specs.List.{fold, list_all}
 use Rattle.std.specs.Option.{option_map}
 use Rattle.std.specs.FinMap.{get}
-use Rattle.std.proofs.lemmas.Bool.{cases_lt}
+use Rattle.std.proofs.lemmas.Option.{same_Some}
 use Rattle.deposit_name.specs.declared.kinds.Kind.{Kind}
 use Rattle.deposit_name.specs.declared.errors.NameError.{NameError}
 use Rattle.deposit_name.specs.Name.{Name}
 use Rattle.extent_map.specs.declared.extent.Extent.{Extent}
+use Rattle.extent_map.proofs.SetLemmas.{in_or_not}
 use Rattle.sha2.specs.Sha256.{sha256}
 use Rattle.schedule.specs.Schedule.{day_of, year_after}
 use Rattle.vault_volume.proofs.ExtentLemmas.{length-bytes_of}
 use Rattle.custody_records.specs.inside.Orders.{part_total, part_exact}
-use Rattle.vault_volume.specs.Image.{DiffersOnlyIn}
 use Rattle.vault_volume.specs.Extents.{IsExtentOf, IsIn, IsInAny, AreApart, GivesBack, bytes_of, part_bytes}
 use Rattle.custody_records.specs.Keys.{text_cmp, PartKey, part_cmp}
 use Rattle.custody_records.specs.Records.{Hold, PartRecord, Records, key_of}
-use Rattle.custody_records.specs.Rows.{Rows}
-use Rattle.custody_records.specs.Form.{form_of, InForm}
 use Rattle.custody_machine.specs.NameReading.{read_name}
 use Rattle.custody_machine.specs.State.{State, Part, Dropped}
-use Rattle.custody_machine.specs.StoredState.{ForExtents, HaveBlock, IsPartBlock, AreExtents, AreWhole, content_of, part_of, is_part_of, is_name_of_part, AreWholeOnVolume, SameOrDropped, KeepsParts, OpensFrom, state_in}
-use Rattle.custody_machine.specs.Custody.{IsPlaceable, IsInOrder, IsOnVolume}
+use Rattle.custody_machine.specs.StoredState.{ForExtents, HaveBlock, IsPartBlock, AreExtents, AreWhole, content_of, part_of, is_part_of, is_name_of_part, AreWholeOnVolume, SameOrDropped, KeepsParts, state_in}
+use Rattle.custody_machine.specs.Custody.{IsPlaceable, IsInOrder}
 use Rattle.custody_records.specs.Purge.{is_on_hold, is_due, dropped_if_due}
 use Rattle.custody_machine.specs.Machine as machine
 use Rattle.custody_machine.specs.Machine.{Purge, OfPurge, Accept, step}
 use Rattle.custody_machine.specs.Rulings.{DropsBytes, GoRuling, Decides}
 use Rattle.custody_machine.specs.Purge.{records_without_due, count_due_records, IsDueBlock}
 use Rattle.custody_machine.specs.MapValues.{map_entries, map_keyed}
+use Rattle.custody_machine.proofs.Options.{mapped}
 use Rattle.custody_machine.proofs.MapValues.{get-map_values, entries-map_values, get-map_keyed}
 use Rattle.vault_volume.proofs.ImageLemmas.{same_in}
-use Rattle.custody_machine.proofs.Composed.{IsChange, opens_later, named_used, head_used}
+use Rattle.custody_machine.proofs.Composed.{IsChange, named_used, head_used}
 
 -- ---- blocks in extents, or not
-
-in_or_not : (e : Extent) (b : ℕ) → IsIn e b ⊎ (IsIn e b → ⊥)
-in_or_not e b = ⊎_elim
-    (λ (below : b < e.start). inr (λ h. let low = h.0 in omega arith))
-    (λ (from : e.start ≤ b). ⊎_elim
-    (λ (here : b < e.start + e.count). inl (from, here))
-    (λ (past : e.start + e.count ≤ b). inr (λ h. let high = h.1 in omega arith))
-    (cases_lt b (e.start + e.count)))
-    (cases_lt b e.start)
 
 in_any_or_not : (es : List Extent) (b : ℕ) → IsInAny es b ⊎ (IsInAny es b → ⊥)
 in_any_or_not [] b = inr (λ none. none)
@@ -69,9 +59,6 @@ in_volume blocks (e ∷ es) b each (inl here) =
 in_volume blocks (e ∷ es) b each (inr there) = in_volume blocks es b (λ k d lt. each (suc k) d (omega (arith, lt))) there
 
 -- ---- one part
-
-some_same : {X : Type 0} (x y : X) → Some x ≡ Some y → x ≡ y
-some_same x y e = cc
 
 kind_kept : (holds : FinMap text_cmp Hold) (today : ℕ) (key : PartKey) (part : PartRecord) → (dropped_if_due holds today key part).kind ≡ part.kind
 kind_kept holds today key part = elim (is_due holds today key part) as (λ b. (cond b (record part { extents = None }) part).kind ≡ part.kind) [ true ↦ refl | false ↦ refl ]
@@ -104,11 +91,7 @@ module _ (today : ℕ) (records : Records) where
 
   -- each part then is one from before
   was : (key : PartKey) (part : PartRecord) → get then.parts key ≡ Some part → (old : PartRecord) × (get records.parts key ≡ Some old) × (part ≡ dropped_if_due records.holds today key old)
-  was key part has = by (get records.parts key) refl (sym (got key) ∙ has)
-    where
-      by : (o : Option PartRecord) → get records.parts key ≡ o → option_map (dropped_if_due records.holds today key) o ≡ Some part → (old : PartRecord) × (get records.parts key ≡ Some old) × (part ≡ dropped_if_due records.holds today key old)
-      by None is e = absurd (let clash = e in cc)
-      by (Some old) is e = (old, is, sym (some_same (dropped_if_due records.holds today key old) part e))
+  was key part has = let old = mapped (dropped_if_due records.holds today key) (get records.parts key) part (sym (got key) ∙ has) in (old.0, old.1, sym old.2)
 
   now : (key : PartKey) (old : PartRecord) → get records.parts key ≡ Some old → get then.parts key ≡ Some (dropped_if_due records.holds today key old)
   now key old has = got key ∙ ap (option_map (dropped_if_due records.holds today key)) has
@@ -180,7 +163,7 @@ module _ (today : ℕ) (records : Records) where
       let old = was named.0 named.1 named.2 in
       let kept = still_names records.holds today named.0 old.0 b (subst (λ (p : PartRecord). HaveBlock p.extents b) old.2 named.3) in
       let one = whole.once.between due.0 named.0 due.1 old.0 b due.2 old.1 due.4 kept.1 in
-      let same : due.1 ≡ old.0 = some_same due.1 old.0 (sym due.2 ∙ ap (get records.parts) one ∙ old.1) in
+      let same : due.1 ≡ old.0 = same_Some due.1 old.0 (sym due.2 ∙ ap (get records.parts) one ∙ old.1) in
       let clash : true ≡ false = sym due.3 ∙ (λ i. is_due records.holds today (one i) (same i)) ∙ kept.0 in
       cc
 
@@ -246,25 +229,6 @@ keeps-without_due today records image = record {
       let same : part ≡ old.0 = old.2 ∙ still_held records.holds today key old.0 extents (ap (λ (p : PartRecord). p.extents) (sym old.2) ∙ held) in
       subst (λ (p : PartRecord). sha256 (part_bytes image extents p.len) ≡ p.digest) (sym same) (has old.0 extents old.1 (ap (λ (p : PartRecord). p.extents) (sym same) ∙ held));
 }
-
-module _ (today : ℕ) (records : Records) (image : List ℕ) (good : AreWholeOnVolume records image) (size failures : ℕ) (free : ℕ → Type 0) (order : IsInOrder records size failures free) where
-  good_then : AreWholeOnVolume (records_without_due today records) image
-  good_then = record { whole = whole-without_due today records order.whole; volume = record { head = good.volume.head; size = good.volume.size } }
-
-  -- Rows of after the commit, with an image that differs in blocks that were free before it alone, open as the records after it.
-  pub purge_opens : (P : State → Type 0) (r : Rows) (j : List ℕ) → form_of r ≡ InForm (records_without_due today records) → DiffersOnlyIn free image j → P (state_in (records_without_due today records) image) → OpensFrom records image P r j
-  purge_opens P r j is differs p =
-      opens_later (records_without_due today records) free image good_then (λ b named. named_used records size failures free order b (named_before today records b named)) (head_used records size failures free order)
-      records image P r j (keeps-without_due today records image) is differs p
-
-  -- where blocks are given back, a stop leaves all but the blocks that are free then as they are read
-  pub purged_image : (left : List ℕ → Type 0) → IsOnVolume records image free left → (es : List Extent) (later : ℕ → Type 0) → GivesBack free es later → IsOnVolume (records_without_due today records) image later left
-  purged_image left on es later gives = record {
-    volume = record { head = good.volume.head; size = good.volume.size };
-    elsewhere = λ c h.
-        let differs = on.elsewhere c h in
-        record { same_length = differs.same_length; elsewhere = λ i out. differs.elsewhere i (λ f. out ((gives _).1 (inl f))) };
-  }
 
 -- ---- the state after it
 

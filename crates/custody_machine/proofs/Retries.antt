@@ -1,18 +1,19 @@
 -- The laws of commands that come again. They rest on four facts of the machine, `step_continues`, `accepted_is_kept`, `same_key_is_kept` and `asked_again`.
 use Rattle.std.specs.Option.{option_or}
-use Rattle.std.proofs.Common.{◌≡◌, ℕ, List, [], ◌∷◌, ◌++◌, Option, Some, None, is_some, Bool, true, false, ◌&&◌, ◌||◌, inl, inr, refl, sym, ◌∙◌, ap, subst, cond, if◌then◌else◌, append_assoc}
+use Rattle.std.proofs.Common.{◌≡◌, ℕ, List, [], ◌∷◌, ◌++◌, Option, Some, None, is_some, Bool, true, false, ◌||◌, inl, inr, refl, sym, ◌∙◌, ap, subst, cond, if◌then◌else◌, append_assoc}
 use Rattle.std.specs.List.{list_any}
-use Rattle.std.proofs.lemmas.Bool.Decides.{Decides-eqb}
+use Rattle.std.specs.Bool.{Decides}
+use Rattle.std.proofs.lemmas.Bool.Decides.{Decides-eqb, Decides-like, Decides-and}
 use Rattle.custody_machine.specs.State.{State}
-use Rattle.custody_machine.specs.Machine.{Command, TimedCommand, Record, Reply, Step, Refuse, Accept, step, state_of, state_after, after, deciding_keys, Answer, Accepted, Refused, Failed, NoMemory, VolumeFailed, StoreFailed, Closed, Damaged, MayAnswer, MayRefuse, MayFail}
+use Rattle.custody_machine.specs.Machine.{Command, TimedCommand, Record, Reply, Step, Refuse, Accept, step, state_of, state_after, after, deciding_keys, Answer, Accepted, Refused, Failed, StoreFailed, Closed, Damaged, MayAnswer, MayRefuse, MayFail}
 use Rattle.custody_machine.specs.SameValues.{is_same_state}
-use Rattle.custody_machine.specs.History.{Pair, Opened, Event, Answered, AnsweredOtherCall, ShutDown, StoppedAtRest, StoppedWithin, OpenedWith, Condition, Running, Halted, Stopped, Happens, HappensAlong, FoundCommands, is_step_to, found_at_stop, found_after_event, found_after, found, none_found}
+use Rattle.custody_machine.specs.History.{Pair, Opened, Event, Answered, StoppedAtRest, StoppedWithin, OpenedWith, Condition, Running, Halted, Stopped, Happens, HappensAlong, FoundCommands, is_step_to, found_at_stop, found_after_event, found_after, found, none_found}
 use Rattle.custody_machine.specs.Retries.{CommandKey, OfTld, OfName, OfRevision, OfDay, OfReleaseReference, OfHoldReference, OfLiftReference, IsKeptAs, command_key, are_same_keys, has_same_key, KeysAreCompared, once_after, ActsOnce, AsksAgain, step_record, first_record, IsAnsweredAgain, RepeatsAreAnswered, IsOfCommand, StillHas, AcknowledgedIsKept}
 use Rattle.custody_machine.proofs.SameValues.{text_decides}
 use Rattle.custody_machine.proofs.Histories.{after-append, Fits, fits_then, fits_after, fits_first, run_split, found_after-append, all_more, openings_are_right}
 use Rattle.custody_machine.proofs.Accepting.{accept_inj}
 use Rattle.custody_machine.proofs.Continuing.{step_continues}
-use Rattle.custody_machine.proofs.Keeping.{Keeps, keeps_on, as_now, accepted_is_kept, same_key_is_kept, kept_again, key_of_asked, asked_again, Again, kept_is_there}
+use Rattle.custody_machine.proofs.Keeping.{Keeps, keeps_on, as_now, accepted_is_kept, same_key_is_kept, kept_again, key_of_asked, asked_again, Again, kept_is_there, other_than_none}
 
 -- ---- the commands found were accepted, one after the other
 
@@ -48,13 +49,9 @@ module _ (first : State) where
       no : Accepted reply ≡ Failed Closed → ⊥
       no e = cc
   accepted_then (Stopped pair) (Answered command now (Accepted reply)) next f fits h all = absurd h
-  accepted_then c (Answered command now (Refused q)) next f fits h all = all
-  accepted_then c (Answered command now (Failed failure)) next f fits h all = all
-  accepted_then c AnsweredOtherCall next f fits h all = all
-  accepted_then c ShutDown next f fits h all = all
   accepted_then c (StoppedAtRest pair) next f fits h all = settled_accepted f.commands f.in_doubt pair all
   accepted_then c (StoppedWithin command now pair) next f fits h all = settled_accepted f.commands (option_or f.in_doubt (Some (command, now))) pair all
-  accepted_then c (OpenedWith pair answer) next f fits h all = all
+  accepted_then c event next f fits h all = all
 
   pub accepted_after : (c : Condition) (events : List Event) (last : Condition) (f : FoundCommands) → Fits first c f → HappensAlong c events last → AllAccepted first f.commands → AllAccepted first (found_after first f events).commands
   accepted_after c [] last f fits run all = all
@@ -144,38 +141,24 @@ first_is_kept s (x ∷ before) behind e own all = by (has_same_key e.0 x.0) refl
     )
     by false same later = (later.0, ap (λ t. first_record t rest e.0) to ∙ later.1, subst (λ t. Keeps (after t rest) e.0 later.0) (sym to) later.2)
 
-and_true : (a b : Bool) → a ≡ true → b ≡ true → (a && b) ≡ true
-and_true true b p q = q
-and_true false b p q = cc
-
-and_split : (a b : Bool) → (a && b) ≡ true → (a ≡ true) × (b ≡ true)
-and_split true b p = (refl, p)
-and_split false b p = cc
+key_decides : (a b : CommandKey) → Decides (are_same_keys (Some a) (Some b)) (a ≡ b)
+key_decides (OfTld a) (OfTld b) = Decides-like _ (ap OfTld) (λ e. cc) (text_decides a b)
+key_decides (OfName a) (OfName b) = Decides-like _ (ap OfName) (λ e. cc) (text_decides a b)
+key_decides (OfRevision a d r) (OfRevision b e s) = Decides-like _ (λ p i. OfRevision (p.0 i) (p.1.0 i) (p.1.1 i)) (λ e. (cc, (cc, cc))) (Decides-and _ _ (text_decides a b) (Decides-and _ _ (Decides-eqb d e) (Decides-eqb r s)))
+key_decides (OfDay a d) (OfDay b e) = Decides-like _ (λ p i. OfDay (p.0 i) (p.1 i)) (λ e. (cc, cc)) (Decides-and _ _ (text_decides a b) (Decides-eqb d e))
+key_decides (OfReleaseReference a) (OfReleaseReference b) = Decides-like _ (ap OfReleaseReference) (λ e. cc) (text_decides a b)
+key_decides (OfHoldReference a) (OfHoldReference b) = Decides-like _ (ap OfHoldReference) (λ e. cc) (text_decides a b)
+key_decides (OfLiftReference a) (OfLiftReference b) = Decides-like _ (ap OfLiftReference) (λ e. cc) (text_decides a b)
+key_decides a b = (λ e. cc, λ e. cc)
 
 own_key : (k : Option CommandKey) → is_some k ≡ true → are_same_keys k k ≡ true
-own_key (Some (OfTld a)) h = (text_decides a a).1 refl
-own_key (Some (OfName a)) h = (text_decides a a).1 refl
-own_key (Some (OfRevision a d r)) h = and_true _ _ ((text_decides a a).1 refl) (and_true _ _ ((Decides-eqb d d).1 refl) ((Decides-eqb r r).1 refl))
-own_key (Some (OfDay a d)) h = and_true _ _ ((text_decides a a).1 refl) ((Decides-eqb d d).1 refl)
-own_key (Some (OfReleaseReference a)) h = (text_decides a a).1 refl
-own_key (Some (OfHoldReference a)) h = (text_decides a a).1 refl
-own_key (Some (OfLiftReference a)) h = (text_decides a a).1 refl
+own_key (Some a) h = (key_decides a a).1 refl
 own_key None h = h
 
 one_key : (a b : Option CommandKey) → are_same_keys a b ≡ true → (is_some a ≡ true) × (a ≡ b)
-one_key (Some (OfTld a)) (Some (OfTld b)) e = (refl, ap (λ t. Some (OfTld t)) ((text_decides a b).0 e))
-one_key (Some (OfName a)) (Some (OfName b)) e = (refl, ap (λ t. Some (OfName t)) ((text_decides a b).0 e))
-one_key (Some (OfRevision a d r)) (Some (OfRevision b e s)) is =
-    let x = and_split _ _ is in
-    let y = and_split _ _ x.1 in
-    (refl, λ i. Some (OfRevision ((text_decides a b).0 x.0 i) ((Decides-eqb d e).0 y.0 i) ((Decides-eqb r s).0 y.1 i)))
-one_key (Some (OfDay a d)) (Some (OfDay b e)) is =
-    let x = and_split _ _ is in
-    (refl, λ i. Some (OfDay ((text_decides a b).0 x.0 i) ((Decides-eqb d e).0 x.1 i)))
-one_key (Some (OfReleaseReference a)) (Some (OfReleaseReference b)) e = (refl, ap (λ t. Some (OfReleaseReference t)) ((text_decides a b).0 e))
-one_key (Some (OfHoldReference a)) (Some (OfHoldReference b)) e = (refl, ap (λ t. Some (OfHoldReference t)) ((text_decides a b).0 e))
-one_key (Some (OfLiftReference a)) (Some (OfLiftReference b)) e = (refl, ap (λ t. Some (OfLiftReference t)) ((text_decides a b).0 e))
-one_key a b e = cc
+one_key (Some a) (Some b) e = (refl, ap Some ((key_decides a b).0 e))
+one_key (Some a) None e = let clash : true ≡ false = sym e ∙ other_than_none (Some a) in cc
+one_key None b e = cc
 
 pub keys_are_compared : KeysAreCompared
 keys_are_compared a b = (one_key (command_key a) (command_key b), λ h. subst (λ k. are_same_keys (command_key a) k ≡ true) h.1 (own_key (command_key a) h.0))
@@ -188,13 +171,11 @@ answered_by old new command now made entry (Accepted reply) as_kept own (inl h) 
 answered_by old new command now made entry (Accepted reply) as_kept own (inr h) none a = let e = sym h.0 ∙ a in cc
 answered_by old new command now made entry (Refused q) as_kept own (inl h) none a = let e = subst (λ r. MayRefuse command r q) h a.0 in let no = e.2 in cc
 answered_by old new command now made entry (Refused q) as_kept own (inr h) none a = (subst (λ r. MayRefuse command r q) h.0 a.0, h.1)
-answered_by old new command now made entry (Failed NoMemory) as_kept own h none a = tt
-answered_by old new command now made entry (Failed VolumeFailed) as_kept own h none a = tt
 answered_by old new command now made entry (Failed StoreFailed) as_kept own (inl h) none a = let no = subst (λ r. MayFail r (deciding_keys old command now) StoreFailed) h a.0 in cc
 answered_by old new command now made entry (Failed StoreFailed) as_kept own (inr h) none a = subst (λ r. MayFail r (deciding_keys old command now) StoreFailed) h.0 a.0
-answered_by old new command now made entry (Failed Closed) as_kept own h none a = tt
 answered_by old new command now made entry (Failed (Damaged damage)) as_kept own (inl h) none a = (subst (λ r. MayFail r (deciding_keys old command now) (Damaged damage)) h a.0).1 none
 answered_by old new command now made entry (Failed (Damaged damage)) as_kept own (inr h) none a = (subst (λ r. MayFail r (deciding_keys old command now) (Damaged damage)) h.0 a.0).1 none
+answered_by old new command now made entry answer as_kept own h none a = tt
 
 same_after : (old : State) (command : Command) (now : ℕ) (entry : Record) → Again old command entry now → state_after old command now ≡ old
 same_after old command now entry (inl e) = ap (state_of old) e

@@ -46,8 +46,7 @@ notice_key_decides a b = Decides-like _ (λ p i. record { tld = p.0 i; number = 
 content_decides : (a b : Content) → Decides (is_same_content a b) (a ≡ b)
 content_decides (Held a) (Held b) = Decides-like _ (ap Held) (λ e. cc) (text_decides a b)
 content_decides (Dropped m) (Dropped n) = Decides-like _ (ap Dropped) (λ e. cc) (Decides-eqb m n)
-content_decides (Held a) (Dropped n) = (λ e. cc, λ e. cc)
-content_decides (Dropped m) (Held b) = (λ e. cc, λ e. cc)
+content_decides a b = (λ e. cc, λ e. cc)
 
 pub part_decides : (a b : Part) → Decides (is_same_part a b) (a ≡ b)
 part_decides a b = Decides-like _ (λ p i. record { kind = p.0 i; received = p.1.0 i; content = p.1.1 i })
@@ -58,12 +57,7 @@ pub notice_kind_decides : (a b : NoticeKind) → Decides (is_same_notice_kind a 
 notice_kind_decides (Receipt r id) (Receipt s jd) = Decides-like _ (λ p i. Receipt (p.0 i) (p.1 i)) (λ e. (cc, cc)) (Decides-and _ _ (Decides-eqb r s) (text_decides id jd))
 notice_kind_decides (Failure r id c) (Failure s jd d) = Decides-like _ (λ p i. Failure (p.0 i) (p.1.0 i) (p.1.1 i)) (λ e. (cc, (cc, cc))) (Decides-and _ _ (Decides-eqb r s) (Decides-and _ _ (text_decides id jd) (check_decides c d)))
 notice_kind_decides Absence Absence = (λ _. refl, λ _. refl)
-notice_kind_decides (Receipt _ _) (Failure _ _ _) = (λ e. cc, λ e. cc)
-notice_kind_decides (Receipt _ _) Absence = (λ e. cc, λ e. cc)
-notice_kind_decides (Failure _ _ _) (Receipt _ _) = (λ e. cc, λ e. cc)
-notice_kind_decides (Failure _ _ _) Absence = (λ e. cc, λ e. cc)
-notice_kind_decides Absence (Receipt _ _) = (λ e. cc, λ e. cc)
-notice_kind_decides Absence (Failure _ _ _) = (λ e. cc, λ e. cc)
+notice_kind_decides a b = (λ e. cc, λ e. cc)
 
 pub notice_decides : (a b : Notice) → Decides (is_same_notice a b) (a ≡ b)
 notice_decides a b = Decides-like _ (λ p i. record { day = p.0 i; at = p.1.0 i; kind = p.1.1 i })
@@ -78,8 +72,7 @@ release_decides a b = Decides-like _ (λ p i. record { tld = p.0 i; reason = p.1
 moment_decides : (a b : Option ℕ) → Decides (is_same_moment a b) (a ≡ b)
 moment_decides (Some a) (Some b) = Decides-like _ (ap Some) (λ e. cc) (Decides-eqb a b)
 moment_decides None None = (λ _. refl, λ _. refl)
-moment_decides (Some a) None = (λ e. cc, λ e. cc)
-moment_decides None (Some b) = (λ e. cc, λ e. cc)
+moment_decides a b = (λ e. cc, λ e. cc)
 
 pub hold_decides : (a b : Hold) → Decides (is_same_hold a b) (a ≡ b)
 hold_decides a b = Decides-like _ (λ p i. record { tld = p.0 i; day = p.1.0 i; at = p.1.1.0 i; lifted = p.1.1.1 i })

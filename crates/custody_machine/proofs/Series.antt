@@ -59,13 +59,15 @@ module _ (q : ℕ → Bool) (closed : (n : ℕ) → q (suc (suc n)) ≡ true →
       let same : suc (0 + 0) ≡ 1 = omega arith in
       sym (ap q same) ∙ taken_at 0 8 0 some
 
+-- what holds of each number below one
+abbrev pub AllBelow : ℕ → (ℕ → Type 0) → Type 0
+AllBelow zero P = Unit {0}
+AllBelow (suc n) P = P 0 × AllBelow n (λ k. P (suc k))
+
+pub at_below : (n : ℕ) (P : ℕ → Type 0) → AllBelow n P → (k : ℕ) → k < n → P k
+at_below zero P all k lt = absurd (omega (arith, lt))
+at_below (suc n) P all zero lt = all.0
+at_below (suc n) P all (suc k) lt = at_below n (λ k. P (suc k)) all.1 k (omega (arith, lt))
+
 pub is_place : (n : ℕ) → n < 8 → list_any (λ place. place == suc n) part_numbers ≡ true
-is_place zero lt = refl
-is_place (suc zero) lt = refl
-is_place (suc (suc zero)) lt = refl
-is_place (suc (suc (suc zero))) lt = refl
-is_place (suc (suc (suc (suc zero)))) lt = refl
-is_place (suc (suc (suc (suc (suc zero))))) lt = refl
-is_place (suc (suc (suc (suc (suc (suc zero)))))) lt = refl
-is_place (suc (suc (suc (suc (suc (suc (suc zero))))))) lt = refl
-is_place (suc (suc (suc (suc (suc (suc (suc (suc n)))))))) lt = absurd (omega (arith, lt))
+is_place = at_below 8 (λ n. list_any (λ place. place == suc n) part_numbers ≡ true) (refl, (refl, (refl, (refl, (refl, (refl, (refl, (refl, tt))))))))

@@ -1,10 +1,9 @@
 -- What rows and image stand for, and how it changes with them.
-use Rattle.std.proofs.Common.{◌≡◌, inl, inr, ℕ, suc, ◌-◌, ◌<◌, List, [], ◌∷◌, Option, Some, None, Bool, true, false, ◌&&◌, cond, refl, sym, ◌∙◌, ap, subst, is_some, arith, Ok, Err, Result}
+use Rattle.std.proofs.Common.{◌≡◌, inl, inr, ℕ, suc, ◌-◌, ◌<◌, List, [], ◌∷◌, Option, Some, None, Bool, true, false, ◌&&◌, refl, sym, ◌∙◌, ap, subst, is_some, arith, Ok, Err, Result}
 use Rattle.std.specs.Prelude.{option_map, bytes_eq}
 use Rattle.std.specs.List.{list_all}
-use Rattle.std.specs.Ordering.{eq_by_cmp}
-use Rattle.std.specs.Cmp.{Equal-is}
-use Rattle.std.specs.FinMap.{FinMap, get, insert, get-insert, same_map}
+use Rattle.std.specs.FinMap.{FinMap, get, insert, same_map}
+use Rattle.std.proofs.lemmas.Option.{same_Some}
 use Rattle.sha2.specs.Sha256.{sha256}
 use Rattle.deposit_name.specs.declared.kinds.Kind.{Kind}
 use Rattle.deposit_name.specs.declared.errors.NameError.{NameError}
@@ -21,9 +20,10 @@ use Rattle.custody_machine.specs.NameReading.{read_name}
 use Rattle.custody_machine.specs.State.{State, Held, key_with_part, has_notice}
 use Rattle.custody_machine.specs.Machine.{is_failure_of, state_with_part}
 use Rattle.custody_machine.specs.StoredState.{ForExtents, HaveBlock, IsPartBlock, AreExtents, is_part_of, is_name_of_part, AreWhole, AreWholeOnVolume, content_of, part_of, state_in, StandsFor, HasDigestAt, HasDigests, IsSound, SameOrDropped, KeepsParts, OpensFrom}
+use Rattle.custody_machine.specs.Releases.{AreRecordedNames}
 use Rattle.custody_machine.proofs.MapValues.{get-map_values, map_values-insert}
 use Rattle.custody_records.specs.inside.Orders.{text_total, part_total, part_exact}
-use Rattle.custody_machine.proofs.Accepting.{insert_new}
+use Rattle.custody_machine.proofs.Accepting.{insert_new, inserted, some_still}
 use Rattle.custody_records.proofs.FormLemmas.{InForm-injective}
 
 -- rows and image determine the state
@@ -94,40 +94,38 @@ stands_of old image P rows left o = record { records = o.records; in_form = o.in
 pub sound_of : (old : Records) (image : List ℕ) (P : State → Type 0) (rows : Rows) (left : List ℕ) → OpensFrom old image P rows left → HasDigests image old → IsSound rows left
 sound_of old image P rows left o has records e = subst (HasDigests left) (InForm-injective o.records records (sym o.in_form ∙ e)) (sound_from old o.records image left o.keeps has)
 
--- ---- a new registry
+-- ---- records with the same parts and notices
 
-known_still : (registries : FinMap text_cmp ℕ) (tld : List ℕ) (day : ℕ) (q : List ℕ) → is_some (get registries q) ≡ true → is_some (get (insert registries tld day) q) ≡ true
-known_still registries tld day q h = ap is_some (get-insert text_total registries tld day q) ∙ by (eq_by_cmp text_cmp q tld)
-  where
-    by : (b : Bool) → is_some (cond b (Some day) (get registries q)) ≡ true
-    by true = refl
-    by false = h
+module _ (records : Records) (registries : FinMap text_cmp ℕ) (releases : FinMap text_cmp recorded.Release) (holds : FinMap text_cmp recorded.Hold) where
+  pub whole-beside : AreWhole records → ((tld : List ℕ) → is_some (get records.registries tld) ≡ true → is_some (get registries tld) ≡ true)
+      → ((reference : List ℕ) (release : recorded.Release) → get releases reference ≡ Some release → (is_some (get registries release.tld) ≡ true) × AreRecordedNames records release.tld release.names)
+      → ((reference : List ℕ) (hold : recorded.Hold) → get holds reference ≡ Some hold → is_some (get registries hold.tld) ≡ true)
+      → AreWhole (record records { registries = registries; releases = releases; holds = holds })
+  whole-beside whole known released held = let l = whole.linked in record {
+    extents = whole.extents;
+    once = record { within = whole.once.within; between = whole.once.between };
+    linked = record {
+      part_registry = λ key part at. known key.tld (l.part_registry key part at);
+      notice_registry = λ key notice at. known key.tld (l.notice_registry key notice at);
+      release_registry = λ reference release at. (released reference release at).0;
+      hold_registry = held;
+      released = λ reference release at. (released reference release at).1;
+      series = l.series;
+      numbers = l.numbers;
+      verdict_parts = l.verdict_parts;
+      one_verdict = l.one_verdict;
+      due = l.due;
+      one_receipt = l.one_receipt;
+      one_absence = l.one_absence;
+    };
+  }
 
+-- one registry more
 pub whole-with_registry : (records : Records) (tld : List ℕ) (day : ℕ) → AreWhole records → AreWhole (recorded.with_registry records tld day)
-whole-with_registry records tld day whole = let l = whole.linked in record {
-  extents = whole.extents;
-  once = record { within = whole.once.within; between = whole.once.between };
-  linked = record {
-    part_registry = λ key part at. known_still records.registries tld day key.tld (l.part_registry key part at);
-    notice_registry = λ key notice at. known_still records.registries tld day key.tld (l.notice_registry key notice at);
-    release_registry = λ reference release at. known_still records.registries tld day release.tld (l.release_registry reference release at);
-    hold_registry = λ reference hold at. known_still records.registries tld day hold.tld (l.hold_registry reference hold at);
-    released = l.released;
-    series = l.series;
-    numbers = l.numbers;
-    verdict_parts = l.verdict_parts;
-    one_verdict = l.one_verdict;
-    due = l.due;
-    one_receipt = l.one_receipt;
-    one_absence = l.one_absence;
-  };
-}
-
-pub good-with_registry : (records : Records) (image : List ℕ) (tld : List ℕ) (day : ℕ) → AreWholeOnVolume records image → AreWholeOnVolume (recorded.with_registry records tld day) image
-good-with_registry records image tld day g = record { whole = whole-with_registry records tld day g.whole; volume = record { head = g.volume.head; size = g.volume.size } }
-
-pub keeps-with_registry : (records : Records) (image : List ℕ) (tld : List ℕ) (day : ℕ) → KeepsParts records image (recorded.with_registry records tld day) image
-keeps-with_registry records image tld day = record { kept = λ key part at. (part, at, inl refl); digests = λ key has. has }
+whole-with_registry records tld day whole = let l = whole.linked in
+    let known : (q : List ℕ) → is_some (get records.registries q) ≡ true → is_some (get (insert records.registries tld day) q) ≡ true = some_still text_total records.registries tld day in
+    whole-beside records (insert records.registries tld day) records.releases records.holds whole known
+    (λ reference release at. (known release.tld (l.release_registry reference release at), l.released reference release at)) (λ reference hold at. known hold.tld (l.hold_registry reference hold at))
 
 -- ---- a new part
 
@@ -136,25 +134,9 @@ state_in-with_part records image key part =
     ap (λ ps. record { registries = records.registries; parts = ps; notices = records.notices; releases = records.releases; holds = records.holds })
     (map_values-insert part_cmp (part_of image) part_total part_exact records.parts key part)
 
--- the parts after an insertion: the new one, and those before
-pub inserted : (m : FinMap part_cmp PartRecord) (k : PartKey) (part : PartRecord) (P : PartKey → PartRecord → Type 0) → P k part → ((q : PartKey) (r : PartRecord) → get m q ≡ Some r → P q r) → (q : PartKey) (r : PartRecord) → get (insert m k part) q ≡ Some r → P q r
-inserted m k part P new old q r at = by (eq_by_cmp part_cmp q k) refl (sym (get-insert part_total m k part q) ∙ at)
-  where
-    by : (b : Bool) → eq_by_cmp part_cmp q k ≡ b → cond b (Some part) (get m q) ≡ Some r → P q r
-    by true t e = let key : k ≡ q = sym (part_exact q k ((Equal-is (part_cmp q k)).0 t)) in
-        let is : part ≡ r = cc in subst (λ z. P z r) key (subst (P k) is new)
-    by false t e = old q r e
-
 module _ (m : FinMap part_cmp PartRecord) (k : PartKey) (part : PartRecord) (new : get m k ≡ None) where
   pub part_still : (q : PartKey) (p : PartRecord) → get m q ≡ Some p → get (insert m k part) q ≡ Some p
   part_still q p at = insert_new part_total m k part q p new at
-
-  some_still : (q : PartKey) → is_some (get m q) ≡ true → is_some (get (insert m k part) q) ≡ true
-  some_still q h = by (get m q) refl h
-    where
-      by : (o : Option PartRecord) → get m q ≡ o → is_some o ≡ true → is_some (get (insert m k part) q) ≡ true
-      by None at h = cc
-      by (Some p) at h = ap is_some (part_still q p at)
 
   pub kind_still : (kind : Kind) (q : PartKey) → is_part_of kind (get m q) ≡ true → is_part_of kind (get (insert m k part) q) ≡ true
   kind_still kind q h = by (get m q) refl h
@@ -171,12 +153,12 @@ names_still records key part new tld (Ok name) h = by (bytes_eq name.tld tld) h
     by true h = kind_still records.parts key part new name.kind (key_of name) h
     by false h = cc
 
-all_still : (p q : List ℕ → Bool) → ((text : List ℕ) → p text ≡ true → q text ≡ true) → (texts : List (List ℕ)) → list_all p texts ≡ true → list_all q texts ≡ true
+pub all_still : {X : Type 0} (p q : X → Bool) → ((x : X) → p x ≡ true → q x ≡ true) → (xs : List X) → list_all p xs ≡ true → list_all q xs ≡ true
 all_still p q still [] h = refl
-all_still p q still (text ∷ texts) h = by (p text) refl h (all_still p q still texts)
+all_still p q still (x ∷ xs) h = by (p x) refl h (all_still p q still xs)
   where
-    by : (b : Bool) → p text ≡ b → (b && list_all p texts) ≡ true → (list_all p texts ≡ true → list_all q texts ≡ true) → (q text && list_all q texts) ≡ true
-    by true is h rest = rw (still text is, rest h) refl
+    by : (b : Bool) → p x ≡ b → (b && list_all p xs) ≡ true → (list_all p xs ≡ true → list_all q xs ≡ true) → (q x && list_all q xs) ≡ true
+    by true is h rest = rw (still x is, rest h) refl
     by false is h rest = cc
 
 -- a new part's record is in place: its extents, its registry, its place in the series, and its revision
@@ -192,28 +174,28 @@ pub record IsInPlace (records : Records) (key : PartKey) (part : PartRecord) (ex
 
 pub whole-with_part : (records : Records) (key : PartKey) (part : PartRecord) (extents : List Extent) → IsInPlace records key part extents → AreWhole records → AreWhole (recorded.with_part records key part)
 whole-with_part records key part extents p whole = let l = whole.linked in record {
-  extents = inserted records.parts key part (λ q r. ForExtents r.extents (AreExtents records.blocks r.len)) (subst (λ o. ForExtents o (AreExtents records.blocks part.len)) (sym p.held) p.range) whole.extents;
+  extents = inserted part_total part_exact records.parts key part (λ q r. ForExtents r.extents (AreExtents records.blocks r.len)) (subst (λ o. ForExtents o (AreExtents records.blocks part.len)) (sym p.held) p.range) whole.extents;
   once = record {
-    within = inserted records.parts key part (λ q r. ForExtents r.extents AreApart) (subst (λ o. ForExtents o AreApart) (sym p.held) p.apart) whole.once.within;
-    between = λ i j x y b at_i at_j in_x in_y. inserted records.parts key part (λ i x. HaveBlock x.extents b → i ≡ j)
-        (λ in_new. inserted records.parts key part (λ j y. HaveBlock y.extents b → key ≡ j) (λ _. refl) (λ j y at in_old. absurd (not_both b in_new j y at in_old)) j y at_j in_y)
-        (λ i x at in_old. inserted records.parts key part (λ j y. HaveBlock y.extents b → i ≡ j) (λ in_new. absurd (not_both b in_new i x at in_old)) (λ j y at' in_j. whole.once.between i j x y b at at' in_old in_j) j y at_j in_y)
+    within = inserted part_total part_exact records.parts key part (λ q r. ForExtents r.extents AreApart) (subst (λ o. ForExtents o AreApart) (sym p.held) p.apart) whole.once.within;
+    between = λ i j x y b at_i at_j in_x in_y. inserted part_total part_exact records.parts key part (λ i x. HaveBlock x.extents b → i ≡ j)
+        (λ in_new. inserted part_total part_exact records.parts key part (λ j y. HaveBlock y.extents b → key ≡ j) (λ _. refl) (λ j y at in_old. absurd (not_both b in_new j y at in_old)) j y at_j in_y)
+        (λ i x at in_old. inserted part_total part_exact records.parts key part (λ j y. HaveBlock y.extents b → i ≡ j) (λ in_new. absurd (not_both b in_new i x at in_old)) (λ j y at' in_j. whole.once.between i j x y b at at' in_old in_j) j y at_j in_y)
         i x at_i in_x;
   };
   linked = record {
-    part_registry = inserted records.parts key part (λ q r. is_some (get records.registries q.tld) ≡ true) p.registry l.part_registry;
+    part_registry = inserted part_total part_exact records.parts key part (λ q r. is_some (get records.registries q.tld) ≡ true) p.registry l.part_registry;
     notice_registry = l.notice_registry;
     release_registry = l.release_registry;
     hold_registry = l.hold_registry;
     released = λ reference release at. all_still (λ text. is_name_of_part records release.tld (read_name text)) (λ text. is_name_of_part (recorded.with_part records key part) release.tld (read_name text))
         (λ text. names_still records key part p.fresh release.tld (read_name text)) release.names (l.released reference release at);
-    series = inserted records.parts key part (λ q r. (n : ℕ) → q.part ≡ suc (suc n) → is_part_of r.kind (get (insert records.parts key part) (key_with_part q (suc n))) ≡ true)
+    series = inserted part_total part_exact records.parts key part (λ q r. (n : ℕ) → q.part ≡ suc (suc n) → is_part_of r.kind (get (insert records.parts key part) (key_with_part q (suc n))) ≡ true)
         (λ n e. kind_still records.parts key part p.fresh part.kind (key_with_part key (suc n)) (p.series n e))
         (λ q r at n e. kind_still records.parts key part p.fresh r.kind (key_with_part q (suc n)) (l.series q r at n e));
     numbers = l.numbers;
-    verdict_parts = λ k notice rev at of. some_still records.parts key part p.fresh (record { tld = k.tld; day = notice.day; rev = rev; part = 1 }) (l.verdict_parts k notice rev at of);
+    verdict_parts = λ k notice rev at of. some_still part_total records.parts key part (record { tld = k.tld; day = notice.day; rev = rev; part = 1 }) (l.verdict_parts k notice rev at of);
     one_verdict = l.one_verdict;
-    due = inserted records.parts key part (λ q r. 0 < q.rev → has_notice records.notices q.tld q.day (is_failure_of (q.rev - 1)) ≡ true) p.due l.due;
+    due = inserted part_total part_exact records.parts key part (λ q r. 0 < q.rev → has_notice records.notices q.tld q.day (is_failure_of (q.rev - 1)) ≡ true) p.due l.due;
     one_receipt = l.one_receipt;
     one_absence = l.one_absence;
   };
@@ -230,9 +212,6 @@ pub keeps-with_part : (records : Records) (old new : List ℕ) (key : PartKey) (
     → ((q : PartKey) → HasDigestAt old records q → HasDigestAt new records q) → KeepsParts records old (recorded.with_part records key part) new
 keeps-with_part records old new key part extents fresh held digest before = record {
   kept = λ q r at. (r, part_still records.parts key part fresh q r at, inl refl);
-  digests = λ q has r es at is. inserted records.parts key part (λ q r. (es : List Extent) → r.extents ≡ Some es → HasDigestAt old records q → sha256 (part_bytes new es r.len) ≡ r.digest)
-      (λ es is has. subst (λ l. sha256 (part_bytes new l part.len) ≡ part.digest) (one extents es part.extents held is) digest) (λ q r at es is has. before q has r es at is) q r at es is has;
+  digests = λ q has r es at is. inserted part_total part_exact records.parts key part (λ q r. (es : List Extent) → r.extents ≡ Some es → HasDigestAt old records q → sha256 (part_bytes new es r.len) ≡ r.digest)
+      (λ es is has. subst (λ l. sha256 (part_bytes new l part.len) ≡ part.digest) (same_Some extents es (sym held ∙ is)) digest) (λ q r at es is has. before q has r es at is) q r at es is has;
 }
-  where
-    one : (a b : List Extent) (o : Option (List Extent)) → o ≡ Some a → o ≡ Some b → a ≡ b
-    one a b o p q = cc
