@@ -18,24 +18,24 @@ use Rattle.custody_rules.proofs.PartBlocks.{row_of, has_row}
 use Rattle.custody.specs.Auditing.{IsHeldPartOf, IsDamagedUnder, AreHeld, AreDamaged, is_intact, has_digest}
 use Rattle.custody.proofs.RevisionLemmas.{held_sound, held_broken, dropped_sound}
 
+both : (a b : Bool) → a ≡ true → b ≡ true → (a && b) ≡ true
+both a b e f = cc
+
 -- ---- names that are picked
 
 module _ (P Q : Part → Type 0) where
   -- the names of some of the rows, in their order: each row that is picked has P, and each that is passed has Q
   abbrev pub IsPicked : List Part → List Name → Type 0
-  IsPicked [] [] = Unit {0}
-  IsPicked [] (name ∷ names) = ⊥
+  IsPicked [] names = names ≡ []
   IsPicked (row ∷ rows) names = (Q row × IsPicked rows names) ⊎ ((rest : List Name) × (names ≡ row.name ∷ rest) × P row × IsPicked rows rest)
 
   pub passed : (rows : List Part) (names : List Name) (row : Part) → Q row → IsPicked rows names → IsPicked (rows ++ row ∷ []) names
-  passed [] [] row q h = inl (q, tt)
-  passed [] (name ∷ names) row q h = absurd h
+  passed [] names row q none = inl (q, none)
   passed (first ∷ rows) names row q (inl h) = inl (h.0, passed rows names row q h.1)
   passed (first ∷ rows) names row q (inr h) = inr (h.0, h.1, h.2, passed rows h.0 row q h.3)
 
   pub picked : (rows : List Part) (names : List Name) (row : Part) → P row → IsPicked rows names → IsPicked (rows ++ row ∷ []) (names ++ row.name ∷ [])
-  picked [] [] row p h = inr ([], refl, p, tt)
-  picked [] (name ∷ names) row p h = absurd h
+  picked [] names row p none = inr ([], ap (λ l. l ++ row.name ∷ []) none, p, refl)
   picked (first ∷ rows) names row p (inl h) = inl (h.0, picked rows names row p h.1)
   picked (first ∷ rows) names row p (inr h) = inr (h.0 ++ row.name ∷ [], ap (λ l. l ++ row.name ∷ []) h.1, h.2, picked rows h.0 row p h.3)
 
@@ -52,32 +52,23 @@ module _ (P Q : Part → Type 0) where
 
   -- they are in the order of the rows
   below : (low : PartKey) (rows : List Part) (names : List Name) → is_below_all part_cmp key_of_part low rows ≡ true → IsPicked rows names → is_below_all part_cmp key_of low names ≡ true
-  below low [] [] is h = refl
-  below low [] (name ∷ names) is h = absurd h
+  below low [] names is none = ap (is_below_all part_cmp key_of low) none
   below low (row ∷ rows) names is (inl h) = below low rows names (and_parts (is_lt (part_cmp low (key_of_part row))) _ is).1 h.1
   below low (row ∷ rows) names is (inr h) =
       subst (λ (l : List Name). is_below_all part_cmp key_of low l ≡ true) (sym h.1)
       (both (is_lt (part_cmp low (key_of_part row))) _ (and_parts (is_lt (part_cmp low (key_of_part row))) _ is).0 (below low rows h.0 (and_parts (is_lt (part_cmp low (key_of_part row))) _ is).1 h.3))
-    where
-      both : (a b : Bool) → a ≡ true → b ≡ true → (a && b) ≡ true
-      both a b e f = cc
 
   pub in_order : (rows : List Part) (names : List Name) → is_rising part_cmp key_of_part rows ≡ true → IsPicked rows names → is_rising part_cmp key_of names ≡ true
-  in_order [] [] is h = refl
-  in_order [] (name ∷ names) is h = absurd h
+  in_order [] names is none = ap (is_rising part_cmp key_of) none
   in_order (row ∷ rows) names is (inl h) = in_order rows names (and_parts (is_below_all part_cmp key_of_part (key_of_part row) rows) _ is).1 h.1
   in_order (row ∷ rows) names is (inr h) =
       subst (λ (l : List Name). is_rising part_cmp key_of l ≡ true) (sym h.1)
       (both (is_below_all part_cmp key_of (key_of row.name) h.0) _ (below (key_of_part row) rows h.0 (and_parts (is_below_all part_cmp key_of_part (key_of_part row) rows) _ is).0 h.3)
       (in_order rows h.0 (and_parts (is_below_all part_cmp key_of_part (key_of_part row) rows) _ is).1 h.3))
-    where
-      both : (a b : Bool) → a ≡ true → b ≡ true → (a && b) ≡ true
-      both a b e f = cc
 
   -- a name is that of a row that was picked
   pub row_picked : (rows : List Part) (names : List Name) (name : Name) → IsPicked rows names → Contains names name → (i : ℕ) × (row : Part) × (i < length rows) × ((d : Part) → get_or rows i d ≡ row) × (row.name ≡ name) × P row
-  row_picked [] [] name h has = absurd (let low = has.1 in omega (arith, low))
-  row_picked [] (first ∷ names) name h has = absurd h
+  row_picked [] names name none has = absurd (let low = (subst (λ (l : List Name). Contains l name) none has).1 in omega (arith, low))
   row_picked (row ∷ rows) names name (inl h) has = let found = row_picked rows names name h.1 has in let low = found.2 in (suc found.0, found.1, omega (arith, low), λ d. found.3 d, found.4, found.5)
   row_picked (row ∷ rows) names name (inr h) has = by (subst (λ (l : List Name). Contains l name) h.1 has) (row_picked rows h.0 name h.3)
     where

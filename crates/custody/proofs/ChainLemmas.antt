@@ -1,8 +1,8 @@
 -- The deposits of a chain, read one after the other: the keys after them, and the digests of their parts.
-use Rattle.std.proofs.Common.{◌≡◌, ℕ, zero, suc, ◌+◌, ◌-◌, ◌<◌, ◌≤◌, List, [], ◌∷◌, ◌++◌, map, length, get_or, take, drop, Option, None, refl, sym, ◌∙◌, ap, subst, arith, Contains, ◌⊎◌, inl, inr}
+use Rattle.std.proofs.Common.{◌≡◌, ℕ, zero, suc, ◌+◌, ◌-◌, ◌<◌, ◌≤◌, List, [], ◌∷◌, ◌++◌, map, length, get_or, take, drop, Option, None, refl, sym, ◌∙◌, ap, subst, arith, Contains, ⊎_elim}
 use Rattle.std.specs.Prelude.{option_and_then}
 use Rattle.std.specs.List.{flat_map}
-use Rattle.std.proofs.lemmas.List.{flat_map_more, map_more, take_all, take_more}
+use Rattle.std.proofs.lemmas.List.{flat_map_more, map_more, nil_from_length, take_all, take_more}
 use Rattle.std.proofs.lemmas.List.Elements.{Contains-append_left, Contains-append_right, Contains-append_cases}
 use Rattle.std.proofs.lemmas.List.Sums.{fold-append}
 use Rattle.deposit_name.specs.Name.{Name}
@@ -43,10 +43,6 @@ module _ {X A : Type 0} (f : X → List A) (a : A) where
   in_all (y ∷ xs) zero x lt is within = Contains-append_left (f y) (flat_map f xs) a (subst (λ z. Contains (f z) a) is within)
   in_all (y ∷ xs) (suc i) x lt is within = Contains-append_right (f y) (flat_map f xs) a (in_all xs i x (omega (arith, lt)) is within)
 
-  -- what a list and one more give, one of the two gives
-  in_either : (xs : List X) (x : X) → Contains (flat_map f (xs ++ x ∷ [])) a → Contains (flat_map f xs) a ⊎ Contains (f x) a
-  in_either xs x within = Contains-append_cases (flat_map f xs) (f x) a (subst (λ l. Contains l a) (sym (flat_map_more f [] xs x)) within)
-
 -- ---- digests
 
 -- each of these parts has its digest
@@ -56,6 +52,10 @@ AreSound records image keys = (key : PartKey) → Contains keys key → HasDiges
 -- one of them has not
 abbrev pub IsBroken : Records → List ℕ → List PartKey → Type 0
 IsBroken records image keys = (key : PartKey) × Contains keys key × (¬ HasDigestAt image records key)
+
+-- where these and those have their digests, all have
+both_sound : (records : Records) (image : List ℕ) (these those : List PartKey) → AreSound records image these → AreSound records image those → AreSound records image (these ++ those)
+both_sound records image these those here there key within = ⊎_elim (here key) (there key) (Contains-append_cases these those key within)
 
 -- the places of the parts of deposits
 abbrev pub keys_of : Records → List ℕ → List Name → List PartKey
@@ -79,12 +79,11 @@ module _ (records : Records) (image : List ℕ) (seen : List ℕ) (same : seen �
 
   -- and its parts have their digests
   pub sound_more : AreSound records seen (part_keys (state_in records seen) name) → AreSound records image (keys_of records image (take i later)) → AreSound records image (keys_of records image (take (i + 1) later))
-  sound_more here before key within =
-      by (in_either (part_keys (state_in records image)) key (take i later) name (subst (λ l. Contains (keys_of records image l) key) (take_more later i name lt ∙ ap (λ x. take i later ++ x ∷ []) (sym is)) within))
-    where
-      by : Contains (keys_of records image (take i later)) key ⊎ Contains (part_keys (state_in records image) name) key → HasDigestAt image records key
-      by (inl earlier) = before key earlier
-      by (inr last) = subst (λ j. AreSound records j (part_keys (state_in records j) name)) same here key last
+  sound_more here before =
+      let keys = part_keys (state_in records image) in
+      subst (AreSound records image)
+      (flat_map_more keys [] (take i later) name ∙ ap (keys_of records image) (sym (take_more later i name lt ∙ ap (λ x. take i later ++ x ∷ []) (sym is))))
+      (both_sound records image (keys_of records image (take i later)) (keys name) before (subst (λ j. AreSound records j (part_keys (state_in records j) name)) same here))
 
 -- no deposit is read yet
 pub sound_first : (records : Records) (image : List ℕ) → AreSound records image (keys_of records image [])
@@ -93,21 +92,17 @@ sound_first records image key within = absurd (omega (arith, within.1))
 -- ---- the chain of a stated deposit
 
 module _ (records : Records) (image : List ℕ) (stated : statement.Statement) (names : List Name) (chain : names ≡ held_chain (state_in records image) stated) where
-  -- it follows none, so there are no keys
+  -- it follows none
+  is_empty : length names < 1 → [] ≡ held_chain (state_in records image) stated
+  is_empty few = sym (nil_from_length names (omega (arith, few))) ∙ chain
+
+  -- so there are no keys
   pub none_base : length names < 1 → None ≡ base_of (state_in records image) stated
-  none_base few = by names few chain
-    where
-      by : (xs : List Name) → length xs < 1 → xs ≡ held_chain (state_in records image) stated → None ≡ base_of (state_in records image) stated
-      by [] lt is = sym none_at ∙ ap (λ l. base_at (map (joined_bytes (state_in records image)) l)) is
-      by (x ∷ xs) lt is = absurd (omega (arith, lt))
+  none_base few = sym none_at ∙ ap (λ l. base_at (map (joined_bytes (state_in records image)) l)) (is_empty few)
 
   -- and no parts
   pub none_sound : length names < 1 → AreSound records image (chain_keys records image stated)
-  none_sound few = by names few chain
-    where
-      by : (xs : List Name) → length xs < 1 → xs ≡ held_chain (state_in records image) stated → AreSound records image (chain_keys records image stated)
-      by [] lt is = subst (λ l. AreSound records image (keys_of records image l)) is (sound_first records image)
-      by (x ∷ xs) lt is = absurd (omega (arith, lt))
+  none_sound few = subst (λ l. AreSound records image (keys_of records image l)) (is_empty few) (sound_first records image)
 
   module _ (first : Name) (low : 1 ≤ length names) (is : first ≡ get_or names 0 first) where
     whole : first ∷ later_of names ≡ held_chain (state_in records image) stated
@@ -131,12 +126,10 @@ module _ (records : Records) (image : List ℕ) (stated : statement.Statement) (
     -- and their parts have their digests
     pub sound_whole : AreSound records image (part_keys (state_in records image) first) → (i : ℕ) → length (later_of names) ≤ i → AreSound records image (keys_of records image (take i (later_of names)))
         → AreSound records image (chain_keys records image stated)
-    sound_whole here i end behind key within =
-        by (Contains-append_cases (part_keys (state_in records image) first) (keys_of records image (later_of names)) key (subst (λ l. Contains (keys_of records image l) key) (sym whole) within))
-      where
-        by : Contains (part_keys (state_in records image) first) key ⊎ Contains (keys_of records image (later_of names)) key → HasDigestAt image records key
-        by (inl of_first) = here key of_first
-        by (inr of_later) = behind key (subst (λ l. Contains (keys_of records image l) key) (sym (take_all i (later_of names) end)) of_later)
+    sound_whole here i end behind =
+        let all = keys_of records image (later_of names) in
+        subst (λ l. AreSound records image (keys_of records image l)) whole
+        (both_sound records image (part_keys (state_in records image) first) all here (subst (λ l. AreSound records image (keys_of records image l)) (take_all i (later_of names) end) behind))
 
     -- a part of the first deposit that has not its digest is one of the chain
     pub broken_first : IsBroken records image (part_keys (state_in records image) first) → IsBroken records image (chain_keys records image stated)
@@ -166,12 +159,9 @@ module _ (records : Records) (image : List ℕ) (stated : statement.Statement) w
 
     -- where those of both have their digests, all have
     pub sound_both : AreSound records image (chain_keys records image stated) → AreSound records seen (part_keys (state_in records seen) name) → AreSound records image (verdict_keys (state_in records image) stated)
-    sound_both chain there key within =
-        by (Contains-append_cases (part_keys (state_in records image) (first_part stated)) (chain_keys records image stated) key within)
-      where
-        by : Contains (part_keys (state_in records image) (first_part stated)) key ⊎ Contains (chain_keys records image stated) key → HasDigestAt image records key
-        by (inl here) = subst (λ n. AreSound records image (part_keys (state_in records image) n)) is (subst (λ j. AreSound records j (part_keys (state_in records j) name)) same there) key here
-        by (inr before) = chain key before
+    sound_both chain there =
+        both_sound records image (part_keys (state_in records image) (first_part stated)) (chain_keys records image stated)
+        (subst (λ n. AreSound records image (part_keys (state_in records image) n)) is (subst (λ j. AreSound records j (part_keys (state_in records j) name)) same there)) chain
 
     -- the verdict on what was read, with what is known of it
     pub verdict_is : (found : Verdict) (bytes : List ℕ) (about : Known) (base : Option Base) → found ≡ verdict bytes about → bytes ≡ joined_bytes (state_in records seen) name

@@ -23,10 +23,10 @@ use Rattle.custody_machine.specs.History.{is_open_after}
 use Rattle.custody_machine.specs.StoredState.{IsVolumeOf, AreWholeOnVolume, state_in}
 use Rattle.custody_machine.specs.Moves.{DependsOnBytes}
 use Rattle.custody_machine.specs.Rulings.{command_bytes}
-use Rattle.custody_machine.specs.Custody.{IsInOrder, IsInStore}
+use Rattle.custody_machine.specs.Custody.{IsInOrder}
 use Rattle.custody_machine.specs.declared.answers.Failure.{Failure}
 use Rattle.custody_machine.specs.declared.answers.Refusal.{Refusal}
-use Rattle.custody_machine.specs.declared.answers.Failure.TheVariants.{NoMemory, VolumeFailed, StoreFailed, Closed, Damaged}
+use Rattle.custody_machine.specs.declared.answers.Failure.TheVariants.{NoMemory, StoreFailed, Damaged}
 use Rattle.custody_machine.specs.declared.answers.Refusal.TheVariants.{VolumeFull}
 use Rattle.custody_machine.proofs.Compared.{each_of, now_of}
 use Rattle.custody_machine.proofs.Composed.{IsChange, nothing_in}
@@ -39,17 +39,13 @@ use Rattle.custody.specs.Opening.{failure_of}
 use Rattle.custody.specs.RulingAnswers.{FollowsRecords}
 use Rattle.custody.specs.ReplyRecords.{IsRecorded, HoldsBytes}
 use Rattle.custody.specs.OpenCustody.{current_records, store_state_of, image_of, failures_of, MayLeaveImage, MayLeaveImageSince, KeepsOrder, KeepsImage, KeepsRows, IsSafe, IsUnwritten, HasExecuted}
+use Rattle.custody.proofs.Ended.{rows_same}
 use Rattle.custody.proofs.OpenCustodyLemmas.{err_is, on_ok, stays_still, leaves_more, StandFor, either_form, form_then, rows_then, safe_done, safe_undone, image_same, order_same, good_before, does_nothing, does_change, is_in_doubt}
 
 -- the machine closes where the code does
 pub opens_alike : (command : Command) (answer : Result Reply not_accepted.Refused) → stays_open answer ≡ is_open_after (answer_of command answer)
-opens_alike command (Ok reply) = refl
-opens_alike command (Err (refused.Refusal refusal)) = refl
-opens_alike command (Err (refused.Failure NoMemory)) = refl
-opens_alike command (Err (refused.Failure VolumeFailed)) = refl
-opens_alike command (Err (refused.Failure StoreFailed)) = refl
-opens_alike command (Err (refused.Failure Closed)) = refl
 opens_alike command (Err (refused.Failure (Damaged damage))) = refl
+opens_alike command _ = refl
 
 -- what is no want of room
 pub ok_not_full : (reply : Reply) → ◌≢◌ {A = Result Reply not_accepted.Refused} (Ok reply) (Err (refused.Refusal VolumeFull))
@@ -90,8 +86,7 @@ module _ {V S : Type 0} {g : volume.Ghosts V} (database : Ghosts S) (old : OpenC
           (λ j w. volume.elsewhere j (each_of g.moment g.left_at (volume_of old.vault) (volume_of new.vault) _ still.1 j w)) (λ r w. subst (λ s. (store_state database s).may_leave r) store_same w)
           (λ j w. volume.elsewhere j (now_of g.moment g.left_at (volume_of old.vault) (volume_of new.vault) _ still.1 j w));
       image = λ _ tells volume. let still = unwritten tells in image_same old new same free still.0 (λ c w. volume.elsewhere c (now_of g.moment g.left_at (volume_of old.vault) (volume_of new.vault) _ still.1 c w)) volume;
-      rows = λ _ honest store. subst (λ s. IsInStore (current_records new) (store_state database s).rows (store_state database s).IsReady (store_state database s).may_leave) (sym store_same)
-          (subst (λ k. IsInStore k (store_state_of database old).rows (store_state_of database old).IsReady (store_state_of database old).may_leave) (sym same) store);
+      rows = λ _ honest. rows_same database old new same store_same;
     }
 
   -- ---- nothing was called

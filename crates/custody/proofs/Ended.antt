@@ -1,5 +1,5 @@
 -- A call that ends before there is a command.
-use Rattle.std.proofs.Common.{◌≡◌, ◌≢◌, ℕ, ◌<◌, List, Bool, true, false, refl, sym, ap, subst, Result, Ok, Err}
+use Rattle.std.proofs.Common.{◌≡◌, ◌≢◌, ℕ, ◌<◌, List, Bool, true, false, refl, sym, ap, subst, Result, Err}
 use Rattle.sqlite.specs.Store.{Ghosts}
 use Rattle.vault_volume.specs.declared.volume.Volume as volume
 use Rattle.vault_volume.specs.Disk.{LeavesOnly}
@@ -21,9 +21,15 @@ use Rattle.custody.specs.declared.answers.Refused.{Refused}
 use Rattle.custody.specs.declared.answers.Refused.TheVariants as refused
 use Rattle.custody.specs.declared.open_custody.OpenCustody.{OpenCustody}
 use Rattle.custody.specs.Answers.{stays_open, may_change}
-use Rattle.custody.specs.OpenCustody.{current_records, store_state_of, image_of, failures_of, MayLeaveImage, MayLeaveImageSince, KeepsOrder, KeepsImage, HasExecuted}
+use Rattle.custody.specs.OpenCustody.{current_records, store_state_of, image_of, failures_of, MayLeaveImage, MayLeaveImageSince, KeepsOrder, KeepsImage, KeepsRows, HasExecuted}
 use Rattle.custody.specs.OtherCalls.{RecordsNothing}
 use Rattle.custody.proofs.OpenCustodyLemmas.{order_same}
+
+-- records and database that are the same are in each other as before
+pub rows_same : {V S : Type 0} {g : volume.Ghosts V} (database : Ghosts S) (old new : OpenCustody V S g) → current_records new ≡ current_records old → new.store ≡ old.store → KeepsRows database old → KeepsRows database new
+rows_same database old new same store_same store =
+    subst (λ s. IsInStore (current_records new) (store_state database s).rows (store_state database s).IsReady (store_state database s).may_leave) (sym store_same)
+    (subst (λ k. IsInStore k (store_state_of database old).rows (store_state_of database old).IsReady (store_state_of database old).may_leave) (sym same) store)
 
 module _ {V S : Type 0} {g : volume.Ghosts V} (database : Ghosts S) (old new : OpenCustody V S g) (order : KeepsOrder old) (same : current_records new ≡ current_records old) (store_same : new.store ≡ old.store)
     (moved : g.tells → DiffersOnlyIn (IsFree old.vault) (image_of old) (image_of new)) (leaves : g.tells → KeepsImage old → LeavesOnly g.moment g.left_at (volume_of old.vault) (volume_of new.vault) (DiffersOnlyIn (IsFree old.vault) (image_of old))) where
@@ -48,8 +54,7 @@ module _ {V S : Type 0} {g : volume.Ghosts V} (database : Ghosts S) (old new : O
         rests (current_records old) (store_state_of database old).rows (image_of old) _ _ (IsFree old.vault) (store_state_of database old).IsReady (store_state_of database old).may_leave (MayLeaveImage old) order volume store
         (image_of new) (moved tells) is_open (current_records new) (MayLeaveImageSince old new) (store_state_of database new).may_leave (MayLeaveImage new) (λ _. same) (during tells volume) (λ r w. subst (λ s. (store_state database s).may_leave r) store_same w) (after tells volume);
     image = image;
-    rows = λ store. subst (λ s. IsInStore (current_records new) (store_state database s).rows (store_state database s).IsReady (store_state database s).may_leave) (sym store_same)
-        (subst (λ k. IsInStore k (store_state_of database old).rows (store_state_of database old).IsReady (store_state_of database old).may_leave) (sym same) store);
+    rows = rows_same database old new same store_same;
   }
 
   -- and its blocks are free as before
@@ -70,13 +75,9 @@ undone_rested {V} {S} {g} database old new command now answer order nothing done
     (λ shut. done.safe.failed (closed answer nothing shut done.safe.answers)) (λ opened. done.safe.not_failed (λ e. stays answer opened e)) done.safe.order done.image
   where
     closed : (a : Result Reply Refused) → may_change a ≡ false → stays_open a ≡ false → a ≢ Err (refused.Failure failure.Closed) → a ≡ Err (refused.Failure failure.VolumeFailed)
-    closed (Ok reply) n s other = cc
-    closed (Err (refused.Refusal refusal)) n s other = cc
-    closed (Err (refused.Failure failure.NoMemory)) n s other = cc
     closed (Err (refused.Failure failure.VolumeFailed)) n s other = refl
-    closed (Err (refused.Failure failure.StoreFailed)) n s other = cc
     closed (Err (refused.Failure failure.Closed)) n s other = absurd (other refl)
-    closed (Err (refused.Failure (failure.Damaged damage))) n s other = cc
+    closed _ n s other = cc
 
     stays : (a : Result Reply Refused) → stays_open a ≡ true → a ≡ Err (refused.Failure failure.VolumeFailed) → ⊥
     stays a s e = let shut : stays_open a ≡ false = ap stays_open e in cc

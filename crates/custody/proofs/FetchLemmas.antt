@@ -1,13 +1,12 @@
 -- A part that is fetched.
-use Rattle.std.proofs.Common.{◌≡◌, ℕ, ◌+◌, List, Option, Some, None, Bool, true, false, if◌then◌else◌, refl, sym, ◌∙◌, ap, subst, arith, Result, Ok, Err, Vec, Global}
+use Rattle.std.proofs.Common.{◌≡◌, ℕ, ◌+◌, List, Some, true, false, refl, sym, ◌∙◌, ap, subst, arith, Result, Err, Vec, Global}
 use Rattle.std.specs.FinMap.{get}
-use Rattle.std.specs.Option.{option_and_then}
-use Rattle.deposit_name.specs.Name.{Name, is_same_kind}
+use Rattle.deposit_name.specs.Name.{Name}
 use Rattle.sqlite.specs.Store.{Ghosts}
 use Rattle.vault_volume.specs.declared.volume.Volume as volume
 use Rattle.custody_records.specs.Records.{PartRecord, Records, key_of}
-use Rattle.custody_machine.specs.declared.answers.Failure.TheVariants.{NoMemory, VolumeFailed, StoreFailed, Closed, Damaged}
-use Rattle.custody_rules.specs.Judging.{if_of_kind, part_under}
+use Rattle.custody_machine.specs.declared.answers.Failure.TheVariants.{Damaged}
+use Rattle.custody_rules.specs.Judging.{part_under}
 use Rattle.custody.specs.declared.answers.Refused.{Refused}
 use Rattle.custody.specs.declared.answers.Refused.TheVariants as refused
 use Rattle.custody.specs.declared.custody.Custody.{Custody}
@@ -20,28 +19,15 @@ use Rattle.custody.proofs.Rested.{reads_rested}
 
 -- a part that is recorded under a name stands at its place
 pub stands_at : (records : Records) (name : Name) (part : PartRecord) → part_under records name ≡ Some part → get records.parts (key_of name) ≡ Some part
-stands_at records name part e = by (get records.parts (key_of name)) refl e
-  where
-    one : (b : Bool) (found : PartRecord) → (if b then Some found else None) ≡ Some part → found ≡ part
-    one true found e = cc
-    one false found e = cc
-
-    by : (o : Option PartRecord) → get records.parts (key_of name) ≡ o → option_and_then (if_of_kind name.kind) o ≡ Some part → get records.parts (key_of name) ≡ Some part
-    by None at e = cc
-    by (Some found) at e = at ∙ ap Some (one (is_same_kind found.kind name.kind) found e)
+stands_at records name part e = grind arith
 
 -- a failure is told whatever the bytes are
 pub told_err : {T : Type 0} (result : Result T Refused) (e : Refused) (bytes : List ℕ) → result ≡ Err e → bytes_if_answered result bytes ≡ Err e
 told_err result e bytes is = ap (λ r. bytes_if_answered r bytes) is
 
 stays_alike : (answer : Result (Vec ℕ Global) Refused) → stays_open answer ≡ stays_open (answered_bytes answer)
-stays_alike (Ok bytes) = refl
-stays_alike (Err (refused.Refusal refusal)) = refl
-stays_alike (Err (refused.Failure NoMemory)) = refl
-stays_alike (Err (refused.Failure VolumeFailed)) = refl
-stays_alike (Err (refused.Failure StoreFailed)) = refl
-stays_alike (Err (refused.Failure Closed)) = refl
 stays_alike (Err (refused.Failure (Damaged damage))) = refl
+stays_alike answer = refl
 
 module _ {V S : Type 0} {g : volume.Ghosts V} {database : Ghosts S} (old new : Custody V S g database) (serving : is_open old ≡ true) (same : current_records (open_custody_of new) ≡ current_records (open_custody_of old)) (store_same : (open_custody_of new).store ≡ (open_custody_of old).store)
     (read : ReadsVault (open_custody_of old).vault (open_custody_of new).vault) (reference name : List ℕ) where

@@ -32,30 +32,23 @@ use Rattle.custody.proofs.Opened.{broken_damaged}
 
 -- a row that was found is there
 pub has_record : (rows : Rows) (found : Meta) → Some found ≡ option_map typed.meta_of (first_meta rows) → ¬ HasNoRecord rows
-has_record rows found is = by rows.meta refl is
-  where
-    by : (metas : Option (List MetaRow)) → rows.meta ≡ metas → Some found ≡ option_map typed.meta_of (first_meta (record rows { meta = metas })) → ¬ HasNoRecord rows
-    by None at is = cc
-    by (Some []) at is = cc
-    by (Some (row ∷ others)) at is = λ none. let some : first_meta rows ≡ Some row = ap (λ metas. first_meta (record rows { meta = metas })) at in cc
+has_record rows found is none = let clash : Some found ≡ None = is ∙ ap (option_map typed.meta_of) none in cc
 
 -- and where none was found there is none
 pub has_none : (rows : Rows) → None ≡ option_map typed.meta_of (first_meta rows) → HasNoRecord rows
-has_none rows is = by rows.meta refl is
+has_none rows is = by (first_meta rows) is
   where
-    by : (metas : Option (List MetaRow)) → rows.meta ≡ metas → None ≡ option_map typed.meta_of (first_meta (record rows { meta = metas })) → HasNoRecord rows
-    by None at is = ap (λ metas. first_meta (record rows { meta = metas })) at
-    by (Some []) at is = ap (λ metas. first_meta (record rows { meta = metas })) at
-    by (Some (row ∷ others)) at is = cc
+    by : (first : Option MetaRow) → None ≡ option_map typed.meta_of first → first ≡ None
+    by None is = refl
+    by (Some row) is = cc
 
 -- whether one was found
 pub is_there : (rows : Rows) (found : Option Meta) → found ≡ option_map typed.meta_of (first_meta rows) → is_some found ≡ is_some (first_meta rows)
-is_there rows found is = ap is_some is ∙ by rows.meta
+is_there rows found is = ap is_some is ∙ by (first_meta rows)
   where
-    by : (metas : Option (List MetaRow)) → is_some (option_map typed.meta_of (first_meta (record rows { meta = metas }))) ≡ is_some (first_meta (record rows { meta = metas }))
+    by : (first : Option MetaRow) → is_some (option_map typed.meta_of first) ≡ is_some first
     by None = refl
-    by (Some []) = refl
-    by (Some (row ∷ others)) = refl
+    by (Some row) = refl
 
 -- a schema that is not known is told, whatever the tables are
 pub unknown_schema : (rows : Rows) (found : Meta) (image : List ℕ) → Some found ≡ option_map typed.meta_of (first_meta rows) → is_schema found.schema_no ≡ false → IsDamaged wrong.Schema rows image
@@ -113,22 +106,15 @@ module _ (rows : Rows) (found : Meta) (image : List ℕ) (is : Some found ≡ op
 
     -- the row is that of the volume
     no_other_volume : (size : ℕ) → length image ≡ 4096 * size → found.number ≡ Some number → found.blocks ≡ pos size → ¬ IsDamaged wrong.Volume rows image
-    no_other_volume size long same_number same_blocks other = by rows.meta refl is
-      where
-        by : (metas : Option (List MetaRow)) → rows.meta ≡ metas → Some found ≡ option_map typed.meta_of (first_meta (record rows { meta = metas })) → ⊥
-        by None at is = cc
-        by (Some []) at is = cc
-        by (Some (row ∷ others)) at is =
-            let same : found ≡ typed.meta_of row = cc in
-            let some : first_meta rows ≡ Some row = ap (λ metas. first_meta (record rows { meta = metas })) at in
-            let at_row : other.0 ≡ row = cc in
-            other.5 (record {
-              number_is = ap (λ (m : MetaRow). m.number) at_row ∙ digits_read row.number number (ap (λ (m : Meta). m.number) (sym same) ∙ same_number) ∙ digits_by_head number other.1 (sym head ∙ other.4);
-              size = long ∙ ap (λ b. 4096 * natural b) (sym same_blocks ∙ ap (λ (m : Meta). m.blocks) same) ∙ ap (λ (m : MetaRow). 4096 * natural m.blocks) (sym at_row);
-            })
+    no_other_volume size long same_number same_blocks other =
+        let same : found ≡ typed.meta_of other.0 = some_same _ _ (is ∙ ap (option_map typed.meta_of) other.3) in
+        other.5 (record {
+          number_is = digits_read other.0.number number (ap (λ (m : Meta). m.number) (sym same) ∙ same_number) ∙ digits_by_head number other.1 (sym head ∙ other.4);
+          size = long ∙ ap (λ b. 4096 * natural b) (sym same_blocks ∙ ap (λ (m : Meta). m.blocks) same);
+        })
 
-    pub none_before_schema : (size : ℕ) → length image ≡ 4096 * size → found.number ≡ Some number → found.blocks ≡ pos size → NoDamageBefore wrong.Schema rows image
-    none_before_schema size long same_number same_blocks = none_before_next wrong.Volume wrong.Schema rows image refl none_before_volume (no_other_volume size long same_number same_blocks)
+    pub none_before_schema : (blocks size : ℕ) → blocks ≡ size → length image ≡ 4096 * size → (found.number ≡ Some number) × (found.blocks ≡ pos blocks) → NoDamageBefore wrong.Schema rows image
+    none_before_schema blocks size same long of = none_before_next wrong.Volume wrong.Schema rows image refl none_before_volume (no_other_volume size long of.0 (of.1 ∙ ap pos same))
 
 -- ---- rows whose volume is found and whose schema is known
 
@@ -148,15 +134,10 @@ module _ (records : Records) (rows : Rows) (is : form_of rows ≡ InForm records
     before_linked range once = none_before_next wrong.Overlap wrong.Link rows image refl (before_once range) (λ other. other.2 (subst HaveBlocksOnce (InForm-injective records other.0 (sym is ∙ other.1)) once))
 
   first_broken : (damage : Damage) → BreaksFirst damage records → (image : List ℕ) → NoDamageBefore wrong.Schema rows image → NoDamageBefore damage rows image
-  first_broken wrong.NoRecord breaks image before = absurd breaks
-  first_broken wrong.Head breaks image before = absurd breaks
-  first_broken wrong.Volume breaks image before = absurd breaks
-  first_broken wrong.Schema breaks image before = absurd breaks
-  first_broken wrong.Form breaks image before = absurd breaks
   first_broken wrong.Extent breaks image before = before_range image before
   first_broken wrong.Overlap breaks image before = before_once image before breaks.0
   first_broken wrong.Link breaks image before = before_linked image before breaks.0 breaks.1
-  first_broken wrong.Digest breaks image before = absurd breaks
+  first_broken _ breaks image before = absurd breaks
 
   pub broken_rows : (damage : Damage) → BreaksFirst damage records → IsRowDamage rows damage
   broken_rows damage breaks = record { is_true = λ image. broken_damaged damage records rows image is breaks; first = first_broken damage breaks }

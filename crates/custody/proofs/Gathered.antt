@@ -1,5 +1,5 @@
 -- A table that is gathered row by row: its records where each row is changed, and whether one of them passes a test.
-use Rattle.std.proofs.Common.{◌≡◌, List, [], ◌∷◌, length, map, Option, Some, None, is_some, Bool, true, false, ◌||◌, cond, refl, sym, ◌∙◌, ap}
+use Rattle.std.proofs.Common.{◌≡◌, List, [], ◌∷◌, length, map, Option, Some, None, is_some, Bool, true, false, ◌||◌, cond, refl, sym, ◌∙◌, ap, arith}
 use Rattle.std.specs.Prelude.{unwrap_or}
 use Rattle.std.specs.List.{list_any}
 use Rattle.std.specs.Option.{option_map, option_and_then}
@@ -7,6 +7,7 @@ use Rattle.std.specs.Cmp.{IsTotalOrder, tied_itself}
 use Rattle.std.specs.declared.cmp.Ordering.{Ordering}
 use Rattle.std.specs.Ordering.{is_eq}
 use Rattle.std.specs.FinMap.{FinMap, IsAntisymmetric, empty, entries, get, get-insert, insert, len-empty, len-entries}
+use Rattle.std.proofs.lemmas.Option.{same_Some}
 use Rattle.custody_records.specs.Form.{gather, gathered_table}
 use Rattle.custody_machine.specs.MapValues.{map_keyed}
 use Rattle.custody_machine.proofs.Entries.{any_insert, any_of_get}
@@ -36,14 +37,11 @@ module _ {X K V : Type 0} {order : K → K → Ordering} (read : X → Option (K
       ap (option_and_then (λ (e : K × V). cond (is_some (get so_far e.0)) None (gather read (insert so_far e.0 e.1) rows))) reads
       ∙ ap (λ (there : Option V). cond (is_some there) None (gather read (insert so_far entry.0 entry.1) rows)) new
 
-  some_same : (a b : FinMap order V) → Some a ≡ Some b → a ≡ b
-  some_same a b e = cc
-
   -- ---- each row is changed, and stands for its record changed
 
   module _ (total : IsTotalOrder order) (exact : IsAntisymmetric order) (change : X → X) (changed : K → V → V) (means : (row : X) (entry : K × V) → read row ≡ Some entry → read (change row) ≡ Some (entry.0, changed entry.0 entry.1)) where
     gather_changed : (rows : List X) (so_far all : FinMap order V) → gather read so_far rows ≡ Some all → gather read (map_keyed changed so_far) (map change rows) ≡ Some (map_keyed changed all)
-    gather_changed [] so_far all e = ap (λ m. Some (map_keyed changed m)) (some_same so_far all e)
+    gather_changed [] so_far all e = ap (λ m. Some (map_keyed changed m)) (same_Some so_far all e)
     gather_changed (row ∷ rows) so_far all e =
         let first = gathers_first row rows so_far all e in
         gather_first (change row) (map change rows) (map_keyed changed so_far) (first.entry.0, changed first.entry.0 first.entry.1) (means row first.entry first.reads)
@@ -67,7 +65,7 @@ module _ {X K V : Type 0} {order : K → K → Ordering} (read : X → Option (K
         by false is = any_insert total m key value new passes is
 
     gather_any : (rows : List X) (so_far all : FinMap order V) → gather read so_far rows ≡ Some all → (list_any test rows || list_any passes (entries so_far)) ≡ list_any passes (entries all)
-    gather_any [] so_far all e = ap (λ m. list_any passes (entries m)) (some_same so_far all e)
+    gather_any [] so_far all e = ap (λ m. list_any passes (entries m)) (same_Some so_far all e)
     gather_any (row ∷ rows) so_far all e =
         let first = gathers_first row rows so_far all e in
         ap (λ b. (b || list_any test rows) || list_any passes (entries so_far)) (alike row first.entry first.reads)
@@ -76,9 +74,7 @@ module _ {X K V : Type 0} {order : K → K → Ordering} (read : X → Option (K
         ∙ gather_any rows (insert so_far first.entry.0 first.entry.1) all first.rest
       where
         turned : (a b c : Bool) → ((a || b) || c) ≡ (b || (a || c))
-        turned true true c = refl
-        turned true false c = refl
-        turned false b c = refl
+        turned a b c = grind arith
 
     none_yet : list_any passes (entries (empty {X = V} {R = order})) ≡ false
     none_yet = of_none (entries empty) (sym (len-entries empty) ∙ len-empty order V)

@@ -1,7 +1,6 @@
 -- The rows of holds, and what they stand for: where a hold is made, and where one is lifted.
-use Rattle.std.proofs.Common.{◌≡◌, ℕ, pos, List, Option, Some, None, Bool, true, false, ◌&&◌, cond, refl, sym, ◌∙◌, ap}
-use Rattle.std.specs.Prelude.{slice_get}
-use Rattle.std.specs.Option.{option_map, option_and_then}
+use Rattle.std.proofs.Common.{◌≡◌, ℕ, pos, List, Option, Some, None, Bool, true, false, ◌&&◌, cond, refl, sym, ◌∙◌, ap, arith}
+use Rattle.std.specs.Option.{option_map}
 use Rattle.std.specs.Str.{bytes_eq}
 use Rattle.std.specs.FinMap.{FinMap, get, get-insert, insert, same_map}
 use Rattle.std.proofs.lemmas.Map.Text.{is_eq-slice_cmp}
@@ -11,11 +10,11 @@ use Rattle.deposit_name.specs.Identifiers.{is_reference, is_tld}
 use Rattle.custody_records.specs.Keys.{text_cmp}
 use Rattle.custody_records.specs.inside.Orders.{text_exact, text_total}
 use Rattle.custody_records.specs.Records.{Hold, Records, lifted_at, with_hold}
-use Rattle.custody_records.specs.Rows.{HoldRow, MetaRow, Rows, row_with_lifting, with_hold_row, with_lifting}
-use Rattle.custody_records.specs.Form.{gathered_table, has_holds, hold_in, hold_of_row, holds_in, is_day, is_hold, is_lifting, is_moment, form_of, InForm, HasCurrentSchema}
+use Rattle.custody_records.specs.Rows.{HoldRow, Rows, row_with_lifting, with_hold_row, with_lifting}
+use Rattle.custody_records.specs.Form.{hold_in, hold_of_row, is_day, is_hold, is_lifting, is_moment, form_of, InForm, HasCurrentSchema}
 use Rattle.custody_records.specs.RowsOfRecords.{IsHold, row_of_hold}
 use Rattle.custody_records.proofs.FieldLemmas.{moment_passes}
-use Rattle.custody_records.proofs.FormLemmas.{AreRecords, hold_inserted, in_form_from, in_form_has}
+use Rattle.custody_records.proofs.FormLemmas.{hold_inserted, holds_changed, holds_gathered}
 use Rattle.custody_records.proofs.ReadBack.{hold_read_back}
 use Rattle.custody_machine.specs.MapValues.{map_keyed}
 use Rattle.custody_machine.proofs.MapValues.{get-map_keyed}
@@ -30,16 +29,6 @@ row_holds row entry e = by (is_hold row) refl e
     by false is e = cc
 
 module _ (rows : Rows) (records : Records) (current : HasCurrentSchema rows) (was : form_of rows ≡ InForm records) where
-  old : AreRecords rows records
-  old = in_form_has rows records was
-
-  has : has_holds old.meta.schema_no ≡ true
-  has = current old.meta (ap (option_and_then (λ (metas : List MetaRow). slice_get metas 0)) old.alone)
-
-  -- the table of holds is there, in form
-  pub holds_gathered : gathered_table hold_in rows.holds ≡ Some records.holds
-  holds_gathered = ap (λ b. holds_in b rows.holds) (sym has) ∙ old.holds
-
   -- a hold that is made
   pub hold_means : (reference : List ℕ) (hold : Hold) → IsHold reference hold → get records.holds reference ≡ None → form_of (with_hold_row (row_of_hold reference hold) rows) ≡ InForm (with_hold records reference hold)
   hold_means reference hold in_form new = hold_inserted rows records was (row_of_hold reference hold) reference hold current (hold_read_back reference hold in_form) new
@@ -59,11 +48,7 @@ module _ (rows : Rows) (records : Records) (current : HasCurrentSchema rows) (wa
         read = row_holds row entry e
 
         with_moment : (a b c d e f : Bool) → (a && (b && (c && (d && e)))) ≡ true → f ≡ true → (a && (b && (c && (d && f)))) ≡ true
-        with_moment true true true true e f p q = q
-        with_moment true true true false e f p q = cc
-        with_moment true true false d e f p q = cc
-        with_moment true false c d e f p q = cc
-        with_moment false b c d e f p q = cc
+        with_moment a b c d e f p q = grind arith
 
         by : (b : Bool) → hold_in (cond b (record row { lifted = Some (pos at) }) row) ≡ Some (row.reference, cond b (lifted_at at (hold_of_row row)) (hold_of_row row))
         by true = ap (λ form. cond form (Some (row.reference, lifted_at at (hold_of_row row))) None) (with_moment (is_reference row.reference) (is_tld row.tld) (is_day row.day) (is_moment row.at) (is_lifting row.lifted) (is_moment (pos at)) read.0 (moment_passes at moment))
@@ -84,19 +69,7 @@ module _ (rows : Rows) (records : Records) (current : HasCurrentSchema rows) (wa
         by q false is = as_it_is (get holds q)
 
     pub lifting_means : IsMoment at → (hold : Hold) → get records.holds reference ≡ Some hold → form_of (with_lifting reference at rows) ≡ InForm (with_hold records reference (lifted_at at hold))
-    lifting_means moment hold there = in_form_from _ _ (record {
-      meta = old.meta;
-      alone = old.alone;
-      known = old.known;
-      in_form = old.in_form;
-      number = old.number;
-      blocks = old.blocks;
-      registries = old.registries;
-      parts = old.parts;
-      notices = old.notices;
-      releases = old.releases;
-      holds =
-          ap (λ b. holds_in b (with_lifting reference at rows).holds) has
-          ∙ gathered_changed hold_in text_total text_exact (row_with_lifting reference at) lifted_if (row_lifted moment) rows.holds records.holds holds_gathered
-          ∙ ap Some (lifts_one records.holds hold there);
-    })
+    lifting_means moment hold there =
+        holds_changed rows records was current _ _
+        (gathered_changed hold_in text_total text_exact (row_with_lifting reference at) lifted_if (row_lifted moment) rows.holds records.holds (holds_gathered rows records was current)
+        ∙ ap Some (lifts_one records.holds hold there))

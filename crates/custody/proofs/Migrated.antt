@@ -1,7 +1,7 @@
 -- What an opening does with tables of schema 1: they are those of schema 2 then, and stand for the same state.
-use Rattle.std.proofs.Common.{◌≡◌, inl, inr, ℕ, length, ◌++◌, List, [], ◌∷◌, Option, Some, None, Result, Ok, Err, Bool, true, false, codes, IsTrue, OnOk, OnErr, refl, sym, ◌∙◌, ap, subst, arith}
+use Rattle.std.proofs.Common.{◌≡◌, ◌≢◌, inl, inr, ℕ, length, ◌++◌, List, [], ◌∷◌, Option, Some, None, Result, Ok, Err, Bool, true, false, codes, IsTrue, OnOk, OnErr, refl, sym, ◌∙◌, ap, subst, arith}
 use Rattle.std.specs.Option.{option_and_then}
-use Rattle.std.specs.Prelude.{slice_get, is_some}
+use Rattle.std.specs.Prelude.{slice_get, is_some, IfErr}
 use Rattle.std.proofs.lemmas.Bool.{cases_Bool}
 use Rattle.vault_volume.specs.declared.volume.Volume as volume
 use Rattle.vault_volume.specs.Disk.{LeavesOneImage}
@@ -18,12 +18,14 @@ use Rattle.custody_store.specs.Reading.{has_table, rows_in}
 use Rattle.custody_store.specs.Schema.{first_schema, record_schema}
 use Rattle.custody_store.specs.StoreState.{StoreState, store_state, as_store_state, has_earlier_tables, IsReady, HasSchemaAtRest, ChangesNothing, Migrates}
 use Rattle.custody_store.proofs.MissingLemmas.{holds_missing, holds_there}
-use Rattle.custody_store.proofs.ReadLemmas.{still, all_there, first_of_ready, first_of_earlier}
+use Rattle.custody_store.proofs.ReadLemmas.{still, all_there, first_of_ready, first_of_earlier, reads_then, reads_fails}
 use Rattle.custody_store.proofs.TableLemmas.{holds_first, rows_among}
+use Rattle.custody_machine.specs.declared.answers.Failure.{Failure}
+use Rattle.custody_machine.specs.declared.answers.Failure.TheVariants.{StoreFailed}
 use Rattle.custody_machine.specs.Custody.{IsInStore}
 use Rattle.custody_machine.specs.Moves.{Left, MayLeave}
-use Rattle.custody.specs.Opening.{HasAllTables, ReadsVolume, OnlyReads, OnlyMigrates}
-use Rattle.custody.proofs.Opened.{reads_both, left_alike, left_same}
+use Rattle.custody.specs.Opening.{HasAllTables, ReadsVolume, OnlyReads, OnlyMigrates, OpensTables}
+use Rattle.custody.proofs.Opened.{left_alike, left_same}
 
 -- ---- which schema rows are of
 
@@ -113,13 +115,6 @@ migrates_then s mid new x r reads after = record {
       };
 }
 
--- the same of a database that is handed on
-pub migrates_both : {S A B C D E F : Type 0} (database : Ghosts S) (db later end : Held S) {mid over then : Held S} {x : A} {y : B} {r : Result C D} → ChangesNothing {E = E} (store_state database db) (store_state database mid) (Ok x) → over ≡ mid
-    → ChangesNothing {E = F} (store_state database over) (store_state database later) (Ok y) → Migrates (store_state database later) (store_state database then) r → end ≡ then → Migrates (store_state database db) (store_state database end) r
-migrates_both database db later end {mid} {over} {then} {x} {y} {r} reads is then_reads migrates at =
-    let before = reads_both database db later reads is then_reads refl in
-    subst (λ h. Migrates (store_state database db) (store_state database h) r) (sym at) (migrates_then (state database db) (store_state database later) (store_state database then) y r before migrates)
-
 -- the same with another answer
 pub migrates_answers : {A B E F : Type 0} (old new : StoreState) (x : A) (y : B) → Migrates {E = E} old new (Ok x) → Migrates {E = F} old new (Ok y)
 migrates_answers old new x y p = record { trust = p.trust; mode = p.mode; effect = λ honest ready. let did = p.effect honest ready in record { done = did.done; made = did.made; kept = tt; left = did.left } }
@@ -140,6 +135,39 @@ migrates_nothing s new r f reads = record {
     left = λ rows h. inl (reads.commits_nothing honest rows h);
   };
 }
+
+-- ---- what an opening does to the tables
+
+-- it failed after it had only read
+pub opens_nothing : {A B E : Type 0} (s : State) (new : StoreState) (r : Result A E) (is_earlier : Bool) (f : Failure) → ChangesNothing (as_store_state s) new r → OpensTables {A = B} is_earlier (as_store_state s) new (Err f)
+opens_nothing s new r is_earlier f reads = record {
+  reads = λ _. reads_fails (as_store_state s) new r f reads;
+  migrates = λ _. migrates_nothing s new r f reads;
+  unchanged = λ _. reads_fails (as_store_state s) new r f reads;
+}
+
+-- it does so after what only read
+pub opens_then : {A B E : Type 0} (s : State) (mid new : StoreState) (x : A) (r : Result B Failure) (is_earlier : Bool) → ChangesNothing {E = E} (as_store_state s) mid (Ok x) → OpensTables is_earlier mid new r → OpensTables is_earlier (as_store_state s) new r
+opens_then {A} {B} {E} s mid new x r is_earlier reads opens = record {
+  reads = λ current. reads_then (as_store_state s) mid new x r reads (opens.reads current);
+  migrates = λ earlier. migrates_then s mid new x r reads (opens.migrates earlier);
+  unchanged = by r opens.unchanged;
+}
+  where
+    by : (q : Result B Failure) → IfErr q (λ failure. failure ≢ StoreFailed → ChangesNothing mid new q) → IfErr q (λ failure. failure ≢ StoreFailed → ChangesNothing (as_store_state s) new q)
+    by (Ok y) _ = tt
+    by (Err f) unchanged = λ other. reads_then (as_store_state s) mid new x (Err f) reads (unchanged other)
+
+pub opens_trust : {A : Type 0} (is_earlier : Bool) (old new : StoreState) (r : Result A Failure) → OpensTables is_earlier old new r → new.IsHonest → old.IsHonest
+opens_trust true old new r opens = (opens.migrates refl).trust
+opens_trust false old new r opens = (opens.reads refl).trust
+
+-- the same where the database is handed on
+pub opens_both : {S A B E : Type 0} (database : Ghosts S) (db end : Held S) {mid over later : Held S} {x : A} {r : Result B Failure} {is_earlier : Bool} → ChangesNothing {E = E} (store_state database db) (store_state database mid) (Ok x) → over ≡ mid
+    → OpensTables is_earlier (store_state database over) (store_state database later) r → end ≡ later → OpensTables is_earlier (store_state database db) (store_state database end) r
+opens_both database db end {mid} {over} {later} {x} {r} {is_earlier} reads is opens at =
+    subst (λ h. OpensTables is_earlier (store_state database db) (store_state database h) r) (sym at)
+    (opens_then (state database db) (store_state database mid) (store_state database later) x r is_earlier reads (subst (λ h. OpensTables is_earlier (store_state database h) (store_state database later) r) is opens))
 
 -- ---- what an opening leaves
 
@@ -168,14 +196,14 @@ module _ {V S : Type 0} (device : volume.Ghosts V) (database : Ghosts S) (volume
   left_of_all r reads migrates tells one (inr earlier) honest rows image h w = ((migrates (has_earlier (state database db) earlier)).leaves tells one earlier honest).at_exit rows image h w
 
   -- and what an open custody keeps of the rows
-  pub rows_of_all : {A E : Type 0} (x : A) → (has_earlier_tables (store_state database db) ≡ false → OnlyReads device database {E = E} volume db later then (Ok x)) → (has_earlier_tables (store_state database db) ≡ true → OnlyMigrates device database {E = E} volume db later then (Ok x))
+  pub rows_of_all : {A : Type 0} (x : A) (is_earlier : Bool) → is_earlier ≡ has_earlier_tables (store_state database db) → OpensTables is_earlier (store_state database db) (store_state database then) (Ok x)
       → HasAllTables (store_state database db) → (store_state database then).IsHonest → (records : Records) → form_of (store_state database db).rows ≡ InForm records
       → IsInStore records (store_state database then).rows (store_state database then).IsReady (store_state database then).may_leave
-  rows_of_all x reads migrates (inl ready) honest records is =
+  rows_of_all x is_earlier same_schema opens (inl ready) honest records is =
       let s = state database db in
-      let same = still (as_store_state s) (store_state database then) x (reads (not_earlier s ready)).rows honest ready.rest in
+      let same = still (as_store_state s) (store_state database then) x (opens.reads (same_schema ∙ not_earlier s ready)) honest ready.rest in
       record { ready = same.ready ready; in_form = ap form_of same.rows ∙ is; current = subst HasCurrentSchema (sym same.rows) (ready_current s records ready is); settled = same.rest.only }
-  rows_of_all x reads migrates (inr earlier) honest records is =
+  rows_of_all x is_earlier same_schema opens (inr earlier) honest records is =
       let s = state database db in
-      let done = ((migrates (has_earlier s earlier)).rows.effect honest earlier).done in
+      let done = ((opens.migrates (same_schema ∙ has_earlier s earlier)).effect honest earlier).done in
       record { ready = done.0; in_form = ap form_of done.1 ∙ migrated_alike s records earlier is; current = subst HasCurrentSchema (sym done.1) (migrated_current (as_store_state s).rows); settled = done.0.rest.only }

@@ -12,6 +12,7 @@ use Rattle.vault_volume.specs.Vault.{volume_of, IsFree}
 use Rattle.vault_volume.specs.Image.{DiffersOnlyIn}
 use Rattle.vault_volume.specs.Extents.{SameFree}
 use Rattle.vault_volume.proofs.ImageLemmas.{in_more}
+use Rattle.vault_volume.proofs.Moments.{leaves_weaker, nothing_yet}
 use Rattle.custody_records.specs.Records.{Records, with_registry}
 use Rattle.custody_records.specs.Rows.{Rows, with_registry_row}
 use Rattle.custody_records.specs.Form.{form_of, InForm, HasCurrentSchema}
@@ -56,11 +57,11 @@ since_same moment left_at v image h =
     subst (λ t. left_at v t image) same h.3
 
 pub stays_still : {V : Type 0} (moment : V → ℕ) (left_at : V → ℕ → List ℕ → Type 0) (v : V) → LeavesOnly moment left_at v v (left_at v (moment v))
-stays_still moment left_at v = record { later = omega arith; past = λ t c at. (λ w. w, λ w. w); since = λ t c from to w. let same : t ≡ moment v = omega arith in subst (λ k. left_at v k c) same w }
+stays_still moment left_at v = nothing_yet moment left_at v _ (λ c w. w)
 
 -- and one that was only read
 pub leaves_more : {V : Type 0} (moment : V → ℕ) (left_at : V → ℕ → List ℕ → Type 0) (old new : V) (P Q : List ℕ → Type 0) → ((c : List ℕ) → P c → Q c) → LeavesOnly moment left_at old new P → LeavesOnly moment left_at old new Q
-leaves_more moment left_at old new P Q more l = record { later = l.later; past = l.past; since = λ t c from to w. more c (l.since t c from to w) }
+leaves_more = leaves_weaker
 
 -- ---- rows
 

@@ -1,9 +1,9 @@
 -- What an opening finds of a database and a volume.
 use Rattle.std.proofs.Common.{◌≡◌, ◌⊎◌, inl, inr, ℕ, zero, suc, ℤ, pos, negsuc, ◌*◌, ◌<◌, ◌≤◌, ◌^◌, List, [], ◌∷◌, length, Option, Some, None, Result, Ok, Err, refl, sym, ◌∙◌, ap, subst, arith}
-use Rattle.std.specs.Prelude.{◌||◌, codes, true, false, option_map, IfSome, IfNone}
+use Rattle.std.specs.Prelude.{◌||◌, codes, true, false, option_map}
 use Rattle.vault_volume.specs.Image.{bytes_at, DiffersOnlyIn}
 use Rattle.vault_volume.proofs.ImageLemmas.{same_in}
-use Rattle.vault_volume.specs.Disk.{LeavesOneImage, LeavesOnly}
+use Rattle.vault_volume.specs.Disk.{LeavesOnly}
 use Rattle.vault_volume.specs.Head.{head_of}
 use Rattle.custody_records.specs.declared.meta.Meta.{Meta}
 use Rattle.custody_records.specs.Records.{Records}
@@ -15,7 +15,7 @@ use Rattle.custody_records.proofs.ReadLemmas.{some_same}
 use Rattle.custody_machine.specs.declared.damage.Damage.{Damage}
 use Rattle.custody_machine.specs.declared.damage.Damage.TheVariants as wrong
 use Rattle.custody_machine.specs.Damage.{IsDamaged}
-use Rattle.custody_rules.specs.Breaks.{BreaksFirst}
+use Rattle.custody_rules.specs.Breaks.{BreaksFirst, ReportsBreak}
 use Rattle.std.specs.FinMap.{get, empty, get-empty, same_map}
 use Rattle.std.specs.declared.cmp.Ordering.{Ordering}
 use Rattle.sqlite.specs.State.{State, HasCleanDisk}
@@ -28,11 +28,11 @@ use Rattle.custody_store.specs.Reading.{rows_in, has_table}
 use Rattle.custody_store.specs.Schema.{meta_schema}
 use Rattle.custody_store.specs.StoreState.{StoreState, store_state, as_store_state, IsAtRest, IsReady, IsBare, HasFirstTables, HasSchemaTablesFirst, HasMetaOrNone, HasKnownTables, MayLeaveRows, has_any_table, CreatesTables, ChangesNothing, SameTablesAndRows}
 use Rattle.custody_store.proofs.BareLemmas.{rows_bare}
-use Rattle.custody_store.proofs.ReadLemmas.{still, reads_then, meta_there, meta_of_first, first_of_ready, first_of_earlier}
+use Rattle.custody_store.proofs.ReadLemmas.{still, meta_there, meta_of_first, first_of_ready, first_of_earlier}
 use Rattle.custody_machine.specs.State.{empty as nothing}
 use Rattle.custody_machine.specs.StoredState.{AreWhole, AreWholeOnVolume, KeepsParts, part_of, state_in, HasDigests}
 use Rattle.custody_machine.specs.Moves.{Serving, Left, MayLeave, IsBegun}
-use Rattle.custody_machine.specs.Custody.{IsOnVolume, IsInStore, LeftSince, Leaves, MayInitialise}
+use Rattle.custody_machine.specs.Custody.{IsOnVolume, IsInStore, MayInitialise}
 use Rattle.custody_machine.proofs.MapValues.{get-map_values}
 use Rattle.custody_machine.proofs.Stored.{keeps_itself}
 use Rattle.custody_records.specs.inside.Orders.{part_total, part_exact}
@@ -47,12 +47,6 @@ use Rattle.custody.specs.declared.answers.InitError.TheVariants as init_error
 use Rattle.custody.specs.Opening.{HasAllTables, HasAllTablesOrNone, HasNoRecord, WritesNothing, IsVolumeSize, ReadsVolume, OnlyReads}
 use Rattle.custody.specs.Calls.{LeavesNone}
 
-pub some_is : {T : Type 0} (P : T → Type 0) (o : Option T) (x : T) → o ≡ Some x → IfSome o P → P x
-some_is {T} P o x e h = subst (λ (o : Option T). IfSome o P) e h
-
-pub none_is : {T : Type 0} (P : Type 0) (o : Option T) → o ≡ None → IfNone o P → P
-none_is {T} P o e h = subst (λ (o : Option T). IfNone o P) e h
-
 -- a volume with a block 0 has a block
 pub has_block : (image : List ℕ) (size number : ℕ) → length image ≡ 4096 * size → bytes_at image 0 4096 ≡ head_of number → 1 ≤ size
 has_block [] size number long head = cc
@@ -61,40 +55,48 @@ has_block (byte ∷ image) (suc size) number long head = omega arith
 
 -- what is wrong among records in form
 pub broken_damaged : (damage : Damage) (records : Records) (rows : Rows) (image : List ℕ) → form_of rows ≡ InForm records → BreaksFirst damage records → IsDamaged damage rows image
-broken_damaged wrong.NoRecord records rows image is breaks = absurd breaks
-broken_damaged wrong.Head records rows image is breaks = absurd breaks
-broken_damaged wrong.Volume records rows image is breaks = absurd breaks
-broken_damaged wrong.Schema records rows image is breaks = absurd breaks
-broken_damaged wrong.Form records rows image is breaks = absurd breaks
 broken_damaged wrong.Extent records rows image is breaks = (records, is, breaks)
 broken_damaged wrong.Overlap records rows image is breaks = (records, is, breaks.1)
 broken_damaged wrong.Link records rows image is breaks = (records, is, breaks.2)
-broken_damaged wrong.Digest records rows image is breaks = absurd breaks
+broken_damaged _ records rows image is breaks = absurd breaks
+
+-- whole records break no rule
+none_broken : (damage : Damage) (records : Records) → AreWhole records → BreaksFirst damage records → ⊥
+none_broken wrong.Extent records whole breaks = breaks whole.extents
+none_broken wrong.Overlap records whole breaks = breaks.1 whole.once
+none_broken wrong.Link records whole breaks = breaks.2 whole.linked
+none_broken _ records whole breaks = absurd breaks
+
+-- so nothing is told of them but want of memory
+pub only_memory : (why : Failure) (records : Records) → AreWhole records → ReportsBreak records why → why ≡ failure.NoMemory
+only_memory failure.NoMemory records whole told = refl
+only_memory (failure.Damaged damage) records whole told = absurd (none_broken damage records whole told)
+only_memory _ records whole told = absurd told
+
+-- a row that was found is the first
+pub first_row : (first : Option MetaRow) (found : Meta) → Some found ≡ option_map typed.meta_of first → (row : MetaRow) × (first ≡ Some row) × (found ≡ typed.meta_of row)
+first_row None found is = cc
+first_row (Some row) found is = (row, refl, some_same _ _ is)
 
 -- a row of meta that is of another volume
 pub other_volume : (rows : Rows) (found : Meta) (number size : ℕ) (image : List ℕ) → Some found ≡ option_map typed.meta_of (first_meta rows) → number < 2 ^ 64 → length image ≡ 4096 * size → bytes_at image 0 4096 ≡ head_of number
     → ¬ ((found.number ≡ Some number) × (found.blocks ≡ pos size)) → IsDamaged wrong.Volume rows image
-other_volume rows found number size image is lt long head other = by rows.meta refl (is)
+other_volume rows found number size image is lt long head other =
+    let row = first_row (first_meta rows) found is in (
+      row.0,
+      number,
+      lt,
+      row.1,
+      head,
+      λ of. other (
+        ap (λ (m : Meta). m.number) row.2 ∙ sym (number_reads row.0.number number lt of.number_is),
+        ap (λ (m : Meta). m.blocks) row.2 ∙ same_blocks row.0.blocks (sym of.size ∙ long) (has_block image size number long head),
+      ),
+    )
   where
     same_blocks : (blocks : ℤ) → 4096 * natural blocks ≡ 4096 * size → 1 ≤ size → blocks ≡ pos size
     same_blocks (pos n) e le = let same : n ≡ size = omega arith in ap pos same
     same_blocks (negsuc n) e le = absurd (omega arith)
-
-    by : (metas : Option (List MetaRow)) → rows.meta ≡ metas → Some found ≡ option_map typed.meta_of (first_meta (record rows { meta = metas })) → IsDamaged wrong.Volume rows image
-    by None at is = cc
-    by (Some []) at is = cc
-    by (Some (row ∷ others)) at is =
-        let same : found ≡ typed.meta_of row = cc in (
-          row,
-          number,
-          lt,
-          ap (λ metas. first_meta (record rows { meta = metas })) at,
-          head,
-          λ of. other (
-            ap (λ (m : Meta). m.number) same ∙ sym (number_reads row.number number lt of.number_is),
-            ap (λ (m : Meta). m.blocks) same ∙ same_blocks row.blocks (sym of.size ∙ long) (has_block image size number long head),
-          ),
-        )
 
 -- ---- a beginning
 
@@ -142,8 +144,7 @@ meta_where_known s (inr known) = inl known.0
 
 -- with the tables of a schema it is at rest
 pub all_rests : (s : State) → HasAllTables (as_store_state s) → IsAtRest s
-all_rests s (inl ready) = ready.rest
-all_rests s (inr earlier) = earlier.rest
+all_rests s all = (first_of_all s all).0.rest
 
 -- and so is one without tables
 pub either_rests : (s : State) → HasAllTablesOrNone (as_store_state s) → IsAtRest s
@@ -161,6 +162,14 @@ founds_err old new after e f p = record {
   trust = p.trust;
   mode = p.mode;
   effect = λ honest bare. let did = p.effect honest bare in record { done = tt; made = tt; kept = did.kept; left = did.left };
+}
+
+-- and with another answer
+pub founds_ok : {A B E F : Type 0} (old new : StoreState) (after : Rows) (x : A) (y : B) → CreatesTables {E = E} old new after (Ok x) → CreatesTables {E = F} old new after (Ok y)
+founds_ok old new after x y p = record {
+  trust = p.trust;
+  mode = p.mode;
+  effect = λ honest bare. let did = p.effect honest bare in record { done = did.done; made = did.made; kept = tt; left = did.left };
 }
 
 module _ (number blocks : ℕ) where
@@ -229,12 +238,12 @@ module _ {A E : Type 0} (old mid new : StoreState) (x : A) (reads : ChangesNothi
   pub stands_still : new.IsHonest → old.IsAtRest → SameTablesAndRows old new
   stands_still honest rest = subst (SameTablesAndRows old) (sym is) (still old mid x reads (subst (λ s. s.IsHonest) is honest) rest)
 
--- two such calls, where the database is handed on
-pub reads_both : {S A B E F : Type 0} (database : Ghosts S) (db end : Held S) {mid over later : Held S} {x : A} {r : Result B F} → ChangesNothing {E = E} (store_state database db) (store_state database mid) (Ok x) → over ≡ mid
-    → ChangesNothing (store_state database over) (store_state database later) r → end ≡ later → ChangesNothing (store_state database db) (store_state database end) r
-reads_both database db end {mid} {over} {later} {x} {r} reads is then at =
-    subst (λ h. ChangesNothing (store_state database db) (store_state database h) r) (sym at)
-    (reads_then (store_state database db) (store_state database mid) (store_state database later) x r reads (subst (λ h. ChangesNothing (store_state database h) (store_state database later) r) is then))
+-- a database without tables is handed on without
+pub bare_still : {S A E : Type 0} (database : Ghosts S) (db mid over : Held S) (x : A) → ChangesNothing {E = E} (store_state database db) (store_state database mid) (Ok x) → over ≡ mid
+    → has_any_table (store_state database db) ≡ false → HasAllTablesOrNone (store_state database db) → (store_state database over).IsHonest → (store_state database over).IsBare
+bare_still database db mid over x reads is none either honest =
+    let bare = bare_where_none (state database db) (sym none) either in
+    (stands_still (store_state database db) (store_state database mid) (store_state database over) x reads (ap (store_state database) is) honest bare.rest).bare bare
 
 -- ---- what an opening leaves
 
@@ -252,33 +261,24 @@ left_alike rows image r j alike same_image records is good = record {
 pub left_same : (rows : Rows) (image : List ℕ) (r : Rows) (j : List ℕ) → r ≡ rows → j ≡ image → MayLeave (Left rows image) r j
 left_same rows image r j same_rows = left_alike rows image r j (λ records is. ap form_of same_rows ∙ is)
 
--- a stop within it, or after it
-pub leaves_start : {A E V : Type 0} (s : State) (new : StoreState) (r : Result A E) (moment : V → ℕ) (left_at : V → ℕ → List ℕ → Type 0) (old later : V) (image : List ℕ) → IsAtRest s → ChangesNothing (as_store_state s) new r → new.IsHonest
-    → LeavesOneImage image (left_at old (moment old)) → LeavesOnly moment left_at old later (left_at old (moment old))
-    → Leaves (record { rows_before = MayLeaveRows s; images_since = LeftSince moment left_at old later; rows_then = new.may_leave; images_then = left_at later (moment later) }) (MayLeave (Left (rows_in s.now.trees) image)) (MayLeave (Left (rows_in s.now.trees) image))
-leaves_start s new r moment left_at old later image rest reads honest one only = record {
-  within = λ rows j h since. left_same (rows_in s.now.trees) image rows j (rest.only rows h) ((one j).0 (only.since since.0 j since.1 since.2 since.3));
-  at_exit = λ rows j h left. left_same (rows_in s.now.trees) image rows j (rest.only rows (reads.commits_nothing honest rows h))
-      ((one j).0 (only.since (moment later) j only.later (omega arith) left));
-}
-
 -- volume and database are only read
 module _ {V S : Type 0} (device : volume.Ghosts V) (database : Ghosts S) where
   pub only_reads : {A E : Type 0} (volume : V) (db : Held S) (later : V) (then : Held S) (r : Result A E) → ReadsVolume device volume later → ChangesNothing (store_state database db) (store_state database then) r → OnlyReads device database volume db later then r
   only_reads volume db later then r image rows = record {
     image = image;
     rows = rows;
-    leaves = λ tells one rest honest. leaves_start (state database db) (store_state database then) r device.moment device.left_at volume later (device.image volume) rest rows honest one (image.any_moment tells);
+    leaves = λ tells one rest honest. let only = image.any_moment tells in record {
+      within = λ s j h since. left_same (store_state database db).rows (device.image volume) s j (rest.only s h) ((one j).0 (only.since since.0 j since.1 since.2 since.3));
+      at_exit = λ s j h left.
+          left_same (store_state database db).rows (device.image volume) s j (rest.only s (rows.commits_nothing honest s h)) ((one j).0 (only.since (device.moment later) j only.later (omega arith) left));
+    };
   }
 
 -- ---- what a beginning leaves that makes nothing
 
--- a failure of volume or database is told where something was written
-pub is_written : (why : Failure) → (why ≡ failure.VolumeFailed) ⊎ (why ≡ failure.StoreFailed) → ¬ WritesNothing (init_error.Failure why)
-is_written why kind (inl same) = cc
-is_written why kind (inr (inl same)) = cc
-is_written why (inl is) (inr (inr same)) = cc
-is_written why (inr is) (inr (inr same)) = cc
+-- what failed and wrote nothing had no memory
+pub no_memory : (why : Failure) → WritesNothing (init_error.Failure why) → why ≡ failure.NoMemory
+no_memory why wrote = grind arith
 
 -- where the database was only read
 pub none_made : {A E V S : Type 0} (device : volume.Ghosts V) (database : Ghosts S) (volume : V) (db : Held S) (number : ℕ) (error : InitError) (later : V) (then : Held S) (r : Result A E) → ChangesNothing (store_state database db) (store_state database then) r → (store_state database then).IsHonest

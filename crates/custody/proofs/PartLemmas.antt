@@ -45,9 +45,6 @@ writable size count (e ∷ extents) small each counts some = λ k d lt. words (e
     words : {x : Extent} → IsExtentOf size x → HasWords x
     words h = let start = h.0 in let fits = h.2 in (omega arith, omega arith)
 
-some_blocks : (len : ℕ) → 0 < len → 1 ≤ block_count len
-some_blocks len lt = omega arith
-
 module _ (n : Name) (now size : ℕ) (was_free is_free : ℕ → Type 0) (bytes : List ℕ) (staged : StagedPart) (p : IsPlaced size was_free is_free bytes staged) where
   is_part : (text : List ℕ) → read_name text ≡ Ok n → IsMoment now → size ≤ 262_144 → (0 < length bytes) × (length bytes ≤ 1_048_576) → IsPart (key_of n) (staged_record n now staged)
   is_part text named moment small sized = let name = (read_is text n named).0 in record {
@@ -58,7 +55,7 @@ module _ (n : Name) (now size : ℕ) (was_free is_free : ℕ → Type 0) (bytes 
     received = moment;
     len = let low = sized.0 in let high = sized.1 in let is = p.len in (omega arith, omega arith);
     digest = ap length p.digest ∙ length-sha256 bytes;
-    extents = writable size (block_count (length bytes)) staged.extents small p.chosen.within p.chosen.adds_up (some_blocks (length bytes) sized.0);
+    extents = writable size (block_count (length bytes)) staged.extents small p.chosen.within p.chosen.adds_up (let low = sized.0 in omega (arith, low));
   }
 
   -- its row is read as its record

@@ -14,6 +14,7 @@ use Rattle.vault_volume.specs.Disk.{LeavesOnly}
 use Rattle.vault_volume.specs.Extents.{AreUsed, GivesBack, IsExtentOf, IsInAny, IsUsed}
 use Rattle.vault_volume.specs.Image.{DiffersOnlyIn}
 use Rattle.vault_volume.proofs.ImageLemmas.{same_in}
+use Rattle.vault_volume.proofs.Moments.{nothing_yet}
 use Rattle.custody_records.specs.declared.records.Records as held
 use Rattle.custody_records.specs.Keys.{part_cmp}
 use Rattle.custody_records.specs.inside.Orders.{part_exact}
@@ -33,7 +34,7 @@ use Rattle.custody_machine.proofs.Purged.{due_used, purged_in_order, purge_accep
 use Rattle.custody.specs.declared.answers.Refused.TheVariants as refused
 use Rattle.custody.specs.declared.open_custody.OpenCustody.{OpenCustody}
 use Rattle.custody.specs.OpenCustody.{current_records, image_of, failures_of, MayLeaveImage, KeepsImage, KeepsOrder, HasExecuted}
-use Rattle.custody.proofs.OpenCustodyLemmas.{leaves_more, stays_still}
+use Rattle.custody.proofs.OpenCustodyLemmas.{stays_still}
 use Rattle.custody.proofs.Done.{IsOneChange, GoesOn, no_memory_done}
 
 -- the records, after the bytes were dropped in memory
@@ -70,7 +71,7 @@ module _ {V S : Type 0} {g : volume.Ghosts V} (database : Ghosts S) (old : OpenC
         (purge_changes (current_records old) (image_of old) good now d (g.size (volume_of old.vault)) (failures_of old) (IsFree old.vault) order);
     volume = λ _ kept. subst (λ v. IsVolumeOf records_then (g.image v)) (sym same) (record { head = kept.volume.head; size = kept.volume.size });
     any_moment = λ _ kept. subst (λ v. LeavesOnly g.moment g.left_at (volume_of old.vault) v (DiffersOnlyIn (IsFree old.vault) (image_of old))) (sym same)
-        (leaves_more g.moment g.left_at (volume_of old.vault) (volume_of old.vault) _ _ kept.elsewhere (stays_still g.moment g.left_at (volume_of old.vault)));
+        (nothing_yet g.moment g.left_at (volume_of old.vault) _ kept.elsewhere);
     after = λ _ kept. subst (λ v. (j : List ℕ) → g.left_at v (g.moment v) j → DiffersOnlyIn (IsFree old.vault) (g.image v) j) (sym same) kept.elsewhere;
   }
 

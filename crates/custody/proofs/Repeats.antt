@@ -13,9 +13,9 @@ use Rattle.custody_records.specs.declared.parts.Part.{Part}
 use Rattle.custody_records.specs.Records.{Records}
 use Rattle.custody_records.specs.TypedRecords.{key_of_part, part_value}
 use Rattle.custody_machine.specs.State.{Held}
-use Rattle.custody_machine.specs.Machine.{Command, Register, Receive, Statement, Check, Release, Hold, Lift, Purge, OfPart, Accept, Answer, Accepted, MayAnswer, MayRefuse}
+use Rattle.custody_machine.specs.Machine.{Command, Receive, OfPart, Accept, Answer, Accepted, MayAnswer, MayRefuse}
 use Rattle.custody_machine.specs.Moves.{DependsOnBytes}
-use Rattle.custody_machine.specs.StoredState.{ForExtents, AreExtents, content_of, state_in}
+use Rattle.custody_machine.specs.StoredState.{AreExtents, content_of, state_in}
 use Rattle.custody_machine.specs.Rulings.{CompareRuling, Decides, BringsPart, command_bytes}
 use Rattle.custody_machine.specs.Custody.{Compares, Same, Other, Broken}
 use Rattle.custody_machine.specs.declared.answers.Failure.TheVariants as failure
@@ -32,6 +32,7 @@ use Rattle.custody.specs.RulingAnswers.{AnswersCompared}
 use Rattle.custody.specs.ReplyRecords.{IsRecordOfPart, IsRecorded, HoldsBytes}
 use Rattle.custody.specs.OpenCustody.{current_records, image_of, failures_of, KeepsOrder, IsSafe, IsUnwritten, HasExecuted}
 use Rattle.custody.proofs.OpenCustodyLemmas.{stays_still, order_same, safe_undone}
+use Rattle.custody.proofs.RevisionLemmas.{in_range}
 use Rattle.custody.proofs.ShownLemmas.{shown_of, holds_of, entry_of}
 use Rattle.custody.proofs.Done.{reads_done}
 
@@ -43,21 +44,15 @@ module _ {V S : Type 0} {g : volume.Ghosts V} (old : OpenCustody V S g) (order :
   uses = by command d.0.named
     where
       by : (command : Command) → BringsPart command part.name → uses_volume command ≡ true
-      by (Register tld first_day) under = absurd under
       by (Receive text sent) under = refl
-      by (Statement stated) under = absurd under
-      by (Check tld day) under = absurd under
-      by (Release reference tld reason) under = absurd under
-      by (Hold reference tld day) under = absurd under
-      by (Lift reference) under = absurd under
-      by Purge under = absurd under
+      by command under = absurd under
 
   never_idle : {P : Type 0} → uses_volume command ≡ false → P
   never_idle idle = let clash : true ≡ false = sym uses ∙ idle in cc
 
   -- the part may be read
   pub held_in_range : AreExtents (g.size (volume_of old.vault)) part.len extents
-  held_in_range = subst (λ size. AreExtents size part.len extents) (sym order.blocks) (subst (λ o. ForExtents o (AreExtents (current_records old).blocks part.len)) d.0.held (order.whole.extents (key_of_part part) (part_value part) d.0.recorded))
+  held_in_range = in_range (current_records old) (key_of_part part) (part_value part) extents (g.size (volume_of old.vault)) order.whole.extents d.0.recorded d.0.held order.blocks
 
   module _ (new : OpenCustody V S g) (records_same : current_records new ≡ current_records old) (store_same : new.store ≡ old.store) (free : SameFree (IsFree old.vault) (IsFree new.vault)) (size : g.size (volume_of new.vault) ≡ g.size (volume_of old.vault))
       (unwritten : g.tells → IsUnwritten old new) (database : Ghosts S) where

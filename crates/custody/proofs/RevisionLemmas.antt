@@ -1,19 +1,19 @@
 -- The parts of a revision, place by place; and a volume that is read again.
-use Rattle.std.proofs.Common.{◌≡◌, ℕ, zero, suc, ◌+◌, ◌-◌, ◌<◌, ◌≤◌, List, [], ◌∷◌, ◌++◌, map, Option, Some, None, Bool, true, false, is_some, cond, refl, sym, ◌∙◌, ap, subst, arith, take, get_or, Contains, ◌⊎◌, inl, inr}
+use Rattle.std.proofs.Common.{◌≡◌, ℕ, suc, ◌+◌, ◌-◌, ◌<◌, ◌≤◌, List, [], ◌∷◌, ◌++◌, map, Option, Some, None, Bool, true, false, is_some, cond, refl, sym, ◌∙◌, ap, subst, arith, take, get_or, Contains, ◌⊎◌, inl, inr}
 use Rattle.std.proofs.lemmas.Bool.{cases_lt}
 use Rattle.std.proofs.lemmas.List.{flat_map_more, take_more, take_all}
 use Rattle.std.specs.Prelude.{option_map, ◌==◌, ◌||◌, Result, Ok, Err, IfOk}
-use Rattle.std.specs.List.{flat_map, filter, list_any, AllByRecursion}
+use Rattle.std.specs.List.{flat_map, filter, list_any}
 use Rattle.std.specs.FinMap.{get}
-use Rattle.std.proofs.lemmas.List.Elements.{Contains-append_right, All-contains, All-from_recursion}
+use Rattle.std.proofs.lemmas.List.Elements.{Contains-append_right, All-contains, All-filter, All-from_recursion, All-map}
 use Rattle.std.proofs.lemmas.Bool.Decides.{Decides-eqb}
 use Rattle.sha2.specs.Sha256.{sha256}
 use Rattle.deposit_name.specs.Name.{Name}
 use Rattle.vault_volume.specs.declared.vault.Vault.{Vault}
 use Rattle.vault_volume.specs.declared.volume.Volume as volume
-use Rattle.vault_volume.specs.Disk.{LeavesOnly}
 use Rattle.vault_volume.specs.Extents.{part_bytes}
 use Rattle.vault_volume.specs.Vault.{volume_of}
+use Rattle.vault_volume.proofs.Moments.{at_end, chained, nothing_yet}
 use Rattle.extent_map.specs.declared.extent.Extent.{Extent}
 use Rattle.custody_records.specs.Keys.{PartKey, part_cmp}
 use Rattle.custody_records.specs.Records.{PartRecord, Records, key_of}
@@ -21,23 +21,12 @@ use Rattle.custody_machine.specs.Machine.{bytes_held, joined_bytes, part_keys, r
 use Rattle.custody_machine.specs.State.{part_numbers, key_with_part}
 use Rattle.custody_machine.specs.StoredState.{part_of, state_in, HasDigestAt, HaveExtentsInRange, AreExtents, ForExtents}
 use Rattle.custody_machine.proofs.MapValues.{get-map_values}
-use Rattle.custody_machine.proofs.Series.{is_place}
+use Rattle.custody_machine.proofs.Series.{at_below, is_place}
 use Rattle.custody.specs.Reading.{ReadsVault, bytes_under}
 
 -- ---- keys of places
 
 module _ (p : ℕ → Bool) (f : ℕ → PartKey) where
-  all_of : (P : PartKey → Type 0) (xs : List ℕ) → AllByRecursion (λ n. P (f n)) xs → AllByRecursion P (map f (filter p xs))
-  all_of P [] h = h
-  all_of P (x ∷ xs) h = by (p x) (all_of P xs h.1)
-    where
-      by : (b : Bool) → AllByRecursion P (map f (filter p xs)) → AllByRecursion P (map f (cond b (x ∷ filter p xs) (filter p xs)))
-      by true rest = (h.0, rest)
-      by false rest = rest
-
-  in_first : (x : PartKey) (xs : List PartKey) → Contains (x ∷ xs) x
-  in_first x xs = (0, omega arith, refl)
-
   key_in : (n : ℕ) → p n ≡ true → (xs : List ℕ) → list_any (λ m. m == n) xs ≡ true → Contains (map f (filter p xs)) (f n)
   key_in n passes [] h = cc
   key_in n passes (x ∷ xs) h = by (x == n) refl h (key_in n passes xs)
@@ -50,7 +39,7 @@ module _ (p : ℕ → Bool) (f : ℕ → PartKey) where
       by true is h rest =
           let same : x ≡ n = (Decides-eqb x n).0 is in
           let kept : p x ≡ true = ap p same ∙ passes in
-          subst (λ b. Contains (map f (cond b (x ∷ filter p xs) (filter p xs))) (f n)) (sym kept) (subst (λ m. Contains (f x ∷ map f (filter p xs)) (f m)) same (in_first (f x) (map f (filter p xs))))
+          subst (λ b. Contains (map f (cond b (x ∷ filter p xs) (filter p xs))) (f n)) (sym kept) (subst (λ m. Contains (f x ∷ map f (filter p xs)) (f m)) same (0, omega arith, refl))
       by false is h rest = also (p x) (rest h)
 
 -- ---- a revision
@@ -69,8 +58,9 @@ module _ (records : Records) (image : List ℕ) (name : Name) where
   pub all_sound : ((k : ℕ) → k < 8 → HasDigestAt image records (key_at (suc k))) → (key : PartKey) → Contains (part_keys (state_in records image) name) key → HasDigestAt image records key
   all_sound sound key within =
       All-contains (HasDigestAt image records) _ key
-      (All-from_recursion (HasDigestAt image records) _ (all_of (λ place. is_some (revision_part (state_in records image) name place)) key_at (HasDigestAt image records) part_numbers
-      (sound 0 (omega arith), (sound 1 (omega arith), (sound 2 (omega arith), (sound 3 (omega arith), (sound 4 (omega arith), (sound 5 (omega arith), (sound 6 (omega arith), (sound 7 (omega arith), tt))))))))))
+      (All-map (HasDigestAt image records) key_at _ (All-filter (λ place. is_some (revision_part (state_in records image) name place)) (λ place. HasDigestAt image records (key_at place)) part_numbers
+      (All-from_recursion (λ place. HasDigestAt image records (key_at place)) part_numbers
+      (sound 0 (omega arith), (sound 1 (omega arith), (sound 2 (omega arith), (sound 3 (omega arith), (sound 4 (omega arith), (sound 5 (omega arith), (sound 6 (omega arith), (sound 7 (omega arith), tt)))))))))))
       within
 
   -- and one that has not is read
@@ -78,10 +68,7 @@ module _ (records : Records) (image : List ℕ) (name : Name) where
   broken_read k lt broken = key_in (λ place. is_some (revision_part (state_in records image) name place)) key_at (suc k) (by (get records.parts (key_at (suc k))) refl) part_numbers (is_place k lt)
     where
       by : (o : Option PartRecord) → get records.parts (key_at (suc k)) ≡ o → is_some (revision_part (state_in records image) name (suc k)) ≡ true
-      by None at = absurd (broken (λ part extents there. absurd (never part (sym at ∙ there))))
-        where
-          never : (part : PartRecord) → ◌≡◌ {A = Option PartRecord} None (Some part) → ⊥
-          never part e = cc
+      by None at = absurd (broken (λ part extents there held. cc))
       by (Some part) at = ap is_some (place_is (suc k)) ∙ ap (λ o. is_some (option_map (part_of image) o)) at
 
   -- ---- one place more
@@ -90,15 +77,7 @@ module _ (records : Records) (image : List ℕ) (name : Name) where
   bytes_at place = bytes_under image records (key_at place)
 
   place_at : (n : ℕ) → n < 8 → get_or part_numbers n 0 ≡ suc n
-  place_at zero lt = refl
-  place_at (suc zero) lt = refl
-  place_at (suc (suc zero)) lt = refl
-  place_at (suc (suc (suc zero))) lt = refl
-  place_at (suc (suc (suc (suc zero)))) lt = refl
-  place_at (suc (suc (suc (suc (suc zero))))) lt = refl
-  place_at (suc (suc (suc (suc (suc (suc zero)))))) lt = refl
-  place_at (suc (suc (suc (suc (suc (suc (suc zero))))))) lt = refl
-  place_at (suc (suc (suc (suc (suc (suc (suc (suc n)))))))) lt = absurd (omega (arith, lt))
+  place_at = at_below 8 (λ n. get_or part_numbers n 0 ≡ suc n) (refl, (refl, (refl, (refl, (refl, (refl, (refl, (refl, tt))))))))
 
   front_more : (n : ℕ) → n < 8 → flat_map bytes_at (take n part_numbers) ++ bytes_at (suc n) ≡ flat_map bytes_at (take (n + 1) part_numbers)
   front_more n lt = flat_map_more bytes_at [] (take n part_numbers) (suc n) ∙ ap (λ m. flat_map bytes_at (take n part_numbers ++ m ∷ [])) (sym (place_at n lt)) ∙ ap (flat_map bytes_at) (sym (take_more part_numbers n 0 lt))
@@ -126,13 +105,11 @@ module _ (records : Records) (image : List ℕ) (name : Name) where
         by (inr most) = let at : place ≡ suc k = omega (arith, lt, most) in subst (HasDigestAt image records) (is ∙ ap key_at at) (subst (λ j. HasDigestAt j records key) same last)
 
     pub broken_at : (¬ HasDigestAt seen records key) → Contains (part_keys (state_in records image) name) key × (¬ HasDigestAt image records key)
-    broken_at broken = (
-      subst (Contains (part_keys (state_in records image) name)) (sym here) (broken_read (place - 1) (omega (arith, low, high)) not_here),
-      λ has. broken (subst (λ j. HasDigestAt j records key) (sym same) has),
-    )
+    broken_at broken =
+        (subst (λ k. (¬ HasDigestAt image records k) → Contains (part_keys (state_in records image) name) k) (sym here) (broken_read (place - 1) (omega (arith, low, high))) still, still)
       where
-        not_here : ¬ HasDigestAt image records (key_at (suc (place - 1)))
-        not_here has = broken (subst (λ j. HasDigestAt j records key) (sym same) (subst (HasDigestAt image records) (sym here) has))
+        still : ¬ HasDigestAt image records key
+        still has = broken (subst (λ j. HasDigestAt j records key) (sym same) has)
 
   pub whole_read : (place : ℕ) → 9 ≤ place → (items : List ℕ) → items ≡ flat_map bytes_at (take (place - 1) part_numbers) → ((k : ℕ) → suc k < place → HasDigestAt image records (key_at (suc k)))
       → (items ≡ joined_bytes (state_in records image) name) × ((key : PartKey) → Contains (part_keys (state_in records image) name) key → HasDigestAt image records key)
@@ -147,36 +124,15 @@ pub if_ok_then : {T E : Type 0} (P Q : T → Type 0) (r : Result T E) → ((x : 
 if_ok_then P Q (Ok x) f h = f x h
 if_ok_then P Q (Err e) f h = tt
 
-pub none_sound : (image : List ℕ) (records : Records) (key : PartKey) → get records.parts key ≡ None → HasDigestAt image records key
-none_sound image records key at part extents there = absurd (never part (sym at ∙ there))
-  where
-    never : (part : PartRecord) → ◌≡◌ {A = Option PartRecord} None (Some part) → ⊥
-    never part e = cc
-
 pub dropped_sound : (image : List ℕ) (records : Records) (key : PartKey) (kept : PartRecord) → get records.parts key ≡ Some kept → kept.extents ≡ None → HasDigestAt image records key
-dropped_sound image records key kept at dropped part extents there held = absurd (never (ap (λ (r : PartRecord). r.extents) same ∙ held))
-  where
-    same : kept ≡ part
-    same = some_same kept part (sym at ∙ there)
-      where
-        some_same : (a b : PartRecord) → Some a ≡ Some b → a ≡ b
-        some_same a b e = cc
-
-    never : kept.extents ≡ Some extents → ⊥
-    never e = cc
+dropped_sound image records key kept at dropped part extents there held = cc
 
 module _ (image : List ℕ) (records : Records) (key : PartKey) (kept : PartRecord) (extents : List Extent) (at : get records.parts key ≡ Some kept) (held : kept.extents ≡ Some extents) where
   pub held_sound : sha256 (part_bytes image extents kept.len) ≡ kept.digest → HasDigestAt image records key
   held_sound is p es there within =
-      let one : kept ≡ p = same_part kept p (get records.parts key) at there in
-      let all : extents ≡ es = same_extents extents es kept.extents held (ap (λ (q : PartRecord). q.extents) one ∙ within) in
+      let one : kept ≡ p = cc in
+      let all : extents ≡ es = cc in
       subst (λ q. sha256 (part_bytes image es q.len) ≡ q.digest) one (subst (λ l. sha256 (part_bytes image l kept.len) ≡ kept.digest) all is)
-    where
-      same_part : (a b : PartRecord) (o : Option PartRecord) → o ≡ Some a → o ≡ Some b → a ≡ b
-      same_part a b o p q = cc
-
-      same_extents : (a b : List Extent) (o : Option (List Extent)) → o ≡ Some a → o ≡ Some b → a ≡ b
-      same_extents a b o p q = cc
 
   pub held_broken : (¬ (sha256 (part_bytes image extents kept.len) ≡ kept.digest)) → ¬ HasDigestAt image records key
   held_broken broken has = broken (has kept extents at held)
@@ -189,7 +145,7 @@ module _ {V : Type 0} {g : volume.Ghosts V} where
     free = λ b. (λ f. f, λ f. f);
     size = refl;
     image = λ _. refl;
-    any_moment = λ _. record { later = omega arith; past = λ t c at. (λ w. w, λ w. w); since = λ t c from to w. let same : t ≡ g.moment (volume_of vault) = omega arith in subst (λ k. g.left_at (volume_of vault) k c) same w };
+    any_moment = λ _. nothing_yet g.moment g.left_at (volume_of vault) _ (λ c w. w);
   }
 
   pub read_again : (first mid last : Vault V g) → ReadsVault first mid → ReadsVault mid last → ReadsVault first last
@@ -197,17 +153,7 @@ module _ {V : Type 0} {g : volume.Ghosts V} where
     free = λ n. (λ f. (a.free n).0 ((b.free n).0 f), λ f. (b.free n).1 ((a.free n).1 f));
     size = b.size ∙ a.size;
     image = λ tells. b.image tells ∙ a.image tells;
-    any_moment = λ tells. moments (a.any_moment tells) (b.any_moment tells);
+    any_moment = λ tells. let read = a.any_moment tells in
+        chained g.moment g.left_at (volume_of first) (volume_of mid) (volume_of last) _ _ read (b.any_moment tells)
+        (at_end g.moment g.left_at (volume_of first) (volume_of mid) _ read);
   }
-    where
-      moments : LeavesOnly g.moment g.left_at (volume_of first) (volume_of mid) (g.left_at (volume_of first) (g.moment (volume_of first))) → LeavesOnly g.moment g.left_at (volume_of mid) (volume_of last) (g.left_at (volume_of mid) (g.moment (volume_of mid)))
-          → LeavesOnly g.moment g.left_at (volume_of first) (volume_of last) (g.left_at (volume_of first) (g.moment (volume_of first)))
-      moments p q = let here = p.later in let there = q.later in record {
-        later = omega arith;
-        past = λ t c before. let x = p.past t c before in let y = q.past t c (omega arith) in (λ w. x.0 (y.0 w), λ w. y.1 (x.1 w));
-        since = λ t c from to w. since t c from to w (cases_lt t (g.moment (volume_of mid)));
-      }
-        where
-          since : (t : ℕ) (c : List ℕ) → g.moment (volume_of first) ≤ t → t ≤ g.moment (volume_of last) → g.left_at (volume_of last) t c → (t < g.moment (volume_of mid)) ⊎ (g.moment (volume_of mid) ≤ t) → g.left_at (volume_of first) (g.moment (volume_of first)) c
-          since t c from to w (inl before) = p.since t c from (omega (arith, before)) ((q.past t c (omega (arith, before))).0 w)
-          since t c from to w (inr after) = p.since (g.moment (volume_of mid)) c p.later (omega arith) (q.since t c after to w)

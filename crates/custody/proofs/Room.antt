@@ -18,9 +18,9 @@ use Rattle.custody_records.specs.Records.{PartRecord, Records, key_of}
 use Rattle.custody_records.specs.Tables.{row_entries, is_rising, table_map}
 use Rattle.custody_records.specs.TypedRecords.{key_of_part, part_value}
 use Rattle.custody_records.proofs.TableLemmas.{entries-table_map}
-use Rattle.custody_machine.specs.Machine.{Command, Register, Receive, Statement, Check, Release, Hold, Lift, Purge}
+use Rattle.custody_machine.specs.Machine.{Command, Receive}
 use Rattle.custody_machine.specs.StoredState.{ForExtents, AreExtents, AreWhole}
-use Rattle.custody_machine.specs.Rulings.{AddsRegistry, AddsPart, AddsVerdict, AddsAbsence, AddsRelease, AddsHold, LiftsHold, DropsBytes, Ruling, RefuseRuling, KeptRuling, CompareRuling, GoRuling, Decides}
+use Rattle.custody_machine.specs.Rulings.{AddsPart, Ruling, GoRuling, Decides}
 use Rattle.custody_machine.specs.Custody.{IsInOrder, HasRoomForCommand}
 use Rattle.custody_machine.proofs.Room.{room_for_part}
 use Rattle.custody_rules.specs.Blocks.{IsInRange, extents_of_all, part_extents}
@@ -79,27 +79,12 @@ free_count records rows all rising size failures free order count counted =
 pub had_room : {V S : Type 0} {g : volume.Ghosts V} (database : Ghosts S) (old new : OpenCustody V S g) → KeepsOrder old → (command : Command) (now : ℕ) (answer : Result Reply Refused)
     → HasExecuted database old command now answer new → IfOk answer (λ reply. reply.is_repeat ≡ false → HasRoomForCommand (current_records old) command)
 had_room database old new order command now (Err e) done = tt
-had_room database old new order (Register tld first_day) now (Ok reply) done = λ _. tt
-had_room database old new order (Statement stated) now (Ok reply) done = λ _. tt
-had_room database old new order (Check tld day) now (Ok reply) done = λ _. tt
-had_room database old new order (Release reference tld reason) now (Ok reply) done = λ _. tt
-had_room database old new order (Hold reference tld day) now (Ok reply) done = λ _. tt
-had_room database old new order (Lift reference) now (Ok reply) done = λ _. tt
-had_room database old new order Purge now (Ok reply) done = λ _. tt
 had_room {V} {S} {g} database old new order (Receive text bytes) now (Ok reply) done = by done.ruled.0 done.ruled.1 done.ruled.2
   where
     by : (ruling : Ruling) → Decides ruling (current_records old) (Receive text bytes) now → FollowsRuling ruling (current_records old) bytes now (Ok reply) (current_records new) → reply.is_repeat ≡ false → HasRoomForCommand (current_records old) (Receive text bytes)
-    by (RefuseRuling refusal) decides ruled first = cc
-    by (KeptRuling entry) decides ruled first = let repeat = ruled.1 in cc
-    by (CompareRuling name part extents) decides ruled first = let repeat = ruled.1 in cc
-    by (GoRuling (AddsRegistry tld first_day)) decides ruled first = let other = decides.0.0 in cc
-    by (GoRuling (AddsVerdict stated)) decides ruled first = let other = decides.0 in cc
-    by (GoRuling (AddsAbsence tld day)) decides ruled first = let other = decides.0 in cc
-    by (GoRuling (AddsRelease reference tld reason)) decides ruled first = let other = decides.0.0 in cc
-    by (GoRuling (AddsHold reference tld day)) decides ruled first = let other = decides.0.0 in cc
-    by (GoRuling (LiftsHold reference)) decides ruled first = let other = decides.0.0 in cc
-    by (GoRuling DropsBytes) decides ruled first = let other = decides.0 in cc
     by (GoRuling (AddsPart name)) decides ruled first =
         let counted = counted_in old.vault in
         let kept = done.safe.order refl in
         room_for_part (current_records old) (g.size (volume_of old.vault)) _ (IsFree old.vault) order counted.0 counted.1 (key_of name) (received_record name now bytes ruled.0) ruled.0 refl decides.0.1 (subst AreWhole ruled.3 kept.whole)
+    by ruling decides ruled first = cc
+had_room database old new order command now (Ok reply) done = λ _. tt

@@ -3,6 +3,7 @@ use Rattle.std.proofs.lemmas.Slice.Eq.{bytes_eq-Decides}
 use Rattle.std.specs.Str.{bytes_eq}
 use Rattle.std.proofs.Common.{Option, Some, min, not, ◌*◌, ◌≡◌, ◌≢◌, ◌⊎◌, ℕ, ◌+◌, ◌-◌, ◌<◌, ◌≤◌, List, [], ◌++◌, length, take, drop, replicate, Bool, true, false, refl, sym, ◌∙◌, ap, subst, arith, Result, Ok, Err, append_assoc, length-append}
 use Rattle.std.specs.Prelude.{is_err}
+use Rattle.std.proofs.lemmas.Bool.{not-false}
 use Rattle.std.proofs.lemmas.List.{drop-take, length-replicate, length-take-le, take_at, take-take}
 use Rattle.std.proofs.Math.Seq.{drop-append_seam, take-add}
 use Rattle.sqlite.specs.Store.{Ghosts}
@@ -48,7 +49,7 @@ use Rattle.custody.specs.declared.upload.Writing.{Writing}
 use Rattle.custody.specs.declared.open_custody.OpenCustody.{OpenCustody}
 use Rattle.custody.specs.Answers.{may_change, stays_open, refused_of_stage_error}
 use Rattle.custody.specs.Upload.{UploadStart, Continues, HasStaged, IsComparing, IsAnswered, IsWriting, IsWritten, compared_part}
-use Rattle.custody.specs.OpenCustody.{current_records, image_of, failures_of, MayLeaveImage, KeepsOrder, IsUnwritten}
+use Rattle.custody.specs.OpenCustody.{current_records, image_of, failures_of, MayLeaveImage, KeepsOrder, IsUnwritten, HasExecuted}
 use Rattle.custody.specs.Reading.{ReadsVault}
 use Rattle.custody.specs.OtherCalls.{RecordsNothing}
 use Rattle.custody.proofs.Ended.{freed_rested, undone_rested}
@@ -185,36 +186,27 @@ module _ {V S : Type 0} {g : volume.Ghosts V} (database : Ghosts S) (s : UploadS
     unwritten : g.tells → IsUnwritten s.start new
     unwritten tells = (all_read.image tells, all_read.any_moment tells)
 
+    answered : (answer : Result Reply not_accepted.Refused) → may_change answer ≡ false → ((body : List ℕ) → Continues later s.len body → HasExecuted database s.start (Receive s.text body) s.now answer new) → IsAnswered database s new answer later
+    answered answer unchanged done = record { order = is.order; unchanged = unchanged; done = done }
+
     -- the volume has failed
     pub compared_fails : failures_of new ≡ failures_of before + 1 → IsAnswered database s new (Err (refused.Failure failure.VolumeFailed)) later
-    compared_fails failed = record {
-      order = is.order;
-      unchanged = refl;
-      done = λ body comes.
-          unread_done s.start is.order (Receive s.text body) s.now (compared_part c) c.extents.items (is.decides body comes.0) new (records ∙ is.records) (store ∙ is.store) all_read.free all_read.size unwritten database
-          read.VolumeFailed (λ e. cc) (λ _. failed ∙ ap (λ (n : ℕ). n + 1) is.failures) (Err (refused.Failure failure.VolumeFailed)) refl;
-    }
+    compared_fails failed = answered (Err (refused.Failure failure.VolumeFailed)) refl (λ body comes.
+        unread_done s.start is.order (Receive s.text body) s.now (compared_part c) c.extents.items (is.decides body comes.0) new (records ∙ is.records) (store ∙ is.store) all_read.free all_read.size unwritten database
+        read.VolumeFailed (λ e. cc) (λ _. failed ∙ ap (λ (n : ℕ). n + 1) is.failures) (Err (refused.Failure failure.VolumeFailed)) refl)
 
     module _ (failures : failures_of new ≡ failures_of before) (differs : g.tells → (body : List ℕ) → Continues later s.len body → part_bytes (image_of s.start) c.extents.items c.len ≢ body) where
       -- the bytes are others, and the part has its digest
       pub told_other : (g.tells → sha256 (part_bytes (image_of s.start) c.extents.items c.len) ≡ c.digest) → IsAnswered database s new (Err (refused.Refusal OtherBytes)) later
-      told_other digest = record {
-        order = is.order;
-        unchanged = refl;
-        done = λ body comes.
-            other_done s.start is.order (Receive s.text body) s.now (compared_part c) c.extents.items (is.decides body comes.0) new (records ∙ is.records) (store ∙ is.store) all_read.free all_read.size unwritten database
-            (failures ∙ is.failures) (λ tells. (differs tells body comes, digest tells));
-      }
+      told_other digest = answered (Err (refused.Refusal OtherBytes)) refl (λ body comes.
+          other_done s.start is.order (Receive s.text body) s.now (compared_part c) c.extents.items (is.decides body comes.0) new (records ∙ is.records) (store ∙ is.store) all_read.free all_read.size unwritten database
+          (failures ∙ is.failures) (λ tells. (differs tells body comes, digest tells)))
 
       -- or has not
       pub told_broken : (g.tells → sha256 (part_bytes (image_of s.start) c.extents.items c.len) ≢ c.digest) → IsAnswered database s new (Err (refused.Failure (failure.Damaged Digest))) later
-      told_broken digest = record {
-        order = is.order;
-        unchanged = refl;
-        done = λ body comes.
-            broken_done s.start is.order (Receive s.text body) s.now (compared_part c) c.extents.items (is.decides body comes.0) new (records ∙ is.records) (store ∙ is.store) all_read.free all_read.size unwritten database
-            (failures ∙ is.failures) (λ tells. (differs tells body comes, digest tells));
-      }
+      told_broken digest = answered (Err (refused.Failure (failure.Damaged Digest))) refl (λ body comes.
+          broken_done s.start is.order (Receive s.text body) s.now (compared_part c) c.extents.items (is.decides body comes.0) new (records ∙ is.records) (store ∙ is.store) all_read.free all_read.size unwritten database
+          (failures ∙ is.failures) (λ tells. (differs tells body comes, digest tells)))
 
     -- the next bytes are the same
     pub compared_more : (piece : List ℕ) → failures_of new ≡ failures_of before → (g.tells → piece ≡ take (length piece) (drop c.done (bytes_of (image_of before) c.extents.items)))
@@ -303,7 +295,7 @@ some_bytes len = (replicate len 0, length-replicate {A = ℕ} len 0)
 
 -- a part that is to be kept has a byte at least, and no more than a part may have
 pub part_sized : {V S : Type 0} {g : volume.Ghosts V} (old : OpenCustody V S g) (name : Name) (text : List ℕ) (len now : ℕ) → KeepsOrder old → DecidesPart (GoRuling (AddsPart name)) (current_records old) text len now → (1 ≤ len) × (len ≤ 1_048_576)
-part_sized old name text len now order decides = (omega (arith, least, long), omega (arith, most, long))
+part_sized old name text len now order decides = (let least = sized.0 in omega (arith, least, long), let most = sized.1 in omega (arith, most, long))
   where
     long : length (some_bytes len).0 ≡ len
     long = (some_bytes len).1
@@ -314,31 +306,20 @@ part_sized old name text len now order decides = (omega (arith, least, long), om
     sized : (0 < length (some_bytes len).0) × (length (some_bytes len).0 ≤ 1_048_576)
     sized = has_size (current_records old) [] order.whole text (some_bytes len).0 now name ruled.0.0 ruled.0.1 (ruled.1 [])
 
-    least : 0 < length (some_bytes len).0
-    least = sized.0
-
-    most : length (some_bytes len).0 ≤ 1_048_576
-    most = sized.1
-
 -- a part makes no other change than that it is kept
 pub only_a_part : (change : Change) → ((name : DepositName) → change ≡ of.Part name → ⊥) → (records : Records) (text : List ℕ) (len now : ℕ) → DecidesPart (GoRuling (change_of change)) records text len now → ⊥
 only_a_part change none records text len now decides = by change refl (decides (some_bytes len).0 (some_bytes len).1).0
   where
     by : (c : Change) → change ≡ c → IsNew (change_of c) records (Receive text (some_bytes len).0) → ⊥
-    by (of.Registry registry) is new = let clash = new.0 in cc
     by (of.Part name) is new = none name is
-    by (of.Verdict statement) is new = cc
-    by (of.Absence tld day) is new = cc
-    by (of.Release reference tld reason) is new = cc
-    by (of.Hold reference tld day) is new = cc
+    by (of.Registry registry) is new = let clash = new.0 in cc
     by (of.Lift reference) is new = let clash = new.0 in cc
-    by of.Purge is new = cc
+    by _ is new = cc
 
 -- why a part is not staged changes nothing
 pub unstaged_unchanged : (e : StageError) → may_change (Err (refused_of_stage_error e)) ≡ false
 unstaged_unchanged stage.Full = refl
-unstaged_unchanged stage.NoMemory = refl
-unstaged_unchanged stage.VolumeFailed = refl
+unstaged_unchanged _ = refl
 
 -- a failure is counted where it is told
 pub one_failed : {A E : Type 0} (r : Result A E) (b : Bool) (before now : ℕ) → b ≡ is_err r → b ≡ true → CountsFailure r before now → now ≡ before + 1
@@ -406,8 +387,4 @@ pub ne_differs : (b : Bool) (xs ys : List ℕ) → b ≡ not (bytes_eq xs ys) �
 ne_differs b xs ys is true_is same = let alike = (bytes_eq-Decides xs ys).1 same in cc
 
 pub ne_same : (b : Bool) (xs ys : List ℕ) → b ≡ not (bytes_eq xs ys) → b ≡ false → xs ≡ ys
-ne_same b xs ys is false_is = (bytes_eq-Decides xs ys).0 (by (bytes_eq xs ys) (sym is ∙ false_is))
-  where
-    by : (c : Bool) → not c ≡ false → c ≡ true
-    by true e = refl
-    by false e = cc
+ne_same b xs ys is false_is = (bytes_eq-Decides xs ys).0 (not-false (bytes_eq xs ys) (sym is ∙ false_is))

@@ -7,6 +7,7 @@ use Rattle.vault_volume.specs.declared.volume.Volume as volume
 use Rattle.vault_volume.specs.Image.{DiffersOnlyIn}
 use Rattle.vault_volume.specs.Vault.{volume_of, IsFree}
 use Rattle.vault_volume.proofs.ImageLemmas.{same_in, in_more}
+use Rattle.vault_volume.proofs.Moments.{leaves_weaker}
 use Rattle.custody_records.specs.declared.records.Records as held
 use Rattle.custody_records.specs.MemoryRecords.{records_of}
 use Rattle.custody_records.specs.Keys.{PartKey, NoticeKey}
@@ -27,7 +28,7 @@ use Rattle.custody.specs.declared.open_custody.OpenCustody.{OpenCustody}
 use Rattle.custody.specs.OpenCustody.{current_records, image_of, failures_of, MayLeaveImage, KeepsOrder, KeepsImage, IsUnwritten, HasExecuted}
 use Rattle.custody.specs.Reading.{ReadsVault}
 use Rattle.custody.specs.inside.Verifying.{HasFirstPart, IsVerified, CountsVerifyFailure}
-use Rattle.custody.proofs.OpenCustodyLemmas.{leaves_more, order_same, safe_undone}
+use Rattle.custody.proofs.OpenCustodyLemmas.{order_same, safe_undone}
 use Rattle.custody.proofs.Done.{GoesOn, reads_done, no_memory_done}
 
 module _ {V S : Type 0} {g : volume.Ghosts V} (database : Ghosts S) (old : OpenCustody V S g) (order : KeepsOrder old) (stated : statement.Statement) (now : ℕ) (d : Decides (GoRuling (AddsVerdict stated)) (current_records old) (Statement stated) now) where
@@ -129,7 +130,7 @@ module _ {V S : Type 0} {g : volume.Ghosts V} (database : Ghosts S) (old : OpenC
           rests = λ tells _ key within. (verified tells).1 key (subst (λ l. Contains l key) reads_keys within);
           change = λ tells _. change tells;
           volume = λ tells kept. subst (IsVolumeOf records_then) (sym (read.image tells)) (record { head = kept.volume.head; size = kept.volume.size });
-          any_moment = λ tells kept. leaves_more g.moment g.left_at (volume_of old.vault) (volume_of new.vault) _ _ kept.elsewhere (read.any_moment tells);
+          any_moment = λ tells kept. leaves_weaker g.moment g.left_at (volume_of old.vault) (volume_of new.vault) _ _ kept.elsewhere (read.any_moment tells);
           after = after;
         };
         in_order = notice_in_order (current_records old) order.whole stated.tld notice_then (verdict_belongs (current_records old) [] order.whole stated now d found) [] (g.size (volume_of new.vault)) (failures_of new) (failures_of new) (IsFree new.vault) order_then order_then.count;

@@ -1,5 +1,5 @@
 -- What an opening and a beginning find, and what their steps give.
-use Rattle.std.specs.Prelude.{◌≡◌, ◌≢◌, ◌⊎◌, ℕ, ◌-◌, ◌<◌, ◌≤◌, List, Option, Some, None, true, sum_by, Result}
+use Rattle.std.specs.Prelude.{◌≡◌, ◌≢◌, ◌⊎◌, ℕ, ◌-◌, ◌<◌, ◌≤◌, List, Option, Some, None, Bool, true, false, sum_by, Result, IfErr}
 use Rattle.std.specs.FinMap.{entries}
 use Rattle.extent_map.specs.declared.extent.Extent.{Extent}
 use Rattle.vault_volume.specs.declared.volume.Volume as volume
@@ -112,6 +112,13 @@ module _ {V S : Type 0} (device : volume.Ghosts V) (database : Ghosts S) where
         → let start = MayLeave (Left (store_state database db).rows (device.image volume)) in
         Leaves (left_by_reading volume db later then) start start
 
+-- What an opening does to a database: tables of schema 1 are made those of schema 2, and others are only read.
+pub record OpensTables {A : Type 0} (is_earlier : Bool) (old new : StoreState) (result : Result A Failure) : Type 0 where
+  pub reads : is_earlier ≡ false → ChangesNothing old new result
+  pub migrates : is_earlier ≡ true → Migrates old new result
+  -- where it fails, they are only read, unless the database failed
+  pub unchanged : IfErr result (λ failure. failure ≢ StoreFailed → ChangesNothing old new result)
+
 -- ---- damage that is told
 
 -- Damage that is told of rows, and of an image where the volume tells it.
@@ -131,8 +138,8 @@ ReportsDamage tells rows image failure = (damage : machine.Damage) → failure �
 pub record IsNotIdentified (failure : Failure) : Type 0 where
   -- nothing was closed
   pub not_closed : failure ≢ Closed
-  -- it is one of H0 to H3
-  pub told : (damage : machine.Damage) → failure ≡ Damaged damage → damage_number damage ≤ 3
+  -- it is one of H0 to H4
+  pub told : (damage : machine.Damage) → failure ≡ Damaged damage → damage_number damage ≤ 4
 
 -- The number and the blocks of a volume that was found.
 pub record NamesVolume {V : Type 0} (device : volume.Ghosts V) (volume : V) (found : ℕ × ℕ) : Type 0 where

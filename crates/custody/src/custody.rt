@@ -15,15 +15,12 @@ ghost use Rattle.custody.specs.Opening.{HasNoRecord, ReportsDamage, OnlyReads, O
 use crate::auditing::audit_parts;
 use crate::fetching::fetch_part;
 use crate::open_custody::OpenCustody;
-use crate::opening::{
-    identify, load_whole, make_records, may_begin, migrate_earlier, open_custody_over,
-};
+use crate::opening::{identify, load_current, make_records, may_begin, open_custody_over};
 use crate::receiving::drop_body;
 use crate::{InitError, Outcome, Progress, ReceiveError, Refused, Reply};
-use custody_machine::{Command, Damage, Failure};
+use custody_machine::{Command, Failure};
 use custody_records::Records;
-use custody_rules::map_of;
-use custody_store::{Store, has_all_tables, has_any_table, has_earlier_tables};
+use custody_store::{Store, has_earlier_tables};
 use deposit_name::{DepositName, Reference};
 use schedule::Sec;
 use sqlite::{Alter, Connection};
@@ -83,25 +80,17 @@ impl<V: Volume, S: Alter> Custody<V, S> {
         let mut volume = volume;
         let mut db = db;
         let blocks = volume.size();
-        let has_tables = has_any_table(&db);
         if let Err(error) = may_begin(&mut db, blocks) {
             return Err((error, volume, db));
         }
-        if has_tables {
-            return Err((InitError::Failure(Failure::StoreFailed), volume, db));
-        }
-        let records = Records::new(alloc, number, blocks);
-        let Ok(map) = map_of(alloc, &records) else {
-            return Err((InitError::Failure(Failure::NoMemory), volume, db));
-        };
         let mut store = Store::over(db);
-        if let Err(failure) = make_records(&mut volume, &mut store, number, blocks) {
-            return Err((InitError::Failure(failure), volume, store.into_inner()));
+        match make_records(alloc, &mut volume, &mut store, number, blocks) {
+            Ok((records, map)) => Ok(Custody {
+                open_custody: open_custody_over(volume, store, records, map),
+                is_open: true,
+            }),
+            Err(failure) => Err((InitError::Failure(failure), volume, store.into_inner())),
         }
-        Ok(Custody {
-            open_custody: open_custody_over(volume, store, records, map),
-            is_open: true,
-        })
     }
 
     /// Opens what a restart left: it reads the records and block 0, and changes no record. A database of
@@ -131,30 +120,19 @@ impl<V: Volume, S: Alter> Custody<V, S> {
     {
         let mut volume = volume;
         let mut db = db;
-        let has_tables = has_all_tables(&db);
         let is_earlier = has_earlier_tables(&db);
         let (number, blocks) = match identify(&mut volume, &mut db) {
             Ok(found) => found,
             Err(failure) => return Err((failure, volume, db)),
         };
-        if !has_tables {
-            return Err((Failure::Damaged(Damage::Form), volume, db));
-        }
         let mut store = Store::over(db);
-        let records = match load_whole(alloc, &mut store, number, blocks) {
-            Ok(records) => records,
-            Err(failure) => return Err((failure, volume, store.into_inner())),
-        };
-        let Ok(map) = map_of(alloc, &records) else {
-            return Err((Failure::NoMemory, volume, store.into_inner()));
-        };
-        if let Err(failure) = migrate_earlier(&mut store, is_earlier) {
-            return Err((failure, volume, store.into_inner()));
+        match load_current(alloc, &mut store, number, blocks, is_earlier) {
+            Ok((records, map)) => Ok(Custody {
+                open_custody: open_custody_over(volume, store, records, map),
+                is_open: true,
+            }),
+            Err(failure) => Err((failure, volume, store.into_inner())),
         }
-        Ok(Custody {
-            open_custody: open_custody_over(volume, store, records, map),
-            is_open: true,
-        })
     }
 
     /// Hands the volume and the database back. It writes nothing.

@@ -17,7 +17,7 @@ ghost use Rattle.custody.specs.OpenCustody.{current_records, KeepsOrder, HasExec
 
 use crate::verifying::verify_stated;
 use crate::{Record, Refused, Reply};
-use custody_machine::{Command, Failure, Statement};
+use custody_machine::{Command, Statement};
 use custody_records::{Hold, Part, Records, Registry, Release};
 use custody_rules::{Change, Ruling, count_due, due_extents, held_names, judge, next_number};
 use custody_store::Store;
@@ -54,13 +54,10 @@ impl<V: Volume, S: Alter> OpenCustody<V, S> {
         }
         match judge(&self.records, command, now) {
             Ruling::Refuse(refusal) => Err(Refused::Refusal(refusal)),
-            Ruling::Kept(kept) => match Record::of_kept(alloc, &kept) {
-                Ok(record) => Ok(Reply {
-                    record,
-                    is_repeat: true,
-                }),
-                Err(_) => Err(Refused::Failure(Failure::NoMemory)),
-            },
+            Ruling::Kept(kept) => Ok(Reply {
+                record: Record::of_kept(alloc, &kept)?,
+                is_repeat: true,
+            }),
             Ruling::Compare(..) => unreachable!(),
             Ruling::Go(change) => self.make_change(alloc, change, command, now),
         }

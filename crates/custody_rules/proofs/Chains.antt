@@ -1,8 +1,8 @@
 -- The chain of a deposit as the records tell it is that of their state.
 use Rattle.std.specs.Prelude.{bytes_eq}
-use Rattle.std.proofs.Common.{◌≡◌, ℕ, List, [], ◌∷◌, map, Bool, true, false, ◌&&◌, ◌||◌, refl, sym, ◌∙◌, ap, cond}
+use Rattle.std.proofs.Common.{◌≡◌, ℕ, List, [], ◌∷◌, map, Bool, true, false, ◌&&◌, refl, sym, ◌∙◌, ap, cond}
 use Rattle.std.specs.List.{filter, list_any}
-use Rattle.std.specs.FinMap.{entries, get}
+use Rattle.std.specs.FinMap.{entries}
 use Rattle.std.specs.Ordering.{is_eq}
 use Rattle.std.proofs.lemmas.Map.Text.{is_eq-slice_cmp}
 use Rattle.deposit_name.specs.Name.{Name}
@@ -15,12 +15,12 @@ use Rattle.custody_records.proofs.GroupLemmas.{filter_entries}
 use Rattle.custody_machine.specs.Machine.{chain_of, has_dropped_part, held_chain, latest_full, passed_first_names}
 use Rattle.custody_machine.specs.Machine as machine
 use Rattle.custody_machine.specs.declared.command.Statement as stated
-use Rattle.custody_machine.specs.State.{State, Part, key_with_part, part_numbers}
+use Rattle.custody_machine.specs.State.{State, Part}
 use Rattle.custody_machine.specs.StoredState.{part_of, state_in}
 use Rattle.custody_machine.specs.MapValues.{map_entries}
 use Rattle.custody_machine.proofs.MapValues.{entries-map_values}
 use Rattle.custody_rules.specs.inside.Chains.{is_first_of_passed_in}
-use Rattle.custody_rules.specs.Judging.{is_without_bytes}
+use Rattle.custody_rules.specs.Judging.{has_dropped_part_in}
 use Rattle.custody_rules.proofs.Judged.{dropped_in_state}
 
 -- one test after another
@@ -74,9 +74,8 @@ module _ (records : Records) (tld : List ℕ) (image : List ℕ) where
 
 -- the bytes of a part of a chain are dropped, by the records as in their state
 pub any_dropped : (records : Records) (image : List ℕ) (names : List Name)
-    → list_any (λ (n : Name). list_any (λ place. is_without_bytes (get records.parts (key_with_part (key_of n) place))) part_numbers) names ≡ list_any (has_dropped_part (state_in records image)) names
-any_dropped records image [] = refl
-any_dropped records image (n ∷ names) = λ i. sym (dropped_in_state records image n) i || any_dropped records image names i
+    → list_any (λ (n : Name). has_dropped_part_in records (key_of n)) names ≡ list_any (has_dropped_part (state_in records image)) names
+any_dropped records image names = λ i. list_any (λ (n : Name). sym (dropped_in_state records image n) i) names
 
 -- the chain by the names of the deposits that passed
 pub chain_is : (s : State) (st : stated.Statement) (names chain : List Name) → names ≡ passed_first_names s st.tld → chain ≡ chain_of st.kind names (latest_full names)

@@ -1,6 +1,7 @@
 -- The days of a registry that have no notice, one day after the other.
 use Rattle.std.proofs.Common.{◌≡◌, ◌≤◌, ◌-◌, ◌+◌, ℕ, List, [], ◌∷◌, ◌++◌, map, Bool, true, false, ◌&&◌, ◌||◌, ◌==◌, ◌<◌, length, take, get_or, append-nil, append_assoc, cond, refl, sym, ◌∙◌, ap, arith}
 use Rattle.std.specs.List.{filter, flat_map, list_any, range_with_len}
+use Rattle.std.proofs.Math.Bool.{and-true}
 use Rattle.std.proofs.lemmas.List.{take_more}
 use Rattle.std.specs.FinMap.{entries}
 use Rattle.std.specs.Ordering.{is_eq}
@@ -34,15 +35,11 @@ any_filtered keep test (x ∷ xs) = by (keep x) (any_filtered keep test xs)
     by true rest = ap (λ b. test x || b) rest
     by false rest = rest
 
-and_true : (b : Bool) → b ≡ (b && true)
-and_true true = refl
-and_true false = refl
-
 pub noticed_day : (records : Records) (tld : List ℕ) (rows : List desk.Notice) → row_entries notice_key notice_value rows ≡ notices_of records tld → (day : ℕ) → list_any (λ (n : desk.Notice). n.day == day) rows ≡ has_notice records.notices tld day (λ kind. true)
 noticed_day records tld rows is day =
     any_entries notice_cmp notice_key notice_value (λ (e : NoticeKey × Notice). e.1.day == day) rows ∙ ap (list_any (λ (e : NoticeKey × Notice). e.1.day == day)) is
     ∙ any_filtered (λ (e : NoticeKey × Notice). is_eq (text_cmp e.0.tld tld)) (λ (e : NoticeKey × Notice). e.1.day == day) (entries records.notices)
-    ∙ (λ i. list_any (λ (e : NoticeKey × Notice). is_eq-slice_cmp e.0.tld tld i && and_true (e.1.day == day) i) (entries records.notices))
+    ∙ (λ i. list_any (λ (e : NoticeKey × Notice). is_eq-slice_cmp e.0.tld tld i && sym (and-true (e.1.day == day)) i) (entries records.notices))
 
 -- ---- one registry more
 

@@ -1,10 +1,8 @@
 -- What is fetched of records, whatever the volume holds.
-use Rattle.std.proofs.Common.{◌≡◌, ℕ, List, Some, None, Bool, true, false, if◌then◌else◌, sym, ◌∙◌, ap, Ok, Err}
+use Rattle.std.proofs.Common.{◌≡◌, ℕ, List, Some, None, true, false, if◌then◌else◌, ◌∙◌, ap, Ok, Err}
 use Rattle.std.specs.FinMap.{get}
-use Rattle.std.specs.List.{list_any}
 use Rattle.std.specs.Option.{option_and_then}
 use Rattle.std.specs.Prelude.{option_map}
-use Rattle.std.specs.Str.{bytes_eq}
 use Rattle.extent_map.specs.declared.extent.Extent.{Extent}
 use Rattle.deposit_verify.specs.Verdict.{contains_text}
 use Rattle.deposit_verify.proofs.HeaderDecided.{contains_decides}
@@ -17,12 +15,8 @@ use Rattle.custody_machine.specs.StoredState.{AreLinked, content_of, part_of, st
 use Rattle.custody_machine.specs.FetchResult.{part_named, bytes_unless_dropped, release_result, fetch_result}
 use Rattle.custody_machine.proofs.Fetching.{released_part}
 use Rattle.custody_rules.specs.Judging.{if_of_kind}
-use Rattle.custody_rules.specs.Fetching.{IsRecordedAs, HandsOver}
+use Rattle.custody_rules.specs.Fetching.{IsRecordedAs}
 use Rattle.custody_rules.proofs.Judged.{recorded_in_state}
-
--- the names of a release are looked through
-pub has_name_is : (names : List (List ℕ)) (text : List ℕ) (found : Bool) → found ≡ list_any (λ line. bytes_eq line text) names → contains_text names text ≡ found
-has_name_is names text found is = sym is
 
 -- a name of a release is that of a recorded part, where the records belong together
 pub released_as : (records : Records) (reference text : List ℕ) (release : Release) → AreLinked records → get records.releases reference ≡ Some release → contains_text release.names text ≡ true → (part : PartRecord) × IsRecordedAs records text part
@@ -52,8 +46,3 @@ module _ (records : Records) (reference text image : List ℕ) where
 
       pub dropped : part.extents ≡ None → fetch_result (state_in records image) reference text ≡ Err DroppedAfterKeeping
       dropped is = by_part ∙ ap (λ o. if are_bytes_dropped (content_of image part.len o) then Err DroppedAfterKeeping else Ok (bytes_in (content_of image part.len o))) is
-
--- the part is handed over
-pub hands_over : (records : Records) (reference text : List ℕ) (release : Release) (part : PartRecord) (extents : List Extent) → get records.releases reference ≡ Some release → contains_text release.names text ≡ true → IsRecordedAs records text part → part.extents ≡ Some extents
-    → HandsOver records reference text part extents
-hands_over records reference text release part extents at has named is = record { recorded = named; held = is; bytes = λ image. held records reference text image release at has part named extents is }

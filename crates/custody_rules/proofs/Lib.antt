@@ -1,6 +1,5 @@
 pub mod Apart
 pub mod Chains
-pub mod Checks
 pub mod DueDays
 pub mod Fetched
 pub mod Judged
@@ -12,6 +11,7 @@ pub mod Statements
 pub mod PartBlocks
 pub mod DueBlocks
 pub mod Rivals
+pub mod Ruled
 pub mod Tables
 pub mod Releases
 pub mod Telling

@@ -1,19 +1,16 @@
 -- Records belong together exactly where each record finds among the others what it has to.
-use Rattle.std.proofs.Common.{◌≡◌, ◌≢◌, ℕ, suc, ◌-◌, ◌<◌, List, Bool, true, false, ◌&&◌, ◌||◌, ◌==◌, Option, Some, None, refl, sym, ◌∙◌, ap, subst, arith}
+use Rattle.std.proofs.Common.{◌≡◌, ℕ, zero, suc, ◌-◌, ◌<◌, List, Bool, true, false, ◌&&◌, ◌||◌, ◌==◌, Option, Some, None, refl, sym, ◌∙◌, ap, subst, arith}
 use Rattle.std.specs.Prelude.{is_some, nat_le}
 use Rattle.std.specs.Bool.{Decides}
 use Rattle.std.specs.List.{list_all}
 use Rattle.std.specs.FinMap.{get}
-use Rattle.std.proofs.lemmas.Bool.Decides.{Decides-eqb, Decides-and, not_from_Decides, nat_tests}
+use Rattle.std.proofs.lemmas.Bool.Decides.{Decides-and, nat_tests}
 use Rattle.desk.specs.declared.notices.Notice as desk
-use Rattle.custody_records.specs.declared.parts.Part.{Part}
-use Rattle.custody_records.specs.declared.holds.Hold as ordered
-use Rattle.custody_records.specs.declared.releases.Release as given
-use Rattle.custody_records.specs.Keys.{PartKey, NoticeKey, text_cmp, part_cmp, notice_cmp}
+use Rattle.custody_records.specs.Keys.{PartKey, NoticeKey, notice_cmp}
 use Rattle.custody_records.specs.inside.Orders.{text_total, text_exact, part_total, part_exact, notice_total, notice_exact}
 use Rattle.custody_records.specs.Records.{PartRecord, Notice, Release, Hold, Records}
 use Rattle.custody_records.specs.Tables.{is_rising, table_map}
-use Rattle.custody_records.specs.TypedRecords.{key_of_part, part_value, notice_key, notice_value, release_key, release_value, hold_key, hold_value}
+use Rattle.custody_records.specs.TypedRecords.{notice_key, notice_value}
 use Rattle.custody_machine.specs.NameReading.{read_name}
 use Rattle.custody_machine.specs.State.{key_with_part, has_notice}
 use Rattle.custody_machine.specs.Machine.{is_failure_of}
@@ -22,49 +19,29 @@ use Rattle.custody_rules.specs.declared.unique_keys.FailedRevision.{FailedRevisi
 use Rattle.custody_rules.specs.inside.Links.{is_part_linked, has_parts, is_notice_linked, is_release_linked, is_hold_linked, each_passes}
 use Rattle.custody_rules.specs.inside.UniqueKeys.{HaveNoRivals}
 use Rattle.custody_rules.proofs.Rivals.{one_verdict, one_receipt, one_absence}
-use Rattle.custody_rules.proofs.Tables.{each_decides, all_rows}
+use Rattle.custody_rules.proofs.Tables.{each_decides}
 
 itself : (b : Bool) → Decides b (b ≡ true)
 itself b = (λ e. e, λ e. e)
 
+above_zero : (n : ℕ) → (suc n == 0) ≡ false
+above_zero n = grind (arith, nat_tests)
+
+above_one : (n : ℕ) → nat_le (suc (suc n)) 1 ≡ false
+above_one n = grind (arith, nat_tests)
+
 -- what is asked of the number before, where there is one from 1 on
 before_decides : (n : ℕ) (f : ℕ → Bool) → Decides (nat_le n 1 || f (n - 1)) ((m : ℕ) → n ≡ suc (suc m) → f (suc m) ≡ true)
-before_decides n f = (there, back)
-  where
-    there : (nat_le n 1 || f (n - 1)) ≡ true → (m : ℕ) → n ≡ suc (suc m) → f (suc m) ≡ true
-    there h m e = by (nat_le n 1) refl h
-      where
-        by : (b : Bool) → nat_le n 1 ≡ b → (b || f (n - 1)) ≡ true → f (suc m) ≡ true
-        by true is h = let clash : ⊥ = grind (arith, nat_tests) in absurd clash
-        by false is h = let at : n - 1 ≡ suc m = omega arith in sym (ap f at) ∙ h
-
-    back : ((m : ℕ) → n ≡ suc (suc m) → f (suc m) ≡ true) → (nat_le n 1 || f (n - 1)) ≡ true
-    back h = by (nat_le n 1) refl
-      where
-        by : (b : Bool) → nat_le n 1 ≡ b → (b || f (n - 1)) ≡ true
-        by true is = refl
-        by false is =
-            let above : 1 < n = grind (arith, nat_tests) in
-            let at : n ≡ suc (suc (n - 2)) = omega arith in
-            let same : n - 1 ≡ suc (n - 2) = omega arith in
-            ap f same ∙ h (n - 2) at
+before_decides zero f = (λ h m e. absurd (omega arith), λ h. refl)
+before_decides (suc zero) f = (λ h m e. absurd (omega arith), λ h. refl)
+before_decides (suc (suc n)) f =
+    let before : suc (suc n) - 1 ≡ suc n = omega arith in
+    let is : (nat_le (suc (suc n)) 1 || f (suc (suc n) - 1)) ≡ f (suc n) = (λ i. above_one n i || f (before i)) in
+    (λ h m e. let same : n ≡ m = omega arith in ap (λ k. f (suc k)) (sym same) ∙ sym is ∙ h, λ h. is ∙ h n refl)
 
 above_zero_decides : (n : ℕ) (b : Bool) → Decides (n == 0 || b) (0 < n → b ≡ true)
-above_zero_decides n b = (there, back)
-  where
-    there : (n == 0 || b) ≡ true → 0 < n → b ≡ true
-    there h above = by (n == 0) refl h
-      where
-        by : (t : Bool) → (n == 0) ≡ t → (t || b) ≡ true → b ≡ true
-        by true is h = let zero : n ≡ 0 = (Decides-eqb n 0).0 is in absurd (omega arith)
-        by false is h = h
-
-    back : (0 < n → b ≡ true) → (n == 0 || b) ≡ true
-    back h = by (n == 0) refl
-      where
-        by : (t : Bool) → (n == 0) ≡ t → (t || b) ≡ true
-        by true is = refl
-        by false is = let other : n ≢ 0 = not_from_Decides (n == 0) (Decides-eqb n 0) is in h (omega arith)
+above_zero_decides zero b = (λ h above. absurd (omega arith), λ h. refl)
+above_zero_decides (suc n) b = (λ h above. sym (ap (λ t. t || b) (above_zero n)) ∙ h, λ h. ap (λ t. t || b) (above_zero n) ∙ h (omega arith))
 
 -- a notice tells that the revision has failed
 abbrev pub has_failed : Records → FailedRevision → Bool
@@ -160,28 +137,7 @@ module _ (records : Records) where
   pub some_broken : passes ≡ false → ¬ AreLinked records
   some_broken some linked = let all = each_linked.1 (are_links linked) in cc
 
-  -- ---- the rows in memory
-
-  pub parts_pass : (has : FailedRevision → Bool) → ((t : FailedRevision) → has t ≡ has_failed records t) → (parts : List Part) → records.parts ≡ table_map part_cmp key_of_part part_value parts → is_rising part_cmp key_of_part parts ≡ true
-      → list_all (λ (p : Part). is_part_linked records has (key_of_part p) (part_value p)) parts ≡ parts_test
-  parts_pass has same parts are_parts parts_rise =
-      all_rows part_cmp key_of_part part_value parts records.parts are_parts parts_rise (λ (e : PartKey × PartRecord). is_part_linked records has e.0 e.1)
-      ∙ (λ i. each_passes (is_part_linked records (λ t. same t i)) records.parts)
-
-  pub releases_pass : (releases : List given.Release) → records.releases ≡ table_map text_cmp release_key release_value releases → is_rising text_cmp release_key releases ≡ true
-      → list_all (λ (r : given.Release). is_release_linked records (release_value r)) releases ≡ releases_test
-  releases_pass releases are_releases releases_rise =
-      all_rows text_cmp release_key release_value releases records.releases are_releases releases_rise (λ (e : List ℕ × Release). is_release_linked records e.1)
-
-  pub holds_pass : (holds : List ordered.Hold) → records.holds ≡ table_map text_cmp hold_key hold_value holds → is_rising text_cmp hold_key holds ≡ true
-      → list_all (λ (h : ordered.Hold). is_hold_linked records (hold_value h)) holds ≡ holds_test
-  holds_pass holds are_holds holds_rise =
-      all_rows text_cmp hold_key hold_value holds records.holds are_holds holds_rise (λ (e : List ℕ × Hold). is_hold_linked records e.1)
-
 module _ (records : Records) (rows : List desk.Notice) (is : records.notices ≡ table_map notice_cmp notice_key notice_value rows) (rising : is_rising notice_cmp notice_key rows ≡ true) where
-  pub notices_pass : list_all (λ (n : desk.Notice). is_notice_linked records (notice_key n) (notice_value n)) rows ≡ notices_test records
-  notices_pass = all_rows notice_cmp notice_key notice_value rows records.notices is rising (λ (e : NoticeKey × Notice). is_notice_linked records e.0 e.1)
-
   -- where no day has two notices of which it has one at most
   links_are : HaveNoRivals rows → Links records → AreLinked records
   links_are only h = record {

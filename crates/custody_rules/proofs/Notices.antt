@@ -1,34 +1,21 @@
 -- The notices of a day, looked for in those of its registry.
-use Rattle.std.proofs.Common.{◌≡◌, ℕ, List, [], ◌∷◌, Bool, true, false, ◌&&◌, ◌==◌, ◌∙◌, ap, refl, cond, Some}
+use Rattle.std.proofs.Common.{◌≡◌, ℕ, List, [], ◌∷◌, Bool, true, false, ◌∙◌, ap, refl, cond, Some}
 use Rattle.std.specs.Prelude.{option_map, bytes_eq}
 use Rattle.std.specs.List.{filter, find, list_any}
 use Rattle.std.specs.FinMap.{entries}
 use Rattle.std.specs.Ordering.{is_eq}
-use Rattle.std.proofs.lemmas.Bool.{and_parts}
 use Rattle.std.proofs.lemmas.Map.Text.{is_eq-slice_cmp}
 use Rattle.std.proofs.lemmas.Map.Views.{any-filter_same}
 use Rattle.desk.specs.declared.notices.Notice as desk
-use Rattle.desk.specs.declared.notices.NoticeKind.{NoticeKind}
 use Rattle.custody_records.specs.Keys.{NoticeKey, notice_cmp, text_cmp}
 use Rattle.custody_records.specs.Records.{Notice, Records, notices_of}
 use Rattle.custody_records.specs.Tables.{row_entries}
 use Rattle.custody_records.specs.TypedRecords.{notice_entry, notice_key, notice_value}
-use Rattle.custody_machine.specs.State.{has_notice}
 use Rattle.custody_rules.proofs.Tables.{any_entries}
 
 module _ (records : Records) (tld : List ℕ) (rows : List desk.Notice) (is : row_entries notice_key notice_value rows ≡ notices_of records tld) where
   abbrev of_registry : NoticeKey × Notice → Bool
   of_registry e = is_eq (text_cmp e.0.tld tld)
-
-  -- a notice of a day is one of its registry
-  pub some_notice : (day : ℕ) (test : NoticeKind → Bool) → list_any (λ (n : desk.Notice). bytes_eq n.tld tld && (n.day == day && test n.kind)) rows ≡ has_notice records.notices tld day test
-  some_notice day test = any_entries notice_cmp notice_key notice_value passes rows ∙ ap (list_any passes) is ∙ any-filter_same passes of_registry true same (entries records.notices)
-    where
-      passes : NoticeKey × Notice → Bool
-      passes e = bytes_eq e.0.tld tld && (e.1.day == day && test e.1.kind)
-
-      same : (e : NoticeKey × Notice) → passes e ≡ true → of_registry e ≡ true
-      same e passed = is_eq-slice_cmp e.0.tld tld ∙ (and_parts (bytes_eq e.0.tld tld) _ passed).0
 
   -- the first of all that pass a test of the registry's notices is the first of its own
   pub first_notice : (test : NoticeKey × Notice → Bool) → ((e : NoticeKey × Notice) → test e ≡ true → bytes_eq e.0.tld tld ≡ true) → find test (row_entries notice_key notice_value rows) ≡ find test (entries records.notices)
@@ -43,6 +30,7 @@ module _ (records : Records) (tld : List ℕ) (rows : List desk.Notice) (is : ro
           by_test false k true h rest = let there : of_registry e ≡ true = is_eq-slice_cmp e.0.tld tld ∙ of_tld e h in cc
           by_test false k false h rest = rest
 
+  -- and one passes where one of all does
   pub some_of_registry : (test : NoticeKey × Notice → Bool) → ((e : NoticeKey × Notice) → test e ≡ true → bytes_eq e.0.tld tld ≡ true) → list_any (λ (n : desk.Notice). test (notice_key n, notice_value n)) rows ≡ list_any test (entries records.notices)
   some_of_registry test of_tld = any_entries notice_cmp notice_key notice_value test rows ∙ ap (list_any test) is ∙ any-filter_same test of_registry true (λ e passed. is_eq-slice_cmp e.0.tld tld ∙ of_tld e passed) (entries records.notices)
 

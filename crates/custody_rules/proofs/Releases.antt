@@ -1,11 +1,12 @@
 -- What the records tell of a release is what the machine decides of it, in their state with any image; and what it lists.
-use Rattle.std.proofs.Common.{◌≡◌, inl, inr, ℕ, Vec, Global, List, [], ◌∷◌, ◌++◌, Option, Some, None, Bool, true, false, not, ◌&&◌, cond, refl, sym, ◌∙◌, ap, subst, is_none, is_some, map, take, get_or, length, ◌<◌, ◌+◌}
+use Rattle.std.proofs.Common.{◌≡◌, ℕ, Vec, Global, List, [], ◌∷◌, ◌++◌, Option, Some, None, Bool, true, false, not, ◌&&◌, cond, refl, sym, ◌∙◌, ap, subst, is_none, is_some, map, take, get_or, length, ◌<◌, ◌+◌}
 use Rattle.std.specs.Prelude.{option_map, bytes_eq}
 use Rattle.std.specs.List.{cons_option, filter, filter_map, list_all}
 use Rattle.std.specs.FinMap.{entries, get}
 use Rattle.std.specs.Ordering.{is_eq}
 use Rattle.std.specs.Option.{option_and_then}
 use Rattle.std.proofs.lemmas.Bool.{and_parts, and_from}
+use Rattle.std.proofs.lemmas.List.Elements.{filter_map-append}
 use Rattle.std.proofs.lemmas.List.{take_more}
 use Rattle.std.proofs.lemmas.Map.Text.{is_eq-slice_cmp}
 use Rattle.deposit_name.specs.Name.{IsName, name_text}
@@ -21,29 +22,21 @@ use Rattle.custody_records.specs.Records as recorded_in
 use Rattle.custody_records.specs.Records.{Notice, PartRecord, Records, notices_of, parts_of}
 use Rattle.custody_records.specs.Tables.{row_entries}
 use Rattle.custody_records.specs.TypedRecords.{notice_key, notice_value, key_of_part, part_value}
-use Rattle.custody_machine.specs.State.{State}
 use Rattle.custody_machine.specs.StoredState.{is_part_of, is_name_of_part, state_in}
-use Rattle.custody_machine.specs.declared.answers.Refusal.{Refusal}
-use Rattle.custody_machine.specs.declared.answers.Refusal.TheVariants.{RegistryUnknown, GroundDoesNotStand, ReferenceUsed}
-use Rattle.custody_machine.specs.Machine.{Release, OfRelease, Accept, first_refusal, is_on_ground, release_tests, step, told_notice, notices_told_to}
+use Rattle.custody_machine.specs.declared.answers.Refusal.TheVariants.{GroundDoesNotStand, ReferenceUsed}
+use Rattle.custody_machine.specs.Machine.{Release, OfRelease, first_refusal, is_on_ground, release_tests, told_notice, notices_told_to}
 use Rattle.custody_machine.specs.Releases.{AreRecordedNames, held_record_name, held_record_names}
 use Rattle.custody_machine.specs.Rulings.{AddsRelease, RefuseRuling, KeptRuling, GoRuling, Decides}
-use Rattle.custody_machine.proofs.Accepting.{read_of, step_none, step_refuses}
-use Rattle.custody_machine.proofs.Keeping.{Again, asked_again}
+use Rattle.custody_rules.proofs.Ruled.{refuses, repeats}
+use Rattle.custody_machine.proofs.Accepting.{read_of, step_none}
 use Rattle.custody_machine.proofs.Released.{kept_release_of, release_refusals, released_by}
 use Rattle.custody_rules.specs.inside.Links.{each_passes}
 use Rattle.custody_rules.specs.inside.Releases.{AreInForm, held_part_name, held_part_names}
-use Rattle.custody_rules.proofs.Tables.{all_entries, each_decides}
+use Rattle.custody_rules.proofs.Tables.{all_entries, each_decides, filter_map_kept}
 
 -- ---- how it is judged
 
 module _ (records : Records) (reference tld : List ℕ) (reason : Ground) (now : ℕ) where
-  pub refuses_unknown : get records.registries tld ≡ None → Decides (RefuseRuling RegistryUnknown) records (Release reference tld reason) now
-  refuses_unknown unknown = (λ e. cc, λ e. cc, λ image. step_refuses (state_in records image) (Release reference tld reason) now RegistryUnknown (by _ _ (ap is_none unknown)))
-    where
-      by : (a : Bool) (rest : Option Refusal) → a ≡ true → cond a (Some RegistryUnknown) rest ≡ Some RegistryUnknown
-      by a rest e = ap (λ b. cond b (Some RegistryUnknown) rest) e
-
   module _ (first : ℕ) (known : get records.registries tld ≡ Some first) where
     -- the refusals of a reference that is recorded, or new
     tests_are : (image : List ℕ) (o : Option recorded_in.Release) → get records.releases reference ≡ o → first_refusal (release_tests (state_in records image) reference tld reason now)
@@ -52,28 +45,17 @@ module _ (records : Records) (reference tld : List ℕ) (reason : Ground) (now :
         (is_some (at i) && is_none (option_and_then (λ (release : recorded_in.Release). cond (is_on_ground tld reason release) (Some release) None) (at i)))
 
     pub repeats_release : (kept : recorded_in.Release) → get records.releases reference ≡ Some kept → is_on_ground tld reason kept ≡ true → Decides (KeptRuling (OfRelease reference kept)) records (Release reference tld reason) now
-    repeats_release kept at on = λ image. by (asked_again (state_in records image) (Release reference tld reason) (OfRelease reference kept) now refl
-        (record { kept = kept; found = kept_release_of (state_in records image) reference tld reason kept at on; made = refl; registry = ap is_none known }) tt).0
-      where
-        by : {s : State} → Again s (Release reference tld reason) (OfRelease reference kept) now → step s (Release reference tld reason) now ≡ Accept (record { entry = OfRelease reference kept; is_repeat = true }) s
-        by (inl h) = h
-        by (inr h) = absurd h.1
+    repeats_release kept at on =
+        repeats records (Release reference tld reason) now (OfRelease reference kept) refl (λ s none. none)
+        (λ image. record { kept = kept; found = kept_release_of (state_in records image) reference tld reason kept at on; made = refl; registry = ap is_none known }) (λ image. tt)
 
     pub refuses_used : (kept : recorded_in.Release) → get records.releases reference ≡ Some kept → is_on_ground tld reason kept ≡ false → Decides (RefuseRuling ReferenceUsed) records (Release reference tld reason) now
-    refuses_used kept at off = (
-      λ e. cc,
-      λ e. cc,
-      λ image. step_refuses (state_in records image) (Release reference tld reason) now ReferenceUsed
-          (tests_are image (Some kept) at ∙ ap (λ b. release_refusals false false (is_none (cond b (Some kept) None))) off),
-    )
+    refuses_used kept at off = refuses records (Release reference tld reason) now ReferenceUsed (λ e. cc) (λ e. cc)
+        (λ image. tests_are image (Some kept) at ∙ ap (λ b. release_refusals false false (is_none (cond b (Some kept) None))) off)
 
     pub refuses_ground : get records.releases reference ≡ None → ground_stands reason (notices_told_to records.notices tld) now ≡ false → Decides (RefuseRuling GroundDoesNotStand) records (Release reference tld reason) now
-    refuses_ground new falls = (
-      λ e. cc,
-      λ e. cc,
-      λ image. step_refuses (state_in records image) (Release reference tld reason) now GroundDoesNotStand
-          (tests_are image None new ∙ ap (λ b. release_refusals false (not b) false) falls),
-    )
+    refuses_ground new falls = refuses records (Release reference tld reason) now GroundDoesNotStand (λ e. cc) (λ e. cc)
+        (λ image. tests_are image None new ∙ ap (λ b. release_refusals false (not b) false) falls)
 
     pub makes_release : get records.releases reference ≡ None → ground_stands reason (notices_told_to records.notices tld) now ≡ true → Decides (GoRuling (AddsRelease reference tld reason)) records (Release reference tld reason) now
     makes_release new stands = (
@@ -93,14 +75,6 @@ rows_told records tld rows is = as_told rows ∙ ap (map told_notice) (is ∙ (�
 -- ---- what it lists
 
 -- one part more
-pub names_more : (parts : List Part) (part : Part) → held_part_names (parts ++ part ∷ []) ≡ held_part_names parts ++ cons_option (held_part_name part) []
-names_more [] part = refl
-names_more (p ∷ parts) part = by (held_part_name p) (names_more parts part)
-  where
-    by : (o : Option (List ℕ)) → held_part_names (parts ++ part ∷ []) ≡ held_part_names parts ++ cons_option (held_part_name part) [] → cons_option o (held_part_names (parts ++ part ∷ [])) ≡ cons_option o (held_part_names parts) ++ cons_option (held_part_name part) []
-    by None rest = rest
-    by (Some name) rest = ap (λ l. name ∷ l) rest
-
 pub in_form_more : (parts : List Part) (part : Part) → AreInForm parts → (is_some part.extents ≡ true → IsName part.name) → AreInForm (parts ++ part ∷ [])
 in_form_more [] part all one = (one, tt)
 in_form_more (p ∷ parts) part all one = (all.0, in_form_more parts part all.1 one)
@@ -108,7 +82,7 @@ in_form_more (p ∷ parts) part all one = (all.0, in_form_more parts part all.1 
 pub next_part : (parts : List Part) (i : ℕ) (part : Part) (names next : List (List ℕ)) → i < length parts → part ≡ get_or parts i part → names ≡ held_part_names (take i parts) → AreInForm (take i parts)
     → next ≡ names ++ cons_option (held_part_name part) [] → (is_some part.extents ≡ true → IsName part.name) → (next ≡ held_part_names (take (i + 1) parts)) × AreInForm (take (i + 1) parts)
 next_part parts i part names next lt at so_far in_form more one = (
-  more ∙ ap (λ l. l ++ cons_option (held_part_name part) []) so_far ∙ sym (names_more (take i parts) part) ∙ ap held_part_names (sym up_to),
+  more ∙ ap (λ l. l ++ cons_option (held_part_name part) []) so_far ∙ sym (filter_map-append held_part_name (take i parts) (part ∷ [])) ∙ ap held_part_names (sym up_to),
   subst AreInForm (sym up_to) (in_form_more (take i parts) part in_form one),
 )
   where
@@ -134,16 +108,14 @@ rows_held records tld rows is = as_entries rows ∙ ap (filter_map in_entry) is 
     as_entries [] = refl
     as_entries (part ∷ rows) = λ i. cons_option (same part i) (as_entries rows i)
 
+    both : (b c : Bool) (name : List ℕ) → cond b (cond c (Some name) None) None ≡ cond (b && c) (Some name) None
+    both true c name = refl
+    both false c name = refl
+
     of_registry : (es : List (PartKey × PartRecord)) → filter_map in_entry (filter (λ (e : PartKey × PartRecord). is_eq (text_cmp e.0.tld tld)) es) ≡ filter_map (held_record_name tld) es
-    of_registry [] = refl
-    of_registry (e ∷ es) = ap (λ b. filter_map in_entry (cond b (e ∷ filter (λ (e : PartKey × PartRecord). is_eq (text_cmp e.0.tld tld)) es) (filter (λ (e : PartKey × PartRecord). is_eq (text_cmp e.0.tld tld)) es))) (is_eq-slice_cmp e.0.tld tld)
-        ∙ by (bytes_eq e.0.tld tld) (of_registry es)
-      where
-        by : (b : Bool) → filter_map in_entry (filter (λ (e : PartKey × PartRecord). is_eq (text_cmp e.0.tld tld)) es) ≡ filter_map (held_record_name tld) es
-            → filter_map in_entry (cond b (e ∷ filter (λ (e : PartKey × PartRecord). is_eq (text_cmp e.0.tld tld)) es) (filter (λ (e : PartKey × PartRecord). is_eq (text_cmp e.0.tld tld)) es))
-            ≡ cons_option (cond (b && is_some e.1.extents) (Some (name_text (recorded_in.name_of e.0 e.1.kind))) None) (filter_map (held_record_name tld) es)
-        by true rest = ap (cons_option (in_entry e)) rest
-        by false rest = rest
+    of_registry es =
+        (λ i. filter_map in_entry (filter (λ (e : PartKey × PartRecord). is_eq-slice_cmp e.0.tld tld i) es)) ∙ filter_map_kept (λ (e : PartKey × PartRecord). bytes_eq e.0.tld tld) in_entry es
+        ∙ (λ i. filter_map (λ (e : PartKey × PartRecord). both (bytes_eq e.0.tld tld) (is_some e.1.extents) (name_text (recorded_in.name_of e.0 e.1.kind)) i) es)
 
 -- ---- each name that it lists is that of a recorded part
 

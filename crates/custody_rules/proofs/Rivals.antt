@@ -33,41 +33,34 @@ some_is x y e = cc
 
 receipt_of_day : (tld : List ℕ) (day : ℕ) (kind : NoticeKind) → is_receipt kind ≡ true → day_if_receipt tld day kind ≡ Some (record { tld = tld; day = day })
 receipt_of_day tld day (Receipt _ _) e = refl
-receipt_of_day tld day (Failure _ _ _) e = cc
-receipt_of_day tld day Absence e = cc
+receipt_of_day tld day _ e = cc
 
 day_of_receipt : (tld : List ℕ) (day : ℕ) (kind : NoticeKind) (t : ReceivedDay) → day_if_receipt tld day kind ≡ Some t → (is_receipt kind ≡ true) × (tld ≡ t.tld) × (day ≡ t.day)
 day_of_receipt tld day (Receipt _ _) t e = let same = some_is (record { tld = tld; day = day }) t e in (refl, ap (λ (d : ReceivedDay). d.tld) same, ap (λ (d : ReceivedDay). d.day) same)
-day_of_receipt tld day (Failure _ _ _) t e = cc
-day_of_receipt tld day Absence t e = cc
+day_of_receipt tld day _ t e = cc
 
 absence_has_none : (kind : NoticeKind) → is_absence kind ≡ true → revision_of kind ≡ None
-absence_has_none (Receipt _ _) e = cc
-absence_has_none (Failure _ _ _) e = cc
 absence_has_none Absence e = refl
+absence_has_none _ e = cc
 
 none_is_absence : (kind : NoticeKind) → revision_of kind ≡ None → is_absence kind ≡ true
-none_is_absence (Receipt _ _) e = cc
-none_is_absence (Failure _ _ _) e = cc
 none_is_absence Absence e = refl
+none_is_absence _ e = cc
 
 failure_of_revision : (tld : List ℕ) (day : ℕ) (kind : NoticeKind) (t : FailedRevision) → tld ≡ t.tld → day ≡ t.day → is_failure_of t.rev kind ≡ true → revision_if_failure tld day kind ≡ Some t
-failure_of_revision tld day (Receipt _ _) t at on e = cc
 failure_of_revision tld day (Failure rev _ _) t at on e = let is : rev ≡ t.rev = (Decides-eqb rev t.rev).0 e in λ i. Some (record { tld = at i; day = on i; rev = is i })
-failure_of_revision tld day Absence t at on e = cc
+failure_of_revision tld day _ t at on e = cc
 
 revision_of_failure : (tld : List ℕ) (day : ℕ) (kind : NoticeKind) (t : FailedRevision) → revision_if_failure tld day kind ≡ Some t → (tld ≡ t.tld) × ((day ≡ t.day) × (is_failure_of t.rev kind ≡ true))
-revision_of_failure tld day (Receipt _ _) t e = cc
 revision_of_failure tld day (Failure rev _ _) t e =
     let same = some_is (record { tld = tld; day = day; rev = rev }) t e in
     (ap (λ (f : FailedRevision). f.tld) same, (ap (λ (f : FailedRevision). f.day) same, (Decides-eqb rev t.rev).1 (ap (λ (f : FailedRevision). f.rev) same)))
-revision_of_failure tld day Absence t e = cc
+revision_of_failure tld day _ t e = cc
 
 -- the failure of a revision is a verdict on it
 failure_is_verdict : (rev : ℕ) (kind : NoticeKind) → is_failure_of rev kind ≡ true → revision_of kind ≡ Some rev
-failure_is_verdict rev (Receipt _ _) e = cc
 failure_is_verdict rev (Failure of _ _) e = ap Some ((Decides-eqb of rev).0 e)
-failure_is_verdict rev Absence e = cc
+failure_is_verdict rev _ e = cc
 
 failure_about : (n : desk.Notice) (t : FailedRevision) → failed_revision_of n ≡ Some t → subject_of n ≡ Some (record { tld = t.tld; day = t.day; rev = Some t.rev })
 failure_about n t e =

@@ -2,7 +2,7 @@
 use Rattle.std.proofs.Common.{◌≡◌, ℕ, zero, suc, ◌<◌, List, [], ◌∷◌, length, get_or, Bool, true, false, ◌&&◌, ◌||◌, cond, Option, Some, None, sym, ◌∙◌, ap, refl, arith}
 use Rattle.std.specs.Prelude.{option_map}
 use Rattle.std.specs.Bool.{Decides}
-use Rattle.std.specs.List.{list_all, list_any}
+use Rattle.std.specs.List.{cons_option, filter, filter_map, list_all, list_any}
 use Rattle.std.specs.Ordering.{is_eq}
 use Rattle.std.specs.declared.cmp.Ordering.{Ordering}
 use Rattle.std.specs.declared.cmp.Ordering.TheVariants.{Less, Equal}
@@ -106,3 +106,12 @@ module _ {Row K X : Type 0} (order : K → K → Ordering) (key : Row → K) (va
 
     pub any_rows : (p : K × X → Bool) → list_any (λ row. p (key row, value row)) rows ≡ list_any p (entries m)
     any_rows p = any_entries p rows ∙ ap (list_any p) entries_are
+
+-- what is told of those that a filter keeps
+pub filter_map_kept : {X Y : Type 0} (keep : X → Bool) (f : X → Option Y) (xs : List X) → filter_map f (filter keep xs) ≡ filter_map (λ x. cond (keep x) (f x) None) xs
+filter_map_kept keep f [] = refl
+filter_map_kept {X} keep f (x ∷ xs) = by (keep x) (filter keep xs) ∙ ap (cons_option (cond (keep x) (f x) None)) (filter_map_kept keep f xs)
+  where
+    by : (b : Bool) (kept : List X) → filter_map f (cond b (x ∷ kept) kept) ≡ cons_option (cond b (f x) None) (filter_map f kept)
+    by true kept = refl
+    by false kept = refl

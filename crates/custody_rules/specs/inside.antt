@@ -4,4 +4,5 @@ pub mod Links
 pub mod Orders
 pub mod PassedDeposits
 pub mod Releases
+pub mod Sought
 pub mod UniqueKeys

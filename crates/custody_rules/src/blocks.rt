@@ -1,38 +1,31 @@
 //! Blocks of parts: whether none is named twice, and which are free.
-ghost use Rattle.std.specs.Prelude.{◌≡◌, IfOk, true, false};
+ghost use Rattle.std.specs.Prelude.{◌≡◌, IfOk, IfErr};
 ghost use Rattle.custody_records.specs.MemoryRecords.{records_of};
 ghost use Rattle.custody_machine.specs.StoredState.{HaveExtentsInRange, HaveBlocksOnce};
 ghost use Rattle.custody_rules.specs.Blocks.{IsMapOf, extents_of_all};
+ghost use Rattle.custody_rules.specs.Breaks.{ReportsBreak};
 
 use crate::extents::part_extents;
+use custody_machine::{Damage, Failure};
 use custody_records::{Part, Records};
 use std::alloc::{AllocError, Global};
 use vault_volume::{Extent, ExtentMap, MapError};
 
-/// Whether no block is named twice, within a part or by two.
-pub(crate) fn have_blocks_once(alloc: Global, records: &Records) -> Result<bool, AllocError>
+/// The map of the volume of these records, where no block is named twice, within a part or by two: the
+/// blocks that no part names are free, but block 0.
+pub(crate) fn map_of(alloc: Global, records: &Records) -> Result<ExtentMap, Failure>
     requires { HaveExtentsInRange (records_of records.now) }
-    ensures once { IfOk result (λ once. once ≡ true → HaveBlocksOnce (records_of records.now)) }
-    ensures broken { IfOk result (λ once. once ≡ false → ¬ HaveBlocksOnce (records_of records.now)) }
+    ensures once { IfOk result (λ _. HaveBlocksOnce (records_of records.now)) }
+    ensures map { IfOk result (IsMapOf (records_of records.now)) }
+    ensures failure { IfErr result (ReportsBreak (records_of records.now)) }
 {
-    let used = extents_of_all(alloc, records.parts())?;
-    match ExtentMap::from_used(alloc, records.blocks(), &used) {
-        Ok(_) => Ok(true),
-        Err(MapError::Overlap) => Ok(false),
-        Err(_) => Err(AllocError),
-    }
-}
-
-/// The map of the volume of these records: the blocks that no part names are free, but block 0.
-pub fn map_of(alloc: Global, records: &Records) -> Result<ExtentMap, AllocError>
-    requires range { HaveExtentsInRange (records_of records.now) }
-    requires once { HaveBlocksOnce (records_of records.now) }
-    ensures { IfOk result (IsMapOf (records_of records.now)) }
-{
-    let used = extents_of_all(alloc, records.parts())?;
+    let Ok(used) = extents_of_all(alloc, records.parts()) else {
+        return Err(Failure::NoMemory);
+    };
     match ExtentMap::from_used(alloc, records.blocks(), &used) {
         Ok(map) => Ok(map),
-        Err(_) => Err(AllocError),
+        Err(MapError::Overlap) => Err(Failure::Damaged(Damage::Overlap)),
+        Err(_) => Err(Failure::NoMemory),
     }
 }
 

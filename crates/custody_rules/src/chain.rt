@@ -2,11 +2,13 @@
 ghost use Rattle.std.specs.Prelude.{◌≡◌, List, ℕ, IfOk};
 ghost use Rattle.std.specs.List.{list_any};
 ghost use Rattle.custody_records.specs.MemoryRecords.{records_of};
-ghost use Rattle.custody_machine.specs.Machine.{chain_of, has_dropped_part, held_chain, later_names, latest_full, passed_first_names};
+ghost use Rattle.custody_records.specs.Records.{key_of};
+ghost use Rattle.custody_machine.specs.Machine.{chain_of, held_chain, later_names, latest_full, passed_first_names};
 ghost use Rattle.custody_machine.specs.StoredState.{state_in};
+ghost use Rattle.custody_rules.specs.Judging.{has_dropped_part_in};
 ghost use Rattle.custody_rules.specs.inside.Chains.{is_first_of_passed_in};
 
-use crate::days::has_receipt_on;
+use crate::days::{Sought, has_notice};
 use crate::revision::has_dropped_part;
 use custody_machine::Statement;
 use custody_records::{PartKey, Records};
@@ -35,7 +37,7 @@ pub fn held_chain(
 
 /// Whether the bytes of a part of these deposits are dropped.
 fn is_any_dropped(records: &Records, chain: &[DepositName]) -> bool
-    ensures { (image : List ℕ) → result ≡ list_any (has_dropped_part (state_in (records_of records.now) image)) chain.now }
+    ensures { result ≡ list_any (λ name. has_dropped_part_in (records_of records.now) (key_of name)) chain.now }
 {
     chain
         .iter()
@@ -62,7 +64,7 @@ fn passed_first_names(
 fn is_first_of_passed_in(records: &Records, tld: &Tld, name: &DepositName) -> bool
     ensures { result ≡ is_first_of_passed_in (records_of records.now) tld.now name.now }
 {
-    name.part == 1 && has_receipt_on(records, tld, name.day, name.rev)
+    name.part == 1 && has_notice(records, tld, name.day, Sought::ReceiptOf(name.rev))
 }
 
 /// Of the deposits that passed those that one of a kind follows.

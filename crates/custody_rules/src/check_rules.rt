@@ -1,5 +1,5 @@
 //! How a check is judged by the records.
-ghost use Rattle.std.specs.Prelude.{◌≡◌, ◌≢◌, ◌==◌, ◌||◌, List, None, Some, IfSome, ℕ, find};
+ghost use Rattle.std.specs.Prelude.{◌≡◌, ◌≢◌, ◌==◌, List, None, Some, IfSome, ℕ, find};
 ghost use Rattle.std.specs.FinMap.{entries, get};
 ghost use Rattle.custody_records.specs.MemoryRecords.{records_of};
 ghost use Rattle.custody_machine.specs.Machine.{Check, check_tests, first_refusal, is_absence};
@@ -9,7 +9,7 @@ ghost use Rattle.custody_machine.specs.StoredState.{state_in};
 ghost use Rattle.custody_machine.specs.declared.answers.Refusal.TheVariants.{OtherBytes, VolumeFull};
 ghost use Rattle.custody_rules.specs.Rulings.{ruling_of};
 
-use crate::days::{absence_of, has_verdict};
+use crate::days::{Sought, has_notice, is_day_outside, notice_of};
 use crate::{Change, KeptRecord, Ruling};
 use custody_machine::Refusal;
 use custody_records::Records;
@@ -23,7 +23,7 @@ pub(crate) fn judge_check(records: &Records, tld: Tld, day: Day, now: Sec) -> Ru
     let Some(first_day) = records.first_day(&tld) else {
         return Ruling::Refuse(Refusal::RegistryUnknown);
     };
-    match absence_of(records, &tld, day) {
+    match notice_of(records, &tld, day, Sought::Absence) {
         Some(notice) => Ruling::Kept(KeptRecord::Notice(*notice)),
         None => match refusal_of_check(records, &tld, day, first_day, now) {
             Some(refusal) => Ruling::Refuse(refusal),
@@ -44,14 +44,13 @@ fn refusal_of_check(
         → result ≡ first_refusal (check_tests (state_in (records_of records.now) image) tld.now day now) }
     ensures early { IfSome result (λ refusal. (refusal ≢ OtherBytes) × (refusal ≢ VolumeFull)) }
 {
-    let today = now.day();
-    if day < first_day || today < day {
+    if is_day_outside(first_day, day, now) {
         return Some(Refusal::DateOutOfRange);
     }
-    if day == today {
+    if day == now.day() {
         return Some(Refusal::NotYetDue);
     }
-    if has_verdict(records, tld, day) {
+    if has_notice(records, tld, day, Sought::Verdict) {
         return Some(Refusal::DayHasVerdict);
     }
     None

@@ -1,6 +1,5 @@
 //! How a hold and its lifting are judged by the records.
-ghost use Rattle.std.specs.Prelude.{◌≡◌, ◌||◌, ℕ, nat_lt};
-ghost use Rattle.schedule.specs.Schedule.{day_of};
+ghost use Rattle.std.specs.Prelude.{◌≡◌, ℕ};
 ghost use Rattle.custody_records.specs.MemoryRecords.{records_of};
 ghost use Rattle.custody_records.specs.TypedRecords.{hold_value};
 ghost use Rattle.custody_machine.specs.Machine.{Hold as Held, Lift, is_held_day};
@@ -8,6 +7,7 @@ ghost use Rattle.custody_machine.specs.Rulings.{Decides};
 ghost use Rattle.custody_rules.specs.inside.Holds.{new_hold_ruling, used_refusal};
 ghost use Rattle.custody_rules.specs.Rulings.{ruling_of};
 
+use crate::days::is_day_outside;
 use crate::{Change, KeptRecord, Ruling};
 use custody_machine::Refusal;
 use custody_records::{Hold, Records};
@@ -30,13 +30,8 @@ pub(crate) fn judge_hold(
     };
     let is_out = is_day_outside(first_day, day, now);
     match records.hold(&reference) {
-        Some(hold) => {
-            if is_of_day(hold, &tld, day) {
-                Ruling::Kept(KeptRecord::Hold(hold))
-            } else {
-                Ruling::Refuse(refusal_of_used(is_out))
-            }
-        }
+        Some(hold) if is_of_day(hold, &tld, day) => Ruling::Kept(KeptRecord::Hold(hold)),
+        Some(_) => Ruling::Refuse(refusal_of_used(is_out)),
         None => judge_new(reference, tld, day, is_out),
     }
 }
@@ -61,13 +56,6 @@ fn refusal_of_used(is_out: bool) -> Refusal
     } else {
         Refusal::HoldReferenceUsed
     }
-}
-
-/// Whether the day is before the registry's first, or after today.
-fn is_day_outside(first_day: Day, day: Day, now: Sec) -> bool
-    ensures { result ≡ (nat_lt day first_day || nat_lt (day_of now) day) }
-{
-    day < first_day || now.day() < day
 }
 
 /// Whether the hold is of this registry and day.

@@ -1,24 +1,20 @@
 //! How a command is judged by the records, before any volume is looked at.
-ghost use Rattle.std.specs.Prelude.{◌≡◌, ◌≢◌, ◌+◌, ◌-◌, ◌==◌, ◌&&◌, ◌||◌, ℕ, List, Ok, None, Some, not, nat_lt, length, count_by, is_some, IfSome, option_map, option_copied};
-ghost use Rattle.std.specs.List.{list_any};
-ghost use Rattle.std.specs.FinMap.{get};
-ghost use Rattle.schedule.specs.Schedule.{day_of};
+ghost use Rattle.std.specs.Prelude.{◌≡◌, ◌≢◌, ◌+◌, ◌-◌, ◌==◌, ◌&&◌, ◌||◌, ℕ, List, Ok, not, nat_lt, IfSome, option_map, option_copied};
 ghost use Rattle.desk.specs.Standing.{is_receipt};
 ghost use Rattle.custody_records.specs.Records.{key_of};
 ghost use Rattle.custody_records.specs.MemoryRecords.{records_of};
 ghost use Rattle.custody_records.specs.TypedRecords.{key_of_part, part_value};
 ghost use Rattle.custody_machine.specs.NameReading.{read_name};
-ghost use Rattle.custody_machine.specs.State.{part_numbers, key_with_part, has_notice};
-ghost use Rattle.custody_machine.specs.StoredState.{state_in};
-ghost use Rattle.custody_machine.specs.Machine.{Register, is_failure_of, is_verdict_of, part_under_name, max_part_len, receive_tests, first_refusal};
+ghost use Rattle.custody_machine.specs.State.{has_notice};
+ghost use Rattle.custody_machine.specs.Machine.{Register, is_failure_of, is_verdict_of, max_part_len, first_refusal};
 ghost use Rattle.custody_machine.specs.declared.answers.Refusal.TheVariants.{OtherBytes, VolumeFull};
 ghost use Rattle.custody_machine.specs.Commands.{command_of};
 ghost use Rattle.custody_machine.specs.Rulings.{Decides, DecidesPart};
 ghost use Rattle.custody_rules.specs.Rulings.{ruling_of};
-ghost use Rattle.custody_rules.specs.Judging.{part_under, is_of_other_kind, RulesRecordedPart};
+ghost use Rattle.custody_rules.specs.Judging.{count_parts_in, has_other_kind_in, part_under, tests_of_new, RulesRecordedPart};
 
 use crate::check_rules::judge_check;
-use crate::days::{has_failed, has_receipt, has_verdict_on};
+use crate::days::{Sought, has_notice, is_day_outside};
 use crate::hold_rules::{judge_hold, judge_lift};
 use crate::release_rules::judge_release;
 use crate::revision::{count_parts, has_other_kind, is_of_kind, revision_part};
@@ -108,11 +104,10 @@ fn refusal_of_new(
     len: usize,
     now: Sec,
 ) -> Option<Refusal>
-    ensures first { (image bytes : List ℕ) → length bytes ≡ len → get (records_of records.now).registries name.now.tld ≡ Some first_day → part_under_name (state_in (records_of records.now) image) name.now ≡ None
-        → result ≡ first_refusal (receive_tests (state_in (records_of records.now) image) name.now bytes now) }
+    ensures first { result ≡ first_refusal (tests_of_new (records_of records.now) name.now first_day len now) }
     ensures early { IfSome result (λ refusal. (refusal ≢ OtherBytes) × (refusal ≢ VolumeFull)) }
 {
-    if is_outside(name, first_day, now) {
+    if is_day_outside(first_day, name.day, now) {
         return Some(Refusal::DateOutOfRange);
     }
     if is_out_of_size(len) {
@@ -133,12 +128,6 @@ fn refusal_of_new(
     None
 }
 
-fn is_outside(name: &DepositName, first_day: Day, now: Sec) -> bool
-    ensures { result ≡ (nat_lt name.now.day first_day || nat_lt (day_of now) name.now.day) }
-{
-    name.day < first_day || now.day() < name.day
-}
-
 fn is_out_of_size(len: usize) -> bool
     ensures { result ≡ (len == 0 || nat_lt max_part_len len) }
 {
@@ -150,14 +139,20 @@ fn is_revision_not_due(records: &Records, name: &DepositName) -> bool
     ensures { result ≡ (has_notice (records_of records.now).notices name.now.tld name.now.day is_receipt
         || (nat_lt 0 name.now.rev && not (has_notice (records_of records.now).notices name.now.tld name.now.day (is_failure_of (name.now.rev - 1))))) }
 {
-    has_receipt(records, &name.tld, name.day)
-        || name.rev > 0 && !has_failed(records, &name.tld, name.day, name.rev - 1)
+    has_notice(records, &name.tld, name.day, Sought::Receipt)
+        || name.rev > 0
+            && !has_notice(
+                records,
+                &name.tld,
+                name.day,
+                Sought::FailureOf(name.rev - 1),
+            )
 }
 
 fn is_stated(records: &Records, name: &DepositName) -> bool
     ensures { result ≡ has_notice (records_of records.now).notices name.now.tld name.now.day (is_verdict_of name.now.rev) }
 {
-    has_verdict_on(records, &name.tld, name.day, name.rev)
+    has_notice(records, &name.tld, name.day, Sought::VerdictOf(name.rev))
 }
 
 // The part that is recorded under a name: one of another kind in its place is not.
@@ -169,13 +164,13 @@ pub(crate) fn part_under<'a>(records: &'a Records, name: &DepositName) -> Option
 }
 
 fn differs_in_kind(records: &Records, name: &DepositName) -> bool
-    ensures { result ≡ list_any (λ place. is_of_other_kind name.now.kind (get (records_of records.now).parts (key_with_part (key_of name.now) place))) part_numbers }
+    ensures { result ≡ has_other_kind_in (records_of records.now) (key_of name.now) name.now.kind }
 {
     has_other_kind(records, &PartKey::of(name), name.kind)
 }
 
 fn is_out_of_order(records: &Records, name: &DepositName) -> bool
-    ensures { result ≡ not (count_by (λ place. is_some (get (records_of records.now).parts (key_with_part (key_of name.now) place))) part_numbers + 1 == name.now.part) }
+    ensures { result ≡ not (count_parts_in (records_of records.now) (key_of name.now) + 1 == name.now.part) }
 {
     count_parts(records, &PartKey::of(name)) + 1 != usize::from(name.part)
 }

@@ -20,9 +20,8 @@ mod ruling;
 mod statement_rules;
 mod unique_keys;
 
-pub use blocks::map_of;
 pub use chain::held_chain;
-pub use consistency::damage_in;
+pub use consistency::whole_map;
 pub use custody_machine::Command;
 pub use days_due::{DueDay, due_days};
 pub use fetching::find_released;

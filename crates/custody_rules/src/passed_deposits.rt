@@ -1,7 +1,7 @@
 //! What the records tell of a deposit before it is read, and the next number of a notice.
-ghost use Rattle.std.specs.Prelude.{◌≡◌, ◌≤◌, ◌^◌, List, ℕ, IfNone, IfOk, IfSome, map, option_map};
-ghost use Rattle.std.specs.List.{filter};
-ghost use Rattle.custody_machine.specs.Machine.{first_part, known_of, latest_id, next_number};
+ghost use Rattle.std.specs.Prelude.{◌≡◌, ◌≤◌, ◌^◌, List, ℕ, IfNone, IfOk, IfSome, option_map};
+ghost use Rattle.std.specs.List.{filter, filter_map};
+ghost use Rattle.custody_machine.specs.Machine.{first_part, known_of, latest_id, next_number, passed_id};
 ghost use Rattle.custody_machine.specs.StoredState.{state_in};
 ghost use Rattle.custody_records.specs.MemoryRecords.{records_of};
 ghost use Rattle.deposit_verify.specs.Known.{known_in};
@@ -84,11 +84,18 @@ pub(crate) struct PassedDeposit {
 fn passed_deposit_of(notice: &Notice) -> Option<PassedDeposit>
     ensures { option_map passed_pair result ≡ passed_deposit_of notice.now }
 {
+    let id = passed_id(notice)?;
+    Some(PassedDeposit {
+        day: notice.day,
+        id,
+    })
+}
+
+fn passed_id(notice: &Notice) -> Option<DepositId>
+    ensures { result ≡ passed_id notice.now.kind }
+{
     match notice.kind {
-        NoticeKind::Receipt { id, .. } => Some(PassedDeposit {
-            day: notice.day,
-            id,
-        }),
+        NoticeKind::Receipt { id, .. } => Some(id),
         NoticeKind::Failure { .. } | NoticeKind::Absence => None,
     }
 }
@@ -118,15 +125,12 @@ fn later_of(latest: Option<PassedDeposit>, next: PassedDeposit) -> PassedDeposit
 
 /// The ids of the deposits that passed, in the order of the notices.
 fn passed_ids(alloc: Global, notices: &[Notice]) -> Result<Vec<DepositId>, AllocError>
-    ensures { IfOk result (λ ids. ids.items ≡ map (λ (one : ℕ × List ℕ). one.1) (passed_deposits_of notices.now)) }
+    ensures { IfOk result (λ ids. ids.items ≡ filter_map (λ notice. passed_id notice.kind) notices.now) }
 {
-    let mut ids = Vec::new(alloc);
-    for notice in notices {
-        if let Some(passed) = passed_deposit_of(notice) {
-            ids.push(passed.id)?;
-        }
-    }
-    Ok(ids)
+    notices
+        .iter()
+        .filter_map(|notice| passed_id(notice))
+        .collect(alloc)
 }
 
 /// The number of the next notice of a registry, where there is one.
@@ -141,9 +145,7 @@ pub fn next_number(records: &Records, tld: &Tld) -> Option<u64>
 fn greatest_number(notices: &[Notice]) -> u64
     ensures { result ≡ greatest_notice_number notices.now }
 {
-    let mut greatest = 0;
-    for notice in notices {
-        greatest = u64::max(greatest, notice.number);
-    }
-    greatest
+    notices
+        .iter()
+        .fold(0, |greatest, notice| u64::max(greatest, notice.number))
 }

@@ -32,20 +32,14 @@ pub(crate) fn judge_release(
         return Ruling::Refuse(Refusal::RegistryUnknown);
     };
     match records.release(&reference) {
-        Some(release) => {
-            if is_on_ground(release, &tld, reason) {
-                Ruling::Kept(KeptRecord::Release(release))
-            } else {
-                Ruling::Refuse(Refusal::ReferenceUsed)
-            }
+        Some(release) if is_on_ground(release, &tld, reason) => {
+            Ruling::Kept(KeptRecord::Release(release))
         }
-        None => {
-            if has_ground(records, &tld, reason, now) {
-                Ruling::Go(Change::Release(reference, tld, reason))
-            } else {
-                Ruling::Refuse(Refusal::GroundDoesNotStand)
-            }
+        Some(_) => Ruling::Refuse(Refusal::ReferenceUsed),
+        None if has_ground(records, &tld, reason, now) => {
+            Ruling::Go(Change::Release(reference, tld, reason))
         }
+        None => Ruling::Refuse(Refusal::GroundDoesNotStand),
     }
 }
 

@@ -1,13 +1,12 @@
 //! The parts of a revision. It is named by the place of one of its parts.
-ghost use Rattle.std.specs.Prelude.{◌≡◌, ◌≤◌, IfSome, count_by, is_some, option_copied, option_map};
+ghost use Rattle.std.specs.Prelude.{◌≡◌, ◌≤◌, IfSome, is_some, option_copied, option_map};
 ghost use Rattle.std.specs.FinMap.{get};
-ghost use Rattle.std.specs.List.{list_any};
 ghost use Rattle.deposit_name.specs.Name.{is_same_kind};
 ghost use Rattle.custody_records.specs.MemoryRecords.{records_of};
 ghost use Rattle.custody_records.specs.TypedRecords.{key_of_part, part_value};
-ghost use Rattle.custody_machine.specs.State.{key_with_part, part_numbers};
+ghost use Rattle.custody_machine.specs.State.{key_with_part};
 ghost use Rattle.custody_machine.specs.StoredState.{is_part_of};
-ghost use Rattle.custody_rules.specs.Judging.{is_of_other_kind, is_without_bytes};
+ghost use Rattle.custody_rules.specs.Judging.{count_parts_in, has_dropped_part_in, has_other_kind_in, is_of_other_kind, is_without_bytes};
 
 use custody_records::{Part, PartKey, Records};
 use deposit_name::Kind;
@@ -44,7 +43,7 @@ pub(crate) fn has_part_of(records: &Records, place: &PartKey, kind: Kind) -> boo
 
 /// How many parts the revision has.
 pub(crate) fn count_parts(records: &Records, key: &PartKey) -> usize
-    ensures number { result ≡ count_by (λ place. is_some (get (records_of records.now).parts (key_with_part key.now place))) part_numbers }
+    ensures number { result ≡ count_parts_in (records_of records.now) key.now }
     ensures small { result ≤ 8 }
 {
     PLACES
@@ -55,7 +54,7 @@ pub(crate) fn count_parts(records: &Records, key: &PartKey) -> usize
 
 /// Whether a part of the revision is of another kind.
 pub(crate) fn has_other_kind(records: &Records, key: &PartKey, kind: Kind) -> bool
-    ensures { result ≡ list_any (λ place. is_of_other_kind kind (get (records_of records.now).parts (key_with_part key.now place))) part_numbers }
+    ensures { result ≡ has_other_kind_in (records_of records.now) key.now kind }
 {
     PLACES
         .iter()
@@ -64,7 +63,7 @@ pub(crate) fn has_other_kind(records: &Records, key: &PartKey, kind: Kind) -> bo
 
 /// Whether the bytes of a part of the revision are dropped.
 pub(crate) fn has_dropped_part(records: &Records, key: &PartKey) -> bool
-    ensures { result ≡ list_any (λ place. is_without_bytes (get (records_of records.now).parts (key_with_part key.now place))) part_numbers }
+    ensures { result ≡ has_dropped_part_in (records_of records.now) key.now }
 {
     PLACES.iter().any(|place| is_dropped(records, key, *place))
 }

@@ -1,20 +1,18 @@
 //! How a statement is judged by the records.
-ghost use Rattle.std.specs.Prelude.{◌≡◌, ◌≢◌, ◌&&◌, ◌||◌, not, List, None, Some, IfSome, ℕ, nat_lt, option_map, option_copied};
-ghost use Rattle.std.specs.FinMap.{entries, get};
+ghost use Rattle.std.specs.Prelude.{◌≡◌, ◌≢◌, ◌&&◌, ◌||◌, not, IfSome, option_map, option_copied};
+ghost use Rattle.std.specs.FinMap.{entries};
 ghost use Rattle.std.specs.List.{list_any};
-ghost use Rattle.schedule.specs.Schedule.{day_of};
 ghost use Rattle.custody_records.specs.Records.{key_of};
 ghost use Rattle.custody_records.specs.MemoryRecords.{records_of};
 ghost use Rattle.custody_records.specs.TypedRecords.{notice_entry};
-ghost use Rattle.custody_machine.specs.State.{part_numbers, key_with_part, has_notice};
-ghost use Rattle.custody_machine.specs.Machine.{Statement as Stated, first_part, is_verdict_of, has_id, statement_tests, first_refusal};
+ghost use Rattle.custody_machine.specs.State.{has_notice};
+ghost use Rattle.custody_machine.specs.Machine.{Statement as Stated, first_part, is_verdict_of, has_id, first_refusal};
 ghost use Rattle.custody_machine.specs.declared.answers.Refusal.TheVariants.{OtherBytes, VolumeFull};
-ghost use Rattle.custody_machine.specs.StoredState.{state_in};
 ghost use Rattle.custody_machine.specs.Rulings.{Decides};
 ghost use Rattle.custody_rules.specs.Rulings.{ruling_of};
-ghost use Rattle.custody_rules.specs.Judging.{are_parts_as_stated_in, differs_in_number, is_later_receipt, is_of_other_kind, is_without_bytes, kept_verdict_in};
+ghost use Rattle.custody_rules.specs.Judging.{are_parts_as_stated_in, differs_in_number, has_dropped_part_in, has_other_kind_in, is_later_receipt, kept_verdict_in, tests_of_statement};
 
-use crate::days::{has_verdict_on, verdict_on};
+use crate::days::{Sought, has_notice, is_day_outside, notice_of};
 use crate::revision::{count_parts, has_dropped_part, has_other_kind};
 use crate::{Change, KeptRecord, Ruling};
 use custody_machine::{Refusal, Statement};
@@ -51,12 +49,8 @@ fn kept_verdict<'a>(records: &'a Records, statement: &Statement) -> Option<&'a N
     if !are_as_stated(records, statement) {
         return None;
     }
-    let verdict = verdict_on(
-        records,
-        &statement.tld,
-        statement.day,
-        statement.rev.number(),
-    )?;
+    let sought = Sought::VerdictOf(statement.rev.number());
+    let verdict = notice_of(records, &statement.tld, statement.day, sought)?;
     if has_id(verdict, &statement.id) {
         Some(verdict)
     } else {
@@ -71,11 +65,10 @@ fn refusal_of_statement(
     first_day: Day,
     now: Sec,
 ) -> Option<Refusal>
-    ensures first { (image : List ℕ) → get (records_of records.now).registries statement.now.tld ≡ Some first_day → kept_verdict_in (records_of records.now) statement.now ≡ None
-        → result ≡ first_refusal (statement_tests (state_in (records_of records.now) image) statement.now now) }
+    ensures first { result ≡ first_refusal (tests_of_statement (records_of records.now) statement.now first_day now) }
     ensures early { IfSome result (λ refusal. (refusal ≢ OtherBytes) × (refusal ≢ VolumeFull)) }
 {
-    if is_outside(statement, first_day, now) {
+    if is_day_outside(first_day, statement.day, now) {
         return Some(Refusal::DateOutOfRange);
     }
     if has_lost_bytes(records, statement) {
@@ -96,24 +89,14 @@ fn refusal_of_statement(
     None
 }
 
-fn is_outside(statement: &Statement, first_day: Day, now: Sec) -> bool
-    ensures { result ≡ (nat_lt statement.now.day first_day || nat_lt (day_of now) statement.now.day) }
-{
-    statement.day < first_day || now.day() < statement.day
-}
-
 // ---- notices
 
 /// Whether the revision has a verdict.
 fn is_stated(records: &Records, statement: &Statement) -> bool
     ensures { result ≡ has_notice (records_of records.now).notices statement.now.tld statement.now.day (is_verdict_of statement.now.rev) }
 {
-    has_verdict_on(
-        records,
-        &statement.tld,
-        statement.day,
-        statement.rev.number(),
-    )
+    let sought = Sought::VerdictOf(statement.rev.number());
+    has_notice(records, &statement.tld, statement.day, sought)
 }
 
 fn has_id(notice: &Notice, id: &DepositId) -> bool
@@ -159,14 +142,14 @@ fn first_place(statement: &Statement) -> PartKey
 /// Whether a revision without a verdict has a part whose bytes are dropped.
 fn has_lost_bytes(records: &Records, statement: &Statement) -> bool
     ensures { result ≡ (not (has_notice (records_of records.now).notices statement.now.tld statement.now.day (is_verdict_of statement.now.rev))
-        && list_any (λ place. is_without_bytes (get (records_of records.now).parts (key_with_part (key_of (first_part statement.now)) place))) part_numbers) }
+        && has_dropped_part_in (records_of records.now) (key_of (first_part statement.now))) }
 {
     !is_stated(records, statement) && has_dropped_part(records, &first_place(statement))
 }
 
 /// Whether the revision has a part of another kind.
 fn differs_in_kind(records: &Records, statement: &Statement) -> bool
-    ensures { result ≡ list_any (λ place. is_of_other_kind statement.now.kind (get (records_of records.now).parts (key_with_part (key_of (first_part statement.now)) place))) part_numbers }
+    ensures { result ≡ has_other_kind_in (records_of records.now) (key_of (first_part statement.now)) statement.now.kind }
 {
     has_other_kind(records, &first_place(statement), statement.kind)
 }

@@ -2,7 +2,7 @@
 use Rattle.std.proofs.Common.{◌≡◌, ℕ, List, [], ◌∷◌, ◌++◌, Option, Some, None, is_some, true, false, ◌⊎◌, inl, inr, refl, sym, ◌∙◌, ap, subst, cond, if◌then◌else◌, append_assoc, append-nil}
 use Rattle.std.specs.Prelude.{count_by, map}
 use Rattle.std.specs.List.{cons_option, flat_map}
-use Rattle.custody_machine.specs.declared.answers.Failure.TheVariants.{NoMemory, VolumeFailed, StoreFailed, Closed, Damaged}
+use Rattle.custody_machine.specs.declared.answers.Failure.TheVariants.{NoMemory}
 use Rattle.custody_machine.specs.State.{State}
 use Rattle.custody_machine.specs.StoredState.{StandsFor, state_in}
 use Rattle.custody_machine.specs.Machine as machine
@@ -15,8 +15,8 @@ use Rattle.custody_machine.proofs.Histories.{accepted_is_found, openings_are_rig
 use Rattle.custody_machine.proofs.Moves.{Follows, moves_follow, pair_of}
 use Rattle.custody_machine.proofs.Keeping.{key_of_asked}
 use Rattle.custody_machine.proofs.Retries.{acknowledged_is_kept, acts_once, keys_are_compared, repeats_are_answered}
-use Rattle.http_request.specs.RequestMeaning.{RequestMeaning, RequestMeans, RequestsMeanOne, asks_for, bad}
-use Rattle.http_request.specs.Action.{Do, Report, Fetch}
+use Rattle.http_request.specs.RequestMeaning.{RequestMeaning, RequestMeans, RequestsMeanOne, asks_for}
+use Rattle.http_request.specs.Action.{Do}
 use Rattle.http_api.specs.declared.status.ResponseStatus.TheVariants.{Done}
 use Rattle.http_api.specs.Responses.{HttpResponse, text_response}
 use Rattle.http_api.specs.Handling.{refusal_response}
@@ -27,7 +27,7 @@ use Rattle.theorems.proofs.Beginnings.{whole_begins}
 use Rattle.theorems.proofs.OnceLemmas.{counted_once}
 use Rattle.theorems.proofs.ServingLemmas.{Commanded, Delivered, HadNoMemory, IsOfTry, WasAccepted, command_in, commanded, custody_events-append, custody_events-at, cut, delivered_is, ends_in, lived, moves_of, quiet, serves_join, serves_split, try_of, was_accepted, was_decided}
 use Rattle.theorems.proofs.Told.{kept_text, refusal_is_none, reply_told}
-use Rattle.theorems.proofs.Tries.{AreTries, IsAtRest, IsToldAs, at_rest_still, last_try, may_try, one_value, only_state, tried_after}
+use Rattle.theorems.proofs.Tries.{AreTries, IsAtRest, IsToldAs, last_try, one_value, only_state, still_at_rest, still_tried, tried_after}
 
 module _ (one_asked : RequestsMeanOne) where
   -- ---- what was told as accepted is found once
@@ -49,35 +49,38 @@ module _ (one_asked : RequestsMeanOne) where
         opened = let same = (openings_are_right first (custody_events earlier) (custody_events later) pair (Opened state) whole).1 in cc
 
     -- a request that was served before, and told as accepted
-    module _ (x : Exchange) (command : Command) (asks : AsksFor x command) (accepted : tells_accepted x.answer.status ≡ true) (before behind : List ServiceEvent) (is : earlier ≡ before ++ Exchanged x ∷ behind) where
+    module _ (x : Exchange) (command : Command) (accepted : tells_accepted x.answer.status ≡ true) (asks : AsksFor x command) (there : Delivered earlier x) where
       was : WasAccepted one_asked x command asks
       was =
-          let here = cut first before (Exchanged x ∷ behind) (subst (IsServiceHistory first) is until) in
+          let here = cut first there.before (Exchanged x ∷ there.behind) (subst (IsServiceHistory first) there.is until) in
           was_accepted one_asked x command asks here.until.end here.rest.1.1 accepted
 
       abbrev acceptance : history.Event
       acceptance = Answered command x.now (Accepted was.reply)
 
-      events_are : custody_events earlier ≡ custody_events before ++ acceptance ∷ custody_events behind
-      events_are = ap custody_events is ∙ custody_events-at before behind (Exchanged x) acceptance was.did
+      events_are : custody_events earlier ≡ custody_events there.before ++ acceptance ∷ custody_events there.behind
+      events_are = ap custody_events there.is ∙ custody_events-at there.before there.behind (Exchanged x) acceptance was.did
 
       is_found : IsFoundOnce (found_by_service first earlier) command
       is_found keyed =
-          let more = accepted_is_found first (custody_events before) (custody_events behind) command x.now was.reply in
+          let more = accepted_is_found first (custody_events there.before) (custody_events there.behind) command x.now was.reply in
           ap (λ entries. count_by (λ (entry : TimedCommand). has_same_key command entry.0) (once entries)) (ap (history.found first) events_are ∙ more.1)
-          ∙ counted_once command (history.found first (custody_events before)) more.0 x.now keyed
+          ∙ counted_once command (history.found first (custody_events there.before)) more.0 x.now keyed
 
       is_kept : TellsKeptRecord state command x.answer
       is_kept =
-          let kept = acknowledged_is_kept first (custody_events before) (custody_events behind) (custody_events later) command x.now was.reply pair state
+          let kept = acknowledged_is_kept first (custody_events there.before) (custody_events there.behind) (custody_events later) command x.now was.reply pair state
           (subst (λ l. history.IsHistory first (l ++ opening ∷ custody_events later)) events_are whole) in
           (was.reply.entry, ap (λ (a : HttpResponse). a.body) was.answer, kept.0, kept.1)
 
   pub accepted_is_found_once : (first : State) → AcceptedIsFoundOnce first
-  accepted_is_found_once first earlier later pair state h = (is_once first earlier later pair state h, λ x command there accepted asks. by x command accepted asks (delivered_is earlier x there))
-    where
-      by : (x : Exchange) (command : Command) → tells_accepted x.answer.status ≡ true → AsksFor x command → Delivered earlier x → IsFoundOnce (found_by_service first earlier) command × TellsKeptRecord state command x.answer
-      by x command accepted asks d = (is_found first earlier later pair state h x command asks accepted d.before d.behind d.is, is_kept first earlier later pair state h x command asks accepted d.before d.behind d.is)
+  accepted_is_found_once first earlier later pair state h = (
+    is_once first earlier later pair state h,
+    λ x command there accepted asks. let d = delivered_is earlier x there in (
+      is_found first earlier later pair state h x command accepted asks d,
+      is_kept first earlier later pair state h x command accepted asks d,
+    ),
+  )
 
   -- ---- a request that is sent again
 
@@ -90,11 +93,8 @@ module _ (one_asked : RequestsMeanOne) where
       done_status : status_of reply ≡ Done
       done_status = ap (λ b. if b then Done else accepted_status reply.entry) again.4
   told_again state command first IsBody (Refused refusal) answer is body again = inr (inl (is ∙ ap refusal_response again.0, again.1))
-  told_again state command first IsBody (Failed NoMemory) answer is body again = inr (inr (NoMemory, tt, is))
-  told_again state command first IsBody (Failed VolumeFailed) answer is body again = inr (inr (VolumeFailed, tt, is))
-  told_again state command first IsBody (Failed StoreFailed) answer is body again = absurd again
-  told_again state command first IsBody (Failed Closed) answer is body again = inr (inr (Closed, tt, is))
-  told_again state command first IsBody (Failed (Damaged damage)) answer is body again = absurd again
+  told_again state command first IsBody (Failed NoMemory) answer is body again = inr (inr (NoMemory, again, is))
+  told_again state command first IsBody (Failed failure) answer is body again = inr (inr (failure, again, is))
 
   -- the first command with a key is the same for all that have it
   same_first : (state : State) (entries : List TimedCommand) (a b : Command) → command_key a ≡ command_key b → first_record state entries a ≡ first_record state entries b
@@ -106,8 +106,9 @@ module _ (one_asked : RequestsMeanOne) where
   key_of_same a b same = sym (key_of_asked a) ∙ ap command_key same.1 ∙ key_of_asked b
 
   module _ (first : State) (earlier later : List ServiceEvent) (x : Exchange) (command : Command) (h : IsServiceHistory first (earlier ++ Exchanged x ∷ later)) (asks : AsksFor x command) (was : ContainsSameCommand (found_by_service first earlier) command) where
-    answered_again : Commanded one_asked x command asks → IsRepeatResponse (state_by_service first earlier) command (TellsFirstRecord first (found_by_service first earlier) command) x.answer × (state_by_service first (earlier ++ Exchanged x ∷ []) ≡ state_by_service first earlier)
-    answered_again c =
+    answered_again : Commanded one_asked x command asks ⊎ HadNoMemory one_asked x command asks
+        → IsRepeatResponse (state_by_service first earlier) command (TellsFirstRecord first (found_by_service first earlier) command) x.answer × (state_by_service first (earlier ++ Exchanged x ∷ []) ≡ state_by_service first earlier)
+    answered_again (inl c) =
         let one : history.Event = Answered command x.now c.told in
         let events = subst (history.IsHistory first) (custody_events-at earlier later (Exchanged x) one c.did) (lived first (earlier ++ Exchanged x ∷ later) h) in
         let answered = repeats_are_answered first (custody_events earlier) (custody_events later) was.before was.behind was.entry command x.now c.told events was.is was.same in
@@ -115,25 +116,19 @@ module _ (one_asked : RequestsMeanOne) where
           told_again (state_by_service first earlier) command (first_record first (found_by_service first earlier) was.entry.0) (TellsFirstRecord first (found_by_service first earlier) command) c.told x.answer c.answer (λ made e. (made, of_first ∙ e, refl)) answered.0,
           ap (λ l. after first (history.found first l)) (custody_events-at earlier [] (Exchanged x) one c.did) ∙ answered.1,
         )
+    answered_again (inr none) = (
+      inr (inr (NoMemory, tt, none.1)),
+      ap (λ l. after first (history.found first l)) (custody_events-append earlier (Exchanged x ∷ []) ∙ ap (λ d. custody_events earlier ++ cons_option d []) none.0 ∙ append-nil (custody_events earlier)),
+    )
 
   pub repeats_are_told : (first : State) → ServiceAnswersRepeats first
   repeats_are_told first earlier later x command h asks was =
-      let here = cut first earlier (Exchanged x ∷ later) h in by (commanded one_asked x command asks here.until.end here.rest.1.1)
-    where
-      by : Commanded one_asked x command asks ⊎ HadNoMemory one_asked x command asks → IsRepeatResponse (state_by_service first earlier) command (TellsFirstRecord first (found_by_service first earlier) command) x.answer × (state_by_service first (earlier ++ Exchanged x ∷ []) ≡ state_by_service first earlier)
-      by (inl c) = answered_again first earlier later x command h asks was c
-      by (inr none) = (
-        inr (inr (NoMemory, tt, none.1)),
-        ap (λ l. after first (history.found first l)) (custody_events-append earlier (Exchanged x ∷ []) ∙ ap (λ d. custody_events earlier ++ cons_option d []) none.0 ∙ append-nil (custody_events earlier)),
-      )
-
-  -- ---- the same body
+      let here = cut first earlier (Exchanged x ∷ later) h in answered_again first earlier later x command h asks was (commanded one_asked x command asks here.until.end here.rest.1.1)
 
   -- two states in which a custody is are one
   same_state : (a b : State) (place : Place) → IsUp place → IsInState a place → IsInState b place → a ≡ b
-  same_state a b (Serving records image) up x y = sym x.0 ∙ y.0
-  same_state a b (Shut records image doubt) up x y = sym x.0 ∙ y.0
   same_state a b (Left rows image) up x y = absurd up
+  same_state a b _ up x y = sym x.0 ∙ y.0
 
   -- an acceptance comes of an open custody, in a state with each held part's digest
   pub record WasServing (place : Place) (command : Command) (now : ℕ) (reply : Reply) : Type 0 where
@@ -144,10 +139,7 @@ module _ (one_asked : RequestsMeanOne) where
 
   was_serving : (state : State) (place next : Place) (command : Command) (now : ℕ) (reply : Reply) → IsInState state place → Moves place (Answered command now (Accepted reply)) next → WasServing place command now reply
   was_serving state (Serving records image) next command now reply here m = record { old = state_in records image; new = state_in m.0 m.1; begun = (refl, here.1); accepts = m.2 }
-  was_serving state (Shut records image doubt) next command now reply here m = absurd (never m.0)
-    where
-      never : Accepted reply ≡ Failed Closed → ⊥
-      never e = cc
+  was_serving state (Shut records image doubt) next command now reply here m = let never = m.0 in cc
   was_serving state (Left rows image) next command now reply here m = absurd m
 
   -- from the first of the two requests on there is a history of its own
@@ -218,22 +210,18 @@ module _ (one_asked : RequestsMeanOne) where
     tries_of (event ∷ events) old new at own s =
         one_more (custody_event event) (custody_events events) (try_of one_asked input asked asks M state old s.0 event own.0 (λ n h. at n (inl h)) s.1) (tries_of events s.0 new (λ n h. at n (inr h)) own.1 s.2)
 
+  -- but for a purge
+  same_unless_purge : (command : Command) (told : machine.Answer) (answer : HttpResponse)
+      → (is_some (command_key command) ≡ true → (response_to told).body ≡ answer.body) → HasSameBody command told answer
+  same_unless_purge Purge told answer same = tt
+  same_unless_purge command told answer same = same refl
+
   same_body : (command : Command) (told was : machine.Answer) (answer : HttpResponse) → answer ≡ response_to was → IsToldAs command told was → (tells_failure (response_to told).status ≡ false) × HasSameBody command told answer
-  same_body command (Accepted reply) (Accepted told) answer is kept = ((reply_told reply).0, by command (λ keyed. sym (kept_text reply.entry told.entry (kept keyed)) ∙ ap (λ (a : HttpResponse). a.body) (sym is)))
-    where
-      by : (c : Command) → (is_some (command_key c) ≡ true → record_text reply.entry ≡ answer.body) → HasSameBody c (Accepted reply) answer
-      by Purge h = tt
-      by c h = h refl
-  same_body command (Refused refusal) (Refused told) answer is kept = (refusal_is_none refusal, by command)
-    where
-      by : (c : Command) → HasSameBody c (Refused refusal) answer
-      by Purge = tt
-      by c = ap (λ q. (refusal_response q).body) kept ∙ ap (λ (a : HttpResponse). a.body) (sym is)
-  same_body command (Accepted reply) (Refused told) answer is kept = absurd kept
-  same_body command (Accepted reply) (Failed told) answer is kept = absurd kept
-  same_body command (Refused refusal) (Accepted told) answer is kept = absurd kept
-  same_body command (Refused refusal) (Failed told) answer is kept = absurd kept
-  same_body command (Failed failure) told answer is kept = absurd kept
+  same_body command (Accepted reply) (Accepted told) answer is kept =
+      ((reply_told reply).0, same_unless_purge command (Accepted reply) answer (λ keyed. sym (kept_text reply.entry told.entry (kept keyed)) ∙ ap (λ (a : HttpResponse). a.body) (sym is)))
+  same_body command (Refused refusal) (Refused told) answer is kept =
+      (refusal_is_none refusal, same_unless_purge command (Refused refusal) answer (λ keyed. ap (λ q. (refusal_response q).body) kept ∙ ap (λ (a : HttpResponse). a.body) (sym is)))
+  same_body command _ _ answer is kept = absurd kept
 
   -- the custody is at a place, at rest in a state
   record RestsAt (state : State) (place : Place) : Type 0 where
@@ -242,16 +230,11 @@ module _ (one_asked : RequestsMeanOne) where
     at_rest : IsAtRest state condition
 
   rests_in : (state : State) (place : Place) (condition : Condition) → Follows place condition → IsAtRest state condition → IsInState state place
-  rests_in state (Serving records image) (Running s) follows rest = (sym follows.0 ∙ only_state state s rest, follows.1)
-  rests_in state (Shut records image doubt) (Halted s entry) follows rest = (sym follows.0 ∙ only_state state s rest.0, follows.2)
+  rests_in state (Serving records image) (Running s) follows rest = (sym follows.0 ∙ only_state (λ _. ⊥) state s rest, follows.1)
+  rests_in state (Shut records image doubt) (Halted s entry) follows rest = (sym follows.0 ∙ only_state (λ _. ⊥) state s rest.0, follows.2)
   rests_in state (Left rows image) (Stopped pair) follows rest =
-      (subst (StandsFor rows image) (one_value follows.0 rest.0 pair.opens (ap (λ (p : Pair). p.opens) follows.3) rest.1 ∙ only_state state rest.0 rest.2) follows.1, follows.2)
-  rests_in state (Serving records image) (Halted s entry) follows rest = absurd follows
-  rests_in state (Serving records image) (Stopped pair) follows rest = absurd follows
-  rests_in state (Shut records image doubt) (Running s) follows rest = absurd follows
-  rests_in state (Shut records image doubt) (Stopped pair) follows rest = absurd follows
-  rests_in state (Left rows image) (Running s) follows rest = absurd follows
-  rests_in state (Left rows image) (Halted s entry) follows rest = absurd follows
+      (subst (StandsFor rows image) (one_value follows.0 rest.0 pair.opens (ap (λ (p : Pair). p.opens) follows.3) rest.1 ∙ only_state (λ _. ⊥) state rest.0 rest.2) follows.1, follows.2)
+  rests_in state _ _ follows rest = absurd follows
 
   begins_at : (first : State) (place : Place) → IsBegun first place → RestsAt first place
   begins_at first (Serving records image) h = record { condition = Running (state_in records image); follows = (refl, h.1); at_rest = inl h.0 }
@@ -277,7 +260,7 @@ module _ (one_asked : RequestsMeanOne) where
     does_command : (command : Command) → AsksFor last command → (next : State) × IsDoneOnce command M last.answer state next × RestsAt next new
     does_command command asks =
         let was = was_decided one_asked last command asks places.0 places.2.1.1 decided in
-        let tried = tried_after (Some command) M state rest.condition (custody_events tries) after_tries.0 (may_try (Some command) M state rest.condition rest.at_rest)
+        let tried = tried_after (Some command) M state rest.condition (custody_events tries) after_tries.0 (still_tried (λ _. ⊥) (Some command) M state rest.condition rest.at_rest)
         (tries_of last.input (asks_for (Do command)) asks M state tries old places.0 (in_tries tries (Exchanged last ∷ [])) own places.1) after_tries.1 in
         let run = subst (λ d. HappensAlong after_tries.0 (cons_option d []) after_last.0) was.did after_last.1 in
         let end = last_try command M state after_tries.0 run.0 last.now was.told tried (in_last tries last) was.decided run.1 in
@@ -288,27 +271,28 @@ module _ (one_asked : RequestsMeanOne) where
         )
 
     -- a request that asks for no command leaves the state
-    still_at : (asked : RequestMeaning) → RequestMeans last.input asked → command_in asked ≡ None → (state ≡ state) × IsAnsweredIn state last × RestsAt state new
-    still_at asked asks none =
-        (refl, (places.0, places.2.1.0, rests_in state places.0 after_tries.0 after_tries.2 before, places.2.1.1), record { condition = after_last.0; follows = after_last.2; at_rest = behind })
+    still_at : (asked : RequestMeaning) → RequestMeans last.input asked → command_in asked ≡ None → (next : State) × ((next ≡ state) × IsAnsweredIn state last) × RestsAt next new
+    still_at asked asks none = (
+      state,
+      (refl, (places.0, places.2.1.0, rests_in state places.0 after_tries.0 after_tries.2 before, places.2.1.1)),
+      record { condition = after_last.0; follows = after_last.2; at_rest = behind },
+    )
       where
         before : IsAtRest state after_tries.0
-        before = at_rest_still M state after_tries.0 (tried_after None M state rest.condition (custody_events tries) after_tries.0 (may_try None M state rest.condition rest.at_rest)
-            (subst (λ c. AreTries c M state (custody_events tries)) none (tries_of last.input asked asks M state tries old places.0 (in_tries tries (Exchanged last ∷ [])) own places.1)) after_tries.1)
+        before = still_at_rest M state rest.condition (custody_events tries) after_tries.0 rest.at_rest
+            (subst (λ c. AreTries c M state (custody_events tries)) none (tries_of last.input asked asks M state tries old places.0 (in_tries tries (Exchanged last ∷ [])) own places.1)) after_tries.1
+
+        last_moment : (n : ℕ) → IsMomentIn (Exchanged last ∷ []) n → M n
+        last_moment n (inl is) = subst M is (in_last tries last)
+        last_moment n (inr never) = absurd never
 
         behind : IsAtRest state after_last.0
-        behind = at_rest_still M state after_last.0 (tried_after None M state after_tries.0 (custody_events (Exchanged last ∷ [])) after_last.0 (may_try None M state after_tries.0 before)
-            (subst (λ c. AreTries c M state (custody_events (Exchanged last ∷ []))) none (tries_of last.input asked asks M state (Exchanged last ∷ []) places.0 new (λ n h. last_moment n h) (whole_begins last.input, tt) places.2)) after_last.1)
-          where
-            last_moment : (n : ℕ) → IsMomentIn (Exchanged last ∷ []) n → M n
-            last_moment n (inl is) = subst M is (in_last tries last)
-            last_moment n (inr never) = absurd never
+        behind = still_at_rest M state after_tries.0 (custody_events (Exchanged last ∷ [])) after_last.0 before
+            (subst (λ c. AreTries c M state (custody_events (Exchanged last ∷ []))) none (tries_of last.input asked asks M state (Exchanged last ∷ []) places.0 new last_moment (whole_begins last.input, tt) places.2)) after_last.1
 
     does_once : (asked : RequestMeaning) → RequestMeans last.input asked → (next : State) × IsRequestDoneOnce asked M last state next × RestsAt next new
     does_once (asks_for (Do command)) asks = does_command command asks
-    does_once (asks_for (Report tld)) asks = let h = still_at (asks_for (Report tld)) asks refl in (state, (h.0, h.1), h.2)
-    does_once (asks_for (Fetch reference name)) asks = let h = still_at (asks_for (Fetch reference name)) asks refl in (state, (h.0, h.1), h.2)
-    does_once (bad found) asks = let h = still_at (bad found) asks refl in (state, (h.0, h.1), h.2)
+    does_once asked asks = still_at asked asks refl
 
   -- stops, openings and closings behind the last request
   rests_still : (state : State) (old new : Place) (rest : List history.Event) → AreNoRequests rest → RestsAt state old → ServiceMovesAlong old (map OutsideRequest rest) new → RestsAt state new

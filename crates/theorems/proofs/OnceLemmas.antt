@@ -1,5 +1,5 @@
 -- Of commands, each once, exactly one has the key of one that is among them.
-use Rattle.std.proofs.Common.{◌≡◌, ℕ, ◌+◌, List, [], ◌∷◌, ◌++◌, is_some, Bool, true, false, ◌||◌, refl, sym, ◌∙◌, ap, cond, if◌then◌else◌}
+use Rattle.std.proofs.Common.{◌≡◌, ℕ, ◌+◌, List, [], ◌∷◌, ◌++◌, is_some, Bool, true, false, ◌||◌, refl, sym, ◌∙◌, ap, cond, if◌then◌else◌, zero-add}
 use Rattle.std.specs.Prelude.{count_by}
 use Rattle.std.specs.List.{list_any}
 use Rattle.std.proofs.lemmas.List.Folds.{list_any-append}
@@ -22,37 +22,37 @@ module _ (command : Command) where
   counted : (entry : TimedCommand) (entries : List TimedCommand) (b : Bool) (n : ℕ) → has_it entry ≡ b → count_in entries ≡ n → count_in (entry ∷ entries) ≡ cond b 1 0 + n
   counted entry entries b n has is = sum_by-cons (λ (e : TimedCommand). cond (has_it e) 1 0) entry entries ∙ (λ i. cond (has i) 1 0 + is i)
 
-  -- where an earlier one has the key, none is left
-  none_left : (earlier : List Command) (entries : List TimedCommand) → list_any (has_same_key command) earlier ≡ true → count_in (once_after earlier entries) ≡ 0
-  none_left earlier [] h = refl
-  none_left earlier (entry ∷ entries) h = by (list_any (has_same_key entry.0) earlier) refl (has_it entry) refl (none_left earlier entries h) (λ e. none_left (entry.0 ∷ earlier) entries e)
+  -- one is left where one has the key, and none where an earlier one had it
+  left : (earlier : List Command) (entries : List TimedCommand) → count_in (once_after earlier entries) ≡ cond (list_any (has_same_key command) earlier) 0 (cond (list_any has_it entries) 1 0)
+  left earlier [] = none (list_any (has_same_key command) earlier)
     where
-      by : (seen : Bool) → list_any (has_same_key entry.0) earlier ≡ seen → (has : Bool) → has_it entry ≡ has → count_in (once_after earlier entries) ≡ 0
-          → (list_any (has_same_key command) (entry.0 ∷ earlier) ≡ true → count_in (once_after (entry.0 ∷ earlier) entries) ≡ 0)
-          → count_in (if seen then once_after earlier entries else entry ∷ once_after (entry.0 ∷ earlier) entries) ≡ 0
-      by true seen has is skipped taken = skipped
-      by false seen true is skipped taken = let clash : false ≡ true = sym seen ∙ alike entry.0 is earlier ∙ h in cc
-      by false seen false is skipped taken = counted entry (once_after (entry.0 ∷ earlier) entries) false 0 is (taken (ap (λ b. b || list_any (has_same_key command) earlier) is ∙ h))
+      none : (b : Bool) → ◌≡◌ {A = ℕ} 0 (cond b 0 0)
+      none true = refl
+      none false = refl
+  left earlier (entry ∷ entries) = by (list_any (has_same_key entry.0) earlier) refl (has_it entry) refl (left earlier entries) (left (entry.0 ∷ earlier) entries)
+    where
+      had : Bool
+      had = list_any (has_same_key command) earlier
 
-  -- where none has, and one comes, it is the only one
-  one_left : (earlier : List Command) (entries : List TimedCommand) → list_any (has_same_key command) earlier ≡ false → list_any has_it entries ≡ true → count_in (once_after earlier entries) ≡ 1
-  one_left earlier [] h there = cc
-  one_left earlier (entry ∷ entries) h there = by (list_any (has_same_key entry.0) earlier) refl (has_it entry) refl there (λ e. one_left earlier entries h e) (λ e f. one_left (entry.0 ∷ earlier) entries e f)
-    where
-      by : (seen : Bool) → list_any (has_same_key entry.0) earlier ≡ seen → (has : Bool) → has_it entry ≡ has → (has || list_any has_it entries) ≡ true
-          → (list_any has_it entries ≡ true → count_in (once_after earlier entries) ≡ 1)
-          → (list_any (has_same_key command) (entry.0 ∷ earlier) ≡ false → list_any has_it entries ≡ true → count_in (once_after (entry.0 ∷ earlier) entries) ≡ 1)
-          → count_in (if seen then once_after earlier entries else entry ∷ once_after (entry.0 ∷ earlier) entries) ≡ 1
-      by true seen true is there skipped taken = let clash : true ≡ false = sym seen ∙ alike entry.0 is earlier ∙ h in cc
-      by true seen false is there skipped taken = skipped there
-      by false seen true is there skipped taken = counted entry (once_after (entry.0 ∷ earlier) entries) true 0 is (none_left (entry.0 ∷ earlier) entries (ap (λ b. b || list_any (has_same_key command) earlier) is))
-      by false seen false is there skipped taken = counted entry (once_after (entry.0 ∷ earlier) entries) false 1 is (taken (ap (λ b. b || list_any (has_same_key command) earlier) is ∙ h) there)
+      more : ℕ
+      more = cond (list_any has_it entries) 1 0
+
+      by : (seen : Bool) → list_any (has_same_key entry.0) earlier ≡ seen → (has : Bool) → has_it entry ≡ has → count_in (once_after earlier entries) ≡ cond had 0 more
+          → count_in (once_after (entry.0 ∷ earlier) entries) ≡ cond (has_it entry || had) 0 more
+          → count_in (if seen then once_after earlier entries else entry ∷ once_after (entry.0 ∷ earlier) entries) ≡ cond had 0 (cond (has || list_any has_it entries) 1 0)
+      by true seen true is skipped taken = let known : had ≡ true = sym (alike entry.0 is earlier) ∙ seen in skipped ∙ (λ i. cond (known i) 0 more) ∙ sym (λ i. cond (known i) 0 1)
+      by true seen false is skipped taken = skipped
+      by false seen true is skipped taken =
+          let known : had ≡ false = sym (alike entry.0 is earlier) ∙ seen in
+          counted entry (once_after (entry.0 ∷ earlier) entries) true 0 is (taken ∙ ap (λ b. cond (b || had) 0 more) is) ∙ sym (λ i. cond (known i) 0 1)
+      by false seen false is skipped taken = counted entry (once_after (entry.0 ∷ earlier) entries) false (cond had 0 more) is (taken ∙ ap (λ b. cond (b || had) 0 more) is) ∙ zero-add _
 
   -- a command that stands among others stands there once
   pub counted_once : (before behind : List TimedCommand) (now : ℕ) → is_some (command_key command) ≡ true → count_in (once_after [] ((before ++ (command, now) ∷ []) ++ behind)) ≡ 1
   counted_once before behind now keyed =
-      one_left [] ((before ++ (command, now) ∷ []) ++ behind) refl
-      (list_any-append has_it (before ++ (command, now) ∷ []) behind ∙ ap (λ b. b || list_any has_it behind) (list_any-append has_it before ((command, now) ∷ []) ∙ last (list_any has_it before)))
+      left [] ((before ++ (command, now) ∷ []) ++ behind)
+      ∙ ap (λ b. cond b 1 0) (list_any-append has_it (before ++ (command, now) ∷ []) behind
+      ∙ ap (λ b. b || list_any has_it behind) (list_any-append has_it before ((command, now) ∷ []) ∙ last (list_any has_it before)))
     where
       last : (b : Bool) → (b || list_any has_it ((command, now) ∷ [])) ≡ true
       last true = refl

@@ -42,11 +42,11 @@ use Rattle.http_api.specs.Responses.{HttpResponse, response_bytes, text_response
 use Rattle.http_api.specs.Handling as served
 use Rattle.http_api.specs.Handling.{IsServed, response_of, reply_status}
 use Rattle.theorems.specs.Responses.{response_to, accepted_status, record_text, status_of}
-use Rattle.theorems.specs.Service.{Exchange, Exchanged, Unread, StoppedInRequest, MovesIfAny, IsNoCommandEvent, IsStopWithin, IsUp, Responds, ServiceMoves}
-use Rattle.theorems.proofs.RunMoves.{is_serving, is_shut, rests}
+use Rattle.theorems.specs.Service.{Exchange, Exchanged, Unread, StoppedInRequest, MovesIfAny, IsBeginning, IsNoCommandEvent, IsStopWithin, IsUp, Responds, ServiceMoves}
+use Rattle.theorems.proofs.RunMoves.{is_serving, is_shut, serves_on}
 use Rattle.theorems.proofs.SessionLemmas.{stop_at_rest}
 use Rattle.theorems.proofs.Beginnings.{whole_begins}
-use Rattle.theorems.specs.Requests.{ServeReturns, IsCustodyAt, RequestsMove, RequestsMayStop, MayStopAfterwards}
+use Rattle.theorems.specs.Requests.{ServeCall, ServeReturns, HasAnswered, HasMovedByCall, IsEventOf, IsCustodyAt, RequestsMove, RequestsMayStop, MayStopAfterwards}
 
 -- ---- what is told of a reply
 
@@ -56,25 +56,15 @@ HasLength bytes (record_of.Part name received len digest extents) = len ≡ leng
 HasLength bytes _ = Unit {0}
 
 same_text : (bytes : List ℕ) (told : code.Record) → HasLength bytes told → reply_text told ≡ record_text (machine_record bytes told)
-same_text bytes (record_of.Registry tld first_day) h = refl
 same_text bytes (record_of.Part name received len digest extents) h = ap (λ n. as_line (line_text (line.Received name n received)) ++ []) h
-same_text bytes (record_of.Notice notice) h = refl
-same_text bytes (record_of.Release release) h = refl
-same_text bytes (record_of.Hold hold) h = refl
-same_text bytes (record_of.Lifting reference at) h = refl
-same_text bytes (record_of.Purge count) h = refl
+same_text bytes _ h = refl
 
 same_status : (bytes : List ℕ) (reply : Reply) → reply_status reply ≡ status_of (record { entry = machine_record bytes reply.record; is_repeat = reply.is_repeat })
 same_status bytes reply = ap (λ s. if reply.is_repeat then Done else s) (by reply.record)
   where
     by : (told : code.Record) → served.new_record_status told ≡ accepted_status (machine_record bytes told)
     by (record_of.Registry tld first_day) = refl
-    by (record_of.Part name received len digest extents) = refl
-    by (record_of.Notice notice) = refl
-    by (record_of.Release release) = refl
-    by (record_of.Hold hold) = refl
-    by (record_of.Lifting reference at) = refl
-    by (record_of.Purge count) = refl
+    by _ = refl
 
 -- ---- places and texts
 
@@ -86,14 +76,6 @@ sends true input part = part
 sends false input part = part
 
 module _ {V S : Type 0} {g : volume.Ghosts V} {database : Ghosts S} where
-  -- an open custody is at its place
-  pub is_there : (custody : Custody V S g database) → IsServing database custody → IsCustodyAt database custody (place_of database custody)
-  is_there custody serving = record {
-    is_at = subst (λ b. IsAtPlace b (current_records (open_custody_of custody)) (image_of (open_custody_of custody)) (place_of database custody)) (sym serving.opened) (refl, refl);
-    leaves = rests custody serving;
-    serves = λ _. serving;
-  }
-
   is_up : (custody : Custody V S g database) (place : Place) → IsCustodyAt database custody place → IsUp place
   is_up custody (Serving records image) h = tt
   is_up custody (Shut records image doubt) h = tt
@@ -113,12 +95,7 @@ module _ {V S : Type 0} {g : volume.Ghosts V} {database : Ghosts S} (tells : g.t
       let order = new.order serving.opened in
       let are = order.whole.extents (key_of name) _ at in
       sym (long_part (image_of (open_custody_of new)) (current_records (open_custody_of new)).blocks extents.items len serving.image.volume.size are) ∙ ap length holds
-  has_length new bytes serving (record_of.Registry tld first_day) at holds = tt
-  has_length new bytes serving (record_of.Notice notice) at holds = tt
-  has_length new bytes serving (record_of.Release release) at holds = tt
-  has_length new bytes serving (record_of.Hold hold) at holds = tt
-  has_length new bytes serving (record_of.Lifting reference at_moment) at holds = tt
-  has_length new bytes serving (record_of.Purge count) at holds = tt
+  has_length new bytes serving _ at holds = tt
 
   -- ---- from a place
 
@@ -157,30 +134,22 @@ module _ {V S : Type 0} {g : volume.Ghosts V} {database : Ghosts S} (tells : g.t
     -- a command
     applied : (command : Command) (r : Result Reply not_accepted.Refused) → RequestMeans input (asks_for (Do command)) → HasApplied old command now r new → Went old new (place_of database old) input now (Some (Answered command now (answer_of command r)))
     applied command r asks h =
-        let all = h.done serving.opened in
-        let did = all.serves tells honest serving.image serving.rows in record {
+        let did = (h.done serving.opened).serves tells honest serving.image serving.rows in record {
           next = did.next;
           goes = did.moves;
           there = record {
             is_at = subst (λ b. IsAtPlace b (current_records (open_custody_of new)) (image_of (open_custody_of new)) did.next) (sym (h.opened serving.opened)) did.is_at;
             leaves = did.leaves.at_exit;
-            serves = λ opened. serves_on command r h opened;
+            serves = λ opened. serves_on tells old new command now r serving honest h (sym (h.opened serving.opened) ∙ opened);
           };
           stops = λ rows image pair may since finds. (history.StoppedWithin command now pair, (refl, asks), (rows, image, did.leaves.within rows image may since, finds, refl));
         }
-      where
-        serves_on : (command : Command) (r : Result Reply not_accepted.Refused) → HasApplied old command now r new → is_open new ≡ true → IsServing database new
-        serves_on command r h opened =
-            let all = h.done serving.opened in
-            let stays : stays_open r ≡ true = sym (h.opened serving.opened) ∙ opened in
-            record { opened = opened; image = all.image stays tells serving.image; rows = all.rows stays honest serving.rows }
 
     -- and its response
     answered : (command : Command) (r : Result Reply not_accepted.Refused) → HasApplied old command now r new → response_of r ≡ response_to (answer_of command r)
     answered command (Ok reply) h =
         let all = h.done serving.opened in
-        let opened : is_open new ≡ true = h.opened serving.opened in
-        let on : IsServing database new = record { opened = opened; image = all.image refl tells serving.image; rows = all.rows refl honest serving.rows } in
+        let on = serves_on tells old new command now (Ok reply) serving honest h refl in
         λ i. text_response (same_status (command_bytes command) reply i) (same_text (command_bytes command) reply.record (has_length new (command_bytes command) on reply.record all.shown (all.holds tells)) i)
     answered command (Err (refused.Refusal refusal)) h = refl
     answered command (Err (refused.Failure failure)) h = refl
@@ -212,10 +181,19 @@ module _ {V S : Type 0} {g : volume.Ghosts V} {database : Ghosts S} (tells : g.t
           went = rested old new (h.serves opened) honest input now (is_open new) refl (ended.1.rested opened);
         })
 
+    -- nothing was done, and it is answered so
+    unmoved : (place : Place) → IsCustodyAt database old place → new ≡ old → (answer : HttpResponse)
+        → ((written : List ℕ) → Responds place (exchange input now None answer written)) → Response old new place input now answer
+    unmoved place h same answer responds = record { did = None; responds = responds; went = stays old new place input now h same None refl }
+
     -- a fault of the request
     faulty : (place : Place) → IsCustodyAt database old place → (found : RequestFault) (answer : HttpResponse) → RequestMeans input (bad found) → answer ≡ served.fault_response found → served.FaultLeaves (Some input) found old new → Response old new place input now answer
     faulty place h fault.BodyShort answer asks is left = let none = nothing place h left in record { did = none.did; responds = λ written. inl (bad fault.BodyShort, asks, (is, none.no_command)); went = none.went }
-    faulty place h found answer asks is left = record { did = None; responds = λ written. inl (bad found, asks, (is, refl)); went = stays old new place input now h left None refl }
+    faulty place h found answer asks is left = unmoved place h left answer (λ written. inl (bad found, asks, (is, refl)))
+
+    -- the report of a registry, where the custody is open
+    abbrev report_if : List ℕ → Bool → HttpResponse
+    report_if tld b = if b then served.registry_report (current_records (open_custody_of old)) tld else served.failure_response Closed
 
     -- what an open custody does
     does_open : (serving : IsServing database old) → IsCustodyAt database old (place_of database old) → (wanted : RequestAction) (answer : HttpResponse) → RequestMeans input (asks_for wanted) → served.Performs wanted now old answer new → Response old new (place_of database old) input now answer
@@ -224,11 +202,8 @@ module _ {V S : Type 0} {g : volume.Ghosts V} {database : Ghosts S} (tells : g.t
       responds = λ written. inl (asks_for (Do command), asks, (answer_of command did.0, refl, did.2 ∙ answered old new serving honest input now command did.0 did.1));
       went = applied old new serving honest input now command did.0 asks did.1;
     }
-    does_open serving h (Report tld) answer asks did = record {
-      did = None;
-      responds = λ written. inl (asks_for (Report tld), asks, (refl, did.0 ∙ ap (λ b. if b then served.registry_report (current_records (open_custody_of old)) tld else served.failure_response Closed) serving.opened));
-      went = stays old new (place_of database old) input now h did.1 None refl;
-    }
+    does_open serving h (Report tld) answer asks did = unmoved (place_of database old) h did.1 answer
+        (λ written. inl (asks_for (Report tld), asks, (refl, did.0 ∙ ap (report_if tld) serving.opened)))
     does_open serving h (Fetch reference name) answer asks did = record {
       did = Some (other_call_event (stays_open did.0));
       responds = λ written. inl (asks_for (Fetch reference name), asks, (did.0, did.1.bytes serving.opened tells, refl, did.2));
@@ -243,11 +218,8 @@ module _ {V S : Type 0} {g : volume.Ghosts V} {database : Ghosts S} (tells : g.t
       responds = λ written. inl (asks_for (Do command), asks, (Failed Closed, refl, did.2 ∙ ap response_of same.0));
       went = stays old new (Shut records image doubt) input now h same.1 (Some (Answered command now (Failed Closed))) (refl, refl);
     }
-    does_closed records image doubt closed h (Report tld) answer asks did = record {
-      did = None;
-      responds = λ written. inl (asks_for (Report tld), asks, (refl, did.0 ∙ ap (λ b. if b then served.registry_report (current_records (open_custody_of old)) tld else served.failure_response Closed) closed));
-      went = stays old new (Shut records image doubt) input now h did.1 None refl;
-    }
+    does_closed records image doubt closed h (Report tld) answer asks did = unmoved (Shut records image doubt) h did.1 answer
+        (λ written. inl (asks_for (Report tld), asks, (refl, did.0 ∙ ap (report_if tld) closed)))
     does_closed records image doubt closed h (Fetch reference name) answer asks did = let same = did.1.closed closed in record {
       did = Some (other_call_event (stays_open did.0));
       responds = λ written. inl (asks_for (Fetch reference name), asks, (did.0, same.0, refl, did.2));
@@ -273,19 +245,26 @@ module _ {V S : Type 0} {g : volume.Ghosts V} {database : Ghosts S} (tells : g.t
 
     responds_so : (place : Place) → IsCustodyAt database old place → (answer : HttpResponse) → IsServed (Some input) now old answer new → Response old new place input now answer
     responds_so place h answer (inl r) = given place h r.0 answer r.1 r.2
-    responds_so place h answer (inr none) = record { did = None; responds = λ written. inr (refl, none.0); went = stays old new place input now h none.1 None refl }
+    responds_so place h answer (inr none) = unmoved place h none.1 answer (λ written. inr (refl, none.0))
 
   -- ---- the laws
 
-  pub requests_move : (old new : Custody V S g database) → RequestsMove database old new
-  requests_move old new place call (Ok ended) h out honest =
-      let r = responds_so old new honest call.input call.now place h out.0 out.1 in record {
-        event = Exchanged (exchange call.input call.now r.did out.0 (response_bytes out.0));
-        is_event = (refl, refl, refl, out.2);
+  -- a response, of which this much was written
+  answered_so : (old new : Custody V S g database) (place : Place) (call : ServeCall) (result : Result Served ServeError)
+      → IsCustodyAt database old place → (store_state_of database (open_custody_of new)).IsHonest → (answer : HttpResponse) → HasAnswered call old new answer → (written : List ℕ) → IsBeginning written (response_bytes answer)
+      → ((did : Option history.Event) → IsEventOf call result (Exchanged (exchange call.input call.now did answer written))) → HasMovedByCall database new place call result
+  answered_so old new place call result h honest answer was written begins is_event =
+      let r = responds_so old new honest call.input call.now place h answer was in record {
+        event = Exchanged (exchange call.input call.now r.did answer written);
+        is_event = is_event r.did;
         next = r.went.next;
-        moves = (is_up old place h, r.responds (response_bytes out.0), whole_begins (response_bytes out.0), r.went.goes);
+        moves = (is_up old place h, r.responds written, begins, r.went.goes);
         there = r.went.there;
       }
+
+  pub requests_move : (old new : Custody V S g database) → RequestsMove database old new
+  requests_move old new place call (Ok ended) h out honest =
+      let bytes = response_bytes out.0 in answered_so old new place call (Ok ended) h honest out.0 out.1 bytes (whole_begins bytes) (λ did. (refl, refl, refl, out.2))
   requests_move old new place call (Err failed.Read) h out honest =
       let none = nothing old new honest call.input call.now place h out.0 in record {
         event = Unread call.input none.did;
@@ -295,13 +274,8 @@ module _ {V S : Type 0} {g : volume.Ghosts V} {database : Ghosts S} (tells : g.t
         there = none.went.there;
       }
   requests_move old new place call (Err failed.Write) h out honest =
-      let r = responds_so old new honest call.input call.now place h out.0 out.1 in let begun = out.2 in record {
-        event = Exchanged (exchange call.input call.now r.did out.0 (take begun.0 (response_bytes out.0)));
-        is_event = (refl, refl, begun.2);
-        next = r.went.next;
-        moves = (is_up old place h, r.responds (take begun.0 (response_bytes out.0)), (begun.0, begun.1, refl), r.went.goes);
-        there = r.went.there;
-      }
+      let begun = out.2 in
+      answered_so old new place call (Err failed.Write) h honest out.0 out.1 (take begun.0 (response_bytes out.0)) (begun.0, begun.1, refl) (λ did. (refl, refl, begun.2))
 
   pub requests_stop : (old new : Custody V S g database) → RequestsMayStop database old new
   requests_stop old new place call result h out honest rows image pair may since finds = by result out
@@ -313,6 +287,5 @@ module _ {V S : Type 0} {g : volume.Ghosts V} {database : Ghosts S} (tells : g.t
       within w = let s = w.stops rows image pair may since finds in (s.0, (is_up old place h, s.1, s.2))
 
       by : (result : Result Served ServeError) → ServeReturns call old result new → Stopped
-      by (Ok ended) out = within (responds_so old new honest call.input call.now place h out.0 out.1).went
       by (Err failed.Read) out = within (nothing old new honest call.input call.now place h out.0).went
-      by (Err failed.Write) out = within (responds_so old new honest call.input call.now place h out.0 out.1).went
+      by _ out = within (responds_so old new honest call.input call.now place h out.0 out.1).went

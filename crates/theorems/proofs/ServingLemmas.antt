@@ -7,7 +7,7 @@ use Rattle.custody_machine.specs.State.{State}
 use Rattle.custody_machine.specs.Machine as machine
 use Rattle.custody_machine.specs.Machine.{Command, Reply, Accepted, Refused, Failed}
 use Rattle.custody_machine.specs.History as history
-use Rattle.custody_machine.specs.History.{Answered, AnsweredOtherCall, ShutDown, StoppedAtRest, OpenedWith}
+use Rattle.custody_machine.specs.History.{Answered, AnsweredOtherCall, ShutDown, StoppedAtRest}
 use Rattle.custody_machine.specs.Moves.{Place, MovesAlong, IsInState}
 use Rattle.custody_machine.specs.Custody.{other_call_event}
 use Rattle.custody_machine.proofs.Moves.{moves_are_histories, places_are_right}
@@ -15,6 +15,7 @@ use Rattle.custody.specs.Answers.{stays_open}
 use Rattle.http_request.specs.RequestMeaning.{RequestMeaning, RequestMeans, RequestsMeanOne, asks_for, bad}
 use Rattle.http_request.specs.declared.faults.RequestFault.TheVariants as fault
 use Rattle.http_request.specs.Action.{Do, Report, Fetch}
+use Rattle.http_api.specs.declared.status.ResponseStatus.{ResponseStatus}
 use Rattle.http_api.specs.Responses.{HttpResponse, response_bytes}
 use Rattle.http_api.specs.Handling.{failure_response, no_memory_response, refusal_response}
 use Rattle.theorems.specs.Responses.{response_to, tells_accepted, tells_failure}
@@ -84,9 +85,7 @@ if_delivered_is (Exchanged y) x e = by (bytes_eq y.written (response_bytes y.ans
     by : (b : Bool) → (if b then Some y else None) ≡ Some x → Exchanged y ≡ Exchanged x
     by true e = cc
     by false e = cc
-if_delivered_is (Unread sent did) x e = cc
-if_delivered_is (StoppedInRequest sent now stop) x e = cc
-if_delivered_is (OutsideRequest event) x e = cc
+if_delivered_is _ x e = cc
 
 -- where a whole response stands in a history
 pub record Delivered (events : List ServiceEvent) (x : Exchange) : Type 0 where
@@ -127,6 +126,10 @@ module _ (one_asked : RequestsMeanOne) (x : Exchange) (command : Command) (asks 
       inl (record { told = g.0; did = g.1; answer = g.2 })
   commanded place (inr none) = inr none
 
+  -- what its status says is said of the response that it is
+  told_so : (test : ResponseStatus → Bool) {b : Bool} (answer : HttpResponse) → x.answer ≡ answer → test x.answer.status ≡ b → test answer.status ≡ b
+  told_so test answer is says = sym (ap (λ (a : HttpResponse). test a.status) is) ∙ says
+
   -- where it is told that it is accepted
   pub record WasAccepted : Type 0 where
     pub reply : Reply
@@ -136,17 +139,14 @@ module _ (one_asked : RequestsMeanOne) (x : Exchange) (command : Command) (asks 
   pub was_accepted : (place : Place) → Responds place x → tells_accepted x.answer.status ≡ true → WasAccepted
   was_accepted place r accepted = by (commanded place r)
     where
-      told_so : (answer : HttpResponse) → x.answer ≡ answer → tells_accepted answer.status ≡ true
-      told_so answer is = sym (ap (λ (a : HttpResponse). tells_accepted a.status) is) ∙ accepted
-
       of_told : (told : machine.Answer) → x.did ≡ Some (Answered command x.now told) → x.answer ≡ response_to told → WasAccepted
       of_told (Accepted reply) did is = record { reply = reply; did = did; answer = is }
-      of_told (Refused q) did is = let status = told_so (refusal_response q) is in cc
-      of_told (Failed f) did is = let status = told_so (failure_response f) is in cc
+      of_told (Refused q) did is = let status = told_so tells_accepted (refusal_response q) is accepted in cc
+      of_told (Failed f) did is = let status = told_so tells_accepted (failure_response f) is accepted in cc
 
       by : Commanded ⊎ HadNoMemory → WasAccepted
       by (inl c) = of_told c.told c.did c.answer
-      by (inr none) = let status = told_so no_memory_response none.1 in cc
+      by (inr none) = let status = told_so tells_accepted no_memory_response none.1 accepted in cc
 
   -- where it is told otherwise than by a failure
   pub record WasDecided : Type 0 where
@@ -158,35 +158,26 @@ module _ (one_asked : RequestsMeanOne) (x : Exchange) (command : Command) (asks 
   pub was_decided : (place : Place) → Responds place x → tells_failure x.answer.status ≡ false → WasDecided
   was_decided place r decided = by (commanded place r)
     where
-      told_so : (answer : HttpResponse) → x.answer ≡ answer → tells_failure answer.status ≡ false
-      told_so answer is = sym (ap (λ (a : HttpResponse). tells_failure a.status) is) ∙ decided
-
       fails : (told : machine.Answer) → x.answer ≡ response_to told → IsFailed told → ⊥
-      fails (Accepted reply) is h = h
-      fails (Refused q) is h = h
-      fails (Failed f) is h = let status = sym (failure_told f) ∙ told_so (failure_response f) is in cc
+      fails (Failed f) is h = let status = sym (failure_told f) ∙ told_so tells_failure (failure_response f) is decided in cc
+      fails _ is h = h
 
       by : Commanded ⊎ HadNoMemory → WasDecided
       by (inl c) = record { told = c.told; did = c.did; answer = c.answer; decided = fails c.told c.answer }
-      by (inr none) = let status = told_so no_memory_response none.1 in cc
+      by (inr none) = let status = told_so tells_failure no_memory_response none.1 decided in cc
 
 -- ---- tries
 
 -- the command that is asked for, if one is
 abbrev pub command_in : RequestMeaning → Option Command
 command_in (asks_for (Do command)) = Some command
-command_in (asks_for (Report tld)) = None
-command_in (asks_for (Fetch reference name)) = None
-command_in (bad found) = None
+command_in _ = None
 
 -- what is no request is of the tries of any
 pub quiet : (c : Option Command) (M : ℕ → Type 0) (state : State) (event : history.Event) → IsNoRequest event → IsTry c M state event
-quiet c M state AnsweredOtherCall h = tt
-quiet c M state ShutDown h = tt
-quiet c M state (StoppedAtRest pair) h = tt
-quiet c M state (OpenedWith pair answer) h = tt
 quiet c M state (Answered command now answer) h = absurd h
 quiet c M state (history.StoppedWithin command now pair) h = absurd h
+quiet c M state _ h = tt
 
 module _ (one_asked : RequestsMeanOne) (input : List ℕ) (asked : RequestMeaning) (asks : RequestMeans input asked) (M : ℕ → Type 0) (state : State) where
   -- what happens to the custody is of the tries
@@ -198,48 +189,38 @@ module _ (one_asked : RequestsMeanOne) (input : List ℕ) (asked : RequestMeanin
   no_command sent None h = tt
   no_command sent (Some AnsweredOtherCall) h = tt
   no_command sent (Some ShutDown) h = tt
-  no_command sent (Some (Answered command now answer)) h = absurd h
-  no_command sent (Some (StoppedAtRest pair)) h = absurd h
-  no_command sent (Some (history.StoppedWithin command now pair)) h = absurd h
-  no_command sent (Some (OpenedWith pair answer)) h = absurd h
+  no_command sent (Some _) h = absurd h
 
   rests : (b : Bool) → IsOfTry (Some (other_call_event b))
   rests true = tt
   rests false = tt
 
-  given : (other : RequestMeaning) → asked ≡ other → (place : Place) (x : Exchange) → M x.now → IsHandledIn other place x → IsOfTry x.did
-  given (bad fault.BodyShort) is place x at g = no_command x.input x.did g.1
-  given (bad found) is place x at g = subst IsOfTry (sym g.1) tt
-  given (asks_for (Do command)) is place x at g = subst IsOfTry (sym g.1) (ap command_in is, at)
-  given (asks_for (Report tld)) is place x at g = subst IsOfTry (sym g.0) tt
-  given (asks_for (Fetch reference name)) is place x at g = subst IsOfTry (sym g.2) (rests (stays_open g.0))
+  -- what is sent for it asks for no command but its own
+  same_command : (sent : List ℕ) (other : RequestMeaning) → IsBeginning sent input → RequestMeans sent other
+      → (command : Command) → other ≡ asks_for (Do command) → command_in asked ≡ Some command
+  same_command sent other begins means command is = by (beginning_asks input sent other begins means)
+    where
+      by : (other ≡ bad fault.Head) ⊎ ((other ≡ bad fault.BodyShort) ⊎ RequestMeans input other) → command_in asked ≡ Some command
+      by (inl head) = cc
+      by (inr (inl short)) = cc
+      by (inr (inr same)) = ap command_in (one_asked input asked other asks same ∙ is)
 
-  -- a request of which only a beginning came
-  broken_off : (place : Place) (x : Exchange) → IsHandledIn (bad fault.Head) place x ⊎ IsHandledIn (bad fault.BodyShort) place x → IsOfTry x.did
-  broken_off place x (inl g) = subst IsOfTry (sym g.1) tt
-  broken_off place x (inr g) = no_command x.input x.did g.1
+  given : (other : RequestMeaning) → ((command : Command) → other ≡ asks_for (Do command) → command_in asked ≡ Some command)
+      → (place : Place) (x : Exchange) → M x.now → IsHandledIn other place x → IsOfTry x.did
+  given (bad fault.BodyShort) own place x at g = no_command x.input x.did g.1
+  given (bad found) own place x at g = subst IsOfTry (sym g.1) tt
+  given (asks_for (Do command)) own place x at g = subst IsOfTry (sym g.1) (own command refl, at)
+  given (asks_for (Report tld)) own place x at g = subst IsOfTry (sym g.0) tt
+  given (asks_for (Fetch reference name)) own place x at g = subst IsOfTry (sym g.2) (rests (stays_open g.0))
 
   stop_within : (sent : List ℕ) (now : ℕ) (stop : history.Event) → IsBeginning sent input → M now → IsStopWithin sent now stop → IsOfTry (Some stop)
-  stop_within sent now (history.StoppedWithin command moment pair) begins at h = (by (beginning_asks input sent (asks_for (Do command)) begins h.1), subst M (sym h.0) at)
-    where
-      by : (asks_for (Do command) ≡ bad fault.Head) ⊎ ((asks_for (Do command) ≡ bad fault.BodyShort) ⊎ RequestMeans input (asks_for (Do command))) → command_in asked ≡ Some command
-      by (inl clash) = cc
-      by (inr (inl clash)) = cc
-      by (inr (inr same)) = ap command_in (one_asked input asked (asks_for (Do command)) asks same)
+  stop_within sent now (history.StoppedWithin command moment pair) begins at h = (same_command sent (asks_for (Do command)) begins h.1 command refl, subst M (sym h.0) at)
   stop_within sent now (StoppedAtRest pair) begins at h = tt
-  stop_within sent now AnsweredOtherCall begins at h = absurd h
-  stop_within sent now ShutDown begins at h = absurd h
-  stop_within sent now (Answered command moment answer) begins at h = absurd h
-  stop_within sent now (OpenedWith pair answer) begins at h = absurd h
+  stop_within sent now _ begins at h = absurd h
 
   responded : (place : Place) (x : Exchange) → IsBeginning x.input input → M x.now → Responds place x → IsOfTry x.did
   responded place x begins at (inr none) = subst IsOfTry (sym none.0) tt
-  responded place x begins at (inl r) = by (beginning_asks input x.input r.0 begins r.1)
-    where
-      by : (r.0 ≡ bad fault.Head) ⊎ ((r.0 ≡ bad fault.BodyShort) ⊎ RequestMeans input r.0) → IsOfTry x.did
-      by (inl is) = broken_off place x (inl (subst (λ a. IsHandledIn a place x) is r.2))
-      by (inr (inl is)) = broken_off place x (inr (subst (λ a. IsHandledIn a place x) is r.2))
-      by (inr (inr same)) = given r.0 (one_asked input asked r.0 asks same) place x at r.2
+  responded place x begins at (inl r) = given r.0 (same_command x.input r.0 begins r.1) place x at r.2
 
   pub try_of : (old next : Place) (event : ServiceEvent) → IsTryOf input event → ((n : ℕ) → IsMomentOf event n → M n) → ServiceMoves old event next → IsOfTry (custody_event event)
   try_of old next (Exchanged x) begins at s = responded old x begins (at x.now refl) s.1

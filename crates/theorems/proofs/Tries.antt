@@ -1,21 +1,19 @@
 -- A command that is tried again and again, through stops: what it comes to is what one of its tries does alone.
-use Rattle.std.proofs.Common.{◌≡◌, ℕ, ◌<◌, ◌≤◌, List, [], ◌∷◌, Option, Some, None, is_some, Bool, true, false, not, ◌&&◌, ◌⊎◌, inl, inr, ⊎_elim, refl, sym, ◌∙◌, ap, subst, if◌then◌else◌, arith, Result, Ok}
+use Rattle.std.proofs.Common.{◌≡◌, ℕ, ◌<◌, ◌≤◌, List, [], ◌∷◌, Option, Some, None, is_some, Bool, true, false, not, ◌&&◌, ◌||◌, ◌⊎◌, inl, inr, ⊎_elim, refl, sym, ◌∙◌, ap, subst, if◌then◌else◌, arith}
 use Rattle.std.specs.Prelude.{nat_lt}
 use Rattle.std.specs.Option.{option_map}
 use Rattle.std.specs.FinMap.{FinMap, get, same_map}
 use Rattle.std.proofs.lemmas.Bool.{cases_lt}
-use Rattle.std.proofs.lemmas.Bool.Decides.{Decides-ltb}
+use Rattle.std.proofs.lemmas.Bool.Decides.{nat_tests}
+use Rattle.std.proofs.Math.Bool.{and-or_distrib_right}
 use Rattle.schedule.specs.Schedule.{day_of, year_after}
 use Rattle.deposit_name.specs.declared.kinds.Kind.{Kind}
-use Rattle.deposit_name.specs.declared.errors.NameError.{NameError}
-use Rattle.deposit_name.specs.Name.{Name}
 use Rattle.custody_records.specs.Keys.{text_cmp, PartKey, part_cmp}
 use Rattle.custody_records.specs.inside.Orders.{part_total, part_exact}
 use Rattle.custody_records.specs.Purge.{is_on_hold}
 use Rattle.custody_records.specs.Records as kept_in
 use Rattle.custody_machine.specs.declared.answers.Refusal.{Refusal}
-use Rattle.custody_machine.specs.declared.answers.Failure.TheVariants.{NoMemory, VolumeFailed, StoreFailed, Closed, Damaged}
-use Rattle.custody_machine.specs.NameReading.{read_name}
+use Rattle.custody_machine.specs.declared.answers.Failure.TheVariants.{VolumeFailed, StoreFailed, Closed}
 use Rattle.custody_machine.specs.State.{State, Part, Content, Held, Dropped}
 use Rattle.custody_machine.specs.MapValues.{map_keyed}
 use Rattle.custody_machine.specs.Machine.{Command, Receive, Purge, Record, OfPurge, Reply, Step, Refuse, Accept, step, state_of, state_after, Answer, Accepted, Refused, Failed, MayAnswer, MayRefuse, part_under_name, is_dropped, are_bytes_dropped, HasRecord, TimedCommand, without_bytes, part_dropped_if_due, state_without_due, count_due}
@@ -38,75 +36,59 @@ one_value a b o p q = cc
 abbrev drops : (ℕ → Bool) → Part → Part
 drops test part = if not (are_bytes_dropped part.content) && test part.received then without_bytes part else part
 
--- the early test is passed only where the late one is
-module _ (early late : ℕ → Bool) (kind : Kind) (received : ℕ) (later : early received ≡ true → late received ≡ true) where
+-- the third test is passed where one of the others is
+module _ (first second both : ℕ → Bool) (kind : Kind) (received : ℕ) (either : (first received || second received) ≡ both received) where
   abbrev with_content : Content → Part
   with_content content = record { kind = kind; received = received; content = content }
 
-  late_after : (content : Content) → drops late (drops early (with_content content)) ≡ drops late (with_content content)
-  late_after (Dropped n) = refl
-  late_after (Held bytes) = by (early received) refl
+  -- bytes that are dropped where a test is passed
+  abbrev unless : List ℕ → Bool → Part
+  unless bytes test = if test then without_bytes (with_content (Held bytes)) else with_content (Held bytes)
+
+  dropped_twice : (content : Content) → drops second (drops first (with_content content)) ≡ drops both (with_content content)
+  dropped_twice (Dropped n) = refl
+  dropped_twice (Held bytes) = by (first received) either
     where
-      by : (b : Bool) → early received ≡ b → drops late (if b then without_bytes (with_content (Held bytes)) else with_content (Held bytes)) ≡ drops late (with_content (Held bytes))
-      by true e = ap (λ (c : Bool). if c then without_bytes (with_content (Held bytes)) else with_content (Held bytes)) (sym (later e))
-      by false e = refl
+      by : (b : Bool) → (b || second received) ≡ both received → drops second (unless bytes b) ≡ unless bytes (both received)
+      by true e = ap (unless bytes) e
+      by false e = ap (unless bytes) e
 
-  late_before : (content : Content) → drops early (drops late (with_content content)) ≡ drops late (with_content content)
-  late_before (Dropped n) = refl
-  late_before (Held bytes) = by (late received) refl
-    where
-      never : (b : Bool) → early received ≡ b → late received ≡ false → b ≡ false
-      never true e fails = let passes = later e in cc
-      never false e fails = refl
-
-      by : (b : Bool) → late received ≡ b → drops early (if b then without_bytes (with_content (Held bytes)) else with_content (Held bytes)) ≡ (if b then without_bytes (with_content (Held bytes)) else with_content (Held bytes))
-      by true e = refl
-      by false e = ap (λ (c : Bool). if c then without_bytes (with_content (Held bytes)) else with_content (Held bytes)) (never (early received) refl e)
-
-module _ (holds : FinMap text_cmp kept_in.Hold) (early late : ℕ) (less : (y : ℕ) → nat_lt y early ≡ true → nat_lt y late ≡ true) where
+module _ (holds : FinMap text_cmp kept_in.Hold) (first second both : ℕ) (either : (y : ℕ) → (nat_lt y first || nat_lt y second) ≡ nat_lt y both) where
   -- whether a part that was received at a moment is due, if it is held
   abbrev test : PartKey → ℕ → ℕ → Bool
   test key today received = nat_lt (year_after (day_of received)) today && not (is_on_hold holds key)
 
-  test_later : (key : PartKey) (received : ℕ) → test key early received ≡ true → test key late received ≡ true
-  test_later key received = by (nat_lt (year_after (day_of received)) early) refl (nat_lt (year_after (day_of received)) late) refl
+  each : (key : PartKey) (part : Part) → part_dropped_if_due holds second key (part_dropped_if_due holds first key part) ≡ part_dropped_if_due holds both key part
+  each key part =
+      let late = year_after (day_of part.received) in
+      let free = not (is_on_hold holds key) in
+      dropped_twice (test key first) (test key second) (test key both) part.kind part.received
+      (sym (and-or_distrib_right (nat_lt late first) (nat_lt late second) free) ∙ ap (λ t. t && free) (either late)) part.content
+
+  twice : (parts : FinMap part_cmp Part) → map_keyed (part_dropped_if_due holds second) (map_keyed (part_dropped_if_due holds first) parts) ≡ map_keyed (part_dropped_if_due holds both) parts
+  twice parts = same_map part_total part_exact _ _ (λ q.
+      get-map_keyed part_cmp part_exact (part_dropped_if_due holds second) (map_keyed (part_dropped_if_due holds first) parts) q
+      ∙ ap (option_map (part_dropped_if_due holds second q)) (get-map_keyed part_cmp part_exact (part_dropped_if_due holds first) parts q)
+      ∙ by q (get parts q)
+      ∙ sym (get-map_keyed part_cmp part_exact (part_dropped_if_due holds both) parts q))
     where
-      by : (a : Bool) → nat_lt (year_after (day_of received)) early ≡ a → (b : Bool) → nat_lt (year_after (day_of received)) late ≡ b → (a && not (is_on_hold holds key)) ≡ true → (b && not (is_on_hold holds key)) ≡ true
-      by true e true f is = is
-      by true e false f is = let yes = less _ e in cc
-      by false e b f is = cc
-
-  module _ (parts : FinMap part_cmp Part) where
-    twice : (today next both : ℕ) → ((key : PartKey) (part : Part) → part_dropped_if_due holds next key (part_dropped_if_due holds today key part) ≡ part_dropped_if_due holds both key part)
-        → map_keyed (part_dropped_if_due holds next) (map_keyed (part_dropped_if_due holds today) parts) ≡ map_keyed (part_dropped_if_due holds both) parts
-    twice today next both each = same_map part_total part_exact _ _ (λ q.
-        get-map_keyed part_cmp part_exact (part_dropped_if_due holds next) (map_keyed (part_dropped_if_due holds today) parts) q
-        ∙ ap (option_map (part_dropped_if_due holds next q)) (get-map_keyed part_cmp part_exact (part_dropped_if_due holds today) parts q)
-        ∙ by q (get parts q)
-        ∙ sym (get-map_keyed part_cmp part_exact (part_dropped_if_due holds both) parts q))
-      where
-        by : (q : PartKey) (o : Option Part) → option_map (part_dropped_if_due holds next q) (option_map (part_dropped_if_due holds today q) o) ≡ option_map (part_dropped_if_due holds both q) o
-        by q None = refl
-        by q (Some part) = ap Some (each q part)
-
-    pub early_then_late : map_keyed (part_dropped_if_due holds late) (map_keyed (part_dropped_if_due holds early) parts) ≡ map_keyed (part_dropped_if_due holds late) parts
-    early_then_late = twice early late late (λ key part. late_after (test key early) (test key late) part.kind part.received (test_later key part.received) part.content)
-
-    pub late_then_early : map_keyed (part_dropped_if_due holds early) (map_keyed (part_dropped_if_due holds late) parts) ≡ map_keyed (part_dropped_if_due holds late) parts
-    late_then_early = twice late early late (λ key part. late_before (test key early) (test key late) part.kind part.received (test_later key part.received) part.content)
+      by : (q : PartKey) (o : Option Part) → option_map (part_dropped_if_due holds second q) (option_map (part_dropped_if_due holds first q) o) ≡ option_map (part_dropped_if_due holds both q) o
+      by q None = refl
+      by q (Some part) = ap Some (each q part)
 
 purge_is : (s : State) (now : ℕ) → step s Purge now ≡ Accept (record { entry = OfPurge (count_due s (day_of now)); is_repeat = false }) (state_without_due s (day_of now))
 purge_is s now = step_none s Purge now refl
 
-below_later : (a b : ℕ) → a ≤ b → (y : ℕ) → nat_lt y a ≡ true → nat_lt y b ≡ true
-below_later a b h y e = let below = (Decides-ltb y a).0 e in (Decides-ltb y b).1 (omega arith)
-
--- what two purges leave, one of them leaves alone
+-- what two purges leave, the later one leaves alone
 two_purges : (s : State) (a b : ℕ) → (c : ℕ) × ((c ≡ a) ⊎ (c ≡ b)) × (state_without_due (state_without_due s (day_of a)) (day_of b) ≡ state_without_due s (day_of c))
 two_purges s a b = ⊎_elim
-    (λ (h : day_of a < day_of b). (b, inr refl, ap (λ parts. record s { parts = parts }) (early_then_late s.holds (day_of a) (day_of b) (below_later (day_of a) (day_of b) (omega arith)) s.parts)))
-    (λ h. (a, inl refl, ap (λ parts. record s { parts = parts }) (late_then_early s.holds (day_of b) (day_of a) (below_later (day_of b) (day_of a) h) s.parts)))
+    (λ (less : day_of a < day_of b). (b, inr refl, leaves (day_of b) (λ y. grind (arith, nat_tests))))
+    (λ (less : day_of b ≤ day_of a). (a, inl refl, leaves (day_of a) (λ y. grind (arith, nat_tests))))
     (cases_lt (day_of a) (day_of b))
+  where
+    leaves : (later : ℕ) → ((y : ℕ) → (nat_lt y (day_of a) || nat_lt y (day_of b)) ≡ nat_lt y later)
+        → state_without_due (state_without_due s (day_of a)) (day_of b) ≡ state_without_due s later
+    leaves later either = ap (λ parts. record s { parts = parts }) (twice s.holds (day_of a) (day_of b) later either s.parts)
 
 -- ---- a command that was accepted, and is accepted again at once
 
@@ -148,11 +130,9 @@ not_dropped s mid (Receive text bytes) now first made gone =
     let keeps : KeepsPart mid text bytes first.entry = accepted_is_kept s (Receive text bytes) now first mid made in
     let at = subst (HasRecord mid) keeps.made (replies_are_records s mid (Receive text bytes) now first made) in
     let there : part_under_name mid keeps.name ≡ Some keeps.part = recorded_of mid keeps.name keeps.part at keeps.kind in
-    let dropped : is_dropped (part_under_name mid keeps.name) ≡ true = ap (λ n. is_dropped (part_under_name mid n)) (one_name gone.0 keeps.name (read_name text) gone.1 keeps.named) ∙ gone.2 in
+    let same : keeps.name ≡ gone.0 = cc (gone.1, keeps.named) in
+    let dropped : is_dropped (part_under_name mid keeps.name) ≡ true = ap (λ n. is_dropped (part_under_name mid n)) same ∙ gone.2 in
     let held : is_dropped (part_under_name mid keeps.name) ≡ false = ap is_dropped there ∙ ap are_bytes_dropped keeps.content in cc
-  where
-    one_name : (m n : Name) (read : Result Name NameError) → read ≡ Ok m → read ≡ Ok n → n ≡ m
-    one_name m n read p q = cc
 not_dropped s mid c now first made gone = gone
 
 -- and it is not refused
@@ -186,11 +166,8 @@ module _ (asked : Option Command) (M : ℕ → Type 0) (old : State) where
   -- what happens to a custody for it
   abbrev pub IsTry : Event → Type 0
   IsTry (Answered c now answer) = (asked ≡ Some c) × M now
-  IsTry AnsweredOtherCall = Unit {0}
-  IsTry ShutDown = Unit {0}
-  IsTry (StoppedAtRest pair) = Unit {0}
   IsTry (StoppedWithin c now pair) = (asked ≡ Some c) × M now
-  IsTry (OpenedWith pair answer) = Unit {0}
+  IsTry _ = Unit {0}
 
   -- what is in doubt is the command
   abbrev InDoubt : Option TimedCommand → Type 0
@@ -227,12 +204,10 @@ module _ (asked : Option Command) (M : ℕ → Type 0) (old : State) where
 
   answered_tried : (state new : State) (c : Command) (now : ℕ) (answer : Answer) → Reached state → asked ≡ Some c → M now → MayAnswer state c now answer new → IsTried (condition_after state c now answer new)
   answered_tried state new c now (Accepted reply) here own at e = reached_by state new c now reply here own at e
-  answered_tried state new c now (Refused q) here own at e = subst Reached (sym e.1) here
-  answered_tried state new c now (Failed NoMemory) here own at e = subst Reached (sym e.1) here
   answered_tried state new c now (Failed VolumeFailed) here own at e = (here, tt)
   answered_tried state new c now (Failed StoreFailed) here own at e = (here, (own, at))
   answered_tried state new c now (Failed Closed) here own at e = absurd e.0
-  answered_tried state new c now (Failed (Damaged damage)) here own at e = subst Reached (sym e.1) here
+  answered_tried state new c now _ here own at e = subst Reached (sym e.1) here
 
   pub tried_then : (start : Condition) (event : Event) (next : Condition) → IsTried start → IsTry event → Happens start event next → IsTried next
   tried_then (Running state) (Answered c now answer) next here own h = subst IsTried (sym h.2) (answered_tried state h.0 c now answer here own.0 own.1 h.1)
@@ -240,21 +215,16 @@ module _ (asked : Option Command) (M : ℕ → Type 0) (old : State) where
   tried_then (Running state) ShutDown next here own h = subst IsTried (sym h) (here, tt)
   tried_then (Running state) (StoppedAtRest pair) next here own h = subst IsTried (sym h.1) (weaker pair (λ found is. subst Reached (sym is) here) h.0)
   tried_then (Running state) (StoppedWithin c now pair) next here own h = subst IsTried (sym h.1) (weaker pair (λ found is. reached_within state found c now here own.0 own.1 is) h.0)
-  tried_then (Running state) (OpenedWith pair answer) next here own h = absurd h
   tried_then (Halted state doubt) (Answered c now answer) next here own h = subst IsTried (sym h.1) here
   tried_then (Halted state doubt) AnsweredOtherCall next here own h = subst IsTried (sym h) here
   tried_then (Halted state doubt) ShutDown next here own h = subst IsTried (sym h) here
   tried_then (Halted state doubt) (StoppedAtRest pair) next here own h = subst IsTried (sym h.1) (weaker pair (λ found is. reached_found state found doubt here.0 here.1 is) h.0)
   tried_then (Halted state doubt) (StoppedWithin c now pair) next here own h = subst IsTried (sym h.1) (weaker pair (λ found is. reached_found state found doubt here.0 here.1 is) h.0)
-  tried_then (Halted state doubt) (OpenedWith pair answer) next here own h = absurd h
-  tried_then (Stopped left) (Answered c now answer) next here own h = absurd h
-  tried_then (Stopped left) AnsweredOtherCall next here own h = absurd h
-  tried_then (Stopped left) ShutDown next here own h = absurd h
   tried_then (Stopped left) (StoppedAtRest pair) next here own h = subst IsTried (sym h.1) here
-  tried_then (Stopped left) (StoppedWithin c now pair) next here own h = absurd h
   tried_then (Stopped left) (OpenedWith pair (Opened state)) next here own h =
       subst IsTried (sym h.2) (subst Reached (one_value here.0 state left.opens here.1 (subst (λ (p : Pair). p.opens ≡ Some state) h.0 h.1)) here.2)
   tried_then (Stopped left) (OpenedWith pair (NotOpened failure)) next here own h = subst IsTried (sym (h.2 ∙ ap Stopped h.0)) here
+  tried_then _ _ next here own h = absurd h
 
   abbrev pub AreTries : List Event → Type 0
   AreTries [] = Unit {0}
@@ -270,39 +240,22 @@ module _ (asked : Option Command) (M : ℕ → Type 0) (old : State) where
 abbrev pub IsAtRest : State → Condition → Type 0
 IsAtRest state = IsTried None (λ _. ⊥) state
 
-module _ (asked : Option Command) (M : ℕ → Type 0) (state : State) where
-  widen_reached : (s : State) → Reached None (λ _. ⊥) state s → Reached asked M state s
-  widen_reached s (inl is) = inl is
-  widen_reached s (inr (c, never, one)) = cc
+-- where no command was asked for, none was done
+pub only_state : (M : ℕ → Type 0) (state s : State) → Reached None M state s → s ≡ state
+only_state M state s (inl is) = is
+only_state M state s (inr (c, never, one)) = cc
 
-  widen_doubt : (doubt : Option TimedCommand) → InDoubt None (λ _. ⊥) state doubt → InDoubt asked M state doubt
-  widen_doubt None h = tt
-  widen_doubt (Some entry) h = absurd h.1
+-- and so whatever is asked next, it is not done yet
+pub still_tried : (M : ℕ → Type 0) (asked : Option Command) (N : ℕ → Type 0) (state : State) (cond : Condition) → IsTried None M state cond → IsTried asked N state cond
+still_tried M asked N state (Running s) here = inl (only_state M state s here)
+still_tried M asked N state (Halted s None) here = (inl (only_state M state s here.0), tt)
+still_tried M asked N state (Halted s (Some entry)) here = let never = here.1.0 in cc
+still_tried M asked N state (Stopped pair) here = weaker pair (λ s reached. inl (only_state M state s reached)) here
 
-  -- a request may be tried now
-  pub may_try : (cond : Condition) → IsAtRest state cond → IsTried asked M state cond
-  may_try (Running s) here = widen_reached s here
-  may_try (Halted s doubt) here = (widen_reached s here.0, widen_doubt doubt here.1)
-  may_try (Stopped pair) here = weaker pair widen_reached here
-
--- what asks for no command leaves the custody at rest
-module _ (M : ℕ → Type 0) (state : State) where
-  narrow_reached : (s : State) → Reached None M state s → Reached None (λ _. ⊥) state s
-  narrow_reached s (inl is) = inl is
-  narrow_reached s (inr (c, never, one)) = cc
-
-  narrow_doubt : (doubt : Option TimedCommand) → InDoubt None M state doubt → InDoubt None (λ _. ⊥) state doubt
-  narrow_doubt None h = tt
-  narrow_doubt (Some entry) h = let never = h.0 in cc
-
-  pub at_rest_still : (cond : Condition) → IsTried None M state cond → IsAtRest state cond
-  at_rest_still (Running s) here = narrow_reached s here
-  at_rest_still (Halted s doubt) here = (narrow_reached s here.0, narrow_doubt doubt here.1)
-  at_rest_still (Stopped pair) here = weaker pair narrow_reached here
-
-pub only_state : (state s : State) → Reached None (λ _. ⊥) state s → s ≡ state
-only_state state s (inl is) = is
-only_state state s (inr (c, never, one)) = cc
+-- what asks for no command leaves it at rest
+pub still_at_rest : (M : ℕ → Type 0) (state : State) (start : Condition) (events : List Event) (last : Condition)
+    → IsAtRest state start → AreTries None M state events → HappensAlong start events last → IsAtRest state last
+still_at_rest M state start events last here own run = still_tried M None (λ _. ⊥) state last (tried_after None M state start events last (still_tried (λ _. ⊥) None M state start here) own run)
 
 -- ---- the last try, which is no failure
 

@@ -1,9 +1,10 @@
 -- No response is the beginning of another: its lines are told apart one after the other, and the last tells the length of the body.
-use Rattle.std.proofs.Common.{◌≡◌, ℕ, List, [], ◌∷◌, ◌++◌, length, Option, Some, None, Bool, true, false, not, ◌&&◌, ◌==◌, refl, sym, ◌∙◌, ap, if◌then◌else◌, arith, append_assoc, append-nil}
+use Rattle.std.proofs.Common.{◌≡◌, ℕ, List, [], ◌∷◌, ◌++◌, length, Option, Some, None, Bool, true, false, not, ◌==◌, refl, sym, ◌∙◌, ap, if◌then◌else◌, arith, append_assoc, append-nil}
 use Rattle.std.specs.Prelude.{codes, decimal, bytes_eq}
 use Rattle.std.specs.Fmt.{digits}
 use Rattle.std.specs.List.{list_all}
 use Rattle.std.specs.Str.Parse.{AllDigits}
+use Rattle.std.specs.Cmp.Derive.{both_true}
 use Rattle.std.proofs.lemmas.Str.Parse.{digit_from_value}
 use Rattle.std.proofs.lemmas.Fmt.{decimal_injective, decimal_is_IsNumeral}
 use Rattle.std.proofs.lemmas.List.{append_cancel_left, length-append}
@@ -41,86 +42,55 @@ ends_alike (x ∷ xs) (u ∷ us) gap ys vs p q e =
     let rest = ends_alike xs us gap ys vs (and_both _ _ p).1 (and_both _ _ q).1 cc in
     ((λ i. head i ∷ rest.0 i), rest.1)
 
-flat : (p s q m r d t l e b x : List ℕ) → (p ++ s ++ q ++ m ++ r ++ d ++ t ++ l ++ e ++ b) ++ x ≡ p ++ (s ++ (q ++ (m ++ (r ++ (d ++ (t ++ (l ++ (e ++ (b ++ x)))))))))
-flat p s q m r d t l e b x = simp append_assoc refl
-
 -- ---- what the lines have
 
 status_in_line : (status : ResponseStatus) → IsInLine (status_text status)
 unfolding digits
 status_in_line (Coded BadRequest) = refl
-status_in_line (Coded NotFound) = refl
-status_in_line (Coded Conflict) = refl
-status_in_line (Coded Gone) = refl
-status_in_line (Coded ContentTooLarge) = refl
-status_in_line (Coded InternalServerError) = refl
-status_in_line (Coded ServiceUnavailable) = refl
-status_in_line (Coded InsufficientStorage) = refl
-status_in_line status = refl
+status_in_line _ = refl
 
--- the status that a text is
-status_in : List ℕ → ResponseStatus
-status_in text =
-    if bytes_eq text (codes "200 OK") then Done
-    else if bytes_eq text (codes "201 Created") then Created
-    else if bytes_eq text (codes "405 Method Not Allowed") then MethodNotAllowed
-    else if bytes_eq text (codes "411 Length Required") then LengthRequired
-    else if bytes_eq text (codes "501 Not Implemented") then NotImplemented
-    else if bytes_eq text (codes "400 Bad Request") then Coded BadRequest
-    else if bytes_eq text (codes "404 Not Found") then Coded NotFound
-    else if bytes_eq text (codes "409 Conflict") then Coded Conflict
-    else if bytes_eq text (codes "410 Gone") then Coded Gone
-    else if bytes_eq text (codes "413 Content Too Large") then Coded ContentTooLarge
-    else if bytes_eq text (codes "500 Internal Server Error") then Coded InternalServerError
-    else if bytes_eq text (codes "503 Service Unavailable") then Coded ServiceUnavailable
-    else Coded InsufficientStorage
+-- the first of some whose text is this one, or else the last
+reading : {X : Type 0} → (X → List ℕ) → List X → X → List ℕ → X
+reading text_of [] last text = last
+reading text_of (x ∷ others) last text = if bytes_eq text (text_of x) then x else reading text_of others last text
 
-status_back : (status : ResponseStatus) → status_in (status_text status) ≡ status
-unfolding digits status_in
+-- so where each is read from its text, the text tells it
+told_by_text : {X : Type 0} (text_of : X → List ℕ) (others : List X) (last : X)
+    → ((x : X) → reading text_of others last (text_of x) ≡ x) → (x y : X) → text_of x ≡ text_of y → x ≡ y
+told_by_text text_of others last back x y e = sym (back x) ∙ ap (reading text_of others last) e ∙ back y
+
+statuses : List ResponseStatus
+statuses =
+    Done ∷ Created ∷ MethodNotAllowed ∷ LengthRequired ∷ NotImplemented ∷ Coded BadRequest ∷ Coded NotFound ∷ Coded Conflict ∷ Coded Gone
+    ∷ Coded ContentTooLarge ∷ Coded InternalServerError ∷ Coded ServiceUnavailable ∷ []
+
+status_back : (status : ResponseStatus) → reading status_text statuses (Coded InsufficientStorage) (status_text status) ≡ status
+unfolding digits statuses reading
 status_back (Coded BadRequest) = refl
-status_back (Coded NotFound) = refl
-status_back (Coded Conflict) = refl
-status_back (Coded Gone) = refl
-status_back (Coded ContentTooLarge) = refl
-status_back (Coded InternalServerError) = refl
-status_back (Coded ServiceUnavailable) = refl
-status_back (Coded InsufficientStorage) = refl
-status_back status = refl
+status_back _ = refl
 
 media_in_line : (media : Media) → IsInLine (media_text media)
 media_in_line Text = refl
 media_in_line Bytes = refl
 
-media_in : List ℕ → Media
-media_in text = if bytes_eq text (codes "text/plain") then Text else Bytes
-
-media_back : (media : Media) → media_in (media_text media) ≡ media
-unfolding media_in
+media_back : (media : Media) → reading media_text (Text ∷ []) Bytes (media_text media) ≡ media
+unfolding reading
 media_back Text = refl
 media_back Bytes = refl
 
 method_in_line : (method : Method) → IsInLine (method_text method)
 method_in_line Get = refl
-method_in_line Post = refl
-method_in_line Put = refl
+method_in_line _ = refl
 
-method_in : List ℕ → Method
-method_in text = if bytes_eq text (codes "GET") then Get else if bytes_eq text (codes "POST") then Post else Put
-
-method_back : (method : Method) → method_in (method_text method) ≡ method
-unfolding method_in
+method_back : (method : Method) → reading method_text (Get ∷ Post ∷ []) Put (method_text method) ≡ method
+unfolding reading
 method_back Get = refl
-method_back Post = refl
-method_back Put = refl
+method_back _ = refl
 
 digits_in_line : (ds : List ℕ) → AllDigits 10 ds → IsInLine ds
 digits_in_line [] d = refl
-digits_in_line (c ∷ cs) d = both (not (c == 13)) (list_all (λ c. not (c == 13)) cs) (other (c == 13) refl) (digits_in_line cs d.1)
+digits_in_line (c ∷ cs) d = both_true (other (c == 13) refl) (digits_in_line cs d.1)
   where
-    both : (a b : Bool) → a ≡ true → b ≡ true → (a && b) ≡ true
-    both true b h k = k
-    both false b h k = cc
-
     other : (b : Bool) → (c == 13) ≡ b → not b ≡ true
     other true e = let is : c ≡ 13 = (Decides-eqb c 13).0 e in absurd (omega (arith, digit_from_value c d.0))
     other false e = refl
@@ -137,7 +107,7 @@ allow_apart (Some m) None x y e = let clash = same_head e in absurd (omega arith
 allow_apart (Some m) (Some n) x y e =
     let joined = append_cancel_left (codes "Allow: ") (method_text n ++ (codes "\r\n" ++ (codes "\r\n" ++ y))) (method_text m ++ (codes "\r\n" ++ (codes "\r\n" ++ x))) (sym (three n y) ∙ e ∙ three m x) in
     let parts = ends_alike (method_text n) (method_text m) (codes "\n") (codes "\r\n" ++ y) (codes "\r\n" ++ x) (method_in_line n) (method_in_line m) joined in
-    (ap Some (sym (method_back n) ∙ ap method_in parts.0 ∙ method_back m), append_cancel_left (codes "\r\n") y x parts.1)
+    (ap Some (told_by_text method_text (Get ∷ Post ∷ []) Put method_back n m parts.0), append_cancel_left (codes "\r\n") y x parts.1)
   where
     three : (k : Method) (z : List ℕ) → allow_line (Some k) ++ (codes "\r\n" ++ z) ≡ codes "Allow: " ++ (method_text k ++ (codes "\r\n" ++ (codes "\r\n" ++ z)))
     three k z = append_assoc (codes "Allow: " ++ method_text k) (codes "\r\n") (codes "\r\n" ++ z) ∙ append_assoc (codes "Allow: ") (method_text k) (codes "\r\n" ++ (codes "\r\n" ++ z))
@@ -147,18 +117,18 @@ allow_apart (Some m) (Some n) x y e =
 pub none_begins_another : NoResponseBeginsAnother
 none_begins_another a b rest short_a short_b e =
     let start = append_cancel_left (codes "HTTP/1.1 ") _ _ (sym (lines b []) ∙ append-nil (response_bytes b) ∙ e ∙ lines a rest) in
-    let statuses = ends_alike (status_text b.status) (status_text a.status) (codes "\nContent-Type: ") _ _ (status_in_line b.status) (status_in_line a.status) start in
-    let medias = ends_alike (media_text b.media) (media_text a.media) (codes "\nContent-Length: ") _ _ (media_in_line b.media) (media_in_line a.media) statuses.1 in
+    let status_lines = ends_alike (status_text b.status) (status_text a.status) (codes "\nContent-Type: ") _ _ (status_in_line b.status) (status_in_line a.status) start in
+    let medias = ends_alike (media_text b.media) (media_text a.media) (codes "\nContent-Length: ") _ _ (media_in_line b.media) (media_in_line a.media) status_lines.1 in
     let lengths = ends_alike (decimal (length b.body)) (decimal (length a.body)) (codes "\nConnection: close\r\n") _ _
     (digits_in_line (decimal (length b.body)) (decimal_is_IsNumeral (length b.body) short_b).0.1) (digits_in_line (decimal (length a.body)) (decimal_is_IsNumeral (length a.body) short_a).0.1) medias.1 in
     let fields = allow_apart a.allow b.allow (a.body ++ rest) (b.body ++ []) lengths.1 in
-    let status : b.status ≡ a.status = sym (status_back b.status) ∙ ap status_in statuses.0 ∙ status_back a.status in
-    let media : b.media ≡ a.media = sym (media_back b.media) ∙ ap media_in medias.0 ∙ media_back a.media in
+    let status : b.status ≡ a.status = told_by_text status_text statuses (Coded InsufficientStorage) status_back b.status a.status status_lines.0 in
+    let media : b.media ≡ a.media = told_by_text media_text (Text ∷ []) Bytes media_back b.media a.media medias.0 in
     let none = nothing_more a.body b.body rest (decimal_injective (length b.body) (length a.body) short_b short_a lengths.0) (sym (append-nil b.body) ∙ fields.1) in
     ((λ i. record { status = status i; media = media i; allow = fields.0 i; body = none.0 i }), none.1)
   where
     lines : (x : HttpResponse) (z : List ℕ) → response_bytes x ++ z ≡ codes "HTTP/1.1 " ++ (status_text x.status ++ (codes "\r\nContent-Type: " ++ (media_text x.media ++ (codes "\r\nContent-Length: " ++ (decimal (length x.body) ++ (codes "\r\nConnection: close\r\n" ++ (allow_line x.allow ++ (codes "\r\n" ++ (x.body ++ z)))))))))
-    lines x z = flat (codes "HTTP/1.1 ") (status_text x.status) (codes "\r\nContent-Type: ") (media_text x.media) (codes "\r\nContent-Length: ") (decimal (length x.body)) (codes "\r\nConnection: close\r\n") (allow_line x.allow) (codes "\r\n") x.body z
+    lines x z = simp append_assoc
 
     nothing_more : (x y rest : List ℕ) → length y ≡ length x → y ≡ x ++ rest → (y ≡ x) × (rest ≡ [])
     nothing_more x y [] long is = (is ∙ append-nil x, refl)

@@ -1,11 +1,11 @@
 -- The deposits that passed and the greatest number, as the rows of notices tell them.
-use Rattle.std.specs.Prelude.{ℕ, max, List, [], ◌∷◌, Option, Some, None, Bool, false, if◌then◌else◌, nat_le, option_map}
-use Rattle.std.specs.List.{filter_map}
+use Rattle.std.specs.Prelude.{ℕ, max, List, Option, Some, None, Bool, false, if◌then◌else◌, nat_le, option_map}
+use Rattle.std.specs.List.{filter_map, fold}
 use Rattle.std.specs.FinMap.{get}
 use Rattle.deposit_name.specs.declared.kinds.Kind.TheVariants.{Full}
 use Rattle.desk.specs.declared.notices.Notice as desk
 use Rattle.desk.specs.declared.notices.NoticeKind.{NoticeKind}
-use Rattle.desk.specs.declared.notices.NoticeKind.TheVariants.{Receipt, Failure, Absence}
+use Rattle.desk.specs.declared.notices.NoticeKind.TheVariants.{Receipt}
 use Rattle.custody_records.specs.Records.{Records}
 use Rattle.custody_machine.specs.Machine.{passed_id}
 use Rattle.custody_machine.specs.StoredState.{is_part_of}
@@ -24,8 +24,7 @@ passed_deposits_of = filter_map passed_deposit_of
 -- a receipt is of a full deposit: the first part of its revision is one of it
 abbrev pub is_receipt_of_full_in : Records → List ℕ → ℕ → NoticeKind → Bool
 is_receipt_of_full_in records tld day (Receipt rev _) = is_part_of Full (get records.parts (record { tld = tld; day = day; rev = rev; part = 1 }))
-is_receipt_of_full_in records tld day (Failure _ _ _) = false
-is_receipt_of_full_in records tld day Absence = false
+is_receipt_of_full_in records tld day _ = false
 
 -- a row tells that a full deposit passed
 abbrev pub tells_full_in : Records → desk.Notice → Bool
@@ -37,5 +36,4 @@ later_pair None next = next
 later_pair (Some before) next = if nat_le next.0 before.0 then before else next
 
 abbrev pub greatest_notice_number : List desk.Notice → ℕ
-greatest_notice_number [] = 0
-greatest_notice_number (notice ∷ others) = max notice.number (greatest_notice_number others)
+greatest_notice_number = fold (λ greatest (notice : desk.Notice). max greatest notice.number) 0

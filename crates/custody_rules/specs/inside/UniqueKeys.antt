@@ -3,7 +3,7 @@ use Rattle.std.specs.Prelude.{◌≡◌, ℕ, List, Option, Some, None}
 use Rattle.std.specs.List.{slice_get}
 use Rattle.desk.specs.declared.notices.Notice.{Notice}
 use Rattle.desk.specs.declared.notices.NoticeKind.{NoticeKind}
-use Rattle.desk.specs.declared.notices.NoticeKind.TheVariants.{Receipt, Failure, Absence}
+use Rattle.desk.specs.declared.notices.NoticeKind.TheVariants.{Receipt, Failure}
 use Rattle.custody_machine.specs.StoredState.{revision_of}
 use Rattle.custody_rules.specs.declared.unique_keys.Subject.{Subject}
 use Rattle.custody_rules.specs.declared.unique_keys.ReceivedDay.{ReceivedDay}
@@ -16,8 +16,7 @@ subject_of notice = Some (record { tld = notice.tld; day = notice.day; rev = rev
 -- a day, where a notice of this kind is its receipt
 abbrev pub day_if_receipt : List ℕ → ℕ → NoticeKind → Option ReceivedDay
 day_if_receipt tld day (Receipt _ _) = Some (record { tld = tld; day = day })
-day_if_receipt tld day (Failure _ _ _) = None
-day_if_receipt tld day Absence = None
+day_if_receipt tld day _ = None
 
 -- the day that a notice is the receipt of
 abbrev pub received_day_of : Notice → Option ReceivedDay
@@ -25,9 +24,8 @@ received_day_of notice = day_if_receipt notice.tld notice.day notice.kind
 
 -- a revision of a day, where a notice of this kind tells its failure
 abbrev pub revision_if_failure : List ℕ → ℕ → NoticeKind → Option FailedRevision
-revision_if_failure tld day (Receipt _ _) = None
 revision_if_failure tld day (Failure rev _ _) = Some (record { tld = tld; day = day; rev = rev })
-revision_if_failure tld day Absence = None
+revision_if_failure tld day _ = None
 
 -- the revision that a notice tells the failure of
 abbrev pub failed_revision_of : Notice → Option FailedRevision

@@ -31,22 +31,18 @@ loop-part-preserved g c =
     let told : tells → c.in-Ok.intact ≡ has_digest image item = λ t. found.digest t ∙ ap (λ (j : List ℕ). has_digest j item) (inv.read.image t) in
     let names = c.loop-part.damaged.items in
     let index = c.loop-part.part-index in
-    elim c.if-not-intact.branch [
-      | then-not-intact+in-Ok-push w ↦ record {
-        read = read;
-        failures = found.failures ∙ inv.failures;
-        picked = subst (IsPicked (IsPicking tells image) (IsPassing tells image) (take (index + 1) rows)) (sym (ap (λ (v : Vec Name Global). v.items) w.damaged-is ∙ w.in-Ok-push.ensures.items))
+    record {
+      read = read;
+      failures = found.failures ∙ inv.failures;
+      picked = elim c.if-not-intact.branch [
+        | then-not-intact+in-Ok-push w ↦ subst (IsPicked (IsPicking tells image) (IsPassing tells image) (take (index + 1) rows)) (sym (ap (λ (v : Vec Name Global). v.items) w.damaged-is ∙ w.in-Ok-push.ensures.items))
             (picked_on (IsPicking tells image) (IsPassing tells image) rows index item c.loop-part-test.true c.part-item.is names
-            (found.dropped w.if-not-intact.true, λ t. sym (told t) ∙ w.if-not-intact.true) inv.picked);
-      }
-      | else-not-intact w ↦ record {
-        read = read;
-        failures = found.failures ∙ inv.failures;
-        picked = subst (IsPicked (IsPicking tells image) (IsPassing tells image) (take (index + 1) rows)) (sym (ap (λ (v : Vec Name Global). v.items) w.damaged-is))
+            (found.dropped w.if-not-intact.true, λ t. sym (told t) ∙ w.if-not-intact.true) inv.picked)
+        | else-not-intact w ↦ subst (IsPicked (IsPicking tells image) (IsPassing tells image) (take (index + 1) rows)) (sym (ap (λ (v : Vec Name Global). v.items) w.damaged-is))
             (passed_on (IsPicking tells image) (IsPassing tells image) rows index item c.loop-part-test.true c.part-item.is names
-            (λ t. sym (told t) ∙ w.if-not-intact.false) inv.picked);
-      }
-    ]
+            (λ t. sym (told t) ∙ w.if-not-intact.false) inv.picked)
+      ];
+    }
 
 pub returns-clause-held : goal.returns-clause-held
 returns-clause-held g c =

@@ -1,16 +1,8 @@
-use Rattle.std.proofs.Common.{◌≤◌, refl, ◌∙◌, arith}
+use Rattle.std.proofs.Common.{◌≤◌, ◌∙◌, arith}
 use Rattle.vault_volume.specs.Vault.{volume_of}
 use Rattle.custody_records.specs.MemoryRecords.{records_of}
-use Rattle.custody.proofs.RevisionLemmas.{not_read, read_again, bytes_more, sound_more, broken_at, whole_read}
+use Rattle.custody.proofs.RevisionLemmas.{read_again, bytes_more, sound_more, broken_at, whole_read}
 use Rattle.custody.proofs.reading.read_revision.Goals as goal
-
-pub loop-place-init : goal.loop-place-init
-loop-place-init g c = record {
-  read = not_read c.args.vault.now;
-  failures = refl;
-  bytes = λ _. c.in-Ok.ensures.items;
-  sound = λ _ k lt. absurd (omega (arith, lt));
-}
 
 pub returns-then-not-branch-clause-joined : goal.returns-then-not-branch-clause-joined
 returns-then-not-branch-clause-joined g c = λ tells.

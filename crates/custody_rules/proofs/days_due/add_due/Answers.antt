@@ -1,7 +1,7 @@
-use Rattle.std.proofs.Common.{◌≡◌, ◌<◌, ◌≤◌, ◌-◌, ◌++◌, ◌∷◌, [], ◌⊎◌, ℕ, List, map, not, true, false, cond, is_lt, nat_cmp, refl, sym, ◌∙◌, ap, inl, inr, arith}
+use Rattle.std.proofs.Common.{◌≡◌, ◌<◌, ◌≤◌, ◌-◌, ◌++◌, ◌∷◌, [], ◌⊎◌, ℕ, map, not, true, false, cond, is_lt, nat_cmp, sym, ◌∙◌, ap, inl, inr, arith}
 use Rattle.std.proofs.lemmas.Grind.{common_steps}
 use Rattle.std.specs.List.{filter, range_with_len}
-use Rattle.std.proofs.lemmas.List.{append_assoc, map-append}
+use Rattle.std.proofs.lemmas.List.{append-nil, append_assoc, map-append}
 use Rattle.custody_records.specs.MemoryRecords.{records_of}
 use Rattle.custody_machine.specs.State.{has_notice}
 use Rattle.custody_rules.specs.DueDays.{due_day_pair, is_unnoticed}
@@ -30,7 +30,7 @@ loop-tld-preserved c =
           ap (λ v. map due_day_pair v.items) w.due-is ∙ ap (map due_day_pair) w.in_ok-push.ensures.items ∙ map-append due_day_pair c.loop-tld.due.items _
           ∙ ap (λ b. map due_day_pair c.loop-tld.due.items ++ cond b ((tld, day) ∷ []) []) (sym (ap not (sym noticed ∙ w.if-not-contains.true)))
       | else-not-contains w ↦
-          ap (λ v. map due_day_pair v.items) w.due-is ∙ sym (nothing_more (map due_day_pair c.loop-tld.due.items))
+          ap (λ v. map due_day_pair v.items) w.due-is ∙ sym (append-nil (map due_day_pair c.loop-tld.due.items))
           ∙ ap (λ b. map due_day_pair c.loop-tld.due.items ++ cond b ((tld, day) ∷ []) []) (sym (ap not (sym noticed ∙ w.if-not-contains.false)))
     ] in
     let more = due_more records tld first day before.0 in
@@ -42,10 +42,6 @@ loop-tld-preserved c =
           ∙ append_assoc (map due_day_pair c.args.due.now.items) (filter (is_unnoticed records) (map (λ d. (tld, d)) (range_with_len first (day - first)))) (cond (is_unnoticed records (tld, day)) ((tld, day) ∷ []) [])
           ∙ ap (λ l. map due_day_pair c.args.due.now.items ++ l) (sym more ∙ ap (λ d. filter (is_unnoticed records) (map (λ d. (tld, d)) (range_with_len first (d - first)))) (sym c.day_after-day.ensures)),
     )
-  where
-    nothing_more : (l : List (List ℕ × ℕ)) → l ++ [] ≡ l
-    nothing_more [] = refl
-    nothing_more (x ∷ l) = ap (λ r. x ∷ r) (nothing_more l)
 
 pub returns : goal.returns
 returns c =

@@ -5,20 +5,9 @@ use Rattle.custody_machine.specs.Machine.{Purge}
 use Rattle.custody_machine.specs.Rulings.{DropsBytes, GoRuling, Decides}
 use Rattle.custody_machine.specs.StoredState.{state_in}
 use Rattle.custody_machine.proofs.Accepting.{step_none}
-use Rattle.custody_rules.specs.Rulings.{ruling_of}
 use Rattle.custody_rules.proofs.judging.judge.Goals as goal
-
-pub returns-in-Register : goal.returns-in-Register
-returns-in-Register c =
-    subst (λ command. Decides (ruling_of c.judge_registry.result) (records_of c.args.records.now) (command_of command) c.args.now) (sym c.in-Register.is)
-    (c.judge_registry.ensures c.args.now)
 
 pub returns-in-Purge : goal.returns-in-Purge
 returns-in-Purge c =
     subst (λ command. Decides (GoRuling DropsBytes) (records_of c.args.records.now) (command_of command) c.args.now) (sym c.in-Purge.is)
     (refl, λ image. step_none (state_in (records_of c.args.records.now) image) Purge c.args.now refl)
-
-pub returns-in-Receive : goal.returns-in-Receive
-returns-in-Receive c =
-    subst (λ command. Decides (ruling_of c.judge_part.result) (records_of c.args.records.now) (command_of command) c.args.now) (sym c.in-Receive.is)
-    (c.judge_part.ensures c.in-Receive.bytes.now refl)

@@ -1,11 +1,16 @@
 use Rattle.std.proofs.Common.{◌≡◌, ◌∙◌, ◌↔◌, Bool, true, false, ◌&&◌, Option, BTreeSet, sym, ap, subst}
 use Rattle.std.specs.Prelude.{IfNone, IfSome}
 use Rattle.std.specs.BTreeSet.{contains}
+use Rattle.custody_records.specs.Keys.{NoticeKey, PartKey, notice_cmp, part_cmp}
 use Rattle.custody_records.specs.MemoryRecords.{records_of}
+use Rattle.custody_records.specs.Records.{Notice, PartRecord}
+use Rattle.custody_records.specs.TypedRecords.{key_of_part, notice_key, notice_value, part_value}
 use Rattle.custody_rules.specs.declared.unique_keys.FailedRevision.{FailedRevision}
+use Rattle.custody_rules.specs.inside.Links.{each_passes, is_notice_linked, is_part_linked}
 use Rattle.custody_rules.specs.inside.Orders.{failed_revision_cmp}
 use Rattle.custody_rules.specs.inside.UniqueKeys.{HaveNoRivals, IsKeyAmong, failed_revision_of}
-use Rattle.custody_rules.proofs.LinkLemmas.{all_linked, some_broken, passes, parts_pass, notices_pass, parts_test, notices_test, references_test}
+use Rattle.custody_rules.proofs.LinkLemmas.{all_linked, some_broken, passes, parts_test, notices_test, references_test}
+use Rattle.custody_rules.proofs.Tables.{all_rows}
 use Rattle.custody_rules.proofs.Rivals.{failures_are, linked_only}
 use Rattle.custody_rules.proofs.links.are_linked.Goals as goal
 use Rattle.custody_rules.proofs.links.are_linked.Goals.{then-parts_are_linked, else-parts_are_linked, then-notices_are_linked, else-notices_are_linked}
@@ -21,11 +26,15 @@ answer_is c =
     let told : (t : FailedRevision) → (contains failed_revision_cmp c.in-Some.failed t ≡ true) ↔ IsKeyAmong failed_revision_of c.notices.result.now t =
     subst {A = Option (BTreeSet FailedRevision)} (λ found. IfSome found (λ failed. (t : FailedRevision) → (contains failed_revision_cmp failed t ≡ true) ↔ IsKeyAmong failed_revision_of c.notices.result.now t)) c.in-Some.is c.in_ok-failed.ensures.failed in
     let same = failures_are all c.notices.result.now c.notices.ensures.all c.notices.ensures.rising (contains failed_revision_cmp c.in-Some.failed) told in
-    let parts : c.parts_are_linked.result ≡ parts_test all = c.parts_are_linked.ensures ∙ parts_pass all (contains failed_revision_cmp c.in-Some.failed) same c.parts.result.now c.parts.ensures.all c.parts.ensures.rising in
+    let parts : c.parts_are_linked.result ≡ parts_test all =
+    c.parts_are_linked.ensures
+    ∙ all_rows part_cmp key_of_part part_value c.parts.result.now all.parts c.parts.ensures.all c.parts.ensures.rising (λ (e : PartKey × PartRecord). is_part_linked all (contains failed_revision_cmp c.in-Some.failed) e.0 e.1)
+    ∙ (λ i. each_passes (is_part_linked all (λ t. same t i)) all.parts) in
     let value : c.if-parts_are_linked.value ≡ (parts_test all && notices_test all) = elim c.if-parts_are_linked.branch [
       | then-parts_are_linked w ↦
+          let rows = w.notices-then-parts_are_linked in
           let notices : w.notices_are_linked.result ≡ notices_test all =
-          w.notices_are_linked.ensures ∙ notices_pass all w.notices-then-parts_are_linked.result.now w.notices-then-parts_are_linked.ensures.all w.notices-then-parts_are_linked.ensures.rising in
+          w.notices_are_linked.ensures ∙ all_rows notice_cmp notice_key notice_value rows.result.now all.notices rows.ensures.all rows.ensures.rising (λ (e : NoticeKey × Notice). is_notice_linked all e.0 e.1) in
           w.value-is ∙ (notices ∙ ap (λ b. b && notices_test all) (sym (sym parts ∙ w.if-parts_are_linked.true)))
       | else-parts_are_linked w ↦ w.value-is ∙ (w.if-parts_are_linked.false ∙ ap (λ b. b && notices_test all) (sym (sym parts ∙ w.if-parts_are_linked.false)))
     ] in

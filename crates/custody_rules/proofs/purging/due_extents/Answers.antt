@@ -14,23 +14,18 @@ of_rows : {E : Type 0} (r : Result (Vec Extent Global) E) (all : List Extent) (P
 of_rows (Ok due) all P is holds = subst P (sym is) holds
 of_rows (Err e) all P is holds = tt
 
-pub returns-clause-exact : goal.returns-clause-exact
-returns-clause-exact c =
+pub returns : goal.returns
+returns c =
     let records = records_of c.args.records.now in
     let rows = c.parts.result.now in
-    of_rows c.extents_of_due.result (due_extents records.holds c.args.today rows) (λ es. (b : _) → (IsInAny es b → IsDueBlock c.args.today records b) × (IsDueBlock c.args.today records b → IsInAny es b)) c.extents_of_due.ensures
-    (λ b. (due_rows c.args.today records rows c.parts.ensures.all c.parts.ensures.rising b, rows_due c.args.today records rows c.parts.ensures.all c.parts.ensures.rising b))
-
-pub returns-clause-in_range : goal.returns-clause-in_range
-returns-clause-in_range c =
-    let records = records_of c.args.records.now in
-    let rows = c.parts.result.now in
-    of_rows c.extents_of_due.result (due_extents records.holds c.args.today rows) (All (IsExtentOf records.blocks)) c.extents_of_due.ensures
-    (each_due records.holds c.args.today records.blocks rows (in_range_rows records rows c.parts.ensures.all c.parts.ensures.rising c.requires.range))
-
-pub returns-clause-apart : goal.returns-clause-apart
-returns-clause-apart c =
-    let records = records_of c.args.records.now in
-    let rows = c.parts.result.now in
-    of_rows c.extents_of_due.result (due_extents records.holds c.args.today rows) AreApart c.extents_of_due.ensures
-    (apart_due records.holds c.args.today rows (once_rows records rows c.parts.ensures.all c.parts.ensures.rising c.requires.once))
+    let all = c.parts.ensures.all in
+    let rising = c.parts.ensures.rising in
+    let due = due_extents records.holds c.args.today rows in
+    record {
+      exact = of_rows c.extents_of_due.result due (λ es. (b : _) → (IsInAny es b → IsDueBlock c.args.today records b) × (IsDueBlock c.args.today records b → IsInAny es b)) c.extents_of_due.ensures
+          (λ b. (due_rows c.args.today records rows all rising b, rows_due c.args.today records rows all rising b));
+      in_range = of_rows c.extents_of_due.result due (All (IsExtentOf records.blocks)) c.extents_of_due.ensures
+          (each_due records.holds c.args.today records.blocks rows (in_range_rows records rows all rising c.requires.range));
+      apart = of_rows c.extents_of_due.result due AreApart c.extents_of_due.ensures
+          (apart_due records.holds c.args.today rows (once_rows records rows all rising c.requires.once));
+    }

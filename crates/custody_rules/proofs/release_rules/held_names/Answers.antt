@@ -11,12 +11,13 @@ of_names : {E : Type 0} (r : Result (List (List ℕ)) E) (names : List (List ℕ
 of_names (Ok listed) names InForm P is in_form holds = subst P (sym is) (holds in_form)
 of_names (Err e) names InForm P is in_form holds = tt
 
-pub returns-clause-names : goal.returns-clause-names
-returns-clause-names c =
-    of_names c.held_part_names.result (held_part_names c.parts_of.result.now) _ _ c.held_part_names.ensures.names c.held_part_names.ensures.in_form
-    (λ _. rows_held (records_of c.args.records.now) c.args.tld.now c.parts_of.result.now c.parts_of.ensures)
-
-pub returns-clause-recorded : goal.returns-clause-recorded
-returns-clause-recorded c =
-    of_names c.held_part_names.result (held_part_names c.parts_of.result.now) _ (AreRecordedNames (records_of c.args.records.now) c.args.tld.now) c.held_part_names.ensures.names c.held_part_names.ensures.in_form
-    (λ in_form. rows_recorded (records_of c.args.records.now) c.args.tld.now c.parts_of.result.now c.parts_of.ensures in_form)
+pub returns : goal.returns
+returns c =
+    let records = records_of c.args.records.now in
+    let rows = c.parts_of.result.now in
+    let listed = c.held_part_names in
+    record {
+      names = of_names listed.result (held_part_names rows) _ _ listed.ensures.names listed.ensures.in_form (λ _. rows_held records c.args.tld.now rows c.parts_of.ensures);
+      recorded = of_names listed.result (held_part_names rows) _ (AreRecordedNames records c.args.tld.now) listed.ensures.names listed.ensures.in_form
+          (λ in_form. rows_recorded records c.args.tld.now rows c.parts_of.ensures in_form);
+    }

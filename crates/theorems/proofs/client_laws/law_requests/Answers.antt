@@ -1,4 +1,5 @@
-use Rattle.theorems.proofs.RequestLemmas.{is_there, requests_move, requests_stop, may_stop_afterwards}
+use Rattle.theorems.proofs.RequestLemmas.{requests_move, requests_stop, may_stop_afterwards}
+use Rattle.theorems.proofs.RunMoves.{is_there}
 use Rattle.theorems.proofs.client_laws.law_requests.Goals as goal
 
 pub returns-clause-begins : goal.returns-clause-begins

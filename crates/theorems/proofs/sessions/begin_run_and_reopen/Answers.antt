@@ -1,4 +1,4 @@
-use Rattle.std.proofs.Common.{inl, inr, refl, sym, ap, subst}
+use Rattle.std.proofs.Common.{inl, inr, refl, sym, ap}
 use Rattle.sqlite.specs.Effect.{Database}
 use Rattle.sqlite.specs.Held.{state}
 use Rattle.sqlite.specs.Steps.{over_memory}
@@ -19,15 +19,15 @@ returns-in-Ok-open c =
     let old = c.in-Ok-init.custody in
     let new = c.run.new.self in
     let later = c.in-Ok-open.custody in
-    let db = c.close-stopped.result.1 in
-    let honest = memory_is_clean (open_custody_of new).store in
+    let store = (open_custody_of new).store in
+    let honest = memory_is_clean store in
     let honest_later = memory_is_clean (open_custody_of later).store in
     let serving : IsServing over_memory old = record { opened = c.in-Ok-init.ensures.new.opened; image = c.in-Ok-init.ensures.kept.image tt; rows = c.in-Ok-init.ensures.kept.rows (inr c.in-Ok.ensures.bare) (memory_is_clean (open_custody_of old).store) } in
     let run = c.in-Ok-run.ensures.run in
-    let there : IsServing over_memory new = (runs_move tt old new serving honest entries answers run).serves c.in_ok-records.ensures.found.0 in
-    let ready = subst (λ d. (store_state over_memory d).IsReady) (sym c.close-stopped.ensures.store) there.rows.ready in
-    let shown : (store_state over_memory db).may_leave (store_state over_memory db).rows = ((state over_memory db).committed.trees, refl, ap (λ (d : Database). rows_in d.trees) (sym ready.rest.committed)) in
-    let loaded = c.in-Ok-open.ensures.loaded in
-    resumed tt old new later entries answers serving c.in-Ok-init.ensures.new.begun run honest c.close-stopped.result.0 db c.close-stopped.ensures.volume c.close-stopped.ensures.store
-    (store_state over_memory db).rows c.restart.new.self.image.items shown c.restart.ensures.restarted.found (loaded.in_form (first_of_ready (state over_memory db) ready) honest_later) (loaded.good tt) (loaded.same_image tt)
+    let ready = ((runs_move tt old new serving honest entries answers run).serves c.in_ok-records.ensures.found.0).rows.ready in
+    let shown : (store_state over_memory store).may_leave (store_state over_memory store).rows = ((state over_memory store).committed.trees, refl, ap (λ (d : Database). rows_in d.trees) (sym ready.rest.committed)) in
+    let loaded = rw c.close-stopped.ensures.store at c.in-Ok-open.ensures.loaded in
+    let left = rw c.close-stopped.ensures.volume at c.restart.ensures.restarted.found in
+    resumed tt old new later entries answers serving c.in-Ok-init.ensures.new.begun run honest
+    (store_state over_memory store).rows c.restart.new.self.image.items shown left (loaded.in_form (first_of_ready (state over_memory store) ready) honest_later) (loaded.good tt) (loaded.same_image tt)
     (record { opened = c.in-Ok-open.ensures.opened.opened; image = loaded.image tt c.restart.ensures.restarted.settled; rows = loaded.rows (inl ready) honest_later })

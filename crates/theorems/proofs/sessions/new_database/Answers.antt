@@ -26,8 +26,4 @@ returns-clause-bare c = by c.open_in_memory.result c.open_in_memory.ensures.empt
     by (Err error) e = tt
 
 pub returns-clause-honest : goal.returns-clause-honest
-returns-clause-honest c = by c.open_in_memory.result
-  where
-    by : (r : Result (Held _) AllocError) → IfOk r (λ db. (store_state over_memory db).IsHonest)
-    by (Ok db) = memory_is_clean db
-    by (Err error) = tt
+returns-clause-honest c = elim c.open_in_memory.result as (λ r. IfOk r (λ db. (store_state over_memory db).IsHonest)) [ Ok db ↦ memory_is_clean db | Err error ↦ tt ]

@@ -1,10 +1,10 @@
-use Rattle.std.proofs.Common.{sym, ◌∙◌, ap, subst}
+use Rattle.std.proofs.Common.{◌∙◌, ap, subst}
 use Rattle.vault_volume.specs.Vault.{volume_of}
 use Rattle.sqlite.specs.Held.{state}
 use Rattle.custody_store.specs.StoreState.{store_state}
 use Rattle.custody_machine.specs.declared.answers.Failure.TheVariants.{NoMemory}
 use Rattle.custody.specs.Custody.{timed_commands, open_custody_of}
-use Rattle.theorems.specs.Sessions.{answers_of, IsServing, IsSession, IsNotOpened}
+use Rattle.theorems.specs.Sessions.{IsServing, IsNotOpened}
 use Rattle.custody.proofs.Migrated.{left_of_all}
 use Rattle.custody.proofs.OpenCustodyLemmas.{err_is}
 use Rattle.custody.proofs.Opened.{first_of_all, known_of_all}
@@ -26,9 +26,7 @@ returns-in-Ok-clause-served g c tells one all honest =
     let loaded = c.in_ok-custody.ensures.loaded in
     let serving : IsServing g.S.Store old = record { opened = c.in_ok-custody.ensures.opened.opened; image = loaded.image tells one; rows = loaded.rows all then } in
     let made = session_made tells old new rows image entries answers serving (loaded.in_form (first_of_all (state g.S.Store c.args.db) all) then) (loaded.good tells) (loaded.same_image tells) run clean in
-    let left = (store_state g.S.Store c.close-volume.result.1).may_leave in
-    subst (λ v. IsSession rows image entries (answers_of entries answers) left (g.V.Volume.left_at v (g.V.Volume.moment v))) (sym c.close-volume.ensures.volume)
-    (subst (λ db. let there = volume_of (open_custody_of new).vault in IsSession rows image entries (answers_of entries answers) (store_state g.S.Store db).may_leave (g.V.Volume.left_at there (g.V.Volume.moment there))) (sym c.close-volume.ensures.store) made)
+    rw (c.close-volume.ensures.volume, c.close-volume.ensures.store) made
 
 pub returns-in_err-custody-clause-failed : goal.returns-in_err-custody-clause-failed
 returns-in_err-custody-clause-failed g c tells one all =
@@ -57,6 +55,4 @@ returns-in-Err-clause-failed g c tells one all honest =
       cause = tt;
       leaves = left_of_all g.V.Volume g.S.Store c.args.volume c.args.db there old.store _ c.in_ok-custody.ensures.reads c.in_ok-custody.ensures.migrates tells one all clean;
     } in
-    let left = (store_state g.S.Store c.close-volume.result.1).may_leave in
-    subst (λ v. IsNotOpened rows image NoMemory left (g.V.Volume.left_at v (g.V.Volume.moment v))) (sym same_volume)
-    (subst (λ db. IsNotOpened rows image NoMemory (store_state g.S.Store db).may_leave (g.V.Volume.left_at there (g.V.Volume.moment there))) (sym same_store) made)
+    rw (same_volume, same_store) made

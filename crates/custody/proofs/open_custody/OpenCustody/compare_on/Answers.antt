@@ -1,5 +1,5 @@
 use Rattle.std.proofs.Common.{◌≡◌, ◌+◌, ◌-◌, ◌*◌, ◌<◌, ◌≤◌, ◌^◌, List, ℕ, ◌++◌, length, take, drop, refl, sym, ◌∙◌, ap, subst, arith, rules, append-nil}
-use Rattle.std.specs.Prelude.{All}
+use Rattle.std.specs.Prelude.{All, min}
 use Rattle.std.specs.Slice.Iter.{chunks_rest}
 use Rattle.std.proofs.lemmas.List.{length-take-le, nil_from_length}
 use Rattle.extent_map.specs.declared.extent.Extent.{Extent}
@@ -13,21 +13,12 @@ use Rattle.custody.proofs.Uploads.{compared_fails, compared_more, compared_still
 use Rattle.custody.proofs.OpenCustodyLemmas.{on_ok}
 use Rattle.custody.proofs.open_custody.OpenCustody.compare_on.Goals as goal
 
-pub loop-piece-init : goal.loop-piece-init
-loop-piece-init g c = (search rules, tt, search rules, λ s sent both within. (sent, both, ap (λ (l : List ℕ). sent ++ l) (search rules)))
-
-pub slice_bounds-buffer-end : goal.slice_bounds-buffer-end
-slice_bounds-buffer-end g c =
-    let room : length c.loop-piece.buffer ≡ 32768 = search rules in
-    let fits = piece_fits c.in-Some.piece.now _ _ c.loop-piece.invariant.2 c.in-Some.ensures.steps.1.1 in
-    omega (arith, room, fits)
-
-pub slice_bounds-kept-end : goal.slice_bounds-kept-end
-slice_bounds-kept-end g c =
-    let room : length c.loop-piece.buffer ≡ 32768 = search rules in
-    let fits = piece_fits c.in-Some.piece.now _ _ c.loop-piece.invariant.2 c.in-Some.ensures.steps.1.1 in
-    let long : length (take (length c.in-Some.piece.now) c.loop-piece.buffer) ≡ length c.in-Some.piece.now = length-take-le (length c.in-Some.piece.now) c.loop-piece.buffer (omega (arith, room, fits)) in
-    omega (arith, long)
+-- the buffer is longer than a piece
+piece_read : (piece left buffer : List ℕ) (size : ℕ) → size ≡ 32_768 → length piece ≡ min size (length left) → length buffer ≡ 32_768
+    → length (take (length piece) buffer) ≡ length piece
+piece_read piece left buffer size is steps room =
+    let fits = piece_fits piece left size is steps in
+    length-take-le (length piece) buffer (omega (arith, room, fits))
 
 pub read_piece-read-requires-clause-range : goal.read_piece-read-requires-clause-range
 read_piece-read-requires-clause-range g c =
@@ -46,9 +37,7 @@ read_piece-read-requires-clause-fits g c =
     let counts = held.counts in
     let done = so_far.1.0.done in
     let same = so_far.1.1 in
-    let room : length c.loop-piece.buffer ≡ 32768 = search rules in
-    let fits = piece_fits piece _ _ c.loop-piece.invariant.2 c.in-Some.ensures.steps.1.1 in
-    let long : length (take (length piece) c.loop-piece.buffer) ≡ length piece = length-take-le (length piece) c.loop-piece.buffer (omega (arith, room, fits)) in
+    let long : length (take (length piece) c.loop-piece.buffer) ≡ length piece = piece_read piece _ c.loop-piece.buffer _ c.loop-piece.invariant.2 c.in-Some.ensures.steps.1.1 (search rules) in
     subst (λ (es : List Extent). c.loop-piece.comparing.done + length (take (length piece) c.loop-piece.buffer) ≤ 4096 * blocks_of es) (sym c.deref.ensures.value) (omega (arith, counts, done, same, within, long))
 
 pub read_piece-read-requires-clause-count : goal.read_piece-read-requires-clause-count
@@ -89,9 +78,7 @@ returns-then-ne g c = λ s sent both within.
     let so_far = c.loop-piece.invariant.3 s sent both within in
     let next = piece_next so_far.0 _ piece rest _ so_far.2 c.in-Some.ensures.steps.1.0 in
     let h = c.read_piece-read.ensures in
-    let room : length c.loop-piece.buffer ≡ 32768 = search rules in
-    let fits = piece_fits piece _ _ c.loop-piece.invariant.2 c.in-Some.ensures.steps.1.1 in
-    let long : length (take (length piece) c.loop-piece.buffer) ≡ length piece = length-take-le (length piece) c.loop-piece.buffer (omega (arith, room, fits)) in
+    let long : length (take (length piece) c.loop-piece.buffer) ≡ length piece = piece_read piece _ c.loop-piece.buffer _ c.loop-piece.invariant.2 c.in-Some.ensures.steps.1.1 (search rules) in
     c.answer_other_bytes.ensures s so_far.0 (sent ++ c.args.bytes.now)
     (compared_still g.S.Store s before new it so_far.0 so_far.1.0 refl refl (record { free = h.free; size = h.size; image = h.image; any_moment = h.any_moment })
     (none_failed c.read_piece-read.result c.is_err.result _ _ c.is_err.ensures.value c.if-is_err.false h.failures))
@@ -103,9 +90,6 @@ returns-then-ne g c = λ s sent both within.
     differs_whole g.S.Store s before new it so_far.0 piece c.read_piece-read.new.out so_far.1.0 tells got (ne_differs c.ne.result c.read_piece-read.new.out piece c.ne.ensures c.if-ne.true) so_far.1.1
     (piece_within so_far.0 piece rest sent c.args.bytes.now s.len next within) body
     (continues_more (so_far.0 ++ piece) rest s.len body (subst (λ (l : List ℕ). Continues l s.len body) (sym next) comes)))
-
-pub overflow_cast-comparing : goal.overflow_cast-comparing
-overflow_cast-comparing g c = let fits = piece_fits c.in-Some.piece.now _ _ c.loop-piece.invariant.2 c.in-Some.ensures.steps.1.1 in omega (arith, fits)
 
 pub overflow_add-comparing : goal.overflow_add-comparing
 overflow_add-comparing g c =
@@ -129,9 +113,7 @@ loop-piece-preserved g c = (
       let piece = c.in-Some.piece.now in
       let so_far = c.loop-piece.invariant.3 s sent both within in
       let h = c.read_piece-read.ensures in
-      let room : length c.loop-piece.buffer ≡ 32768 = search rules in
-      let fits = piece_fits piece _ _ c.loop-piece.invariant.2 c.in-Some.ensures.steps.1.1 in
-      let long : length (take (length piece) c.loop-piece.buffer) ≡ length piece = length-take-le (length piece) c.loop-piece.buffer (omega (arith, room, fits)) in
+      let long : length (take (length piece) c.loop-piece.buffer) ≡ length piece = piece_read piece _ c.loop-piece.buffer _ c.loop-piece.invariant.2 c.in-Some.ensures.steps.1.1 (search rules) in
       let compared = compared_more g.S.Store s before new it so_far.0 so_far.0 so_far.1.0 refl refl (record { free = h.free; size = h.size; image = h.image; any_moment = h.any_moment }) piece
       (none_failed c.read_piece-read.result c.is_err.result _ _ c.is_err.ensures.value c.if-is_err.false h.failures)
       (λ tells.

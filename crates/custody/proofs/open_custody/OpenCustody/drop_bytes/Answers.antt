@@ -13,7 +13,7 @@ use Rattle.custody.specs.declared.open_custody.OpenCustody.{OpenCustody}
 use Rattle.custody.specs.OpenCustody.{current_records, store_state_of}
 use Rattle.custody.proofs.Done.{failed_as, commits_done, commits_in_doubt}
 use Rattle.custody.proofs.PurgeLemmas.{purge_means}
-use Rattle.custody.proofs.Purges.{dropped_records, unlisted_done, purge_change, due_are_used, purge_goes_on, records_then, reply_then}
+use Rattle.custody.proofs.Purges.{dropped_records, unlisted_done, purge_change, due_are_used, purge_goes_on}
 use Rattle.custody.proofs.open_custody.OpenCustody.drop_bytes.Goals as goal
 
 pub returns-in_err-due : goal.returns-in_err-due
@@ -23,8 +23,7 @@ pub returns-in_err-drop_bytes : goal.returns-in_err-drop_bytes
 returns-in_err-drop_bytes g c =
     let old = c.args.self.now in
     let database = g.S.Store in
-    commits_in_doubt database old c.requires.order Purge c.args.now (record { vault = old.vault; store = c.drop_bytes.new.self; records = old.records })
-    (records_then database old c.requires.order c.args.now c.requires.ruled) (reply_then database old c.requires.order c.args.now c.requires.ruled)
+    commits_in_doubt database old c.requires.order Purge c.args.now (record { vault = old.vault; store = c.drop_bytes.new.self; records = old.records }) _ _
     (purge_change database old c.requires.order c.args.now c.requires.ruled old.vault refl c.drop_bytes.new.self old.records)
     (Err c.in_err-drop_bytes.field-0.0) _ c.in_err-drop_bytes.ensures.commits
     (λ is. (ap (λ today. form_of (row.rows_without_due today (store_state_of database old).rows)) c.day-today.ensures.value ∙ purge_means (day_of c.args.now) (store_state_of database old).rows (current_records old) is.1 is.0, is.1))
@@ -49,8 +48,7 @@ returns g c =
     let same : current_records new ≡ records_without_due (day_of c.args.now) (current_records old) =
     dropped_records c.day-today.result (current_records old) (records_of c.drop_due.new.self) c.drop_due.ensures.parts c.drop_due.ensures.others ∙ ap (λ day. records_without_due day (current_records old)) today in
     let count : c.count_due-count.result ≡ count_due_records (day_of c.args.now) (current_records old) = c.count_due-count.ensures ∙ ap (λ day. count_due_records day (current_records old)) today in
-    commits_done database old c.requires.order Purge c.args.now new
-    (records_then database old c.requires.order c.args.now c.requires.ruled) (reply_then database old c.requires.order c.args.now c.requires.ruled)
+    commits_done database old c.requires.order Purge c.args.now new _ _
     (purge_goes_on database old c.requires.order c.args.now c.requires.ruled due
     (subst (λ day. (b : ℕ) → (IsInAny due b → IsDueBlock day (current_records old) b) × (IsDueBlock day (current_records old) b → IsInAny due b)) today c.in_ok-due.ensures.exact)
     c.give_back.new.self c.give_back.ensures.volume c.drop_bytes.new.self c.drop_due.new.self

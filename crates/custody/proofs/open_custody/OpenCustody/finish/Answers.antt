@@ -1,13 +1,11 @@
-use Rattle.std.proofs.Common.{◌≡◌, ℕ, [], None, refl, sym, subst, append-nil, Err}
-use Rattle.std.specs.FinMap.{get}
-use Rattle.custody_records.specs.Records.{Records, key_of}
+use Rattle.std.proofs.Common.{ℕ, [], refl, sym, subst, append-nil, Err}
 use Rattle.custody_machine.specs.Machine.{Receive}
 use Rattle.custody_machine.specs.Rulings.{AddsPart, GoRuling, Decides}
 use Rattle.custody_machine.specs.declared.answers.Failure.TheVariants.{VolumeFailed}
 use Rattle.custody.specs.declared.open_custody.OpenCustody.{OpenCustody}
 use Rattle.custody.specs.declared.answers.Refused.TheVariants as refused
 use Rattle.custody.specs.OpenCustody.{current_records, HasExecuted}
-use Rattle.custody.proofs.Uploads.{some_bytes, synced_fails, written_staged}
+use Rattle.custody.proofs.Uploads.{synced_fails, written_staged}
 use Rattle.custody.proofs.open_custody.OpenCustody.finish.Goals as goal
 
 pub returns-in_default : goal.returns-in_default
@@ -16,12 +14,6 @@ returns-in_default g c = λ s body is full now.
     let h = c.in_default.ensures in
     subst (λ (n : ℕ). HasExecuted g.S.Store s.start (Receive s.text body) n (Err (refused.Failure VolumeFailed)) new) now
     ((synced_fails g.S.Store s c.args.self.now new c.args.writing body is refl refl h.given_back h.failures h.image h.any_moment).done body (full, [], sym (append-nil body)))
-
-pub keep_staged-requires-clause-new : goal.keep_staged-requires-clause-new
-keep_staged-requires-clause-new g c =
-    let is = c.requires.2 in
-    let bytes = some_bytes c.requires.0.len in
-    subst (λ (r : Records). get r.parts (key_of c.args.writing.name) ≡ None) (sym is.records) (is.decides bytes.0 bytes.1).0.1
 
 pub returns : goal.returns
 returns g c = λ s body is full now.

@@ -26,8 +26,7 @@ returns-in_err-insert_notice g c =
     let tld = c.args.tld in
     let key : ◌≡◌ {A = NoticeKey} (record { tld = tld; number = c.in_ok-number.number }) (next_key (current_records old).notices tld) = λ i. record { tld = tld; number = c.in_ok-number.ensures.next i } in
     let notice = absence_notice c.args.day c.args.now in
-    commits_in_doubt g.S.Store old c.requires.order (Check tld c.args.day) c.args.now (record { vault = old.vault; store = c.insert_notice.new.self; records = c.reserve_number.new.records })
-    (with_notice (current_records old) (next_key (current_records old).notices tld) notice) (record { entry = OfNotice (next_key (current_records old).notices tld) notice; is_repeat = false })
+    commits_in_doubt g.S.Store old c.requires.order (Check tld c.args.day) c.args.now (record { vault = old.vault; store = c.insert_notice.new.self; records = c.reserve_number.new.records }) _ _
     (absence_change g.S.Store old c.requires.order tld c.args.day c.args.now c.requires.ruled c.insert_notice.new.self c.reserve_number.new.records).change
     (Err c.in_err-insert_notice.field-0.0) _ c.in_err-insert_notice.ensures.commits
     (λ is. (
@@ -50,8 +49,7 @@ returns g c =
     let notice = absence_notice c.args.day c.args.now in
     let new : OpenCustody g.row.V.Denot g.row.S.Denot g.V.Volume = record { vault = old.vault; store = c.insert_notice.new.self; records = c.add_notice.new.self } in
     let same : current_records new ≡ with_notice (current_records old) (next_key (current_records old).notices tld) notice = c.add_notice.ensures ∙ (λ i. with_notice (c.in_ok-number.ensures.same i) (key i) notice) in
-    commits_done g.S.Store old c.requires.order (Check tld c.args.day) c.args.now new
-    (with_notice (current_records old) (next_key (current_records old).notices tld) notice) (record { entry = OfNotice (next_key (current_records old).notices tld) notice; is_repeat = false })
+    commits_done g.S.Store old c.requires.order (Check tld c.args.day) c.args.now new _ _
     (absence_change g.S.Store old c.requires.order tld c.args.day c.args.now c.requires.ruled c.insert_notice.new.self c.add_notice.new.self)
     (Ok tt) _ c.in_ok-insert_notice.ensures.commits
     (λ is. (

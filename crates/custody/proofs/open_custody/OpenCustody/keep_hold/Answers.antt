@@ -4,7 +4,7 @@ use Rattle.custody_records.specs.inside.Orders.{text_total}
 use Rattle.custody_records.specs.Records.{Records, new_hold, with_hold}
 use Rattle.custody_records.specs.Rows.{with_hold_row}
 use Rattle.custody_records.specs.RowsOfRecords.{row_of_hold}
-use Rattle.custody_machine.specs.Machine.{Hold, OfHold}
+use Rattle.custody_machine.specs.Machine.{Hold}
 use Rattle.custody_machine.specs.Rulings.{AddsHold, GoRuling}
 use Rattle.custody_machine.proofs.Accepting.{insert_here}
 use Rattle.custody.specs.declared.answers.Record.TheVariants as of
@@ -22,8 +22,7 @@ pub returns-in_err-insert_hold : goal.returns-in_err-insert_hold
 returns-in_err-insert_hold g c =
     let old = c.args.self.now in
     let hold = new_hold c.args.tld c.args.day c.args.now in
-    commits_in_doubt g.S.Store old c.requires.order (Hold c.args.reference c.args.tld c.args.day) c.args.now (record { vault = old.vault; store = c.insert_hold.new.self; records = c.reserve_hold.new.self })
-    (with_hold (current_records old) c.args.reference hold) (record { entry = OfHold c.args.reference hold; is_repeat = false })
+    commits_in_doubt g.S.Store old c.requires.order (Hold c.args.reference c.args.tld c.args.day) c.args.now (record { vault = old.vault; store = c.insert_hold.new.self; records = c.reserve_hold.new.self }) _ _
     (hold_change g.S.Store old c.requires.order c.args.reference c.args.tld c.args.day c.args.now c.requires.ruled c.insert_hold.new.self c.reserve_hold.new.self).change
     (Err c.in_err-insert_hold.field-0.0) (with_hold_row (row_of_hold c.args.reference hold) (store_state_of g.S.Store old).rows) c.in_err-insert_hold.ensures.commits
     (λ is. (hold_means (store_state_of g.S.Store old).rows (current_records old) is.1 is.0 c.args.reference hold c.in_err-insert_hold.ensures.in_form c.requires.ruled.0.1, is.1))
@@ -39,8 +38,7 @@ returns g c =
     let hold = new_hold c.args.tld c.args.day c.args.now in
     let new : OpenCustody g.row.V.Denot g.row.S.Denot g.V.Volume = record { vault = old.vault; store = c.insert_hold.new.self; records = c.add_hold.new.self } in
     let same : current_records new ≡ with_hold (current_records old) c.args.reference hold = c.add_hold.ensures ∙ (λ i. with_hold (c.in_ok-reserve_hold.ensures.same i) c.args.reference hold) in
-    commits_done g.S.Store old c.requires.order (Hold c.args.reference c.args.tld c.args.day) c.args.now new
-    (with_hold (current_records old) c.args.reference hold) (record { entry = OfHold c.args.reference hold; is_repeat = false })
+    commits_done g.S.Store old c.requires.order (Hold c.args.reference c.args.tld c.args.day) c.args.now new _ _
     (hold_change g.S.Store old c.requires.order c.args.reference c.args.tld c.args.day c.args.now c.requires.ruled c.insert_hold.new.self c.add_hold.new.self)
     (Ok tt) (with_hold_row (row_of_hold c.args.reference hold) (store_state_of g.S.Store old).rows) c.in_ok-insert_hold.ensures.commits
     (λ is. (hold_means (store_state_of g.S.Store old).rows (current_records old) is.1 is.0 c.args.reference hold c.in_ok-insert_hold.ensures.in_form c.requires.ruled.0.1, is.1))

@@ -3,7 +3,7 @@ use Rattle.std.specs.FinMap.{get}
 use Rattle.custody_records.specs.inside.Orders.{text_total}
 use Rattle.custody_machine.proofs.Accepting.{insert_here}
 use Rattle.custody_records.specs.Records.{with_registry}
-use Rattle.custody_machine.specs.Machine.{Register, OfRegistry}
+use Rattle.custody_machine.specs.Machine.{Register}
 use Rattle.custody_machine.proofs.Composed.{register_adds}
 use Rattle.custody.specs.declared.answers.Reply.{Reply}
 use Rattle.custody.specs.declared.answers.Record.TheVariants as of
@@ -25,8 +25,7 @@ returns-in_err-reserve_registry g c = λ now. failed_as c.from_residual.ensures.
 pub returns-in_err-insert_registry : goal.returns-in_err-insert_registry
 returns-in_err-insert_registry g c = λ now.
     let old = c.args.self.now in
-    commits_in_doubt g.S.Store old c.requires.order (Register c.args.registry.tld c.args.registry.first_day) now (record { vault = old.vault; store = c.insert_registry.new.self; records = c.reserve_registry.new.self })
-    (with_registry (current_records old) c.args.registry.tld c.args.registry.first_day) (record { entry = OfRegistry c.args.registry.tld c.args.registry.first_day; is_repeat = false })
+    commits_in_doubt g.S.Store old c.requires.order (Register c.args.registry.tld c.args.registry.first_day) now (record { vault = old.vault; store = c.insert_registry.new.self; records = c.reserve_registry.new.self }) _ _
     (registry_change g.S.Store old c.requires.order c.args.registry.tld c.args.registry.first_day now c.requires.new c.insert_registry.new.self c.reserve_registry.new.self).change
     (Err c.in_err-insert_registry.field-0.0) _ c.in_err-insert_registry.ensures.commits
     (λ is. (registry_means (store_state_of g.S.Store old).rows (current_records old) c.args.registry.tld c.args.registry.first_day is.0 c.in_err-insert_registry.ensures.in_form.0 c.in_err-insert_registry.ensures.in_form.1 c.requires.new, is.1))
@@ -39,8 +38,7 @@ returns g c = λ now.
     let answer : Reply = record { «record» = of.Registry c.args.registry.tld c.args.registry.first_day; is_repeat = false } in
     let same = c.add_registry.ensures ∙ ap (λ r. with_registry r c.args.registry.tld c.args.registry.first_day) c.in_ok-reserve_registry.ensures.same in
     subst (λ told. HasExecuted g.S.Store old (Register c.args.registry.tld c.args.registry.first_day) now (Ok (record { «record» = told; is_repeat = false })) (record { vault = old.vault; store = c.insert_registry.new.self; records = c.add_registry.new.self })) (sym c.from.ensures)
-    (commits_done g.S.Store old c.requires.order (Register c.args.registry.tld c.args.registry.first_day) now (record { vault = old.vault; store = c.insert_registry.new.self; records = c.add_registry.new.self })
-    (with_registry (current_records old) c.args.registry.tld c.args.registry.first_day) (record { entry = OfRegistry c.args.registry.tld c.args.registry.first_day; is_repeat = false })
+    (commits_done g.S.Store old c.requires.order (Register c.args.registry.tld c.args.registry.first_day) now (record { vault = old.vault; store = c.insert_registry.new.self; records = c.add_registry.new.self }) _ _
     (registry_change g.S.Store old c.requires.order c.args.registry.tld c.args.registry.first_day now c.requires.new c.insert_registry.new.self c.add_registry.new.self)
     (Ok tt) _ c.in_ok-insert_registry.ensures.commits
     (λ is. (registry_means (store_state_of g.S.Store old).rows (current_records old) c.args.registry.tld c.args.registry.first_day is.0 c.in_ok-insert_registry.ensures.in_form.0 c.in_ok-insert_registry.ensures.in_form.1 c.requires.new, is.1))

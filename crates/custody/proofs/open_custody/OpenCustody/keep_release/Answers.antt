@@ -29,8 +29,7 @@ returns-in_err-insert_release g c =
     let release = release_of_records (current_records old) c.args.tld c.args.reason c.args.now in
     let names : AreRecordedNames (current_records old) c.args.tld (held_record_names (current_records old) c.args.tld) = subst (λ (r : recorded_in.Release). AreRecordedNames (current_records old) c.args.tld r.names) h.ensures.value h.ensures.recorded in
     let in_form : IsRelease c.args.reference release = subst (λ k. IsRelease k release) h.ensures.key (subst (IsRelease (release_key h.release)) h.ensures.value c.in_err-insert_release.ensures.in_form) in
-    commits_in_doubt g.S.Store old c.requires.order (Release c.args.reference c.args.tld c.args.reason) c.args.now (record { vault = old.vault; store = c.insert_release.new.self; records = c.list_release.new.records })
-    (with_release (current_records old) c.args.reference release) (record { entry = OfRelease c.args.reference release; is_repeat = false })
+    commits_in_doubt g.S.Store old c.requires.order (Release c.args.reference c.args.tld c.args.reason) c.args.now (record { vault = old.vault; store = c.insert_release.new.self; records = c.list_release.new.records }) _ _
     (release_change g.S.Store old c.requires.order c.args.reference c.args.tld c.args.reason c.args.now c.requires.ruled names c.insert_release.new.self c.list_release.new.records).change
     (Err c.in_err-insert_release.field-0.0) _ c.in_err-insert_release.ensures.commits
     (λ is. (
@@ -40,11 +39,6 @@ returns-in_err-insert_release g c =
     ))
     c.in_err-insert_release.ensures.kind c.from_residual-in_err-insert_release.ensures.1
     (GoRuling (AddsRelease c.args.reference c.args.tld c.args.reason), c.requires.ruled, inr refl)
-
-pub add_release-requires-clause-new : goal.add_release-requires-clause-new
-add_release-requires-clause-new g c =
-    let h = c.in_ok-release in
-    (λ i. get (c.in_ok-release.ensures.same i).releases (h.ensures.key i)) ∙ c.requires.ruled.0.1
 
 pub returns : goal.returns
 returns g c =
@@ -56,8 +50,7 @@ returns g c =
     let new : OpenCustody g.row.V.Denot g.row.S.Denot g.V.Volume = record { vault = old.vault; store = c.insert_release.new.self; records = c.add_release.new.self } in
     let same : current_records new ≡ with_release (current_records old) c.args.reference release = c.add_release.ensures ∙ (λ i. with_release (c.in_ok-release.ensures.same i) (h.ensures.key i) (h.ensures.value i)) in
     let told : OfRelease (release_key h.told) (release_value h.told) ≡ OfRelease c.args.reference release = (λ i. OfRelease (release_key (h.ensures.copy i)) (release_value (h.ensures.copy i))) ∙ (λ i. OfRelease (h.ensures.key i) (h.ensures.value i)) in
-    commits_done g.S.Store old c.requires.order (Release c.args.reference c.args.tld c.args.reason) c.args.now new
-    (with_release (current_records old) c.args.reference release) (record { entry = OfRelease c.args.reference release; is_repeat = false })
+    commits_done g.S.Store old c.requires.order (Release c.args.reference c.args.tld c.args.reason) c.args.now new _ _
     (release_change g.S.Store old c.requires.order c.args.reference c.args.tld c.args.reason c.args.now c.requires.ruled names c.insert_release.new.self c.add_release.new.self)
     (Ok tt) _ c.in_ok-insert_release.ensures.commits
     (λ is. (

@@ -1,6 +1,6 @@
 use Rattle.std.proofs.Common.{false, ◌≡◌, refl, sym, ◌∙◌, subst, Result, Ok, Err, Some, inr}
 use Rattle.custody_records.specs.Records.{key_of, with_part, staged_record}
-use Rattle.custody_machine.specs.Machine.{Receive, OfPart, received_part}
+use Rattle.custody_machine.specs.Machine.{Receive}
 use Rattle.custody_machine.specs.Rulings.{AddsPart, GoRuling}
 use Rattle.custody.specs.declared.answers.Record.TheVariants as of
 use Rattle.custody.specs.declared.answers.Record.{Record}
@@ -24,9 +24,7 @@ over_same database first same new after result is commits = subst (λ s. Commits
 pub returns-in_err-extents : goal.returns-in_err-extents
 returns-in_err-extents g c = λ old text bytes order ruled staged.
     let new : OpenCustody g.row.V.Denot g.row.S.Denot g.V.Volume = record { vault = c.args.self.now.vault; store = c.insert_part.new.self; records = c.args.self.now.records } in
-    let changed = with_part (current_records old) (key_of c.args.name.now) (staged_record c.args.name.now c.args.now c.args.staged) in
-    commits_in_doubt g.S.Store old order (Receive text bytes) c.args.now new changed
-    (record { entry = OfPart (key_of c.args.name.now) (received_part c.args.name.now bytes c.args.now); is_repeat = false })
+    commits_in_doubt g.S.Store old order (Receive text bytes) c.args.now new _ _
     (kept_change old new text bytes c.args.now c.args.name.now order ruled c.args.staged staged.placed g.S.Store staged.size staged.failures staged.settled staged.any_moment).change
     (Err c.in_err-extents.field-0.0) _ (over_same g.S.Store c.args.self.now.store old.store c.insert_part.new.self (with_part_row (row_of_part (key_of c.args.name.now) (staged_record c.args.name.now c.args.now c.args.staged))) (Err c.in_err-extents.field-0.0) staged.store c.in_err-extents.ensures.commits)
     (λ is. (kept_means old new text bytes c.args.now c.args.name.now order ruled c.args.staged staged.placed c.in_err-extents.ensures.in_form (store_state_of g.S.Store old).rows is.0, is.1))
@@ -43,8 +41,7 @@ returns g c = λ old text bytes order ruled staged.
     let told : Record = of.Part c.args.name.now c.args.now c.in_ok-extents.len c.in_ok-extents.digest c.copy_into.result in
     let shows : IsRecordOfPart told c.args.name.now (staged_record c.args.name.now c.args.now c.args.staged) =
     (refl, λ i. record { kind = c.args.name.now.kind; received = c.args.now; len = sym handed.1 i; digest = sym handed.2 i; extents = Some ((sym handed.0 ∙ sym (c.copy_into.ensures ∙ c.deref.ensures.value)) i) }) in
-    commits_done g.S.Store old order (Receive text bytes) c.args.now new changed
-    (record { entry = OfPart (key_of c.args.name.now) (received_part c.args.name.now bytes c.args.now); is_repeat = false })
+    commits_done g.S.Store old order (Receive text bytes) c.args.now new _ _
     (kept_change old new text bytes c.args.now c.args.name.now order ruled c.args.staged staged.placed g.S.Store staged.size staged.failures staged.settled staged.any_moment)
     (Ok (c.in_ok-extents.extents, c.in_ok-extents.len, c.in_ok-extents.digest)) _ (over_same g.S.Store c.args.self.now.store old.store c.insert_part.new.self (with_part_row (row_of_part (key_of c.args.name.now) (staged_record c.args.name.now c.args.now c.args.staged))) (Ok (c.in_ok-extents.extents, c.in_ok-extents.len, c.in_ok-extents.digest)) staged.store c.in_ok-extents.ensures.commits)
     (λ is. (kept_means old new text bytes c.args.now c.args.name.now order ruled c.args.staged staged.placed c.in_ok-extents.ensures.in_form (store_state_of g.S.Store old).rows is.0, is.1))

@@ -45,8 +45,7 @@ returns-in_err-insert_notice g c =
     let number = c.in_ok-number.ensures.next in
     let key : notice_key c.notice_of-notice.result ≡ next_key (current_records old).notices stated.tld = c.notice_of-notice.ensures.key ∙ (λ i. record { tld = stated.tld; number = number i }) in
     let new : OpenCustody g.row.V.Denot g.row.S.Denot g.V.Volume = record { vault = c.verify_stated.new.vault; store = c.insert_notice.new.self; records = c.reserve_number.new.records } in
-    commits_in_doubt g.S.Store old c.requires.order (Statement stated) c.args.now new
-    (with_notice (current_records old) (next_key (current_records old).notices stated.tld) (verdict_notice stated found c.args.now)) (record { entry = OfNotice (next_key (current_records old).notices stated.tld) (verdict_notice stated found c.args.now); is_repeat = false })
+    commits_in_doubt g.S.Store old c.requires.order (Statement stated) c.args.now new _ _
     (verdict_change g.S.Store old c.requires.order stated c.args.now c.requires.ruled found new h.read h.failures (λ tells. subst (λ r. IsVerified (Ok found) r (image_of old) stated) c.in_ok-number.ensures.same (h.verified tells))).change
     (Err c.in_err-insert_notice.field-0.0) _ c.in_err-insert_notice.ensures.commits
     (λ is. (
@@ -76,8 +75,7 @@ returns g c =
     let value : notice_value c.notice_of-notice.result ≡ verdict_notice stated found c.args.now = c.notice_of-notice.ensures.value in
     let new : OpenCustody g.row.V.Denot g.row.S.Denot g.V.Volume = record { vault = c.verify_stated.new.vault; store = c.insert_notice.new.self; records = c.add_notice.new.self } in
     let same : current_records new ≡ with_notice (current_records old) (next_key (current_records old).notices stated.tld) (verdict_notice stated found c.args.now) = c.add_notice.ensures ∙ (λ i. with_notice (c.in_ok-number.ensures.same i) (key i) (value i)) in
-    commits_done g.S.Store old c.requires.order (Statement stated) c.args.now new
-    (with_notice (current_records old) (next_key (current_records old).notices stated.tld) (verdict_notice stated found c.args.now)) (record { entry = OfNotice (next_key (current_records old).notices stated.tld) (verdict_notice stated found c.args.now); is_repeat = false })
+    commits_done g.S.Store old c.requires.order (Statement stated) c.args.now new _ _
     (verdict_change g.S.Store old c.requires.order stated c.args.now c.requires.ruled found new h.read h.failures (λ tells. subst (λ r. IsVerified (Ok found) r (image_of old) stated) c.in_ok-number.ensures.same (h.verified tells)))
     (Ok tt) _ c.in_ok-insert_notice.ensures.commits
     (λ is. (

@@ -7,7 +7,7 @@ use Rattle.custody_records.specs.Records.{Records, lifted_at, with_hold}
 use Rattle.custody_records.specs.Rows.{with_lifting}
 use Rattle.custody_records.specs.TypedRecords.{hold_key, hold_value}
 use Rattle.custody_records.specs.declared.holds.Hold as ordered
-use Rattle.custody_machine.specs.Machine.{Lift, OfLifting}
+use Rattle.custody_machine.specs.Machine.{Lift}
 use Rattle.custody_machine.specs.Rulings.{LiftsHold, GoRuling}
 use Rattle.custody_machine.proofs.Accepting.{insert_here}
 use Rattle.custody.specs.declared.answers.Record.TheVariants as of
@@ -24,8 +24,7 @@ returns-in_err-lift_hold g c =
     let old = c.args.self.now in
     let reference = c.args.reference.now in
     let ruled = c.requires.ruled in
-    commits_in_doubt g.S.Store old c.requires.order (Lift reference) c.args.now (record { vault = old.vault; store = c.lift_hold.new.self; records = old.records })
-    (with_hold (current_records old) reference (lifted_at c.args.now ruled.0.1)) (record { entry = OfLifting reference c.args.now; is_repeat = false })
+    commits_in_doubt g.S.Store old c.requires.order (Lift reference) c.args.now (record { vault = old.vault; store = c.lift_hold.new.self; records = old.records }) _ _
     (lift_change g.S.Store old c.requires.order reference c.args.now ruled c.lift_hold.new.self old.records).change
     (Err c.in_err-lift_hold.field-0.0) (with_lifting reference c.args.now (store_state_of g.S.Store old).rows) c.in_err-lift_hold.ensures.commits
     (λ is. (lifting_means (store_state_of g.S.Store old).rows (current_records old) is.1 is.0 reference c.args.now c.in_err-lift_hold.ensures.in_form ruled.0.1 ruled.0.2, is.1))
@@ -44,8 +43,7 @@ returns g c =
     let value : hold_value kept ≡ ruled.0.1 = cc in
     let new : OpenCustody g.row.V.Denot g.row.S.Denot g.V.Volume = record { vault = old.vault; store = c.lift_hold.new.self; records = c.lift_hold-2.new.self } in
     let same : current_records new ≡ with_hold (current_records old) reference hold = c.lift_hold-2.ensures ∙ (λ i. with_hold (current_records old) (key i) (lifted_at c.args.now (value i))) in
-    commits_done g.S.Store old c.requires.order (Lift reference) c.args.now new
-    (with_hold (current_records old) reference hold) (record { entry = OfLifting reference c.args.now; is_repeat = false })
+    commits_done g.S.Store old c.requires.order (Lift reference) c.args.now new _ _
     (lift_change g.S.Store old c.requires.order reference c.args.now ruled c.lift_hold.new.self c.lift_hold-2.new.self)
     (Ok tt) (with_lifting reference c.args.now (store_state_of g.S.Store old).rows) c.in_ok-lift_hold.ensures.commits
     (λ is. (lifting_means (store_state_of g.S.Store old).rows (current_records old) is.1 is.0 reference c.args.now c.in_ok-lift_hold.ensures.in_form ruled.0.1 ruled.0.2, is.1))

@@ -5,17 +5,7 @@ use Rattle.custody_rules.specs.Rulings.{change_of}
 use Rattle.custody.specs.OpenCustody.{current_records, HasExecuted}
 use Rattle.custody.proofs.open_custody.OpenCustody.make_change.Goals as goal
 
-pub keep_registry-requires-clause-new : goal.keep_registry-requires-clause-new
-keep_registry-requires-clause-new g c =
-    let ruled = subst (λ change. Decides (GoRuling (change_of change)) (current_records c.args.self.now) (command_of c.args.command.now) c.args.now) c.in-Registry.is c.requires.ruled in
-    ruled.0.1
-
 pub returns-in-Registry : goal.returns-in-Registry
 returns-in-Registry g c =
     let ruled = subst (λ change. Decides (GoRuling (change_of change)) (current_records c.args.self.now) (command_of c.args.command.now) c.args.now) c.in-Registry.is c.requires.ruled in
     subst (λ command. HasExecuted g.S.Store c.args.self.now command c.args.now c.keep_registry.result c.keep_registry.new.self) (sym ruled.0.0) (c.keep_registry.ensures c.args.now)
-
-pub unreachable-requires : goal.unreachable-requires
-unreachable-requires g c =
-    let ruled = subst (λ change. Decides (GoRuling (change_of change)) (current_records c.args.self.now) (command_of c.args.command.now) c.args.now) c.in-Part.is c.requires.ruled in
-    c.requires.other c.in-Part.field-0 ruled.0.0

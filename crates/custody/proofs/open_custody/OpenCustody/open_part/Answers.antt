@@ -12,7 +12,7 @@ use Rattle.custody.specs.Answers.{may_change}
 use Rattle.custody.specs.OpenCustody.{image_of}
 use Rattle.custody.proofs.Done.{no_memory_done}
 use Rattle.custody.proofs.Uploads.{part_sized, unstaged_unchanged}
-use Rattle.custody.proofs.OpenCustodyLemmas.{leaves_more, stays_still}
+use Rattle.vault_volume.proofs.Moments.{nothing_yet}
 use Rattle.custody.proofs.Unstaged.{unstaged_done}
 use Rattle.custody.proofs.open_custody.OpenCustody.open_part.Goals as goal
 
@@ -44,5 +44,5 @@ returns-in-Err g c = λ text now order decides.
           (λ e. absurd (h.not_failed (ap Err e))) (λ e. subst (λ (n : ℕ). HasFewer free (g.V.Volume.size (volume_of old.vault)) (block_count n)) (sym comes.0) (h.full (ap Err e)))
           (λ tells. subst (λ v. DiffersOnlyIn free (image_of old) (g.V.Volume.image v)) (sym h.volume) (same_in free (image_of old)))
           (λ tells kept. subst (λ v. LeavesOnly g.V.Volume.moment g.V.Volume.left_at (volume_of old.vault) v (DiffersOnlyIn free (image_of old))) (sym h.volume)
-          (leaves_more g.V.Volume.moment g.V.Volume.left_at (volume_of old.vault) (volume_of old.vault) _ _ kept.elsewhere (stays_still g.V.Volume.moment g.V.Volume.left_at (volume_of old.vault)))) (Err c.from.result) (ap Err c.from.ensures);
+          (nothing_yet g.V.Volume.moment g.V.Volume.left_at (volume_of old.vault) _ kept.elsewhere)) (Err c.from.result) (ap Err c.from.ensures);
     }

@@ -11,11 +11,5 @@ compare_on-requires g c =
     let both = subst (λ i. IsUploading g.S.Store c.requires.0 c.args.self.now i c.requires.1) c.in-Comparing.is c.requires.2 in
     (c.requires.0, c.requires.1, both, c.requires.3)
 
-pub returns-in-Writing : goal.returns-in-Writing
-returns-in-Writing g c = λ s sent taking within. c.write.ensures s sent (subst (λ i. IsUploading g.S.Store s c.args.self.now i sent) c.in-Writing.is taking) within
-
-pub returns-in-Comparing : goal.returns-in-Comparing
-returns-in-Comparing g c = λ s sent taking within. c.compare_on.ensures s sent (subst (λ i. IsUploading g.S.Store s c.args.self.now i sent) c.in-Comparing.is taking) within
-
 pub returns-in-Answered : goal.returns-in-Answered
 returns-in-Answered g c = λ s sent taking within. known_more g.S.Store s c.args.self.now c.in-Answered.answer sent c.args.bytes.now (subst (λ i. IsUploading g.S.Store s c.args.self.now i sent) c.in-Answered.is taking)
