@@ -27,38 +27,35 @@ are_lines key value line_at = record { none = refl; more = λ row rows. refl }
 pub are_texts : {Row K X : Type 0} (key : Row → K) (value : Row → X) (text : K × X → List ℕ) → IsTextOf (λ (rows : List Row). flat_map text (row_entries key value rows)) (λ row. text (key row, value row))
 are_texts key value text = record { none = refl; more = λ row rows. refl }
 
-text_join : {Row : Type 0} (text : List Row → List ℕ) (row_text : Row → List ℕ) → IsTextOf text row_text → (a b : List Row) → text (a ++ b) ≡ text a ++ text b
-text_join text row_text is [] b = ap (λ (t : List ℕ). t ++ text b) (sym is.none)
-text_join text row_text is (row ∷ a) b =
-    is.more row (a ++ b) ∙ ap (λ (t : List ℕ). row_text row ++ t) (text_join text row_text is a b) ∙ sym (append_assoc (row_text row) (text a) (text b))
-    ∙ ap (λ (t : List ℕ). t ++ text b) (sym (is.more row a))
+module _ {Row : Type 0} (text : List Row → List ℕ) (row_text : Row → List ℕ) (is : IsTextOf text row_text) where
+  text_join : (a b : List Row) → text (a ++ b) ≡ text a ++ text b
+  text_join [] b = ap (λ (t : List ℕ). t ++ text b) (sym is.none)
+  text_join (row ∷ a) b =
+      is.more row (a ++ b) ∙ ap (λ (t : List ℕ). row_text row ++ t) (text_join a b) ∙ sym (append_assoc (row_text row) (text a) (text b))
+      ∙ ap (λ (t : List ℕ). t ++ text b) (sym (is.more row a))
 
--- one row more
-text_step : {Row : Type 0} (text : List Row → List ℕ) (row_text : Row → List ℕ) → IsTextOf text row_text → (rows : List Row) (i : ℕ) (row : Row) → i < length rows → row ≡ get_or rows i row
-    → text (take i rows) ++ row_text row ≡ text (take (i + 1) rows)
-text_step {Row} text row_text is rows i row lt at =
-    let one : text (row ∷ []) ≡ row_text row = is.more row [] ∙ ap (λ (t : List ℕ). row_text row ++ t) is.none ∙ append-nil (row_text row) in
-    let more : take i rows ++ row ∷ [] ≡ take (i + 1) rows = ap (λ (r : Row). take i rows ++ r ∷ []) at ∙ sym (take_more rows i row lt) in
-    ap (λ (t : List ℕ). text (take i rows) ++ t) (sym one) ∙ sym (text_join text row_text is (take i rows) (row ∷ [])) ∙ ap text more
+  -- all rows were taken
+  pub rows_all : (old new : Option (List ℕ)) (rows : List Row) (i : ℕ) → length rows ≤ i → Appends old new (text (take i rows)) → Appends old new (text rows)
+  rows_all old new rows i past taken = subst (λ (rs : List Row). Appends old new (text rs)) (take_all i rows past) taken
 
--- the rows before one were taken, and it is
-pub rows_more : {Row : Type 0} (text : List Row → List ℕ) (row_text : Row → List ℕ) → IsTextOf text row_text → (old mid new : Option (List ℕ)) (rows : List Row) (i : ℕ) (row : Row) → i < length rows → row ≡ get_or rows i row
-    → Appends old mid (text (take i rows)) → Appends mid new (row_text row) → Appends old new (text (take (i + 1) rows))
-rows_more text row_text is old mid new rows i row lt at before here =
-    subst (λ (t : List ℕ). Appends old new t) (text_step text row_text is rows i row lt at) (Appends-trans old mid new (text (take i rows)) (row_text row) before here)
+  module _ (old mid new : Option (List ℕ)) (rows : List Row) (i : ℕ) (row : Row) (lt : i < length rows) (at : row ≡ get_or rows i row) (before : Appends old mid (text (take i rows))) where
+    -- one row more
+    text_step : text (take i rows) ++ row_text row ≡ text (take (i + 1) rows)
+    text_step =
+        let one : text (row ∷ []) ≡ row_text row = is.more row [] ∙ ap (λ (t : List ℕ). row_text row ++ t) is.none ∙ append-nil (row_text row) in
+        let more : take i rows ++ row ∷ [] ≡ take (i + 1) rows = ap (λ (r : Row). take i rows ++ r ∷ []) at ∙ sym (take_more rows i row lt) in
+        ap (λ (t : List ℕ). text (take i rows) ++ t) (sym one) ∙ sym (text_join (take i rows) (row ∷ [])) ∙ ap text more
 
--- or a beginning of it is
-pub rows_begin : {Row : Type 0} (text : List Row → List ℕ) (row_text : Row → List ℕ) → IsTextOf text row_text → (old mid new : Option (List ℕ)) (rows : List Row) (i : ℕ) (row : Row) → i < length rows → row ≡ get_or rows i row
-    → Appends old mid (text (take i rows)) → AppendsBeginning mid new (row_text row) → AppendsBeginning old new (text rows)
-rows_begin text row_text is old mid new rows i row lt at before here =
-    let begun : AppendsBeginning old new (text (take (i + 1) rows)) =
-    subst (λ (t : List ℕ). AppendsBeginning old new t) (text_step text row_text is rows i row lt at) (begins_second old mid new (text (take i rows)) (row_text row) before here) in
-    let all : text (take (i + 1) rows) ++ text (drop (i + 1) rows) ≡ text rows = sym (text_join text row_text is (take (i + 1) rows) (drop (i + 1) rows)) ∙ ap text (take-append-drop (i + 1) rows) in
-    subst (λ (t : List ℕ). AppendsBeginning old new t) all (begins_first old new (text (take (i + 1) rows)) (text (drop (i + 1) rows)) begun)
+    -- the rows before one were taken, and it is
+    pub rows_more : Appends mid new (row_text row) → Appends old new (text (take (i + 1) rows))
+    rows_more here = subst (λ (t : List ℕ). Appends old new t) text_step (Appends-trans old mid new (text (take i rows)) (row_text row) before here)
 
--- all rows were taken
-pub rows_all : {Row : Type 0} (text : List Row → List ℕ) (row_text : Row → List ℕ) → IsTextOf text row_text → (old new : Option (List ℕ)) (rows : List Row) (i : ℕ) → length rows ≤ i → Appends old new (text (take i rows)) → Appends old new (text rows)
-rows_all {Row} text row_text is old new rows i past taken = subst (λ (rs : List Row). Appends old new (text rs)) (take_all i rows past) taken
+    -- or a beginning of it is
+    pub rows_begin : AppendsBeginning mid new (row_text row) → AppendsBeginning old new (text rows)
+    rows_begin here =
+        let begun = subst (λ (t : List ℕ). AppendsBeginning old new t) text_step (begins_second old mid new (text (take i rows)) (row_text row) before here) in
+        let all : text (take (i + 1) rows) ++ text (drop (i + 1) rows) ≡ text rows = sym (text_join (take (i + 1) rows) (drop (i + 1) rows)) ∙ ap text (take-append-drop (i + 1) rows) in
+        subst (λ (t : List ℕ). AppendsBeginning old new t) all (begins_first old new (text (take (i + 1) rows)) (text (drop (i + 1) rows)) begun)
 
 -- the lines of a list and of another that stands behind it
 pub lines_text-append : (a b : List Line) → lines_text (a ++ b) ≡ lines_text a ++ lines_text b

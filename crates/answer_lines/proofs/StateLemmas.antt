@@ -1,5 +1,5 @@
 -- What a writer holds that took the lines of `state`, or a beginning of them.
-use Rattle.std.proofs.Common.{◌≡◌, ◌∙◌, ℕ, true, List, [], ◌∷◌, ◌++◌, Option, append_assoc, ap, subst, sym}
+use Rattle.std.proofs.Common.{◌≡◌, ◌∙◌, ◌<◌, ◌≤◌, ℕ, true, get_or, length, take, List, [], ◌∷◌, ◌++◌, Option, append_assoc, ap, subst, sym}
 use Rattle.std.proofs.KnownBytes.{Appends-trans}
 use Rattle.std.specs.FinMap.{FinMap, entries}
 use Rattle.std.specs.Io.KnownBytes.{Appends}
@@ -11,12 +11,23 @@ use Rattle.answer_lines.specs.Printing.{as_line}
 use Rattle.answer_lines.specs.State.{lines_text}
 use Rattle.answer_lines.specs.declared.lines.Line.{Line}
 use Rattle.answer_lines.proofs.Beginnings.{begins_first, begins_second}
-use Rattle.answer_lines.proofs.PrintLemmas.{lines_text-append}
+use Rattle.answer_lines.proofs.PrintLemmas.{IsTextOf, lines_text-append, rows_all, rows_begin}
 
--- the rows of a table are the entries of its map
-pub rows_are : {Row X : Type 0} (key : Row → List ℕ) (value : Row → X) (kept : FinMap text_cmp X) (rows : List Row) → kept ≡ table_map text_cmp key value rows → is_rising text_cmp key rows ≡ true
-    → row_entries key value rows ≡ entries kept
-rows_are key value kept rows all rising = sym (ap entries all ∙ entries-table_map text_cmp key value rows rising)
+-- ---- the entries of a table, which are its rows
+
+module _ {Row X : Type 0} (key : Row → List ℕ) (value : Row → X) (text : List (List ℕ × X) → List ℕ) (row_text : Row → List ℕ)
+    (is : IsTextOf (λ (rows : List Row). text (row_entries key value rows)) row_text)
+    (kept : FinMap text_cmp X) (rows : List Row) (all : kept ≡ table_map text_cmp key value rows) (rising : is_rising text_cmp key rows ≡ true) where
+  entries_text : text (row_entries key value rows) ≡ text (entries kept)
+  entries_text = ap text (sym (ap entries all ∙ entries-table_map text_cmp key value rows rising))
+
+  pub table_whole : (old new : Option (List ℕ)) (i : ℕ) → length rows ≤ i → Appends old new (text (row_entries key value (take i rows))) → Appends old new (text (entries kept))
+  table_whole old new i past taken = subst (λ (t : List ℕ). Appends old new t) entries_text (rows_all _ row_text is old new rows i past taken)
+
+  pub table_begins : (old mid new : Option (List ℕ)) (i : ℕ) (row : Row) → i < length rows → row ≡ get_or rows i row → Appends old mid (text (row_entries key value (take i rows)))
+      → AppendsBeginning mid new (row_text row) → AppendsBeginning old new (text (entries kept))
+  table_begins old mid new i row lt at before here =
+      subst (λ (t : List ℕ). AppendsBeginning old new t) entries_text (rows_begin _ row_text is old mid new rows i row lt at before here)
 
 -- ---- the lines of a registry: its own, those of its parts and those of its notices
 

@@ -14,6 +14,7 @@ use Rattle.http_request.specs.declared.routes.Target as code
 use Rattle.http_request.specs.Paths.{Target, NamesTarget, path_text, is_target_byte, row_of, target_at, with_slashes}
 use Rattle.http_request.specs.RouteTable.{entry_of, route_table}
 use Rattle.http_request.specs.Targets.{target_of, target_view, IsNextValue, IsTargetOf}
+use Rattle.http_request.proofs.BodyLemmas.{some_same}
 use Rattle.http_request.proofs.Targets.{AreSegments, few_parameters, read_at, found_target, target_found, target_walked}
 
 target_byte_small : (b : ℕ) → is_target_byte b ≡ true → b < 128
@@ -52,9 +53,6 @@ all_text (part ∷ []) h = (utf8_of part h, tt)
 all_text (part ∷ next ∷ parts) h =
     let p = small_parts part (codes "/" ++ with_slashes (next ∷ parts)) h in
     (utf8_of part p.0, all_text (next ∷ parts) (small_parts (codes "/") (with_slashes (next ∷ parts)) p.1).1)
-
-some_same : {A : Type 0} (a b : A) → Some a ≡ Some b → a ≡ b
-some_same a b e = cc
 
 module _ (path : List ℕ) (bytes : list_all is_target_byte path ≡ true) where
   pub target_read : (found : RouteOf Route) (t : code.Target) → first route_table path ≡ Some found → IsTargetOf found.value (read_at found path) (target_view t) → NamesTarget path (target_view t)

@@ -1,5 +1,5 @@
 -- Where no head within the limits can come, from the bytes that were read.
-use Rattle.std.proofs.Common.{◌∙◌, ◌≡◌, ◌≤◌, ◌++◌, ap, arith, inl, refl, sym, subst, List, ℕ, [], Option, Some, None, IfSome, length, take, drop, append-nil, take-append-drop}
+use Rattle.std.proofs.Common.{◌∙◌, ◌≡◌, ◌≤◌, ◌++◌, ap, arith, inl, refl, sym, subst, List, ℕ, [], Option, IfSome, length, take, drop, append-nil, take-append-drop}
 use Rattle.std.proofs.lemmas.Grind.{common_steps}
 use Rattle.std.proofs.Math.Seq.{take-append_seam}
 use Rattle.std.proofs.lemmas.List.{take-append-le}
@@ -13,6 +13,7 @@ use Rattle.http_request.specs.declared.errors.RequestError.TheVariants as error
 use Rattle.http_request.specs.declared.faults.RequestFault.TheVariants as fault
 use Rattle.http_request.specs.Errors.{IsRequestError}
 use Rattle.http_request.specs.Head.{HasNoShortHead, IsShortHead}
+use Rattle.http_request.proofs.KnownInput.{of_input}
 
 -- one more read
 pub taken_more : (a b c : Option (List ℕ)) (bytes piece rest now : List ℕ) (count : ℕ) → Consumes a b bytes → Consumes b c (take count piece)
@@ -34,39 +35,31 @@ NoHead known = IfSome known (λ input. IsRequestError input (error.Fault fault.H
 
 -- the reader is at its end
 pub none_at_end : (a b : Option (List ℕ)) (bytes : List ℕ) → Consumes a b bytes → IsAtEnd b → HasNoRequest bytes → NoHead a
-none_at_end None b bytes taken end no_head = tt
-none_at_end (Some x) None bytes taken end no_head = absurd taken
-none_at_end (Some x) (Some y) bytes taken end no_head =
-    let same : x ≡ bytes = taken ∙ ap (λ l. bytes ++ l) end ∙ append-nil bytes in
+none_at_end a b bytes taken end no_head = of_input _ a b bytes taken (λ x y known is.
+    let same : x ≡ bytes = is ∙ ap (λ l. bytes ++ l) (rw known at end) ∙ append-nil bytes in
     let none : HasNoShortHead x = λ h rest reads short. no_head h rest (reads.0, sym same ∙ reads.1) in
-    inl (none, refl)
+    inl (none, refl))
 
 -- as many bytes were read as a head may have
 pub none_when_full : (a b : Option (List ℕ)) (bytes : List ℕ) → Consumes a b bytes → 8192 ≤ length bytes → HasNoRequest bytes → NoHead a
-none_when_full None b bytes taken full no_head = tt
-none_when_full (Some x) None bytes taken full no_head = absurd taken
-none_when_full (Some x) (Some y) bytes taken full no_head = inl (none, refl)
-  where
-    none : HasNoShortHead x
-    none h rest reads short =
-        let front = print_request h in
-        let same : bytes ++ y ≡ front ++ rest = sym taken ∙ reads.1 in
-        let is_front : take (length front) bytes ≡ front =
-        sym (take-append-le (length front) bytes y (omega (arith, short.0, full))) ∙ ap (take (length front)) same ∙ take-append_seam front rest in
-        no_head h (drop (length front) bytes)
-        (reads.0, sym (take-append-drop (length front) bytes) ∙ ap (λ l. l ++ drop (length front) bytes) is_front)
+none_when_full a b bytes taken full no_head = of_input _ a b bytes taken (λ x y known is.
+    let none : HasNoShortHead x = λ h rest reads short.
+    let front = print_request h in
+    let same : bytes ++ y ≡ front ++ rest = sym is ∙ reads.1 in
+    let is_front : take (length front) bytes ≡ front =
+    sym (take-append-le (length front) bytes y (omega (arith, short.0, full))) ∙ ap (take (length front)) same ∙ take-append_seam front rest in
+    no_head h (drop (length front) bytes)
+    (reads.0, sym (take-append-drop (length front) bytes) ∙ ap (λ l. l ++ drop (length front) bytes) is_front) in
+    inl (none, refl))
 
 -- no head with so few fields can come
 pub none_when_over : (a b : Option (List ℕ)) (bytes : List ℕ) → Consumes a b bytes → RequestOverflows 32 bytes → NoHead a
-none_when_over None b bytes taken over = tt
-none_when_over (Some x) None bytes taken over = absurd taken
-none_when_over (Some x) (Some y) bytes taken over = inl (none, refl)
-  where
-    none : HasNoShortHead x
-    none h rest reads short =
-        let many = over y h rest (reads.0, sym taken ∙ reads.1) in
-        let few = short.1 in
-        omega arith
+none_when_over a b bytes taken over = of_input _ a b bytes taken (λ x y known is.
+    let none : HasNoShortHead x = λ h rest reads short.
+    let many = over y h rest (reads.0, sym is ∙ reads.1) in
+    let few = short.1 in
+    omega arith in
+    inl (none, refl))
 
 -- the spans of a head that fits the room cover at most 32 fields
 pub few_fields : (buf : List ℕ) (headers : List HeaderSpan) (count : ℕ) (fields : List Field) → AreFieldsAt buf headers count fields → length headers ≡ 32 → length fields ≤ 32

@@ -5,6 +5,7 @@ pub mod Targets
 pub mod Finding
 pub mod BodyLemmas
 pub mod PlanLemmas
+pub mod KnownInput
 pub mod Heads
 pub mod ReadSoFar
 pub mod Asking

@@ -1,7 +1,7 @@
 -- An input asks one thing at most.
-use Rattle.std.proofs.Common.{◌≡◌, ◌<◌, ◌≤◌, ◌⊎◌, ◌∙◌, ◌==◌, if◌then◌else◌, inl, inr, ℕ, List, Option, Some, None, ap, ap₂, arith, refl, sym, subst, take, true}
+use Rattle.std.proofs.Common.{◌≡◌, ◌<◌, ◌≤◌, ◌⊎◌, ◌∙◌, ◌==◌, inl, inr, ℕ, List, ap, ap₂, arith, refl, sym, subst, Bool, true, false}
 use Rattle.std.specs.List.{list_all}
-use Rattle.std.proofs.lemmas.Bool.{cases_lt, true_from_ne_false}
+use Rattle.std.proofs.lemmas.Bool.{cases_lt, eqb-true, true_from_ne_false}
 use Rattle.schedule.specs.Text.{day_text}
 use Rattle.schedule.proofs.TextLemmas.{day_text-injective}
 use Rattle.deposit_name.specs.declared.kinds.Kind.{Kind}
@@ -23,29 +23,14 @@ use Rattle.http_request.specs.Paths.{Target, is_target_byte, limit_of, method_of
 use Rattle.http_request.specs.declared.routes.Route.{Route}
 use Rattle.http_request.specs.declared.routes.Route.TheVariants as of
 use Rattle.http_request.specs.Action.{RequestAction, Do, IsStatement, Means, MeansAt, texts_of_statement, handover_texts, held_day_texts}
-use Rattle.http_request.proofs.BodyLemmas.{registration_back, statement_back, release_back, hold_back}
+use Rattle.http_request.proofs.BodyLemmas.{some_same, one_written, registration_back, statement_back, release_back, hold_back}
 use Rattle.http_request.proofs.Finding.{one_named}
-use Rattle.http_request.proofs.PlanLemmas.{one_length}
+use Rattle.http_request.proofs.PlanLemmas.{fault_at, fault_back, same_body}
 
 -- ---- a target and a body mean one thing
 
-some_same : {A : Type 0} (a b : A) → Some a ≡ Some b → a ≡ b
-some_same a b e = cc
-
 one_value : (body : List ℕ) (d e : Data) → IsJsonOf body d → IsJsonOf body e → d ≡ e
 one_value body d e h k = some_same d e (sym h.1 ∙ k.1)
-
-one_registration : (a b : List ℕ) → registration_json a ≡ registration_json b → a ≡ b
-one_registration a b e = some_same a b (sym (registration_back a) ∙ ap registration_text e ∙ registration_back b)
-
-one_texts : (a b : StatementTexts) → statement_json a ≡ statement_json b → a ≡ b
-one_texts a b e = some_same a b (sym (statement_back a) ∙ ap statement_fields e ∙ statement_back b)
-
-one_handover : (a b : ReleaseTexts) → release_json a ≡ release_json b → a ≡ b
-one_handover a b e = some_same a b (sym (release_back a) ∙ ap release_fields e ∙ release_back b)
-
-one_held_day : (a b : HoldTexts) → hold_json a ≡ hold_json b → a ≡ b
-one_held_day a b e = some_same a b (sym (hold_back a) ∙ ap hold_fields e ∙ hold_back b)
 
 ground_text-injective : (a b : Ground) → ground_text a ≡ ground_text b → a ≡ b
 ground_text-injective a b e = some_same a b (sym (ground_in-ground_text a) ∙ ap ground_in e ∙ ground_in-ground_text b)
@@ -70,22 +55,22 @@ one_statement s t h k e =
 
 one_meaning : (route : Route) (first second body : List ℕ) (v w : RequestAction) → MeansAt route first second body v → MeansAt route first second body w → v ≡ w
 one_meaning of.Registry tld second body v w (in_form, (d, day, json, is)) (in_form2, (e, day2, json2, is2)) =
-    let texts = one_registration (day_text d) (day_text e) (one_value body _ _ json json2) in
+    let texts = one_written registration_text registration_json registration_back (day_text d) (day_text e) (one_value body _ _ json json2) in
     is ∙ ap (λ (n : ℕ). Do (Register tld n)) (day_text-injective d e day day2 texts) ∙ sym is2
 one_meaning of.Deposit name second body v w h k = h ∙ sym k
 one_meaning of.Statements first second body v w (s, form, json, is) (t, form2, json2, is2) =
-    let same = one_statement s t form form2 (one_texts (texts_of_statement s) (texts_of_statement t) (one_value body _ _ json json2)) in
+    let same = one_statement s t form form2 (one_written statement_fields statement_json statement_back (texts_of_statement s) (texts_of_statement t) (one_value body _ _ json json2)) in
     is ∙ ap (λ (x : statement.Statement). Do (Statement x)) same ∙ sym is2
 one_meaning of.Check tld date body v w (in_form, (d, day, text, is)) (in_form2, (e, day2, text2, is2)) =
     is ∙ ap (λ (n : ℕ). Do (Check tld n)) (day_text-injective d e day day2 (sym text ∙ text2)) ∙ sym is2
 one_meaning of.Release reference second body v w (in_form, (tld, reason, known, json, is)) (in_form2, (tld2, reason2, known2, json2, is2)) =
-    let texts = one_handover (handover_texts tld reason) (handover_texts tld2 reason2) (one_value body _ _ json json2) in
+    let texts = one_written release_fields release_json release_back (handover_texts tld reason) (handover_texts tld2 reason2) (one_value body _ _ json json2) in
     let same_tld : tld ≡ tld2 = ap (λ (x : ReleaseTexts). x.tld) texts in
     let same_ground = ground_text-injective reason reason2 (ap (λ (x : ReleaseTexts). x.reason) texts) in
     is ∙ ap₂ (λ (t : List ℕ) (r : Ground). Do (Release reference t r)) same_tld same_ground ∙ sym is2
 one_meaning of.ReleasedPart reference name body v w h k = h.1 ∙ sym k.1
 one_meaning of.Hold reference second body v w (in_form, (tld, d, known, day, json, is)) (in_form2, (tld2, e, known2, day2, json2, is2)) =
-    let texts = one_held_day (held_day_texts tld d) (held_day_texts tld2 e) (one_value body _ _ json json2) in
+    let texts = one_written hold_fields hold_json hold_back (held_day_texts tld d) (held_day_texts tld2 e) (one_value body _ _ json json2) in
     let same_tld : tld ≡ tld2 = ap (λ (x : HoldTexts). x.tld) texts in
     let same_day = day_text-injective d e day day2 (ap (λ (x : HoldTexts). x.date) texts) in
     is ∙ ap₂ (λ (t : List ℕ) (n : ℕ). Do (Hold reference t n)) same_tld same_day ∙ sym is2
@@ -95,41 +80,8 @@ one_meaning of.Purges first second body v w h k = h ∙ sym k
 
 -- ---- a fault is told by its number, and by the method of a 405
 
-fault_at : ℕ → RequestFault
-fault_at n =
-    if n == 1 then fault.Head else
-    (if n == 2 then fault.Target else
-    (if n == 3 then fault.NoRoute else
-    (if n == 5 then fault.TransferCoding else
-    (if n == 6 then fault.NoLength else
-    (if n == 7 then fault.Length else
-    (if n == 8 then fault.TooLong else
-    (if n == 9 then fault.BodyShort else fault.Form)))))))
-
-fault_back : (f : RequestFault) → (fault_number f ≡ 4) ⊎ (fault_at (fault_number f) ≡ f)
-unfolding fault_at
-fault_back fault.Head = inr refl
-fault_back fault.Target = inr refl
-fault_back fault.NoRoute = inr refl
-fault_back (fault.Method m) = inl refl
-fault_back fault.TransferCoding = inr refl
-fault_back fault.NoLength = inr refl
-fault_back fault.Length = inr refl
-fault_back fault.TooLong = inr refl
-fault_back fault.BodyShort = inr refl
-fault_back fault.Form = inr refl
-
 method_from : (f : RequestFault) → fault_number f ≡ 4 → (m : Method) × (f ≡ fault.Method m)
-method_from (fault.Method m) e = (m, refl)
-method_from fault.Head e = cc
-method_from fault.Target e = cc
-method_from fault.NoRoute e = cc
-method_from fault.TransferCoding e = cc
-method_from fault.NoLength e = cc
-method_from fault.Length e = cc
-method_from fault.TooLong e = cc
-method_from fault.BodyShort e = cc
-method_from fault.Form e = cc
+method_from f e = let back = fault_back f in (back.0, sym back.1 ∙ ap (fault_at back.0) e)
 
 -- ---- a head with the bytes behind it asks one thing
 
@@ -137,16 +89,12 @@ module _ (h : RequestHead) (rest : List ℕ) where
   bytes_pass : (n : ℕ) → 2 < n → HasNoFaultBelow n h rest → list_all is_target_byte h.target ≡ true
   bytes_pass n above below = true_from_ne_false (list_all is_target_byte h.target) (below fault.Target (omega (arith, above)))
 
-  one_body : (limit : Option ℕ) (a b : List ℕ) → IsRequestBody limit h rest a → IsRequestBody limit h rest b → a ≡ b
-  one_body None a b x y = x ∙ sym y
-  one_body (Some limit) a b x y = x.3 ∙ ap (λ n. take n rest) (one_length _ x.0 y.0 x.1 y.1) ∙ sym y.3
-
   one_wanted : (v w : RequestAction) → HeadMeans h rest (asks_for v) → HeadMeans h rest (asks_for w) → v ≡ w
   one_wanted v w ((t, body, names, is, means), below) ((u, body2, names2, is2, means2), below2) =
       let same = one_named h.target (bytes_pass 11 (omega arith) below) u t names2 names in
       let is3 = subst (λ (x : Target). IsRequestBody (limit_of x) h rest body2) same is2 in
       let means3 = subst (λ (x : Target). Means x body2 w) same means2 in
-      let bodies = one_body (limit_of t) body2 body is3 is in
+      let bodies = same_body h rest (limit_of t) body2 body is3 is in
       one_meaning t.route _ _ body v w means (subst (λ (b : List ℕ). Means t b w) bodies means3)
 
   one_method : (f g : RequestFault) → HasFault h rest f → HasFault h rest g → HasNoFaultBelow (fault_number f) h rest → fault_number f ≡ 4 → fault_number g ≡ 4 → f ≡ g
@@ -159,24 +107,17 @@ module _ (h : RequestHead) (rest : List ℕ) where
       m.1 ∙ ap fault.Method (a.2 ∙ ap method_of (sym same) ∙ sym b.2) ∙ sym k.1
 
   one_fault : (f g : RequestFault) → HasFault h rest f → HasFault h rest g → HasNoFaultBelow (fault_number f) h rest → fault_number f ≡ fault_number g → f ≡ g
-  one_fault f g s t below e = by (fault_back f) (fault_back g)
+  one_fault f g s t below e = by (fault_number f == 4) refl
     where
-      by : (fault_number f ≡ 4) ⊎ (fault_at (fault_number f) ≡ f) → (fault_number g ≡ 4) ⊎ (fault_at (fault_number g) ≡ g) → f ≡ g
-      by (inl p) r = one_method f g s t below p (sym e ∙ p)
-      by (inr p) (inl q) = one_method f g s t below (e ∙ q) q
-      by (inr p) (inr q) = sym p ∙ ap fault_at e ∙ q
+      other : (n : ℕ) (m k : Method) → (n == 4) ≡ false → fault_at m n ≡ fault_at k n
+      other n m k e = rw e refl
 
-  number_small : (f : RequestFault) → fault_number f < 11
-  number_small fault.Head = omega arith
-  number_small fault.Target = omega arith
-  number_small fault.NoRoute = omega arith
-  number_small (fault.Method m) = omega arith
-  number_small fault.TransferCoding = omega arith
-  number_small fault.NoLength = omega arith
-  number_small fault.Length = omega arith
-  number_small fault.TooLong = omega arith
-  number_small fault.BodyShort = omega arith
-  number_small fault.Form = omega arith
+      by : (v : Bool) → (fault_number f == 4) ≡ v → f ≡ g
+      by true at = let four = eqb-true (fault_number f) 4 at in one_method f g s t below four (sym e ∙ four)
+      by false at =
+          let (m, back, _, _) = fault_back f in
+          let (k, back2, _, _) = fault_back g in
+          sym back ∙ other (fault_number f) m k at ∙ ap (fault_at k) e ∙ back2
 
   one_asked_by : (a b : RequestMeaning) → HeadMeans h rest a → HeadMeans h rest b → a ≡ b
   one_asked_by (bad f) (bad g) (s, below) (t, below2) = by (cases_lt (fault_number f) (fault_number g)) (cases_lt (fault_number g) (fault_number f))
@@ -185,8 +126,8 @@ module _ (h : RequestHead) (rest : List ℕ) where
       by (inl less) r = absurd (below2 f less s)
       by (inr more) (inl less) = absurd (below g less t)
       by (inr more) (inr more2) = ap bad (one_fault f g s t below (omega (arith, more, more2)))
-  one_asked_by (bad f) (asks_for w) (s, below) (asked, below2) = absurd (below2 f (number_small f) s)
-  one_asked_by (asks_for v) (bad g) (asked, below) (t, below2) = absurd (below g (number_small g) t)
+  one_asked_by (bad f) (asks_for w) (s, below) (asked, below2) = absurd (below2 f (fault_back f).3 s)
+  one_asked_by (asks_for v) (bad g) (asked, below) (t, below2) = absurd (below g (fault_back g).3 t)
   one_asked_by (asks_for v) (asks_for w) x y = ap asks_for (one_wanted v w x y)
 
 pub one_asked : RequestsMeanOne

@@ -36,10 +36,14 @@ statement_json s =
     object (member (codes "date") (string s.date) (member (codes "id") (string s.id) (member (codes "kind") (string s.kind)
     (member (codes "parts") (number (unsigned s.parts)) (member (codes "revision") (number (unsigned s.revision)) (member (codes "tld") (string s.tld) no_members))))))
 
+-- an object of two members
+abbrev pub two_json : (first text second next : List ℕ) → Data
+two_json first text second next = object (member first (string text) (member second (string next) no_members))
+
 -- `{"ground":..,"tld":..}`
 abbrev pub release_json : ReleaseTexts → Data
-release_json r = object (member (codes "ground") (string r.reason) (member (codes "tld") (string r.tld) no_members))
+release_json r = two_json (codes "ground") r.reason (codes "tld") r.tld
 
 -- `{"date":..,"tld":..}`
 abbrev pub hold_json : HoldTexts → Data
-hold_json h = object (member (codes "date") (string h.date) (member (codes "tld") (string h.tld) no_members))
+hold_json h = two_json (codes "date") h.date (codes "tld") h.tld

@@ -1,9 +1,8 @@
 -- What is known of a request once its head is read.
-use Rattle.std.specs.Prelude.{◌≡◌, ◌≢◌, ◌<◌, ◌≤◌, ℕ, List, [], true, Option, Some, None}
+use Rattle.std.specs.Prelude.{◌≡◌, ◌≤◌, ℕ, List, true, Option, Some, None}
 use Rattle.httparse.specs.Grammar.{RequestHead}
-use Rattle.http_request.specs.RequestMeaning.{RequestFault, AreContentLength, content_lengths, method_text, HasNoFaultBelow}
+use Rattle.http_request.specs.RequestMeaning.{AreContentLength, content_lengths, method_text, HasNoFaultBelow}
 use Rattle.std.specs.List.{list_all}
-use Rattle.http_request.specs.declared.faults.RequestFault.TheVariants as fault
 use Rattle.http_request.specs.declared.plan.Plan.{Plan}
 use Rattle.http_request.specs.Paths.{Target, NamesTarget, is_target_byte, limit_of, method_of}
 use Rattle.http_request.specs.Targets.{target_view}
@@ -19,17 +18,6 @@ abbrev pub FitsLength : Option ℕ → List (List ℕ) → Option ℕ → Type 0
 FitsLength None values n = n ≡ None
 FitsLength (Some limit) values None = ⊥
 FitsLength (Some limit) values (Some n) = AreContentLength values n × (n ≤ limit)
-
--- why it is not
-abbrev pub IsLengthFaultUnder : ℕ → List (List ℕ) → RequestFault → Type 0
-IsLengthFaultUnder limit values fault.NoLength = values ≡ []
-IsLengthFaultUnder limit values fault.Length = (values ≢ []) × ((n : ℕ) → ¬ AreContentLength values n)
-IsLengthFaultUnder limit values fault.TooLong = (n : ℕ) × AreContentLength values n × (limit < n)
-IsLengthFaultUnder limit values _ = ⊥
-
-abbrev pub IsLengthFault : Option ℕ → List (List ℕ) → RequestFault → Type 0
-IsLengthFault None values found = ⊥
-IsLengthFault (Some limit) values found = IsLengthFaultUnder limit values found
 
 -- the head's target and the length of its body, and no fault of the head stands
 abbrev pub IsPlanOf : RequestHead → Plan → Type 0

@@ -50,6 +50,18 @@ abbrev pub HasBodyLimit : Option ℕ → (ℕ → Type 0) → Type 0
 HasBodyLimit None P = ⊥
 HasBodyLimit (Some limit) P = P limit
 
+-- why the length that is told is refused under a limit
+abbrev pub IsLengthFault : Option ℕ → List (List ℕ) → RequestFault → Type 0
+IsLengthFault None values found = ⊥
+IsLengthFault (Some limit) values fault.NoLength = values ≡ []
+IsLengthFault (Some limit) values fault.Length = (values ≢ []) × ((n : ℕ) → ¬ AreContentLength values n)
+IsLengthFault (Some limit) values fault.TooLong = (n : ℕ) × AreContentLength values n × (limit < n)
+IsLengthFault (Some limit) values _ = ⊥
+
+-- the same of the target's limit
+abbrev pub HasLengthFault : RequestHead → RequestFault → Type 0
+HasLengthFault h found = (target : Target) × NamesTarget h.target target × IsLengthFault (limit_of target) (content_lengths h) found
+
 -- what stands of a head with the bytes behind it
 abbrev pub HasFault : RequestHead → List ℕ → RequestFault → Type 0
 HasFault h rest fault.Head = ⊥
@@ -57,9 +69,9 @@ HasFault h rest fault.Target = list_all is_target_byte h.target ≡ false
 HasFault h rest fault.NoRoute = (target : Target) → ¬ NamesTarget h.target target
 HasFault h rest (fault.Method allowed) = (target : Target) × NamesTarget h.target target × (allowed ≡ method_of target) × (h.method ≢ method_text allowed)
 HasFault h rest fault.TransferCoding = transfer_codings h ≢ []
-HasFault h rest fault.NoLength = (target : Target) × NamesTarget h.target target × HasBodyLimit (limit_of target) (λ limit. content_lengths h ≡ [])
-HasFault h rest fault.Length = (target : Target) × NamesTarget h.target target × HasBodyLimit (limit_of target) (λ limit. (content_lengths h ≢ []) × ((n : ℕ) → ¬ AreContentLength (content_lengths h) n))
-HasFault h rest fault.TooLong = (target : Target) × NamesTarget h.target target × HasBodyLimit (limit_of target) (λ limit. (n : ℕ) × AreContentLength (content_lengths h) n × (limit < n))
+HasFault h rest fault.NoLength = HasLengthFault h fault.NoLength
+HasFault h rest fault.Length = HasLengthFault h fault.Length
+HasFault h rest fault.TooLong = HasLengthFault h fault.TooLong
 HasFault h rest fault.BodyShort = (target : Target) × NamesTarget h.target target × HasBodyLimit (limit_of target) (λ limit. (n : ℕ) × AreContentLength (content_lengths h) n × (length rest < n))
 HasFault h rest fault.Form = (target : Target) × (body : List ℕ) × NamesTarget h.target target × IsRequestBody (limit_of target) h rest body × ((wanted : RequestAction) → ¬ Means target body wanted)
 

@@ -2,7 +2,7 @@
 ghost use Rattle.std.specs.Prelude.{◌≡◌, Some, option_map};
 ghost use Rattle.serde_json.specs.View as json;
 ghost use Rattle.serde_json.specs.View.{members_view};
-ghost use Rattle.http_request.specs.inside.BodyReading.{next_member, end_of, next_text, next_u64, registration_text, statement_fields, release_fields, hold_fields};
+ghost use Rattle.http_request.specs.inside.BodyReading.{next_member, end_of, next_text, next_u64, registration_text, statement_fields, two_texts, release_fields, hold_fields};
 ghost use Rattle.http_request.specs.inside.BodyTexts.{statement_texts, release_texts, hold_texts};
 
 use serde_json::Value;
@@ -103,26 +103,30 @@ pub(crate) fn statement_fields(value: &Value) -> Option<StatementFields<'_>>
     })
 }
 
+/// The strings of an object that has two members, of these names.
+#[tactic(auto, unfolding(crate::specs::inside::BodyReading::two_texts))]
+fn two_texts<'v>(value: &'v Value, first: &str, second: &str) -> Option<(&'v str, &'v str)>
+    ensures { option_map (λ t. (t.0.now, t.1.now)) result ≡ two_texts first.now second.now (json.view value.now) }
+{
+    let mut members = value.as_object()?.iter();
+    let one = next_text(&mut members, first)?;
+    let two = next_text(&mut members, second)?;
+    end(&mut members)?;
+    Some((one, two))
+}
+
 /// The texts of a release.
-#[tactic(auto, unfolding(crate::specs::inside::BodyReading::release_fields))]
 pub(crate) fn release_fields(value: &Value) -> Option<ReleaseFields<'_>>
     ensures { option_map release_texts result ≡ release_fields (json.view value.now) }
 {
-    let mut members = value.as_object()?.iter();
-    let reason = next_text(&mut members, "ground")?;
-    let tld = next_text(&mut members, "tld")?;
-    end(&mut members)?;
+    let (reason, tld) = two_texts(value, "ground", "tld")?;
     Some(ReleaseFields { reason, tld })
 }
 
 /// The texts of a hold.
-#[tactic(auto, unfolding(crate::specs::inside::BodyReading::hold_fields))]
 pub(crate) fn hold_fields(value: &Value) -> Option<HoldFields<'_>>
     ensures { option_map hold_texts result ≡ hold_fields (json.view value.now) }
 {
-    let mut members = value.as_object()?.iter();
-    let date = next_text(&mut members, "date")?;
-    let tld = next_text(&mut members, "tld")?;
-    end(&mut members)?;
+    let (date, tld) = two_texts(value, "date", "tld")?;
     Some(HoldFields { date, tld })
 }

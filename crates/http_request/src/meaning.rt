@@ -144,7 +144,7 @@ fn handover_in(fields: &ReleaseFields<'_>) -> Option<(Tld, Ground)>
 }
 
 /// Which registry's deposits are to be handed over, and on which ground.
-#[tactic(auto, using(crate::proofs::BodyLemmas::release_is))]
+#[tactic(auto, using(crate::proofs::BodyLemmas::release_is, crate::proofs::BodyLemmas::release_back))]
 fn handover_at(value: &Value) -> Option<(Tld, Ground)>
     ensures found { IfSome result (λ h.
         IsTld h.0 × (json.view value.now ≡ release_json (handover_texts h.0 h.1))) }
@@ -177,7 +177,7 @@ fn held_day_in(fields: &HoldFields<'_>) -> Option<(Tld, Day)>
 }
 
 /// Of which registry a day is to be held, and which day.
-#[tactic(auto, using(crate::proofs::BodyLemmas::hold_is))]
+#[tactic(auto, using(crate::proofs::BodyLemmas::hold_is, crate::proofs::BodyLemmas::hold_back))]
 fn held_day_at(value: &Value) -> Option<(Tld, Day)>
     ensures found { IfSome result (λ h.
         IsTld h.0 × IsDay h.1 × (json.view value.now ≡ hold_json (held_day_texts h.0 h.1))) }

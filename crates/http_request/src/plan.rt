@@ -3,11 +3,11 @@ ghost use Rattle.std.specs.Prelude.{◌≡◌, ℕ, List, length, map, false, So
 ghost use Rattle.std.specs.List.{list_all};
 ghost use Rattle.httparse.specs.Grammar.{RequestHead};
 ghost use Rattle.httparse.specs.Spans.{name_and_value};
-ghost use Rattle.http_request.specs.RequestMeaning.{values_named, HasFault, HasNoFaultBelow, fault_number};
+ghost use Rattle.http_request.specs.RequestMeaning.{values_named, HasFault, IsLengthFault, HasNoFaultBelow, fault_number};
 ghost use Rattle.http_request.specs.inside.Fields.{AreFieldValues};
 ghost use Rattle.http_request.specs.Head.{CoversHead, IsHeadOf};
 ghost use Rattle.http_request.specs.Paths.{is_target_byte};
-ghost use Rattle.http_request.specs.Plans.{IsLengthFault, FitsLength, IsPlanOf, IsReached};
+ghost use Rattle.http_request.specs.Plans.{FitsLength, IsPlanOf, IsReached};
 ghost use Rattle.http_request.specs.Targets.{target_view};
 
 use crate::fields::{FieldValues, number_of, values_of};

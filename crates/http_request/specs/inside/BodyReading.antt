@@ -52,18 +52,21 @@ statement_fields d = do
   _ ← end_of tld.1
   Some (record { date = date.0; id = id.0; kind = kind.0; parts = parts.0; revision = revision.0; tld = tld.0 })
 
-unfoldable pub release_fields : Data → Option ReleaseTexts
-release_fields d = do
+-- the strings of an object that has two members, of these names
+unfoldable pub two_texts : List ℕ → List ℕ → Data → Option (List ℕ × List ℕ)
+two_texts first second d = do
   ms ← as_object d
-  reason ← next_text (codes "ground") ms
-  tld ← next_text (codes "tld") reason.1
-  _ ← end_of tld.1
-  Some (record { reason = reason.0; tld = tld.0 })
+  one ← next_text first ms
+  two ← next_text second one.1
+  _ ← end_of two.1
+  Some (one.0, two.0)
 
-unfoldable pub hold_fields : Data → Option HoldTexts
+abbrev pub release_fields : Data → Option ReleaseTexts
+release_fields d = do
+  texts ← two_texts (codes "ground") (codes "tld") d
+  Some (record { reason = texts.0; tld = texts.1 })
+
+abbrev pub hold_fields : Data → Option HoldTexts
 hold_fields d = do
-  ms ← as_object d
-  date ← next_text (codes "date") ms
-  tld ← next_text (codes "tld") date.1
-  _ ← end_of tld.1
-  Some (record { date = date.0; tld = tld.0 })
+  texts ← two_texts (codes "date") (codes "tld") d
+  Some (record { date = texts.0; tld = texts.1 })

@@ -22,5 +22,4 @@ pub returns-clause-whole : goal.returns-clause-whole
 returns-clause-whole g c = rows_all _ _ are_damaged (g.W.Write.contents c.args.out.now) (g.W.Write.contents c.loop-name.out) c.args.damaged.now c.loop-name.name-index (omega arith) c.loop-name.invariant
 
 pub returns-clause-begun : goal.returns-clause-begun
-returns-clause-begun g c =
-    whole_begins _ _ _ (rows_all _ _ are_damaged (g.W.Write.contents c.args.out.now) (g.W.Write.contents c.loop-name.out) c.args.damaged.now c.loop-name.name-index (omega arith) c.loop-name.invariant)
+returns-clause-begun g c = whole_begins _ _ _ (returns-clause-whole g c)

@@ -23,5 +23,4 @@ pub returns-clause-whole : goal.returns-clause-whole
 returns-clause-whole g c = rows_all _ _ (are_lines notice_key notice_value notice_line) (g.W.Write.contents c.args.out.now) (g.W.Write.contents c.loop-notice.out) c.args.notices.now c.loop-notice.notice-index (omega arith) c.loop-notice.invariant
 
 pub returns-clause-begun : goal.returns-clause-begun
-returns-clause-begun g c =
-    whole_begins _ _ _ (rows_all _ _ (are_lines notice_key notice_value notice_line) (g.W.Write.contents c.args.out.now) (g.W.Write.contents c.loop-notice.out) c.args.notices.now c.loop-notice.notice-index (omega arith) c.loop-notice.invariant)
+returns-clause-begun g c = whole_begins _ _ _ (returns-clause-whole g c)

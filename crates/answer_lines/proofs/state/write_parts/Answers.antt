@@ -28,5 +28,4 @@ pub returns-clause-whole : goal.returns-clause-whole
 returns-clause-whole g c = rows_all _ _ (are_lines key_of_part part_value part_line) (g.W.Write.contents c.args.out.now) (g.W.Write.contents c.loop-part.out) c.args.parts.now c.loop-part.part-index (omega arith) c.loop-part.invariant
 
 pub returns-clause-begun : goal.returns-clause-begun
-returns-clause-begun g c =
-    whole_begins _ _ _ (rows_all _ _ (are_lines key_of_part part_value part_line) (g.W.Write.contents c.args.out.now) (g.W.Write.contents c.loop-part.out) c.args.parts.now c.loop-part.part-index (omega arith) c.loop-part.invariant)
+returns-clause-begun g c = whole_begins _ _ _ (returns-clause-whole g c)
