@@ -12,6 +12,8 @@ mod deposits;
 #[cfg(test)]
 mod envelopes;
 #[cfg(test)]
+mod examples;
+#[cfg(test)]
 mod incremental;
 #[cfg(test)]
 mod memory;
