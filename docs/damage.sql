@@ -1,10 +1,10 @@
--- Lists what is out of place in the records of a vault, a line each: the number of the damage, what
--- it is, and the key of the row. Of records that are whole it lists nothing. It changes nothing.
+-- Lists the damage in the records of a vault, one line for each table or row: the number of the damage,
+-- its kind, and the key of the row. It prints nothing for sound records, and it changes nothing.
 --
 --   sqlite3 -readonly found/custody.db < damage.sql
 --
--- Where a table is not there, sqlite3 says so of each question that needs it, and goes on. (In schema
--- 1 that of holds is not there, as it has to be.)
+-- If a table is missing, sqlite3 reports that for each query on the table, and goes on. (Schema 1 has no
+-- table of holds.)
 
 -- H0: no record.
 SELECT 'H0', 'no table', 'meta'
@@ -71,14 +71,14 @@ WHERE first = 0 OR count = 0 OR first + count > blocks;
 SELECT 'H5', 'counts', tld, day, rev, part, sum(count) FROM extent
 GROUP BY tld, day, rev, part HAVING sum(count) <> (len + 4095) / 4096;
 
--- H6: a block that an extent before has already.
+-- H6: a block that an earlier extent has.
 SELECT 'H6', 'block', tld, day, rev, part, first FROM (
     SELECT *, max(first + count) OVER (ORDER BY first, tld, day, rev, part, place
         ROWS BETWEEN UNBOUNDED PRECEDING AND 1 PRECEDING) AS behind FROM extent)
 WHERE first < behind;
 
--- H7: parts without the one before, revisions without the failure before, notices without the one
--- before or without a part, verdicts, receipts and absences twice, and names without a part.
+-- H7: a part without its predecessor, a revision without the failure before it, a notice without its
+-- predecessor or without a part, two verdicts, receipts or absences, and a name without a part.
 SELECT 'H7', 'no part before', tld, day, rev, part FROM part AS this
 WHERE part > 1 AND NOT EXISTS (SELECT * FROM part WHERE tld = this.tld AND day = this.day
     AND rev = this.rev AND part = this.part - 1 AND kind = this.kind);

@@ -57,7 +57,7 @@ fn bare_command<'a>(alloc: Global) -> Command<'a>
                  escrow verify vault example --date 2026-08-02 --kind full --revision 0 \
                  --parts 1 --id 20260802001\n  \
                  escrow state vault\n\n\
-                 Exit status: 0 done, 1 refused, 2 words out of form, 3 failed";
+                 Exit status: 0 done, 1 refused, 2 bad arguments, 3 failed";
     Command::new(alloc, "escrow")
         .about(about)
         .after_help(after)

@@ -73,7 +73,7 @@ pub(crate) struct Row<'a> {
 const DIR: Word<'static> = Word {
     id: "DIR",
     form: WordForm::Place,
-    help: "Folder of the vault, which has to be there",
+    help: "Folder of the vault; it must exist",
 };
 
 const TLD: Word<'static> = Word {
@@ -84,7 +84,7 @@ const TLD: Word<'static> = Word {
 
 static INIT: Row<'static> = Row {
     name: "init",
-    about: "Makes a vault in a folder: its volume vault.vol and its records custody.db",
+    about: "Makes a vault in a folder: the volume vault.vol and the database custody.db",
     after: "Prints: ready N HEX16\n\
             Example: escrow init vault --blocks 8 --number 0000000000000001",
     words: &[
@@ -95,7 +95,7 @@ static INIT: Row<'static> = Row {
                 least: FEWEST_BLOCKS,
                 most: MOST_BLOCKS,
             },
-            help: "Blocks of 4096 bytes, 2 to 262144; the first is the head of the volume",
+            help: "Number of blocks of 4096 bytes, 2 to 262144; the first is the head of the volume",
         },
         Word {
             id: "number",
@@ -110,7 +110,7 @@ static INIT: Row<'static> = Row {
 
 static REGISTER: Row<'static> = Row {
     name: "register",
-    about: "Records a registry; of one that is known the kept first day is printed",
+    about: "Registers a registry; a repeat prints the first day on record",
     after: "Prints: registered TLD DATE\n\
             Example: escrow register vault example --first 2026-08-02",
     words: &[
@@ -126,14 +126,14 @@ static REGISTER: Row<'static> = Row {
                 value: "DATE",
                 required: true,
             },
-            help: "First day of which a deposit is due, as 2026-08-02",
+            help: "First day for which a deposit is due, such as 2026-08-02",
         },
     ],
 };
 
 static PUT: Row<'static> = Row {
     name: "put",
-    about: "Receives one part file of a deposit; the same bytes again are answered as before",
+    about: "Receives one part of a deposit; the same bytes again get the same answer",
     after: "Name: TLD_DATE_KIND_SN_RM.ryde, KIND full, diff or incr, N from 1 to 8, M from 0 to 99\n\
             Prints: received NAME LENGTH MOMENT\n\
             Example: escrow put vault example_2026-08-02_full_S1_R0.ryde --now 2026-08-02T10:00:00Z",
@@ -142,7 +142,7 @@ static PUT: Row<'static> = Row {
         Word {
             id: "FILE",
             form: WordForm::Place,
-            help: "Part file of 1 to 1048576 bytes; the last part of its path is its name",
+            help: "File of 1 to 1048576 bytes; its name is the name of the part",
         },
         Word {
             id: "now",
@@ -150,16 +150,16 @@ static PUT: Row<'static> = Row {
                 value: "MOMENT",
                 required: false,
             },
-            help: "Moment of receipt, as 2026-08-02T10:00:00Z; else the clock is read",
+            help: "Moment of receipt, such as 2026-08-02T10:00:00Z (default: now)",
         },
     ],
 };
 
 static VERIFY: Row<'static> = Row {
     name: "verify",
-    about: "Verifies a deposit whose parts are all sent; the same words again are answered as before",
-    after: "Prints the notice: NUMBER RECEIPT DATE RNN ID MOMENT TLD where the deposit passes,\n        \
-            else NUMBER FAILURE-NN DATE RNN ID MOMENT TLD, NN the first check that fails\n\
+    about: "Verifies a deposit once all its parts are there; the same words again get the same answer",
+    after: "Prints: NUMBER RECEIPT DATE RNN ID MOMENT TLD if the deposit passes,\n        \
+            or NUMBER FAILURE-NN DATE RNN ID MOMENT TLD if check NN is the first that fails\n\
             Example: escrow verify vault example --date 2026-08-02 --kind full --revision 0 \
             --parts 1 --id 20260802001",
     words: &[
@@ -171,7 +171,7 @@ static VERIFY: Row<'static> = Row {
                 value: "DATE",
                 required: true,
             },
-            help: "Day of the deposit, as 2026-08-02",
+            help: "Day of the deposit, such as 2026-08-02",
         },
         Word {
             id: "kind",
@@ -179,17 +179,17 @@ static VERIFY: Row<'static> = Row {
                 value: "KIND",
                 required: true,
             },
-            help: "What the deposit holds: full, diff or incr",
+            help: "Kind of the deposit: full, diff or incr",
         },
         Word {
             id: "revision",
             form: WordForm::Count { least: 0, most: 99 },
-            help: "Resend number of the deposit, 0 to 99: 0 where its parts end in R0.ryde",
+            help: "Resend number of the deposit, 0 to 99; 0 if the names of its parts end in R0.ryde",
         },
         Word {
             id: "parts",
             form: WordForm::Count { least: 1, most: 8 },
-            help: "How many parts the deposit has, 1 to 8",
+            help: "Number of parts of the deposit, 1 to 8",
         },
         Word {
             id: "id",
@@ -197,7 +197,7 @@ static VERIFY: Row<'static> = Row {
                 value: "ID",
                 required: true,
             },
-            help: "Id of the deposit, as its envelope has it: 1 to 13 letters and digits",
+            help: "Id of the deposit in its envelope: 1 to 13 letters and digits",
         },
         Word {
             id: "now",
@@ -205,15 +205,15 @@ static VERIFY: Row<'static> = Row {
                 value: "MOMENT",
                 required: false,
             },
-            help: "Moment of the notice, as 2026-08-02T10:05:00Z; else the clock is read",
+            help: "Moment of the notice, such as 2026-08-02T10:05:00Z (default: now)",
         },
     ],
 };
 
 static SWEEP: Row<'static> = Row {
     name: "sweep",
-    about: "Records the absence of each day that has passed without a notice, of all registries",
-    after: "Prints each new notice: NUMBER ABSENCE DATE --- - MOMENT TLD\n\
+    about: "Records an absence for every past day without a notice, for all registries",
+    after: "Prints: NUMBER ABSENCE DATE --- - MOMENT TLD for each absence\n\
             Example: escrow sweep vault --now 2026-08-05T00:00:00Z",
     words: &[
         DIR,
@@ -223,14 +223,14 @@ static SWEEP: Row<'static> = Row {
                 value: "MOMENT",
                 required: false,
             },
-            help: "Moment of the notices, as 2026-08-05T00:00:00Z; else the clock is read",
+            help: "Moment of the notices, such as 2026-08-05T00:00:00Z (default: now)",
         },
     ],
 };
 
 static PURGE: Row<'static> = Row {
     name: "purge",
-    about: "Drops the bytes of each part kept for a year whose day is not on hold; its record stays",
+    about: "Drops the bytes of each part that was kept for a year and is not on hold; its record stays",
     after: "Prints: dropped N, the number of these parts\n\
             Example: escrow purge vault --now 2027-08-04T00:00:00Z",
     words: &[
@@ -241,7 +241,7 @@ static PURGE: Row<'static> = Row {
                 value: "MOMENT",
                 required: false,
             },
-            help: "Moment of the purge, as 2027-08-04T00:00:00Z; else the clock is read",
+            help: "Moment of the purge, such as 2027-08-04T00:00:00Z (default: now)",
         },
     ],
 };
@@ -249,9 +249,8 @@ static PURGE: Row<'static> = Row {
 static HOLD: Row<'static> = Row {
     name: "hold",
     about: "Puts a registry's day on hold: while the hold stands, a purge drops no part of that day",
-    after: "For deposits of a day that a court or an authority orders to be kept: the year's purge\n\
-            passes the day by until lift ends the hold, and no command removes a hold\n\
-            The same words again are answered as before; a hold that was lifted stays so\n\
+    after: "Use it when a court or an authority orders you to keep the deposits of a day\n\
+            The hold stands until lift ends it; its record stays, and a repeat does not renew it\n\
             Prints: held REF TLD DATE MOMENT\n\
             Example: escrow hold vault H-1 example --date 2026-08-02 --now 2027-07-30T12:00:00Z",
     words: &[
@@ -268,7 +267,7 @@ static HOLD: Row<'static> = Row {
                 value: "DATE",
                 required: true,
             },
-            help: "Day of the deposits, as 2026-08-02",
+            help: "Day of the deposits, such as 2026-08-02",
         },
         Word {
             id: "now",
@@ -276,23 +275,23 @@ static HOLD: Row<'static> = Row {
                 value: "MOMENT",
                 required: false,
             },
-            help: "Moment of the hold, as 2027-07-30T12:00:00Z; else the clock is read",
+            help: "Moment of the hold, such as 2027-07-30T12:00:00Z (default: now)",
         },
     ],
 };
 
 static LIFT: Row<'static> = Row {
     name: "lift",
-    about: "Lifts a hold, which keeps its day from the purge no longer; its record stays",
-    after: "A purge passes the day by as long as another hold of it stands\n\
-            Prints: lifted REF MOMENT; of a hold that was lifted before, that MOMENT\n\
+    about: "Lifts a hold, so that it no longer keeps its day from a purge; its record stays",
+    after: "While another hold of the day stands, a purge still drops no part of it\n\
+            Prints: lifted REF MOMENT; a repeat prints the first MOMENT\n\
             Example: escrow lift vault H-1 --now 2028-02-01T12:00:00Z",
     words: &[
         DIR,
         Word {
             id: "REF",
             form: WordForm::Place,
-            help: "Reference of the hold: 1 to 32 letters, digits and hyphens",
+            help: "Reference of the hold",
         },
         Word {
             id: "now",
@@ -300,14 +299,14 @@ static LIFT: Row<'static> = Row {
                 value: "MOMENT",
                 required: false,
             },
-            help: "Moment of the lifting, as 2028-02-01T12:00:00Z; else the clock is read",
+            help: "Moment of the lifting, such as 2028-02-01T12:00:00Z (default: now)",
         },
     ],
 };
 
 static RELEASE: Row<'static> = Row {
     name: "release",
-    about: "Hands the deposits of a registry over, and lists the parts that are held",
+    about: "Records that a registry's deposits are released, and lists its held parts",
     after: "Ground: operator, termination, no_notices, sunday_failed, five_failed, insolvency, critical,\n        \
             order or audit\n\
             Prints: released REF TLD GROUND MOMENT N, then the N names, one a line\n\
@@ -331,7 +330,7 @@ static RELEASE: Row<'static> = Row {
                 value: "MOMENT",
                 required: false,
             },
-            help: "Moment of the release, as 2026-08-03T12:00:00Z; else the clock is read",
+            help: "Moment of the release, such as 2026-08-03T12:00:00Z (default: now)",
         },
     ],
 };
@@ -339,19 +338,19 @@ static RELEASE: Row<'static> = Row {
 static FETCH: Row<'static> = Row {
     name: "fetch",
     about: "Writes the bytes of a part of a release to standard output",
-    after: "Writes the part as it was received, and nothing else\n\
+    after: "Writes the bytes that were received, and nothing else\n\
             Example: escrow fetch vault R-1 example_2026-08-02_full_S1_R0.ryde > part.ryde",
     words: &[
         DIR,
         Word {
             id: "REF",
             form: WordForm::Place,
-            help: "Reference of the release: 1 to 32 letters, digits and hyphens",
+            help: "Reference of the release",
         },
         Word {
             id: "NAME",
             form: WordForm::Place,
-            help: "Name of one of its parts",
+            help: "Name of a part that the release lists",
         },
     ],
 };
@@ -366,7 +365,7 @@ static REPORT: Row<'static> = Row {
 
 static STATE: Row<'static> = Row {
     name: "state",
-    about: "Prints the records: each registry with its parts and notices, releases, holds, free blocks",
+    about: "Prints all records: registries with their parts and notices, releases, holds and free blocks",
     after: "Prints: registry TLD DATE\n        \
             part NAME LENGTH held MOMENT\n        \
             NUMBER RECEIPT DATE RNN ID MOMENT TLD, as verify prints a notice\n        \
@@ -379,16 +378,16 @@ static STATE: Row<'static> = Row {
 
 static AUDIT: Row<'static> = Row {
     name: "audit",
-    about: "Reads each part that is held and compares it with its recorded digest",
-    after: "Prints: damaged NAME for each part that has not its digest,\n        \
-            or sound N, N the number of parts that are held\n\
+    about: "Reads each held part and compares it with its recorded digest",
+    after: "Prints: damaged NAME for each part that differs from its digest,\n        \
+            or sound N, the number of held parts, if none differs\n\
             Example: escrow audit vault",
     words: &[DIR],
 };
 
 static SERVE: Row<'static> = Row {
     name: "serve",
-    about: "Answers requests over HTTP on 127.0.0.1, one connection after the other",
+    about: "Serves requests over HTTP on 127.0.0.1, one connection at a time",
     after: "Prints: listening 127.0.0.1:P\n\
             Example: escrow serve vault --port 8080 --requests 1000",
     words: &[
@@ -407,7 +406,7 @@ static SERVE: Row<'static> = Row {
                 least: 1,
                 most: 1_000_000,
             },
-            help: "How many connections are served before it ends, 1 to 1000000",
+            help: "Number of connections to serve before it ends, 1 to 1000000",
         },
         Word {
             id: "now",
@@ -415,7 +414,7 @@ static SERVE: Row<'static> = Row {
                 value: "MOMENT",
                 required: false,
             },
-            help: "Moment of each request, as 2026-08-02T10:00:00Z; else the clock is read for each",
+            help: "Moment of each request, such as 2026-08-02T10:00:00Z (default: the clock, read for each)",
         },
     ],
 };
