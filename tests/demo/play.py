@@ -8,19 +8,13 @@ Without curl nothing is played, and the status is 2.
 """
 import argparse
 import shutil
-import socket
 import sys
 from pathlib import Path
 
-from console import Console
+from console import Console, free_port
 from deposit import write_parts
 
 TRANSCRIPT = Path(__file__).with_name("transcript")
-
-
-def free_port() -> int:
-    with socket.create_server(("127.0.0.1", 0)) as it:
-        return it.getsockname()[1]
 
 
 def show(lines: list[str]) -> None:
