@@ -129,7 +129,7 @@ def times_of_puts(top, name, content):
 
 
 def puts(top):
-    print("| part | `put`, as a multiple of `cp`, `sync` and `sqlite3` | as a multiple of the same calls in one process |")
+    print("| part | `put` / commands | `put` / one process |")
     print("|---|---|---|")
     times_of_puts(top, "5 bytes", b"bytes")
     times_of_puts(top, "1 MiB", os.urandom(1 << 20))
@@ -141,7 +141,7 @@ def check_by_sqlite(folder):
 
 
 def openings(top):
-    print("\n| parts | `state`, as a multiple of that of 10 parts | of it opening the database | `state`, as a multiple of `sqlite3`'s check |")
+    print("\n| parts | `state` (×) | of it the database | `state` / `sqlite3` |")
     print("|---|---|---|---|")
     least = None
     for count in SIZES:
@@ -163,8 +163,9 @@ def many(top):
         looks.append(seconds(look, folder))
     early, late = min(taken[:EDGE]), min(taken[-EDGE:])
     grown = min(looks[-EDGE:]) - min(looks[:EDGE])
-    print(f"\n{MANY:,} puts of 5 bytes: one of the last {EDGE} takes {late / early:.2f} times one of the first {EDGE};")
-    print(f"the opening of the database grew by {grown / (late - early):.0%} of the difference")
+    print(f"\n| puts | last {EDGE} / first {EDGE} | growth by the database |")
+    print("|---|---|---|")
+    print(f"| {MANY:,} | {late / early:.2f} | {grown / (late - early):.0%} |")
 
 
 if __name__ == "__main__":

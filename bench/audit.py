@@ -97,11 +97,8 @@ def measured(escrow, folder, files, names):
 
 def main():
     escrow = program()
-    print(
-        "| parts | `sha256sum` | `audit` | `state` | `sha256sum`, of `audit`"
-        " | of `audit` without `state` | peak memory of `state` | of `audit` |"
-    )
-    print("|---|---|---|---|---|---|---|---|")
+    print("| parts | `sha256sum` | `audit` | `state` | memory of `state` | of `audit` |")
+    print("|---|---|---|---|---|---|")
     with tempfile.TemporaryDirectory(dir=".") as name:
         top = pathlib.Path(name).resolve()
         for blocks in SIZES:
@@ -112,8 +109,7 @@ def main():
             (plain, _), (opened, before), (audited, peak) = least
             print(
                 f"| {len(names):,} of {blocks * 4:,} KiB"
-                f" | {plain * 1000:.0f} ms | {audited * 1000:.0f} ms | {opened * 1000:.0f} ms"
-                f" | {plain / audited:.2f} | {plain / (audited - opened):.2f}"
+                f" | {plain * 1000:,.0f} ms | {audited * 1000:,.0f} ms | {opened * 1000:,.0f} ms"
                 f" | {before:.1f} MiB | {peak:.1f} MiB |",
                 flush=True,
             )

@@ -158,9 +158,10 @@ def main():
             theirs.append(time.perf_counter() - start)
         memory = peak(program, "verify", copied(vault), "example", *words)
         other = peak(sys.executable, __file__, "--counts", files)
-        print(f"{sizes[0]} bytes, and {len(sizes) - 1} of {min(sizes[1:])} to {max(sizes[1:])}:", end=" ")
-        print(f"verify {min(ours) * 1000:.0f} ms, Python {min(theirs) * 1000:.0f} ms, ratio {min(theirs) / min(ours):.1f};", end=" ")
-        print(f"memory {memory:.0f} MiB, {memory * 1024 * 1024 / sizes[0]:.1f} times the full one; Python {other:.0f} MiB")
+        print("| program | time | memory | / full deposit |")
+        print("|---|---|---|---|")
+        for name, taken, mib in (("`verify`", min(ours), memory), ("Python", min(theirs), other)):
+            print(f"| {name} | {taken * 1000:,.0f} ms | {mib:.0f} MiB | {mib * 1024 * 1024 / sizes[0]:.1f} |")
 
 
 if __name__ == "__main__":

@@ -1,8 +1,8 @@
 #!/usr/bin/env python3
-"""Times the purge of `escrow`, of half the parts of a vault, and counts its instructions, with those of opening the same vault beside it;
-and of vaults with more and more holds, none of them of a day of these parts.
+"""Times the purge of `escrow`, of half the parts of a vault, beside the opening of the same vault; and of vaults with more
+and more holds, none of them of a day of these parts.
 
-It needs valgrind. Run `rt run` in crates/escrow first. Then: python3 bench/purge.py [PROGRAM]
+Run `rt run` in crates/escrow first. Then: python3 bench/purge.py [PROGRAM]
 """
 import datetime
 import hashlib
@@ -11,7 +11,7 @@ import shutil
 import sqlite3
 import tempfile
 
-from vaults import instructions, number, program, seconds
+from vaults import number, program, seconds
 
 FIRST_DAY = datetime.date(2000, 1, 1)
 EARLY = datetime.date(2100, 1, 1)
@@ -53,11 +53,11 @@ def with_holds(folder, count):
     return copy
 
 
-def purged(measure, escrow, folder, count):
-    """What a purge of a copy of the vault takes."""
+def purged(escrow, folder, count):
+    """How long a purge of a copy of the vault takes."""
     copy = folder.with_name("copy")
     shutil.copytree(folder, copy)
-    taken, out = measure(escrow, "purge", copy, "--now", f"{NOW.isoformat()}T00:00:00Z")
+    taken, out = seconds(escrow, "purge", copy, "--now", f"{NOW.isoformat()}T00:00:00Z")
     shutil.rmtree(copy)
     assert out == b"dropped %d\n" % (count // 2), out
     return taken
@@ -65,30 +65,27 @@ def purged(measure, escrow, folder, count):
 
 def main():
     escrow = program()
-    print("| parts, of which half are dropped | time, as a multiple of that of the first row | instructions, so | opening, of them | without the opening, so |")
-    print("|---|---|---|---|---|")
-    first = None
+    print("| parts | `purge` | opening |")
+    print("|---|---|---|")
     with tempfile.TemporaryDirectory(dir=".") as name:
         for count in SIZES:
             folder = pathlib.Path(name).resolve() / f"v{count}"
             new_vault(escrow, folder, count)
-            time = min(purged(seconds, escrow, folder, count) for _ in range(RUNS))
-            opening, _ = instructions(escrow, "report", folder, "example")
-            whole = purged(instructions, escrow, folder, count)
-            first = first or (time, whole, whole - opening)
-            multiples = [now / then for now, then in zip((time, whole, whole - opening), first)]
-            print(f"| {count:,} | {multiples[0]:.1f} | {multiples[1]:.2f} | {opening / whole:.0%} | {multiples[2]:.2f} |", flush=True)
+            time = min(purged(escrow, folder, count) for _ in range(RUNS))
+            opening = min(seconds(escrow, "report", folder, "example")[0] for _ in range(RUNS))
+            print(f"| {count:,} | {time * 1000:,.0f} ms | {opening * 1000:,.0f} ms |", flush=True)
         show_holds(escrow, pathlib.Path(name).resolve() / f"v{SIZES[0]}", SIZES[0])
 
 
 def show_holds(escrow, folder, count):
     """What a purge of the vault takes with more and more holds."""
-    print(f"\n| holds, beside {count:,} parts | time, as a multiple of that of the first row |")
+    print("\n| holds | time (×) |")
     print("|---|---|")
     first = None
     for holds in HOLDS:
         held = with_holds(folder, holds)
-        time = min(purged(seconds, escrow, held, count) for _ in range(RUNS))
+        time = min(purged(escrow, held, count) for _ in range(RUNS))
+        shutil.rmtree(held)
         first = first or time
         print(f"| {holds:,} | {time / first:.1f} |", flush=True)
 

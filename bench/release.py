@@ -1,6 +1,6 @@
 #!/usr/bin/env python3
-"""Times a release of a registry of many held parts, and a fetch of the last of them, with the opening of the same vault
-beside each; and measures the peak memory of each.
+"""Times a release of a registry of many held parts, and a fetch of the last of them, beside the opening of the same vault;
+and measures the peak memory of each.
 
 Each number is the least of several.
 
@@ -95,25 +95,22 @@ def fetch(escrow, folder, count):
 
 
 def measured(escrow, folder, count):
-    """A release and a fetch in a copy of a vault, each behind the opening that it has."""
+    """The opening of a copy of a vault, a release in it, and a fetch."""
     copy = copied(folder)
-    before = opening(escrow, copy)
-    released = release(escrow, copy, count)
-    after = opening(escrow, copy)
-    return before, released, after, fetch(escrow, copy, count)
+    return opening(escrow, copy), release(escrow, copy, count), fetch(escrow, copy, count)
 
 
 def main():
     escrow = program()
-    print("| parts | opening | `release` | opening, with the release | `fetch` of the last part |")
-    print("|---|---|---|---|---|")
+    print("| parts | opening | `release` | `fetch` |")
+    print("|---|---|---|---|")
     with tempfile.TemporaryDirectory(dir=".") as top:
         for count in SIZES:
             vault = pathlib.Path(top).resolve() / f"v{count}"
             new_vault(escrow, vault, count)
             runs = [measured(escrow, vault, count) for _ in range(RUNS)]
             least = [map(min, zip(*column)) for column in zip(*runs)]
-            shown = " | ".join(f"{taken * 1000:.0f} ms, {peak:.1f} MiB" for taken, peak in least)
+            shown = " | ".join(f"{taken * 1000:,.0f} ms, {peak:.0f} MiB" for taken, peak in least)
             print(f"| {count:,} | {shown} |", flush=True)
 
 

@@ -190,18 +190,17 @@ class OneProcess:
 
 
 def times_of_puts(escrow, top, content):
-    """The times of `PUT`, of a small `GET`, of the same work within one process, and of that with a SHA-256."""
+    """The times of `PUT`, of the same work within one process, and of that with a SHA-256."""
     folders = [top / kind for kind in ("served", "plain", "digested")]
     for folder in folders:
         new_vault(escrow, folder)
     plain, digested = OneProcess(folders[1], False), OneProcess(folders[2], True)
-    buffer, taken = new_buffer(), ([], [], [], [])
-    with serving(escrow, folders[0], 2 * PUTS) as (port, _):
+    buffer, taken = new_buffer(), ([], [], [])
+    with serving(escrow, folders[0], PUTS) as (port, _):
         for i in range(PUTS):
             taken[0].append(answered(port, put_request(i, content), buffer, 201))
-            taken[1].append(answered(port, SMALL, buffer, 200))
-            taken[2].append(plain.put(i, content))
-            taken[3].append(digested.put(i, content))
+            taken[1].append(plain.put(i, content))
+            taken[2].append(digested.put(i, content))
     plain.close()
     digested.close()
     return taken
@@ -217,14 +216,13 @@ def milliseconds(taken):
 
 
 def puts(escrow, top):
-    print(f"A part that is put, {PUTS} times: median and least in milliseconds, and the rate as a multiple of the other's.\n")
-    print("| part | against | `PUT` | a small `GET` | the other | rate by the median | by the least |")
-    print("|---|---|---|---|---|---|---|")
+    print("| `PUT` | against | ms: median, least | the other | rate | by the least |")
+    print("|---|---|---|---|---|---|")
     for name, content in contents():
         with tempfile.TemporaryDirectory(dir=top) as folder:
-            ours, small, plain, digested = times_of_puts(escrow, pathlib.Path(folder), content)
-        for other, theirs in (("write, syncs and insert", plain), ("these and SHA-256", digested)):
-            shown = " | ".join(map(milliseconds, (ours, small, theirs)))
+            ours, plain, digested = times_of_puts(escrow, pathlib.Path(folder), content)
+        for other, theirs in (("write, sync, insert", plain), ("with SHA-256", digested)):
+            shown = " | ".join(map(milliseconds, (ours, theirs)))
             print(f"| {name} | {other} | {shown} | {rates(ours, theirs)} |", flush=True)
 
 
@@ -257,18 +255,12 @@ def per_put(escrow, top, content, *words):
 
 
 def calls(escrow, top):
-    print("\nThe calls of one `PUT`, and what of its time they take (the syncs and others, traced without the rest):\n")
-    print("| part | syncs | other calls | time of the syncs | of `pwrite64` |")
-    print("|---|---|---|---|---|")
+    print("\n| `PUT` | syncs | their time | time of `pwrite64` |")
+    print("|---|---|---|---|")
     for name, content in contents():
-        all_calls, _ = per_put(escrow, top, content)
-        counts = {call: count for call, (count, _) in all_calls.items() if count >= 0.5}
-        syncs = sum(counts.pop(call, 0) for call in SYNCS)
-        others = ", ".join(f"{count:.0f} `{call}`" for call, count in sorted(counts.items(), key=lambda row: -row[1]))
         work, taken = per_put(escrow, top, content, "--seccomp-bpf", "-e", "trace=" + ",".join(WORK))
-        shares = {call: work.get(call, (0, 0))[1] / taken for call in WORK}
-        sync_share = sum(shares[call] for call in SYNCS)
-        print(f"| {name} | {syncs:.2f} | {others} | {sync_share:.0%} | {shares['pwrite64']:.0%} |", flush=True)
+        counts, times = zip(*(work.get(call, (0, 0)) for call in (*SYNCS, "pwrite64")))
+        print(f"| {name} | {sum(counts[:-1]):.1f} | {sum(times[:-1]) / taken:.0%} | {times[-1] / taken:.0%} |", flush=True)
 
 
 # ---- fetching
@@ -296,8 +288,7 @@ def times_of_gets(escrow, top):
 
 
 def gets(escrow, top):
-    print(f"\nA part of 1 MiB that is fetched, {GETS} times: median and least in milliseconds, and the rate as a multiple of nginx's.\n")
-    print("| `GET` | nginx | rate by the median | by the least |")
+    print("\n| `GET` of 1 MiB, ms | nginx | rate | by the least |")
     print("|---|---|---|---|")
     with tempfile.TemporaryDirectory(dir=top) as folder:
         ours, theirs = times_of_gets(escrow, pathlib.Path(folder))
@@ -329,16 +320,15 @@ def peaks(escrow, vault, content):
 
 
 def memory(escrow, top):
-    print(f"\nPeak memory of a server in KiB, the least and the most of {RUNS} runs:\n")
     columns = " | ".join(f"added by {count}" for count in PARTS)
-    print(f"| parts of | after a small `GET` | {columns} |")
+    print(f"\n| KiB, parts of | after a `GET` | {columns} |")
     print("|---|---|" + "---|" * len(PARTS))
     for name, content in contents():
         runs = []
         for _ in range(RUNS):
             with tempfile.TemporaryDirectory(dir=top) as folder:
                 runs.append(peaks(escrow, pathlib.Path(folder) / "vault", content))
-        print(f"| {name} | " + " | ".join(f"{min(column)} to {max(column)}" for column in zip(*runs)) + " |", flush=True)
+        print(f"| {name} | " + " | ".join(f"{min(column)}–{max(column)}" for column in zip(*runs)) + " |", flush=True)
 
 
 def main():

@@ -2,7 +2,7 @@
 """Times a statement through the program `escrow`: a full deposit of 8 MiB in eight parts is verified and its notice
 recorded, against `sha256sum` of the same files and one committed insert by `sqlite3`.
 
-Run `rt run` in crates/escrow first. It needs sha256sum and sqlite3. Then: python3 bench/statement.py
+Run `rt run` in crates/escrow first. It needs sha256sum and sqlite3. Then: python3 bench/statement.py [PROGRAM]
 """
 import pathlib
 import shutil
@@ -10,9 +10,10 @@ import subprocess
 import tempfile
 import time
 
+import vaults
 import verify
 
-PROGRAM = verify.PROGRAM.parent.parent.parent / "escrow/out/escrow"
+PROGRAM = vaults.program()
 PART = 1024 * 1024
 PARTS = 8
 RUNS = 15
@@ -83,8 +84,10 @@ def main():
         pairs = [by_commands(top, paths, i) for i in range(RUNS)]
         digests = min(pair[0] for pair in pairs)
         insert = min(pair[1] for pair in pairs)
-        theirs = digests + insert
-        print(f"{len(deposit)} bytes: verify {ours * 1000:.0f} ms; sha256sum {digests * 1000:.0f} ms, insert {insert * 1000:.0f} ms; ratio {ours / theirs:.1f}")
+        print("| `verify` | `sha256sum` | insert | ratio |")
+        print("|---|---|---|---|")
+        times = " | ".join(f"{taken * 1000:.0f} ms" for taken in (ours, digests, insert))
+        print(f"| {times} | {ours / (digests + insert):.1f} |")
 
 
 if __name__ == "__main__":

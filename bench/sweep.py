@@ -13,7 +13,7 @@ from vaults import number, program, seconds
 
 FIRST_DAY = datetime.date(2026, 8, 1)
 DAYS = 10
-SIZES = (2_500, 5_000, 10_000)
+SIZES = (1_000, 2_000, 4_000)
 
 
 def new_vault(escrow, folder, count):
@@ -50,7 +50,7 @@ def inserts(path, count):
 
 def main():
     escrow = program()
-    print(f"| registries of {DAYS} days | `sweep`, as a multiple of that of {SIZES[0]:,} | of inserts each committed | a second sweep, of the first |")
+    print("| registries | `sweep` (×) | `sweep` / inserts | second / first |")
     print("|---|---|---|---|")
     least = None
     with tempfile.TemporaryDirectory(dir=".") as name:

@@ -1,7 +1,6 @@
 """What the benches of `escrow` share: the program, days as numbers, and a call with its time."""
 import datetime
 import pathlib
-import re
 import subprocess
 import sys
 import time
@@ -27,12 +26,3 @@ def seconds(*words):
     taken = time.perf_counter() - start
     assert done.returncode == 0, (words, done.stderr)
     return taken, done.stdout
-
-
-def instructions(*words):
-    """How many instructions a call takes, which no other work on the machine changes, and what it printed."""
-    done = subprocess.run(
-        ["valgrind", "--tool=callgrind", "--callgrind-out-file=/dev/null", *words], stdout=subprocess.PIPE, stderr=subprocess.PIPE
-    )
-    assert done.returncode == 0, (words, done.stderr)
-    return int(re.search(rb"Collected : (\d+)", done.stderr).group(1)), done.stdout

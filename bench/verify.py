@@ -20,7 +20,7 @@ import time
 
 PROGRAM = pathlib.Path(__file__).resolve().parent.parent / "crates/bench_tools/out/bench_tools"
 SIZE = 8 * 1024 * 1024
-TIMES = 10
+TIMES = 5
 RUNS = 5
 SPACE = "urn:ietf:params:xml:ns:"
 URIS = [SPACE + name for name in ("csvContact-1.0", "csvDomain-1.0", "csvHost-1.0", "csvRegistrar-1.0", "rdeHeader-1.0")]
@@ -247,22 +247,31 @@ def python_time(deposit):
     return verdict, least
 
 
+def row(name, ours, theirs, memory):
+    """A row of the table: times in milliseconds and their ratio, and the memory as a multiple of the deposit."""
+    python = f"{theirs * 1000:,.0f} ms | {theirs / ours:.1f}" if theirs else " | "
+    print(f"| {name} | {ours * 1000:,.0f} ms | {python} | {memory:.1f} |", flush=True)
+
+
 def main():
+    print("| deposit | time | Python | ratio | memory / deposit |")
+    print("|---|---|---|---|---|")
     with tempfile.TemporaryDirectory() as folder:
-        slowest = 0
         for make, shuffled in itertools.product((registry, short_rows), (False, True)):
             deposit = joined(make(shuffled))
-            kind = ("shuffled" if shuffled else "in order") + (" in short rows" if make is short_rows else "")
+            kind = ("short rows, " if make is short_rows else "") + ("shuffled" if shuffled else "in order")
             answer, ours, memory = timed(folder, deposit)
             verdict, theirs = python_time(deposit)
             assert answer == verdict == "PASS", (answer, verdict)
-            slowest = max(slowest, ours / len(deposit))
-            print(f"keys {kind}: {len(deposit)} bytes, {ours * 1000:.1f} ms, Python {theirs * 1000:.1f} ms, ratio {theirs / ours:.1f}, memory {memory / len(deposit):.1f} times the deposit")
+            row(kind, ours, theirs, memory / len(deposit))
+        found = []
         for kind, verdict, deposit in hostile():
             answer, ours, memory = timed(folder, deposit)
             assert answer == verdict, (kind, answer)
-            share = ours / len(deposit) / slowest
-            print(f"{verdict} {kind}: {len(deposit)} bytes, {ours * 1000:.1f} ms, {share:.2f} of the slowest good one, memory {memory / len(deposit):.1f} times")
+            found.append((kind, ours, memory / len(deposit)))
+    for place, word in ((1, "slowest"), (2, "most memory")):
+        kind, ours, memory = max(found, key=lambda it: it[place])
+        row(f"hostile, {word}: {kind}", ours, None, memory)
 
 
 if __name__ == "__main__":

@@ -56,7 +56,7 @@ def try_edits(names):
 
 
 def main():
-    known = sorted(it.name for it in EDITS.iterdir())
+    known = sorted(it.name for it in EDITS.iterdir() if it.is_dir())
     names = sys.argv[1:]
     if names == ["--check"]:
         return check()

@@ -1,11 +1,11 @@
 #!/usr/bin/env python3
-"""The pages that are made from other files, so that they cannot part from them.
+"""Makes pages from other files, so that they always agree.
 
     docs/escrow.1, docs/escrow.bash   the manual page, and the tables of bash's completions, from the table of the words
                                       (crates/agent_cli/src/subcommands.rt, and the texts of src/grammar.rt beside it)
     docs/crates.svg                   the crates with the ways of a command and of a request, from crates.txt
-    docs/PROOFS.md                    how many lines the definitions have that one reads for the theorems
-    CONTRIBUTING.md                   in how many files of each crate a command's name stands
+    each page with a block            the lines between `<!-- made: NAME -->` and `<!-- end -->`: counts, and results of
+                                      benches (tests/blocks.py says which names there are)
 
 usage: tests/made.py            writes them
        tests/made.py --check    compares them, and looks up in the code what docs/GLOSSARY.md decides. The last line is
@@ -16,6 +16,7 @@ import sys
 from dataclasses import dataclass
 from pathlib import Path
 
+import blocks
 import words
 
 TOP = Path(__file__).resolve().parent.parent
@@ -80,7 +81,7 @@ def table():
 
 
 def texts():
-    """What help says of the command as a whole, and behind its subcommands; and the version."""
+    """What help prints before the subcommands and after them, and the version."""
     source = (CLI / "grammar.rt").read_text()
     found = re.finditer(rf"(about|after|VERSION)(?:: &str)? =\s*{STRING};", source, re.DOTALL)
     named = {it[1]: text(it[2]) for it in found}
@@ -136,14 +137,14 @@ def manual(rows):
 
 
 def choices(row, word):
-    """The values of a word that the table lists, as `a, b or c` behind a colon: in its help, or in a line behind."""
+    """The values of a word, if the table lists them as `a, b or c` after a colon, in its help or in a line after it."""
     behind = re.sub(r",\n +", ", ", row.after).split("\n")
     said = [word.help, *(it for it in behind if it.lower().startswith(f"{word.id.lower()}: "))]
     found = [re.search(r": ((?:\w+, )*\w+ or \w+)$", it) for it in said]
     return next((re.split(", | or ", it[1]) for it in found if it), [])
 
 
-# What stands before the code in docs/escrow.bash: the tables above it are made, and the code is kept.
+# The first line of the code in docs/escrow.bash. The tables above it are made; the code is kept.
 CODE = "# What is offered for the word at the cursor.\n"
 
 
@@ -208,14 +209,14 @@ def all_below(name, found):
 
 
 def nearest(name, found):
-    """What a crate names and reaches through no other crate that it names."""
+    """The crates that a crate names and reaches through no other one."""
     below = found[name][1]
     return [it for it in below if not any(it in all_below(other, found) for other in below)]
 
 
 def levels(found):
-    """The rows of the picture, the highest first: each crate above all that it stands on, and each line that crosses a
-    row as a place of its own, a pair of crates."""
+    """The rows of the picture, the highest first. Each crate is above all that it uses. A line that crosses a row has a
+    place there, a pair of crates."""
     level = {}
     for name in found:
         level[name] = 1 + max((level[it] for it in found[name][1]), default=-1)
@@ -229,7 +230,7 @@ def levels(found):
 
 
 def places(found):
-    """The middle of the upper edge of each box, and of each line in a row that it crosses: near what is above it."""
+    """The middle of the upper edge of each box, and of each line in a row that it crosses, near what is above it."""
     place, above = {}, {it: [] for it in found}
     for name in found:
         for it in nearest(name, found):
@@ -248,7 +249,7 @@ def places(found):
 
 
 def line(points):
-    """A line through points, each the lower end of a box or of a row, and the upper end of the next."""
+    """A line from the lower edge of a box, through the upper edges of the rows that it crosses, to the next box."""
     (x, y), *more = points
     path = f"M{x} {y}"
     for to, low in more:
@@ -290,80 +291,41 @@ def picture():
     return "\n".join([*lines, "</svg>"]) + "\n"
 
 
-# ---- the lines that one reads
+# ---- all of them
 
 
-def lines_of(module):
-    """How many lines the file of a module of definitions has, without its imports."""
-    crate, path = module.split("/", 1)
-    text = (TOP / "crates" / crate / f"{path}.antt").read_text()
-    return re.sub(r"^(?:pub )?use .*?(?:\}| as \w+)\n", "", text, flags=re.MULTILINE | re.DOTALL).count("\n")
+def made():
+    """The text of each file that is made, and why others cannot be."""
+    rows = table()
+    texts = {"docs/escrow.1": manual(rows), "docs/escrow.bash": completions(rows), "docs/crates.svg": picture()}
+    faults = []
+    for name, text in blocks.pages().items():
+        try:
+            texts[name] = blocks.filled(name, text)
+        except blocks.BlockError as why:
+            faults.append(str(why))
+    return texts, faults
 
 
-def modules_in(cell):
-    """The modules that a cell names: the first one with its crate, and behind it those beside it."""
-    named = re.findall(r"`([\w/]+)`", cell)
-    folder = named[0].rsplit("/", 1)[0]
-    return [it if "/" in it else f"{folder}/{it}" for it in named]
-
-
-def counted():
-    """docs/PROOFS.md, with the lines of the modules in its tables."""
-    text = (TOP / "docs" / "PROOFS.md").read_text()
-    row = re.compile(r"^\| (`\w+/specs/[^|]*) \| \d+ \|", re.MULTILINE)
-    return row.sub(lambda it: f"| {it[1]} | {sum(map(lines_of, modules_in(it[1])))} |", text)
-
-
-# ---- where a command stands
-
-# The command that came last, whose name nothing else has.
-COMMAND = "Lift"
-KINDS = ("src/**/*.rt", "specs/**/*.antt", "proofs/**/*.antt")
-
-
-def files_of_command(crate):
-    """How many files of a crate name the command: of its code, its definitions and its proofs."""
-    named = re.compile(rf"\b{COMMAND}\b")
-    return [sum(bool(named.search(it.read_text())) for it in crate.glob(kind)) for kind in KINDS]
-
-
-def counted_for_a_command():
-    """CONTRIBUTING.md, with its table of the files that name a command."""
-    found = {it.name: files_of_command(it) for it in sorted((TOP / "crates").iterdir())}
-    found = {name: counts for name, counts in found.items() if any(counts)}
-    found["all"] = [sum(counts) for counts in zip(*found.values())]
-    rows = [f"| {name} | {' | '.join(map(str, counts))} |" for name, counts in found.items()]
-    head = f"| files that name `{COMMAND}` | code | definitions | proofs |\n|---|---|---|---|\n"
-    text = (TOP / "CONTRIBUTING.md").read_text()
-    table = re.compile(r"^\| files that name `\w+` \|.*\n(?:\|.*\n)+", re.MULTILINE)
-    return table.sub(lambda _: head + "".join(f"{it}\n" for it in rows), text)
+def check(texts):
+    """A line for each difference, how many comparisons failed, and how many there were. The glossary is one."""
+    changed = [name for name, text in texts.items() if not (TOP / name).is_file() or (TOP / name).read_text() != text]
+    lines = [f"{name} is not what tests/made.py makes: run it, and look at what changes" for name in changed]
+    found = list(words.findings())
+    return lines + found, len(changed) + bool(found), len(texts) + 1
 
 
 def main():
-    rows = table()
-    made = {
-        "docs/escrow.1": manual(rows),
-        "docs/escrow.bash": completions(rows),
-        "docs/crates.svg": picture(),
-        "docs/PROOFS.md": counted(),
-        "CONTRIBUTING.md": counted_for_a_command(),
-    }
-    passed = 0
-    for name, text in made.items():
-        file = TOP / name
-        if sys.argv[1:] != ["--check"]:
-            file.write_text(text)
-        elif file.is_file() and file.read_text() == text:
-            passed += 1
-        else:
-            print(f"{name} is not what tests/made.py makes: run it, and look at what changes")
-    if sys.argv[1:] != ["--check"]:
-        return 0
-    found = list(words.findings())
-    print("".join(f"{it}\n" for it in found), end="")
-    failed = len(made) - passed + bool(found)
-    print(f"{passed + (not found)} passed, {failed} failed")
-    return failed > 0
+    texts, faults = made()
+    if sys.argv[1:] == ["--check"]:
+        lines, failed, compared = check(texts)
+        print("".join(f"{it}\n" for it in faults + lines), end="")
+        print(f"{compared - failed} passed, {failed + len(faults)} failed")
+        return failed + len(faults) > 0
+    for name, text in texts.items():
+        (TOP / name).write_text(text)
+    print("".join(f"{it}\n" for it in faults), end="")
+    return len(faults) > 0
 
 
 if __name__ == "__main__":

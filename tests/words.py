@@ -56,7 +56,7 @@ def findings():
     """What of the code is not as the glossary has it, a line each."""
     defined, named, all_text = definitions(), items(), texts()
     for cells in section("Words that this project has given up"):
-        homes = set(re.findall(r"\w+", cells[2].split(":")[0]))
+        homes = set(re.findall(r"\w+", "".join(cells[2:]).split(":")[0]))
         for word in words(cells[0]):
             for crate in sorted((defined[word] | named[word]) - homes):
                 yield f"crates/{crate} names something {word}, which docs/GLOSSARY.md has given up: use {cells[1]}"

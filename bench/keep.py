@@ -1,0 +1,275 @@
+#!/usr/bin/env python3
+"""Keeps measurements in bench/results/NAME.txt. tests/made.py copies them into the pages.
+
+usage: bench/keep.py [--prove LOG] [--gate LOG] [NAME ..]
+
+A NAME is a script of this folder (`agent`, `audit`, ..) or `runs`, which times tests/stops.sh, tests/faults.py and
+tests/memory.py; `all` makes them all. `--prove LOG` reads the output of `./prove` and keeps `prove`. `--gate LOG`
+reads that of `.ci/run` and keeps `gate`. Both must have begun with nothing proved. The programs must be built (`rt run`
+in crates/escrow, crates/bench_tools and crates/agent_script). If one measurement fails, its result stays as it was, the
+others go on, and the status is 1. Run tests/made.py afterwards.
+"""
+import argparse
+import datetime
+import os
+import re
+import shutil
+import signal
+import subprocess
+import sys
+import time
+from pathlib import Path
+
+TOP = Path(__file__).resolve().parent.parent
+RESULTS = TOP / "bench" / "results"
+# Where the scripts run: a folder on the disk of the repository, ignored by git. Most make their vaults here; `chain`,
+# `statement` and the tests make theirs in the folder for temporary files.
+WORK = TOP / "bench" / "out"
+# The most seconds that one script may take.
+PATIENCE = 1800
+
+# What each measurement needs: programs of crates, and tools.
+NEEDS = {
+    "agent": (("escrow",), ("cp", "sync", "sqlite3")),
+    "audit": (("escrow",), ("sha256sum", "/usr/bin/time")),
+    "chain": (("escrow",), ()),
+    "map": (("bench_tools",), ()),
+    "purge": (("escrow",), ()),
+    "release": (("escrow",), ("/usr/bin/time",)),
+    "serve": (("escrow",), ("strace", "nginx")),
+    "statement": (("escrow",), ("sha256sum", "sqlite3")),
+    "sweep": (("escrow",), ()),
+    "tables": (("bench_tools",), ()),
+    "verify": (("bench_tools",), ()),
+    "runs": (("escrow", "bench_tools", "agent_script"), ("strace",)),
+}
+
+
+class NotMeasured(Exception):
+    """Why there is no result."""
+
+
+def program(crate):
+    return TOP / "crates" / crate / "out" / crate
+
+
+def lacking(name):
+    """The programs and tools that a measurement needs and this machine lacks."""
+    crates, tools = NEEDS[name]
+    programs = [f"{program(it).relative_to(TOP)}" for it in crates if not os.access(program(it), os.X_OK)]
+    return programs + [it for it in tools if not shutil.which(it)]
+
+
+# ---- the first line of a result
+
+
+def machine():
+    """The processors: how many, their model and their clock."""
+    text = Path("/proc/cpuinfo").read_text()
+    model = re.search(r"^model name\s*: (.*)$", text, re.MULTILINE)[1]
+    plain = " ".join(re.sub(r"\((?:R|TM)\)|\bProcessor\b|\bCPU\b|@.*", "", model).split())
+    clocks = [float(it) for it in re.findall(r"^cpu MHz\s*: ([\d.]+)$", text, re.MULTILINE)]
+    return f"{os.cpu_count()} × {plain}, {max(clocks) / 1000:.1f} GHz"
+
+
+def heading(day, beside):
+    """The first line of a result; `beside` says what else mattered."""
+    return f"{day}, {machine()}, {beside}:"
+
+
+def today():
+    return heading(datetime.date.today(), f"load {os.getloadavg()[0]:.1f}")
+
+
+# ---- tables
+
+
+def row(*cells):
+    return f"| {' | '.join(map(str, cells))} |"
+
+
+def table(head, rows):
+    return "\n".join([row(*head), row(*["---"] * len(head)), *(row(*it) for it in rows)])
+
+
+def padded(place, column):
+    """The cells of a column, padded to one width. Numbers stand on the right, except in the first column."""
+    wide = max(map(len, column))
+    is_number = place and all(it[:1].isdigit() for it in column[1:] if it)
+    return [it.rjust(wide) if is_number else it.ljust(wide) for it in column]
+
+
+def aligned(table):
+    """The rows of a Markdown table, as lines in columns."""
+    lines = [line.strip().removeprefix("|").removesuffix("|").replace("`", "") for line in table.splitlines()]
+    head, _, *rest = [[cell.strip() for cell in line.split("|")] for line in lines]
+    return ["  ".join(row).rstrip() for row in zip(*(padded(*it) for it in enumerate(zip(head, *rest))))]
+
+
+def keep(name, first, text):
+    """Writes a result: its first line, and the tables in columns."""
+    RESULTS.mkdir(exist_ok=True)
+    tables = re.findall(r"(?:^\|.*\n?)+", text, re.MULTILINE)
+    shown = "\n\n".join("\n".join(aligned(it)) for it in tables)
+    (RESULTS / f"{name}.txt").write_text(f"{first}\n\n```\n{shown}\n```\n")
+
+
+# ---- scripts
+
+
+def output(*words):
+    """What a script prints, and its seconds. It must end with status 0, and in time."""
+    start = time.perf_counter()
+    pipes = {"stdin": subprocess.DEVNULL, "stdout": subprocess.PIPE, "stderr": subprocess.PIPE}
+    process = subprocess.Popen(words, cwd=WORK, text=True, errors="replace", start_new_session=True, **pipes)
+    try:
+        text, errors = process.communicate(timeout=PATIENCE)
+    except subprocess.TimeoutExpired:
+        raise NotMeasured(f"no end after {PATIENCE} s") from None
+    finally:
+        if process.poll() is None:
+            os.killpg(process.pid, signal.SIGKILL)
+            process.communicate()
+    if process.returncode:
+        raise NotMeasured(f"status {process.returncode}\n{text[-500:]}{errors[-2000:]}")
+    return text, time.perf_counter() - start
+
+
+def bench(name):
+    text, _ = output(sys.executable, TOP / "bench" / f"{name}.py")
+    if not re.search(r"^\|", text, re.MULTILINE):
+        raise NotMeasured(f"it prints no table\n{text[-500:]}")
+    return text
+
+
+# ---- runs of tests
+
+
+def tested(*words):
+    """What a test prints, and its time. Nothing may fail or be skipped."""
+    text, taken = output(TOP / "tests" / words[0], *words[1:])
+    if not re.search(r"^[1-9]\d* passed, 0 failed(?:, 0 skipped)?\s*\Z", text, re.MULTILINE):
+        raise NotMeasured(f"tests/{' '.join(words)}\n{text[-500:]}")
+    return text, f"{taken:.0f} s"
+
+
+def numbers(form, text):
+    """The numbers of the lines of this form, added up column by column."""
+    found = [list(map(int, it)) for it in re.findall(form, text, re.MULTILINE)]
+    if not found:
+        raise NotMeasured(f"nothing is printed like {form}\n{text[-500:]}")
+    return [sum(column) for column in zip(*found)]
+
+
+def stops():
+    text, taken = tested("stops.sh")
+    ways, pairs = numbers(r"^stops: once (\d+) runs, twice (\d+) of ", text)
+    failures, more = numbers(r"^fails: once (\d+) runs, twice (\d+) of ", text)
+    what = f"`tests/stops.sh`: {ways} stops, {failures} failures, each again"
+    return what, f"{ways + pairs + failures + more:,}", taken
+
+
+def faults():
+    text, taken = tested("faults.py")
+    calls, runs = numbers(r"^[\w ]+: (\d+) calls, (\d+) runs: ", text)
+    return f"`tests/faults.py`: {calls:,} calls, three errors and a kill", f"{runs:,}", taken
+
+
+def texts():
+    text, taken = tested("memory.py", "texts")
+    _, runs = numbers(r": (\d+) allocations, (\d+) runs ", text)
+    return "`tests/memory.py texts`", f"{runs:,}", taken
+
+
+def calls():
+    text, taken = tested("memory.py", "calls")
+    _, runs = numbers(r": (\d+) allocations, (\d+) runs ", text)
+    _, ended = numbers(r"as without in (\d+) runs, ended by the script itself in (\d+)", text)
+    return f"`tests/memory.py calls`; {ended:,} ended by the script", f"{runs:,}", taken
+
+
+def runs():
+    return table(("what", "runs", "time"), [it() for it in (stops, faults, texts, calls)])
+
+
+# ---- logs
+
+
+def minutes(clock):
+    whole, seconds = clock.split(":")
+    return int(whole) + int(seconds) / 60
+
+
+def prove(log):
+    """Keeps the times of the proofs, from a log of `./prove`."""
+    text = log.read_text(errors="replace")
+    lanes = re.search(r"^.*\d+ crates, at most (\d+) side by side$", text, re.MULTILINE)
+    proved = re.findall(r"(\w+) is proved, in (\d+:\d\d), ([\d.]+) minutes of the processor", text)
+    whole = re.findall(r"(\d+:\d\d)  \d+ proved, 0 not\s*$", text, re.MULTILINE)
+    if not (lanes and proved and whole):
+        raise NotMeasured(f"{log} does not end with all crates proved")
+    found = sorted(((name, minutes(clock), float(worked)) for name, clock, worked in proved), key=lambda it: -it[2])
+    found.append(("all", minutes(whole[-1]), sum(worked for *_, worked in found)))
+    rows = [(name if name == "all" else f"`{name}`", f"{clock:.1f}", f"{worked:.1f}") for name, clock, worked in found]
+    day = datetime.date.fromtimestamp(log.stat().st_mtime)
+    first = heading(day, f"at most {lanes[1]} crates side by side")
+    keep("prove", first, table(("crate", "minutes by the clock", "of the processor"), rows))
+
+
+def gate(log):
+    """Keeps the time of the gate, from a log of `.ci/run`."""
+    text = log.read_text(errors="replace")
+    form = r"^(\d+) processor minutes, in (\d+) by the clock\n\d+ passed, 0 failed, \d+ skipped\s*\Z"
+    found = re.search(form, text, re.MULTILINE)
+    if not found:
+        raise NotMeasured(f"{log} does not end with a gate that has passed")
+    first = heading(datetime.date.fromtimestamp(log.stat().st_mtime), "the whole gate")
+    keep("gate", first, table(("minutes by the clock", "of the processor"), [(found[2], found[1])]))
+
+
+# ---- the call
+
+
+def measure(name):
+    """Makes one measurement and keeps it."""
+    if lacks := lacking(name):
+        raise NotMeasured(f"there is no {', no '.join(lacks)}")
+    first = today()
+    keep(name, first, runs() if name == "runs" else bench(name))
+
+
+def is_kept(name, make, *words):
+    """Makes a result and says whether that succeeded."""
+    start = time.perf_counter()
+    try:
+        make(*words)
+    except (NotMeasured, OSError) as why:
+        print(f"{name}: NOT KEPT: {why}", flush=True)
+        return False
+    print(f"{name}: kept, after {time.perf_counter() - start:.0f} s", flush=True)
+    return True
+
+
+def main():
+    words = argparse.ArgumentParser(description=__doc__, formatter_class=argparse.RawDescriptionHelpFormatter)
+    words.add_argument("--prove", type=Path, metavar="LOG")
+    words.add_argument("--gate", type=Path, metavar="LOG")
+    words.add_argument("names", nargs="*", metavar="NAME")
+    asked = words.parse_args()
+    names = list(NEEDS) if "all" in asked.names else asked.names
+    if not set(names) <= set(NEEDS):
+        words.error(f"a NAME is all, {', '.join(NEEDS)}")
+    logs = [(name, make, log) for name, make, log in (("prove", prove, asked.prove), ("gate", gate, asked.gate)) if log]
+    if not names and not logs:
+        words.error("name a measurement or a log")
+    for name in names:
+        if lacks := lacking(name):
+            print(f"{name} will not be measured: there is no {', no '.join(lacks)}", flush=True)
+    WORK.mkdir(exist_ok=True)
+    kept = [is_kept(*it) for it in logs] + [is_kept(name, measure, name) for name in names]
+    shutil.rmtree(WORK, ignore_errors=True)
+    return not all(kept)
+
+
+if __name__ == "__main__":
+    sys.exit(main())
