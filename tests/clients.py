@@ -4,7 +4,7 @@
     tests/clients.py [PROGRAM] [--rounds N] [--seconds S] [--seed N]
 
 The requests of a worked example come in steps, each at a moment of its own. First nobody disturbs the
-server, and each response is that of docs/FORMATS.md and docs/CODES.md. Then come rounds, each over a new
+server, and each response is that of docs/HTTP.md and docs/CODES.md. Then come rounds, each over a new
 vault. There the server is killed, while it opens the vault, within a request or behind a response, and
 started again; the client goes away within the request or the response, or forgets the response; or no file
 may grow any more, and a failure is told. A request is sent again until its response is whole, by its bytes
