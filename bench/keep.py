@@ -21,6 +21,10 @@ import time
 from pathlib import Path
 
 TOP = Path(__file__).resolve().parent.parent
+sys.path.insert(0, str(TOP / "tests"))
+
+from blocks import columns, fenced  # noqa: E402
+
 RESULTS = TOP / "bench" / "results"
 # Where the scripts run: a folder on the disk of the repository, ignored by git. Most make their vaults here; `chain`,
 # `statement` and the tests make theirs in the folder for temporary files.
@@ -84,34 +88,17 @@ def today():
 # ---- tables
 
 
-def row(*cells):
-    return f"| {' | '.join(map(str, cells))} |"
-
-
-def table(head, rows):
-    return "\n".join([row(*head), row(*["---"] * len(head)), *(row(*it) for it in rows)])
-
-
-def padded(place, column):
-    """The cells of a column, padded to one width. Numbers stand on the right, except in the first column."""
-    wide = max(map(len, column))
-    is_number = place and all(it[:1].isdigit() for it in column[1:] if it)
-    return [it.rjust(wide) if is_number else it.ljust(wide) for it in column]
-
-
-def aligned(table):
-    """The rows of a Markdown table, as lines in columns."""
+def rows_of(table):
+    """The cells of a Markdown table, row by row."""
     lines = [line.strip().removeprefix("|").removesuffix("|").replace("`", "") for line in table.splitlines()]
     head, _, *rest = [[cell.strip() for cell in line.split("|")] for line in lines]
-    return ["  ".join(row).rstrip() for row in zip(*(padded(*it) for it in enumerate(zip(head, *rest))))]
+    return [head, *rest]
 
 
-def keep(name, first, text):
+def keep(name, first, *tables):
     """Writes a result: its first line, and the tables in columns."""
     RESULTS.mkdir(exist_ok=True)
-    tables = re.findall(r"(?:^\|.*\n?)+", text, re.MULTILINE)
-    shown = "\n\n".join("\n".join(aligned(it)) for it in tables)
-    (RESULTS / f"{name}.txt").write_text(f"{first}\n\n```\n{shown}\n```\n")
+    (RESULTS / f"{name}.txt").write_text(f"{first}\n\n{fenced(*map(columns, tables))}")
 
 
 # ---- scripts
@@ -136,10 +123,12 @@ def output(*words):
 
 
 def bench(name):
+    """The tables that a bench prints."""
     text, _ = output(sys.executable, TOP / "bench" / f"{name}.py")
-    if not re.search(r"^\|", text, re.MULTILINE):
+    tables = re.findall(r"(?:^\|.*\n)+", text, re.MULTILINE)
+    if not tables:
         raise NotMeasured(f"it prints no table\n{text[-500:]}")
-    return text
+    return list(map(rows_of, tables))
 
 
 # ---- runs of tests
@@ -165,31 +154,32 @@ def stops():
     text, taken = tested("stops.sh")
     ways, pairs = numbers(r"^stops: once (\d+) runs, twice (\d+) of ", text)
     failures, more = numbers(r"^fails: once (\d+) runs, twice (\d+) of ", text)
-    what = f"`tests/stops.sh`: {ways} stops, {failures} failures, each again"
+    what = f"tests/stops.sh: {ways} stops, {failures} failures, each again"
     return what, f"{ways + pairs + failures + more:,}", taken
 
 
 def faults():
     text, taken = tested("faults.py")
     calls, runs = numbers(r"^[\w ]+: (\d+) calls, (\d+) runs: ", text)
-    return f"`tests/faults.py`: {calls:,} calls, three errors and a kill", f"{runs:,}", taken
+    return f"tests/faults.py: {calls:,} calls, three errors and a kill", f"{runs:,}", taken
 
 
 def texts():
     text, taken = tested("memory.py", "texts")
     _, runs = numbers(r": (\d+) allocations, (\d+) runs ", text)
-    return "`tests/memory.py texts`", f"{runs:,}", taken
+    return "tests/memory.py texts", f"{runs:,}", taken
 
 
 def calls():
     text, taken = tested("memory.py", "calls")
     _, runs = numbers(r": (\d+) allocations, (\d+) runs ", text)
     _, ended = numbers(r"as without in (\d+) runs, ended by the script itself in (\d+)", text)
-    return f"`tests/memory.py calls`; {ended:,} ended by the script", f"{runs:,}", taken
+    return f"tests/memory.py calls; {ended:,} ended by the script", f"{runs:,}", taken
 
 
 def runs():
-    return table(("what", "runs", "time"), [it() for it in (stops, faults, texts, calls)])
+    """The table of the runs that tests make."""
+    return [("what", "runs", "time"), *(it() for it in (stops, faults, texts, calls))]
 
 
 # ---- logs
@@ -210,10 +200,10 @@ def prove(log):
         raise NotMeasured(f"{log} does not end with all crates proved")
     found = sorted(((name, minutes(clock), float(worked)) for name, clock, worked in proved), key=lambda it: -it[2])
     found.append(("all", minutes(whole[-1]), sum(worked for *_, worked in found)))
-    rows = [(name if name == "all" else f"`{name}`", f"{clock:.1f}", f"{worked:.1f}") for name, clock, worked in found]
+    rows = [(name, f"{clock:.1f}", f"{worked:.1f}") for name, clock, worked in found]
     day = datetime.date.fromtimestamp(log.stat().st_mtime)
     first = heading(day, f"at most {lanes[1]} crates side by side")
-    keep("prove", first, table(("crate", "minutes by the clock", "of the processor"), rows))
+    keep("prove", first, [("crate", "minutes by the clock", "of the processor"), *rows])
 
 
 def gate(log):
@@ -224,7 +214,7 @@ def gate(log):
     if not found:
         raise NotMeasured(f"{log} does not end with a gate that has passed")
     first = heading(datetime.date.fromtimestamp(log.stat().st_mtime), "the whole gate")
-    keep("gate", first, table(("minutes by the clock", "of the processor"), [(found[2], found[1])]))
+    keep("gate", first, [("minutes by the clock", "of the processor"), (found[2], found[1])])
 
 
 # ---- the call
@@ -235,7 +225,7 @@ def measure(name):
     if lacks := lacking(name):
         raise NotMeasured(f"there is no {', no '.join(lacks)}")
     first = today()
-    keep(name, first, runs() if name == "runs" else bench(name))
+    keep(name, first, *([runs()] if name == "runs" else bench(name)))
 
 
 def is_kept(name, make, *words):

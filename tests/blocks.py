@@ -18,11 +18,23 @@ class BlockError(Exception):
     """Why a block cannot be made: the page, the line and the reason."""
 
 
+def padded(place, column):
+    """The cells of a column, padded to one width. Numbers stand on the right, except in the first column."""
+    wide = max(map(len, column))
+    is_number = place and all(it[:1].isdigit() for it in column[1:] if it)
+    return [it.rjust(wide) if is_number else it.ljust(wide) for it in column]
+
+
 def columns(rows):
-    """Rows as a block of text: the first column on the left, the others, below their heads, on the right."""
-    wide = [max(len(str(cell)) for cell in column) for column in zip(*rows)]
-    lines = ([f"{name:{wide[0]}}", *(f"{it:>{most}}" for it, most in zip(rest, wide[1:]))] for name, *rest in rows)
-    return "```\n" + "".join(f"{'  '.join(line)}\n" for line in lines) + "```\n"
+    """Rows, the first of them the heads, as lines in columns."""
+    cells = [padded(place, list(map(str, column))) for place, column in enumerate(zip(*rows))]
+    return "".join("  ".join(row).rstrip() + "\n" for row in zip(*cells))
+
+
+def fenced(*tables):
+    """Tables of such lines as one block of text."""
+    text = "\n".join(tables)
+    return f"```\n{text}```\n"
 
 
 # ---- results of benches
@@ -86,7 +98,8 @@ def command():
     found = {it.name: files_of_command(it) for it in sorted((TOP / "crates").iterdir())}
     found = {name: counts for name, counts in found.items() if any(counts)}
     found["all"] = [sum(counts) for counts in zip(*found.values())]
-    return columns([("crate", "code", "definitions", "proofs"), *((name, *counts) for name, counts in found.items())])
+    rows = [(name, *counts) for name, counts in found.items()]
+    return fenced(columns([("crate", "code", "definitions", "proofs"), *rows]))
 
 
 # ---- edits
@@ -101,7 +114,7 @@ def edits():
             counts.setdefault(name, [0, 0])[place] += 1
     rows = [("crate", "gate", "others"), *((name, *counts[name]) for name in sorted(counts))]
     rows.append(("all", *(sum(column) for column in zip(*counts.values()))))
-    return columns(rows)
+    return fenced(columns(rows))
 
 
 # ---- the pages
