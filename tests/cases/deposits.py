@@ -1,0 +1,119 @@
+"""Deposits that are stated, and the verdict on each."""
+import functools
+
+from lib import DAY, DEPOSIT, FIVE, PART, RECEIPT, TEN, Room, deposit, each, notice, part_name, state, transcripts
+
+DOMAIN = {"domain": "a.example,D1-EX,,R9,2020-01-01T00:00:00Z,2030-01-01T00:00:00Z\n"}
+R1, KEY, FIRST, SECOND = "R1,Example,292,ok\n", "R1\n", "20260802001", "20260803001"
+MONDAY, TUESDAY, SUNDAY, AGAIN = "2026-08-03", "2026-08-04", "2026-08-09", part_name(revision=1)
+ABSENCES = "\n".join(notice(count, "ABSENCE", day, "2026-08-05T00:00:00Z") for count, day in ((2, MONDAY), (3, TUESDAY)))
+FAILURES = [notice(revision + 1, "FAILURE-01", DAY, FIVE, "X", revision) for revision in (0, 1)]
+
+
+def stated(day: str = DAY, kind: str = "full", at: str = FIVE, number: str = "", parts: int = 1, revision: int = 0) -> str:
+    """The words behind `escrow verify VAULT` that state a deposit. Where no number is given, it is that of `deposit`."""
+    number = number or day.replace("-", "") + "001"
+    return f"example --date {day} --kind {kind} --revision {revision} --parts {parts} --id {number} --now {at}"
+
+
+# Makes a vault with a deposit that passes.
+PASSED = f"""$ vault d
+$ cp ../full {PART}; escrow put d {PART} --now {TEN} -> received {PART} 1422 {TEN}
+$ escrow verify d {stated()} -> {RECEIPT}"""
+
+transcripts(__name__, f"""
+== a statement of other parts is refused
+$ vault d
+$ escrow verify d {stated()} -> !1 Q12 parts differ
+$ cp ../full {PART}; escrow put d {PART} --now {TEN} -> received {PART} 1422 {TEN}
+$ escrow verify d {stated(parts=2)} -> !1 Q12 parts differ
+$ escrow verify d {stated(kind="diff")} -> !1 Q9 type differs
+$ escrow verify d {stated().replace("example", "other")} -> !1 Q2 registry unknown
+$ escrow verify d {stated(MONDAY)} -> !1 Q3 date out of range
+$ escrow state d -> {state(6, f"part {PART} 1422 held {TEN}")}
+== a deposit that passes has one receipt
+{PASSED}
+$ escrow verify d {stated()} -> {RECEIPT}
+$ escrow verify d {stated(at="2026-08-03T00:00:00Z")} -> {RECEIPT}
+$ escrow verify d {stated().replace(f" --now {FIVE}", "")} -> {RECEIPT}
+$ escrow verify d {stated(number="X")} -> !1 Q8 already stated
+$ escrow verify d {stated(revision=1)} -> !1 Q12 parts differ
+$ cp {PART} {AGAIN}; escrow put d {AGAIN} --now {FIVE} -> !1 Q7 revision not due
+$ escrow report d example -> {RECEIPT}
+$ escrow report d other -> !1 Q2 registry unknown
+$ escrow state d -> {state(6, f"part {PART} 1422 held {TEN}", RECEIPT)}
+$ escrow audit d -> sound 1
+== a deposit that fails is sent again as the next revision
+$ vault d
+$ echo -n hello > {PART}; escrow put d {PART} --now {TEN} -> received {PART} 5 {TEN}
+$ escrow verify d {stated(number="X")} -> {FAILURES[0]}
+$ escrow verify d {stated(number="X")} -> {FAILURES[0]}
+$ name={part_name(part=2)}; cp {PART} $name; escrow put d $name --now {FIVE} -> !1 Q8 already stated
+$ cp {PART} {AGAIN}; escrow put d {AGAIN} --now {FIVE} -> received {AGAIN} 5 {FIVE}
+$ escrow verify d {stated(number="X", revision=1)} -> {FAILURES[1]}
+$ escrow state d -> {state(5, f"part {PART} 5 held {TEN}", f"part {AGAIN} 5 held {FIVE}", *FAILURES)}
+== a day without a deposit has one absence
+{PASSED}
+$ escrow sweep d --now 2026-08-05T00:00:00Z -> {ABSENCES}
+$ escrow sweep d --now 2026-08-05T00:00:00Z
+$ escrow register d later --first 2026-08-06 -> registered later 2026-08-06
+$ escrow sweep d --now 2026-08-05T23:59:59Z
+$ escrow report d example -> {RECEIPT}
+{ABSENCES}""")
+
+
+def sent(kind: str, verdict: str, day: str, previous: str = "", count: int = 0, rows: str = "", keys: str = "") -> tuple:
+    """A deposit of `in_this_order` that counts so many registrars, with these rows and deleted keys."""
+    return kind, verdict, day, deposit(kind, day, tables={"registrar": rows} if rows else {}, counts=(0, 0, 0, count),
+                                       deletes={"registrar": keys} if keys else {}, previous=previous)
+
+
+full, diff, incr = (functools.partial(sent, kind) for kind in ("full", "diff", "incr"))
+FULL, INCR, DIFF_R1 = full("RECEIPT", DAY), incr("RECEIPT", MONDAY), diff("RECEIPT", MONDAY, FIRST, 1, R1)
+LOST = diff("!3 C5 damaged H8", TUESDAY, SECOND, 1)
+SPOIL_FULL, SPOIL_DIFF = (f"$ printf x | dd of=d/vault.vol bs=4096 seek={it} conv=notrunc status=none" for it in (1, 2))
+
+
+@each((
+    ("a deposit that is cut short fails", ("full", "FAILURE-01", DAY, DEPOSIT[:1000])),
+    ("an envelope with a space fails", ("full", "FAILURE-02", DAY, DEPOSIT.replace(b"1408\n{", b"1409\n{ "))),
+    ("a deposit with a row without a line feed fails", full("FAILURE-10", DAY, rows="R1,Example,,ok")),
+    ("a deposit with a wrong count fails", ("full", "FAILURE-11", DAY, deposit("full", tables=DOMAIN, counts=(0, 2, 0, 0)))),
+    ("a deposit without registrars fails", ("full", "FAILURE-12", DAY, deposit("full", tables=DOMAIN, counts=(0, 1, 0, 0)))),
+    ("a differential deposit names the one before it", FULL, diff("RECEIPT", MONDAY, FIRST)),
+    ("a differential deposit that names another one fails", FULL, diff("FAILURE-06", MONDAY, "X")),
+    ("a differential deposit on a Sunday fails", FULL, diff("FAILURE-05", SUNDAY, "X")),
+    ("a differential deposit counts its rows", FULL, DIFF_R1),
+    ("a differential deposit that does not count its rows fails", FULL, diff("FAILURE-11", MONDAY, FIRST, 0, R1)),
+    ("an incremental deposit names the full one", FULL, incr("RECEIPT", MONDAY, FIRST)),
+    ("an incremental deposit need not name the full one", FULL, INCR),
+    ("an incremental deposit that names another one fails", FULL, incr("FAILURE-06", MONDAY, "X")),
+    ("an incremental deposit on a Sunday fails", FULL, incr("FAILURE-05", SUNDAY, FIRST)),
+    ("nothing follows where no full deposit passed", diff("FAILURE-06", MONDAY, "X"), incr("FAILURE-06", TUESDAY)),
+    ("an incremental deposit does not follow another one", FULL, INCR, incr("FAILURE-06", TUESDAY, SECOND)),
+    ("a differential deposit follows an incremental one", FULL, INCR,
+     diff("RECEIPT", TUESDAY, SECOND), incr("RECEIPT", "2026-08-05", FIRST)),
+    ("a differential deposit counts the keys before it", FULL, DIFF_R1, diff("RECEIPT", TUESDAY, SECOND, 1)),
+    ("a differential deposit that does not count them fails", FULL, DIFF_R1, diff("FAILURE-11", TUESDAY, SECOND, 0)),
+    ("a differential deposit counts no deleted key", FULL, DIFF_R1, diff("RECEIPT", TUESDAY, SECOND, 0, "", KEY)),
+    ("a differential deposit that counts one fails", FULL, DIFF_R1, diff("FAILURE-11", TUESDAY, SECOND, 1, "", KEY)),
+    ("a differential deposit counts a deleted key with a row", FULL, DIFF_R1, diff("RECEIPT", TUESDAY, SECOND, 1, R1, KEY)),
+    ("an incremental deposit counts no key of a differential one", FULL, DIFF_R1, incr("RECEIPT", TUESDAY, FIRST)),
+    ("an incremental deposit that counts such a key fails", FULL, DIFF_R1, incr("FAILURE-11", TUESDAY, FIRST, 1)),
+    ("a differential deposit behind a spoiled full one has no verdict", FULL, DIFF_R1, (*LOST, SPOIL_FULL)),
+    ("a differential deposit behind a spoiled differential one has no verdict", FULL, DIFF_R1, (*LOST, SPOIL_DIFF)),
+    ("an incremental deposit reads no differential one", FULL, DIFF_R1, (*incr("RECEIPT", TUESDAY, FIRST), SPOIL_DIFF)),
+    ("no day before one that passed is verified", full("RECEIPT", MONDAY), ("full", "!1 Q13 later day passed", DAY, b"x"))))
+def in_this_order(room: Room, *deposits: tuple) -> None:
+    """Puts and states deposits: the kind, verdict or error, day and bytes of each, and commands between."""
+    room.plays("$ vault d")
+    notices = []
+    for kind, verdict, day, content, *commands in deposits:
+        name, put, at = part_name(day, kind), f"{day}T10:00:00Z", f"{day}T10:05:00Z"
+        room.put("d", name, content, put)
+        if not verdict.startswith("!"):
+            verdict = notice(len(notices) + 1, verdict, day, at, day.replace("-", "") + "001")
+            notices.append(verdict)
+        room.plays("\n".join((*commands, f"$ escrow state d | grep {name} -> part {name} {len(content)} held {put}",
+                              f"$ escrow verify d {stated(day, kind, at)} -> {verdict}",
+                              "$ escrow report d example", *notices)))
