@@ -7,143 +7,97 @@
 """
 import re
 import subprocess
+from collections.abc import Callable, Iterable, Sequence
 from pathlib import Path
 
-TOP = Path(__file__).resolve().parent.parent
+from lib import TOP
+
 BEGIN = re.compile(r"<!-- made: (.*) -->")
 END = "<!-- end -->"
+# The command that came last. Nothing else has its name.
+COMMAND = re.compile(r"\bLift\b")
 
 
 class BlockError(Exception):
     """Why a block cannot be made: the page, the line and the reason."""
 
 
-def padded(place, column):
+def padded(place: int, column: Sequence[str]) -> list[str]:
     """The cells of a column, padded to one width. Numbers stand on the right, except in the first column."""
     wide = max(map(len, column))
     is_number = place and all(it[:1].isdigit() for it in column[1:] if it)
     return [it.rjust(wide) if is_number else it.ljust(wide) for it in column]
 
 
-def columns(rows):
+def columns(rows: Iterable[Sequence]) -> str:
     """Rows, the first of them the heads, as lines in columns."""
     cells = [padded(place, list(map(str, column))) for place, column in enumerate(zip(*rows))]
     return "".join("  ".join(row).rstrip() + "\n" for row in zip(*cells))
 
 
-def fenced(*tables):
+def fenced(*tables: str) -> str:
     """Tables of such lines as one block of text."""
-    text = "\n".join(tables)
-    return f"```\n{text}```\n"
+    return "```\n" + "\n".join(tables) + "```\n"
 
 
-# ---- results of benches
+# ---- the blocks
 
 
-def result(name):
-    """The text of a result that bench/keep.py has kept."""
-    file = TOP / "bench" / "results" / f"{name}.txt"
-    if not file.is_file():
-        raise ValueError(f"there is no {file.relative_to(TOP)}, which bench/keep.py writes")
-    return file.read_text()
-
-
-# ---- the lines of definitions
-
-
-def lines_of(module):
+def lines_of(module: str) -> int:
     """How many lines a module of definitions has, without its imports."""
-    crate, path = module.split("/", 1)
-    text = (TOP / "crates" / crate / f"{path}.antt").read_text()
+    text = (TOP / "crates" / f"{module}.antt").read_text()
     return re.sub(r"^(?:pub )?use .*?(?:\}| as \w+)\n", "", text, flags=re.MULTILINE | re.DOTALL).count("\n")
 
 
-def modules_in(cell):
-    """The modules that a cell names. The first has its whole path; one without a folder is beside the first."""
-    named = re.findall(r"`([\w/]+)`", cell)
-    folder = named[0].rsplit("/", 1)[0]
-    return [it if "/" in it else f"{folder}/{it}" for it in named]
+def counted(row: str) -> str:
+    """A row of the table of modules, with the number of lines in its second cell.
 
-
-def counted(row):
-    """A row of the table of modules, with the number of lines in its second cell."""
+    The first module of a row has its whole path; one without a folder is beside the first.
+    """
     cells = row.strip("|").split("|")
     if len(cells) < 2 or not re.match(r" `\w+/specs/", cells[0]) or not re.fullmatch(r" *\d* *", cells[1]):
         raise ValueError(f"this is no row of modules and lines: {row}")
-    cells[1] = f" {sum(map(lines_of, modules_in(cells[0])))} "
+    named = re.findall(r"`([\w/]+)`", cells[0])
+    folder = named[0].rsplit("/", 1)[0]
+    cells[1] = f" {sum(lines_of(it if '/' in it else f'{folder}/{it}') for it in named)} "
     return f"|{'|'.join(cells)}|"
 
 
-def modules(text):
-    """The table of modules, with the lines of each row."""
-    head, rule, *rows = text.splitlines()
-    return "".join(f"{it}\n" for it in (head, rule, *map(counted, rows)))
+def table(heads: Sequence[str], count: Callable[[Path], list[int]]) -> str:
+    """A block of what is counted of each crate, where that is something, and of all."""
+    rows = [(it.name, *counts) for it in sorted((TOP / "crates").iterdir()) if any(counts := count(it))]
+    totals = [sum(column) for column in [*zip(*rows)][1:]]
+    return fenced(columns([("crate", *heads), *rows, ("all", *totals)]))
 
 
-# ---- the files that name a command
-
-# The command that came last. Nothing else has its name.
-COMMAND = "Lift"
-KINDS = ("src/**/*.rt", "specs/**/*.antt", "proofs/**/*.antt")
-
-
-def files_of_command(crate):
+def files_of_command(crate: Path) -> list[int]:
     """How many files of a crate name the command: of its code, its definitions and its proofs."""
-    named = re.compile(rf"\b{COMMAND}\b")
-    return [sum(bool(named.search(it.read_text())) for it in crate.glob(kind)) for kind in KINDS]
+    kinds = ("src/**/*.rt", "specs/**/*.antt", "proofs/**/*.antt")
+    return [sum(bool(COMMAND.search(it.read_text())) for it in crate.glob(kind)) for kind in kinds]
 
 
-def command():
-    """The table of the crates with files that name the command."""
-    found = {it.name: files_of_command(it) for it in sorted((TOP / "crates").iterdir())}
-    found = {name: counts for name, counts in found.items() if any(counts)}
-    found["all"] = [sum(counts) for counts in zip(*found.values())]
-    rows = [(name, *counts) for name, counts in found.items()]
-    return fenced(columns([("crate", "code", "definitions", "proofs"), *rows]))
+def edits_of(crate: Path) -> list[int]:
+    """How many edits a crate has in must-fail, and in tests/edits."""
+    return [len([*folder.glob("*.edit")]) for folder in (crate / "must-fail", TOP / "tests" / "edits" / crate.name)]
 
 
-# ---- edits
-
-
-def edits():
-    """How many edits each crate has in must-fail, and in tests/edits."""
-    counts = {}
-    for place, folder in enumerate(("crates/{}/must-fail", "tests/edits/{}")):
-        for edit in TOP.glob(folder.format("*") + "/*.edit"):
-            name = edit.relative_to(TOP).parts[1 if place == 0 else 2]
-            counts.setdefault(name, [0, 0])[place] += 1
-    rows = [("crate", "gate", "others"), *((name, *counts[name]) for name in sorted(counts))]
-    rows.append(("all", *(sum(column) for column in zip(*counts.values()))))
-    return fenced(columns(rows))
-
-
-# ---- the pages
-
-
-def body(name, text):
+def body(name: str, text: str) -> str:
     """What belongs between the two lines of a block of this name; `text` is there now."""
     if name.startswith("results/"):
-        return result(name.removeprefix("results/"))
+        if not (file := TOP / "bench" / f"{name}.txt").is_file():
+            raise ValueError(f"there is no {file.relative_to(TOP)}, which bench/keep.py writes")
+        return file.read_text()
     if name == "modules":
-        return modules(text)
+        head, rule, *rows = text.splitlines()
+        return "".join(f"{it}\n" for it in (head, rule, *map(counted, rows)))
     if name == "command":
-        return command()
+        return table(("code", "definitions", "proofs"), files_of_command)
     if name == "edits":
-        return edits()
+        return table(("gate", "others"), edits_of)
     raise ValueError("nothing makes a block of this name")
 
 
-def end_of(lines, at):
-    """The place of the line that ends a block, whose lines begin at `at`; or None."""
-    for place in range(at, len(lines)):
-        if BEGIN.fullmatch(lines[place]):
-            return None
-        if lines[place] == END:
-            return place
-    return None
-
-
-def filled(page, text):
+def filled(page: str, text: str) -> str:
     """The text of a page with each of its blocks made anew."""
     lines, out, at = text.split("\n"), [], 0
     while at < len(lines):
@@ -151,8 +105,8 @@ def filled(page, text):
         at += 1
         if begin := BEGIN.fullmatch(out[-1]):
             where = f"{page}:{at}: the block `{begin[1]}`"
-            end = end_of(lines, at)
-            if end is None:
+            end = next((n for n in range(at, len(lines)) if lines[n] == END or BEGIN.fullmatch(lines[n])), None)
+            if end is None or lines[end] != END:
                 raise BlockError(f"{where} has no end")
             try:
                 out += body(begin[1], "".join(f"{it}\n" for it in lines[at:end])).removesuffix("\n").split("\n")
@@ -162,7 +116,7 @@ def filled(page, text):
     return "\n".join(out)
 
 
-def pages():
+def pages() -> dict[str, str]:
     """The pages of the repository that have blocks, by their paths, with their texts."""
     listed = ["git", "ls-files", "--cached", "--others", "--exclude-standard", "*.md"]
     names = subprocess.run(listed, cwd=TOP, capture_output=True, text=True, check=True).stdout.split()

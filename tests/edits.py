@@ -1,9 +1,9 @@
 #!/usr/bin/env python3
-"""The edits of tests/edits/NAME, which the gate does not try: the prover has to refuse each.
+"""Tries the edits of tests/edits/NAME, which the gate does not try: the prover must refuse each.
 
-usage: tests/edits.py NAME..     tries those of these crates, on a copy of the repository: for when their contracts change
-       tests/edits.py --check    looks whether each still applies: each text that it takes away stands once in its file,
-                                 beside what the pairs before it have done. The last line is `N passed, M failed`
+    tests/edits.py NAME ..    those of these crates, on a copy of the repository, after a change of their contracts
+
+An edit takes about a minute and needs `rt`. `tests/run edits_apply` shows in a second whether each still applies.
 """
 import shutil
 import subprocess
@@ -11,12 +11,13 @@ import sys
 import tempfile
 from pathlib import Path
 
-TOP = Path(__file__).resolve().parent.parent
+from lib import TOP, parser
+
 EDITS = TOP / "tests" / "edits"
 
 
-def applies(edit):
-    """Whether each text that the edit takes away stands once in its file."""
+def applies(edit: Path) -> bool:
+    """Whether each text that the edit takes away stands once in its file, after what the pairs before it have done."""
     texts, file, old = {}, None, None
     for line in edit.read_text().splitlines():
         word, _, text = line.partition(": ")
@@ -32,38 +33,18 @@ def applies(edit):
     return old is not None
 
 
-def check():
-    edits = sorted(EDITS.glob("*/*.edit"))
-    failed = [it for it in edits if not applies(it)]
-    for it in failed:
-        print(f"{it.relative_to(TOP)} does not apply: mend or remove it")
-    print(f"{len(edits) - len(failed)} passed, {len(failed)} failed")
-    return bool(failed)
-
-
-def try_edits(names):
+def main() -> int:
+    words, known = parser(__doc__), sorted(it.name for it in EDITS.iterdir() if it.is_dir())
+    words.add_argument("names", nargs="+", choices=known, metavar="NAME", help=", ".join(known))
+    names = words.parse_args().names
     with tempfile.TemporaryDirectory() as folder:
         top = Path(folder)
         shutil.copytree(TOP / "crates", top / "crates", ignore=shutil.ignore_patterns("out"))
         for it in ("crates.txt", "HANDLES"):
             shutil.copy(TOP / it, top)
         for name in names:
-            into = top / "crates" / name / "must-fail"
-            into.mkdir(exist_ok=True)
-            for it in (EDITS / name).glob("*.edit"):
-                shutil.copy(it, into)
+            shutil.copytree(EDITS / name, top / "crates" / name / "must-fail", dirs_exist_ok=True)
         return subprocess.run(["rt", "must-fail", *names], cwd=top).returncode
-
-
-def main():
-    known = sorted(it.name for it in EDITS.iterdir() if it.is_dir())
-    names = sys.argv[1:]
-    if names == ["--check"]:
-        return check()
-    if not names or not set(names) <= set(known):
-        print(f"usage: tests/edits.py --check, or names of {' '.join(known)}")
-        return 2
-    return try_edits(names)
 
 
 if __name__ == "__main__":

@@ -1,25 +1,27 @@
 #!/usr/bin/env python3
 """Makes pages from other files, so that they always agree.
 
+    tests/made.py            writes them
+    tests/made.py --check    compares them, and looks up in the code what docs/GLOSSARY.md decides. The last line is
+                             `N passed, M failed, K skipped`
+
     docs/escrow.1, docs/escrow.bash   the manual page, and the tables of bash's completions, from the table of the words
                                       (crates/agent_cli/src/subcommands.rt, and the texts of src/grammar.rt beside it)
     docs/crates.svg                   the crates with the ways of a command and of a request, from crates.txt
     each page with a block            the lines between `<!-- made: NAME -->` and `<!-- end -->`: counts, and results of
-                                      benches (tests/blocks.py says which names there are)
+                                      benches (tests/blocks.py lists the names)
 
-usage: tests/made.py            writes them
-       tests/made.py --check    compares them, and looks up in the code what docs/GLOSSARY.md decides. The last line is
-                                `N passed, M failed`
+It takes a second, and needs `git`.
 """
 import re
 import sys
+from collections.abc import Iterable
 from dataclasses import dataclass
-from pathlib import Path
 
 import blocks
 import words
+from lib import TOP, parser, tell
 
-TOP = Path(__file__).resolve().parent.parent
 CLI = TOP / "crates" / "agent_cli" / "src"
 
 
@@ -29,45 +31,44 @@ CLI = TOP / "crates" / "agent_cli" / "src"
 @dataclass
 class Word:
     """An argument: its id, the name of its value where it is an option, and what help says of it."""
-
     id: str
     value: str
     required: bool
     help: str
 
     @property
-    def shown(self):
-        return f"--{self.id} {self.value}" if self.value else self.id
+    def name(self) -> str:
+        return f"--{self.id}" if self.value else self.id
 
 
 @dataclass
 class Row:
+    """A subcommand: its name, what help prints before its words and after them, and these."""
     name: str
     about: str
     after: str
-    words: list
+    words: list[Word]
 
 
-def text(literal):
+def text(literal: str) -> str:
     """The text of a literal of Rust, without its quotes."""
-    joined = re.sub(r"\\\n\s*", "", literal)
-    return joined.replace("\\n", "\n").replace('\\"', '"')
+    return re.sub(r"\\\n\s*", "", literal).replace("\\n", "\n").replace('\\"', '"')
 
 
 STRING = r'"((?:[^"\\]|\\.|\\\n)*)"'
 
 
-def field(name, block):
+def field(name: str, block: str) -> str:
     return text(re.search(rf"\b{name}:\s*{STRING}", block, re.DOTALL)[1])
 
 
-def word_of(block):
+def word_of(block: str) -> Word:
     value = re.search(rf"WordForm::Option \{{\s*value: {STRING}", block)
-    value = value[1] if value else "N" if "WordForm::Count" in block else ""
-    return Word(field("id", block), value, "required: false" not in block, field("help", block))
+    name = value[1] if value else "N" if "WordForm::Count" in block else ""
+    return Word(field("id", block), name, "required: false" not in block, field("help", block))
 
 
-def table():
+def table() -> list[Row]:
     source = (CLI / "subcommands.rt").read_text()
     named = re.finditer(r"const (\w+): Word<.*?= Word \{(.*?)\n\};", source, re.DOTALL)
     shared = {it[1]: word_of(it[2]) for it in named}
@@ -80,7 +81,7 @@ def table():
     return rows
 
 
-def texts():
+def texts() -> tuple[str, str, str]:
     """What help prints before the subcommands and after them, and the version."""
     source = (CLI / "grammar.rt").read_text()
     found = re.finditer(rf"(about|after|VERSION)(?:: &str)? =\s*{STRING};", source, re.DOTALL)
@@ -91,42 +92,34 @@ def texts():
 # ---- the manual page
 
 
-def roff(line):
+def roff(line: str) -> str:
     escaped = line.replace("\\", "\\e").replace("-", "\\-")
     return "\\&" + escaped if escaped[:1] in (".", "'") else escaped
 
 
-def usage(row):
+def usage(row: Row) -> str:
     """The words of a call in roff, names in bold and values in italics."""
-    options = [
-        f"\\fB\\-\\-{it.id}\\fR \\fI{it.value}\\fR" if it.required else f"[\\fB\\-\\-{it.id}\\fR \\fI{it.value}\\fR]"
-        for it in row.words
-        if it.value
-    ]
     places = [f"\\fI{it.id}\\fR" for it in row.words if not it.value]
-    return " ".join([f"\\fBescrow {row.name}\\fR", *places, *options])
+    options = [(f"\\fB\\-\\-{it.id}\\fR \\fI{it.value}\\fR", it.required) for it in row.words if it.value]
+    shown = [option if required else f"[{option}]" for option, required in options]
+    return " ".join([f"\\fBescrow {row.name}\\fR", *places, *shown])
 
 
-def manual(rows):
+def manual(rows: list[Row]) -> str:
     about, after, version = texts()
     first, status = after.split("\n\n")
-    lines = [
-        '.\\" Made by tests/made.py from the table of the words.',
-        f'.TH ESCROW 1 "" "escrow {version}"',
-        ".SH NAME",
-        "escrow \\- custody of registry data escrow deposits",
-        ".SH SYNOPSIS",
-    ]
+    lines = ['.\\" Made by tests/made.py from the table of the words.', f'.TH ESCROW 1 "" "escrow {version}"',
+             ".SH NAME", "escrow \\- custody of registry data escrow deposits", ".SH SYNOPSIS"]
     for row in rows:
         lines += [usage(row), ".br"]
     lines += [".SH DESCRIPTION", roff(about) + ".", ".SH COMMANDS"]
     for row in rows:
         lines += [".TP", usage(row), roff(row.about) + "."]
         for word in row.words:
-            lines += [".RS", ".TP", f"\\fI{roff(word.shown)}\\fR", roff(word.help) + ".", ".RE"]
+            shown = roff(f"{word.name} {word.value}".rstrip())
+            lines += [".RS", ".TP", f"\\fI{shown}\\fR", roff(word.help) + ".", ".RE"]
         lines += [".RS", ".PP", ".nf", *map(roff, row.after.split("\n")), ".fi", ".RE"]
-    lines += [".SH EXAMPLES", ".nf", *(roff(it.strip()) for it in first.split("\n")[1:]), ".fi"]
-    lines += [".SH EXIT STATUS"]
+    lines += [".SH EXAMPLES", ".nf", *(roff(it.strip()) for it in first.split("\n")[1:]), ".fi", ".SH EXIT STATUS"]
     for it in status.removeprefix("Exit status: ").split(", "):
         number, meaning = it.split(" ", 1)
         lines += [".TP", f"\\fB{number}\\fR", roff(meaning)]
@@ -136,7 +129,7 @@ def manual(rows):
 # ---- completions
 
 
-def choices(row, word):
+def choices(row: Row, word: Word) -> list[str]:
     """The values of a word, if the table lists them as `a, b or c` after a colon, in its help or in a line after it."""
     behind = re.sub(r",\n +", ", ", row.after).split("\n")
     said = [word.help, *(it for it in behind if it.lower().startswith(f"{word.id.lower()}: "))]
@@ -148,51 +141,35 @@ def choices(row, word):
 CODE = "# What is offered for the word at the cursor.\n"
 
 
-def completions(rows):
-    options = {row.name: [f"--{it.id}" for it in row.words if it.value] for row in rows}
+def completions(rows: list[Row]) -> str:
+    options = {row.name: [it.name for it in row.words if it.value] for row in rows}
     places = {row.name: [it.id for it in row.words if not it.value] for row in rows}
-    values = {
-        f"{row.name} {f'--{it.id}' if it.value else it.id}": choices(row, it)
-        for row in rows
-        for it in row.words
-        if choices(row, it)
-    }
-    lines = [
-        "# Completions of bash for escrow. The tables are made by tests/made.py from the table of the words.",
-        "# Source this file, or copy it to /usr/share/bash-completion/completions/escrow",
-    ]
+    values = {f"{row.name} {it.name}": found for row in rows for it in row.words if (found := choices(row, it))}
+    lines = ["# Completions of bash for escrow. The tables are made by tests/made.py from the table of the words.",
+             "# Source this file, or copy it to /usr/share/bash-completion/completions/escrow"]
     for name, table in (("options", options), ("places", places), ("values", values)):
         entries = (f"    [{key}]='{' '.join(words)}'" for key, words in table.items())
         lines += [f"declare -gA _escrow_{name}=(", *entries, ")"]
     kept = (TOP / "docs" / "escrow.bash").read_text()
-    return "\n".join(lines) + "\n\n" + kept[kept.index(CODE) :]
+    return "\n".join(lines) + "\n\n" + kept[kept.index(CODE):]
 
 
 # ---- the picture of the crates
 
 WIDTH, ROW, BOX, HIGH = 760, 84, 150, 34
-COLOURS = {
-    "Base": "#e8e8e8",
-    "Format": "#fdebd0",
-    "Verification": "#fdebd0",
-    "Records": "#d5f0e0",
-    "Store": "#d5f0e0",
-    "Machine": "#d5f0e0",
-    "Rules": "#d5f0e0",
-    "Custody": "#b8e6cb",
-    "Words": "#dbe9fb",
-    "HTTP": "#eadcf7",
-    "Laws": "#eadcf7",
-    "Program": "#ffffff",
-}
+GREEN, PURPLE, CREAM = "#d5f0e0", "#eadcf7", "#fdebd0"
+COLOURS = {"Base": "#e8e8e8", "Format": CREAM, "Verification": CREAM, "Records": GREEN, "Store": GREEN, "Machine": GREEN,
+           "Rules": GREEN, "Custody": "#b8e6cb", "Words": "#dbe9fb", "HTTP": PURPLE, "Laws": PURPLE, "Program": "#ffffff"}
 # The crates in the order in which a command and a request come to them, and the colour of their numbers.
 WAYS = {
     "a command": ("#1f5fbf", "escrow agent_cli custody custody_rules vault_volume custody_store answer_lines".split()),
-    "a request": ("#8e44ad", "escrow http_api http_request custody answer_lines".split()),
-}
+    "a request": ("#8e44ad", "escrow http_api http_request custody answer_lines".split())}
+# The crates by name, each with its group and the crates that it names.
+Crates = dict[str, tuple[str, list[str]]]
+Point = tuple[int, int]
 
 
-def crates():
+def crates() -> Crates:
     """The group of each crate, and what it names of the repository; without tests, benches and what only tests use."""
     group, found = "", {}
     for line in (TOP / "crates.txt").read_text().splitlines():
@@ -204,17 +181,17 @@ def crates():
     return {name: (group, [it for it in below if it in drawn]) for name, (group, below) in drawn.items()}
 
 
-def all_below(name, found):
+def all_below(name: str, found: Crates) -> set[str]:
     return set(found[name][1]).union(*(all_below(it, found) for it in found[name][1]))
 
 
-def nearest(name, found):
+def nearest(name: str, found: Crates) -> list[str]:
     """The crates that a crate names and reaches through no other one."""
     below = found[name][1]
     return [it for it in below if not any(it in all_below(other, found) for other in below)]
 
 
-def levels(found):
+def levels(found: Crates) -> list[list]:
     """The rows of the picture, the highest first. Each crate is above all that it uses. A line that crosses a row has a
     place there, a pair of crates."""
     level = {}
@@ -229,14 +206,14 @@ def levels(found):
     return rows
 
 
-def places(found):
+def places(found: Crates) -> dict:
     """The middle of the upper edge of each box, and of each line in a row that it crosses, near what is above it."""
     place, above = {}, {it: [] for it in found}
     for name in found:
         for it in nearest(name, found):
             above[it].append(name)
 
-    def middle(it):
+    def middle(it: str | tuple[str, str]) -> int:
         over = [it] if isinstance(it, tuple) else [(name, it) for name in above[it]]
         xs = [place[pair][0] if pair in place else place[pair[0]][0] for pair in over]
         return sum(xs) // len(xs) if xs else 0
@@ -248,7 +225,7 @@ def places(found):
     return place
 
 
-def line(points):
+def line(points: Iterable[Point]) -> str:
     """A line from the lower edge of a box, through the upper edges of the rows that it crosses, to the next box."""
     (x, y), *more = points
     path = f"M{x} {y}"
@@ -260,16 +237,14 @@ def line(points):
     return path
 
 
-def picture():
+def picture() -> str:
     found = crates()
     place = places(found)
     height = max(y for _, y in place.values()) + HIGH + 46
-    size = f'viewBox="0 0 {WIDTH} {height}"'
     lines = [
-        f'<svg xmlns="http://www.w3.org/2000/svg" {size} font-family="sans-serif" font-size="14">',
+        f'<svg xmlns="http://www.w3.org/2000/svg" viewBox="0 0 {WIDTH} {height}" font-family="sans-serif" font-size="14">',
         "<!-- Made by tests/made.py from crates.txt. -->",
-        f'<rect width="{WIDTH}" height="{height}" fill="#ffffff"/>',
-    ]
+        f'<rect width="{WIDTH}" height="{height}" fill="#ffffff"/>']
     for name in found:
         for it in nearest(name, found):
             x, y = place[name]
@@ -277,28 +252,27 @@ def picture():
             lines.append(f'<path d="{line([(x, y + HIGH), *crossed, place[it]])}" fill="none" stroke="#888888"/>')
     for name, (group, _) in found.items():
         x, y = place[name]
-        box = f'<rect x="{x - BOX // 2}" y="{y}" width="{BOX}" height="{HIGH}" rx="5"'
-        lines.append(f'{box} fill="{COLOURS[group]}" stroke="#555555"/>')
-        lines.append(f'<text x="{x}" y="{y + 22}" text-anchor="middle">{name}</text>')
+        lines += [f'<rect x="{x - BOX // 2}" y="{y}" width="{BOX}" height="{HIGH}" rx="5" '
+                  f'fill="{COLOURS[group]}" stroke="#555555"/>',
+                  f'<text x="{x}" y="{y + 22}" text-anchor="middle">{name}</text>']
     for number, (title, (colour, way)) in enumerate(WAYS.items()):
         dots = [(place[it][0] + (BOX // 2 if number else -BOX // 2), place[it][1] + HIGH // 2) for it in way]
         for at, (x, y) in enumerate(dots, 1):
-            lines.append(f'<circle cx="{x}" cy="{y}" r="9" fill="{colour}"/>')
-            lines.append(f'<text x="{x}" y="{y + 4}" text-anchor="middle" font-size="11" fill="#ffffff">{at}</text>')
+            lines += [f'<circle cx="{x}" cy="{y}" r="9" fill="{colour}"/>',
+                      f'<text x="{x}" y="{y + 4}" text-anchor="middle" font-size="11" fill="#ffffff">{at}</text>']
         x, y = 30 + 200 * number, height - 20
-        lines.append(f'<circle cx="{x}" cy="{y}" r="9" fill="{colour}"/>')
-        lines.append(f'<text x="{x + 16}" y="{y + 5}">the way of {title}</text>')
+        lines += [f'<circle cx="{x}" cy="{y}" r="9" fill="{colour}"/>',
+                  f'<text x="{x + 16}" y="{y + 5}">the way of {title}</text>']
     return "\n".join([*lines, "</svg>"]) + "\n"
 
 
 # ---- all of them
 
 
-def made():
+def made() -> tuple[dict[str, str], list[str]]:
     """The text of each file that is made, and why others cannot be."""
-    rows = table()
+    rows, faults = table(), []
     texts = {"docs/escrow.1": manual(rows), "docs/escrow.bash": completions(rows), "docs/crates.svg": picture()}
-    faults = []
     for name, text in blocks.pages().items():
         try:
             texts[name] = blocks.filled(name, text)
@@ -307,25 +281,21 @@ def made():
     return texts, faults
 
 
-def check(texts):
-    """A line for each difference, how many comparisons failed, and how many there were. The glossary is one."""
+def main() -> int:
+    options = parser(__doc__)
+    options.add_argument("--check", action="store_true")
+    asked, (texts, faults) = options.parse_args(), made()
+    if not asked.check:
+        for name, text in texts.items():
+            (TOP / name).write_text(text)
+        print("".join(f"{it}\n" for it in faults), end="")
+        return len(faults) > 0
     changed = [name for name, text in texts.items() if not (TOP / name).is_file() or (TOP / name).read_text() != text]
-    lines = [f"{name} is not what tests/made.py makes: run it, and look at what changes" for name in changed]
+    differences = [f"{name} is not what tests/made.py makes: run it, and look at what changes" for name in changed]
     found = list(words.findings())
-    return lines + found, len(changed) + bool(found), len(texts) + 1
-
-
-def main():
-    texts, faults = made()
-    if sys.argv[1:] == ["--check"]:
-        lines, failed, compared = check(texts)
-        print("".join(f"{it}\n" for it in faults + lines), end="")
-        print(f"{compared - failed} passed, {failed + len(faults)} failed")
-        return failed + len(faults) > 0
-    for name, text in texts.items():
-        (TOP / name).write_text(text)
-    print("".join(f"{it}\n" for it in faults), end="")
-    return len(faults) > 0
+    print("".join(f"{it}\n" for it in faults + differences + found), end="")
+    failed = len(changed) + bool(found)
+    return tell(len(texts) + 1 - failed, failed + len(faults))
 
 
 if __name__ == "__main__":

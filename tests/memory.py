@@ -1,90 +1,72 @@
 #!/usr/bin/env python3
-"""Runs a program once for each of its allocations, with that one refused, and compares what it prints.
+"""Runs a program once for each of its allocations, refuses that one, and compares what it prints.
 
     tests/memory.py [texts | calls] [--every N] [--only K]
 
-- `texts` runs `bench_tools texts`, each line of which is an answer. With an allocation refused a line has to be the one
-  that is printed with none refused, or to end in a want of memory. The allocations for the program's own words, as many
-  as a run makes that only prints its usage, are not refused.
-- `calls` runs `agent_script` over each of its worked examples that does a call once more where memory was wanting
-  (`! insist`, `! resend`). It has to print what it prints with none refused; or the script itself, and not the agent,
-  finds no memory, and the program ends with status 1 and the beginning of it.
+- `texts` runs `bench_tools texts`, each line of which is an answer. If an allocation is refused, each line has to be the one
+  that is printed if none is; but one line may end in a want of memory. It does not refuse the allocations for the program's
+  own words, as many as a run makes that only prints its usage.
+- `calls` runs `agent_script` over each of its worked examples that repeats a call after a want of memory (`! insist`,
+  `! resend`). It has to print what it prints if none is refused; or the script itself, and not the agent, finds no memory,
+  and the program ends with status 1 and the beginning of that.
 
-Without a word both are run. `--every N` refuses each Nth allocation alone, `--only K` tries the Kth example alone. Run
-`rt run` in crates/bench_tools and in crates/agent_script first. The allocations are counted where they are made, in the
-program that was built (tests/allocations.py), since `rt try --fail-alloc` builds a program anew for each of them. The last
-line is `N passed, M failed, K skipped`, of runs; the status is 0 where nothing failed. Where the machine is no Linux on
-x86-64, or lets no program be traced, a line says so, and nothing is tried.
+Without a word it runs both: seconds for `texts`, two minutes for `calls`. `--every N` refuses each Nth allocation alone,
+`--only K` tries the Kth example alone. The last line counts runs. It needs the programs that `rt run` builds in
+crates/bench_tools and crates/agent_script, and counts their allocations where they are made (tests/allocations.py);
+`rt try --fail-alloc` would build a program anew for each. If the machine is no Linux on x86-64, or lets no program be
+traced (`ptrace`), it says so, and tries nothing.
 """
-import argparse
 import multiprocessing
-import os
-import pathlib
 import re
 import sys
 import tempfile
+from collections import Counter
+from collections.abc import Callable, Iterator
 
 from allocations import Program, Run, lacking
+from lib import TOP, built, parser, tell
 
-CRATES = pathlib.Path(__file__).resolve().parent.parent / "crates"
-WANTS = (": K6", ": E2")
+CRATES, WANTS = TOP / "crates", (": K6", ": E2")
+# The status and the output of a run.
+Came = tuple[int, str]
 
 
-def run_once(program, given, counts, is_counted=False):
-    """One run: how often each call was made, where that is wanted, the status and the output."""
+def run_once(program: Program, given: str, counts: dict[str, int], is_counted: bool = False) -> tuple[dict[str, int], Came]:
+    """One run: how often it made each call, if that is wanted, and what it came to."""
     with tempfile.TemporaryFile() as lines, tempfile.TemporaryFile() as output:
         lines.write(given.encode())
         lines.seek(0)
         run = Run(program, lines, output, counts)
-        made = run.counts() if is_counted else {}
-        status = run.end()
+        made, status = run.counts() if is_counted else {}, run.end()
         output.seek(0)
-        return made, status, output.read().decode(errors="replace")
+        return made, (status, output.read().decode(errors="replace"))
 
 
-def refuse(asked):
-    """What is refused, and the status and the output then."""
-    program, given, call, n = asked
-    _, status, text = run_once(program, given, {call: n})
-    return f"{call} {n}", status, text
-
-
-def run_all(program, given, every, before):
-    """The status and the output with no allocation refused, how many there are, and the runs with one refused.
-
-    So many of each call as `before` tells are made before the first line, and neither counted nor refused.
-    """
-    made, *base = run_once(program, given, {}, is_counted=True)
-    asked = [(program, given, call, before.get(call, 0) + n)
-             for call, count in made.items() for n in range(1, 1 + count - before.get(call, 0), every)]
-    with multiprocessing.Pool() as lanes:
-        return base, sum(made.values()) - sum(before.values()), lanes.map(refuse, asked, chunksize=16)
-
-
-def faults_of_texts(base, run):
+def faults_of_texts(base: Came, came: Came) -> tuple[int, list[str]]:
     """How many answers of a run are for want of memory, and what is wrong with it."""
-    (status, text), (refused, told_status, told_text) = base, run
-    lines, told = text.splitlines(), told_text.splitlines()
-    if (told_status, len(told)) != (status, len(lines)):
-        return 0, [f"{refused}: status {told_status}, {len(told)} lines"]
-    others = [(line, other) for line, other in zip(lines, told) if line != other]
-    wrong = [f"{refused}: `{other}` in place of `{line}`" for line, other in others if not other.endswith(WANTS)]
-    return len(others) - len(wrong), wrong
+    (status, lines), (other_status, others) = ((status, text.splitlines()) for status, text in (base, came))
+    if (status, len(lines)) != (other_status, len(others)):
+        return 0, [f"status {other_status}, {len(others)} lines"]
+    differ = [(line, other) for line, other in zip(lines, others) if line != other]
+    wrong = [f"`{other}` in place of `{line}`" for line, other in differ if not other.endswith(WANTS)]
+    wants = len(differ) - len(wrong)
+    return wants, wrong + [f"{wants} answers for want of memory"] * (wants > 1)
 
 
-def faults_of_calls(base, run):
+def faults_of_calls(base: Came, came: Came) -> tuple[int, list[str]]:
     """Whether the script itself has found no memory, and what is wrong with a run."""
-    (status, text), (refused, told_status, told_text) = base, run
-    if (told_status, told_text) == (status, text):
+    (_, text), (status, other_text) = base, came
+    if came == base:
         return 0, []
-    if told_status == 1 and text.startswith(told_text):
+    if status == 1 and text.startswith(other_text):
         return 1, []
-    others = [f"`{other}` in place of `{line}`" for line, other in zip(text.splitlines(), told_text.splitlines()) if line != other]
-    return 0, [f"{refused}: status {told_status}; {others[0] if others else 'cut'}"]
+    pairs = zip(text.splitlines(), other_text.splitlines())
+    first = next((f"`{other}` in place of `{line}`" for line, other in pairs if line != other), "cut")
+    return 0, [f"status {status}; {first}"]
 
 
-def examples():
-    """The examples of calls that are done once more, each with the files that it names."""
+def examples() -> Iterator[str]:
+    """The examples of calls that are repeated, each with the files that it names."""
     script = (CRATES / "agent_script/stdin").read_text()
     files, name = {}, ""
     for line in re.findall(r"^! (?:file|more|lettered) .*$", script, re.M):
@@ -96,66 +78,53 @@ def examples():
             yield "\n".join(line for name in named for line in files[name]) + "\n\n" + example + "\n"
 
 
-def program_of(name, *words):
-    """The program of a crate, with these words."""
-    path = CRATES / name / "out" / name
-    if not os.access(path, os.X_OK):
-        sys.exit(f"no program at {path}: run rt run in crates/{name}")
-    return Program.of(path, *words)
+def program_of(name: str, *words: str) -> Program:
+    return Program.of(built(CRATES / name / "out" / name), *words)
 
 
-def try_all(title, program, given, every, judge, before={}):
-    """Makes the runs over these lines, prints what they came to, and answers how many passed and failed, and the wants."""
-    base, allocations, runs = run_all(program, given, every, before)
-    judged = [judge(base, run) for run in runs]
-    wants = [count for count, _ in judged]
-    faults = [fault for _, faults in judged for fault in faults]
-    for fault in faults:
-        print(fault)
-    print(f"{title}: {allocations} allocations, {len(judged)} runs with one refused, {len(faults)} faults")
+def try_all(title: str, program: Program, given: str, every: int, judge: Callable, form: str, before: Counter) -> Counter:
+    """Makes the runs over these lines, prints what they came to, and counts which passed.
+
+    So many of each call as `before` has come before the first line, and are neither counted nor refused.
+    """
+    made, base = run_once(program, given, {}, is_counted=True)
+    refused = [(call, n) for call, count in made.items() for n in range(before[call] + 1, count + 1, every)]
+    with multiprocessing.Pool() as lanes:
+        runs = lanes.starmap(run_once, [(program, given, {call: n}) for call, n in refused], chunksize=16)
+    judged = [judge(base, came) for _, came in runs]
+    faults = [f"{call} {n}: {fault}\n" for (call, n), (_, wrong) in zip(refused, judged) for fault in wrong]
+    allocations = sum(made.values()) - before.total()
+    print(*faults, f"{title}: {allocations} allocations, {len(runs)} runs with one refused, {len(faults)} faults", sep="")
     # One run more is that with none refused, which has to make allocations, and to end well.
     is_sound = base[0] == 0 and bool(judged)
     if not is_sound:
         print(f"{title}: status {base[0]} with none refused")
-    failed = sum(count > 1 or bool(wrong) for count, wrong in judged) + (not is_sound)
-    return len(judged) + 1 - failed, failed, wants
+    wants = Counter(count for count, _ in judged)
+    print("   ", form.format(wants[0], wants[1]), flush=True)
+    return Counter(not wrong for _, wrong in judged) + Counter([is_sound])
 
 
-def try_texts(every):
-    before, *_ = run_once(program_of("bench_tools", "usage"), "", {}, is_counted=True)
-    passed, failed, wants = try_all("texts", program_of("bench_tools", "texts"), "", every, faults_of_texts, before)
-    print(f"    answers for want of memory: none in {wants.count(0)} runs, one in {wants.count(1)}")
-    return passed, failed
-
-
-def try_calls(every, only):
-    program, all_passed, all_failed = program_of("agent_script"), 0, 0
-    for number, given in enumerate(examples(), 1):
-        if only in (None, number):
-            title = re.search(r"^# (.*)$", given, re.M)[1]
-            passed, failed, wants = try_all(title, program, given, every, faults_of_calls)
-            print(f"    as without in {wants.count(0)} runs, ended by the script itself in {wants.count(1)}", flush=True)
-            all_passed, all_failed = all_passed + passed, all_failed + failed
-    return all_passed, all_failed
-
-
-def main():
-    words = argparse.ArgumentParser(description=__doc__, formatter_class=argparse.RawDescriptionHelpFormatter)
+def main() -> int:
+    words = parser(__doc__)
     words.add_argument("what", nargs="?", choices=("texts", "calls"))
     words.add_argument("--every", type=int, default=1)
     words.add_argument("--only", type=int)
-    asked = words.parse_args()
-    passed = failed = skipped = 0
+    asked, counts = words.parse_args(), Counter()
     if why := lacking():
-        skipped = 1
         print(f"skipped: memory that is refused: {why}")
-    else:
-        tried = [try_texts(asked.every)] if asked.what != "calls" else []
-        tried += [try_calls(asked.every, asked.only)] if asked.what != "texts" else []
-        passed, failed = (sum(counts) for counts in zip(*tried))
-    print(f"{passed} passed, {failed} failed, {skipped} skipped")
-    sys.exit(1 if failed else 0)
+        return tell(0, 0, 1)
+    if asked.what != "calls":
+        before, _ = run_once(program_of("bench_tools", "usage"), "", {}, is_counted=True)
+        counts += try_all("texts", program_of("bench_tools", "texts"), "", asked.every, faults_of_texts,
+                          "answers for want of memory: none in {} runs, one in {}", Counter(before))
+    if asked.what != "texts":
+        program = program_of("agent_script")
+        for number, given in enumerate(examples(), 1):
+            if asked.only in (None, number):
+                counts += try_all(re.search(r"^# (.*)$", given, re.M)[1], program, given, asked.every, faults_of_calls,
+                                  "as without in {} runs, ended by the script itself in {}", Counter())
+    return tell(counts[True], counts[False])
 
 
 if __name__ == "__main__":
-    main()
+    sys.exit(main())
