@@ -1,9 +1,11 @@
 #!/usr/bin/env python3
 """Times the program `escrow`: putting parts, opening vaults of many parts, and a thousand puts into one vault.
 
-Each time is the least of several, since whatever else the machine does only adds to it.
+    bench/agent.py [PROGRAM]
 
-Run `rt run` in crates/escrow first. It needs cp, sync and sqlite3. Then: python3 bench/agent.py [PROGRAM]
+It takes about two minutes. It needs the program that `rt run` builds in crates/escrow, cp, sync and sqlite3.
+
+Each time is the least of several, since whatever else the machine does only adds to it.
 """
 import datetime
 import hashlib
@@ -12,11 +14,12 @@ import pathlib
 import shutil
 import sqlite3
 import subprocess
-import sys
 import tempfile
 import time
 
-PROGRAM = pathlib.Path(__file__).resolve().parent.parent / "crates/escrow/out/escrow"
+import vaults
+
+PROGRAM = vaults.program(__doc__)
 NUMBER = "0000000000000001"
 BLOCKS = "262144"
 FIRST_DAY = datetime.date(2000, 1, 1)
@@ -169,8 +172,6 @@ def many(top):
 
 
 if __name__ == "__main__":
-    if len(sys.argv) > 1:
-        PROGRAM = pathlib.Path(sys.argv[1]).resolve()
     with tempfile.TemporaryDirectory(dir=".") as name:
         folder = pathlib.Path(name).resolve()
         puts(folder)

@@ -1,14 +1,13 @@
 #!/usr/bin/env python3
-"""Times an audit of a vault whose volume is full, against `sha256sum` of files with the bytes of
-its parts; and measures the peak memory, with that of the opening of the same vault (`state`) beside
-it.
+"""Times an audit of a vault whose volume is full, against `sha256sum` of files with the bytes of its parts. It also measures
+the peak memory, and that of the opening of the same vault (`state`).
 
-The volume has 250 MiB of parts: 250 of 1 MiB, and then the same bytes as 64,000 of 4 KiB. Each is a
-file too, and all are in the page cache. The three are done by turns, and each number is the least
-of several.
+    bench/audit.py [PROGRAM]
 
-It needs GNU time and sha256sum. Run `rt run` in crates/escrow first. Then:
-python3 bench/audit.py [PROGRAM]
+It takes about two minutes. It needs the program that `rt run` builds in crates/escrow, GNU time and sha256sum.
+
+The volume has 250 MiB of parts: 250 of 1 MiB, and then the same bytes as 64,000 of 4 KiB. Each is a file too, and all are
+in the page cache. The three are done by turns, and each number is the least of several.
 """
 import datetime
 import hashlib
@@ -96,7 +95,7 @@ def measured(escrow, folder, files, names):
 
 
 def main():
-    escrow = program()
+    escrow = program(__doc__)
     print("| parts | `sha256sum` | `audit` | `state` | memory of `state` | of `audit` |")
     print("|---|---|---|---|---|---|")
     with tempfile.TemporaryDirectory(dir=".") as name:

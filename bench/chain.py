@@ -1,9 +1,11 @@
 #!/usr/bin/env python3
 """Times the statement of a differential deposit that follows a full one of 8 MiB and thirty differential ones of 100 KiB,
-through the program `escrow`, against a Python program that reads the same files and makes the same sets of keys; and takes
-the peak memory of both.
+through the program `escrow`, against a Python program that reads the same files and makes the same sets of keys. It also
+measures the peak memory of both.
 
-Run `rt run` in crates/escrow first. Then: python3 bench/chain.py [PROGRAM]
+    bench/chain.py [PROGRAM]
+
+It takes about half a minute. It needs the program that `rt run` builds in crates/escrow.
 """
 import datetime
 import hashlib
@@ -133,7 +135,7 @@ def copied(vault):
 
 
 def main():
-    program = vaults.program()
+    program = vaults.program(__doc__)
     with tempfile.TemporaryDirectory() as folder:
         top = pathlib.Path(folder)
         vault, files = top / "vault", top / "files"

@@ -1,15 +1,16 @@
 #!/usr/bin/env python3
 """Keeps measurements in bench/results/NAME.txt. tests/made.py copies them into the pages.
 
-usage: bench/keep.py [--prove LOG] [--gate LOG] [NAME ..]
+    bench/keep.py [--prove LOG] [--gate LOG] [NAME ..]
 
-A NAME is a script of this folder (`agent`, `audit`, ..) or `runs`, which times tests/stops.sh, tests/faults.py and
-tests/memory.py; `all` makes them all. `--prove LOG` reads the output of `./prove` and keeps `prove`. `--gate LOG`
-reads that of `.ci/run` and keeps `gate`. Both must have begun with nothing proved. The programs must be built (`rt run`
-in crates/escrow, crates/bench_tools and crates/agent_script). If one measurement fails, its result stays as it was, the
-others go on, and the status is 1. Run tests/made.py afterwards.
+A NAME is a script of this folder (`agent`, `audit`, ..) or `runs`, which times `tests/run stops`, tests/faults.py and
+tests/memory.py; `all` makes them all, in about half an hour. `--prove LOG` reads the output of `./prove` and keeps
+`prove`. `--gate LOG` reads that of `.ci/run` and keeps `gate`. Both must have begun with nothing proved.
+
+It needs the programs that `rt run` builds in crates/escrow, crates/bench_tools and crates/agent_script, and GNU time,
+nginx, sqlite3 and strace. If one measurement fails, its result stays as it was, the others go on, and the status is 1.
+Run tests/made.py afterwards.
 """
-import argparse
 import datetime
 import os
 import re
@@ -22,8 +23,8 @@ from pathlib import Path
 
 TOP = Path(__file__).resolve().parent.parent
 sys.path.insert(0, str(TOP / "tests"))
-
-from blocks import columns, fenced  # noqa: E402
+from blocks import columns, fenced
+from lib import parser
 
 RESULTS = TOP / "bench" / "results"
 # Where the scripts run: a folder on the disk of the repository, ignored by git. Most make their vaults here; `chain`,
@@ -151,11 +152,12 @@ def numbers(form, text):
 
 
 def stops():
-    text, taken = tested("stops.sh")
-    ways, pairs = numbers(r"^stops: once (\d+) runs, twice (\d+) of ", text)
-    failures, more = numbers(r"^fails: once (\d+) runs, twice (\d+) of ", text)
-    what = f"tests/stops.sh: {ways} stops, {failures} failures, each again"
-    return what, f"{ways + pairs + failures + more:,}", taken
+    """The cases make all runs that the script of agent_script counts: of stops, then of failures."""
+    _, taken = tested("run", "stops")
+    script = (TOP / "crates/agent_script/stdout").read_text()
+    form = r"^broken off once: (\d+) runs; twice: \d+ of (\d+) runs"
+    ways, failures = (int(once) for once, _ in re.findall(form, script, re.MULTILINE))
+    return f"tests/run stops: {ways} stops, {failures} failures, each again", f"{sum(numbers(form, script)):,}", taken
 
 
 def faults():
@@ -209,12 +211,12 @@ def prove(log):
 def gate(log):
     """Keeps the time of the gate, from a log of `.ci/run`."""
     text = log.read_text(errors="replace")
-    form = r"^(\d+) processor minutes, in (\d+) by the clock\n\d+ passed, 0 failed, \d+ skipped\s*\Z"
+    form = r"^(\d+) minutes by the clock; of the processor:\n\S+ \S+\n(\d+)m[\d.]+s (\d+)m[\d.]+s\s*\Z"
     found = re.search(form, text, re.MULTILINE)
-    if not found:
+    if not found or re.search("^FAILED: ", text, re.MULTILINE):
         raise NotMeasured(f"{log} does not end with a gate that has passed")
     first = heading(datetime.date.fromtimestamp(log.stat().st_mtime), "the whole gate")
-    keep("gate", first, [("minutes by the clock", "of the processor"), (found[2], found[1])])
+    keep("gate", first, [("minutes by the clock", "of the processor"), (found[1], str(int(found[2]) + int(found[3])))])
 
 
 # ---- the call
@@ -241,7 +243,7 @@ def is_kept(name, make, *words):
 
 
 def main():
-    words = argparse.ArgumentParser(description=__doc__, formatter_class=argparse.RawDescriptionHelpFormatter)
+    words = parser(__doc__)
     words.add_argument("--prove", type=Path, metavar="LOG")
     words.add_argument("--gate", type=Path, metavar="LOG")
     words.add_argument("names", nargs="*", metavar="NAME")

@@ -1,12 +1,16 @@
 #!/usr/bin/env python3
 """Times the map of a volume of 262,144 blocks: making it, and placing 256 blocks in it.
 
-Run `rt run` in crates/bench_tools first. Then: python3 bench/map.py
+    bench/map.py
+
+It takes some ten seconds. It needs the program that `rt run` builds in crates/bench_tools.
 """
 import pathlib
 import subprocess
 import sys
 import time
+
+from vaults import parser
 
 PROGRAM = pathlib.Path(__file__).resolve().parent.parent / "crates/bench_tools/out/bench_tools"
 RUNS = 5
@@ -39,6 +43,7 @@ def microseconds(kind, times, wanted):
 
 
 def main():
+    parser(__doc__).parse_args()
     print("| call | time |")
     print("|---|---|")
     for text, kind, times, wanted in ROWS:

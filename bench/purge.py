@@ -1,8 +1,10 @@
 #!/usr/bin/env python3
-"""Times the purge of `escrow`, of half the parts of a vault, beside the opening of the same vault; and of vaults with more
-and more holds, none of them of a day of these parts.
+"""Times a purge of half the parts of a vault, beside the opening of the same vault; then purges with more and more holds,
+none of them of a day of these parts.
 
-Run `rt run` in crates/escrow first. Then: python3 bench/purge.py [PROGRAM]
+    bench/purge.py [PROGRAM]
+
+It takes about three minutes. It needs the program that `rt run` builds in crates/escrow.
 """
 import datetime
 import hashlib
@@ -64,7 +66,7 @@ def purged(escrow, folder, count):
 
 
 def main():
-    escrow = program()
+    escrow = program(__doc__)
     print("| parts | `purge` | opening |")
     print("|---|---|---|")
     with tempfile.TemporaryDirectory(dir=".") as name:

@@ -1,10 +1,12 @@
 #!/usr/bin/env python3
-"""Times a release of a registry of many held parts, and a fetch of the last of them, beside the opening of the same vault;
-and measures the peak memory of each.
+"""Times a release of a registry of many held parts, and a fetch of the last of them, beside the opening of the same vault.
+It also measures the peak memory of each.
+
+    bench/release.py [PROGRAM]
+
+It takes about half a minute. It needs the program that `rt run` builds in crates/escrow, and GNU time.
 
 Each number is the least of several.
-
-It needs GNU time. Run `rt run` in crates/escrow first. Then: python3 bench/release.py [PROGRAM]
 """
 import datetime
 import hashlib
@@ -101,7 +103,7 @@ def measured(escrow, folder, count):
 
 
 def main():
-    escrow = program()
+    escrow = program(__doc__)
     print("| parts | opening | `release` | `fetch` |")
     print("|---|---|---|---|")
     with tempfile.TemporaryDirectory(dir=".") as top:

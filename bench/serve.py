@@ -1,11 +1,13 @@
 #!/usr/bin/env python3
-"""Times `escrow serve`: parts that are put, against the same work within one process; a part of 1 MiB that is fetched,
-against nginx with the same bytes as a file; and measures the memory that a server takes for parts of 1 MiB.
+"""Times `escrow serve`: parts that are put, against the same work within one process; and a part of 1 MiB that is fetched,
+against nginx with the same bytes as a file. It also measures the memory that a server takes for parts of 1 MiB.
+
+    bench/serve.py [PROGRAM [FOLDER]]      (it makes its vaults in FOLDER, or else in the current folder)
+
+It takes about a minute. It needs the program that `rt run` builds in crates/escrow, strace and nginx.
 
 One server answers one connection a request. A time is that of a client of plain sockets, from connecting to the end of
 the response. What is compared is done by turns, in one run, on one disk.
-
-Run `rt run` in crates/escrow first. It needs strace and nginx. Then: python3 bench/serve.py [PROGRAM [FOLDER]]
 """
 import contextlib
 import datetime
@@ -18,11 +20,10 @@ import socket
 import sqlite3
 import statistics
 import subprocess
-import sys
 import tempfile
 import time
 
-from vaults import number, program, seconds
+from vaults import number, seconds, with_program
 
 MIB = 1 << 20
 BLOCK = 4096
@@ -332,9 +333,11 @@ def memory(escrow, top):
 
 
 def main():
-    where = pathlib.Path(sys.argv[2] if len(sys.argv) > 2 else ".").resolve()
-    escrow = program()
-    with tempfile.TemporaryDirectory(dir=where) as name:
+    words = with_program(__doc__)
+    words.add_argument("folder", nargs="?", type=pathlib.Path, default=".", metavar="FOLDER")
+    asked = words.parse_args()
+    escrow = asked.program.resolve()
+    with tempfile.TemporaryDirectory(dir=asked.folder.resolve()) as name:
         top = pathlib.Path(name)
         puts(escrow, top)
         calls(escrow, top)

@@ -2,7 +2,9 @@
 """Times a statement through the program `escrow`: a full deposit of 8 MiB in eight parts is verified and its notice
 recorded, against `sha256sum` of the same files and one committed insert by `sqlite3`.
 
-Run `rt run` in crates/escrow first. It needs sha256sum and sqlite3. Then: python3 bench/statement.py [PROGRAM]
+    bench/statement.py [PROGRAM]
+
+It takes some ten seconds. It needs the program that `rt run` builds in crates/escrow, sha256sum and sqlite3.
 """
 import pathlib
 import shutil
@@ -13,7 +15,7 @@ import time
 import vaults
 import verify
 
-PROGRAM = vaults.program()
+PROGRAM = vaults.program(__doc__)
 PART = 1024 * 1024
 PARTS = 8
 RUNS = 15

@@ -1,7 +1,9 @@
 #!/usr/bin/env python3
-"""Times the sweep of `escrow` over many registries, and a second sweep, which finds nothing.
+"""Times a sweep of many registries, and a second sweep, which finds nothing.
 
-Run `rt run` in crates/escrow first. Then: python3 bench/sweep.py [PROGRAM]
+    bench/sweep.py [PROGRAM]
+
+It takes some minutes. It needs the program that `rt run` builds in crates/escrow.
 """
 import datetime
 import pathlib
@@ -49,7 +51,7 @@ def inserts(path, count):
 
 
 def main():
-    escrow = program()
+    escrow = program(__doc__)
     print("| registries | `sweep` (×) | `sweep` / inserts | second / first |")
     print("|---|---|---|---|")
     least = None

@@ -1,7 +1,9 @@
 #!/usr/bin/env python3
 """Times the reading of tables against Python's csv module, and measures the memory that a reading takes.
 
-Run `rt run` in crates/bench_tools first. Then: python3 bench/tables.py
+    bench/tables.py
+
+It takes a minute or two. It needs the program that `rt run` builds in crates/bench_tools.
 """
 import csv
 import io
@@ -12,6 +14,8 @@ import resource
 import subprocess
 import tempfile
 import time
+
+from vaults import parser
 
 PROGRAM = pathlib.Path(__file__).resolve().parent.parent / "crates/bench_tools/out/bench_tools"
 SIZE = 8 * 1024 * 1024
@@ -140,6 +144,7 @@ def short_rows():
 
 
 if __name__ == "__main__":
+    parser(__doc__).parse_args()
     with tempfile.TemporaryDirectory() as name:
         times(pathlib.Path(name))
         memory(pathlib.Path(name))

@@ -1,18 +1,29 @@
-"""What the benches of `escrow` share: the program, days as numbers, and a call with its time."""
+"""What the benches share: the words of a call, days as numbers, and a call with its time."""
+import argparse
 import datetime
 import pathlib
 import subprocess
-import sys
 import time
 
+ESCROW = pathlib.Path(__file__).resolve().parent.parent / "crates/escrow/out/escrow"
 EPOCH = datetime.date(1970, 1, 1)
 
 
-def program():
-    """The program named in the call, or else the one that `rt run` has built."""
-    if len(sys.argv) > 1:
-        return pathlib.Path(sys.argv[1]).resolve()
-    return pathlib.Path(__file__).resolve().parent.parent / "crates/escrow/out/escrow"
+def parser(text):
+    """A parser of a script's words, whose help is the text at the head of the script."""
+    return argparse.ArgumentParser(description=text, formatter_class=argparse.RawDescriptionHelpFormatter)
+
+
+def with_program(text):
+    """Such a parser, which takes a PROGRAM: if none is named, the one that `rt run` has built."""
+    words = parser(text)
+    words.add_argument("program", nargs="?", type=pathlib.Path, default=ESCROW, metavar="PROGRAM")
+    return words
+
+
+def program(text):
+    """The program that is named in the call of a script with this text at its head."""
+    return with_program(text).parse_args().program.resolve()
 
 
 def number(day):

@@ -1,8 +1,10 @@
 #!/usr/bin/env python3
-"""Times the verification of a full deposit against a Python program that makes the same checks, and that of deposits
-that are sent to harm. Where the first file is no UTF-8, what is left is the frame, the envelope and SHA-256.
+"""Times the verification of full deposits against a Python program that makes the same checks, and that of deposits which
+somebody sends to harm. For one whose first file is not UTF-8, only the frame, the envelope and SHA-256 remain.
 
-Run `rt run` in crates/bench_tools first. Then: python3 bench/verify.py
+    bench/verify.py
+
+It takes about five minutes. It needs the program that `rt run` builds in crates/bench_tools.
 """
 import csv
 import datetime
@@ -17,6 +19,8 @@ import subprocess
 import sys
 import tempfile
 import time
+
+from vaults import parser
 
 PROGRAM = pathlib.Path(__file__).resolve().parent.parent / "crates/bench_tools/out/bench_tools"
 SIZE = 8 * 1024 * 1024
@@ -254,6 +258,7 @@ def row(name, ours, theirs, memory):
 
 
 def main():
+    parser(__doc__).parse_args()
     print("| deposit | time | Python | ratio | memory / deposit |")
     print("|---|---|---|---|---|")
     with tempfile.TemporaryDirectory() as folder:

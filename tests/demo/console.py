@@ -1,45 +1,39 @@
-"""Transcripts: commands as a console shows them, each with the lines that it has to print, played on real files."""
+"""A console: commands as a person types them in a folder that has `escrow` and the part files of the examples."""
 import os
+import random
 import shlex
 import shutil
-import socket
 import subprocess
 import tempfile
 import time
-from collections.abc import Callable, Iterator
-from dataclasses import dataclass, field
 from pathlib import Path
 
+from lib import LIMIT, deposit, part_name
 
-def free_port() -> int:
-    """A port of 127.0.0.1 that nothing listens on."""
-    with socket.create_server(("127.0.0.1", 0)) as it:
-        return it.getsockname()[1]
+CREATED = "2020-01-01T00:00:00Z"
+TABLES = {
+    "domain": f"one.example,D1-EX,C1,R1,{CREATED},2030-01-01T00:00:00Z\n",
+    "domainContacts": "one.example,admin,C1\none.example,tech,C1\n",
+    "domainStatuses": "one.example,ok\n",
+    "domainNameServers": "one.example,ns.one.example\n",
+    "host": f"ns.one.example,H1-EX,R1,{CREATED}\n",
+    "hostAddresses": "ns.one.example,192.0.2.1,v4\nns.one.example,2001:db8::1,v6\n",
+    "contact": f"C1,C1-EX,R1,{CREATED}\n",
+    "registrar": 'R1,"Example, Inc.",292,ok\n',
+}
 
 
-@dataclass
-class Step:
-    """A command, the comments before it, and the lines that it has to print."""
-
-    command: str
-    before: list[str] = field(default_factory=list)
-    wanted: list[str] = field(default_factory=list)
-
-
-def steps(lines: list[str]) -> Iterator[Step]:
-    """The commands of a transcript in their order."""
-    step, before = None, []
-    for line in lines:
-        if line.startswith("$ "):
-            if step:
-                yield step
-            step, before = Step(line[2:], before), []
-        elif line.startswith("#") or not line:
-            before.append(line)
-        elif step:
-            step.wanted.append(line)
-    if step:
-        yield step
+def write_parts(folder: Path) -> None:
+    """Writes a deposit of 2 August in two parts, 1 MiB of noise for 4 August, and a deposit of 5 August in one part."""
+    second, fifth = (deposit("full", day, tables=TABLES, counts=(1, 1, 1, 1)) for day in ("2026-08-02", "2026-08-05"))
+    parts = {
+        part_name("2026-08-02", part=1): second[:-245],
+        part_name("2026-08-02", part=2): second[-245:],
+        part_name("2026-08-04"): random.Random(4).randbytes(1 << 20),
+        part_name("2026-08-05"): fifth,
+    }
+    for name, content in parts.items():
+        (folder / name).write_bytes(content)
 
 
 class Console:
@@ -50,33 +44,31 @@ class Console:
         self.servers: list[subprocess.Popen[str]] = []
         (folder / "escrow").symlink_to(os.path.relpath(program.resolve(), folder))
         self.environment = {**os.environ, "PATH": f"{folder}:{os.environ['PATH']}"}
+        write_parts(folder)
 
     def begin(self, command: str) -> subprocess.Popen[str]:
-        return subprocess.Popen(
-            ["bash", "-c", command],
-            cwd=self.folder,
-            env=self.environment,
-            stdin=subprocess.DEVNULL,
-            stdout=subprocess.PIPE,
-            stderr=subprocess.STDOUT,
-            text=True,
-        )
+        """Begins a command of bash, whose output and errors come as one text."""
+        return subprocess.Popen(["bash", "-c", command], cwd=self.folder, env=self.environment, text=True,
+                                stdin=subprocess.DEVNULL, stdout=subprocess.PIPE, stderr=subprocess.STDOUT)
 
     def answer(self, command: str) -> list[str]:
         """The lines that a command prints. A server prints one line, and stays until `wait`."""
         if command == "wait":
-            return self.wait()
+            return [line for it in self.servers for line in it.communicate(timeout=LIMIT)[0].splitlines()]
         if " & kill -9 $!" in command:
             return self.kill(command.split(" & ")[0])
         if command.endswith(" &"):
             server = self.begin(f"exec {command.removesuffix(' &')}")
             self.servers.append(server)
             return [server.stdout.readline().rstrip("\n")]
-        return self.begin(command).communicate()[0].splitlines()
+        return self.begin(command).communicate(timeout=LIMIT)[0].splitlines()
 
     def kill(self, put: str) -> list[str]:
-        """What a put prints that is killed while it writes. Where the kill came too late, so that the part is recorded, the
-        vault is put back and the kill tried again: so a transcript has one outcome."""
+        """Kills a put while it writes, and gives what it prints.
+
+        If the part is recorded, the kill came too late: then the vault is put back and the kill tried again. So a
+        transcript has one outcome.
+        """
         vault, name = shlex.split(put)[2:4]
         for _ in range(100):
             with tempfile.TemporaryDirectory() as room:
@@ -95,28 +87,10 @@ class Console:
         while volume.stat().st_mtime_ns == before and process.poll() is None:
             time.sleep(0.0002)
         process.kill()
-        return process.communicate()[0].splitlines()
-
-    def wait(self) -> list[str]:
-        """Waits until the servers have ended, which print nothing more."""
-        return [line for it in self.servers for line in it.communicate(timeout=60)[0].splitlines()]
+        return process.communicate(timeout=LIMIT)[0].splitlines()
 
     def close(self) -> None:
         """Ends the servers that have not ended."""
         for server in self.servers:
-            if server.poll() is None:
-                server.kill()
-                server.wait()
-
-    def play(self, transcript: list[str], show: Callable[[list[str]], None] = lambda _: None) -> list[str]:
-        """Plays a transcript as far as each command prints its lines. Gives what is wrong with the next one, or nothing."""
-        try:
-            for step in steps(transcript):
-                show([*step.before, f"$ {step.command}"])
-                printed = self.answer(step.command)
-                show(printed)
-                if printed != step.wanted:
-                    return [f"$ {step.command}", "printed:", *printed, "wanted:", *step.wanted]
-            return []
-        finally:
-            self.close()
+            server.kill()
+            server.wait()

@@ -1,48 +1,51 @@
 #!/usr/bin/env python3
-"""Plays the transcript beside this file with a program, on real files in a folder that stays. The first command that prints
-something else ends the run with status 1.
+"""Plays tests/demo/transcript with a program, on real files in a folder that stays.
 
-usage: play.py PROGRAM FOLDER      (FOLDER is made)
+    tests/demo/play.py PROGRAM FOLDER      (it makes the folder)
 
-Without curl nothing is played, and the status is 2.
+It prints each command and what comes of it. The first command that prints something else than the transcript says ends the
+run with status 1. It takes a few seconds with a proved program, and a minute or two with an unproved one. It needs curl.
 """
-import argparse
+import contextlib
 import shutil
 import sys
 from pathlib import Path
 
-from console import Console, free_port
-from deposit import write_parts
+sys.path.insert(0, str(Path(__file__).resolve().parents[1]))
+from console import Console
+from lib import difference, free_port, parser, steps
 
 TRANSCRIPT = Path(__file__).with_name("transcript")
 
 
-def show(lines: list[str]) -> None:
-    for line in lines:
-        print(line, flush=True)
+def plays(console: Console, lines: list[str]) -> bool:
+    """Plays a transcript up to the first command that prints something else, and says whether there is none."""
+    for step in steps(lines):
+        print(*step.before, f"$ {step.command}", sep="\n", flush=True)
+        printed = console.answer(step.command)
+        print("".join(f"{line}\n" for line in printed), end="", flush=True)
+        if printed != step.wanted:
+            print("NOT AS IN THE TRANSCRIPT:", difference(step.wanted, printed), sep="\n")
+            return False
+    return True
 
 
 def main() -> int:
-    words = argparse.ArgumentParser(prog="play.py", usage="play.py PROGRAM FOLDER")
-    words.add_argument("program", type=Path)
-    words.add_argument("folder", type=Path)
+    words = parser(__doc__)
+    words.add_argument("program", type=Path, metavar="PROGRAM")
+    words.add_argument("folder", type=Path, metavar="FOLDER")
     asked = words.parse_args()
     if not shutil.which("curl"):
-        print("play.py: there is no curl", file=sys.stderr)
-        return 2
+        words.error("there is no curl")
     if asked.folder.exists():
-        print(f"play.py: {asked.folder} is there", file=sys.stderr)
-        return 2
+        words.error(f"{asked.folder} is there")
     asked.folder.mkdir(parents=True)
-    folder = asked.folder.resolve()
-    write_parts(folder)
-    transcript = TRANSCRIPT.read_text().replace("8080", str(free_port())).splitlines()
-    try:
-        wrong = Console(asked.program, folder).play(transcript, show)
-    except KeyboardInterrupt:
-        return 130
-    show(["NOT AS IN THE TRANSCRIPT:", *wrong] if wrong else [])
-    return 1 if wrong else 0
+    lines = TRANSCRIPT.read_text().replace("8080", str(free_port())).splitlines()
+    with contextlib.closing(Console(asked.program, asked.folder.resolve())) as console:
+        try:
+            return 0 if plays(console, lines) else 1
+        except KeyboardInterrupt:
+            return 130
 
 
 if __name__ == "__main__":
