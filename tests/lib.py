@@ -93,8 +93,19 @@ def deposit(kind: str, day: str = DAY, *, tables: Mapping[str, str] = {}, delete
     return f"RDE1 {len(head):08}\n{head}{''.join(tables.values())}{''.join(deletes.values())}".encode()
 
 
+def stated(day: str = DAY, kind: str = "full", at: str = "", number: str = "", parts: int = 1, revision: int = 0) -> str:
+    """The words behind `escrow verify VAULT` that state a deposit, at five past ten unless another moment is given, with
+    the number of `deposit`."""
+    number, at = number or day.replace("-", "") + "001", at or f"{day}T10:05:00Z"
+    return f"example --date {day} --kind {kind} --revision {revision} --parts {parts} --id {number} --now {at}"
+
+
 # The first part of the day, a deposit of one part that passes, and the notice of its statement at FIVE.
 PART, DEPOSIT, RECEIPT = part_name(), deposit("full"), notice(1, "RECEIPT", DAY, FIVE, "20260802001")
+# The transcript that makes a vault `d` with this deposit and its receipt.
+PASSED = f"""$ vault d
+$ cp ../full {PART}; escrow put d {PART} --now {TEN} -> received {PART} 1422 {TEN}
+$ escrow verify d {stated()} -> {RECEIPT}"""
 
 
 # ---- requests and responses
@@ -295,10 +306,11 @@ def answer_of(words: Sequence[str | Path], folder: Path | None = None, seconds: 
     return Answer(done.returncode, done.stdout, done.stderr)
 
 
-# `vault NAME [BLOCKS [FIRST]]` makes a vault with the registry `example`.
-PRELUDE = """vault() {
-    mkdir "$1" && test "$(escrow init "$1" --blocks "${2-8}" --number 0000000000000001 &&
-        escrow register "$1" example --first "${3-2026-08-02}")" = "ready ${2-8} 0000000000000001
+# A pipe fails if one of its commands fails. `vault NAME [BLOCKS [FIRST]]` makes a vault with the registry `example`.
+PRELUDE = """set -o pipefail
+vault() {
+    mkdir "$1" && made=$(escrow init "$1" --blocks "${2-8}" --number 0000000000000001 &&
+        escrow register "$1" example --first "${3-2026-08-02}") && test "$made" = "ready ${2-8} 0000000000000001
 registered example ${3-2026-08-02}"
 }
 """

@@ -1,21 +1,17 @@
 """Vaults whose database somebody else has edited: what is reported, what docs/damage.sql lists, and that nothing changes."""
 import hashlib
 
-from lib import DAY, DEPOSIT, FIVE, PART, RECEIPT, TEN, TOP, Room, each, state
+from lib import DAY, DEPOSIT, PART, PASSED, RECEIPT, TEN, TOP, Room, each, state
 
-# A vault with a deposit that passed, and what it is.
-PASSED = f"""$ vault d
-$ cp ../full {PART}; escrow put d {PART} --now {TEN} -> received {PART} 1422 {TEN}
-$ escrow verify d example --date {DAY} --kind full --revision 0 --parts 1 --id 20260802001 --now {FIVE} -> {RECEIPT}"""
 STATE = f"$ escrow state d -> {state(6, f'part {PART} 1422 held {TEN}', RECEIPT)}"
-# What the page's questions to the records list.
-LISTED = f"$ sqlite3 -readonly d/custody.db < '{TOP}/docs/damage.sql' 2> errors"
-SOUND = f"{STATE}\n$ escrow audit d -> sound 1\n{LISTED}"
+# What the page's questions to the records list. Of a table that is missing sqlite3 reports an error, and goes on.
+LISTED = f"sqlite3 -readonly d/custody.db < '{TOP}/docs/damage.sql' 2> errors"
+SOUND = f"{STATE}\n$ escrow audit d -> sound 1\n$ {LISTED}"
 
 
 def damaged(number: str) -> str:
     """What is reported of this damage, and listed first."""
-    listed = f"{LISTED} | sed '1!d; s/|.*//' -> {number}" if number not in ("H1", "H2") else ""
+    listed = f"$ ({LISTED}; true) | sed '1!d; s/|.*//' -> {number}" if number not in ("H1", "H2") else ""
     return f"$ escrow state d -> !3 C5 damaged {number}\n$ escrow audit d -> !3 C5 damaged {number}\n{listed}"
 
 

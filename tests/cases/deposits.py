@@ -1,25 +1,14 @@
 """Deposits that are stated, and the verdict on each."""
 import functools
 
-from lib import DAY, DEPOSIT, FIVE, PART, RECEIPT, TEN, Room, deposit, each, notice, part_name, state, transcripts
+from lib import (
+    DAY, DEPOSIT, FIVE, PART, PASSED, RECEIPT, TEN, Room, deposit, each, notice, part_name, state, stated, transcripts)
 
 DOMAIN = {"domain": "a.example,D1-EX,,R9,2020-01-01T00:00:00Z,2030-01-01T00:00:00Z\n"}
 R1, KEY, FIRST, SECOND = "R1,Example,292,ok\n", "R1\n", "20260802001", "20260803001"
 MONDAY, TUESDAY, SUNDAY, AGAIN = "2026-08-03", "2026-08-04", "2026-08-09", part_name(revision=1)
 ABSENCES = "\n".join(notice(count, "ABSENCE", day, "2026-08-05T00:00:00Z") for count, day in ((2, MONDAY), (3, TUESDAY)))
 FAILURES = [notice(revision + 1, "FAILURE-01", DAY, FIVE, "X", revision) for revision in (0, 1)]
-
-
-def stated(day: str = DAY, kind: str = "full", at: str = FIVE, number: str = "", parts: int = 1, revision: int = 0) -> str:
-    """The words behind `escrow verify VAULT` that state a deposit. Where no number is given, it is that of `deposit`."""
-    number = number or day.replace("-", "") + "001"
-    return f"example --date {day} --kind {kind} --revision {revision} --parts {parts} --id {number} --now {at}"
-
-
-# Makes a vault with a deposit that passes.
-PASSED = f"""$ vault d
-$ cp ../full {PART}; escrow put d {PART} --now {TEN} -> received {PART} 1422 {TEN}
-$ escrow verify d {stated()} -> {RECEIPT}"""
 
 transcripts(__name__, f"""
 == a statement of other parts is refused
@@ -29,7 +18,7 @@ $ cp ../full {PART}; escrow put d {PART} --now {TEN} -> received {PART} 1422 {TE
 $ escrow verify d {stated(parts=2)} -> !1 Q12 parts differ
 $ escrow verify d {stated(kind="diff")} -> !1 Q9 type differs
 $ escrow verify d {stated().replace("example", "other")} -> !1 Q2 registry unknown
-$ escrow verify d {stated(MONDAY)} -> !1 Q3 date out of range
+$ escrow verify d {stated(MONDAY, at=FIVE)} -> !1 Q3 date out of range
 $ escrow state d -> {state(6, f"part {PART} 1422 held {TEN}")}
 == a deposit that passes has one receipt
 {PASSED}

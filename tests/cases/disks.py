@@ -33,7 +33,7 @@ $ escrow put small/d {SECOND} --now {TEN} -> received {SECOND} 390000 {TEN}
 $ cat /dev/zero > small/filler 2> /dev/null; escrow put small/d {THIRD} --now {TEN} > answer 2>&1; echo $? >> answer
 $ tr '\\n' ' ' < answer | grep -cxE 'received {THIRD} 5 {TEN} 0 |(C2 volume failed|C3 store failed|file failed: .*) 3 ' -> 1
 $ rm small/filler
-$ escrow state small/d | head -n 3 -> registry example {DAY}
+$ escrow state small/d | sed -n 1,3p -> registry example {DAY}
 {HELD}
 part {SECOND} 390000 held {TEN}
 $ escrow put small/d {THIRD} --now {TEN} -> received {THIRD} 5 {TEN}"""

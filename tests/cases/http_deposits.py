@@ -1,11 +1,6 @@
 """Deposits over HTTP: a part that comes short, and the verdicts of deposits that follow a full one."""
-from lib import (
-    DAY, FIVE, PART, RECEIPT, TEN, Room, case, deposit, each, notice, part_name, request, response, state, statement)
+from lib import PART, PASSED, TEN, Room, case, deposit, each, notice, part_name, request, response, state, statement
 
-# A vault with a full deposit that passed.
-PASSED = f"""$ vault d
-$ cp ../full {PART}; escrow put d {PART} --now {TEN} -> received {PART} 1422 {TEN}
-$ escrow verify d example --date {DAY} --kind full --revision 0 --parts 1 --id 20260802001 --now {FIVE} -> {RECEIPT}"""
 LATER, THIRD, FOURTH = "2026-08-04T10:05:00Z", "2026-08-03", "2026-08-04"
 ON_SECOND, ON_THIRD = {"previous": "20260802001"}, {"previous": "20260803001"}
 ADDS = {**ON_SECOND, "tables": {"registrar": "R1,Example,292,ok\n"}, "counts": (0, 0, 0, 1)}

@@ -1,7 +1,7 @@
 """The routes, asked by curl: what each does, what it refuses, and its responses byte for byte."""
 from pathlib import Path
 
-from lib import DAY, DEPOSIT, PART, TEN, Room, each, notice, part_name, state, statement
+from lib import DAY, DEPOSIT, PART, TEN, Room, each, notice, part_name, state, stated, statement
 
 EARLIER, LATER, FIFTH = part_name("2026-08-01", "diff"), part_name("2026-08-05"), "2026-08-05T00:00:00Z"
 SECOND, REVISION = part_name(part=2), part_name(revision=1)
@@ -22,7 +22,7 @@ $ cp ../full {PART}; escrow put d {PART} --now {TEN} -> received {PART} 1422 {TE
 $ escrow state d > before"""
 UNCHANGED = "$ escrow state d | diff before -"
 STATED = f"""{BEGUN}
-$ escrow verify d example --date {DAY} --kind full --revision 0 --parts 1 --id 20260802001 --now {TEN} -> {RECEIPT}"""
+$ escrow verify d {stated(at=TEN)} -> {RECEIPT}"""
 
 # The title of a case; what is played before; the moment and the requests; what is played then.
 ROUTES = (

@@ -1,6 +1,5 @@
 """How long bytes are kept: for a year, and while a day is on hold. Blocks that are given back are used again."""
-from deposits import stated
-from lib import PART, TEN, part_name, state, transcripts
+from lib import PART, TEN, part_name, state, stated, transcripts
 
 LEAP_DAY, NOON, YEAR_AFTER = "2028-02-29", "2028-02-29T12:00:00Z", "2029-03-01T00:00:00Z"
 HELD, LIFTED, LEAP = f"H-1 example {LEAP_DAY} 2029-02-01T00:00:00Z", "2029-03-02T00:00:00Z", part_name(LEAP_DAY)

@@ -7,7 +7,7 @@ that went the way back.
 import os
 from pathlib import Path
 
-from lib import DAY, DEPOSIT, PART, RECEIPT, TEN, Room, deposit, notice, part_name, state, transcripts
+from lib import DAY, DEPOSIT, PART, RECEIPT, TEN, Room, deposit, notice, part_name, state, stated, transcripts
 
 DIFF, NOISE = part_name("2026-08-03", "diff"), part_name("2026-08-04", "diff")
 PARTS = {PART: DEPOSIT, DIFF: deposit("diff", "2026-08-03", previous="20260802001"), NOISE: b"hello"}
@@ -54,12 +54,6 @@ STATE, RELEASED = state(5, *KEPT, *NOTICES, f"release R-1 {RELEASE}"), "\n".join
 SCHEMA = "sqlite3 -readonly d/custody.db 'SELECT schema_no FROM meta'"
 
 
-def stated(day: str, kind: str, number: str = "") -> str:
-    """The words that state a deposit of one part at five past ten."""
-    number = number or day.replace("-", "") + "001"
-    return f"verify d example --date {day} --kind {kind} --revision 0 --parts 1 --id {number} --now {day}T10:05:00Z"
-
-
 def older_vault(room: Room, name: str = "d", rows: str = ROWS) -> None:
     """Makes a vault from its volume and these rows, and the files of its parts in the folder `in`."""
     for part, content in PARTS.items():
@@ -89,7 +83,7 @@ $ escrow audit d -> sound 2
 == what an older program acknowledged is answered as before
 $ escrow put d in/{PART} -> !1 Q6 dropped after keeping
 $ escrow put d in/{DIFF} -> received {DIFF} 583 2026-08-03T10:00:00Z
-$ escrow {stated(DAY, "full")} -> {RECEIPT}
+$ escrow verify d {stated()} -> {RECEIPT}
 $ escrow release d R-1 example operator -> {RELEASED}
 $ escrow fetch d R-1 {NOISE} | cmp - in/{NOISE}
 $ {SCHEMA} -> 2
@@ -103,7 +97,7 @@ $ escrow put d in/{NOISE} -> !1 Q6 dropped after keeping
 
 transcripts(__name__, "== a vault of schema 1 goes on with incremental deposits\n" + "".join(f"""
 $ escrow put d in/{part_name(day, kind)} --now {day}T10:00:00Z -> received {part_name(day, kind)} 583 {day}T10:00:00Z
-$ escrow {stated(day, kind)} -> {verdict}
+$ escrow verify d {stated(day, kind)} -> {verdict}
 """ for (day, kind, _), verdict in zip(NEXT, VERDICTS)) + f"""
 $ escrow state d -> {state(2, *KEPT, *(f"part {it}" for it in RECEIVED), *NOTICES, *VERDICTS, f"release R-1 {RELEASE}")}
 $ sqlite3 -readonly d/custody.db "SELECT schema_no, (SELECT count(*) FROM part WHERE kind = 'incr') FROM meta" -> 2|2
@@ -124,11 +118,11 @@ def made_by_older(room: Room) -> None:
         $ older init d --blocks 8 --number 0000000000000001 -> ready 8 0000000000000001
         $ older register d example --first {DAY} -> registered example {DAY}
         $ older put d in/{PART} --now {TEN} -> received {PART} 1422 {TEN}
-        $ older {stated(DAY, "full")} -> {NOTICES[0]}
+        $ older verify d {stated()} -> {NOTICES[0]}
         $ older put d in/{DIFF} --now 2026-08-03T10:00:00Z -> received {DIFF} 583 2026-08-03T10:00:00Z
-        $ older {stated("2026-08-03", "diff")} -> {NOTICES[1]}
+        $ older verify d {stated("2026-08-03", "diff")} -> {NOTICES[1]}
         $ older put d in/{NOISE} --now 2026-08-04T10:00:00Z -> received {NOISE} 5 2026-08-04T10:00:00Z
-        $ older {stated("2026-08-04", "diff", "X")} -> {NOTICES[2]}
+        $ older verify d {stated("2026-08-04", "diff", number="X")} -> {NOTICES[2]}
         $ older sweep d --now 2026-08-06T00:00:00Z -> {NOTICES[3]}
         $ older release d R-1 example operator --now 2026-08-06T01:00:00Z -> {RELEASED}
         $ older purge d --now 2027-08-03T00:00:00Z -> dropped 1""")

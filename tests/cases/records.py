@@ -2,8 +2,8 @@
 import hashlib
 import re
 
-from lib import DAY, FIVE, PART, RECEIPT, TEN, TOP, Room, deposit, each, notice, part_name, state, transcripts
-from older import DIFF, KEPT, NOISE, NOTICES, ROWS, STATE, older_vault, stated
+from lib import DAY, FIVE, PART, RECEIPT, TEN, TOP, Room, deposit, each, notice, part_name, state, stated, transcripts
+from older import DIFF, KEPT, NOISE, NOTICES, ROWS, STATE, older_vault
 
 INTEGRITY = "sqlite3 d/custody.db 'PRAGMA integrity_check' -> ok"
 ROWS_OF_NOTICES = "sqlite3 d/custody.db 'SELECT tld, number, kind, day, rev, id, at FROM notice'"
@@ -28,14 +28,14 @@ $ sqlite3 many/custody.db 'PRAGMA integrity_check' -> ok
 $ sqlite3 many/custody.db 'SELECT len, hex(extents) FROM part' -> 1048576|0000000100000100
 == a receipt is a row
 $ cp ../full {PART}; escrow put d {PART} --now {TEN} -> received {PART} 1422 {TEN}
-$ escrow {stated(DAY, "full")} -> {RECEIPT}
+$ escrow verify d {stated()} -> {RECEIPT}
 $ {INTEGRITY}
 $ {ROWS_OF_NOTICES} -> example|1|0|20667|0|20260802001|1785665100
 == failures are rows
 {RECEIVED}
-$ escrow {stated(DAY, "full", "X")} -> {notice(1, "FAILURE-01", DAY, FIVE, "X")}
+$ escrow verify d {stated(number="X")} -> {notice(1, "FAILURE-01", DAY, FIVE, "X")}
 $ cp {PART} {AGAIN}; escrow put d {AGAIN} --now {TEN} -> received {AGAIN} 5 {TEN}
-$ escrow {stated(DAY, "full", "X").replace("revision 0", "revision 1")} -> {notice(2, "FAILURE-01", DAY, FIVE, "X", 1)}
+$ escrow verify d {stated(number="X", revision=1)} -> {notice(2, "FAILURE-01", DAY, FIVE, "X", 1)}
 $ {INTEGRITY}
 $ {ROWS_OF_NOTICES} -> example|1|1|20667|0|X|1785665100
 example|2|1|20667|1|X|1785665100
@@ -69,7 +69,8 @@ STEPS = (
      f"""INSERT INTO part VALUES ('example', 20671, 0, 1, 'diff', 1786010400, 21036, 583,
      x'{hashlib.sha256(FIFTH_DEPOSIT).hexdigest()}', x'0000000100000001')""",
      {KEPT[-1]: f"{KEPT[-1]}\npart {FIFTH_PART} 583 held 2026-08-06T10:00:00Z", "free 5": "free 4"}),
-    (stated("2026-08-06", "diff"), FIFTH, "INSERT INTO notice VALUES ('example', 5, 0, 20671, 0, '20260806001', 1786010700)",
+    (f"verify d {stated('2026-08-06', 'diff')}", FIFTH,
+     "INSERT INTO notice VALUES ('example', 5, 0, 20671, 0, '20260806001', 1786010700)",
      {NOTICES[-1]: f"{NOTICES[-1]}\n{FIFTH}"}),
     ("release d R-2 example audit --now 2026-08-08T01:00:00Z", f"released R-2 example audit 2026-08-08T01:00:00Z 3\n{HELD}",
      f"INSERT INTO handover VALUES ('R-2', 'example', 'audit', 1786150800, '{HELD}' || char(10))",

@@ -1,6 +1,5 @@
 """Releases: when one is recorded, on which ground, what it lists, and its parts when they are fetched."""
-from deposits import stated
-from lib import DAY, PART, RECEIPT, TEN, notice, part_name, state, transcripts
+from lib import DAY, PART, RECEIPT, TEN, notice, part_name, state, stated, transcripts
 
 # Parts beside PART, the moment at which the year of the first is over, and one at which all years are.
 OLD, NEW, NEXT = part_name("2026-08-01"), part_name("2027-08-02", "diff"), part_name("2027-08-02", "diff", 2)
