@@ -23,6 +23,10 @@ part_cmp a b = ordering_then (text_cmp a.tld b.tld) (ordering_then (nat_cmp a.da
 abbrev pub revision_cmp : PartKey → PartKey → Ordering
 revision_cmp a b = ordering_then (text_cmp a.tld b.tld) (ordering_then (nat_cmp a.day b.day) (nat_cmp a.rev b.rev))
 
+-- by registry and day: the day of a registry, as a part's place has it
+abbrev pub day_cmp : List ℕ × ℕ → List ℕ × ℕ → Ordering
+day_cmp a b = ordering_then (text_cmp a.0 b.0) (nat_cmp a.1 b.1)
+
 -- the number of a notice among those of its registry
 pub record NoticeKey : Type 0 where
   pub tld : List ℕ

@@ -10,7 +10,7 @@ use Rattle.desk.specs.declared.notices.NoticeKind.{NoticeKind}
 use Rattle.desk.specs.declared.grounds.Ground.{Ground}
 use Rattle.extent_map.specs.declared.extent.Extent.{Extent}
 use Rattle.extent_map.specs.Staged.{StagedPart}
-use Rattle.custody_records.specs.Keys.{text_cmp, PartKey, part_cmp, revision_cmp, NoticeKey, notice_cmp}
+use Rattle.custody_records.specs.Keys.{text_cmp, PartKey, part_cmp, day_cmp, revision_cmp, NoticeKey, notice_cmp}
 
 -- a part: its kind, when it was received, its length and SHA-256, and the extents of its bytes
 pub record PartRecord : Type 0 where
@@ -70,6 +70,10 @@ name_of key kind = record { tld = key.tld; day = key.day; kind = kind; part = ke
 -- the parts of a registry with their places, by day, revision and place in the series
 abbrev pub parts_of : Records → List ℕ → List (PartKey × PartRecord)
 parts_of records tld = filter (λ (e : PartKey × PartRecord). is_eq (text_cmp e.0.tld tld)) (map.entries records.parts)
+
+-- the parts of a registry's day with their places, by revision and place in the series
+abbrev pub parts_of_day : Records → List ℕ → ℕ → List (PartKey × PartRecord)
+parts_of_day records tld day = filter (λ (e : PartKey × PartRecord). is_eq (day_cmp (e.0.tld, e.0.day) (tld, day))) (map.entries records.parts)
 
 -- the parts of the revision of a name with their places, by place in the series
 abbrev pub parts_of_revision : Records → Name → List (PartKey × PartRecord)

@@ -1,8 +1,8 @@
 //! Parts of deposits.
 ghost use Rattle.std.specs.Prelude.{◌≡◌, MatchResult};
 ghost use Rattle.custody_records.specs.Form.{part_in};
-ghost use Rattle.custody_records.specs.Keys.{part_cmp, revision_cmp, text_cmp};
-ghost use Rattle.custody_records.specs.inside.Orders.{part_exact, part_registries_ascend, part_revisions_ascend, part_total};
+ghost use Rattle.custody_records.specs.Keys.{day_cmp, part_cmp, revision_cmp, text_cmp};
+ghost use Rattle.custody_records.specs.inside.Orders.{part_days_ascend, part_exact, part_registries_ascend, part_revisions_ascend, part_total};
 ghost use Rattle.custody_records.specs.Records.{PartRecord, key_of};
 ghost use Rattle.custody_records.specs.TypedRecords.{part_entry, key_of_part, part_row, part_value, name_in, received_in};
 ghost use Rattle.custody_records.specs.declared.errors.RowError.TheVariants.{OutOfForm};
@@ -128,6 +128,18 @@ impl Group<Part> for Tld {
 
     fn compare(&self, part: &Part) -> Ordering {
         part.name.tld.as_bytes().cmp(self.as_bytes())
+    }
+}
+
+/// The parts of a registry's day.
+impl Group<Part> for (Tld, Day) {
+    ghost place = { λ day key. day_cmp (key.tld, key.day) day };
+
+    ghost ascends = { part_days_ascend };
+
+    fn compare(&self, part: &Part) -> Ordering {
+        let registries = part.name.tld.as_bytes().cmp(self.0.as_bytes());
+        registries.then(part.name.day.cmp(&self.1))
     }
 }
 

@@ -30,6 +30,7 @@ impl Records {
       new_records,
       notices_of,
       parts_of,
+      parts_of_day,
       parts_of_revision,
       with_registry,
       with_part,
@@ -170,6 +171,13 @@ impl Records {
         ensures { row_entries key_of_part part_value result.now ≡ parts_of (records_of self.now) tld.now }
     {
         self.parts.group(tld)
+    }
+
+    /// The parts of a registry's day, by revision and place.
+    pub fn parts_of_day(&self, tld: &Tld, day: Day) -> &[Part]
+        ensures { row_entries key_of_part part_value result.now ≡ parts_of_day (records_of self.now) tld.now day }
+    {
+        self.parts.group(&(*tld, day))
     }
 
     /// The parts of the revision of a name, by place.

@@ -1,4 +1,4 @@
--- The orders of the keys are total, tell all keys apart, and keep registries and revisions together.
+-- The orders of the keys are total, tell all keys apart, and keep registries, days and revisions together.
 use Rattle.std.proofs.Common.{◌≡◌, ◌≤◌, ℕ, List, false, refl, sym, ap, ◌∙◌, arith}
 use Rattle.std.specs.Ordering.{nat_cmp, is_gt, ordering_then, ordering_index}
 use Rattle.std.specs.declared.cmp.Ordering.{Ordering}
@@ -8,7 +8,7 @@ use Rattle.std.proofs.lemmas.Cmp.{alike_right}
 use Rattle.std.proofs.lemmas.Map.Lookups.{exact_pairs, exact_bytes, exact_unsigned}
 use Rattle.std.specs.Cmp.{IsTotalOrder, nat_cmp_total, on_total, then_total}
 use Rattle.std.specs.Cmp.Lexicographic.{nat_list_cmp_total}
-use Rattle.custody_records.specs.Keys.{text_cmp, PartKey, part_cmp, revision_cmp, NoticeKey, notice_cmp}
+use Rattle.custody_records.specs.Keys.{text_cmp, PartKey, part_cmp, day_cmp, revision_cmp, NoticeKey, notice_cmp}
 
 pub text_total : IsTotalOrder text_cmp
 text_total = nat_list_cmp_total
@@ -50,6 +50,9 @@ ascends {K} {R} o a b c low = by (R a b) (R b c) refl refl low
 first_in_order : (o rest : Ordering) → ordering_then o rest ≡ Less → is_gt o ≡ false
 first_in_order o rest e = grind arith
 
+two_in_order : (a b c : Ordering) → ordering_then a (ordering_then b c) ≡ Less → is_gt (ordering_then a b) ≡ false
+two_in_order a b c e = grind arith
+
 three_in_order : (a b c d : Ordering) → ordering_then a (ordering_then b (ordering_then c d)) ≡ Less → is_gt (ordering_then a (ordering_then b c)) ≡ false
 three_in_order a b c d e = grind arith
 
@@ -58,6 +61,12 @@ part_registries_ascend tld a b less = ascends text_total a.tld b.tld tld (first_
 
 pub notice_registries_ascend : (tld : List ℕ) (a b : NoticeKey) → notice_cmp a b ≡ Less → ordering_index (text_cmp a.tld tld) ≤ ordering_index (text_cmp b.tld tld)
 notice_registries_ascend tld a b less = ascends text_total a.tld b.tld tld (first_in_order (text_cmp a.tld b.tld) _ less)
+
+day_total : IsTotalOrder day_cmp
+day_total = then_total (on_total (λ (k : List ℕ × ℕ). k.0) nat_list_cmp_total) (on_total (λ (k : List ℕ × ℕ). k.1) nat_cmp_total)
+
+pub part_days_ascend : (place : List ℕ × ℕ) (a b : PartKey) → part_cmp a b ≡ Less → ordering_index (day_cmp (a.tld, a.day) place) ≤ ordering_index (day_cmp (b.tld, b.day) place)
+part_days_ascend place a b less = ascends day_total (a.tld, a.day) (b.tld, b.day) place (two_in_order (text_cmp a.tld b.tld) (nat_cmp a.day b.day) _ less)
 
 revision_total : IsTotalOrder revision_cmp
 revision_total = then_total (on_total (λ (k : PartKey). k.tld) nat_list_cmp_total) (then_total (on_total (λ (k : PartKey). k.day) nat_cmp_total) (on_total (λ (k : PartKey). k.rev) nat_cmp_total))
