@@ -14,6 +14,7 @@ pub mod OpenCustodyLemmas
 pub mod KeptPart
 pub mod Opened
 pub mod PartLemmas
+pub mod PreviewLemmas
 pub mod PurgeLemmas
 pub mod Received
 pub mod Registered

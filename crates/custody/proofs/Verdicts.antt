@@ -17,7 +17,7 @@ use Rattle.custody_machine.specs.declared.answers.Failure.TheVariants.{NoMemory,
 use Rattle.custody_machine.specs.declared.damage.Damage.TheVariants.{Digest}
 use Rattle.custody_machine.specs.Machine.{Statement, OfNotice, Accept, MayFail, first_part, next_key, verdict_keys, verdict_notice, deciding_keys, step}
 use Rattle.custody_machine.specs.Rulings.{AddsVerdict, GoRuling, Decides}
-use Rattle.custody_machine.specs.StoredState.{IsVolumeOf, AreWholeOnVolume, HasDigestAt, state_in}
+use Rattle.custody_machine.specs.StoredState.{IsVolumeOf, AreWhole, AreWholeOnVolume, HasDigestAt, state_in}
 use Rattle.custody_machine.specs.Custody.{IsInOrder}
 use Rattle.custody_machine.proofs.Compared.{now_of}
 use Rattle.custody_machine.proofs.Composed.{IsChange, nothing_in}
@@ -31,6 +31,14 @@ use Rattle.custody.specs.inside.Verifying.{HasFirstPart, IsVerified, CountsVerif
 use Rattle.custody.proofs.OpenCustodyLemmas.{order_same, safe_undone}
 use Rattle.custody.proofs.Done.{GoesOn, reads_done, no_memory_done}
 
+-- the first part of a deposit that is to be verified is recorded
+pub first_recorded : (records : Records) → AreWhole records → (stated : statement.Statement) (now : ℕ) → Decides (GoRuling (AddsVerdict stated)) records (Statement stated) now → HasFirstPart records stated
+first_recorded records whole stated now d = by (get records.parts (key_of (first_part stated))) refl (first_there records [] whole stated now d)
+  where
+    by : (o : Option PartRecord) → get records.parts (key_of (first_part stated)) ≡ o → is_some o ≡ true → HasFirstPart records stated
+    by None at h = cc
+    by (Some part) at h = (part, at, (held_at records [] whole stated now d 1 part (0, omega arith, refl) at).0)
+
 module _ {V S : Type 0} {g : volume.Ghosts V} (database : Ghosts S) (old : OpenCustody V S g) (order : KeepsOrder old) (stated : statement.Statement) (now : ℕ) (d : Decides (GoRuling (AddsVerdict stated)) (current_records old) (Statement stated) now) where
   abbrev keys : List PartKey
   keys = verdict_keys (state_in (current_records old) (image_of old)) stated
@@ -41,14 +49,6 @@ module _ {V S : Type 0} {g : volume.Ghosts V} (database : Ghosts S) (old : OpenC
   -- there is no memory for one more notice
   pub unreserved_done : (r : held.Records) → records_of r ≡ current_records old → HasExecuted database old (Statement stated) now (Err (refused.Failure NoMemory)) (record { vault = old.vault; store = old.store; records = r })
   unreserved_done r same = no_memory_done database old order (Statement stated) now r same _ _ (d.1 (image_of old)) (GoRuling (AddsVerdict stated), d, inl refl)
-
-  -- the first part is recorded
-  pub first_held : HasFirstPart (current_records old) stated
-  first_held = by (get (current_records old).parts (key_of (first_part stated))) refl (first_there (current_records old) [] order.whole stated now d)
-    where
-      by : (o : Option PartRecord) → get (current_records old).parts (key_of (first_part stated)) ≡ o → is_some o ≡ true → HasFirstPart (current_records old) stated
-      by None at h = cc
-      by (Some part) at h = (part, at, (held_at (current_records old) [] order.whole stated now d 1 part (0, omega arith, refl) at).0)
 
   -- ---- there is no verdict
 

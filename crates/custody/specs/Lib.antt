@@ -3,6 +3,7 @@ pub mod Auditing
 pub mod Calls
 pub mod Custody
 pub mod Fetching
+pub mod Previewing
 pub mod Upload
 pub mod OpenCustody
 pub mod Opening

@@ -16,12 +16,14 @@ use crate::auditing::audit_parts;
 use crate::fetching::fetch_part;
 use crate::open_custody::OpenCustody;
 use crate::opening::{identify, load_current, make_records, may_begin, open_custody_over};
+use crate::previewing::preview_notice;
 use crate::receiving::drop_body;
 use crate::{InitError, Outcome, Progress, ReceiveError, Refused, Reply};
-use custody_machine::{Command, Failure};
+use custody_machine::{Command, Failure, Statement};
 use custody_records::Records;
 use custody_store::{Store, has_earlier_tables};
 use deposit_name::{DepositName, Reference};
+use desk::Notice;
 use schedule::Sec;
 use sqlite::{Alter, Connection};
 use std::alloc::{AllocError, Global};
@@ -47,6 +49,7 @@ impl<V: Volume, S: Alter> Custody<V, S> {
     };
     ghost use Rattle.custody.specs.Receiving.{HasReceived};
     ghost use Rattle.custody.specs.Fetching.{HasFetched, bytes_if_answered};
+    ghost use Rattle.custody.specs.Previewing.{HasPreviewed};
     ghost use Rattle.custody.specs.Auditing.{HasAudited, answered_names};
     ghost use Rattle.custody.specs.Calls.{
       HasBegun,
@@ -233,6 +236,24 @@ impl<V: Volume, S: Alter> Custody<V, S> {
         self.is_open = stays_open(&answer);
         *out = answer?;
         Ok(())
+    }
+
+    /// The notice that a statement would be answered with at a moment, with number 0. Nothing is recorded.
+    pub fn preview(
+        &mut self,
+        alloc: Global,
+        statement: &Statement,
+        now: Sec,
+    ) -> Result<Notice, Refused>
+        ensures { HasPreviewed self.old statement.now now result self.new }
+    {
+        if !self.is_open {
+            return Err(Refused::Failure(Failure::Closed));
+        }
+        let OpenCustody { vault, records, .. } = &mut self.open_custody;
+        let answer = preview_notice(alloc, vault, records, statement, now);
+        self.is_open = stays_open(&answer);
+        answer
     }
 
     /// Reads each part that is held against its recorded digest, and names those that have it not, in the

@@ -11,6 +11,7 @@ mod custody;
 mod fetching;
 mod open_custody;
 mod opening;
+mod previewing;
 mod progress;
 mod reading;
 mod receiving;

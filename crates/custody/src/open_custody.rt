@@ -290,7 +290,7 @@ fn reserve_number(records: &mut Records, tld: &Tld) -> Result<u64, AllocError>
 }
 
 /// The notice of a verdict on the deposit that is stated.
-fn notice_of(statement: &Statement, verdict: Verdict, number: u64, now: Sec) -> Notice
+pub(crate) fn notice_of(statement: &Statement, verdict: Verdict, number: u64, now: Sec) -> Notice
     ensures key { notice_key result ≡ record { tld = statement.now.tld; number = number } }
     ensures value { notice_value result ≡ verdict_notice statement.now verdict now }
 {

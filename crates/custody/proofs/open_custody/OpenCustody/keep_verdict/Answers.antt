@@ -17,7 +17,7 @@ use Rattle.custody.specs.inside.Verifying.{HasFirstPart, IsVerified}
 use Rattle.custody.proofs.OpenCustodyLemmas.{err_is}
 use Rattle.custody.proofs.Done.{failed_as, commits_done, commits_in_doubt}
 use Rattle.custody.proofs.NewNotices.{notice_means}
-use Rattle.custody.proofs.Verdicts.{unreserved_done, first_held, unverified_done, verdict_change}
+use Rattle.custody.proofs.Verdicts.{first_recorded, unreserved_done, unverified_done, verdict_change}
 use Rattle.custody.proofs.open_custody.OpenCustody.keep_verdict.Goals as goal
 
 pub returns-in_err-number : goal.returns-in_err-number
@@ -25,7 +25,7 @@ returns-in_err-number g c = failed_as c.from_residual.ensures.1 (unreserved_done
 
 pub verify_stated-requires-clause-first : goal.verify_stated-requires-clause-first
 verify_stated-requires-clause-first g c =
-    subst (λ r. HasFirstPart r c.args.statement.now) (sym c.in_ok-number.ensures.same) (first_held g.S.Store c.args.self.now c.requires.order c.args.statement.now c.args.now c.requires.ruled)
+    subst (λ r. HasFirstPart r c.args.statement.now) (sym c.in_ok-number.ensures.same) (first_recorded (current_records c.args.self.now) c.requires.order.whole c.args.statement.now c.args.now c.requires.ruled)
 
 pub returns-in_err-verdict : goal.returns-in_err-verdict
 returns-in_err-verdict g c =
