@@ -1,4 +1,6 @@
 pub mod Auditing
+pub mod Digests
+pub mod Due
 pub mod Lines
 pub mod Number
 pub mod Printing

@@ -1,6 +1,7 @@
 -- The lines of replies, without their line feed.
 use Rattle.std.specs.Prelude.{◌-◌, ℕ, List, ◌++◌, codes, length, take}
 use Rattle.std.specs.Fmt.{decimal}
+use Rattle.hex.specs.Hex.{encode_lower}
 use Rattle.schedule.specs.Text.{day_text, moment_text}
 use Rattle.deposit_name.specs.Name.{name_text}
 use Rattle.desk.specs.Grounds.{ground_text}
@@ -9,7 +10,7 @@ use Rattle.desk.specs.declared.grounds.Ground.{Ground}
 use Rattle.desk.specs.declared.notices.Notice as desk
 use Rattle.custody_records.specs.RowsOfRecords.{digits_of}
 use Rattle.answer_lines.specs.declared.lines.Line.{Line}
-use Rattle.answer_lines.specs.declared.lines.Line.TheVariants.{Ready, Registered, Received, Notice, Released, Held, Lifted, Purged, Registry, Part, Dropped, Release, Hold, LiftedHold, Damaged, Sound, Room, Listening}
+use Rattle.answer_lines.specs.declared.lines.Line.TheVariants.{Ready, Registered, Received, Notice, Released, Held, Lifted, Purged, Registry, Part, Dropped, Release, Hold, LiftedHold, Due, Waiting, Digest, Damaged, Sound, Room, Listening}
 
 abbrev pub room_text : ℕ → ℕ → List ℕ
 room_text free total = codes "free " ++ decimal free ++ codes " of " ++ decimal total
@@ -31,6 +32,10 @@ hold_text reference tld day at = reference ++ codes " " ++ tld ++ codes " " ++ d
 abbrev pub lifted_hold_text : List ℕ → List ℕ → ℕ → ℕ → ℕ → List ℕ
 lifted_hold_text reference tld day at lifted = hold_text reference tld day at ++ codes " lifted " ++ moment_text lifted
 
+-- why a sweep records nothing: it would record so many absences
+abbrev pub too_many_absences_text : ℕ → List ℕ
+too_many_absences_text count = codes "Q23 too many absences: " ++ decimal count
+
 abbrev pub line_text : Line → List ℕ
 line_text (Ready blocks number) = codes "ready " ++ decimal blocks ++ codes " " ++ digits_of number
 line_text (Registered tld first) = codes "registered " ++ tld ++ codes " " ++ day_text first
@@ -49,6 +54,9 @@ line_text (Dropped name length at) =
 line_text (Release reference tld reason at count) = codes "release " ++ release_text reference tld reason at count
 line_text (Hold reference tld day at) = codes "hold " ++ hold_text reference tld day at
 line_text (LiftedHold reference tld day at lifted) = codes "hold " ++ lifted_hold_text reference tld day at lifted
+line_text (Due tld day) = codes "due " ++ tld ++ codes " " ++ day_text day
+line_text (Waiting tld day rev count) = codes "parts " ++ tld ++ codes " " ++ day_text day ++ codes " " ++ decimal rev ++ codes " " ++ decimal count
+line_text (Digest digest name) = encode_lower digest ++ codes "  " ++ name_text name
 line_text (Damaged name) = codes "damaged " ++ name_text name
 line_text (Sound count) = codes "sound " ++ decimal count
 line_text (Room free total) = room_text free total

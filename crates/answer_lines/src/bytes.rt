@@ -4,11 +4,12 @@ ghost use Rattle.arrayvec.specs.ArrayVec.{array_vec_len};
 ghost use Rattle.schedule.specs.Text.{day_text, moment_text};
 ghost use Rattle.deposit_name.specs.ErrorText as names;
 ghost use Rattle.deposit_name.specs.Name.{name_text};
+ghost use Rattle.hex.specs.Hex.{encode_lower};
 ghost use Rattle.custody_records.specs.RowsOfRecords.{digits_of};
 ghost use Rattle.custody.specs.Answers.{init_error_text};
 ghost use Rattle.custody_machine.specs.Codes.{code_row, code_row_text};
 ghost use Rattle.custody_machine.specs.Texts.{damage_text, failure_text, refusal_text};
-ghost use Rattle.answer_lines.specs.Lines.{hold_text, line_text, lifted_hold_text, release_text};
+ghost use Rattle.answer_lines.specs.Lines.{hold_text, line_text, lifted_hold_text, release_text, too_many_absences_text};
 
 use crate::{Line, VolumeNumber};
 use custody::InitError;
@@ -46,6 +47,37 @@ fn part_line_bytes(word: &[u8], name: &DepositName, len: u32, state: &[u8], at: 
     append_number(&mut line, u64::from(len));
     append(&mut line, state);
     append(&mut line, &write_moment(at));
+    append(&mut line, b"\n");
+    line
+}
+
+/// How many parts of a revision of a day are held.
+fn waiting_line(tld: &Tld, day: Day, revision: u8, count: u64) -> LineBytes
+    ensures { result.items ≡ (codes "parts " ++ tld.now ++ codes " " ++ day_text day ++ codes " " ++ decimal revision ++ codes " " ++ decimal count) ++ 10 ∷ [] }
+{
+    let mut line = LineBytes::new();
+    append(&mut line, b"parts ");
+    append(&mut line, tld.as_bytes());
+    append(&mut line, b" ");
+    append(&mut line, &write_day(day));
+    append(&mut line, b" ");
+    append_number(&mut line, u64::from(revision));
+    append(&mut line, b" ");
+    append_number(&mut line, count);
+    append(&mut line, b"\n");
+    line
+}
+
+/// A digest and a name, with the two spaces that `sha256sum` reads.
+fn digest_line(digest: &[u8; 32], name: &DepositName) -> LineBytes
+    ensures { result.items ≡ (encode_lower digest.now ++ codes "  " ++ name_text name.now) ++ 10 ∷ [] }
+{
+    let mut digits = [0u8; 64];
+    let _ = hex::encode_to_slice(*digest, &mut digits);
+    let mut line = LineBytes::new();
+    append(&mut line, &digits);
+    append(&mut line, b"  ");
+    append(&mut line, &write_name(name));
     append(&mut line, b"\n");
     line
 }
@@ -231,6 +263,14 @@ impl Line {
                 b"hold ",
                 &lifted_hold_words(reference, tld, *day, *at, *lifted),
             ),
+            Line::Due { tld, day } => registry_line(b"due ", tld, *day),
+            Line::Waiting {
+                tld,
+                day,
+                revision,
+                count,
+            } => waiting_line(tld, *day, *revision, *count as u64),
+            Line::Digest { digest, name } => digest_line(digest, name),
             Line::Damaged { name } => name_line(b"damaged ", name),
             Line::Sound { count } => count_line(b"sound ", *count as u64),
             Line::Room { free, total } => room_line(*free, *total),
@@ -312,6 +352,17 @@ fn code_line(code: &Code) -> LineBytes
     append(&mut line, code.number.as_bytes());
     append(&mut line, b" ");
     append(&mut line, code.text.as_bytes());
+    append(&mut line, b"\n");
+    line
+}
+
+/// The bytes of the line that says that a sweep would record too many absences, with its line feed.
+pub(crate) fn too_many_absences_bytes(count: u64) -> LineBytes
+    ensures { result.items ≡ too_many_absences_text count ++ 10 ∷ [] }
+{
+    let mut line = LineBytes::new();
+    append(&mut line, b"Q23 too many absences: ");
+    append_number(&mut line, count);
     append(&mut line, b"\n");
     line
 }

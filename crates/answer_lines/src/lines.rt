@@ -96,6 +96,23 @@ pub enum Line {
         at: Sec,
         lifted: Sec,
     },
+    /// A day that a sweep would record as missed.
+    Due {
+        tld: Tld,
+        day: Day,
+    },
+    /// So many parts of a revision of that day are held.
+    Waiting {
+        tld: Tld,
+        day: Day,
+        revision: u8,
+        count: usize,
+    },
+    /// The SHA-256 of a part of the records, as `sha256sum` prints it.
+    Digest {
+        digest: [u8; 32],
+        name: DepositName,
+    },
     /// A part whose bytes have not its digest.
     Damaged {
         name: DepositName,

@@ -8,14 +8,20 @@ ghost use Rattle.custody_machine.specs.Texts.{failure_text, refusal_text};
 ghost use Rattle.custody_records.specs.MemoryRecords.{records_of};
 ghost use Rattle.custody_records.specs.Tables.{row_entries};
 ghost use Rattle.custody_records.specs.TypedRecords.{notice_key, notice_value};
+ghost use Rattle.custody_rules.specs.DueDays.{due_day_pair};
 ghost use Rattle.custody.specs.Answers.{init_error_text};
 ghost use Rattle.answer_lines.specs.Auditing.{audit_status, audit_text};
-ghost use Rattle.answer_lines.specs.Lines.{line_text};
+ghost use Rattle.answer_lines.specs.Digests.{digests_text};
+ghost use Rattle.answer_lines.specs.Due.{days_text};
+ghost use Rattle.answer_lines.specs.Lines.{line_text, too_many_absences_text};
 ghost use Rattle.answer_lines.specs.Printing.{IsAnswerPrinted, PrintsLine, as_line, reply_text};
 ghost use Rattle.answer_lines.specs.State.{lines_text, notice_line, state_text};
 ghost use Rattle.answer_lines.specs.Statuses.{IsStatusAfter, answer_status, init_status};
 
 use crate::auditing::{audit_status, write_audit};
+use crate::bytes::too_many_absences_bytes;
+use crate::digests::write_digests;
+use crate::due::write_due;
 use crate::lines::names_behind;
 use crate::state::{write_report, write_state};
 use crate::writing::{flush, print, write_line};
@@ -23,7 +29,8 @@ use crate::{Line, WriteFailed, failure_bytes, init_error_bytes, refusal_bytes, w
 use custody::{InitError, Record, Refused, Reply};
 use custody_machine::{ExitStatus, Failure, Refusal};
 use custody_records::Records;
-use deposit_name::DepositName;
+use custody_rules::DueDay;
+use deposit_name::{DepositName, Tld};
 use desk::Notice;
 use std::io::Write;
 
@@ -88,6 +95,16 @@ pub fn tell_init<E: Write>(error: &InitError, err: &mut E) -> u8
     status_after(print(&init_error_bytes(error), err), error.code().status)
 }
 
+/// Prints that a sweep would record so many absences, which are too many, and answers the status.
+pub fn tell_too_many_absences<E: Write>(count: usize, err: &mut E) -> u8
+    ensures status { IsStatusAfter 1 result }
+    ensures printed { result ≡ 1 → PrintsLine (E.contents err.old) (E.contents err.new) (too_many_absences_text count) }
+    ensures begun { AppendsBeginning (E.contents err.old) (E.contents err.new) (as_line (too_many_absences_text count)) }
+{
+    let line = too_many_absences_bytes(count as u64);
+    status_after(print(&line, err), ExitStatus::Refused)
+}
+
 /// Prints the line of a reply, and answers the status.
 pub fn print_line<W: Write>(line: &Line, out: &mut W) -> u8
     ensures status { IsStatusAfter 0 result }
@@ -105,6 +122,24 @@ pub fn print_state<W: Write>(records: &Records, free: u32, total: u32, out: &mut
     ensures begun { AppendsBeginning (W.contents out.old) (W.contents out.new) (as_line (state_text (records_of records.now) free total)) }
 {
     status_after(write_state(records, free, total, out), ExitStatus::Done)
+}
+
+/// Prints each day that is due and how many parts of it are held, and answers the status.
+pub fn print_due<W: Write>(records: &Records, days: &[DueDay], out: &mut W) -> u8
+    ensures status { IsStatusAfter 0 result }
+    ensures printed { result ≡ 0 → Appends (W.contents out.old) (W.contents out.new) (days_text (records_of records.now) (map due_day_pair days.now)) }
+    ensures begun { AppendsBeginning (W.contents out.old) (W.contents out.new) (days_text (records_of records.now) (map due_day_pair days.now)) }
+{
+    status_after(write_due(records, days, out), ExitStatus::Done)
+}
+
+/// Prints the digest and the name of each part of a registry, and answers the status.
+pub fn print_digests<W: Write>(records: &Records, tld: &Tld, out: &mut W) -> u8
+    ensures status { IsStatusAfter 0 result }
+    ensures printed { result ≡ 0 → Appends (W.contents out.old) (W.contents out.new) (digests_text (records_of records.now) tld.now) }
+    ensures begun { AppendsBeginning (W.contents out.old) (W.contents out.new) (digests_text (records_of records.now) tld.now) }
+{
+    status_after(write_digests(records, tld, out), ExitStatus::Done)
 }
 
 /// Writes bytes as they are, and answers the status.

@@ -16,7 +16,7 @@ use desk::Notice;
 use std::io::Write;
 
 /// Writes each registry with its parts and its notices, the releases, the holds, and the free blocks.
-pub(crate) fn write_state<W: Write>(
+pub fn write_state<W: Write>(
     records: &Records,
     free: u32,
     total: u32,
