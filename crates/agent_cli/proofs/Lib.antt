@@ -1,3 +1,5 @@
+mod DueLemmas
+mod Elements
 pub mod Examples
 pub mod FoldLemmas
 pub mod FormLemmas
@@ -5,3 +7,4 @@ mod HelpLemmas
 pub mod OneReading
 pub mod PathLemmas
 pub mod Readings
+mod SweepLemmas

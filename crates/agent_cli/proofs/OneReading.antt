@@ -10,7 +10,7 @@ use Rattle.clap.specs.Walk.{is_empty}
 use Rattle.deposit_name.proofs.NameLemmas.{kind_text-injective}
 use Rattle.agent_cli.specs.Grammar.{escrow_app}
 use Rattle.agent_cli.specs.Forms.{ShowsDay, ShowsMoment}
-use Rattle.agent_cli.specs.Order.{DeedReading, IsOneReading, MatchesReading, OrderReading, ReadsValue, ReadsWords, SubcommandReading, WordsReading, subcommand_named}
+use Rattle.agent_cli.specs.Order.{DeedReading, IsOneReading, MatchesReading, OrderReading, ReadsValue, ReadsValues, ReadsWords, StatementReading, SubcommandReading, WordsReading, subcommand_named}
 use Rattle.agent_cli.specs.declared.subcommands.Subcommand.{Subcommand}
 use Rattle.agent_cli.specs.declared.subcommands.Subcommand.TheVariants as subcommand
 use Rattle.agent_cli.specs.declared.order.Argument.{Argument}
@@ -29,6 +29,21 @@ value_one a Shows Next one next r s (inl p) (inr q) = absurd (q.0 p.0 p.1)
 value_one a Shows Next one next r s (inr p) (inl q) = absurd (p.0 q.0 q.1)
 value_one a Shows Next one next r s (inr p) (inr q) = p.1 ∙ sym q.1
 
+values_one : {X Y : Type 0} (Reads : Result X Argument → Type 0) (Next : X → Result Y Argument → Type 0)
+    → IsOne Reads → ((x : X) → IsOne (Next x)) → IsOne (ReadsValues Reads Next)
+values_one Reads Next one next r s (inl p) (inl q) =
+    let both = one (Ok p.0) (Ok q.0) p.1 q.1 in
+    let same : q.0 ≡ p.0 = cc in
+    next p.0 r s p.2 (rw same at q.2)
+values_one Reads Next one next r s (inl p) (inr q) =
+    let clash = one (Ok p.0) (Err q.0) p.1 q.1 in absurd (cc)
+values_one Reads Next one next r s (inr p) (inl q) =
+    let clash = one (Err p.0) (Ok q.0) p.1 q.1 in absurd (cc)
+values_one Reads Next one next r s (inr p) (inr q) =
+    let both = one (Err p.0) (Err q.0) p.1 q.1 in
+    let same : p.0 ≡ q.0 = cc in
+    p.2 ∙ ap (λ a. Err a) same ∙ sym q.2
+
 -- one value in all
 only_one : {R : Type 0} (x : R) → IsOne (λ r. r ≡ x)
 only_one x r s h k = h ∙ sym k
@@ -46,15 +61,20 @@ moment_one text x y h k = moment_text-injective x y h.0 k.0 (sym h.1 ∙ k.1)
 ground_text-injective : (a b : Ground) → ground_text a ≡ ground_text b → a ≡ b
 ground_text-injective a b e = let both : Some a ≡ Some b = sym (ground_in-ground_text a) ∙ ap ground_in e ∙ ground_in-ground_text b in cc
 
-deed_one : (subcommand : Subcommand) (rows : List Row) → IsOne (DeedReading subcommand rows)
-deed_one subcommand.Init rows = value_one _ _ _ (λ x y h k. digits_of-injective x y h.0 k.0 (sym h.1 ∙ k.1)) (λ number. only_one _)
-deed_one subcommand.Register rows = value_one _ _ _ (text_one _ _) (λ tld. value_one _ _ _ (day_one _) (λ first. only_one _))
-deed_one subcommand.Put rows = only_one _
-deed_one subcommand.Verify rows =
+statement_one : (rows : List Row) → IsOne (StatementReading rows)
+statement_one rows =
     value_one _ _ _ (text_one _ _) (λ tld.
     value_one _ _ _ (day_one _) (λ day.
     value_one _ _ _ (λ x y h k. kind_text-injective x y (sym h ∙ k)) (λ kind.
     value_one _ _ _ (text_one _ _) (λ id. only_one _))))
+
+deed_one : (subcommand : Subcommand) (rows : List Row) → IsOne (DeedReading subcommand rows)
+deed_one subcommand.Init rows = value_one _ _ _ (λ x y h k. digits_of-injective x y h.0 k.0 (sym h.1 ∙ k.1)) (λ number. only_one _)
+deed_one subcommand.Register rows = value_one _ _ _ (text_one _ _) (λ tld. value_one _ _ _ (day_one _) (λ first. only_one _))
+deed_one subcommand.Put rows = only_one _
+deed_one subcommand.Preview rows = values_one _ _ (statement_one rows) (λ stated. only_one _)
+deed_one subcommand.Verify rows = values_one _ _ (statement_one rows) (λ stated. only_one _)
+deed_one subcommand.Due rows = only_one _
 deed_one subcommand.Sweep rows = only_one _
 deed_one subcommand.Purge rows = only_one _
 deed_one subcommand.Hold rows =
@@ -68,23 +88,14 @@ deed_one subcommand.Release rows =
     value_one _ _ _ (λ x y h k. ground_text-injective x y (sym h ∙ k)) (λ reason. only_one _)))
 deed_one subcommand.Fetch rows = value_one _ _ _ (text_one _ _) (λ reference. only_one _)
 deed_one subcommand.Report rows = value_one _ _ _ (text_one _ _) (λ tld. only_one _)
+deed_one subcommand.Digests rows = value_one _ _ _ (text_one _ _) (λ tld. only_one _)
 deed_one subcommand.State rows = only_one _
 deed_one subcommand.Audit rows = only_one _
 deed_one subcommand.Serve rows = only_one _
 
 order_one : (subcommand : Subcommand) (rows : List Row) → IsOne (OrderReading subcommand rows)
-order_one subcommand rows r s (inl p) (inl q) =
-    let both = deed_one subcommand rows (Ok p.0) (Ok q.0) p.1 q.1 in
-    let same : q.0 ≡ p.0 = cc in
-    value_one _ _ _ (if_given_one ShowsMoment moment_one _) (λ now. only_one _) r s p.2 (rw same at q.2)
-order_one subcommand rows r s (inl p) (inr q) =
-    let clash = deed_one subcommand rows (Ok p.0) (Err q.0) p.1 q.1 in absurd (cc)
-order_one subcommand rows r s (inr p) (inl q) =
-    let clash = deed_one subcommand rows (Err p.0) (Ok q.0) p.1 q.1 in absurd (cc)
-order_one subcommand rows r s (inr p) (inr q) =
-    let both = deed_one subcommand rows (Err p.0) (Err q.0) p.1 q.1 in
-    let same : p.0 ≡ q.0 = cc in
-    p.2 ∙ ap (λ a. Err a) same ∙ sym q.2
+order_one subcommand rows =
+    values_one _ _ (deed_one subcommand rows) (λ deed. value_one _ _ _ (if_given_one ShowsMoment moment_one _) (λ now. only_one _))
 
 some_one : {R : Type 0} (P : R → Type 0) → IsOne P → IsOne (λ r. IsSomeAnd r P)
 some_one P one (Some r) (Some s) h k = ap (λ x. Some x) (one r s h k)

@@ -1,11 +1,13 @@
 -- What the matches of a parse give, and where a parse that passes has met a subcommand.
-use Rattle.std.proofs.Common.{◌∙◌, ◌≡◌, ◌≤◌, ◌<◌, ◌^◌, ◌&&◌, ◌||◌, not, if◌then◌else◌, nat_le, nat_lt, ap, arith, refl, sym, subst, IsErrAnd, inl, inr, List, ℕ, [], ◌∷◌, Bool, true, false, Option, Some, None, Result, Ok, Err, option_map, unwrap_or, IfSome, cond, find, is_some, length}
+use Rattle.std.proofs.Common.{◌∙◌, ◌≡◌, ◌≤◌, ◌<◌, ◌^◌, ◌&&◌, ◌||◌, not, if◌then◌else◌, nat_le, nat_lt, ap, arith, refl, sym, subst, IsErrAnd, inl, inr, List, ℕ, [], ◌∷◌, Bool, true, false, Option, Some, None, Result, Ok, Err, option_and_then, option_map, slice_get, unwrap_or, IfSome, cond, find, is_some, length}
 use Rattle.std.specs.Borrow.{Bor}
 use Rattle.std.specs.List.{list_all}
 use Rattle.std.specs.Option.{option_map_or}
+use Rattle.std.specs.Str.{bytes_eq}
 use Rattle.std.specs.Str.Parse.{ExplainsUnsignedError, HasUnsignedDigitsIfOk, ParsesUnsigned, digits_value, without_leading_plus}
-use Rattle.clap.specs.Words.{Row, Shape, Text, kind_of, subcommand_of, fault_of, built, HasKind, IsAmong, Kinds, one_text, rows_of}
-use Rattle.clap.specs.Walk.{answers_to, is_empty, nothing_held, stop_after, walk_from}
+use Rattle.clap.specs.Values.{read_as}
+use Rattle.clap.specs.Words.{Row, Shape, Text, first_of, kind_of, subcommand_of, fault_of, built, HasKind, IsAmong, Kinds, one_text, rows_of}
+use Rattle.clap.specs.Walk.{answers_to, is_empty, nothing_held, row_text, stop_after, walk_from}
 use Rattle.clap.specs.Simple.{argument_words, entered, label_of, names_of, rows_at}
 use Rattle.clap.specs.Matches.{subcommand_name_of}
 use Rattle.clap.specs.Words.{subcommand_rows_of}
@@ -21,8 +23,8 @@ use Rattle.clap.specs.declared.error.ErrorKind.{ErrorKind}
 use Rattle.clap.proofs.ValueTestLemmas.{accepts-Accepts, Accepts-accepts}
 use Rattle.agent_cli.specs.Grammar.{escrow_app}
 use Rattle.agent_cli.proofs.HelpLemmas.{IsNotHelp, first_empty, other_way, walk_none}
-use Rattle.agent_cli.specs.Forms.{count_in_text, count_of}
-use Rattle.agent_cli.specs.Order.{AnswersAsRead, AnswersReading, DeedReading, IsFaultFrom, OrderReading, ReadsWords, SubcommandReading, WordsReading, deed_meaning, meaning, subcommand_named}
+use Rattle.agent_cli.specs.Forms.{count_if_given, count_in_text, count_of}
+use Rattle.agent_cli.specs.Order.{AnswersAsRead, AnswersReading, IsFaultFrom, OrderReading, ReadsWords, SubcommandReading, WordsReading, meaning, subcommand_named}
 use Rattle.agent_cli.specs.declared.subcommands.Subcommand.{Subcommand}
 use Rattle.agent_cli.specs.declared.order.Argument.{Argument}
 use Rattle.agent_cli.specs.declared.order.Order.{Order}
@@ -85,6 +87,21 @@ pub count_above : (o : Option Text) (most : ℕ) → most ≤ 4294967295 → mos
 count_above None most bound h = refl
 count_above (Some t) most bound h = above (is_numeral (without_leading_plus t)) (digits_value 10 (without_leading_plus t)) most bound h
 
+-- a text that is given, read otherwise
+read_where_given : {Y : Type 0} (f : Text → Y) (d : Y) (o : Option Row) (shown : Option Text) → shown ≡ option_and_then (λ (r : Row). slice_get r.values 0) o
+    → option_map (λ t. option_map_or f (option_and_then row_text o) d) shown ≡ option_map f (option_and_then row_text o)
+read_where_given f d None shown e = rw e refl
+read_where_given f d (Some r) shown e = rw e (go (slice_get r.values 0))
+  where
+    go : (v : Option Text) → option_map (λ t. option_map_or f (option_map (read_as r.reading) v) d) v ≡ option_map f (option_map (read_as r.reading) v)
+    go None = refl
+    go (Some t) = refl
+
+-- the number of an argument that may be left out, by its text
+pub count_where_given : (id : Text) (most : ℕ) (rows : List Row) (shown : Option Text) → shown ≡ first_of id rows
+    → option_map (λ t. count_of id most rows) shown ≡ count_if_given id most rows
+count_where_given id most rows shown e = read_where_given (count_in_text most) 0 (find (λ r. bytes_eq r.id id) rows) shown e
+
 -- ---- faults
 
 among_some : (k : ErrorKind) (xs : Kinds) → IsAmong k xs → is_empty xs ≡ false
@@ -108,14 +125,15 @@ pub bad_answers : {X Y : Type 0} (says : X → Y) (Reads : Result Y Argument →
 bad_answers says Reads a e is (Ok o) h reads = absurd h
 bad_answers says Reads a e is (Err x) h reads = subst (λ (y : WordFault). AnswersAsRead says Reads (Err y)) (sym (h ∙ is)) reads
 
--- words that give no deed give no order
-pub no_deed_answers : (subcommand : Subcommand) (rows : List Row) (e : WordFault) → AnswersAsRead deed_meaning (DeedReading subcommand rows) (Err e)
-    → (r : Result Order WordFault) → IsErrAnd r (λ y. y ≡ e) → AnswersAsRead meaning (OrderReading subcommand rows) r
-no_deed_answers subcommand rows e reads (Ok o) h = absurd h
-no_deed_answers subcommand rows (fault.Bad a) reads (Err x) h =
-    subst (λ (y : WordFault). AnswersAsRead meaning (OrderReading subcommand rows) (Err y)) (sym h) (inr (a, reads, refl))
-no_deed_answers subcommand rows (fault.Words e) reads (Err x) h = absurd reads
-no_deed_answers subcommand rows fault.NoMemory reads (Err x) h = absurd reads
+-- words that give no value give nothing that is read with it
+pub no_value_answers : {X M Y N : Type 0} (says : X → M) (Reads : Result M Argument → Type 0) (all_says : Y → N) (All : Result N Argument → Type 0)
+    → ((a : Argument) → Reads (Err a) → All (Err a)) → (e : WordFault) → AnswersAsRead says Reads (Err e)
+    → (r : Result Y WordFault) → IsErrAnd r (λ y. y ≡ e) → AnswersAsRead all_says All r
+no_value_answers says Reads all_says All passes e reads (Ok o) h = absurd h
+no_value_answers says Reads all_says All passes (fault.Bad a) reads (Err x) h =
+    subst (λ (y : WordFault). AnswersAsRead all_says All (Err y)) (sym h) (passes a reads)
+no_value_answers says Reads all_says All passes (fault.Words e) reads (Err x) h = absurd reads
+no_value_answers says Reads all_says All passes fault.NoMemory reads (Err x) h = absurd reads
 
 -- ---- a subcommand
 

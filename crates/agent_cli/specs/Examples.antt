@@ -4,7 +4,7 @@ use Rattle.clap.specs.Words.{Text}
 use Rattle.deposit_name.specs.declared.kinds.Kind.TheVariants.{Full, Incr}
 use Rattle.desk.specs.declared.grounds.Ground.TheVariants.{Operator}
 use Rattle.custody_machine.specs.Machine.{Register, Statement, Release, Hold, Lift, Purge}
-use Rattle.agent_cli.specs.Order.{ReadsWords, DeedMeaning, Init, Put, Do, Sweep, Fetch, Report, State, Audit, Serve}
+use Rattle.agent_cli.specs.Order.{ReadsWords, DeedMeaning, Init, Put, Preview, Do, Due, Sweep, Fetch, Report, Digests, State, Audit, Serve}
 
 -- these words, behind the name of the program, ask for this, in the folder `vault` and at a moment that they may name
 abbrev pub GivesOrder : List Text → Option ℕ → DeedMeaning → Type 0
@@ -16,14 +16,21 @@ pub record WordsGiveOrders : Type 0 where
   pub of_register : GivesOrder (codes "register" ∷ codes "vault" ∷ codes "example" ∷ codes "--first" ∷ codes "2026-08-02" ∷ []) None (Do (Register (codes "example") 20_667))
   pub of_put : GivesOrder (codes "put" ∷ codes "vault" ∷ codes "part.ryde" ∷ codes "--now" ∷ codes "2026-08-02T10:00:00Z" ∷ []) (Some 1_785_664_800) (Put (codes "part.ryde"))
   pub of_put_now : GivesOrder (codes "put" ∷ codes "vault" ∷ codes "part.ryde" ∷ []) None (Put (codes "part.ryde"))
+  pub of_preview : GivesOrder (codes "preview" ∷ codes "vault" ∷ codes "example" ∷ codes "--date" ∷ codes "2026-08-02" ∷ codes "--kind" ∷ codes "full" ∷ codes "--revision" ∷ codes "3" ∷ codes "--parts" ∷ codes "2" ∷ codes "--id" ∷ codes "X" ∷ codes "--now" ∷ codes "2026-08-02T10:00:00Z" ∷ [])
+      (Some 1_785_664_800) (Preview (record { tld = codes "example"; day = 20_667; kind = Full; rev = 3; parts = 2; id = codes "X" }))
+  pub of_preview_now : GivesOrder (codes "preview" ∷ codes "vault" ∷ codes "example" ∷ codes "--date" ∷ codes "2026-08-02" ∷ codes "--kind" ∷ codes "full" ∷ codes "--revision" ∷ codes "3" ∷ codes "--parts" ∷ codes "2" ∷ codes "--id" ∷ codes "X" ∷ [])
+      None (Preview (record { tld = codes "example"; day = 20_667; kind = Full; rev = 3; parts = 2; id = codes "X" }))
   pub of_verify : GivesOrder (codes "verify" ∷ codes "vault" ∷ codes "example" ∷ codes "--date" ∷ codes "2026-08-02" ∷ codes "--kind" ∷ codes "full" ∷ codes "--revision" ∷ codes "3" ∷ codes "--parts" ∷ codes "2" ∷ codes "--id" ∷ codes "X" ∷ codes "--now" ∷ codes "2026-08-02T10:00:00Z" ∷ [])
       (Some 1_785_664_800) (Do (Statement (record { tld = codes "example"; day = 20_667; kind = Full; rev = 3; parts = 2; id = codes "X" })))
   pub of_verify_now : GivesOrder (codes "verify" ∷ codes "vault" ∷ codes "example" ∷ codes "--date" ∷ codes "2026-08-02" ∷ codes "--kind" ∷ codes "full" ∷ codes "--revision" ∷ codes "3" ∷ codes "--parts" ∷ codes "2" ∷ codes "--id" ∷ codes "X" ∷ [])
       None (Do (Statement (record { tld = codes "example"; day = 20_667; kind = Full; rev = 3; parts = 2; id = codes "X" })))
   pub of_verify_partial : GivesOrder (codes "verify" ∷ codes "vault" ∷ codes "example" ∷ codes "--date" ∷ codes "2026-08-02" ∷ codes "--kind" ∷ codes "incr" ∷ codes "--revision" ∷ codes "3" ∷ codes "--parts" ∷ codes "2" ∷ codes "--id" ∷ codes "X" ∷ [])
       None (Do (Statement (record { tld = codes "example"; day = 20_667; kind = Incr; rev = 3; parts = 2; id = codes "X" })))
-  pub of_sweep : GivesOrder (codes "sweep" ∷ codes "vault" ∷ codes "--now" ∷ codes "2026-08-02T10:00:00Z" ∷ []) (Some 1_785_664_800) Sweep
-  pub of_sweep_now : GivesOrder (codes "sweep" ∷ codes "vault" ∷ []) None Sweep
+  pub of_due : GivesOrder (codes "due" ∷ codes "vault" ∷ codes "--now" ∷ codes "2026-08-02T10:00:00Z" ∷ []) (Some 1_785_664_800) Due
+  pub of_due_now : GivesOrder (codes "due" ∷ codes "vault" ∷ []) None Due
+  pub of_sweep : GivesOrder (codes "sweep" ∷ codes "vault" ∷ codes "--now" ∷ codes "2026-08-02T10:00:00Z" ∷ []) (Some 1_785_664_800) (Sweep None)
+  pub of_sweep_now : GivesOrder (codes "sweep" ∷ codes "vault" ∷ []) None (Sweep None)
+  pub of_sweep_at_most : GivesOrder (codes "sweep" ∷ codes "vault" ∷ codes "--at-most" ∷ codes "20" ∷ codes "--now" ∷ codes "2026-08-02T10:00:00Z" ∷ []) (Some 1_785_664_800) (Sweep (Some 20))
   pub of_purge : GivesOrder (codes "purge" ∷ codes "vault" ∷ codes "--now" ∷ codes "2026-08-02T10:00:00Z" ∷ []) (Some 1_785_664_800) (Do Purge)
   pub of_purge_now : GivesOrder (codes "purge" ∷ codes "vault" ∷ []) None (Do Purge)
   pub of_hold : GivesOrder (codes "hold" ∷ codes "vault" ∷ codes "H-1" ∷ codes "example" ∷ codes "--date" ∷ codes "2026-08-02" ∷ codes "--now" ∷ codes "2026-08-02T10:00:00Z" ∷ []) (Some 1_785_664_800) (Do (Hold (codes "H-1") (codes "example") 20_667))
@@ -34,6 +41,7 @@ pub record WordsGiveOrders : Type 0 where
   pub of_release_now : GivesOrder (codes "release" ∷ codes "vault" ∷ codes "R-1" ∷ codes "example" ∷ codes "operator" ∷ []) None (Do (Release (codes "R-1") (codes "example") Operator))
   pub of_fetch : GivesOrder (codes "fetch" ∷ codes "vault" ∷ codes "R-1" ∷ codes "part.ryde" ∷ []) None (Fetch (codes "R-1") (codes "part.ryde"))
   pub of_report : GivesOrder (codes "report" ∷ codes "vault" ∷ codes "example" ∷ []) None (Report (codes "example"))
+  pub of_digests : GivesOrder (codes "digests" ∷ codes "vault" ∷ codes "example" ∷ []) None (Digests (codes "example"))
   pub of_state : GivesOrder (codes "state" ∷ codes "vault" ∷ []) None State
   pub of_audit : GivesOrder (codes "audit" ∷ codes "vault" ∷ []) None Audit
   pub of_serve : GivesOrder (codes "serve" ∷ codes "vault" ∷ codes "--port" ∷ codes "8080" ∷ codes "--requests" ∷ codes "2" ∷ codes "--now" ∷ codes "2026-08-02T10:00:00Z" ∷ []) (Some 1_785_664_800) (Serve 8080 2)

@@ -1,5 +1,5 @@
 -- The values that the texts of arguments show.
-use Rattle.std.specs.Prelude.{◌≡◌, ℕ, List, Option, Some, None, IsSomeAnd, if◌then◌else◌}
+use Rattle.std.specs.Prelude.{◌≡◌, ℕ, List, Option, Some, None, IsSomeAnd, if◌then◌else◌, option_map}
 use Rattle.std.specs.Option.{option_map_or}
 use Rattle.std.specs.Str.Parse.{digits_value, without_leading_plus}
 use Rattle.clap.specs.Words.{Row, Text, one_of}
@@ -50,3 +50,7 @@ count_in_text most text =
 -- the number that is the value of an argument, whose bounds clap has tested
 abbrev pub count_of : Text → ℕ → List Row → ℕ
 count_of id most rows = option_map_or (count_in_text most) (one_of id rows) 0
+
+-- the same of an argument that may be left out
+abbrev pub count_if_given : Text → ℕ → List Row → Option ℕ
+count_if_given id most rows = option_map (count_in_text most) (one_of id rows)

@@ -6,7 +6,7 @@ use Rattle.clap.specs.declared.builder.ValueParser.TheVariants.{Signed}
 use Rattle.agent_cli.specs.declared.subcommands.WordForm.{WordForm}
 use Rattle.agent_cli.specs.declared.subcommands.WordForm.TheVariants.{Place, Option, Count}
 use Rattle.agent_cli.specs.declared.subcommands.Subcommand.{Subcommand}
-use Rattle.agent_cli.specs.declared.subcommands.Subcommand.TheVariants.{Init, Register, Put, Verify, Sweep, Purge, Hold, Lift, Release, Fetch, Report, State, Audit, Serve}
+use Rattle.agent_cli.specs.declared.subcommands.Subcommand.TheVariants.{Init, Register, Put, Preview, Verify, Due, Sweep, Purge, Hold, Lift, Release, Fetch, Report, Digests, State, Audit, Serve}
 use Rattle.agent_cli.specs.declared.subcommands.Word.{Word}
 use Rattle.extent_map.specs.Limits.{fewest_blocks, most_blocks}
 
@@ -19,8 +19,8 @@ abbrev pub option_rule : Text → Bool → Rule
 option_rule id required = record (new_rule id) { long = Some id; value_names = 1; required = required }
 
 -- the same, where the value is a number within bounds
-abbrev pub count_rule : Text → ℕ → ℕ → Rule
-count_rule id least most = record (option_rule id true) { parser = Some (Signed (pos least) (pos most)) }
+abbrev pub count_rule : Text → ℕ → ℕ → Bool → Rule
+count_rule id least most required = record (option_rule id required) { parser = Some (Signed (pos least) (pos most)) }
 
 -- an argument of the table
 abbrev pub rule_in : Word → Rule
@@ -29,7 +29,7 @@ rule_in word = by word.form
     by : WordForm → Rule
     by Place = positional_rule word.id.now
     by (Option value required) = option_rule word.id.now required
-    by (Count least most) = count_rule word.id.now least most
+    by (Count least most required) = count_rule word.id.now least most required
 
 abbrev pub folder_rule : Rule
 folder_rule = positional_rule (codes "DIR")
@@ -40,22 +40,30 @@ tld_rule = positional_rule (codes "TLD")
 abbrev pub now_rule : Rule
 now_rule = option_rule (codes "now") false
 
+-- the greatest number that `sweep --at-most` takes
+abbrev pub most_absences : ℕ
+most_absences = 1_000_000
+
+-- what is stated of a deposit: `DIR TLD --date DATE --kind KIND --revision N --parts N --id ID [--now MOMENT]`
+abbrev pub statement_rules : List Rule
+statement_rules =
+    folder_rule ∷ tld_rule ∷ option_rule (codes "date") true ∷ option_rule (codes "kind") true
+    ∷ count_rule (codes "revision") 0 99 true ∷ count_rule (codes "parts") 1 8 true ∷ option_rule (codes "id") true ∷ now_rule ∷ []
+
 -- the name of a subcommand, and its arguments
 abbrev pub words_of : Subcommand → Text × List Rule
 -- `init DIR --blocks N --number HEX16`
-words_of Init = (codes "init", folder_rule ∷ count_rule (codes "blocks") fewest_blocks most_blocks ∷ option_rule (codes "number") true ∷ [])
+words_of Init = (codes "init", folder_rule ∷ count_rule (codes "blocks") fewest_blocks most_blocks true ∷ option_rule (codes "number") true ∷ [])
 -- `register DIR TLD --first DATE`
 words_of Register = (codes "register", folder_rule ∷ tld_rule ∷ option_rule (codes "first") true ∷ [])
 -- `put DIR FILE [--now MOMENT]`
 words_of Put = (codes "put", folder_rule ∷ positional_rule (codes "FILE") ∷ now_rule ∷ [])
--- `verify DIR TLD --date DATE --kind KIND --revision N --parts N --id ID [--now MOMENT]`
-words_of Verify = (
-  codes "verify",
-  folder_rule ∷ tld_rule ∷ option_rule (codes "date") true ∷ option_rule (codes "kind") true
-      ∷ count_rule (codes "revision") 0 99 ∷ count_rule (codes "parts") 1 8 ∷ option_rule (codes "id") true ∷ now_rule ∷ [],
-)
--- `sweep DIR [--now MOMENT]`
-words_of Sweep = (codes "sweep", folder_rule ∷ now_rule ∷ [])
+words_of Preview = (codes "preview", statement_rules)
+words_of Verify = (codes "verify", statement_rules)
+-- `due DIR [--now MOMENT]`
+words_of Due = (codes "due", folder_rule ∷ now_rule ∷ [])
+-- `sweep DIR [--at-most N] [--now MOMENT]`
+words_of Sweep = (codes "sweep", folder_rule ∷ count_rule (codes "at-most") 0 most_absences false ∷ now_rule ∷ [])
 -- `purge DIR [--now MOMENT]`
 words_of Purge = (codes "purge", folder_rule ∷ now_rule ∷ [])
 -- `hold DIR REF TLD --date DATE [--now MOMENT]`
@@ -68,15 +76,17 @@ words_of Release = (codes "release", folder_rule ∷ positional_rule (codes "REF
 words_of Fetch = (codes "fetch", folder_rule ∷ positional_rule (codes "REF") ∷ positional_rule (codes "NAME") ∷ [])
 -- `report DIR TLD`
 words_of Report = (codes "report", folder_rule ∷ tld_rule ∷ [])
+-- `digests DIR TLD`
+words_of Digests = (codes "digests", folder_rule ∷ tld_rule ∷ [])
 -- `state DIR`
 words_of State = (codes "state", folder_rule ∷ [])
 -- `audit DIR`
 words_of Audit = (codes "audit", folder_rule ∷ [])
 -- `serve DIR --port P --requests N [--now MOMENT]`
-words_of Serve = (codes "serve", folder_rule ∷ count_rule (codes "port") 1 65_535 ∷ count_rule (codes "requests") 1 1_000_000 ∷ now_rule ∷ [])
+words_of Serve = (codes "serve", folder_rule ∷ count_rule (codes "port") 1 65_535 true ∷ count_rule (codes "requests") 1 1_000_000 true ∷ now_rule ∷ [])
 
 abbrev pub subcommands : List Subcommand
-subcommands = Init ∷ Register ∷ Put ∷ Verify ∷ Sweep ∷ Purge ∷ Hold ∷ Lift ∷ Release ∷ Fetch ∷ Report ∷ State ∷ Audit ∷ Serve ∷ []
+subcommands = Init ∷ Register ∷ Put ∷ Preview ∷ Verify ∷ Due ∷ Sweep ∷ Purge ∷ Hold ∷ Lift ∷ Release ∷ Fetch ∷ Report ∷ Digests ∷ State ∷ Audit ∷ Serve ∷ []
 
 abbrev pub is_named : Text → Subcommand → Bool
 is_named name subcommand = bytes_eq (words_of subcommand).0 name

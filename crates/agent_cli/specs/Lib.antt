@@ -1,4 +1,5 @@
 pub mod Acts
+pub mod DueSwept
 pub mod Examples
 pub mod Faults
 pub mod Forms

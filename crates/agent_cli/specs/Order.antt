@@ -10,10 +10,10 @@ use Rattle.custody_machine.specs.Commands.{command_of}
 use Rattle.custody_machine.specs.Machine.{Command, Register, Statement, Release, Hold, Lift, Purge}
 use Rattle.answer_lines.specs.Number.{ShowsNumber}
 use Rattle.extent_map.specs.Limits.{most_blocks}
-use Rattle.agent_cli.specs.Grammar.{escrow_app, is_named, subcommands, text_in}
+use Rattle.agent_cli.specs.Grammar.{escrow_app, is_named, most_absences, subcommands, text_in}
 use Rattle.agent_cli.specs.declared.subcommands.Subcommand.{Subcommand}
 use Rattle.agent_cli.specs.declared.subcommands.Subcommand.TheVariants as subcommand
-use Rattle.agent_cli.specs.Forms.{ShowsDay, ShowsGround, ShowsId, ShowsIfGiven, ShowsKind, ShowsMoment, ShowsReference, ShowsTld, count_of}
+use Rattle.agent_cli.specs.Forms.{ShowsDay, ShowsGround, ShowsId, ShowsIfGiven, ShowsKind, ShowsMoment, ShowsReference, ShowsTld, count_if_given, count_of}
 use Rattle.agent_cli.specs.declared.order.Argument.{Argument}
 use Rattle.agent_cli.specs.declared.order.Argument.TheVariants as argument
 use Rattle.agent_cli.specs.declared.order.Deed.{Deed}
@@ -26,10 +26,13 @@ use Rattle.agent_cli.specs.declared.order.WordFault.TheVariants as fault
 pub data DeedMeaning : Type 0 where
   Init : (blocks number : ℕ) → DeedMeaning
   Put : (file : Text) → DeedMeaning
+  Preview : statement.Statement → DeedMeaning
   Do : Command → DeedMeaning
-  Sweep : DeedMeaning
+  Due : DeedMeaning
+  Sweep : (at_most : Option ℕ) → DeedMeaning
   Fetch : (reference : List ℕ) → (name : Text) → DeedMeaning
   Report : (tld : List ℕ) → DeedMeaning
+  Digests : (tld : List ℕ) → DeedMeaning
   State : DeedMeaning
   Audit : DeedMeaning
   Serve : (port requests : ℕ) → DeedMeaning
@@ -48,6 +51,10 @@ WordsReading = Option (Result OrderMeaning Argument)
 abbrev pub ReadsValue : {X Y : Type 0} → Argument → (X → Type 0) → (X → Result Y Argument → Type 0) → Result Y Argument → Type 0
 ReadsValue {X} a Shows Next r = ((x : X) × Shows x × Next x r) ⊎ (((x : X) → ¬ Shows x) × (r ≡ Err a))
 
+-- arguments give a value, with which the rest is read; or one of them is out of form
+abbrev pub ReadsValues : {X Y : Type 0} → (Result X Argument → Type 0) → (X → Result Y Argument → Type 0) → Result Y Argument → Type 0
+ReadsValues {X} Reads Next r = ((x : X) × Reads (Ok x) × Next x r) ⊎ ((a : Argument) × Reads (Err a) × (r ≡ Err a))
+
 -- what is stated of a deposit
 abbrev pub stated_deposit : List ℕ → ℕ → Kind → List ℕ → List Row → statement.Statement
 stated_deposit tld day kind id rows = record {
@@ -59,6 +66,15 @@ stated_deposit tld day kind id rows = record {
   id = id;
 }
 
+-- by the values of its arguments
+abbrev pub StatementReading : List Row → Result statement.Statement Argument → Type 0
+StatementReading rows r =
+    ReadsValue argument.Tld (ShowsTld (text_in (codes "TLD") rows)) (λ tld.
+    ReadsValue argument.Date (ShowsDay (text_in (codes "date") rows)) (λ day.
+    ReadsValue argument.Kind (ShowsKind (text_in (codes "kind") rows)) (λ kind.
+    ReadsValue argument.Id (ShowsId (text_in (codes "id") rows)) (λ id r.
+    r ≡ Ok (stated_deposit tld day kind id rows))))) r
+
 -- What a subcommand is to do, by the values of its arguments. They are tested in the order TLD, DATE, FIRST, KIND, ID, REF, GROUND, NUMBER.
 abbrev pub DeedReading : Subcommand → List Row → Result DeedMeaning Argument → Type 0
 DeedReading subcommand.Init rows r =
@@ -69,13 +85,10 @@ DeedReading subcommand.Register rows r =
     ReadsValue argument.First (ShowsDay (text_in (codes "first") rows)) (λ first r.
     r ≡ Ok (Do (Register tld first)))) r
 DeedReading subcommand.Put rows r = r ≡ Ok (Put (text_in (codes "FILE") rows))
-DeedReading subcommand.Verify rows r =
-    ReadsValue argument.Tld (ShowsTld (text_in (codes "TLD") rows)) (λ tld.
-    ReadsValue argument.Date (ShowsDay (text_in (codes "date") rows)) (λ day.
-    ReadsValue argument.Kind (ShowsKind (text_in (codes "kind") rows)) (λ kind.
-    ReadsValue argument.Id (ShowsId (text_in (codes "id") rows)) (λ id r.
-    r ≡ Ok (Do (Statement (stated_deposit tld day kind id rows))))))) r
-DeedReading subcommand.Sweep rows r = r ≡ Ok Sweep
+DeedReading subcommand.Preview rows r = ReadsValues (StatementReading rows) (λ stated r. r ≡ Ok (Preview stated)) r
+DeedReading subcommand.Verify rows r = ReadsValues (StatementReading rows) (λ stated r. r ≡ Ok (Do (Statement stated))) r
+DeedReading subcommand.Due rows r = r ≡ Ok Due
+DeedReading subcommand.Sweep rows r = r ≡ Ok (Sweep (count_if_given (codes "at-most") most_absences rows))
 DeedReading subcommand.Purge rows r = r ≡ Ok (Do Purge)
 DeedReading subcommand.Hold rows r =
     ReadsValue argument.Tld (ShowsTld (text_in (codes "TLD") rows)) (λ tld.
@@ -96,6 +109,9 @@ DeedReading subcommand.Fetch rows r =
 DeedReading subcommand.Report rows r =
     ReadsValue argument.Tld (ShowsTld (text_in (codes "TLD") rows)) (λ tld r.
     r ≡ Ok (Report tld)) r
+DeedReading subcommand.Digests rows r =
+    ReadsValue argument.Tld (ShowsTld (text_in (codes "TLD") rows)) (λ tld r.
+    r ≡ Ok (Digests tld)) r
 DeedReading subcommand.State rows r = r ≡ Ok State
 DeedReading subcommand.Audit rows r = r ≡ Ok Audit
 DeedReading subcommand.Serve rows r =
@@ -104,9 +120,9 @@ DeedReading subcommand.Serve rows r =
 -- What is to be done is read first, then NOW, where it is given, and the folder.
 abbrev pub OrderReading : Subcommand → List Row → Result OrderMeaning Argument → Type 0
 OrderReading subcommand rows r =
-    ((deed : DeedMeaning) × DeedReading subcommand rows (Ok deed) × ReadsValue argument.Now (ShowsIfGiven ShowsMoment (first_of (codes "now") rows)) (λ now r.
-    r ≡ Ok (record { folder = text_in (codes "DIR") rows; now = now; deed = deed })) r)
-    ⊎ ((a : Argument) × DeedReading subcommand rows (Err a) × (r ≡ Err a))
+    ReadsValues (DeedReading subcommand rows) (λ deed.
+    ReadsValue argument.Now (ShowsIfGiven ShowsMoment (first_of (codes "now") rows)) (λ now r.
+    r ≡ Ok (record { folder = text_in (codes "DIR") rows; now = now; deed = deed }))) r
 
 -- of a subcommand, where one has the name
 abbrev pub SubcommandReading : Option Subcommand → List Row → WordsReading → Type 0
@@ -135,10 +151,13 @@ IsOneReading = (words : List Text) (a b : WordsReading) → ReadsWords words a �
 abbrev pub deed_meaning : Deed → DeedMeaning
 deed_meaning (deed.Init blocks number) = Init blocks number
 deed_meaning (deed.Put file) = Put file.now
+deed_meaning (deed.Preview stated) = Preview stated
 deed_meaning (deed.Do command) = Do (command_of command)
-deed_meaning deed.Sweep = Sweep
+deed_meaning deed.Due = Due
+deed_meaning (deed.Sweep at_most) = Sweep at_most
 deed_meaning (deed.Fetch reference name) = Fetch reference name.now
 deed_meaning (deed.Report tld) = Report tld
+deed_meaning (deed.Digests tld) = Digests tld
 deed_meaning deed.State = State
 deed_meaning deed.Audit = Audit
 deed_meaning (deed.Serve port requests) = Serve port requests

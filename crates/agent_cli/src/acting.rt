@@ -1,15 +1,16 @@
 //! What a deed does to the agent of a folder.
 ghost use Rattle.answer_lines.specs.Statuses.{IsExitStatus};
-ghost use Rattle.agent_cli.specs.Acts.{Acts, Audits, Fetches, PrintsState, PrintsReport};
+ghost use Rattle.agent_cli.specs.Acts.{Acts, Audits, Fetches, Previews};
 
+use crate::reading::{list_digests, list_due, report, show};
 use crate::sweeping::sweep;
 use crate::{Deed, file_name};
 use answer_lines::{
-    print_audit, print_bytes, print_report, print_state, tell, tell_answer, tell_init, tell_refusal,
+    Line, print_audit, print_bytes, print_line, tell, tell_answer, tell_init, tell_refusal,
 };
 use custody::{Custody, InitError, Progress, Refused};
-use custody_machine::{Command, ExitStatus, Refusal};
-use deposit_name::{Reference, Tld};
+use custody_machine::{Command, ExitStatus, Statement};
+use deposit_name::Reference;
 use schedule::Sec;
 use sqlite::Alter;
 use std::alloc::Global;
@@ -39,16 +40,37 @@ pub fn act<V: Volume, S: Alter, W: Write, E: Write, P: Progress>(
             let answer = custody.apply(alloc, &Command::Receive(file_name(path), file), now);
             tell_answer(&answer, out, err)
         }
+        Deed::Preview(statement) => preview(alloc, custody, statement, now, out, err),
         Deed::Do(command) => {
             let answer = custody.apply(alloc, command, now);
             tell_answer(&answer, out, err)
         }
-        Deed::Sweep => sweep(alloc, custody, now, out, err, progress),
+        Deed::Due => list_due(alloc, custody, now, out, err),
+        Deed::Sweep { at_most } => sweep(alloc, custody, *at_most, now, out, err, progress),
         Deed::Fetch { reference, name } => fetch(alloc, custody, reference, name, out, err),
-        Deed::Report { tld } => print_report_of(custody, tld, out, err),
+        Deed::Report { tld } => report(custody, tld, out, err),
+        Deed::Digests { tld } => list_digests(custody, tld, out, err),
         Deed::State => show(custody, out, err),
         Deed::Audit => audit(alloc, custody, out, err, progress),
         Deed::Serve { .. } => ExitStatus::Done.number(),
+    }
+}
+
+fn preview<V: Volume, S: Alter, W: Write, E: Write>(
+    alloc: Global,
+    custody: &mut Custody<V, S>,
+    statement: &Statement,
+    now: Sec,
+    out: &mut W,
+    err: &mut E,
+) -> u8
+    ensures status { IsExitStatus result }
+    ensures previews { Previews custody.old statement.now now custody.new result (record { before = W.contents out.old; after = W.contents out.new }) (record { before = E.contents err.old; after = E.contents err.new }) }
+{
+    match custody.preview(alloc, statement, now) {
+        Ok(notice) => print_line(&Line::Notice(notice), out),
+        Err(Refused::Refusal(refusal)) => tell_refusal(&refusal, err),
+        Err(Refused::Failure(failure)) => tell(&failure, err),
     }
 }
 
@@ -87,43 +109,6 @@ fn audit<V: Volume, S: Alter, W: Write, E: Write, P: Progress>(
     };
     match custody.records() {
         Ok(records) => print_audit(&damaged, records, out),
-        Err(fault) => tell(&fault, err),
-    }
-}
-
-fn print_report_of<V: Volume, S: Alter, W: Write, E: Write>(
-    custody: &Custody<V, S>,
-    tld: &Tld,
-    out: &mut W,
-    err: &mut E,
-) -> u8
-    ensures status { IsExitStatus result }
-    ensures reports { PrintsReport custody.now tld.now result (record { before = W.contents out.old; after = W.contents out.new }) (record { before = E.contents err.old; after = E.contents err.new }) }
-{
-    let records = match custody.records() {
-        Ok(records) => records,
-        Err(fault) => return tell(&fault, err),
-    };
-    if records.first_day(tld).is_none() {
-        return tell_refusal(&Refusal::RegistryUnknown, err);
-    }
-    print_report(records.notices_of(tld), out)
-}
-
-fn show<V: Volume, S: Alter, W: Write, E: Write>(
-    custody: &Custody<V, S>,
-    out: &mut W,
-    err: &mut E,
-) -> u8
-    ensures status { IsExitStatus result }
-    ensures shown { PrintsState custody.now result (record { before = W.contents out.old; after = W.contents out.new }) (record { before = E.contents err.old; after = E.contents err.new }) }
-{
-    let records = match custody.records() {
-        Ok(records) => records,
-        Err(fault) => return tell(&fault, err),
-    };
-    match custody.room() {
-        Ok((free, total)) => print_state(records, free, total, out),
         Err(fault) => tell(&fault, err),
     }
 }

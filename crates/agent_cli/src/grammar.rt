@@ -19,10 +19,14 @@ fn argument<'a>(alloc: Global, word: &Word<'a>) -> Arg<'a>
         WordForm::Option { value, required } => {
             argument.long(word.id).value_name(value).required(required)
         }
-        WordForm::Count { least, most } => argument
+        WordForm::Count {
+            least,
+            most,
+            required,
+        } => argument
             .long(word.id)
             .value_name("N")
-            .required(true)
+            .required(required)
             .value_parser(ValueParser::signed(i64::from(least), i64::from(most))),
     }
 }
@@ -51,7 +55,7 @@ fn bare_command<'a>(alloc: Global) -> Command<'a>
         "Keeps escrow deposits of registries in a vault: a folder with vault.vol and custody.db";
     let after = "First steps:\n  \
                  mkdir vault\n  \
-                 escrow init vault --blocks 8 --number 0000000000000001\n  \
+                 escrow init vault --blocks 262144 --number 0000000000000001\n  \
                  escrow register vault example --first 2026-08-02\n  \
                  escrow put vault example_2026-08-02_full_S1_R0.ryde\n  \
                  escrow verify vault example --date 2026-08-02 --kind full --revision 0 \

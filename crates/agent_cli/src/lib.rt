@@ -6,6 +6,7 @@ mod grammar;
 mod laws;
 mod order;
 mod paths;
+mod reading;
 mod subcommands;
 mod sweeping;
 mod values;
@@ -13,7 +14,7 @@ mod words;
 
 pub use acting::act;
 pub use answer_lines::tell;
-pub use laws::law_orders;
+pub use laws::{law_due, law_orders};
 pub use order::{Argument, Deed, Order, WordFault};
 pub use paths::file_name;
 pub use words::order_of;

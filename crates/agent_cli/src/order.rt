@@ -5,7 +5,7 @@ ghost use Rattle.agent_cli.specs.declared.order.WordFault.TheVariants.{NoMemory}
 
 use answer_lines::VolumeNumber;
 use clap::error::ErrorKind;
-use custody_machine::{Command, ExitStatus, Failure};
+use custody_machine::{Command, ExitStatus, Failure, Statement};
 use deposit_name::{Reference, Tld};
 use schedule::Sec;
 use std::alloc::AllocError;
@@ -32,15 +32,25 @@ pub enum Deed<'a> {
     Put {
         file: &'a str,
     },
+    /// The notice that a statement would be answered with is told.
+    Preview(Statement),
     /// A command of the agent.
     Do(Command<'a>),
-    Sweep,
+    /// The days that a sweep would record are listed.
+    Due,
+    Sweep {
+        /// How many absences may be recorded, where there is a limit.
+        at_most: Option<u32>,
+    },
     Fetch {
         reference: Reference,
         /// The name of a part, in whatever form.
         name: &'a str,
     },
     Report {
+        tld: Tld,
+    },
+    Digests {
         tld: Tld,
     },
     State,

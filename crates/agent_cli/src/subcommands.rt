@@ -10,7 +10,9 @@ pub(crate) enum Subcommand {
     Init,
     Register,
     Put,
+    Preview,
     Verify,
+    Due,
     Sweep,
     Purge,
     Hold,
@@ -18,17 +20,20 @@ pub(crate) enum Subcommand {
     Release,
     Fetch,
     Report,
+    Digests,
     State,
     Audit,
     Serve,
 }
 
 /// All of them, in the order in which help shows them.
-pub(crate) const SUBCOMMANDS: [Subcommand; 14] = [
+pub(crate) const SUBCOMMANDS: [Subcommand; 17] = [
     Subcommand::Init,
     Subcommand::Register,
     Subcommand::Put,
+    Subcommand::Preview,
     Subcommand::Verify,
+    Subcommand::Due,
     Subcommand::Sweep,
     Subcommand::Purge,
     Subcommand::Hold,
@@ -36,6 +41,7 @@ pub(crate) const SUBCOMMANDS: [Subcommand; 14] = [
     Subcommand::Release,
     Subcommand::Fetch,
     Subcommand::Report,
+    Subcommand::Digests,
     Subcommand::State,
     Subcommand::Audit,
     Subcommand::Serve,
@@ -47,9 +53,16 @@ pub(crate) enum WordForm<'a> {
     /// By its place. It has to be there.
     Place,
     /// As `--id VALUE`.
-    Option { value: &'a str, required: bool },
-    /// As `--id N`, a number within bounds, which has to be there.
-    Count { least: u32, most: u32 },
+    Option {
+        value: &'a str,
+        required: bool,
+    },
+    /// As `--id N`, a number within bounds.
+    Count {
+        least: u32,
+        most: u32,
+        required: bool,
+    },
 }
 
 /// An argument: how it is given, and what help says of it.
@@ -70,6 +83,9 @@ pub(crate) struct Row<'a> {
     pub words: &'a [Word<'a>],
 }
 
+/// The greatest number that `sweep --at-most` takes.
+pub(crate) const MOST_ABSENCES: u32 = 1_000_000;
+
 const DIR: Word<'static> = Word {
     id: "DIR",
     form: WordForm::Place,
@@ -86,7 +102,7 @@ static INIT: Row<'static> = Row {
     name: "init",
     about: "Makes a vault in a folder: the volume vault.vol and the database custody.db",
     after: "Prints: ready N HEX16\n\
-            Example: escrow init vault --blocks 8 --number 0000000000000001",
+            Example: escrow init vault --blocks 262144 --number 0000000000000001",
     words: &[
         DIR,
         Word {
@@ -94,6 +110,7 @@ static INIT: Row<'static> = Row {
             form: WordForm::Count {
                 least: FEWEST_BLOCKS,
                 most: MOST_BLOCKS,
+                required: true,
             },
             help: "Number of blocks of 4096 bytes, 2 to 262144; the first is the head of the volume",
         },
@@ -155,6 +172,72 @@ static PUT: Row<'static> = Row {
     ],
 };
 
+/// What is stated of a deposit: the words of `preview` and of `verify`.
+const STATEMENT_WORDS: &[Word<'static>] = &[
+    DIR,
+    TLD,
+    Word {
+        id: "date",
+        form: WordForm::Option {
+            value: "DATE",
+            required: true,
+        },
+        help: "Day of the deposit, such as 2026-08-02",
+    },
+    Word {
+        id: "kind",
+        form: WordForm::Option {
+            value: "KIND",
+            required: true,
+        },
+        help: "Kind of the deposit: full, diff or incr",
+    },
+    Word {
+        id: "revision",
+        form: WordForm::Count {
+            least: 0,
+            most: 99,
+            required: true,
+        },
+        help: "Resend number of the deposit, 0 to 99; 0 if the names of its parts end in R0.ryde",
+    },
+    Word {
+        id: "parts",
+        form: WordForm::Count {
+            least: 1,
+            most: 8,
+            required: true,
+        },
+        help: "Number of parts of the deposit, 1 to 8",
+    },
+    Word {
+        id: "id",
+        form: WordForm::Option {
+            value: "ID",
+            required: true,
+        },
+        help: "Id of the deposit in its envelope: 1 to 13 letters and digits",
+    },
+    Word {
+        id: "now",
+        form: WordForm::Option {
+            value: "MOMENT",
+            required: false,
+        },
+        help: "Moment of the notice, such as 2026-08-02T10:05:00Z (default: now)",
+    },
+];
+
+static PREVIEW: Row<'static> = Row {
+    name: "preview",
+    about: "Prints the notice that verify would record, with number 0; records nothing",
+    after: "Prints: 0 RECEIPT DATE RNN ID MOMENT TLD if the deposit passes,\n        \
+            or 0 FAILURE-NN DATE RNN ID MOMENT TLD if check NN is the first that fails\n\
+            Example: escrow preview vault example --date 2026-08-02 --kind full --revision 0 \
+            --parts 1 --id 20260802001",
+    words: STATEMENT_WORDS,
+};
+
 static VERIFY: Row<'static> = Row {
     name: "verify",
     about: "Verifies a deposit once all its parts are there; the same words again get the same answer",
@@ -162,50 +245,24 @@ static VERIFY: Row<'static> = Row {
             or NUMBER FAILURE-NN DATE RNN ID MOMENT TLD if check NN is the first that fails\n\
             Example: escrow verify vault example --date 2026-08-02 --kind full --revision 0 \
             --parts 1 --id 20260802001",
+    words: STATEMENT_WORDS,
+};
+
+static DUE: Row<'static> = Row {
+    name: "due",
+    about: "Lists the days that a sweep would record as missed; records nothing",
+    after: "Prints: due TLD DATE for each such day,\n        \
+            parts TLD DATE REVISION N behind it if N of its parts are held\n\
+            Example: escrow due vault --now 2026-08-10T12:00:00Z",
     words: &[
         DIR,
-        TLD,
-        Word {
-            id: "date",
-            form: WordForm::Option {
-                value: "DATE",
-                required: true,
-            },
-            help: "Day of the deposit, such as 2026-08-02",
-        },
-        Word {
-            id: "kind",
-            form: WordForm::Option {
-                value: "KIND",
-                required: true,
-            },
-            help: "Kind of the deposit: full, diff or incr",
-        },
-        Word {
-            id: "revision",
-            form: WordForm::Count { least: 0, most: 99 },
-            help: "Resend number of the deposit, 0 to 99; 0 if the names of its parts end in R0.ryde",
-        },
-        Word {
-            id: "parts",
-            form: WordForm::Count { least: 1, most: 8 },
-            help: "Number of parts of the deposit, 1 to 8",
-        },
-        Word {
-            id: "id",
-            form: WordForm::Option {
-                value: "ID",
-                required: true,
-            },
-            help: "Id of the deposit in its envelope: 1 to 13 letters and digits",
-        },
         Word {
             id: "now",
             form: WordForm::Option {
                 value: "MOMENT",
                 required: false,
             },
-            help: "Moment of the notice, such as 2026-08-02T10:05:00Z (default: now)",
+            help: "Moment for which the days are listed, such as 2026-08-10T12:00:00Z (default: now)",
         },
     ],
 };
@@ -214,9 +271,19 @@ static SWEEP: Row<'static> = Row {
     name: "sweep",
     about: "Records an absence for every past day without a notice, for all registries",
     after: "Prints: NUMBER ABSENCE DATE --- - MOMENT TLD for each absence\n\
+            Refused with Q23 and their number if more than N are due\n\
             Example: escrow sweep vault --now 2026-08-05T00:00:00Z",
     words: &[
         DIR,
+        Word {
+            id: "at-most",
+            form: WordForm::Count {
+                least: 0,
+                most: MOST_ABSENCES,
+                required: false,
+            },
+            help: "Record nothing if more than N absences are due, 0 to 1000000 (default: no limit)",
+        },
         Word {
             id: "now",
             form: WordForm::Option {
@@ -363,6 +430,14 @@ static REPORT: Row<'static> = Row {
     words: &[DIR, TLD],
 };
 
+static DIGESTS: Row<'static> = Row {
+    name: "digests",
+    about: "Prints the SHA-256 of each part of a registry, held or dropped",
+    after: "Prints: SHA256  NAME, as sha256sum -c reads it\n\
+            Example: escrow digests vault example",
+    words: &[DIR, TLD],
+};
+
 static STATE: Row<'static> = Row {
     name: "state",
     about: "Prints all records: registries with their parts and notices, releases, holds and free blocks",
@@ -397,6 +472,7 @@ static SERVE: Row<'static> = Row {
             form: WordForm::Count {
                 least: 1,
                 most: 65_535,
+                required: true,
             },
             help: "Port of 127.0.0.1 to listen on, 1 to 65535",
         },
@@ -405,6 +481,7 @@ static SERVE: Row<'static> = Row {
             form: WordForm::Count {
                 least: 1,
                 most: 1_000_000,
+                required: true,
             },
             help: "Number of connections to serve before it ends, 1 to 1000000",
         },
@@ -429,7 +506,9 @@ impl Subcommand {
             Subcommand::Init => &INIT,
             Subcommand::Register => &REGISTER,
             Subcommand::Put => &PUT,
+            Subcommand::Preview => &PREVIEW,
             Subcommand::Verify => &VERIFY,
+            Subcommand::Due => &DUE,
             Subcommand::Sweep => &SWEEP,
             Subcommand::Purge => &PURGE,
             Subcommand::Hold => &HOLD,
@@ -437,6 +516,7 @@ impl Subcommand {
             Subcommand::Release => &RELEASE,
             Subcommand::Fetch => &FETCH,
             Subcommand::Report => &REPORT,
+            Subcommand::Digests => &DIGESTS,
             Subcommand::State => &STATE,
             Subcommand::Audit => &AUDIT,
             Subcommand::Serve => &SERVE,

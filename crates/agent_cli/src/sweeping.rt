@@ -1,11 +1,11 @@
 //! A sweep: each day that has passed without a notice is checked.
-ghost use Rattle.std.specs.Prelude.{map};
+ghost use Rattle.std.specs.Prelude.{◌≡◌, map};
 ghost use Rattle.custody_machine.specs.Machine.{Check};
 ghost use Rattle.custody_rules.specs.DueDays.{due_day_pair};
 ghost use Rattle.answer_lines.specs.Statuses.{IsExitStatus};
-ghost use Rattle.agent_cli.specs.Acts.{Applies, IsSwept, Sweeps};
+ghost use Rattle.agent_cli.specs.Acts.{Applies, IsSwept, Sweeps, is_over};
 
-use answer_lines::{tell, tell_answer};
+use answer_lines::{tell, tell_answer, tell_too_many_absences};
 use custody::{Custody, Progress};
 use custody_machine::{Command, Failure};
 use custody_rules::{DueDay, due_days};
@@ -16,28 +16,40 @@ use std::io::Write;
 use vault_volume::Volume;
 
 /// Checks each day that has passed without a notice, prints the new notices, and answers the status:
-/// that of the first check that is not done, or else 0.
+/// that of the first check that is not done, or else 0. Where more days than `at_most` are due, it checks
+/// none of them.
 pub(crate) fn sweep<V: Volume, S: Alter, W: Write, E: Write, P: Progress>(
     alloc: Global,
     custody: &mut Custody<V, S>,
+    at_most: Option<u32>,
     now: Sec,
     out: &mut W,
     err: &mut E,
     progress: &mut P,
 ) -> u8
     ensures status { IsExitStatus result }
-    ensures sweeps { Sweeps custody.old now custody.new result (record { before = W.contents out.old; after = W.contents out.new }) (record { before = E.contents err.old; after = E.contents err.new }) }
+    ensures sweeps { Sweeps at_most custody.old now custody.new result (record { before = W.contents out.old; after = W.contents out.new }) (record { before = E.contents err.old; after = E.contents err.new }) }
 {
     let due = match custody.records() {
         Ok(records) => due_days(alloc, records, now),
         Err(fault) => return tell(&fault, err),
     };
-    match due {
-        Ok(days) => {
-            progress.begin(days.len());
-            check_days(alloc, custody, &days, now, out, err, progress)
-        }
-        Err(_) => tell(&Failure::NoMemory, err),
+    let Ok(days) = due else {
+        return tell(&Failure::NoMemory, err);
+    };
+    if is_over(at_most, days.len()) {
+        return tell_too_many_absences(days.len(), err);
+    }
+    progress.begin(days.len());
+    check_days(alloc, custody, &days, now, out, err, progress)
+}
+
+fn is_over(at_most: Option<u32>, count: usize) -> bool
+    ensures { result ≡ is_over at_most count }
+{
+    match at_most {
+        Some(most) => count > most as usize,
+        None => false,
     }
 }
 

@@ -3,7 +3,7 @@ ghost use Rattle.std.specs.Prelude.{◌≡◌, ◌≤◌, codes};
 ghost use Rattle.clap.specs.Words.{first_of, found_of, rows_of};
 ghost use Rattle.answer_lines.specs.Number.{ShowsNumber};
 ghost use Rattle.agent_cli.specs.Grammar.{text_in};
-ghost use Rattle.agent_cli.specs.Forms.{ShowsDay, ShowsGround, ShowsId, ShowsIfGiven, ShowsKind, ShowsMoment, ShowsReference, ShowsTld, count_of};
+ghost use Rattle.agent_cli.specs.Forms.{ShowsDay, ShowsGround, ShowsId, ShowsIfGiven, ShowsKind, ShowsMoment, ShowsReference, ShowsTld, count_if_given, count_of};
 ghost use Rattle.agent_cli.specs.Order.{AnswersValue};
 
 use crate::{Argument, WordFault};
@@ -27,6 +27,14 @@ pub(crate) fn count_in(matches: &ArgMatches<'_>, id: &str, most: u32) -> u32
 {
     let count = matches.get_one::<u32>(id).unwrap_or(0);
     if count > most { 0 } else { count }
+}
+
+/// The same of an argument that may be left out.
+pub(crate) fn count_if_given(matches: &ArgMatches<'_>, id: &str, most: u32) -> Option<u32>
+    ensures { result ≡ count_if_given id.now most (rows_of (found_of matches.now)) }
+{
+    matches.get_str(id)?;
+    Some(count_in(matches, id, most))
 }
 
 pub(crate) fn revision_in(matches: &ArgMatches<'_>) -> Revision

@@ -2,13 +2,13 @@
 ghost use Rattle.std.specs.Prelude.{Some, map};
 ghost use Rattle.std.specs.String.{string_bytes};
 ghost use Rattle.clap.specs.Words.{found_of, rows_of};
-ghost use Rattle.agent_cli.specs.Order.{AnswersAsRead, AnswersReading, DeedReading, IsFaultFrom, OrderReading, ReadsWords, deed_meaning, meaning};
+ghost use Rattle.agent_cli.specs.Order.{AnswersAsRead, AnswersReading, DeedReading, IsFaultFrom, OrderReading, ReadsWords, StatementReading, deed_meaning, meaning};
 
 use crate::grammar::escrow_command;
-use crate::subcommands::Subcommand;
+use crate::subcommands::{MOST_ABSENCES, Subcommand};
 use crate::values::{
-    count_in, date_in, first_in, ground_in, id_in, kind_in, now_in, number_in, parts_in, port_in,
-    reference_in, revision_in, text_in, tld_in,
+    count_if_given, count_in, date_in, first_in, ground_in, id_in, kind_in, now_in, number_in,
+    parts_in, port_in, reference_in, revision_in, text_in, tld_in,
 };
 use crate::{Deed, Order, WordFault};
 use clap::ArgMatches;
@@ -34,8 +34,12 @@ fn deed_in<'a>(subcommand: Subcommand, matches: &ArgMatches<'a>) -> Result<Deed<
         Subcommand::Put => Ok(Deed::Put {
             file: text_in(matches, "FILE"),
         }),
-        Subcommand::Verify => verify_in(matches),
-        Subcommand::Sweep => Ok(Deed::Sweep),
+        Subcommand::Preview => Ok(Deed::Preview(statement_in(matches)?)),
+        Subcommand::Verify => Ok(Deed::Do(Command::Statement(statement_in(matches)?))),
+        Subcommand::Due => Ok(Deed::Due),
+        Subcommand::Sweep => Ok(Deed::Sweep {
+            at_most: count_if_given(matches, "at-most", MOST_ABSENCES),
+        }),
         Subcommand::Purge => Ok(Deed::Do(Command::Purge)),
         Subcommand::Hold => hold_in(matches),
         Subcommand::Lift => Ok(Deed::Do(Command::Lift(reference_in(matches)?))),
@@ -48,6 +52,9 @@ fn deed_in<'a>(subcommand: Subcommand, matches: &ArgMatches<'a>) -> Result<Deed<
         Subcommand::Report => Ok(Deed::Report {
             tld: tld_in(matches)?,
         }),
+        Subcommand::Digests => Ok(Deed::Digests {
+            tld: tld_in(matches)?,
+        }),
         Subcommand::State => Ok(Deed::State),
         Subcommand::Audit => Ok(Deed::Audit),
         Subcommand::Serve => Ok(Deed::Serve {
@@ -57,21 +64,22 @@ fn deed_in<'a>(subcommand: Subcommand, matches: &ArgMatches<'a>) -> Result<Deed<
     }
 }
 
-fn verify_in<'a>(matches: &ArgMatches<'a>) -> Result<Deed<'a>, WordFault>
-    ensures { AnswersAsRead deed_meaning (DeedReading Subcommand.Verify (rows_of (found_of matches.now))) result }
+/// What is stated of a deposit.
+fn statement_in(matches: &ArgMatches<'_>) -> Result<Statement, WordFault>
+    ensures { AnswersAsRead (λ stated. stated) (StatementReading (rows_of (found_of matches.now))) result }
 {
     let tld = tld_in(matches)?;
     let day = date_in(matches)?;
     let kind = kind_in(matches)?;
     let id = id_in(matches)?;
-    Ok(Deed::Do(Command::Statement(Statement {
+    Ok(Statement {
         tld,
         day,
         kind,
         rev: revision_in(matches),
         parts: parts_in(matches),
         id,
-    })))
+    })
 }
 
 fn hold_in<'a>(matches: &ArgMatches<'a>) -> Result<Deed<'a>, WordFault>

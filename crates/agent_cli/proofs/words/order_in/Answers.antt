@@ -1,13 +1,14 @@
 use Rattle.std.proofs.Common.{refl, inl, inr}
 use Rattle.clap.specs.Words.{found_of, rows_of}
-use Rattle.agent_cli.specs.Order.{OrderReading, deed_meaning, meaning}
+use Rattle.agent_cli.specs.Order.{DeedReading, OrderReading, deed_meaning, meaning}
 use Rattle.agent_cli.specs.declared.order.Argument.TheVariants as argument
-use Rattle.agent_cli.proofs.Readings.{bad_answers, no_deed_answers}
+use Rattle.agent_cli.proofs.Readings.{bad_answers, no_value_answers}
 use Rattle.agent_cli.proofs.words.order_in.Goals as goal
 
 pub returns-in_err-deed : goal.returns-in_err-deed
 returns-in_err-deed c =
-    no_deed_answers c.args.subcommand (rows_of (found_of c.args.matches.now)) _ c.in_err-deed.ensures c.from_residual.result c.from_residual.ensures.1
+    no_value_answers deed_meaning (DeedReading c.args.subcommand (rows_of (found_of c.args.matches.now))) meaning (OrderReading c.args.subcommand (rows_of (found_of c.args.matches.now)))
+    (λ a reads. inr (a, reads, refl)) _ c.in_err-deed.ensures c.from_residual.result c.from_residual.ensures.1
 
 pub returns-in_err-now : goal.returns-in_err-now
 returns-in_err-now c =
