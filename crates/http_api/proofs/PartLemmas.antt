@@ -25,7 +25,7 @@ use Rattle.http_request.specs.declared.errors.RequestError.TheVariants as error
 use Rattle.http_request.proofs.Asking.{Plans, asks_wanted}
 use Rattle.http_api.specs.declared.handling.PendingResponse.{PendingResponse}
 use Rattle.http_api.specs.declared.handling.PendingResponse.TheVariants as outcome
-use Rattle.http_api.specs.Handling.{Performs, ErrorLeaves, HasTooLongReport, HasNoMemory, HasReceivedPart, IsRequestPerformed, IsNoCommand, IsServed, IsActionPerformed, FaultLeaves, IsRequestServed}
+use Rattle.http_api.specs.Handling.{Performs, ErrorLeaves, MayLackMemory, HasNoMemory, HasReceivedPart, IsRequestPerformed, IsNoCommand, IsServed, IsActionPerformed, FaultLeaves, IsRequestServed}
 
 cut_same : (front rest : List ℕ) (n : ℕ) → take n (take n front ++ rest) ≡ take n (front ++ rest)
 cut_same [] rest zero = refl
@@ -94,7 +94,7 @@ module _ {V S : Type 0} {g : volume.Ghosts V} {database : Ghosts S} where
   pub done_serves : (known : Option (List ℕ)) (now : ℕ) (old new : Custody V S g database) (outcome : PendingResponse) → IsRequestPerformed known now old outcome new → IsRequestServed known now old outcome new
   done_serves known now old new outcome (wanted, asks, step) answer told = by (step answer told)
     where
-      by : Performs wanted now old answer new ⊎ (HasTooLongReport wanted old × HasNoMemory old answer new) → IsServed known now old answer new
+      by : Performs wanted now old answer new ⊎ (MayLackMemory wanted old × HasNoMemory old answer new) → IsServed known now old answer new
       by (inl does) = inl (asks_for wanted, asks, does)
       by (inr (long, none)) = inr none
 

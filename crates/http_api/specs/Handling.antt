@@ -1,6 +1,7 @@
 -- What is answered to a request, and what the agent does for it.
-use Rattle.std.specs.Prelude.{◌≡◌, ◌≤◌, ◌^◌, ◌⊎◌, ◌++◌, [], ◌∷◌, ℕ, List, codes, length, Option, Some, None, Result, Ok, Err, IfSome, is_some, if◌then◌else◌}
+use Rattle.std.specs.Prelude.{◌≡◌, ◌≤◌, ◌-◌, ◌^◌, ◌⊎◌, ◌++◌, [], ◌∷◌, ℕ, List, codes, length, Option, Some, None, Result, Ok, Err, IfSome, is_some, if◌then◌else◌}
 use Rattle.std.specs.FinMap.{get}
+use Rattle.std.specs.Global.{Vec}
 use Rattle.vault_volume.specs.declared.volume.Volume as volume
 use Rattle.sqlite.specs.Store.{Ghosts}
 use Rattle.custody_records.specs.Records.{Records}
@@ -20,10 +21,13 @@ use Rattle.custody.specs.declared.answers.Refused.TheVariants as refused
 use Rattle.custody.specs.declared.custody.Custody.{Custody}
 use Rattle.custody.specs.Custody.{HasApplied, open_custody_of, is_open}
 use Rattle.custody.specs.OpenCustody.{current_records}
+use Rattle.custody.specs.Opening.{free_blocks}
 use Rattle.custody.specs.Fetching.{HasFetched}
 use Rattle.custody.specs.Receiving.{HasEndedEarly}
-use Rattle.answer_lines.specs.Printing.{reply_text}
-use Rattle.answer_lines.specs.State.{registry_report_text}
+use Rattle.answer_lines.specs.Digests.{digests_text}
+use Rattle.answer_lines.specs.Due.{due_text}
+use Rattle.answer_lines.specs.Printing.{as_line, reply_text}
+use Rattle.answer_lines.specs.State.{registry_report_text, state_text}
 use Rattle.http_request.specs.RequestMeaning.{RequestMeaning, bad, asks_for, RequestMeans, SendsPart}
 use Rattle.http_request.specs.declared.faults.Method.{Method}
 use Rattle.http_request.specs.declared.faults.RequestFault.{RequestFault}
@@ -31,7 +35,7 @@ use Rattle.http_request.specs.declared.faults.RequestFault.TheVariants as fault
 use Rattle.http_request.specs.declared.errors.RequestError.{RequestError}
 use Rattle.http_request.specs.declared.errors.RequestError.TheVariants as error
 use Rattle.http_request.specs.Body.{IsDeclaredBody}
-use Rattle.http_request.specs.Action.{RequestAction, Do, Report, Fetch}
+use Rattle.http_request.specs.Action.{RequestAction, Do, Report, State, Due, Digests, Fetch}
 use Rattle.http_api.specs.declared.status.ResponseStatus.{ResponseStatus}
 use Rattle.http_api.specs.declared.status.ResponseStatus.TheVariants as status
 use Rattle.http_api.specs.declared.response.Media.TheVariants.{Text, Bytes}
@@ -108,14 +112,53 @@ abbrev pub fetch_response : Result (List ℕ) not_accepted.Refused → HttpRespo
 fetch_response (Ok bytes) = http_response status.Done Bytes None bytes
 fetch_response (Err why) = refused_response why
 
--- the report of a registry that is known
+-- the text that is read, or what is in the way
+abbrev pub reading_response : Result (Vec ℕ) not_accepted.Refused → HttpResponse
+reading_response (Ok text) = text_response status.Done text.items
+reading_response (Err why) = refused_response why
+
+-- what is wanted is told, or that there is no memory for it
+abbrev pub IsTextTold : HttpResponse → Result (Vec ℕ) not_accepted.Refused → Type 0
+IsTextTold wanted text = (reading_response text ≡ wanted) ⊎ (reading_response text ≡ no_memory_response)
+
+-- ---- what records tell
+
+-- a text of a registry that is known
+abbrev pub registry_text : (Records → List ℕ → List ℕ) → Records → List ℕ → HttpResponse
+registry_text text records tld = if is_some (get records.registries tld) then text_response status.Done (text records tld) else refusal_response RegistryUnknown
+
+-- its report
 abbrev pub registry_report : Records → List ℕ → HttpResponse
-registry_report records tld = if is_some (get records.registries tld) then text_response status.Done (registry_report_text records tld) else refusal_response RegistryUnknown
+registry_report records tld = registry_text registry_report_text records tld
+
+-- the digests of its parts
+abbrev pub registry_digests : Records → List ℕ → HttpResponse
+registry_digests records tld = registry_text digests_text records tld
+
+-- the records, and the free blocks
+abbrev pub records_state : Records → HttpResponse
+records_state records = text_response status.Done (as_line (state_text records (free_blocks records) (records.blocks - 1)))
+
+-- the days that a sweep would record as missed
+abbrev pub records_due : Records → ℕ → HttpResponse
+records_due records now = text_response status.Done (due_text records now)
 
 module _ {V S : Type 0} {g : volume.Ghosts V} {database : Ghosts S} where
-  -- a closed custody tells no report
+  -- a closed custody tells nothing of its records
   abbrev pub report_response : Custody V S g database → List ℕ → HttpResponse
   report_response custody tld = if is_open custody then registry_report (current_records (open_custody_of custody)) tld else failure_response Closed
+
+  -- the records of a custody that is open
+  abbrev pub state_response : Custody V S g database → HttpResponse
+  state_response custody = if is_open custody then records_state (current_records (open_custody_of custody)) else failure_response Closed
+
+  -- the days that are due by them
+  abbrev pub due_response : Custody V S g database → ℕ → HttpResponse
+  due_response custody now = if is_open custody then records_due (current_records (open_custody_of custody)) now else failure_response Closed
+
+  -- the digests of a registry's parts
+  abbrev pub digests_response : Custody V S g database → List ℕ → HttpResponse
+  digests_response custody tld = if is_open custody then registry_digests (current_records (open_custody_of custody)) tld else failure_response Closed
 
   -- ---- the step
 
@@ -132,6 +175,9 @@ module _ {V S : Type 0} {g : volume.Ghosts V} {database : Ghosts S} where
   abbrev pub Performs : RequestAction → ℕ → Custody V S g database → HttpResponse → Custody V S g database → Type 0
   Performs (Do command) now old answer new = (r : Result Reply not_accepted.Refused) × HasApplied old command now r new × (answer ≡ response_of r)
   Performs (Report tld) now old answer new = (answer ≡ report_response old tld) × (new ≡ old)
+  Performs State now old answer new = (answer ≡ state_response old) × (new ≡ old)
+  Performs Due now old answer new = (answer ≡ due_response old now) × (new ≡ old)
+  Performs (Digests tld) now old answer new = (answer ≡ digests_response old tld) × (new ≡ old)
   Performs (Fetch reference name) now old answer new = (r : Result (List ℕ) not_accepted.Refused) × HasFetched old reference name r new × (answer ≡ fetch_response r)
 
   -- the same of all that is asked: a fault is answered, and no command is done
@@ -143,28 +189,31 @@ module _ {V S : Type 0} {g : volume.Ghosts V} {database : Ghosts S} where
   abbrev pub HasNoMemory : Custody V S g database → HttpResponse → Custody V S g database → Type 0
   HasNoMemory old answer new = (answer ≡ no_memory_response) × (new ≡ old)
 
-  -- The reader's bytes, where they are known, ask something, which is done and answered; or memory ran out before, as is also told of a report that has no length (below).
+  -- The reader's bytes, where they are known, ask something, which is done and answered; or memory ran out before, as is also told of a report that has no length and of a text that there is no memory for (below).
   abbrev pub IsServed : Option (List ℕ) → ℕ → Custody V S g database → HttpResponse → Custody V S g database → Type 0
   IsServed known now old answer new =
       ((asked : RequestMeaning) × IfSome known (λ input. RequestMeans input asked) × HandlesRequest known asked now old answer new) ⊎ HasNoMemory old answer new
 
   -- ---- a response before it is written
 
-  -- a report is wanted, and 64 bits do not tell its length
-  abbrev pub HasTooLongReport : RequestAction → Custody V S g database → Type 0
-  HasTooLongReport (Do command) custody = ⊥
-  HasTooLongReport (Report tld) custody = 2 ^ 64 ≤ length (registry_report_text (current_records (open_custody_of custody)) tld)
-  HasTooLongReport (Fetch reference name) custody = ⊥
+  -- what may be answered by want of memory, and nothing is done: a report of which 64 bits do not tell the length, and a text, for which memory is taken
+  abbrev pub MayLackMemory : RequestAction → Custody V S g database → Type 0
+  MayLackMemory (Do command) custody = ⊥
+  MayLackMemory (Report tld) custody = 2 ^ 64 ≤ length (registry_report_text (current_records (open_custody_of custody)) tld)
+  MayLackMemory State custody = Unit {0}
+  MayLackMemory Due custody = Unit {0}
+  MayLackMemory (Digests tld) custody = Unit {0}
+  MayLackMemory (Fetch reference name) custody = ⊥
 
   -- what answers it: a report is one of the custody as it is then; want of memory is told only where it has no length
   abbrev pub IsCompletedAs : Custody V S g database → PendingResponse → HttpResponse → Type 0
   IsCompletedAs custody (outcome.Response response) answer = answer ≡ response_view response
-  IsCompletedAs custody (outcome.Report tld) answer = (answer ≡ report_response custody tld) ⊎ (HasTooLongReport (Report tld) custody × (answer ≡ no_memory_response))
+  IsCompletedAs custody (outcome.Report tld) answer = (answer ≡ report_response custody tld) ⊎ (MayLackMemory (Report tld) custody × (answer ≡ no_memory_response))
 
-  -- each answer of it is one to what is wanted, or it is a report that has no length
+  -- each answer of it is one to what is wanted, or tells that memory ran out
   abbrev pub IsActionPerformed : RequestAction → ℕ → Custody V S g database → PendingResponse → Custody V S g database → Type 0
   IsActionPerformed wanted now old outcome new =
-      (answer : HttpResponse) → IsCompletedAs new outcome answer → Performs wanted now old answer new ⊎ (HasTooLongReport wanted old × HasNoMemory old answer new)
+      (answer : HttpResponse) → IsCompletedAs new outcome answer → Performs wanted now old answer new ⊎ (MayLackMemory wanted old × HasNoMemory old answer new)
 
   -- the bytes ask for something, of which it is a step
   abbrev pub IsRequestPerformed : Option (List ℕ) → ℕ → Custody V S g database → PendingResponse → Custody V S g database → Type 0

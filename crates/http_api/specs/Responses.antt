@@ -55,11 +55,13 @@ abbrev pub media_of : Body → Media
 media_of (body.Line line) = Text
 media_of (body.Record told) = Text
 media_of (body.Part bytes) = Bytes
+media_of (body.Text text) = Text
 
 abbrev pub body_text : Body → List ℕ
 body_text (body.Line line) = line.items
 body_text (body.Record told) = reply_text told
 body_text (body.Part bytes) = bytes.items
+body_text (body.Text text) = text.items
 
 abbrev pub response_view : Response → HttpResponse
 response_view r = http_response r.status (media_of r.body) r.allow (body_text r.body)

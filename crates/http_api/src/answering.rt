@@ -1,7 +1,7 @@
 //! What is told of faults, refusals, failures and replies, as responses.
 ghost use Rattle.std.specs.Prelude.{◌≡◌, Result, Ok};
 ghost use Rattle.http_api.specs.Responses.{response_view};
-ghost use Rattle.http_api.specs.Handling.{allowed_method, failure_response, fault_response, fault_row, new_record_status, refusal_response, refused_response, response_of, reply_status};
+ghost use Rattle.http_api.specs.Handling.{allowed_method, failure_response, fault_response, fault_row, new_record_status, refusal_response, refused_response, reading_response, response_of, reply_status};
 
 use crate::ResponseStatus;
 use crate::response::{Body, Response};
@@ -120,6 +120,20 @@ pub(crate) fn refused_response(refused: &Refused) -> Response
     match refused {
         Refused::Refusal(refusal) => refusal_response(refusal),
         Refused::Failure(failure) => failure_response(failure),
+    }
+}
+
+/// What is answered by a text, or by what is in the way of it.
+pub(crate) fn reading_response(text: Result<Vec<u8>, Refused>) -> Response
+    ensures { response_view result ≡ reading_response text }
+{
+    match text {
+        Ok(text) => Response {
+            status: ResponseStatus::Done,
+            allow: None,
+            body: Body::Text(text),
+        },
+        Err(refused) => refused_response(&refused),
     }
 }
 

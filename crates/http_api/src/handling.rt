@@ -11,9 +11,10 @@ ghost use Rattle.http_api.specs.Handling.{IsCompletedAs, ErrorLeaves, HasReceive
 
 use crate::ResponseStatus;
 use crate::answering::{
-    failure_response, fault_response, refusal_response, refused_response, reply_response,
-    response_of,
+    failure_response, fault_response, reading_response, refusal_response, refused_response,
+    reply_response, response_of,
 };
+use crate::reading::{digests_text, due_text, state_text};
 use crate::report::Report;
 use crate::response::{Body, Message, Response, write_message};
 use answer_lines::WriteFailed;
@@ -112,6 +113,15 @@ fn perform<V: Volume, S: Alter>(
             alloc, command, now,
         ))),
         RequestAction::Report(tld) => PendingResponse::Report(*tld),
+        RequestAction::State => {
+            PendingResponse::Response(reading_response(state_text(alloc, custody)))
+        }
+        RequestAction::Due => {
+            PendingResponse::Response(reading_response(due_text(alloc, custody, now)))
+        }
+        RequestAction::Digests(tld) => {
+            PendingResponse::Response(reading_response(digests_text(alloc, custody, tld)))
+        }
         RequestAction::Fetch(reference, name) => PendingResponse::Response(fetch(
             alloc, custody, reference, name,
         )),

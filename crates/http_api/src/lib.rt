@@ -6,6 +6,7 @@ mod answering;
 mod client;
 mod connections;
 mod handling;
+mod reading;
 mod report;
 mod response;
 mod status;

@@ -49,6 +49,8 @@ pub(crate) enum Body {
     Record(Record),
     /// The bytes of a part.
     Part(Vec<u8>),
+    /// Lines.
+    Text(Vec<u8>),
 }
 
 /// A response. A 405 tells the method that is allowed.
@@ -134,6 +136,7 @@ fn write_response<W: Write>(response: &Response, writer: &mut W) -> Result<(), W
         Body::Line(line) => write_body(*status, Media::Text, *allow, line.as_slice(), writer),
         Body::Record(told) => write_record(*status, *allow, told, writer),
         Body::Part(bytes) => write_body(*status, Media::Bytes, *allow, bytes.as_slice(), writer),
+        Body::Text(text) => write_body(*status, Media::Text, *allow, text.as_slice(), writer),
     }
 }
 

@@ -76,6 +76,9 @@ one_meaning of.Hold reference second body v w (in_form, (tld, d, known, day, jso
     is ∙ ap₂ (λ (t : List ℕ) (n : ℕ). Do (Hold reference t n)) same_tld same_day ∙ sym is2
 one_meaning of.Lift reference second body v w h k = h.1 ∙ sym k.1
 one_meaning of.Notices tld second body v w h k = h.1 ∙ sym k.1
+one_meaning of.Digests tld second body v w h k = h.1 ∙ sym k.1
+one_meaning of.State first second body v w h k = h ∙ sym k
+one_meaning of.Due first second body v w h k = h ∙ sym k
 one_meaning of.Purges first second body v w h k = h ∙ sym k
 
 -- ---- a fault is told by its number, and by the method of a 405

@@ -3,13 +3,13 @@ use Rattle.std.proofs.Common.{◌≡◌, ◌<◌, ◌≤◌, ℕ, List, [], ◌�
 use Rattle.std.specs.List.{list_all, AllZip}
 use Rattle.std.proofs.lemmas.Bool.{and_parts, ne_eqb, ltb-true}
 use Rattle.matchit.specs.Rows.{RowsOf, param_token, catch_all_token}
-use Rattle.matchit.specs.Seek.{seek, first, slash}
+use Rattle.matchit.specs.Seek.{own, seek, first, slash}
 use Rattle.matchit.specs.Router.{RouteOf}
 use Rattle.matchit.specs.Level.{IsText}
 use Rattle.matchit.specs.Params.{walk}
 use Rattle.matchit.proofs.OnLiterals.{matchit_on_literals}
 use Rattle.http_request.specs.declared.routes.Route.{Route}
-use Rattle.http_request.specs.declared.routes.Route.TheVariants.{Registry, Deposit, Statements, Check, Release, ReleasedPart, Hold, Lift, Notices, Purges}
+use Rattle.http_request.specs.declared.routes.Route.TheVariants.{Registry, Deposit, Statements, Check, Release, ReleasedPart, Hold, Lift, Notices, Digests, State, Due, Purges}
 use Rattle.http_request.specs.Paths.{Target, IsSegment, NamesTarget, path_text, row_of, target_at, with_slashes}
 use Rattle.http_request.specs.RouteTable.{entry_of, route_table}
 use Rattle.http_request.proofs.Seeking.{Fits, SomeRow, TakesByte, seek_row}
@@ -74,13 +74,13 @@ module _ (front : List ℕ) (k : RouteOf Route) where
     walk_same : (pattern : List ℕ) (places : List (ℕ × ℕ)) (path : List ℕ) → k.pattern ≡ pattern → k.names ≡ places → read_at k path ≡ values (walk pattern k.text path places 0 0)
     walk_same pattern places path p n = ap₂ (λ (q : List ℕ) (m : List (ℕ × ℕ)). values (walk q k.text path m 0 0)) p n
 
-    none_kept : k.pattern ≡ front ++ [] → k.names ≡ [] → behind front route_table ≡ ([], k) ∷ [] → IsKept []
+    none_kept : k.pattern ≡ front ++ [] → k.names ≡ [] → (rs : RowsOf (RouteOf Route)) → behind front route_table ≡ rs → own rs ≡ Some k → IsKept []
     unfolding seek
-    none_kept pattern places is = record {
+    none_kept pattern places rs is ends = record {
       few = omega arith;
       text = small;
       pattern = pattern;
-      reads = with_none IsReadAt (walk_same _ [] (front ++ []) pattern places, λ text. by_rows _ [] is refl);
+      reads = with_none IsReadAt (walk_same _ [] (front ++ []) pattern places, λ text. by_rows rs [] is ends);
     }
 
     module _ (name : List ℕ) (place : ℕ × ℕ) where
@@ -116,14 +116,17 @@ row_kept : (route : Route) → IsKept (row_of route).front (entry_of route) (row
 unfolding matchit_on_literals
 row_kept Registry = one_kept _ _ refl refl _ _ refl refl _ refl (part_found _)
 row_kept Deposit = one_kept _ _ refl refl _ _ refl refl _ refl (part_found _)
-row_kept Statements = none_kept _ _ refl refl refl refl refl
+row_kept Statements = none_kept _ _ refl refl refl refl _ refl refl
 row_kept Check = two_kept _ _ refl refl _ _ _ _ (omega arith) refl refl _ refl (pair_found _)
 row_kept Release = one_kept _ _ refl refl _ _ refl refl _ refl (second_found _ _)
 row_kept ReleasedPart = two_kept _ _ refl refl _ _ _ _ (omega arith) refl refl _ refl (first_found _ _)
 row_kept Hold = one_kept _ _ refl refl _ _ refl refl _ refl (part_found _)
 row_kept Lift = one_kept _ _ refl refl _ _ refl refl _ refl (part_found _)
 row_kept Notices = one_kept _ _ refl refl _ _ refl refl _ refl (part_found _)
-row_kept Purges = none_kept _ _ refl refl refl refl refl
+row_kept Digests = one_kept _ _ refl refl _ _ refl refl _ refl (part_found _)
+row_kept State = none_kept _ _ refl refl refl refl _ refl refl
+row_kept Due = none_kept _ _ refl refl refl refl _ refl refl
+row_kept Purges = none_kept _ _ refl refl refl refl _ refl refl
 
 pub target_found : (target : Target) → AreSegments (row_of target.route).names target.parameters → IsText (path_text target.route target.parameters)
     → first route_table (path_text target.route target.parameters) ≡ Some (entry_of target.route)
@@ -184,7 +187,7 @@ fitting_entry path found ((t, k) ∷ rest) (is, of, all) (inr h) = fitting_entry
 
 entries : AreEntries route_table
 unfolding matchit_on_literals
-entries = (refl, refl, (refl, refl, (refl, refl, (refl, refl, (refl, refl, (refl, refl, (refl, refl, (refl, refl, (refl, refl, (refl, refl, tt))))))))))
+entries = (refl, refl, (refl, refl, (refl, refl, (refl, refl, (refl, refl, (refl, refl, (refl, refl, (refl, refl, (refl, refl, (refl, refl, (refl, refl, (refl, refl, (refl, refl, tt)))))))))))))
 
 pub found_target : (path : List ℕ) → IsText path → (found : RouteOf Route) → first route_table path ≡ Some found → IsFoundAt path found
 found_target path text found e =

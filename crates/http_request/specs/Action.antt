@@ -19,6 +19,12 @@ pub data RequestAction : Type 0 where
   Do : Command → RequestAction
   -- the notices of a registry
   Report : (tld : List ℕ) → RequestAction
+  -- the records, and the free blocks
+  State : RequestAction
+  -- the days that a sweep would record as missed
+  Due : RequestAction
+  -- the digests of a registry's parts
+  Digests : (tld : List ℕ) → RequestAction
   -- the bytes of a part, under a release that lists this name
   Fetch : (reference name : List ℕ) → RequestAction
 
@@ -53,6 +59,9 @@ MeansAt route.Hold reference _ body wanted =
     IsReference reference × ((tld : List ℕ) × (day : ℕ) × IsTld tld × IsDay day × IsJsonOf body (hold_json (held_day_texts tld day)) × (wanted ≡ Do (Hold reference tld day)))
 MeansAt route.Lift reference _ body wanted = IsReference reference × (wanted ≡ Do (Lift reference))
 MeansAt route.Notices tld _ body wanted = IsTld tld × (wanted ≡ Report tld)
+MeansAt route.Digests tld _ body wanted = IsTld tld × (wanted ≡ Digests tld)
+MeansAt route.State _ _ body wanted = wanted ≡ State
+MeansAt route.Due _ _ body wanted = wanted ≡ Due
 MeansAt route.Purges _ _ body wanted = wanted ≡ Do Purge
 
 abbrev pub Means : Target → List ℕ → RequestAction → Type 0

@@ -9,6 +9,12 @@ pub enum RequestAction<'a> {
     Do(Command<'a>),
     /// The report of a registry: its notices.
     Report(Tld),
+    /// The records, and the free blocks.
+    State,
+    /// The days that a sweep would record as missed.
+    Due,
+    /// The digests of a registry's parts.
+    Digests(Tld),
     /// The bytes of a part, under a release that lists this name.
     Fetch(Reference, &'a [u8]),
 }

@@ -236,6 +236,9 @@ pub fn meaning_of<'a>(
         }
         Route::Lift => Ok(RequestAction::Do(Command::Lift(reference_of(target.first)?))),
         Route::Notices => Ok(RequestAction::Report(tld_of(target.first)?)),
+        Route::Digests => Ok(RequestAction::Digests(tld_of(target.first)?)),
+        Route::State => Ok(RequestAction::State),
+        Route::Due => Ok(RequestAction::Due),
         Route::Purges => Ok(RequestAction::Do(Command::Purge)),
     }
 }

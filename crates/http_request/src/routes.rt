@@ -22,10 +22,13 @@ pub enum Route {
     Hold,
     Lift,
     Notices,
+    Digests,
+    State,
+    Due,
     Purges,
 }
 
-const ROUTES: [Route; 10] = [
+const ROUTES: [Route; 13] = [
     Route::Registry,
     Route::Deposit,
     Route::Statements,
@@ -35,6 +38,9 @@ const ROUTES: [Route; 10] = [
     Route::Hold,
     Route::Lift,
     Route::Notices,
+    Route::Digests,
+    Route::State,
+    Route::Due,
     Route::Purges,
 ];
 
@@ -79,6 +85,9 @@ impl Route {
             Route::Hold => row("/holds/{reference}", Method::Put, Some(4096)),
             Route::Lift => row("/lifts/{reference}", Method::Post, Some(0)),
             Route::Notices => row("/notices/{tld}", Method::Get, None),
+            Route::Digests => row("/digests/{tld}", Method::Get, None),
+            Route::State => row("/state", Method::Get, None),
+            Route::Due => row("/due", Method::Get, None),
             Route::Purges => row("/purges", Method::Post, Some(0)),
         }
     }
