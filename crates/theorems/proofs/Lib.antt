@@ -8,3 +8,4 @@ pub mod ServingLemmas
 pub mod ClientLemmas
 pub mod RequestLemmas
 pub mod WholeLemmas
+pub mod EvidenceLemmas

@@ -33,7 +33,7 @@ use Rattle.answer_lines.specs.declared.lines.Line.TheVariants as line
 use Rattle.http_request.specs.RequestMeaning.{RequestMeaning, RequestMeans, SendsPart, asks_for, bad}
 use Rattle.http_request.specs.declared.faults.RequestFault.{RequestFault}
 use Rattle.http_request.specs.declared.faults.RequestFault.TheVariants as fault
-use Rattle.http_request.specs.Action.{RequestAction, Do, Report, Fetch}
+use Rattle.http_request.specs.Action.{RequestAction, Do, Report, State, Due, Digests, Fetch}
 use Rattle.http_api.specs.declared.handling.Served.{Served}
 use Rattle.http_api.specs.declared.handling.ServeError.{ServeError}
 use Rattle.http_api.specs.declared.handling.ServeError.TheVariants as failed
@@ -191,9 +191,9 @@ module _ {V S : Type 0} {g : volume.Ghosts V} {database : Ghosts S} (tells : g.t
     faulty place h fault.BodyShort answer asks is left = let none = nothing place h left in record { did = none.did; responds = λ written. inl (bad fault.BodyShort, asks, (is, none.no_command)); went = none.went }
     faulty place h found answer asks is left = unmoved place h left answer (λ written. inl (bad found, asks, (is, refl)))
 
-    -- the report of a registry, where the custody is open
-    abbrev report_if : List ℕ → Bool → HttpResponse
-    report_if tld b = if b then served.registry_report (current_records (open_custody_of old)) tld else served.failure_response Closed
+    -- what the records tell, where the custody is open
+    abbrev told_if : (Records → HttpResponse) → Bool → HttpResponse
+    told_if told b = if b then told (current_records (open_custody_of old)) else served.failure_response Closed
 
     -- what an open custody does
     does_open : (serving : IsServing database old) → IsCustodyAt database old (place_of database old) → (wanted : RequestAction) (answer : HttpResponse) → RequestMeans input (asks_for wanted) → served.Performs wanted now old answer new → Response old new (place_of database old) input now answer
@@ -203,7 +203,13 @@ module _ {V S : Type 0} {g : volume.Ghosts V} {database : Ghosts S} (tells : g.t
       went = applied old new serving honest input now command did.0 asks did.1;
     }
     does_open serving h (Report tld) answer asks did = unmoved (place_of database old) h did.1 answer
-        (λ written. inl (asks_for (Report tld), asks, (refl, did.0 ∙ ap (report_if tld) serving.opened)))
+        (λ written. inl (asks_for (Report tld), asks, (refl, did.0 ∙ ap (told_if (λ records. served.registry_report records tld)) serving.opened)))
+    does_open serving h State answer asks did = unmoved (place_of database old) h did.1 answer
+        (λ written. inl (asks_for State, asks, (refl, did.0 ∙ ap (told_if served.records_state) serving.opened)))
+    does_open serving h Due answer asks did = unmoved (place_of database old) h did.1 answer
+        (λ written. inl (asks_for Due, asks, (refl, did.0 ∙ ap (told_if (λ records. served.records_due records now)) serving.opened)))
+    does_open serving h (Digests tld) answer asks did = unmoved (place_of database old) h did.1 answer
+        (λ written. inl (asks_for (Digests tld), asks, (refl, did.0 ∙ ap (told_if (λ records. served.registry_digests records tld)) serving.opened)))
     does_open serving h (Fetch reference name) answer asks did = record {
       did = Some (other_call_event (stays_open did.0));
       responds = λ written. inl (asks_for (Fetch reference name), asks, (did.0, did.1.bytes serving.opened tells, refl, did.2));
@@ -219,7 +225,13 @@ module _ {V S : Type 0} {g : volume.Ghosts V} {database : Ghosts S} (tells : g.t
       went = stays old new (Shut records image doubt) input now h same.1 (Some (Answered command now (Failed Closed))) (refl, refl);
     }
     does_closed records image doubt closed h (Report tld) answer asks did = unmoved (Shut records image doubt) h did.1 answer
-        (λ written. inl (asks_for (Report tld), asks, (refl, did.0 ∙ ap (report_if tld) closed)))
+        (λ written. inl (asks_for (Report tld), asks, (refl, did.0 ∙ ap (told_if (λ records. served.registry_report records tld)) closed)))
+    does_closed records image doubt closed h State answer asks did = unmoved (Shut records image doubt) h did.1 answer
+        (λ written. inl (asks_for State, asks, (refl, did.0 ∙ ap (told_if served.records_state) closed)))
+    does_closed records image doubt closed h Due answer asks did = unmoved (Shut records image doubt) h did.1 answer
+        (λ written. inl (asks_for Due, asks, (refl, did.0 ∙ ap (told_if (λ records. served.records_due records now)) closed)))
+    does_closed records image doubt closed h (Digests tld) answer asks did = unmoved (Shut records image doubt) h did.1 answer
+        (λ written. inl (asks_for (Digests tld), asks, (refl, did.0 ∙ ap (told_if (λ records. served.registry_digests records tld)) closed)))
     does_closed records image doubt closed h (Fetch reference name) answer asks did = let same = did.1.closed closed in record {
       did = Some (other_call_event (stays_open did.0));
       responds = λ written. inl (asks_for (Fetch reference name), asks, (did.0, same.0, refl, did.2));

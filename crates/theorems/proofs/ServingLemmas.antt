@@ -14,7 +14,8 @@ use Rattle.custody_machine.proofs.Moves.{moves_are_histories, places_are_right}
 use Rattle.custody.specs.Answers.{stays_open}
 use Rattle.http_request.specs.RequestMeaning.{RequestMeaning, RequestMeans, RequestsMeanOne, asks_for, bad}
 use Rattle.http_request.specs.declared.faults.RequestFault.TheVariants as fault
-use Rattle.http_request.specs.Action.{Do, Report, Fetch}
+use Rattle.http_request.specs.Action as action
+use Rattle.http_request.specs.Action.{Do, Report, Due, Digests, Fetch}
 use Rattle.http_api.specs.declared.status.ResponseStatus.{ResponseStatus}
 use Rattle.http_api.specs.Responses.{HttpResponse, response_bytes}
 use Rattle.http_api.specs.Handling.{failure_response, no_memory_response, refusal_response}
@@ -211,6 +212,9 @@ module _ (one_asked : RequestsMeanOne) (input : List ℕ) (asked : RequestMeanin
   given (bad found) own place x at g = subst IsOfTry (sym g.1) tt
   given (asks_for (Do command)) own place x at g = subst IsOfTry (sym g.1) (own command refl, at)
   given (asks_for (Report tld)) own place x at g = subst IsOfTry (sym g.0) tt
+  given (asks_for action.State) own place x at g = subst IsOfTry (sym g.0) tt
+  given (asks_for Due) own place x at g = subst IsOfTry (sym g.0) tt
+  given (asks_for (Digests tld)) own place x at g = subst IsOfTry (sym g.0) tt
   given (asks_for (Fetch reference name)) own place x at g = subst IsOfTry (sym g.2) (rests (stays_open g.0))
 
   stop_within : (sent : List ℕ) (now : ℕ) (stop : history.Event) → IsBeginning sent input → M now → IsStopWithin sent now stop → IsOfTry (Some stop)

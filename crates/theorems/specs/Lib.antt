@@ -5,3 +5,4 @@ pub mod Service
 pub mod Clients
 pub mod Requests
 pub mod WholeResponses
+pub mod Evidence

@@ -1,6 +1,7 @@
 -- What may happen to a custody that is served over HTTP: requests by their bytes, with what was written of each response (RFC 9110, section 3), stops and openings.
 use Rattle.std.specs.Prelude.{◌≡◌, ◌⊎◌, ◌≤◌, ℕ, List, [], ◌∷◌, length, take, Option, None, Some, if◌then◌else◌, Result, Err, bytes_eq}
 use Rattle.std.specs.List.{filter_map}
+use Rattle.custody_records.specs.Records.{Records}
 use Rattle.custody_machine.specs.declared.answers.Failure.TheVariants.{Closed}
 use Rattle.custody_machine.specs.State.{State}
 use Rattle.custody_machine.specs.Machine as machine
@@ -15,9 +16,10 @@ use Rattle.custody.specs.Answers.{stays_open}
 use Rattle.custody.specs.Fetching.{IsFetched}
 use Rattle.http_request.specs.declared.faults.RequestFault.TheVariants as fault
 use Rattle.http_request.specs.RequestMeaning.{RequestMeaning, RequestMeans, SendsPart, asks_for, bad}
-use Rattle.http_request.specs.Action.{RequestAction, Do, Report, Fetch}
+use Rattle.http_request.specs.Action as action
+use Rattle.http_request.specs.Action.{RequestAction, Do, Report, Due, Digests, Fetch}
 use Rattle.http_api.specs.Responses.{HttpResponse, response_bytes}
-use Rattle.http_api.specs.Handling.{failure_response, fault_response, fetch_response, no_memory_response, registry_report}
+use Rattle.http_api.specs.Handling.{failure_response, fault_response, fetch_response, no_memory_response, records_due, records_state, registry_digests, registry_report}
 use Rattle.theorems.specs.Responses.{response_to}
 
 -- ---- events
@@ -80,11 +82,11 @@ IsNoCommandEvent input (Some AnsweredOtherCall) = SendsPart input
 IsNoCommandEvent input (Some ShutDown) = SendsPart input
 IsNoCommandEvent input (Some _) = ⊥
 
--- the report of a registry, from the place where the custody is
-abbrev pub TellsReport : Place → List ℕ → HttpResponse → Type 0
-TellsReport (Serving records image) tld answer = answer ≡ registry_report records tld
-TellsReport (Shut records image doubt) tld answer = answer ≡ failure_response Closed
-TellsReport (Left rows image) tld answer = ⊥
+-- what the records tell, from the place where the custody is
+abbrev pub TellsRecords : Place → (Records → HttpResponse) → HttpResponse → Type 0
+TellsRecords (Serving records image) told answer = answer ≡ told records
+TellsRecords (Shut records image doubt) told answer = answer ≡ failure_response Closed
+TellsRecords (Left rows image) told answer = ⊥
 
 -- a part of a release, or why it is not handed over
 abbrev pub FetchesPart : Place → (reference name : List ℕ) → Result (List ℕ) not_accepted.Refused → Type 0
@@ -95,7 +97,10 @@ FetchesPart (Left rows image) reference name r = ⊥
 -- what is wanted is done, and answered
 abbrev pub IsPerformedIn : RequestAction → Place → Exchange → Type 0
 IsPerformedIn (Do command) place x = (told : machine.Answer) × (x.did ≡ Some (Answered command x.now told)) × (x.answer ≡ response_to told)
-IsPerformedIn (Report tld) place x = (x.did ≡ None) × TellsReport place tld x.answer
+IsPerformedIn (Report tld) place x = (x.did ≡ None) × TellsRecords place (λ records. registry_report records tld) x.answer
+IsPerformedIn action.State place x = (x.did ≡ None) × TellsRecords place records_state x.answer
+IsPerformedIn Due place x = (x.did ≡ None) × TellsRecords place (λ records. records_due records x.now) x.answer
+IsPerformedIn (Digests tld) place x = (x.did ≡ None) × TellsRecords place (λ records. registry_digests records tld) x.answer
 IsPerformedIn (Fetch reference name) place x =
     (r : Result (List ℕ) not_accepted.Refused) × FetchesPart place reference name r
     × (x.did ≡ Some (other_call_event (stays_open r))) × (x.answer ≡ fetch_response r)

@@ -5,6 +5,7 @@ ghost use Rattle.custody_machine.specs.Moves.{MayLeave};
 ghost use Rattle.custody.specs.Opening.{HasAllTables};
 ghost use Rattle.theorems.specs.Sessions.{IsServing, place_of, state_of_custody, StopLeaves, SparesFreeBlocks, RunsMove, StopsMove, MayStopAtRest, SessionsGoOn, OpeningsMayFail};
 ghost use Rattle.theorems.specs.OtherCallMoves.{OtherCallsMove, OtherCallsStop};
+ghost use Rattle.theorems.specs.Evidence.{DigestLinesAreKept, OneDigestOfName, RecordsRemain};
 
 use custody::Custody;
 use sqlite::{Alter, Connection};
@@ -48,4 +49,12 @@ pub fn law_sessions<V: Volume, S: Alter>(volume: &V, db: &Connection<S>)
 /// What a database shows at rest is what a stop may leave of it.
 pub fn law_shown<S: Alter>(db: &Connection<S>)
     ensures { HasAllTables (store_state S.Store db.now) → (store_state S.Store db.now).may_leave (store_state S.Store db.now).rows }
+{}
+
+/// Whatever commands, other calls, openings and stops came between, each line of `digests` is among the
+/// later ones; and a name has one digest.
+pub fn law_digests()
+    ensures kept { DigestLinesAreKept }
+    ensures one { OneDigestOfName }
+    ensures remain { RecordsRemain }
 {}

@@ -10,6 +10,8 @@ mod serving;
 pub mod sessions;
 
 pub use client_laws::{law_clients, law_requests, law_responses};
-pub use custody_laws::{law_at_rest, law_rest, law_run, law_sessions, law_shown, law_stop};
+pub use custody_laws::{
+    law_at_rest, law_digests, law_rest, law_run, law_sessions, law_shown, law_stop,
+};
 pub use custody_machine::{law_histories, law_retries};
 pub use serving::serve_one;
