@@ -167,7 +167,7 @@ fn serve<'a, V: Volume, S: Alter>(
     let (out, err) = (&mut printed.out, &mut printed.err);
     printed.status = act(alloc, custody, deed, file, now, out, err, &mut Silent);
     match deed {
-        Deed::Sweep => plain.sweep(alloc, now, printed)?,
+        Deed::Sweep { .. } if printed.status == 0 => plain.sweep(alloc, now, printed)?,
         Deed::Do(command) => plain.follow(alloc, command, now, printed)?,
         Deed::Put { file: path } => {
             let command = Command::Receive(file_name(path), file);

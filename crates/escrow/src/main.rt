@@ -137,10 +137,13 @@ fn carry_out<R: Read + Drop, W: Write, E: Write>(
             let files = (found.volume, found.db);
             Ok(serve(rt, files, port, requests, order.now, out, err))
         }
-        Deed::Do(_)
-        | Deed::Sweep
+        Deed::Preview(_)
+        | Deed::Do(_)
+        | Deed::Due
+        | Deed::Sweep { .. }
         | Deed::Fetch { .. }
         | Deed::Report { .. }
+        | Deed::Digests { .. }
         | Deed::State
         | Deed::Audit => act_in_folder(rt, order, &[], out, err),
     }

@@ -25,5 +25,5 @@ returns-in_ok-found-in-Serve-clause-done g c =
 pub returns-in_ok-bytes-in-Put-clause-done : goal.returns-in_ok-bytes-in-Put-clause-done
 returns-in_ok-bytes-in-Put-clause-done g c = IfOk-over _ _ _ (λ ended files works. search rules) c.act_in_folder.ensures.done
 
-pub returns-in-Do-clause-done : goal.returns-in-Do-clause-done
-returns-in-Do-clause-done g c = IfOk-over _ _ _ (λ ended files works. search rules) c.act_in_folder-in-Do.ensures.done
+pub returns-in-Preview-clause-done : goal.returns-in-Preview-clause-done
+returns-in-Preview-clause-done g c = IfOk-over _ _ _ (λ ended files works. search rules) c.act_in_folder-in-Preview.ensures.done
