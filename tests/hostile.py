@@ -4,8 +4,8 @@
     tests/hostile.py [PROGRAM] [--cases N] [--seed S] [--seconds T] [--only N]
 
 A case takes the files of a vault that the program made and changes them one to three times: bytes, the database by SQL, or
-files for those of other vaults. Then it runs `state`, `report`, `audit` and `fetch` twice, a `put`, a `sweep` or `verify`,
-and an `init`. It checks:
+files for those of other vaults. Then it runs `state`, `report`, `digests`, `due`, `audit` and `fetch` twice, a `put`, a `sweep`
+or `verify`, and an `init`. It checks:
 
 - Each call ends within 20 seconds, by no signal, with a status and lines of docs/CODES.md.
 - A call that reads prints the same again. It leaves `vault.vol` as it was. It may write the head of the log `custody.db-wal`
@@ -19,8 +19,8 @@ and an `init`. It checks:
   `AreLinked` of custody_machine say what belongs together (H7). If the tables are those of the page, `state` reports just
   that. C3 must come in its place if a row breaks its reference. It may if sqlite3 finds the file broken, or would not write
   it so, and if there is a view, a trigger, or an index with a condition or an expression; then the program may also miss a
-  table (H0, H4). If nothing is damaged, `state` and `audit` print just the lines of docs/FORMATS.md for these rows and
-  bytes.
+  table (H0, H4). If nothing is damaged, `state`, `digests`, `due` and `audit` print just the lines of docs/FORMATS.md for
+  these rows and bytes.
 
 A case depends on the seed and its number alone. `--only N` runs that one, and leaves its files, as the program finds
 them, in `hostile.N`. 300 cases take minutes; TMPDIR=/dev/shm, where the vaults then stand, makes it fast. It needs
@@ -56,7 +56,7 @@ FAULTS = (sqlite3.Error, ValueError, OverflowError)
 
 # ---- the vaults
 
-LATER = "--now 2027-08-04T10:00:00Z"
+LATER, LATER_DAY = "--now 2027-08-04T10:00:00Z", 21_034
 INIT = "init --blocks 8 --number 0000000000000001"
 HELD = f"""{INIT}; register example --first 2026-08-02
 put example_2026-08-02_full_S1_R0.ryde --now 2026-08-02T10:00:00Z"""
@@ -71,11 +71,12 @@ put example_2026-08-04_full_S1_R1.ryde {LATER}; purge {LATER}
 put example_2026-08-05_diff_S1_R0.ryde {LATER}; put other_2026-08-04_full_S1_R0.ryde {LATER}
 release R-1 example operator {LATER}; release R-2 other order {LATER}
 hold H-1 example --date 2026-08-05 {LATER}; hold H-0 other --date 2026-08-04 {LATER}; lift H-0 {LATER}"""
-READS = ("state", "report example", "audit", "fetch R-1 example_2026-08-05_diff_S1_R0.ryde")
+READS = ("state", "report example", "digests example", f"due {LATER}", "audit",
+         "fetch R-1 example_2026-08-05_diff_S1_R0.ryde")
 PUT = "put example_2026-08-06_full_S1_R0.ryde --now 2026-08-06T12:00:00Z"
 VERIFY = f"verify example --date 2026-08-06 --kind full --revision 0 --parts 1 --id X {LATER}"
 REFUSALS = {
-    "report": "Q2", "fetch": "Q6 Q18 Q19", "put": "Q2 Q3 Q5 Q6 Q7 Q8 Q9 Q10 Q11", "verify": "Q2 Q3 Q6 Q8 Q9 Q12 Q13"}
+    "report": "Q2", "digests": "Q2", "fetch": "Q6 Q18 Q19", "put": "Q2 Q3 Q5 Q6 Q7 Q8 Q9 Q10 Q11", "verify": "Q2 Q3 Q6 Q8 Q9 Q12 Q13"}
 
 
 def read(folder: str) -> Files:
@@ -424,7 +425,7 @@ def line_of(row: tuple) -> str:
 
 
 def answers(rows: Rows, volume: bytes) -> dict[str, bytes]:
-    """The output of `state` and of `audit`, where nothing is damaged."""
+    """The output of the calls that read records, where nothing is damaged."""
     lines, damaged, free, held = [], "", rows["meta"][0].blocks - 1, 0
     for tld, first in sorted(rows["registry"]):
         lines.append(f"registry {tld.decode()} {date_of(first)}")
@@ -442,7 +443,28 @@ def answers(rows: Rows, volume: bytes) -> dict[str, bytes]:
         end = "" if lifted is None else f" lifted {moment_of(lifted)}"
         lines.append(f"hold {reference.decode()} {tld.decode()} {date_of(day)} {moment_of(at)}{end}")
     lines.append(f"free {free} of {rows['meta'][0].blocks - 1}\n")
-    return {"state": "\n".join(lines).encode(), "audit": (damaged or f"sound {held}\n").encode()}
+    return {"state": "\n".join(lines).encode(), "audit": (damaged or f"sound {held}\n").encode(),
+            "digests example": digests(rows), f"due {LATER}": due(rows)}
+
+
+def digests(rows: Rows) -> bytes:
+    """The output of `digests example`, which is nothing where there is no such registry."""
+    parts = sorted((row for row in rows["part"] if row.tld == b"example"), key=lambda part: part[:4])
+    return b"".join(b"%s  %s\n" % (part.sha.hex().encode(), name_of(part)) for part in parts)
+
+
+def due(rows: Rows) -> bytes:
+    """The output of `due` at the later moment."""
+    noticed = {(row.tld, row.day) for row in rows["notice"]}
+    held = Counter((row.tld, row.day, row.rev) for row in rows["part"] if row.extents is not None)
+    lines = []
+    for tld, first in sorted(rows["registry"]):
+        for day in range(first, LATER_DAY):
+            if (tld, day) not in noticed:
+                name = f"{tld.decode()} {date_of(day)}"
+                lines.append(f"due {name}\n")
+                lines += [f"parts {name} {rev} {held[tld, day, rev]}\n" for rev in range(100) if held[tld, day, rev]]
+    return "".join(lines).encode()
 
 
 # ---- a case

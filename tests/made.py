@@ -68,15 +68,22 @@ def word_of(block: str) -> Word:
     return Word(field("id", block), name, "required: false" not in block, field("help", block))
 
 
+def words_in(listed: str, indent: int, shared: dict[str, Word]) -> list[Word]:
+    """The words of a list whose items stand at this indentation, some by their names."""
+    found = re.finditer(rf"\bWord \{{(.*?\n {{{indent}}}\}}),|\b([A-Z]+)\b(?=[,\]])", listed, re.DOTALL)
+    return [shared[it[2]] if it[2] else word_of(it[1]) for it in found]
+
+
 def table() -> list[Row]:
     source = (CLI / "subcommands.rt").read_text()
     named = re.finditer(r"const (\w+): Word<.*?= Word \{(.*?)\n\};", source, re.DOTALL)
     shared = {it[1]: word_of(it[2]) for it in named}
+    several = {it[1]: words_in(it[2], 4, shared)
+               for it in re.finditer(r"const (\w+): &\[Word<.*?= &\[\n(.*?)\n\];", source, re.DOTALL)}
     rows = []
     for it in re.finditer(r"static \w+: Row<.*?= Row \{\n(.*?)\n\};", source, re.DOTALL):
-        head, listed = it[1].split("words: &[", 1)
-        found = re.finditer(r"\bWord \{(.*?\n {8}\}),|\b([A-Z]+)\b(?=[,\]])", listed, re.DOTALL)
-        words = [shared[at[2]] if at[2] else word_of(at[1]) for at in found]
+        head, listed = it[1].split("words: ", 1)
+        words = several.get(listed.rstrip(",")) or words_in(listed.removeprefix("&["), 8, shared)
         rows.append(Row(field("name", head), field("about", head), field("after", head), words))
     return rows
 

@@ -11,6 +11,15 @@ $ {VERIFY} --date {DAY} --kind f --id a-b --now 0 -> !2 bad value for KIND
 $ {VERIFY} --date {DAY} --kind full --id a-b --now 0 -> !2 bad value for ID
 $ {VERIFY} --date {DAY} --kind full --id X --now 0 -> !2 bad value for NOW
 $ escrow $'\xff' -> !2 error: an argument is no text
+== a limit of absences is a number from 0 to a million
+$ mkdir d
+$ for n in -1 1000001 x ''; do escrow sweep d --at-most "$n" 2>> errors || echo $?; done -> 2
+2
+2
+2
+$ grep -c "invalid value '.*' for '--at-most <N>'" errors -> 3
+$ escrow sweep d --at-most 1 --at-most 2 2> errors -> !2
+$ escrow sweep d --at-most 1000000 -> !3 file failed: d/vault.vol: file missing
 == after the words come the file of a part and the folder which is not made
 $ mkdir in; touch in/{PART}
 $ {VERIFY} --date {DAY} --kind full --id X -> !3 file failed: nowhere: folder missing

@@ -48,7 +48,45 @@ $ escrow sweep d --now 2026-08-05T00:00:00Z
 $ escrow register d later --first 2026-08-06 -> registered later 2026-08-06
 $ escrow sweep d --now 2026-08-05T23:59:59Z
 $ escrow report d example -> {RECEIPT}
-{ABSENCES}""")
+{ABSENCES}
+== a preview is of the statement and records nothing
+$ vault d
+$ escrow preview d {stated()} -> !1 Q12 parts differ
+$ cp ../full {PART}; escrow put d {PART} --now {TEN} -> received {PART} 1422 {TEN}
+$ escrow state d > before
+$ escrow preview d {stated(number="X")} -> {notice(0, "FAILURE-04", DAY, FIVE, "X")}
+$ escrow preview d {stated()} -> {RECEIPT.replace("1", "0", 1)}
+$ escrow preview d {stated().replace("example", "other")} -> !1 Q2 registry unknown
+$ escrow preview d {stated(kind="diff")} -> !1 Q9 type differs
+$ escrow state d | cmp before -
+$ escrow verify d {stated()} -> {RECEIPT}
+$ escrow preview d {stated(at="2026-08-03T00:00:00Z")} -> {RECEIPT.replace("1", "0", 1)}
+$ escrow preview d {stated(number="X")} -> !1 Q8 already stated
+== the days that a sweep would record are listed with the parts that wait
+$ vault d
+$ escrow due d --now 2026-08-02T23:59:59Z
+$ cp ../full {PART}; escrow put d {PART} --now {TEN} -> received {PART} 1422 {TEN}
+$ escrow state d > before
+$ escrow due d --now 2026-08-04T00:00:00Z -> due example {DAY}
+parts example {DAY} 0 1
+due example {MONDAY}
+$ escrow state d | cmp before -
+$ escrow verify d {stated()} -> {RECEIPT}
+$ escrow register d a --first {TUESDAY} -> registered a {TUESDAY}
+$ escrow due d --now 2026-08-05T00:00:00Z -> due a {TUESDAY}
+due example {MONDAY}
+due example {TUESDAY}
+$ escrow sweep d --now 2026-08-05T00:00:00Z -> {notice(1, "ABSENCE", TUESDAY, "2026-08-05T00:00:00Z", tld="a")}
+{ABSENCES}
+$ escrow due d --now 2026-08-05T00:00:00Z
+== a sweep of more absences than it may record records none
+{PASSED}
+$ escrow state d > before
+$ escrow sweep d --at-most 1 --now 2026-08-05T00:00:00Z -> !1 Q23 too many absences: 2
+$ escrow sweep d --at-most 0 --now 2036-01-01T00:00:00Z -> !1 Q23 too many absences: 3438
+$ escrow state d | cmp before -
+$ escrow sweep d --at-most 2 --now 2026-08-05T00:00:00Z -> {ABSENCES}
+$ escrow sweep d --at-most 0 --now 2026-08-05T00:00:00Z""")
 
 
 def sent(kind: str, verdict: str, day: str, previous: str = "", count: int = 0, rows: str = "", keys: str = "") -> tuple:
@@ -100,9 +138,12 @@ def in_this_order(room: Room, *deposits: tuple) -> None:
     for kind, verdict, day, content, *commands in deposits:
         name, put, at = part_name(day, kind), f"{day}T10:00:00Z", f"{day}T10:05:00Z"
         room.put("d", name, content, put)
+        told = verdict
         if not verdict.startswith("!"):
-            verdict = notice(len(notices) + 1, verdict, day, at, day.replace("-", "") + "001")
-            notices.append(verdict)
+            told, verdict = (notice(it, verdict, day, at, day.replace("-", "") + "001") for it in (0, len(notices) + 1))
+        reported = ["$ escrow report d example", *notices]
+        notices += [] if verdict.startswith("!") else [verdict]
         room.plays("\n".join((*commands, f"$ escrow state d | grep {name} -> part {name} {len(content)} held {put}",
+                              f"$ escrow preview d {stated(day, kind, at)} -> {told}", *reported,
                               f"$ escrow verify d {stated(day, kind, at)} -> {verdict}",
                               "$ escrow report d example", *notices)))

@@ -8,7 +8,7 @@ from collections.abc import Callable, Iterator
 from concurrent.futures import ThreadPoolExecutor
 
 from http_sockets import LARGE_HELD, kept
-from lib import DAY, FIVE, PART, TEN, TOP, Room, case, free_port, notice, part_name, statement
+from lib import DAY, FIVE, PART, TEN, TOP, Room, case, free_port, notice, part_name, state, statement
 
 TOOLS = "curl nginx openssl"
 SECOND, THIRD, OTHER = part_name(part=2), part_name(part=3), part_name(tld="other")
@@ -124,7 +124,7 @@ def what_a_registry_may_not_ask_is_stopped(room: Room) -> None:
                 f"-T hello $url/deposits/example_/../{OTHER}", f"-T hello $url/deposits/./{PART}",
                 f"-T hello $url//deposits/{PART}", f"-T hello $url/deposits/{PART}?x=1",
                 f"-T hello $url/deposits/%65{PART[1:]}", f"-T hello $url/deposits/{PART.replace('_', '%5f', 1)}",
-                "$url/notices/example?tld=other", "$url/notices/example/")),
+                "$url/notices/example?tld=other", "$url/notices/example/", "$url/state", "$url/due", "$url/digests/example")),
             ("long", 403, None, "$url/notices/example"),
             ("stranger", 400, None, "$url/notices/example"),
             ("", 400, None, "$url/notices/example"),
@@ -135,8 +135,9 @@ def what_a_registry_may_not_ask_is_stopped(room: Room) -> None:
 def the_operator_may_ask_everything(room: Room) -> None:
     room.vault("d", 300)
     room.put("d", PART, BODIES["large"], TEN)
-    with room.serve("d", 8, FIVE) as server, gateway(room, server.port) as ask:
+    with room.serve("d", 9, FIVE) as server, gateway(room, server.port) as ask:
         asks(room, ask, (
+            ("operator", 200, state(43, LARGE_HELD, blocks=300), "$url/state"),
             ("operator", 200, f"registered example {DAY}", "-X PUT -d @first $url/registries/example"),
             ("operator", 201, FAILURE, "-d @statement $url/statements"),
             ("operator", 409, "Q14 not yet due", f"-d '' $url/checks/example/{DAY}"),

@@ -60,6 +60,9 @@ METHODS = (
     ("GET /releases/R-1", None, "PUT"),
     (f"PUT /releases/R-1/{PART}", HELLO, "GET"),
     ("DELETE /notices/example", None, "GET"),
+    ("POST /state", "", "GET"),
+    ("POST /due", "", "GET"),
+    ("PUT /digests/example", HELLO, "GET"),
     ("DELETE /purges", None, "POST"),
     ("post /purges", None, "POST"))
 

@@ -1,7 +1,9 @@
 """The routes, asked by curl: what each does, what it refuses, and its responses byte for byte."""
+import hashlib
+import re
 from pathlib import Path
 
-from lib import DAY, DEPOSIT, PART, TEN, Room, each, notice, part_name, state, stated, statement
+from lib import DAY, DEPOSIT, PART, TEN, TOP, Room, case, each, notice, part_name, state, stated, statement
 
 EARLIER, LATER, FIFTH = part_name("2026-08-01", "diff"), part_name("2026-08-05"), "2026-08-05T00:00:00Z"
 SECOND, REVISION = part_name(part=2), part_name(revision=1)
@@ -14,6 +16,8 @@ RELEASED = f"released R-1 example operator {TEN} 2\n{EARLIER}\n{PART}"
 KEPT = [f"part {EARLIER} 5 held {TEN}", f"part {PART} 1422 held {TEN}"]
 ABSENCES = [notice(number, "ABSENCE", f"2026-08-0{day}", FIFTH) for number, day in ((2, 3), (3, 4), (4, 1))]
 REPORT = "\n".join([RECEIPT, *ABSENCES])
+DUE = "due example 2026-08-01\nparts example 2026-08-01 0 1\ndue example 2026-08-03\ndue example 2026-08-04"
+DIGESTS = "\n".join(f"{hashlib.sha256(sent).hexdigest()}  {name}" for sent, name in ((b"hello", EARLIER), (DEPOSIT, PART)))
 
 # A vault of a registry with a part of its first day and a deposit of the next; that nothing has changed in it; its receipt.
 BEGUN = f"""$ vault d 8 2026-08-01
@@ -101,6 +105,14 @@ $ echo -n hello > {PART}; escrow put d {PART} --now {TEN} -> received {PART} 5 {
         ("POST /checks/example/2026-08-04", "", 201, ABSENCES[1]),
         ("POST /checks/example/2026-08-01", "", 201, ABSENCES[2]),
         ("GET /notices/example", None, 200, REPORT)), f"$ escrow report d example -> {REPORT}"),
+    ("what is due and what was received is read", STATED, FIFTH, (
+        ("GET /due", None, 200, DUE),
+        ("GET /digests/example", None, 200, DIGESTS),
+        ("GET /digests/other", None, 404, "Q2 registry unknown"),
+        ("GET /state", None, 200, state(5, *KEPT, RECEIPT, first="2026-08-01")),
+        ("POST /checks/example/2026-08-03", "", 201, ABSENCES[0]),
+        ("GET /due", None, 200, DUE.replace("due example 2026-08-03\n", "")),
+        ("GET /state", None, 200, state(5, *KEPT, RECEIPT, ABSENCES[0], first="2026-08-01"))), ""),
     ("a purge drops what was kept for a year", f"""{STATED}
 $ escrow release d R-1 example operator --now {TEN} -> {RELEASED}
 $ cp {EARLIER} {LATER}; escrow put d {LATER} --now {FIFTH} -> received {LATER} 5 {FIFTH}""", "2027-08-05T23:59:59Z", (
@@ -123,3 +135,22 @@ def routes(room: Room, before: str, now: str, rows: tuple[tuple, ...], after: st
     room.plays(before)
     room.asks("d", rows, now, **how)
     room.plays(after)
+
+
+@case("curl")
+def what_is_read_is_what_the_program_prints(room: Room) -> None:
+    room.plays(STATED)
+    commands = {"/state": "state d", "/due": f"due d --now {FIFTH}", "/digests/example": "digests d example"}
+    printed = {path: room.run(f"escrow {words}").out for path, words in commands.items()}
+    room.asks("d", [(f"GET {path}", None, 200, text.decode().removesuffix("\n")) for path, text in printed.items()], FIFTH)
+    room.equal(printed["/state"], room.run("escrow state d").out, "the state")
+
+
+@case("curl")
+def a_sweep_by_requests_records_what_is_due(room: Room) -> None:
+    room.plays(STATED)
+    loop = re.search("```sh\n(.*?)```", (TOP / "docs/OPERATING.md").read_text().split("\n## Over HTTP\n")[1], re.DOTALL)[1]
+    with room.serve("d", 4, FIFTH) as server:
+        swept = room.run(loop.replace("8080", str(server.port)))
+        absences = (notice(2 + at, "ABSENCE", f"2026-08-0{day}", FIFTH) for at, day in enumerate((1, 3, 4)))
+        room.equal("".join(f"{line}\n" for line in absences), swept.out.decode(), "the checks")

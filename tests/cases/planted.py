@@ -7,8 +7,8 @@ from lib import TOP, Room, each
 @each((
     ("a wrong status", "keeping.a_hold_is_recorded_once",
      '"$program" "$@"; status=$?; [ "$1 $status" != "hold 1" ] || exit 2; exit $status'),
-    ("a line too many", "deposits.a_day_without_a_deposit_has_one_absence",
-     '"$program" "$@"; status=$?; [ "$1" != sweep ] || echo one more; exit $status'),
+    ("a line too many", "deposits.the_days_that_a_sweep_would_record_are_listed_with_the_parts_that_wait",
+     '"$program" "$@"; status=$?; [ "$1" != due ] || echo one more; exit $status'),
     ("a part without its last byte", "releases.a_part_of_a_release_is_fetched_as_it_was_sent",
      '[ "$1" = fetch -a -f /dev/stdout ] || exec "$program" "$@"; "$program" "$@" | head -c -1; exit ${PIPESTATUS[0]}'),
 ))

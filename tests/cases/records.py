@@ -22,6 +22,14 @@ $ sqlite3 d/custody.db 'SELECT lower(hex(sha)), hex(extents) FROM part'
 {hashlib.sha256(b"hello").hexdigest()}|0000000100000001
 $ sqlite3 d/custody.db 'SELECT (SELECT count(*) FROM notice), (SELECT count(*) FROM handover)' -> 0|0
 $ escrow state d -> {state(6, f"part {PART} 5 held {TEN}")}
+== the digests are those of the database and sha256sum reads them
+$ cp ../full {PART}; escrow put d {PART} --now {TEN} -> received {PART} 1422 {TEN}
+$ escrow digests d example > sums
+$ sha256sum -c sums -> {PART}: OK
+$ sqlite3 d/custody.db "SELECT lower(hex(sha)) || '  {PART}' FROM part" | cmp sums -
+$ escrow purge d --now 2027-08-03T00:00:00Z -> dropped 1
+$ escrow digests d example | cmp sums -
+$ escrow digests d other -> !1 Q2 registry unknown
 == a part of 256 blocks is one extent
 $ vault many 300; truncate -s 1M {PART}; escrow put many {PART} --now {TEN} -> received {PART} 1048576 {TEN}
 $ sqlite3 many/custody.db 'PRAGMA integrity_check' -> ok
