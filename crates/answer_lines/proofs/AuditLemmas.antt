@@ -24,21 +24,23 @@ are_damaged = record { none = refl; more = λ name names. refl }
 
 -- ---- the parts that are held, by the rows of their table
 
-is_held : (row : Part) → is_some (part_value row).extents ≡ is_some row.extents
+pub is_held : (row : Part) → is_some (part_value row).extents ≡ is_some row.extents
 is_held row = by row.extents
   where
     by : (o : Option (Vec Extent Global)) → is_some (option_map (λ (v : Vec Extent Global). v.items) o) ≡ is_some o
     by None = refl
     by (Some extents) = refl
 
-count_entries : (n : ℕ) (rows : List Part) → fold (λ k (e : PartKey × PartRecord). k + cond (is_some e.1.extents) 1 0) n (row_entries key_of_part part_value rows) ≡ fold (λ k (row : Part). k + cond (is_some row.extents) 1 0) n rows
-count_entries n [] = refl
-count_entries n (row ∷ rows) =
-    ap (λ (b : Bool). fold (λ k (e : PartKey × PartRecord). k + cond (is_some e.1.extents) 1 0) (n + cond b 1 0) (row_entries key_of_part part_value rows)) (is_held row)
-    ∙ count_entries (n + cond (is_some row.extents) 1 0) rows
+-- entries are counted as the rows are that they stand for
+pub count_rows : (of_entry : PartKey × PartRecord → Bool) (of_row : Part → Bool) → ((row : Part) → of_entry (key_of_part row, part_value row) ≡ of_row row) → (n : ℕ) (rows : List Part)
+    → fold (λ k (e : PartKey × PartRecord). k + cond (of_entry e) 1 0) n (row_entries key_of_part part_value rows) ≡ fold (λ k (row : Part). k + cond (of_row row) 1 0) n rows
+count_rows of_entry of_row same n [] = refl
+count_rows of_entry of_row same n (row ∷ rows) =
+    ap (λ (b : Bool). fold (λ k (e : PartKey × PartRecord). k + cond (of_entry e) 1 0) (n + cond b 1 0) (row_entries key_of_part part_value rows)) (same row)
+    ∙ count_rows of_entry of_row same (n + cond (of_row row) 1 0) rows
 
 pub held_rows : (records : Records) (rows : List Part) → records.parts ≡ table_map part_cmp key_of_part part_value rows → is_rising part_cmp key_of_part rows ≡ true
     → count_by (λ (row : Part). is_some row.extents) rows ≡ count_held_parts records
 held_rows records rows all rising =
-    sym (count_entries 0 rows)
+    sym (count_rows (λ e. is_some e.1.extents) (λ row. is_some row.extents) is_held 0 rows)
     ∙ ap (count_by (λ (e : PartKey × PartRecord). is_some e.1.extents)) (sym (ap entries all ∙ entries-table_map part_cmp key_of_part part_value rows rising))

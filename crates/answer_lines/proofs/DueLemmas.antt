@@ -1,12 +1,10 @@
 -- What a writer holds after the lines of days that are due.
-use Rattle.std.proofs.Common.{◌≡◌, ◌∙◌, ℕ, zero, suc, ◌+◌, ◌<◌, List, [], ◌∷◌, Option, Some, None, Bool, false, cond, Vec, Global, refl, map, sym, ap, arith, append-nil, get_or}
-use Rattle.std.specs.Prelude.{◌==◌, ◌&&◌, count_by, is_some, option_map}
-use Rattle.std.specs.List.{flat_map, fold, range_with_len}
+use Rattle.std.proofs.Common.{◌≡◌, ◌∙◌, ℕ, zero, suc, ◌<◌, List, [], ◌∷◌, Bool, false, cond, refl, map, sym, ap, arith, append-nil, get_or}
+use Rattle.std.specs.Prelude.{◌==◌, ◌&&◌, count_by, is_some}
+use Rattle.std.specs.List.{flat_map, range_with_len}
 use Rattle.std.proofs.lemmas.List.FromFn.{get_or-range_with_len}
-use Rattle.extent_map.specs.declared.extent.Extent.{Extent}
 use Rattle.custody_records.specs.declared.parts.Part.{Part}
-use Rattle.custody_records.specs.Keys.{PartKey}
-use Rattle.custody_records.specs.Records.{PartRecord, Records}
+use Rattle.custody_records.specs.Records.{Records}
 use Rattle.custody_records.specs.Tables.{row_entries}
 use Rattle.custody_records.specs.TypedRecords.{key_of_part, part_value}
 use Rattle.custody_rules.specs.DueDays.{due_day_pair}
@@ -17,6 +15,7 @@ use Rattle.answer_lines.specs.Printing.{as_line}
 use Rattle.answer_lines.specs.State.{lines_text}
 use Rattle.answer_lines.specs.declared.lines.Line.{Line}
 use Rattle.answer_lines.specs.declared.lines.Line.TheVariants as line
+use Rattle.answer_lines.proofs.AuditLemmas.{count_rows, is_held}
 use Rattle.answer_lines.proofs.PrintLemmas.{IsTextOf, lines_text-append}
 
 -- the lines of each day
@@ -32,22 +31,8 @@ revision_at rev lt = omega (arith, get_or-range_with_len 0 100 rev rev lt)
 
 -- ---- the parts of a revision that are held, by the rows of their table
 
-is_held : (row : Part) → is_some (part_value row).extents ≡ is_some row.extents
-is_held row = by row.extents
-  where
-    by : (o : Option (Vec Extent Global)) → is_some (option_map (λ (v : Vec Extent Global). v.items) o) ≡ is_some o
-    by None = refl
-    by (Some extents) = refl
-
-count_entries : (rev n : ℕ) (rows : List Part) → fold (λ k (e : PartKey × PartRecord). k + cond (is_held_part_of rev e) 1 0) n (row_entries key_of_part part_value rows)
-    ≡ fold (λ k (row : Part). k + cond (row.name.rev == rev && is_some row.extents) 1 0) n rows
-count_entries rev n [] = refl
-count_entries rev n (row ∷ rows) =
-    ap (λ (b : Bool). fold (λ k (e : PartKey × PartRecord). k + cond (is_held_part_of rev e) 1 0) (n + cond (row.name.rev == rev && b) 1 0) (row_entries key_of_part part_value rows)) (is_held row)
-    ∙ count_entries rev (n + cond (row.name.rev == rev && is_some row.extents) 1 0) rows
-
 pub held_rows_of : (rev : ℕ) (rows : List Part) → count_by (λ (row : Part). row.name.rev == rev && is_some row.extents) rows ≡ count_by (is_held_part_of rev) (row_entries key_of_part part_value rows)
-held_rows_of rev rows = sym (count_entries rev 0 rows)
+held_rows_of rev rows = sym (count_rows (is_held_part_of rev) (λ row. row.name.rev == rev && is_some row.extents) (λ row. ap (λ (b : Bool). row.name.rev == rev && b) (is_held row)) 0 rows)
 
 -- ---- the line of a revision, by the count of its held parts
 
