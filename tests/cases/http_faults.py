@@ -109,5 +109,6 @@ def a_volume_that_cannot_be_written_closes_the_vault(room: Room) -> None:
     routes(room, "$ vault d 300", TEN, (
         (PUT, LARGE, 503, "C2 volume failed"),
         (PUT, "hello", 503, "C4 closed"),
-        ("GET /notices/example", None, 503, "C4 closed")), f"$ escrow state d -> {state(299, blocks=300)}",
+        *((f"GET /{path}", None, 503, "C4 closed") for path in ("notices/example", "state", "due", "digests/example"))),
+        f"$ escrow state d -> {state(299, blocks=300)}",
         under=("env", "--ignore-signal=XFSZ", "prlimit", "--fsize=700000"))
