@@ -20,7 +20,7 @@ use Rattle.custody_machine.proofs.Options.{is_there, some_is, unmapped}
 use Rattle.custody_machine.proofs.SameValues.{text_decides}
 use Rattle.custody_rules.specs.DueDays.{due_days, due_days_of, is_unnoticed}
 use Rattle.agent_cli.specs.DueSwept.{DueIsChecked, WouldRecordAbsence, with_absence}
-use Rattle.agent_cli.proofs.Elements.{IsIn, Differ, contained, entries_differ, filtered_differ, filtered_in, flattened_in, get_in, got_in, in_filtered, in_flattened, in_ranged, is_in, ranged_differ, ranged_in}
+use Rattle.custody_records.proofs.Elements.{IsIn, Differ, contained, entries_differ, filtered_differ, filtered_in, flattened_in, get_in, got_in, in_filtered, in_flattened, in_ranged, is_in, ranged_differ, ranged_in}
 
 abbrev any_kind : NoticeKind → Bool
 any_kind kind = true

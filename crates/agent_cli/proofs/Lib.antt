@@ -1,5 +1,4 @@
 mod DueLemmas
-mod Elements
 pub mod Examples
 pub mod FoldLemmas
 pub mod FormLemmas

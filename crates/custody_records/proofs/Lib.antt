@@ -8,3 +8,4 @@ pub mod ReadLemmas
 pub mod MetaLemmas
 pub mod GroupLemmas
 pub mod LineLemmas
+pub mod Elements

@@ -1,18 +1,12 @@
 -- The lines of `digests` stay: first from place to place, then from records to their lists.
-use Rattle.std.proofs.Common.{◌≡◌, ◌⊎◌, inl, inr, ℕ, suc, zero, ◌<◌, length, List, [], ◌∷◌, Option, Some, None, Bool, true, false, ◌&&◌, if◌then◌else◌, refl, sym, ◌∙◌, ap, subst, cond, arith, Contains, map}
-use Rattle.std.specs.Prelude.{T, slice_index_or}
-use Rattle.std.specs.List.{filter}
-use Rattle.std.specs.FinMap.{IsAntisymmetric, entries, entries_sorted, get, get-entries, find, is_sorted}
-use Rattle.std.specs.FinMap.Entries.{below_all}
-use Rattle.std.specs.Ordering.{is_eq, is_lt, ordering_reverse}
-use Rattle.std.specs.Cmp.{IsTotalOrder, tied_itself, Equal-is}
-use Rattle.std.specs.declared.cmp.Ordering.{Ordering}
-use Rattle.std.specs.declared.cmp.Ordering.TheVariants.{Less, Equal, Greater}
-use Rattle.std.proofs.lemmas.List.Elements.{All-map, All-weaker, All-contains, All-contains_itself, All-filter, filter_passes}
+use Rattle.std.proofs.Common.{◌≡◌, inl, inr, ℕ, List, [], ◌∷◌, Option, Some, None, Bool, true, false, if◌then◌else◌, refl, sym, ◌∙◌, ap, subst, Contains}
+use Rattle.std.specs.FinMap.{entries, get}
+use Rattle.std.specs.Ordering.{is_eq}
 use Rattle.custody_records.specs.Keys.{PartKey, text_cmp}
 use Rattle.custody_records.specs.Records.{PartRecord, Records, key_of, name_of, parts_of}
 use Rattle.custody_records.specs.Rows.{Rows}
 use Rattle.custody_records.specs.inside.Orders.{part_total, part_exact}
+use Rattle.custody_records.proofs.Elements.{contained, filtered_in, get_in, got_in, in_filtered, in_mapped, is_in, mapped_in}
 use Rattle.custody_records.proofs.FormLemmas.{InForm-injective}
 use Rattle.custody_machine.specs.State.{State}
 use Rattle.custody_machine.specs.Machine.{TimedCommand}
@@ -99,98 +93,6 @@ one_records (Serving there image) a b is_a is_b = is_a ∙ sym is_b
 one_records (Shut there image doubt) a b is_a is_b = is_a ∙ sym is_b
 one_records (Left rows image) a b is_a is_b = InForm-injective a b (sym is_a.0 ∙ is_b.0)
 
--- ---- members of lists
-
-module _ {X : Type 0} where
-  here : (x : X) (xs : List X) → Contains (x ∷ xs) x
-  here x xs = (0, omega arith, refl)
-
-  behind : (y : X) (xs : List X) (x : X) → Contains xs x → Contains (y ∷ xs) x
-  behind y xs x c = let lt : c.0 < length xs = c.1 in (suc c.0, omega (arith, lt), c.2)
-
-  first_or_behind : (y : X) (xs : List X) (x : X) → Contains (y ∷ xs) x → (y ≡ x) ⊎ Contains xs x
-  first_or_behind y xs x c = by c.0 c.1 c.2
-    where
-      by : (k : ℕ) → k < length (y ∷ xs) → slice_index_or (y ∷ xs) k x ≡ x → (y ≡ x) ⊎ Contains xs x
-      by zero lt is = inl is
-      by (suc k) lt is = inr (k, omega (arith, lt), is)
-
-  in_none : (x : X) → Contains [] x → ⊥
-  in_none x c = let lt : c.0 < 0 = c.1 in omega (arith, lt)
-
-  -- what passes is kept by a filter
-  in_filter : (p : X → Bool) (xs : List X) (x : X) → Contains xs x → p x ≡ true → Contains (filter p xs) x
-  in_filter p [] x c pass = absurd (in_none x c)
-  in_filter p (y ∷ xs) x c pass = by (p y) refl (first_or_behind y xs x c) (λ d. in_filter p xs x d pass)
-    where
-      by : (b : Bool) → p y ≡ b → (y ≡ x) ⊎ Contains xs x → (Contains xs x → Contains (filter p xs) x) → Contains (cond b (y ∷ filter p xs) (filter p xs)) x
-      by true is (inl same) rest = subst (Contains (y ∷ filter p xs)) same (here y (filter p xs))
-      by true is (inr c) rest = behind y (filter p xs) x (rest c)
-      by false is (inl same) rest = let passes : p y ≡ true = ap p same ∙ pass in cc
-      by false is (inr c) rest = rest c
-
-  from_filter : (p : X → Bool) (xs : List X) (x : X) → Contains (filter p xs) x → Contains xs x × (p x ≡ true)
-  from_filter p xs x c = (All-contains (Contains xs) (filter p xs) x (All-filter p (Contains xs) xs (All-contains_itself xs)) c, All-contains (λ y. p y ≡ true) (filter p xs) x (filter_passes p xs) c)
-
-module _ {X Y : Type 0} (f : X → Y) where
-  in_map : (xs : List X) (x : X) → Contains xs x → Contains (map f xs) (f x)
-  in_map [] x c = absurd (in_none x c)
-  in_map (y ∷ xs) x c = by (first_or_behind y xs x c) (in_map xs x)
-    where
-      by : (y ≡ x) ⊎ Contains xs x → (Contains xs x → Contains (map f xs) (f x)) → Contains (f y ∷ map f xs) (f x)
-      by (inl same) rest = subst (Contains (f y ∷ map f xs)) (ap f same) (here (f y) (map f xs))
-      by (inr c) rest = behind (f y) (map f xs) (f x) (rest c)
-
-  from_map : (xs : List X) (y : Y) → Contains (map f xs) y → (x : X) × Contains xs x × (f x ≡ y)
-  from_map xs y c =
-      All-contains (λ y. (x : X) × Contains xs x × (f x ≡ y)) (map f xs) y
-      (All-map (λ y. (x : X) × Contains xs x × (f x ≡ y)) f xs (All-weaker (Contains xs) (λ x. (z : X) × Contains xs z × (f z ≡ f x)) (λ x d. (x, d, refl)) xs (All-contains_itself xs))) c
-
--- ---- entries of maps
-
-both : (a b : Bool) → T (a && b) → T a × T b
-both true b h = (tt, h)
-both false b h = absurd h
-
-less : (r : Ordering) → T (is_lt r) → r ≡ Less
-less Less h = refl
-less Equal h = absurd h
-less Greater h = absurd h
-
-module _ {K X : Type 0} {R : K → K → Ordering} where
-  -- what is found is an entry
-  in_entries : IsAntisymmetric R → (q : K) (x : X) (es : List (K × X)) → find R q es ≡ Some x → Contains es (q, x)
-  in_entries exact q x [] found = cc
-  in_entries exact q x (e ∷ es) found = by (is_eq (R q e.0)) refl found (in_entries exact q x es)
-    where
-      by : (b : Bool) → is_eq (R q e.0) ≡ b → cond b (Some e.1) (find R q es) ≡ Some x → (find R q es ≡ Some x → Contains es (q, x)) → Contains (e ∷ es) (q, x)
-      by true is found rest =
-          let key : e.0 ≡ q = sym (exact q e.0 ((Equal-is (R q e.0)).0 is)) in
-          let value : e.1 ≡ x = cc in
-          subst (Contains (e ∷ es)) (λ i. (key i, value i)) (here e es)
-      by false is found rest = behind e es (q, x) (rest found)
-
-  module _ (o : IsTotalOrder R) where
-    above : (k : K) (es : List (K × X)) (e : K × X) → T (below_all R k es) → Contains es e → R k e.0 ≡ Less
-    above k [] e low c = absurd (in_none e c)
-    above k (x ∷ es) e low c = let parts = both (is_lt (R k x.0)) (below_all R k es) low in by parts.0 (first_or_behind x es e c) (above k es e parts.1)
-      where
-        by : T (is_lt (R k x.0)) → (x ≡ e) ⊎ Contains es e → (Contains es e → R k e.0 ≡ Less) → R k e.0 ≡ Less
-        by lt (inl same) rest = ap (λ (z : K × X). R k z.0) (sym same) ∙ less (R k x.0) lt
-        by lt (inr c) rest = rest c
-
-    -- an entry is what is found at its key
-    found_entry : (es : List (K × X)) (e : K × X) → T (is_sorted R es) → Contains es e → find R e.0 es ≡ Some e.1
-    found_entry [] e sorted c = absurd (in_none e c)
-    found_entry (x ∷ es) e sorted c = let parts = both (below_all R x.0 es) (is_sorted R es) sorted in by parts.0 (first_or_behind x es e c) (found_entry es e parts.1)
-      where
-        by : T (below_all R x.0 es) → (x ≡ e) ⊎ Contains es e → (Contains es e → find R e.0 es ≡ Some e.1) → cond (is_eq (R e.0 x.0)) (Some x.1) (find R e.0 es) ≡ Some e.1
-        by low (inl same) rest =
-            ap (λ (z : K × X). cond (is_eq (R e.0 z.0)) (Some z.1) (find R e.0 es)) same ∙ ap (λ r. cond (is_eq r) (Some e.1) (find R e.0 es)) (tied_itself o e.0)
-        by low (inr c) rest =
-            let greater : R e.0 x.0 ≡ Greater = o.antisymm e.0 x.0 ∙ ap ordering_reverse (above x.0 es e low c) in
-            ap (λ r. cond (is_eq r) (Some x.1) (find R e.0 es)) greater ∙ rest c
-
 -- ---- the lines
 
 abbrev is_of_registry : List ℕ → PartKey × PartRecord → Bool
@@ -205,18 +107,18 @@ record PartOfLine (records : Records) (tld : List ℕ) (line : Line) : Type 0 wh
 
 part_of_line : (records : Records) (tld : List ℕ) (line : Line) → Contains (digest_lines records tld) line → PartOfLine records tld line
 part_of_line records tld line c =
-    let m = from_map digest_line (parts_of records tld) line c in
-    let f = from_filter (is_of_registry tld) (entries records.parts) m.0 m.1 in record {
+    let m = mapped_in digest_line (parts_of records tld) line (is_in (digest_lines records tld) line c) in
+    let f = filtered_in (is_of_registry tld) (entries records.parts) m.0 m.1 in record {
       entry = m.0;
-      found = get-entries records.parts m.0.0 ∙ found_entry part_total (entries records.parts) m.0 (entries_sorted records.parts) f.0;
+      found = get_in part_total records.parts m.0.0 m.0.1 f.0;
       registry = f.1;
       is_its = m.2;
     }
 
 line_of_part : (records : Records) (tld : List ℕ) (key : PartKey) (part : PartRecord) → get records.parts key ≡ Some part → is_of_registry tld (key, part) ≡ true → Contains (digest_lines records tld) (digest_line (key, part))
 line_of_part records tld key part found of =
-    in_map digest_line (parts_of records tld) (key, part)
-    (in_filter (is_of_registry tld) (entries records.parts) (key, part) (in_entries part_exact key part (entries records.parts) (sym (get-entries records.parts key) ∙ found)) of)
+    contained (digest_lines records tld) (digest_line (key, part)) (in_mapped digest_line (parts_of records tld) (key, part)
+    (in_filtered (is_of_registry tld) (entries records.parts) (key, part) (got_in part_total records.parts key part part_exact found) of))
 
 lines_stay : (before later : Records) (tld : List ℕ) (line : Line) → KeepsDigests before later → Contains (digest_lines before tld) line → Contains (digest_lines later tld) line
 lines_stay before later tld line keeps c =

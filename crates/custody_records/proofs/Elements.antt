@@ -105,6 +105,19 @@ module _ {X Y : Type 0} (f : X → List Y) where
   in_flattened (z ∷ xs) x y (inl e) at = in_first (f z) (flat_map f xs) y (subst (λ w. IsIn (f w) y) (sym e) at)
   in_flattened (z ∷ xs) x y (inr h) at = in_second (f z) (flat_map f xs) y (in_flattened xs x y h at)
 
+-- ---- what a function gives for each element
+
+module _ {X Y : Type 0} (f : X → Y) where
+  pub mapped_in : (xs : List X) (y : Y) → IsIn (map f xs) y → (x : X) × IsIn xs x × (f x ≡ y)
+  mapped_in [] y h = absurd h
+  mapped_in (x ∷ xs) y (inl e) = (x, inl refl, e)
+  mapped_in (x ∷ xs) y (inr h) = let r = mapped_in xs y h in (r.0, inr r.1, r.2)
+
+  pub in_mapped : (xs : List X) (x : X) → IsIn xs x → IsIn (map f xs) (f x)
+  in_mapped [] x h = absurd h
+  in_mapped (y ∷ xs) x (inl e) = inl (ap f e)
+  in_mapped (y ∷ xs) x (inr h) = inr (in_mapped xs x h)
+
 -- ---- numbers in a row
 
 pub differs : (a b : ℕ) → (a == b) ≡ false → a ≢ b
