@@ -1,5 +1,6 @@
 -- What a sweep of the days due records.
 use Rattle.std.proofs.Common.{◌≡◌, ◌==◌, ℕ, List, [], ◌∷◌, Bool, true, false, refl, sym, ◌∙◌, ap, subst, arith, inl, inr, Result, Ok, Err}
+use Rattle.std.specs.Prelude.{is_none}
 use Rattle.std.proofs.lemmas.Bool.Decides.{Decides-eqb}
 use Rattle.vault_volume.specs.declared.volume.Volume as volume
 use Rattle.sqlite.specs.Store.{Ghosts}
@@ -21,7 +22,7 @@ use Rattle.answer_lines.specs.Statuses.{IsStatusAfter, answer_status}
 use Rattle.agent_cli.specs.Acts.{IsSwept}
 use Rattle.agent_cli.specs.DueSwept.{SweepRecordsDue, WouldRecordAbsence, with_absence, with_absences}
 use Rattle.agent_cli.proofs.DueLemmas.{IsDue, due_checked, due_differ, is_due, stays_due}
-use Rattle.agent_cli.proofs.Elements.{Differ, IsIn, differs}
+use Rattle.custody_records.proofs.Elements.{Differ, IsIn, differs}
 
 -- status 0 is that of what is done
 done_of : {T : Type 0} (answer : Result T Refused) → IsStatusAfter (answer_status answer) 0 → (found : T) × (answer ≡ Ok found)
@@ -88,7 +89,7 @@ module _ {V S : Type 0} {g : volume.Ghosts V} {database : Ghosts S} where
       applied = subst (λ answer. HasApplied old (Check day.0 day.1) now answer then) found.1 swept.4.1
 
       opened_then : is_open then ≡ true
-      opened_then = applied.opened opened
+      opened_then = ap is_none (applied.closes opened)
 
       records_then : records_in then ≡ with_absence (records_in old) day now
       records_then = let ruled = (applied.done opened).ruled in

@@ -1,5 +1,6 @@
 -- A call that ends before there is a command.
-use Rattle.std.proofs.Common.{◌≡◌, ◌≢◌, ℕ, ◌<◌, List, Bool, true, false, refl, sym, ap, subst, Result, Err}
+use Rattle.std.proofs.Common.{◌≡◌, ◌≢◌, ℕ, ◌<◌, List, Bool, true, false, refl, sym, ap, subst, Result, Ok, Err}
+use Rattle.std.specs.Prelude.{IfSome}
 use Rattle.sqlite.specs.Store.{Ghosts}
 use Rattle.vault_volume.specs.declared.volume.Volume as volume
 use Rattle.vault_volume.specs.Disk.{LeavesOnly}
@@ -20,7 +21,7 @@ use Rattle.custody.specs.declared.answers.Reply.{Reply}
 use Rattle.custody.specs.declared.answers.Refused.{Refused}
 use Rattle.custody.specs.declared.answers.Refused.TheVariants as refused
 use Rattle.custody.specs.declared.open_custody.OpenCustody.{OpenCustody}
-use Rattle.custody.specs.Answers.{stays_open, may_change}
+use Rattle.custody.specs.Answers.{closing_failure, stays_open, may_change}
 use Rattle.custody.specs.OpenCustody.{current_records, store_state_of, image_of, failures_of, MayLeaveImage, MayLeaveImageSince, KeepsOrder, KeepsImage, KeepsRows, HasExecuted}
 use Rattle.custody.specs.OtherCalls.{RecordsNothing}
 use Rattle.custody.proofs.OpenCustodyLemmas.{order_same}
@@ -67,6 +68,19 @@ module _ {V S : Type 0} {g : volume.Ghosts V} (database : Ghosts S) (old new : O
     where
       back : {i j : List ℕ} → DiffersOnlyIn (IsFree old.vault) i j → DiffersOnlyIn (IsFree old.vault) j i
       back d = record { same_length = sym d.same_length; elsewhere = λ k outside. sym (d.elsewhere k outside) }
+
+-- a command that recorded nothing closes a custody by a failure of the volume, or not
+pub undone_closes : {V S : Type 0} {g : volume.Ghosts V} (database : Ghosts S) (old new : OpenCustody V S g) (command : Command) (now : ℕ) (answer : Result Reply Refused) → may_change answer ≡ false → HasExecuted database old command now answer new → IfSome (closing_failure answer) (λ why. why ≡ failure.VolumeFailed)
+undone_closes database old new command now answer nothing done = by answer nothing done.safe.answers
+  where
+    by : (a : Result Reply Refused) → may_change a ≡ false → a ≢ Err (refused.Failure failure.Closed) → IfSome (closing_failure a) (λ why. why ≡ failure.VolumeFailed)
+    by (Ok reply) n other = tt
+    by (Err (refused.Refusal refusal)) n other = tt
+    by (Err (refused.Failure failure.NoMemory)) n other = tt
+    by (Err (refused.Failure failure.VolumeFailed)) n other = refl
+    by (Err (refused.Failure failure.StoreFailed)) n other = cc
+    by (Err (refused.Failure failure.Closed)) n other = absurd (other refl)
+    by (Err (refused.Failure (failure.Damaged damage))) n other = tt
 
 -- a command that recorded nothing was no more than that
 pub undone_rested : {V S : Type 0} {g : volume.Ghosts V} (database : Ghosts S) (old new : OpenCustody V S g) (command : Command) (now : ℕ) (answer : Result Reply Refused) → KeepsOrder old → may_change answer ≡ false → HasExecuted database old command now answer new → RecordsNothing database old (stays_open answer) new

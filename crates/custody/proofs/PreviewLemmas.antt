@@ -1,6 +1,6 @@
 -- A statement that is previewed.
 use Rattle.std.proofs.Common.{◌≡◌, ℕ, ◌+◌, List, [], Option, None, Some, inl, inr, true, false, refl, sym, ◌∙◌, ap, subst, arith, Result, Ok, Err, Contains}
-use Rattle.std.specs.Prelude.{option_map}
+use Rattle.std.specs.Prelude.{is_none, option_map}
 use Rattle.sqlite.specs.Store.{Ghosts}
 use Rattle.vault_volume.specs.declared.volume.Volume as volume
 use Rattle.desk.specs.declared.notices.Notice as desk
@@ -19,8 +19,8 @@ use Rattle.custody_machine.proofs.Noticed.{verdict_accepted, reads_stated}
 use Rattle.custody.specs.declared.answers.Refused as not_accepted
 use Rattle.custody.specs.declared.answers.Refused.TheVariants as refused
 use Rattle.custody.specs.declared.custody.Custody.{Custody}
-use Rattle.custody.specs.Answers.{stays_open}
-use Rattle.custody.specs.Custody.{open_custody_of, is_open}
+use Rattle.custody.specs.Answers.{closing_failure, stays_open}
+use Rattle.custody.specs.Custody.{failure_of, open_custody_of, is_open}
 use Rattle.custody.specs.OpenCustody.{current_records, image_of, failures_of}
 use Rattle.custody.specs.Previewing.{IsPreviewDecided, IsPreviewed, HasPreviewed, unnumbered}
 use Rattle.custody.specs.Reading.{ReadsVault}
@@ -113,13 +113,13 @@ module _ (records : Records) (stated : statement.Statement) (now : ℕ) where
 
 module _ {V S : Type 0} {g : volume.Ghosts V} {database : Ghosts S} (old new : Custody V S g database) (serving : is_open old ≡ true) (same : current_records (open_custody_of new) ≡ current_records (open_custody_of old)) (store_same : (open_custody_of new).store ≡ (open_custody_of old).store)
     (read : ReadsVault (open_custody_of old).vault (open_custody_of new).vault) where
-  pub has_previewed : (stated : statement.Statement) (now : ℕ) (answer : Result desk.Notice not_accepted.Refused) → is_open new ≡ stays_open answer → IsPreviewDecided (current_records (open_custody_of old)) stated now answer
+  pub has_previewed : (stated : statement.Statement) (now : ℕ) (answer : Result desk.Notice not_accepted.Refused) → failure_of new ≡ closing_failure answer → IsPreviewDecided (current_records (open_custody_of old)) stated now answer
       → (g.tells → IsPreviewed (current_records (open_custody_of old)) (image_of (open_custody_of old)) stated now answer)
       → (stays_open answer ≡ false → failures_of (open_custody_of new) ≡ failures_of (open_custody_of old) + 1) → (stays_open answer ≡ true → failures_of (open_custody_of new) ≡ failures_of (open_custody_of old))
       → HasPreviewed old stated now answer new
-  has_previewed stated now answer opened decided told failed not_failed = record {
+  has_previewed stated now answer closes decided told failed not_failed = let opened : is_open new ≡ stays_open answer = ap is_none closes in record {
     closed = λ shut. let clash : true ≡ false = sym serving ∙ shut in cc;
-    opened = λ _. opened;
+    closes = λ _. closes;
     decided = λ _. decided;
     told = λ _. told;
     rested = λ _. reads_rested database (open_custody_of old) (open_custody_of new) (old.order serving) same store_same read.free read.size (λ tells. (read.image tells, read.any_moment tells)) (is_open new)

@@ -2,7 +2,7 @@
 use Rattle.std.proofs.lemmas.Slice.Eq.{bytes_eq-Decides}
 use Rattle.std.specs.Str.{bytes_eq}
 use Rattle.std.proofs.Common.{Option, Some, min, not, ◌*◌, ◌≡◌, ◌≢◌, ◌⊎◌, ℕ, ◌+◌, ◌-◌, ◌<◌, ◌≤◌, List, [], ◌++◌, length, take, drop, replicate, Bool, true, false, refl, sym, ◌∙◌, ap, subst, arith, Result, Ok, Err, append_assoc, length-append}
-use Rattle.std.specs.Prelude.{is_err}
+use Rattle.std.specs.Prelude.{IfSome, is_err}
 use Rattle.std.proofs.lemmas.Bool.{not-false}
 use Rattle.std.proofs.lemmas.List.{drop-take, length-replicate, length-take-le, take_at, take-take}
 use Rattle.std.proofs.Math.Seq.{drop-append_seam, take-add}
@@ -47,12 +47,12 @@ use Rattle.custody.specs.declared.answers.Refused.TheVariants as refused
 use Rattle.custody.specs.declared.upload.Comparing.{Comparing}
 use Rattle.custody.specs.declared.upload.Writing.{Writing}
 use Rattle.custody.specs.declared.open_custody.OpenCustody.{OpenCustody}
-use Rattle.custody.specs.Answers.{may_change, stays_open, refused_of_stage_error}
+use Rattle.custody.specs.Answers.{closing_failure, may_change, stays_open, refused_of_stage_error}
 use Rattle.custody.specs.Upload.{UploadStart, Continues, HasStaged, IsComparing, IsAnswered, IsWriting, IsWritten, compared_part}
 use Rattle.custody.specs.OpenCustody.{current_records, image_of, failures_of, MayLeaveImage, KeepsOrder, IsUnwritten, HasExecuted}
 use Rattle.custody.specs.Reading.{ReadsVault}
 use Rattle.custody.specs.OtherCalls.{RecordsNothing}
-use Rattle.custody.proofs.Ended.{freed_rested, undone_rested}
+use Rattle.custody.proofs.Ended.{freed_rested, undone_closes, undone_rested}
 use Rattle.custody.specs.declared.receiving.ReceiveError.{ReceiveError}
 use Rattle.custody.specs.declared.receiving.ReceiveError.TheVariants as error
 use Rattle.custody.specs.Receiving.{ReadsBody, GivesPiece}
@@ -282,10 +282,12 @@ module _ {V S : Type 0} {g : volume.Ghosts V} (database : Ghosts S) (s : UploadS
       is.read.free is.read.size is.failures
 
   -- a part whose answer was known
-  pub known_rested : (answer : Result Reply not_accepted.Refused) (sent : List ℕ) → IsAnswered database s new answer sent → length sent ≤ s.len → RecordsNothing database s.start (stays_open answer) new
+  pub known_rested : (answer : Result Reply not_accepted.Refused) (sent : List ℕ) → IsAnswered database s new answer sent → length sent ≤ s.len → RecordsNothing database s.start (stays_open answer) new × IfSome (closing_failure answer) (λ why. why ≡ failure.VolumeFailed)
   known_rested answer sent is within =
-      undone_rested database s.start new (Receive s.text (sent ++ replicate (s.len - length sent) 0)) s.now answer is.order is.unchanged (is.done (sent ++ replicate (s.len - length sent) 0)
-      (omega (arith, within, length-append sent (replicate (s.len - length sent) 0), length-replicate {A = ℕ} (s.len - length sent) 0), replicate (s.len - length sent) 0, refl))
+      let command = Receive s.text (sent ++ replicate (s.len - length sent) 0) in
+      let done = is.done (sent ++ replicate (s.len - length sent) 0)
+      (omega (arith, within, length-append sent (replicate (s.len - length sent) 0), length-replicate {A = ℕ} (s.len - length sent) 0), replicate (s.len - length sent) 0, refl) in
+      (undone_rested database s.start new command s.now answer is.order is.unchanged done, undone_closes database s.start new command s.now answer is.unchanged done)
 
 -- ---- what is decided of any bytes of a length
 

@@ -1,5 +1,5 @@
 -- The answers of a custody, as those of the machine, and their lines.
-use Rattle.std.specs.Prelude.{ℕ, List, codes, Bool, true, false, not, ◌&&◌, None, Result, Ok, Err}
+use Rattle.std.specs.Prelude.{ℕ, List, codes, Bool, true, false, not, ◌&&◌, Option, None, Some, is_none, Result, Ok, Err}
 use Rattle.custody_records.specs.Records.{key_of}
 use Rattle.custody_records.specs.TypedRecords.{notice_key, notice_value, release_key, release_value, hold_key, hold_value}
 use Rattle.vault_volume.specs.declared.errors.StageError.{StageError}
@@ -10,6 +10,7 @@ use Rattle.custody_machine.specs.State.{Held}
 use Rattle.custody_machine.specs.Machine as machine
 use Rattle.custody_machine.specs.Machine.{Command, Register, Receive, Statement, Check, Release, Hold, Lift, Purge, Answer, Accepted, Refused, Failed, OfRegistry, OfPart, OfNotice, OfRelease, OfHold, OfLifting, OfPurge}
 use Rattle.custody_machine.specs.declared.answers.Refusal.TheVariants.{OtherBytes, VolumeFull}
+use Rattle.custody_machine.specs.declared.answers.Failure.{Failure}
 use Rattle.custody_machine.specs.declared.answers.Failure.TheVariants.{NoMemory, VolumeFailed, StoreFailed, Closed, Damaged}
 use Rattle.custody_machine.specs.Rulings.{command_bytes}
 use Rattle.custody_machine.specs.declared.codes.ExitStatus.TheVariants as status
@@ -87,15 +88,19 @@ abbrev pub refused_of_read_error : ReadError → not_accepted.Refused
 refused_of_read_error read.NoMemory = refused.Failure NoMemory
 refused_of_read_error read.VolumeFailed = refused.Failure VolumeFailed
 
+-- the failure of an answer that closes a custody: that of the volume or the database
+abbrev pub closing_failure : {T : Type 0} → Result T not_accepted.Refused → Option Failure
+closing_failure (Ok found) = None
+closing_failure (Err (refused.Refusal refusal)) = None
+closing_failure (Err (refused.Failure NoMemory)) = None
+closing_failure (Err (refused.Failure VolumeFailed)) = Some VolumeFailed
+closing_failure (Err (refused.Failure StoreFailed)) = Some StoreFailed
+closing_failure (Err (refused.Failure Closed)) = Some Closed
+closing_failure (Err (refused.Failure (Damaged damage))) = None
+
 -- whether a custody is open after an answer
 abbrev pub stays_open : {T : Type 0} → Result T not_accepted.Refused → Bool
-stays_open (Ok found) = true
-stays_open (Err (refused.Refusal refusal)) = true
-stays_open (Err (refused.Failure NoMemory)) = true
-stays_open (Err (refused.Failure VolumeFailed)) = false
-stays_open (Err (refused.Failure StoreFailed)) = false
-stays_open (Err (refused.Failure Closed)) = false
-stays_open (Err (refused.Failure (Damaged damage))) = true
+stays_open answer = is_none (closing_failure answer)
 
 -- whether a command is done that was not done before, or may be
 abbrev pub may_change : Result Reply not_accepted.Refused → Bool

@@ -20,10 +20,10 @@ use Rattle.custody_machine.specs.StoredState.{HasDigestAt}
 use Rattle.custody.specs.declared.answers.Refused.{Refused}
 use Rattle.custody.specs.declared.answers.Refused.TheVariants as refused
 use Rattle.custody.specs.declared.custody.Custody.{Custody}
-use Rattle.custody.specs.Answers.{stays_open}
+use Rattle.custody.specs.Answers.{closing_failure}
 use Rattle.custody.specs.OpenCustody.{current_records, image_of, IsUnwritten}
 use Rattle.custody.specs.OtherCalls.{RecordsNothing}
-use Rattle.custody.specs.Custody.{open_custody_of, is_open}
+use Rattle.custody.specs.Custody.{failure_of, open_custody_of, is_open}
 
 -- ---- damage
 
@@ -81,8 +81,8 @@ module _ {V S : Type 0} {g : volume.Ghosts V} {database : Ghosts S} where
     pub closed : is_open old ≡ false → (answer ≡ Err Closed) × (new ≡ old)
     -- an open one may have no memory, or a volume that fails
     pub fails : is_open old ≡ true → IfErr answer (λ failure. (failure ≡ NoMemory) ⊎ (failure ≡ VolumeFailed))
-    -- and is closed by a failure of the volume, and by nothing else
-    pub opened : is_open old ≡ true → is_open new ≡ stays_open (as_refused answer)
+    -- and is closed by a failure of the volume, which is answered, and by nothing else
+    pub closes : is_open old ≡ true → failure_of new ≡ closing_failure (as_refused answer)
     -- names of parts that are held are answered, whatever the volume is
     pub held : is_open old ≡ true → IfOk answer (AreHeld (current_records (open_custody_of old)))
     -- and where it tells its image those of the parts that are damaged

@@ -14,10 +14,10 @@ use Rattle.custody_rules.specs.Fetching.{HandsOver}
 use Rattle.custody.specs.declared.answers.Refused.{Refused}
 use Rattle.custody.specs.declared.answers.Refused.TheVariants as refused
 use Rattle.custody.specs.declared.custody.Custody.{Custody}
-use Rattle.custody.specs.Answers.{stays_open}
+use Rattle.custody.specs.Answers.{closing_failure}
 use Rattle.custody.specs.OpenCustody.{current_records, image_of, IsUnwritten}
 use Rattle.custody.specs.OtherCalls.{RecordsNothing}
-use Rattle.custody.specs.Custody.{open_custody_of, is_open}
+use Rattle.custody.specs.Custody.{failure_of, open_custody_of, is_open}
 
 -- Whatever the volume is: a refusal is the one that the records decide; where they decide none, bytes are answered with the digest that is recorded of the part, or memory, the volume or the digest fails.
 abbrev pub IsFetchDecided : Records → (reference name : List ℕ) → Result (List ℕ) Refused → Type 0
@@ -50,8 +50,8 @@ module _ {V S : Type 0} {g : volume.Ghosts V} {database : Ghosts S} where
   pub record HasFetched (old : Custody V S g database) (reference name : List ℕ) (answer : Result (List ℕ) Refused) (new : Custody V S g database) : Type 0 where
     -- a closed one says so, and is as it was
     pub closed : is_open old ≡ false → (answer ≡ Err (refused.Failure Closed)) × (new ≡ old)
-    -- an open one is closed by a failure of the volume, and by nothing else
-    pub opened : is_open old ≡ true → is_open new ≡ stays_open answer
+    -- an open one is closed by a failure of the volume, which is answered, and by nothing else
+    pub closes : is_open old ≡ true → failure_of new ≡ closing_failure answer
     -- what the records decide is answered
     pub decided : is_open old ≡ true → IsFetchDecided (current_records (open_custody_of old)) reference name answer
     -- and what the volume holds of the part

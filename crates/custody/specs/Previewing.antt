@@ -17,10 +17,10 @@ use Rattle.custody_machine.specs.StoredState.{state_in}
 use Rattle.custody.specs.declared.answers.Refused.{Refused}
 use Rattle.custody.specs.declared.answers.Refused.TheVariants as refused
 use Rattle.custody.specs.declared.custody.Custody.{Custody}
-use Rattle.custody.specs.Answers.{stays_open}
+use Rattle.custody.specs.Answers.{closing_failure}
 use Rattle.custody.specs.OpenCustody.{current_records, image_of, IsUnwritten}
 use Rattle.custody.specs.OtherCalls.{RecordsNothing}
-use Rattle.custody.specs.Custody.{open_custody_of, is_open}
+use Rattle.custody.specs.Custody.{failure_of, open_custody_of, is_open}
 
 -- a notice as it is told before it is recorded: with number 0
 abbrev pub unnumbered : NoticeKey → Notice → desk.Notice
@@ -65,8 +65,8 @@ module _ {V S : Type 0} {g : volume.Ghosts V} {database : Ghosts S} where
   pub record HasPreviewed (old : Custody V S g database) (stated : statement.Statement) (now : ℕ) (answer : Result desk.Notice Refused) (new : Custody V S g database) : Type 0 where
     -- a closed one says so, and is as it was
     pub closed : is_open old ≡ false → (answer ≡ Err (refused.Failure Closed)) × (new ≡ old)
-    -- an open one is closed by a failure of the volume, and by nothing else
-    pub opened : is_open old ≡ true → is_open new ≡ stays_open answer
+    -- an open one is closed by a failure of the volume, which is answered, and by nothing else
+    pub closes : is_open old ≡ true → failure_of new ≡ closing_failure answer
     -- what the records decide is answered
     pub decided : is_open old ≡ true → IsPreviewDecided (current_records (open_custody_of old)) stated now answer
     -- and the verdict on what the volume holds

@@ -4,6 +4,7 @@ use Rattle.std.specs.Io.KnownBytes.{Consumes, IsAtEnd}
 use denote.Ref.{Bor}
 use Rattle.vault_volume.specs.declared.volume.Volume as volume
 use Rattle.sqlite.specs.Store.{Ghosts}
+use Rattle.custody_machine.specs.declared.answers.Failure.TheVariants.{VolumeFailed}
 use Rattle.custody_machine.specs.Machine.{Receive}
 use Rattle.custody.specs.declared.answers.Reply.{Reply}
 use Rattle.custody.specs.declared.upload.Upload.{Upload}
@@ -11,7 +12,7 @@ use Rattle.custody.specs.declared.receiving.ReceiveError.{ReceiveError}
 use Rattle.custody.specs.declared.receiving.ReceiveError.TheVariants as error
 use Rattle.custody.specs.declared.open_custody.OpenCustody.{OpenCustody}
 use Rattle.custody.specs.declared.custody.Custody.{Custody}
-use Rattle.custody.specs.Custody.{open_custody_of, is_open, HasApplied}
+use Rattle.custody.specs.Custody.{failure_of, open_custody_of, is_open, HasApplied}
 use Rattle.custody.specs.Upload.{UploadStart, IsUploading}
 use Rattle.custody.specs.OtherCalls.{RecordsNothing}
 
@@ -72,6 +73,8 @@ module _ {V S : Type 0} {g : volume.Ghosts V} {database : Ghosts S} where
     pub closed : is_open old ≡ false → new ≡ old
     -- and to an open one it was no command
     pub rested : is_open old ≡ true → RecordsNothing database (open_custody_of old) (is_open new) (open_custody_of new)
+    -- and closes it by a failure of the volume, or not
+    pub closes : is_open old ≡ true → IfSome (failure_of new) (λ failure. failure ≡ VolumeFailed)
 
   -- Where all the bytes have come, it is the command that they make; and else no command.
   abbrev pub HasReceived : Option (List ℕ) → (old : Custody V S g database) → List ℕ → ℕ → List ℕ → ℕ → Result Reply ReceiveError → (new : Custody V S g database) → Type 0

@@ -1,5 +1,5 @@
 -- A part that is taken in as its bytes come: what is known of the open custody while it is written, compared or dropped.
-use Rattle.std.specs.Prelude.{◌≡◌, ◌≢◌, ℕ, ◌+◌, ◌≤◌, List, [], ◌++◌, length, Some, Bool, false, Result, vec_len, vec_capacity}
+use Rattle.std.specs.Prelude.{◌≡◌, ◌≢◌, ℕ, ◌+◌, ◌≤◌, List, [], ◌++◌, length, Option, Some, IfSome, is_none, false, Result, vec_len, vec_capacity}
 use Rattle.sqlite.specs.Store.{Ghosts}
 use Rattle.deposit_name.specs.Name.{Name}
 use Rattle.vault_volume.specs.declared.vault.Vault.{Vault}
@@ -14,6 +14,8 @@ use Rattle.vault_volume.specs.declared.opened.Opened.{Opened}
 use Rattle.custody_records.specs.declared.parts.Part.{Part}
 use Rattle.custody_records.specs.MemoryRecords.{HasPartRoom}
 use Rattle.custody_records.specs.TypedRecords.{part_value}
+use Rattle.custody_machine.specs.declared.answers.Failure.{Failure}
+use Rattle.custody_machine.specs.declared.answers.Failure.TheVariants.{VolumeFailed}
 use Rattle.custody_machine.specs.Machine.{Receive}
 use Rattle.custody_machine.specs.Rulings.{AddsPart, CompareRuling, GoRuling, Decides, DecidesPart}
 use Rattle.custody_machine.specs.Custody.{IsPlaced, IsDurable}
@@ -172,5 +174,6 @@ module _ {V S : Type 0} {g : volume.Ghosts V} where
     abbrev pub MayGiveUp : OpenCustody V S g → code.Upload → Type 0
     MayGiveUp before upload = (s : UploadStart (OpenCustody V S g)) × (sent : List ℕ) × IsUploading s before upload sent
 
-    abbrev pub GivesUp : (before after : OpenCustody V S g) → code.Upload → Bool → Type 0
-    GivesUp before after upload is_open = (s : UploadStart (OpenCustody V S g)) (sent : List ℕ) → IsUploading s before upload sent → length sent ≤ s.len → RecordsNothing database s.start is_open after
+    abbrev pub GivesUp : (before after : OpenCustody V S g) → code.Upload → Option Failure → Type 0
+    GivesUp before after upload closing = (s : UploadStart (OpenCustody V S g)) (sent : List ℕ) → IsUploading s before upload sent → length sent ≤ s.len
+        → RecordsNothing database s.start (is_none closing) after × IfSome closing (λ failure. failure ≡ VolumeFailed)

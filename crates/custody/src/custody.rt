@@ -1,5 +1,5 @@
 //! The custody.
-ghost use Rattle.std.specs.Prelude.{◌≡◌, ◌≢◌, ℕ, List, [], ◌-◌, ◌<◌, ◌≤◌, ◌^◌, length, true, false, IfOk, IfErr, OnErr, MatchResult};
+ghost use Rattle.std.specs.Prelude.{◌≡◌, ◌≢◌, ℕ, List, [], ◌-◌, ◌<◌, ◌≤◌, ◌^◌, length, is_none, true, false, IfOk, IfErr, OnErr, MatchResult};
 ghost use Rattle.std.specs.Coded.{Π_prop};
 ghost use Rattle.vault_volume.specs.Vault.{volume_of};
 ghost use Rattle.custody_records.specs.MemoryRecords.{records_of};
@@ -8,7 +8,7 @@ ghost use Rattle.custody_store.specs.StoreState.{store_state, has_earlier_tables
 ghost use Rattle.custody_machine.specs.declared.damage.Damage.TheVariants as damage;
 ghost use Rattle.custody_machine.specs.Commands.{command_of};
 ghost use Rattle.custody_machine.specs.Damage.{IsDamaged};
-ghost use Rattle.custody.specs.Answers.{stays_open};
+ghost use Rattle.custody.specs.Answers.{closing_failure};
 ghost use Rattle.custody.specs.OpenCustody.{current_records, store_state_of, KeepsOrder, KeepsOrder-prop};
 ghost use Rattle.custody.specs.Opening.{HasNoRecord, ReportsDamage, OnlyReads, OnlyMigrates, free_blocks};
 
@@ -35,14 +35,15 @@ use vault_volume::{ReadError, Volume};
 #[derive(Drop)]
 pub struct Custody<V: Volume, S: Alter> {
     open_custody: OpenCustody<V, S>,
-    is_open: bool,
-    ghost order: { is_open ≡ true → KeepsOrder open_custody } by { Π_prop λ _. KeepsOrder-prop open_custody },
+    failure: Option<Failure>,
+    ghost order: { is_none failure ≡ true → KeepsOrder open_custody } by { Π_prop λ _. KeepsOrder-prop open_custody },
 }
 
 impl<V: Volume, S: Alter> Custody<V, S> {
     ghost use Rattle.custody.specs.Custody.{
       HasApplied,
       HasRun,
+      failure_of,
       open_custody_of,
       is_open,
       timed_commands,
@@ -90,7 +91,7 @@ impl<V: Volume, S: Alter> Custody<V, S> {
         match make_records(alloc, &mut volume, &mut store, number, blocks) {
             Ok((records, map)) => Ok(Custody {
                 open_custody: open_custody_over(volume, store, records, map),
-                is_open: true,
+                failure: None,
             }),
             Err(failure) => Err((InitError::Failure(failure), volume, store.into_inner())),
         }
@@ -132,7 +133,7 @@ impl<V: Volume, S: Alter> Custody<V, S> {
         match load_current(alloc, &mut store, number, blocks, is_earlier) {
             Ok((records, map)) => Ok(Custody {
                 open_custody: open_custody_over(volume, store, records, map),
-                is_open: true,
+                failure: None,
             }),
             Err(failure) => Err((failure, volume, store.into_inner())),
         }
@@ -158,11 +159,11 @@ impl<V: Volume, S: Alter> Custody<V, S> {
     ) -> Result<Reply, Refused>
         ensures { HasApplied self.old (command_of command.now) now result self.new }
     {
-        if !self.is_open {
+        if !self.is_open() {
             return Err(Refused::Failure(Failure::Closed));
         }
         let answer = self.open_custody.execute(alloc, command, now);
-        self.is_open = stays_open(&answer);
+        self.failure = closing_failure(&answer);
         answer
     }
 
@@ -181,7 +182,7 @@ impl<V: Volume, S: Alter> Custody<V, S> {
         ensures { HasReceived (R.remaining reader.old) self.old name.now len first.now now result self.new }
     {
         let mut body = first.chain(reader);
-        if !self.is_open {
+        if !self.is_open() {
             drop_body(len, &mut body)?;
             return Err(ReceiveError::Refused(Refused::Failure(Failure::Closed)));
         }
@@ -190,11 +191,11 @@ impl<V: Volume, S: Alter> Custody<V, S> {
             .open_upload(alloc, name, len as usize, now);
         let (upload, came) = self.open_custody.take_body(upload, len, &mut body);
         if let Err(ended) = came {
-            self.is_open = self.open_custody.give_up(upload);
+            self.failure = self.open_custody.give_up(upload);
             return Err(ended);
         }
         let answer = self.open_custody.complete(upload, now);
-        self.is_open = stays_open(&answer);
+        self.failure = closing_failure(&answer);
         Ok(answer?)
     }
 
@@ -228,12 +229,12 @@ impl<V: Volume, S: Alter> Custody<V, S> {
         ensures empty { OnErr result (out.new.items ≡ []) }
     {
         out.clear();
-        if !self.is_open {
+        if !self.is_open() {
             return Err(Refused::Failure(Failure::Closed));
         }
         let OpenCustody { vault, records, .. } = &mut self.open_custody;
         let answer = fetch_part(alloc, vault, records, reference, name);
-        self.is_open = stays_open(&answer);
+        self.failure = closing_failure(&answer);
         *out = answer?;
         Ok(())
     }
@@ -247,12 +248,12 @@ impl<V: Volume, S: Alter> Custody<V, S> {
     ) -> Result<Notice, Refused>
         ensures { HasPreviewed self.old statement.now now result self.new }
     {
-        if !self.is_open {
+        if !self.is_open() {
             return Err(Refused::Failure(Failure::Closed));
         }
         let OpenCustody { vault, records, .. } = &mut self.open_custody;
         let answer = preview_notice(alloc, vault, records, statement, now);
-        self.is_open = stays_open(&answer);
+        self.failure = closing_failure(&answer);
         answer
     }
 
@@ -265,7 +266,7 @@ impl<V: Volume, S: Alter> Custody<V, S> {
     ) -> Result<Vec<DepositName>, Failure>
         ensures { HasAudited self.old (answered_names result) self.new }
     {
-        if !self.is_open {
+        if !self.is_open() {
             return Err(Failure::Closed);
         }
         let OpenCustody { vault, records, .. } = &mut self.open_custody;
@@ -278,10 +279,23 @@ impl<V: Volume, S: Alter> Custody<V, S> {
             Ok(damaged) => Ok(damaged),
             Err(ReadError::NoMemory) => Err(Failure::NoMemory),
             Err(ReadError::VolumeFailed) => {
-                self.is_open = false;
+                self.failure = Some(Failure::VolumeFailed);
                 Err(Failure::VolumeFailed)
             }
         }
+    }
+
+    /// The failure that closed it, where it is closed.
+    pub fn failure(&self) -> Option<Failure>
+        ensures { result ≡ failure_of self.now }
+    {
+        self.failure
+    }
+
+    fn is_open(&self) -> bool
+        ensures { result ≡ is_open self.now }
+    {
+        self.failure.is_none()
     }
 
     /// The records.
@@ -289,7 +303,7 @@ impl<V: Volume, S: Alter> Custody<V, S> {
         ensures found { IfOk result (λ records. (is_open self.now ≡ true) × (records_of records.now ≡ current_records (open_custody_of self.now))) }
         ensures closed { IfErr result (λ failure. (is_open self.now ≡ false) × (failure ≡ Failure.Closed)) }
     {
-        if self.is_open {
+        if self.is_open() {
             Ok(&self.open_custody.records)
         } else {
             Err(Failure::Closed)
@@ -309,12 +323,16 @@ impl<V: Volume, S: Alter> Custody<V, S> {
     }
 }
 
-/// Whether a custody is open after an answer: it is closed where the volume or the database failed.
-pub(crate) fn stays_open<T>(answer: &Result<T, Refused>) -> bool
-    ensures { result ≡ stays_open answer.now }
+/// The failure of the volume or the database that closes a custody, where an answer tells one.
+pub(crate) fn closing_failure<T>(answer: &Result<T, Refused>) -> Option<Failure>
+    ensures { result ≡ closing_failure answer.now }
 {
-    !matches!(
-        answer,
-        Err(Refused::Failure(Failure::VolumeFailed | Failure::StoreFailed | Failure::Closed))
-    )
+    match answer {
+        Err(
+            Refused::Failure(
+                failure @ (Failure::VolumeFailed | Failure::StoreFailed | Failure::Closed),
+            ),
+        ) => Some(*failure),
+        _ => None,
+    }
 }

@@ -13,7 +13,7 @@ ghost use Rattle.custody.specs.Reading.{ReadsVault};
 ghost use Rattle.custody.specs.ReplyRecords.{IsRecordOfPart};
 ghost use Rattle.custody.specs.Upload.{compared_part, OpensUpload, MayOpenPart, OpensPart, MayOpenChange, OpensChange, OpensComparing, MayWrite, WritesBytes, MayCompare, ComparesBytes, MayDiffer, AnswersOtherBytes, MayTake, TakesBytes, MayComplete, Completes, MayFinish, Finishes, MayGiveUp, GivesUp};
 
-use crate::custody::stays_open;
+use crate::custody::closing_failure;
 use crate::open_custody::{OpenCustody, make_room};
 use crate::{Record, Refused, Reply};
 use custody_machine::{Damage, Failure, Refusal};
@@ -268,9 +268,9 @@ impl<V: Volume, S: Alter> OpenCustody<V, S> {
         self.keep_staged(&name, staged, room, now)
     }
 
-    /// Gives up a part whose bytes have not all come. It tells whether the custody stays open: it does not
-    /// where the volume has failed already.
-    pub(crate) fn give_up(&mut self, upload: Upload) -> bool
+    /// Gives up a part whose bytes have not all come. It tells the failure that closes the custody: that of
+    /// the volume, where it has failed already.
+    pub(crate) fn give_up(&mut self, upload: Upload) -> Option<Failure>
         requires { MayGiveUp S.Store self.old upload }
         ensures { GivesUp S.Store self.old self.new upload result }
     {
@@ -282,10 +282,10 @@ impl<V: Volume, S: Alter> OpenCustody<V, S> {
                     room: _room,
                 } = writing;
                 self.vault.abandon(opened);
-                true
+                None
             }
-            Upload::Comparing(_comparing) => true,
-            Upload::Answered(answer) => stays_open(&answer),
+            Upload::Comparing(_comparing) => None,
+            Upload::Answered(answer) => closing_failure(&answer),
         }
     }
 }

@@ -1,6 +1,6 @@
 -- What `serve_one` does to a custody is an event of a service.
 use Rattle.std.proofs.Common.{◌≡◌, ℕ, List, [], ◌++◌, Option, Some, None, Bool, true, false, inl, inr, refl, sym, ◌∙◌, ap, subst, if◌then◌else◌, Result, Ok, Err}
-use Rattle.std.specs.Prelude.{length, take}
+use Rattle.std.specs.Prelude.{is_none, length, take}
 use Rattle.vault_volume.specs.declared.volume.Volume as volume
 use Rattle.vault_volume.specs.Vault.{volume_of}
 use Rattle.sqlite.specs.Store.{Ghosts}
@@ -138,9 +138,9 @@ module _ {V S : Type 0} {g : volume.Ghosts V} {database : Ghosts S} (tells : g.t
           next = did.next;
           goes = did.moves;
           there = record {
-            is_at = subst (λ b. IsAtPlace b (current_records (open_custody_of new)) (image_of (open_custody_of new)) did.next) (sym (h.opened serving.opened)) did.is_at;
+            is_at = subst (λ b. IsAtPlace b (current_records (open_custody_of new)) (image_of (open_custody_of new)) did.next) (sym (ap is_none (h.closes serving.opened))) did.is_at;
             leaves = did.leaves.at_exit;
-            serves = λ opened. serves_on tells old new command now r serving honest h (sym (h.opened serving.opened) ∙ opened);
+            serves = λ opened. serves_on tells old new command now r serving honest h (sym (ap is_none (h.closes serving.opened)) ∙ opened);
           };
           stops = λ rows image pair may since finds. (history.StoppedWithin command now pair, (refl, asks), (rows, image, did.leaves.within rows image may since, finds, refl));
         }
@@ -213,7 +213,7 @@ module _ {V S : Type 0} {g : volume.Ghosts V} {database : Ghosts S} (tells : g.t
     does_open serving h (Fetch reference name) answer asks did = record {
       did = Some (other_call_event (stays_open did.0));
       responds = λ written. inl (asks_for (Fetch reference name), asks, (did.0, did.1.bytes serving.opened tells, refl, did.2));
-      went = rested old new serving honest input now (stays_open did.0) (did.1.opened serving.opened) (did.1.rested serving.opened);
+      went = rested old new serving honest input now (stays_open did.0) (ap is_none (did.1.closes serving.opened)) (did.1.rested serving.opened);
     }
 
     -- and a closed one

@@ -1,5 +1,6 @@
 -- What commands in order do to an open custody, as moves of the machine.
 use Rattle.std.proofs.Common.{◌≡◌, ℕ, List, [], ◌∷◌, ◌++◌, Option, Some, None, Bool, true, false, refl, sym, ◌∙◌, ap, subst, Result}
+use Rattle.std.specs.Prelude.{is_none}
 use Rattle.vault_volume.specs.declared.volume.Volume as volume
 use Rattle.vault_volume.specs.Vault.{volume_of, IsFree}
 use Rattle.sqlite.specs.Store.{Ghosts}
@@ -170,7 +171,7 @@ module _ {V S : Type 0} {g : volume.Ghosts V} {database : Ghosts S} where
         → IsServing database old → (store_state_of database (open_custody_of new)).IsHonest → HasApplied old command now answer new → stays_open answer ≡ true → IsServing database new
     serves_on old new command now answer serving honest applied stays =
         let all = applied.done serving.opened in
-        record { opened = applied.opened serving.opened ∙ stays; image = all.image stays tells serving.image; rows = all.rows stays honest serving.rows }
+        record { opened = ap is_none (applied.closes serving.opened) ∙ stays; image = all.image stays tells serving.image; rows = all.rows stays honest serving.rows }
 
     run_from : (old new : Custody V S g database) (entries : List TimedCommand) (answers : List (Result Reply not_accepted.Refused)) → IsServing database old → (store_state_of database (open_custody_of new)).IsHonest → HasRun old entries answers new
         → (next : Place) × AnswersAlong MovesBy (place_of database old) entries (answers_of entries answers) next × IsThere new next × KeepsPast (open_custody_of old) (open_custody_of new)
@@ -200,7 +201,7 @@ module _ {V S : Type 0} {g : volume.Ghosts V} {database : Ghosts S} where
             (more.0, (s.next, s.moves, subst (λ p. AnswersAlong MovesBy p entries (answers_of entries answers) more.0) (sym is) more.1), more.2, past_join (open_custody_of old) (open_custody_of mid) (open_custody_of new) past more.3)
         by go_on false stays =
             let s = (run.1.done serving.opened).serves tells honest_mid serving.image serving.rows in
-            let opened = run.1.opened serving.opened in
+            let opened = ap is_none (run.1.closes serving.opened) in
             let shut = is_shut (stays_open a) (current_records (open_custody_of mid)) (image_of (open_custody_of mid)) s.next stays s.is_at in
             let closed = closed_run shut.0 shut.1 shut.2 mid new entries answers (opened ∙ stays) run.2 in
             let there : IsCustodyAt database mid s.next = record {

@@ -7,10 +7,10 @@ use Rattle.custody.proofs.custody.Custody.apply.Goals as goal
 pub returns : goal.returns
 returns g c =
     let old = c.args.self.now in
-    let serving = c.if-not-self.false in
+    let serving = (sym c.if-not-is_open.ensures) in
     record {
       closed = λ shut. let clash : true ≡ false = sym serving ∙ shut in cc;
       done = λ _. c.execute-answer.ensures;
-      opened = λ _. c.stays_open-self.ensures;
+      closes = λ _. c.closing_failure-self.ensures;
       room = λ _. had_room g.S.Store (open_custody_of old) c.execute-answer.new.self (old.order serving) (command_of c.args.command.now) c.args.now c.execute-answer.result c.execute-answer.ensures;
     }
