@@ -1,5 +1,5 @@
 -- Words of each subcommand, and the order that they give: with all of its options, and without the one that may be left out.
-use Rattle.std.specs.Prelude.{ℕ, List, [], ◌∷◌, Option, None, Some, Ok, codes}
+use Rattle.std.specs.Prelude.{ℕ, true, false, List, [], ◌∷◌, Option, None, Some, Ok, codes}
 use Rattle.clap.specs.Words.{Text}
 use Rattle.deposit_name.specs.declared.kinds.Kind.TheVariants.{Full, Incr}
 use Rattle.desk.specs.declared.grounds.Ground.TheVariants.{Operator}
@@ -44,5 +44,6 @@ pub record WordsGiveOrders : Type 0 where
   pub of_digests : GivesOrder (codes "digests" ∷ codes "vault" ∷ codes "example" ∷ []) None (Digests (codes "example"))
   pub of_state : GivesOrder (codes "state" ∷ codes "vault" ∷ []) None State
   pub of_audit : GivesOrder (codes "audit" ∷ codes "vault" ∷ []) None Audit
-  pub of_serve : GivesOrder (codes "serve" ∷ codes "vault" ∷ codes "--port" ∷ codes "8080" ∷ codes "--requests" ∷ codes "2" ∷ codes "--now" ∷ codes "2026-08-02T10:00:00Z" ∷ []) (Some 1_785_664_800) (Serve 8080 2)
-  pub of_serve_now : GivesOrder (codes "serve" ∷ codes "vault" ∷ codes "--port" ∷ codes "8080" ∷ codes "--requests" ∷ codes "2" ∷ []) None (Serve 8080 2)
+  pub of_serve : GivesOrder (codes "serve" ∷ codes "vault" ∷ codes "--port" ∷ codes "8080" ∷ codes "--requests" ∷ codes "2" ∷ codes "--now" ∷ codes "2026-08-02T10:00:00Z" ∷ []) (Some 1_785_664_800) (Serve 8080 2 false)
+  pub of_serve_now : GivesOrder (codes "serve" ∷ codes "vault" ∷ codes "--port" ∷ codes "8080" ∷ codes "--requests" ∷ codes "2" ∷ []) None (Serve 8080 2 false)
+  pub of_serve_until_closed : GivesOrder (codes "serve" ∷ codes "vault" ∷ codes "--port" ∷ codes "8080" ∷ codes "--requests" ∷ codes "2" ∷ codes "--until-closed" ∷ []) None (Serve 8080 2 true)

@@ -3,8 +3,9 @@ use Rattle.std.specs.Prelude.{ℕ, Bool, true, false, List, [], ◌∷◌, Some,
 use Rattle.std.specs.Str.{bytes_eq}
 use Rattle.clap.specs.Words.{App, Row, Rule, Shape, Text, first_of, new_app, new_rule, with_rule, with_subcommand}
 use Rattle.clap.specs.declared.builder.ValueParser.TheVariants.{Signed}
+use Rattle.clap.specs.declared.builder.action.ArgAction.TheVariants.{SetTrue}
 use Rattle.agent_cli.specs.declared.subcommands.WordForm.{WordForm}
-use Rattle.agent_cli.specs.declared.subcommands.WordForm.TheVariants.{Place, Option, Count}
+use Rattle.agent_cli.specs.declared.subcommands.WordForm.TheVariants.{Place, Option, Count, Flag}
 use Rattle.agent_cli.specs.declared.subcommands.Subcommand.{Subcommand}
 use Rattle.agent_cli.specs.declared.subcommands.Subcommand.TheVariants.{Init, Register, Put, Preview, Verify, Due, Sweep, Purge, Hold, Lift, Release, Fetch, Report, Digests, State, Audit, Serve}
 use Rattle.agent_cli.specs.declared.subcommands.Word.{Word}
@@ -22,6 +23,10 @@ option_rule id required = record (new_rule id) { long = Some id; value_names = 1
 abbrev pub count_rule : Text → ℕ → ℕ → Bool → Rule
 count_rule id least most required = record (option_rule id required) { parser = Some (Signed (pos least) (pos most)) }
 
+-- `--id`, without a value
+abbrev pub flag_rule : Text → Rule
+flag_rule id = record (new_rule id) { long = Some id; action = Some SetTrue }
+
 -- an argument of the table
 abbrev pub rule_in : Word → Rule
 rule_in word = by word.form
@@ -30,6 +35,7 @@ rule_in word = by word.form
     by Place = positional_rule word.id.now
     by (Option value required) = option_rule word.id.now required
     by (Count least most required) = count_rule word.id.now least most required
+    by Flag = flag_rule word.id.now
 
 abbrev pub folder_rule : Rule
 folder_rule = positional_rule (codes "DIR")
@@ -82,8 +88,8 @@ words_of Digests = (codes "digests", folder_rule ∷ tld_rule ∷ [])
 words_of State = (codes "state", folder_rule ∷ [])
 -- `audit DIR`
 words_of Audit = (codes "audit", folder_rule ∷ [])
--- `serve DIR --port P --requests N [--now MOMENT]`
-words_of Serve = (codes "serve", folder_rule ∷ count_rule (codes "port") 1 65_535 true ∷ count_rule (codes "requests") 1 1_000_000 true ∷ now_rule ∷ [])
+-- `serve DIR --port P --requests N [--until-closed] [--now MOMENT]`
+words_of Serve = (codes "serve", folder_rule ∷ count_rule (codes "port") 1 65_535 true ∷ count_rule (codes "requests") 1 1_000_000 true ∷ flag_rule (codes "until-closed") ∷ now_rule ∷ [])
 
 abbrev pub subcommands : List Subcommand
 subcommands = Init ∷ Register ∷ Put ∷ Preview ∷ Verify ∷ Due ∷ Sweep ∷ Purge ∷ Hold ∷ Lift ∷ Release ∷ Fetch ∷ Report ∷ Digests ∷ State ∷ Audit ∷ Serve ∷ []
@@ -110,3 +116,7 @@ escrow_app = fold with_subcommand bare_app (map shape subcommands)
 -- the first value of an argument, and the empty text where it has none
 abbrev pub text_in : Text → List Row → Text
 text_in id rows = unwrap_or (first_of id rows) []
+
+-- whether a flag is among the words: its value is then the text `true`, and `false` where it is not
+abbrev pub is_given : Text → List Row → Bool
+is_given id rows = bytes_eq (text_in id rows) (codes "true")

@@ -1,5 +1,5 @@
 -- What the words of a call ask for: the matches of the command, each value in form.
-use Rattle.std.specs.Prelude.{◌≡◌, ◌≢◌, ◌⊎◌, ℕ, List, Option, Some, None, Result, Ok, Err, IsSomeAnd, MatchBool, codes, find}
+use Rattle.std.specs.Prelude.{◌≡◌, ◌≢◌, ◌⊎◌, ℕ, Bool, List, Option, Some, None, Result, Ok, Err, IsSomeAnd, MatchBool, codes, find}
 use Rattle.clap.specs.Words.{Row, Text, fault_of, first_of, kind_of, subcommand_of}
 use Rattle.clap.specs.Walk.{is_empty}
 use Rattle.clap.specs.declared.error.Error.{Error}
@@ -10,7 +10,7 @@ use Rattle.custody_machine.specs.Commands.{command_of}
 use Rattle.custody_machine.specs.Machine.{Command, Register, Statement, Release, Hold, Lift, Purge}
 use Rattle.answer_lines.specs.Number.{ShowsNumber}
 use Rattle.extent_map.specs.Limits.{most_blocks}
-use Rattle.agent_cli.specs.Grammar.{escrow_app, is_named, most_absences, subcommands, text_in}
+use Rattle.agent_cli.specs.Grammar.{escrow_app, is_given, is_named, most_absences, subcommands, text_in}
 use Rattle.agent_cli.specs.declared.subcommands.Subcommand.{Subcommand}
 use Rattle.agent_cli.specs.declared.subcommands.Subcommand.TheVariants as subcommand
 use Rattle.agent_cli.specs.Forms.{ShowsDay, ShowsGround, ShowsId, ShowsIfGiven, ShowsKind, ShowsMoment, ShowsReference, ShowsTld, count_if_given, count_of}
@@ -35,7 +35,7 @@ pub data DeedMeaning : Type 0 where
   Digests : (tld : List ℕ) → DeedMeaning
   State : DeedMeaning
   Audit : DeedMeaning
-  Serve : (port requests : ℕ) → DeedMeaning
+  Serve : (port requests : ℕ) → (until_closed : Bool) → DeedMeaning
 
 -- a folder, the moment that the words name, and what is to be done there
 pub record OrderMeaning : Type 0 where
@@ -115,7 +115,7 @@ DeedReading subcommand.Digests rows r =
 DeedReading subcommand.State rows r = r ≡ Ok State
 DeedReading subcommand.Audit rows r = r ≡ Ok Audit
 DeedReading subcommand.Serve rows r =
-    r ≡ Ok (Serve (count_of (codes "port") 65_535 rows) (count_of (codes "requests") 1_000_000 rows))
+    r ≡ Ok (Serve (count_of (codes "port") 65_535 rows) (count_of (codes "requests") 1_000_000 rows) (is_given (codes "until-closed") rows))
 
 -- What is to be done is read first, then NOW, where it is given, and the folder.
 abbrev pub OrderReading : Subcommand → List Row → Result OrderMeaning Argument → Type 0
@@ -160,7 +160,7 @@ deed_meaning (deed.Report tld) = Report tld
 deed_meaning (deed.Digests tld) = Digests tld
 deed_meaning deed.State = State
 deed_meaning deed.Audit = Audit
-deed_meaning (deed.Serve port requests) = Serve port requests
+deed_meaning (deed.Serve port requests until_closed) = Serve port requests until_closed
 
 -- what an order says
 abbrev pub meaning : Order → OrderMeaning

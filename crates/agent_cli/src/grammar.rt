@@ -6,7 +6,7 @@ ghost use Rattle.agent_cli.specs.Grammar.{bare_app, escrow_app, rule_in, shape_i
 
 use crate::subcommands::{Row, SUBCOMMANDS, Word, WordForm};
 use clap::builder::ValueParser;
-use clap::{Arg, Command};
+use clap::{Arg, ArgAction, Command};
 use std::alloc::{AllocError, Global};
 
 fn argument<'a>(alloc: Global, word: &Word<'a>) -> Arg<'a>
@@ -28,6 +28,7 @@ fn argument<'a>(alloc: Global, word: &Word<'a>) -> Arg<'a>
             .value_name("N")
             .required(required)
             .value_parser(ValueParser::signed(i64::from(least), i64::from(most))),
+        WordForm::Flag => argument.long(word.id).action(ArgAction::SetTrue),
     }
 }
 

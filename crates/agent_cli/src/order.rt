@@ -59,6 +59,8 @@ pub enum Deed<'a> {
         port: u16,
         /// How many connections are served.
         requests: u32,
+        /// Whether it ends where the agent is closed.
+        until_closed: bool,
     },
 }
 

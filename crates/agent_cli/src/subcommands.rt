@@ -63,6 +63,8 @@ pub(crate) enum WordForm<'a> {
         most: u32,
         required: bool,
     },
+    /// As `--id`, without a value.
+    Flag,
 }
 
 /// An argument: how it is given, and what help says of it.
@@ -464,7 +466,8 @@ static SERVE: Row<'static> = Row {
     name: "serve",
     about: "Serves requests over HTTP on 127.0.0.1, one connection at a time",
     after: "Prints: listening 127.0.0.1:P\n\
-            Example: escrow serve vault --port 8080 --requests 1000",
+            Errors: read failed or write failed for a connection; C2 or C3 when it closes the vault\n\
+            Example: escrow serve vault --port 8080 --requests 1000000 --until-closed",
     words: &[
         DIR,
         Word {
@@ -484,6 +487,11 @@ static SERVE: Row<'static> = Row {
                 required: true,
             },
             help: "Number of connections to serve before it ends, 1 to 1000000",
+        },
+        Word {
+            id: "until-closed",
+            form: WordForm::Flag,
+            help: "End with status 3 when C2 or C3 closes the vault (default: answer C4 from then on)",
         },
         Word {
             id: "now",

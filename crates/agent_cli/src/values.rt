@@ -2,7 +2,7 @@
 ghost use Rattle.std.specs.Prelude.{◌≡◌, ◌≤◌, codes};
 ghost use Rattle.clap.specs.Words.{first_of, found_of, rows_of};
 ghost use Rattle.answer_lines.specs.Number.{ShowsNumber};
-ghost use Rattle.agent_cli.specs.Grammar.{text_in};
+ghost use Rattle.agent_cli.specs.Grammar.{is_given, text_in};
 ghost use Rattle.agent_cli.specs.Forms.{ShowsDay, ShowsGround, ShowsId, ShowsIfGiven, ShowsKind, ShowsMoment, ShowsReference, ShowsTld, count_if_given, count_of};
 ghost use Rattle.agent_cli.specs.Order.{AnswersValue};
 
@@ -53,6 +53,13 @@ pub(crate) fn port_in(matches: &ArgMatches<'_>) -> u16
     ensures { result ≡ count_of (codes "port") 65_535 (rows_of (found_of matches.now)) }
 {
     count_in(matches, "port", 65_535) as u16
+}
+
+/// Whether a flag is among the words.
+pub(crate) fn is_given(matches: &ArgMatches<'_>, id: &str) -> bool
+    ensures { result ≡ is_given id.now (rows_of (found_of matches.now)) }
+{
+    text_in(matches, id) == "true"
 }
 
 pub(crate) fn tld_in(matches: &ArgMatches<'_>) -> Result<Tld, WordFault>

@@ -7,8 +7,8 @@ ghost use Rattle.agent_cli.specs.Order.{AnswersAsRead, AnswersReading, DeedReadi
 use crate::grammar::escrow_command;
 use crate::subcommands::{MOST_ABSENCES, Subcommand};
 use crate::values::{
-    count_if_given, count_in, date_in, first_in, ground_in, id_in, kind_in, now_in, number_in,
-    parts_in, port_in, reference_in, revision_in, text_in, tld_in,
+    count_if_given, count_in, date_in, first_in, ground_in, id_in, is_given, kind_in, now_in,
+    number_in, parts_in, port_in, reference_in, revision_in, text_in, tld_in,
 };
 use crate::{Deed, Order, WordFault};
 use clap::ArgMatches;
@@ -22,11 +22,7 @@ fn deed_in<'a>(subcommand: Subcommand, matches: &ArgMatches<'a>) -> Result<Deed<
     ensures { AnswersAsRead deed_meaning (DeedReading subcommand (rows_of (found_of matches.now))) result }
 {
     match subcommand {
-        Subcommand::Init => {
-            let number = number_in(matches)?;
-            let blocks = count_in(matches, "blocks", MOST_BLOCKS);
-            Ok(Deed::Init { blocks, number })
-        }
+        Subcommand::Init => init_in(matches),
         Subcommand::Register => {
             let tld = tld_in(matches)?;
             Ok(Deed::Do(Command::Register(tld, first_in(matches)?)))
@@ -44,11 +40,7 @@ fn deed_in<'a>(subcommand: Subcommand, matches: &ArgMatches<'a>) -> Result<Deed<
         Subcommand::Hold => hold_in(matches),
         Subcommand::Lift => Ok(Deed::Do(Command::Lift(reference_in(matches)?))),
         Subcommand::Release => release_in(matches),
-        Subcommand::Fetch => {
-            let reference = reference_in(matches)?;
-            let name = text_in(matches, "NAME");
-            Ok(Deed::Fetch { reference, name })
-        }
+        Subcommand::Fetch => fetch_in(matches),
         Subcommand::Report => Ok(Deed::Report {
             tld: tld_in(matches)?,
         }),
@@ -60,8 +52,17 @@ fn deed_in<'a>(subcommand: Subcommand, matches: &ArgMatches<'a>) -> Result<Deed<
         Subcommand::Serve => Ok(Deed::Serve {
             port: port_in(matches),
             requests: count_in(matches, "requests", 1_000_000),
+            until_closed: is_given(matches, "until-closed"),
         }),
     }
+}
+
+fn init_in<'a>(matches: &ArgMatches<'a>) -> Result<Deed<'a>, WordFault>
+    ensures { AnswersAsRead deed_meaning (DeedReading Subcommand.Init (rows_of (found_of matches.now))) result }
+{
+    let number = number_in(matches)?;
+    let blocks = count_in(matches, "blocks", MOST_BLOCKS);
+    Ok(Deed::Init { blocks, number })
 }
 
 /// What is stated of a deposit.
@@ -98,6 +99,14 @@ fn release_in<'a>(matches: &ArgMatches<'a>) -> Result<Deed<'a>, WordFault>
     let reference = reference_in(matches)?;
     let reason = ground_in(matches)?;
     Ok(Deed::Do(Command::Release(reference, tld, reason)))
+}
+
+fn fetch_in<'a>(matches: &ArgMatches<'a>) -> Result<Deed<'a>, WordFault>
+    ensures { AnswersAsRead deed_meaning (DeedReading Subcommand.Fetch (rows_of (found_of matches.now))) result }
+{
+    let reference = reference_in(matches)?;
+    let name = text_in(matches, "NAME");
+    Ok(Deed::Fetch { reference, name })
 }
 
 /// The order that the words of a subcommand give.
