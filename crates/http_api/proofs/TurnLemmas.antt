@@ -18,13 +18,11 @@ module _ {V S : Type 0} {g : volume.Ghosts V} {database : Ghosts S} where
   failed_turn moment old new result failed.Read is read write = inr (read is).0
   failed_turn moment old new result failed.Write is read write = let served = write is in inl (moment, refl, (served.0, served.1))
 
-  turn_at : (given : Option ℕ) (moment : ℕ) (old new : Custody V S g database) → IfSome given (λ m. moment ≡ m) → IsConnection (Some moment) old new → IsConnection given old new
+  pub turn_at : (given : Option ℕ) (moment : ℕ) (old new : Custody V S g database) → IfSome given (λ m. moment ≡ m) → IsConnection (Some moment) old new → IsConnection given old new
   turn_at None moment old new is (inl (now, same, done)) = inl (now, tt, done)
   turn_at (Some m) moment old new is (inl (now, same, done)) = inl (now, same ∙ is, done)
   turn_at None moment old new is (inr none) = inr none
   turn_at (Some m) moment old new is (inr none) = inr none
 
-  pub turns_more : (given : Option ℕ) (n moment : ℕ) (old between new : Custody V S g database) → AreConnections given n old between → IfSome given (λ m. moment ≡ m) → IsConnection (Some moment) between new
-      → AreConnections given (n + 1) old new
-  turns_more given n moment old between new before is turn =
-      subst (λ (m : ℕ). AreConnections given m old new) (sym (add-one n)) (between, before, turn_at given moment between new is turn)
+  pub turns_more : (given : Option ℕ) (n : ℕ) (old between new : Custody V S g database) → AreConnections given n old between → IsConnection given between new → AreConnections given (n + 1) old new
+  turns_more given n old between new before turn = subst (λ (m : ℕ). AreConnections given m old new) (sym (add-one n)) (between, before, turn)

@@ -12,7 +12,7 @@ mod response;
 mod status;
 mod writing;
 
-pub use connections::{ServiceError, serve_connections};
+pub use connections::{Listener, ServiceError, serve_connections};
 pub use handling::{Api, ServeError, Served};
 pub use response::Media;
 pub use status::ResponseStatus;
