@@ -1,5 +1,5 @@
 -- What an order does over the two files of a folder.
-use Rattle.std.specs.Prelude.{◌≡◌, ℕ, List, [], Option, None, Some, true, false, take, IfSome, MatchOption}
+use Rattle.std.specs.Prelude.{◌≡◌, ℕ, Bool, List, [], Option, None, Some, true, false, take, IfSome, MatchOption}
 use Rattle.vault_volume.specs.declared.volume.Volume as volume
 use Rattle.vault_volume.specs.declared.file.FileVolume.{FileVolume}
 use Rattle.vault_volume.specs.File.{is_new_file}
@@ -37,9 +37,9 @@ module _ {S : Type 0} (g : volume.Ghosts FileVolume) (database : Ghosts S) (volu
     pub ends : MatchOption vault (HasPrintedOpenFailure g database volume db status output errors) (λ v. IsCarriedOut g database volume db order.deed bytes now status v.0 v.1 output errors)
 
   -- the files were found, and so many connections at most were answered at this port, or no agent was opened
-  pub record ServesFolder (port requests : ℕ) (given : Option ℕ) : Type 0 where
+  pub record ServesFolder (port requests : ℕ) (until_closed : Bool) (given : Option ℕ) : Type 0 where
     pub found : is_new_file volume ≡ false
-    pub ends : MatchOption vault (HasPrintedOpenFailure g database volume db status output errors) (λ v. HasServedConnections g database volume db port given requests status v.0 v.1 output)
+    pub ends : MatchOption vault (HasPrintedOpenFailure g database volume db status output errors) (λ v. HasServedConnections g database volume db port given requests until_closed status v.0 v.1 output)
 
   -- each order does its own; the bytes of a `put` are those that were read
   abbrev pub IsOrderDone : (List ℕ → Type 0) → Order → Type 0
@@ -48,7 +48,7 @@ module _ {S : Type 0} (g : volume.Ghosts FileVolume) (database : Ghosts S) (volu
       by : Deed → Type 0
       by (deed.Init blocks number) = InitsFolder blocks number
       by (deed.Put file) = (bytes : List ℕ) × IsRead bytes × ActsInFolder order bytes
-      by (deed.Serve port requests) = ServesFolder port requests order.now
+      by (deed.Serve port requests until_closed) = ServesFolder port requests until_closed order.now
       by other = ActsInFolder order []
 
 -- an order was done over a volume and a database, with this status

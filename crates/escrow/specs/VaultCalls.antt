@@ -1,5 +1,5 @@
 -- What a call does over a volume and a database.
-use Rattle.std.specs.Prelude.{◌≡◌, ℕ, ◌≤◌, List, Option}
+use Rattle.std.specs.Prelude.{◌≡◌, ℕ, ◌≤◌, List, Option, Bool, true}
 use Rattle.vault_volume.specs.declared.volume.Volume as volume
 use Rattle.vault_volume.specs.Vault.{volume_of}
 use Rattle.sqlite.specs.Store.{Ghosts}
@@ -9,7 +9,7 @@ use Rattle.custody_machine.specs.Texts.{failure_text}
 use Rattle.custody.specs.declared.custody.Custody.{Custody}
 use Rattle.custody.specs.declared.answers.InitError.{InitError}
 use Rattle.custody.specs.Answers.{init_error_text}
-use Rattle.custody.specs.Custody.{open_custody_of}
+use Rattle.custody.specs.Custody.{open_custody_of, is_open}
 use Rattle.custody.specs.Calls.{HasBegun, IsLoaded, IsNotBegun, IsNotOpenedFor, IsOpened}
 use Rattle.answer_lines.specs.Lines.{line_text}
 use Rattle.answer_lines.specs.Printing.{WritesBeginning, IsUnused, WritesWholeAt, Writer, as_line}
@@ -60,8 +60,8 @@ module _ {V S : Type 0} (g : volume.Ghosts V) (database : Ghosts S) (volume : V)
     pub told : WritesBeginning errors (as_line (init_error_text error))
     pub unused : IsUnused output
 
-  -- one was opened, told the port where it listens, and answered connections at the given moment: with status 0 so many, and else at most so many
-  pub record HasServedConnections (port : ℕ) (given : Option ℕ) (requests status : ℕ) (later : V) (then : Held S) (output : Writer) : Type 0 where
+  -- one was opened, told the port where it listens, and answered connections at the given moment: with status 0 so many, and else at most so many; where it was to end when it is closed, status 0 tells that it was not
+  pub record HasServedConnections (port : ℕ) (given : Option ℕ) (requests : ℕ) (until_closed : Bool) (status : ℕ) (later : V) (then : Held S) (output : Writer) : Type 0 where
     pub old : Custody V S g database
     pub new : Custody V S g database
     pub served : ℕ
@@ -70,6 +70,7 @@ module _ {V S : Type 0} (g : volume.Ghosts V) (database : Ghosts S) (volume : V)
     pub at_most : served ≤ requests
     pub all : status ≡ 0 → served ≡ requests
     pub turns : AreConnections given served old new
+    pub stays_open : until_closed ≡ true → status ≡ 0 → is_open new ≡ true
     pub done : IsStatusAfter 0 status
     pub told : WritesWholeAt output (as_line (line_text (Listening port))) 0 status
     pub volume_is : later ≡ volume_of (open_custody_of new).vault

@@ -16,7 +16,7 @@ use custody_machine::Failure;
 use custody_store::has_any_table;
 use sqlite::{Alter, Connection, Error, ErrorCode, File, FileStore};
 use std::alloc::{AllocError, Global};
-use std::fs;
+use std::fs::{self, OpenOptions};
 use std::io::{self, Read};
 use vault_volume::{FileVolume, Volume};
 
@@ -251,7 +251,34 @@ fn open_database(rt: &HostRuntime, path: &str) -> Result<Database, ProgramError>
 {
     match Connection::open(rt, path) {
         Ok(db) => Ok(db),
-        Err(error) => Err(open_error(rt.alloc(), path, error)),
+        Err(error) => {
+            if let Error::SqliteFailure(ErrorCode::CannotOpen) = error {
+                find_log(rt, path)?;
+            }
+            Err(open_error(rt.alloc(), path, error))
+        }
+    }
+}
+
+/// Opens a file for reading and writing.
+fn open_file(rt: &HostRuntime, path: &str) -> io::Result<fs::File> {
+    OpenOptions::new().read(true).write(true).open(rt, path)
+}
+
+/// Finds the log of a database whose own file opens. It may be missing, and is else to be a file that may
+/// be read and written.
+fn find_log(rt: &HostRuntime, path: &str) -> Result<(), ProgramError>
+    ensures { IfErr result IsOfVault }
+{
+    if open_file(rt, path).is_err() {
+        return Ok(());
+    }
+    let log = format!(in rt.alloc(); "{path}-wal")?;
+    match open_file(rt, &log) {
+        Err(error) if error.kind() != io::ErrorKind::NotFound => {
+            Err(ProgramError::by_file(rt.alloc(), &log, error))
+        }
+        _ => Ok(()),
     }
 }
 

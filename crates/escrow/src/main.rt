@@ -16,6 +16,7 @@ ghost use Rattle.escrow.specs.declared.files.OpenFolder.{OpenFolder};
 mod clock;
 mod errors;
 mod files;
+mod output;
 mod streams;
 mod terminal;
 mod vault_calls;
@@ -25,6 +26,7 @@ use answer_lines::{WriteFailed, failure_bytes, write_whole};
 use custody_machine::{ExitStatus, Failure};
 use errors::ProgramError;
 use files::{FolderCallEnd, close, create_folder, open_folder, open_part, read_part};
+use output::Output;
 use schedule::Sec;
 use std::env;
 use std::io::{self, BufWriter, Read, Write};
@@ -33,6 +35,9 @@ use streams::hold_streams;
 use terminal::Terminal;
 use vault_calls::{init_vault, open_and_act, serve};
 use vault_volume::{FileVolume, Volume};
+
+/// What is said where standard output does not take all that is printed.
+const OUTPUT_FAILED: &str = "output failed";
 
 /// Prints the text of words that are no order, help among them, and answers the status.
 fn tell_words(rt: &HostRuntime, fault: &WordFault) -> u8
@@ -44,7 +49,10 @@ fn tell_words(rt: &HostRuntime, fault: &WordFault) -> u8
     };
     match printed {
         Ok(()) => fault.status(),
-        Err(_) => ExitStatus::Failed.number(),
+        Err(_) => {
+            let _ = eprintln!(rt; "{OUTPUT_FAILED}");
+            ExitStatus::Failed.number()
+        }
     }
 }
 
@@ -132,10 +140,14 @@ fn carry_out<R: Read + Drop, W: Write, E: Write>(
             let bytes = read_part(rt.alloc(), file, part)?;
             act_in_folder(rt, order, &bytes, out, err)
         }
-        Deed::Serve { port, requests } => {
+        Deed::Serve {
+            port,
+            requests,
+            until_closed,
+        } => {
             let found = open_folder(rt, order.folder)?;
             let files = (found.volume, found.db);
-            Ok(serve(rt, files, port, requests, order.now, out, err))
+            Ok(serve(rt, files, port, requests, until_closed, order.now, out, err))
         }
         Deed::Preview(_)
         | Deed::Do(_)
@@ -156,10 +168,14 @@ fn obey(rt: &HostRuntime, order: &Order<'_>) -> Result<u8, ProgramError>
 {
     let _streams = hold_streams(rt)?;
     let part = open_part(rt, order)?;
-    let mut out = BufWriter::new(rt.alloc(), io::writer(rt)).map_err(|_| ProgramError::Failure(
+    let buffered = BufWriter::new(rt.alloc(), io::writer(rt)).map_err(|_| ProgramError::Failure(
         Failure::NoMemory,
     ))?;
+    let mut out = Output::new(buffered);
     let ended = carry_out(rt, order, part, &mut out, &mut rt.stderr())?;
+    if out.has_failed() {
+        let _ = eprintln!(rt; "{OUTPUT_FAILED}");
+    }
     Ok(close(ended))
 }
 

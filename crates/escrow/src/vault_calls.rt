@@ -1,5 +1,6 @@
 //! What a call does over a volume and a database, of whatever kinds they are.
-ghost use Rattle.std.specs.Prelude.{◌≡◌, ◌-◌, ◌^◌, ◌<◌, ◌≤◌, ℕ, MatchOption};
+ghost use Rattle.std.specs.Prelude.{◌≡◌, ◌-◌, ◌^◌, ◌<◌, ◌≤◌, ℕ, true, MatchOption};
+ghost use Rattle.custody.specs.Custody.{is_open};
 ghost use Rattle.answer_lines.specs.Lines.{line_text};
 ghost use Rattle.answer_lines.specs.Printing.{WritesWholeAt, as_line};
 ghost use Rattle.answer_lines.specs.Statuses.{IsStatusAfter};
@@ -10,12 +11,11 @@ use agent_cli::{Deed, act};
 use answer_lines::{Line, VolumeNumber, print_line, tell, tell_init};
 use custody::{Custody, Progress};
 use custody_machine::{ExitStatus, Failure};
-use http_api::{Api, ServiceError, serve_connections};
+use http_api::{Api, Listener, ServiceError, serve_connections};
 use schedule::Sec;
 use sqlite::{Alter, Connection};
 use std::alloc::Global;
 use std::io::Write;
-use std::net::{Ipv4Addr, TcpListener};
 use vault_volume::Volume;
 
 /// How a call ended: the exit status, and what is to be closed where there is a vault.
@@ -91,6 +91,7 @@ pub fn serve<V: Volume, S: Alter + Drop, W: Write, E: Write>(
     files: (V, Connection<S>),
     port: u16,
     requests: u32,
+    until_closed: bool,
     now: Option<Sec>,
     out: &mut W,
     err: &mut E,
@@ -98,7 +99,7 @@ pub fn serve<V: Volume, S: Alter + Drop, W: Write, E: Write>(
     requires { V.failures files.0 < 2 ^ 64 - 1 }
     ensures { MatchOption result.vault
         (HasPrintedOpenFailure V.Volume S.Store files.0 files.1 result.status (record { before = W.contents out.old; after = W.contents out.new }) (record { before = E.contents err.old; after = E.contents err.new }))
-        (λ v. HasServedConnections V.Volume S.Store files.0 files.1 port now requests result.status v.0 v.1 (record { before = W.contents out.old; after = W.contents out.new })) }
+        (λ v. HasServedConnections V.Volume S.Store files.0 files.1 port now requests until_closed result.status v.0 v.1 (record { before = W.contents out.old; after = W.contents out.new })) }
 {
     let (volume, db) = files;
     let mut custody = match Custody::open(rt.alloc(), volume, db) {
@@ -110,7 +111,16 @@ pub fn serve<V: Volume, S: Alter + Drop, W: Write, E: Write>(
             };
         }
     };
-    let status = answer_connections(rt, &mut custody, port, requests, now, out, err);
+    let status = answer_connections(
+        rt,
+        &mut custody,
+        port,
+        requests,
+        until_closed,
+        now,
+        out,
+        err,
+    );
     CallEnd {
         status,
         vault: Some(custody.close()),
@@ -123,11 +133,13 @@ fn answer_connections<V: Volume, S: Alter, W: Write, E: Write>(
     custody: &mut Custody<V, S>,
     port: u16,
     requests: u32,
+    until_closed: bool,
     now: Option<Sec>,
     out: &mut W,
     err: &mut E,
 ) -> u8
     ensures turns { (served : ℕ) × (served ≤ requests) × (result ≡ 0 → served ≡ requests) × AreConnections now served custody.old custody.new }
+    ensures stays_open { until_closed ≡ true → is_open custody.old ≡ true → result ≡ 0 → is_open custody.new ≡ true }
     ensures status { IsStatusAfter 0 result }
     ensures told { WritesWholeAt (record { before = W.contents out.old; after = W.contents out.new }) (as_line (line_text (Line.Listening port))) 0 result }
 {
@@ -135,14 +147,26 @@ fn answer_connections<V: Volume, S: Alter, W: Write, E: Write>(
     let Ok(api) = Api::new(alloc) else {
         return tell(&Failure::NoMemory, err);
     };
-    let Ok(listener) = TcpListener::bind(rt, (Ipv4Addr::LOCALHOST, port)) else {
-        return print_service_error(ServiceError::Socket, err);
+    let listener = match Listener::bind(rt, port) {
+        Ok(listener) => listener,
+        Err(fault) => return print_service_error(fault, err),
     };
     let status = print_line(&Line::Listening { port }, out);
     if status != ExitStatus::Done.number() {
         return status;
     }
-    match serve_connections(alloc, rt, &api, &listener, requests, custody, now, err) {
+    let served = serve_connections(
+        alloc,
+        rt,
+        &api,
+        &listener,
+        requests,
+        until_closed,
+        custody,
+        now,
+        err,
+    );
+    match served {
         Ok(()) => ExitStatus::Done.number(),
         Err(fault) => print_service_error(fault, err),
     }
