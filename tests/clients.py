@@ -14,7 +14,7 @@ its response is whole, by its bytes alone, and reports no failure (500 or 503). 
 - `escrow state`, behind each step and some of the kills, prints what it prints there without kills: before the request or
   behind it, by the same rule. `escrow audit` finds each held part sound.
 - The parts that are released at the end have the bytes that were sent.
-- No server ends by itself, or prints anything but that a client went away.
+- No server ends by itself, or prints anything but that a client went away, or a failure that closed its vault.
 
 It ends after N rounds (40), or with the round that is on after S seconds (60). What befalls a try depends on the seed, the
 numbers of round, request and try, and the time that the request takes without kills. PROGRAM is crates/escrow/out/escrow
@@ -185,8 +185,9 @@ def check_end(end: tuple[int | None, str], status: int, *lines: str) -> None:
         raise Wrong(f"serve ends with {end}")
 
 
-def kill(server: Server) -> None:
-    check_end(server.kill(), -signal.SIGKILL, "read failed", "write failed")
+def kill(server: Server, *closing: str) -> None:
+    """Kills a server. It may have written the failure that closed its vault."""
+    check_end(server.kill(), -signal.SIGKILL, "read failed", "write failed", *closing)
 
 
 # ---- the client
@@ -412,8 +413,8 @@ class Round:
         compare_state(state_of(self.program, self.vault), [self.plain.states[index]])
         self.server = None
 
-    def kill(self) -> None:
-        kill(self.server)
+    def kill(self, *closing: str) -> None:
+        kill(self.server, *closing)
         self.counts["kills"] += 1
 
     def serve(self, now: str, r: random.Random) -> None:
@@ -472,7 +473,8 @@ class Round:
         asked.is_sent |= tried.is_sent()
         asked.is_left |= tried.is_sent() and not tried.was_killed
         if mishap.room is not None:
-            self.kill()
+            # The failure may have answered the try before this one, whose client went away.
+            self.kill("C2 volume failed", "C3 store failed")
         return came is not None
 
 

@@ -194,9 +194,10 @@ class Server:
     """A program that serves a vault, for so many requests, at a moment or by the clock."""
 
     def __init__(self, program: Path, vault: Path, requests: int = 1_000_000, now: str = "", port: int = 0,
-                 under: Iterable[str] = ()):
+                 under: Iterable[str] = (), until_closed: bool = False):
         self.vault, self.now, self.port, self.printed, self.is_killed = vault, now, port or free_port(), b"", False
-        words = ["serve", vault, "--port", str(self.port), "--requests", str(requests), *(["--now", now] if now else [])]
+        words = ["serve", vault, "--port", str(self.port), "--requests", str(requests), *(["--now", now] if now else []),
+                 *(["--until-closed"] if until_closed else [])]
         self.errors = tempfile.TemporaryFile()
         self.process = subprocess.Popen([*under, program, *words], stdin=subprocess.DEVNULL, stdout=subprocess.PIPE,
                                         stderr=self.errors)
@@ -213,6 +214,10 @@ class Server:
             if not piece:
                 return False
         return True
+
+    def told(self) -> list[str]:
+        """The lines of its errors so far."""
+        return lines_of(os.pread(self.errors.fileno(), 1 << 16, 0))
 
     def end(self, seconds: float = LIMIT) -> tuple[int | None, str]:
         """Waits for its end. Gives its status, none where it had to be ended, and the lines of its errors."""
@@ -289,9 +294,9 @@ class Answer:
 
     def lines(self) -> list[str]:
         """The lines of its output. After a failure, or with errors, those of its errors follow: `!` and the status before
-        the first one, `!` before each other."""
+        the first one (None, if it did not end in time), `!` before each other."""
         first, *others = lines_of(self.err) or [""]
-        failure = [f"!{self.status} {first}".rstrip(), *(f"! {it}" for it in others)] if self.status or first else []
+        failure = [f"!{self.status} {first}".rstrip(), *(f"! {it}" for it in others)] if self.status != 0 or first else []
         return lines_of(self.out) + failure
 
 
@@ -386,10 +391,9 @@ class Room:
         return done.out.decode().removesuffix("\n")
 
     @contextlib.contextmanager
-    def serve(self, vault: str, requests: int, now: str = TEN, *, errors: str = "", status: int = 0,
-              under: Iterable[str] = ()) -> Iterator[Server]:
+    def serve(self, vault: str, requests: int, now: str = TEN, *, errors: str = "", status: int = 0, **how) -> Iterator[Server]:
         """A server of a vault for so many requests. Behind them it ends with this status and these errors (a pattern)."""
-        with contextlib.closing(Server(self.program, self.folder / vault, requests, now, under=under)) as server:
+        with contextlib.closing(Server(self.program, self.folder / vault, requests, now, **how)) as server:
             self.true(server.listens(LIMIT), "serve does not listen")
             yield server
             ended, printed = server.end()

@@ -30,15 +30,16 @@ CLI = TOP / "crates" / "agent_cli" / "src"
 
 @dataclass
 class Word:
-    """An argument: its id, the name of its value where it is an option, and what help says of it."""
+    """An argument: its id, the name of its value where it is an option (of a flag it is empty), and what help says of
+    it."""
     id: str
-    value: str
+    value: str | None
     required: bool
     help: str
 
     @property
     def name(self) -> str:
-        return f"--{self.id}" if self.value else self.id
+        return self.id if self.value is None else f"--{self.id}"
 
 
 @dataclass
@@ -64,8 +65,9 @@ def field(name: str, block: str) -> str:
 
 def word_of(block: str) -> Word:
     value = re.search(rf"WordForm::Option \{{\s*value: {STRING}", block)
-    name = value[1] if value else "N" if "WordForm::Count" in block else ""
-    return Word(field("id", block), name, "required: false" not in block, field("help", block))
+    name = value[1] if value else "N" if "WordForm::Count" in block else "" if "WordForm::Flag" in block else None
+    required = name != "" and "required: false" not in block
+    return Word(field("id", block), name, required, field("help", block))
 
 
 def words_in(listed: str, indent: int, shared: dict[str, Word]) -> list[Word]:
@@ -106,8 +108,9 @@ def roff(line: str) -> str:
 
 def usage(row: Row) -> str:
     """The words of a call in roff, names in bold and values in italics."""
-    places = [f"\\fI{it.id}\\fR" for it in row.words if not it.value]
-    options = [(f"\\fB\\-\\-{it.id}\\fR \\fI{it.value}\\fR", it.required) for it in row.words if it.value]
+    places = [f"\\fI{it.id}\\fR" for it in row.words if it.value is None]
+    options = [(f"\\fB\\-\\-{it.id}\\fR" + (f" \\fI{it.value}\\fR" if it.value else ""), it.required)
+               for it in row.words if it.value is not None]
     shown = [option if required else f"[{option}]" for option, required in options]
     return " ".join([f"\\fBescrow {row.name}\\fR", *places, *shown])
 
@@ -123,7 +126,7 @@ def manual(rows: list[Row]) -> str:
     for row in rows:
         lines += [".TP", usage(row), roff(row.about) + "."]
         for word in row.words:
-            shown = roff(f"{word.name} {word.value}".rstrip())
+            shown = roff(f"{word.name} {word.value or ''}".rstrip())
             lines += [".RS", ".TP", f"\\fI{shown}\\fR", roff(word.help) + ".", ".RE"]
         lines += [".RS", ".PP", ".nf", *map(roff, row.after.split("\n")), ".fi", ".RE"]
     lines += [".SH EXAMPLES", ".nf", *(roff(it.strip()) for it in first.split("\n")[1:]), ".fi", ".SH EXIT STATUS"]
@@ -149,12 +152,13 @@ CODE = "# What is offered for the word at the cursor.\n"
 
 
 def completions(rows: list[Row]) -> str:
-    options = {row.name: [it.name for it in row.words if it.value] for row in rows}
-    places = {row.name: [it.id for it in row.words if not it.value] for row in rows}
+    options = {row.name: [it.name for it in row.words if it.value is not None] for row in rows}
+    flags = {row.name: found for row in rows if (found := [it.name for it in row.words if it.value == ""])}
+    places = {row.name: [it.id for it in row.words if it.value is None] for row in rows}
     values = {f"{row.name} {it.name}": found for row in rows for it in row.words if (found := choices(row, it))}
     lines = ["# Completions of bash for escrow. The tables are made by tests/made.py from the table of the words.",
              "# Source this file, or copy it to /usr/share/bash-completion/completions/escrow"]
-    for name, table in (("options", options), ("places", places), ("values", values)):
+    for name, table in (("options", options), ("flags", flags), ("places", places), ("values", values)):
         entries = (f"    [{key}]='{' '.join(words)}'" for key, words in table.items())
         lines += [f"declare -gA _escrow_{name}=(", *entries, ")"]
     kept = (TOP / "docs" / "escrow.bash").read_text()

@@ -2,6 +2,14 @@
 from lib import DAY, PART, TEN, transcripts
 
 VERIFY, INIT = "escrow verify nowhere example --revision 0 --parts 1", "--blocks 8 --number 0000000000000001"
+# Words with a mistyped option, and the option that is suggested.
+MISTYPED = {
+    "serve d --prot 8080 --requests 1": "--port", "serve d --port 8080 --request 1": "--requests",
+    "serve d --port 8080 --requests 1 --until-close": "--until-closed", "sweep d --atmost 1": "--at-most",
+    f"verify d example --date {DAY} --kind full --revison 0 --parts 1 --id X": "--revision",
+    f"register d example --frist {DAY}": "--first", "init d --block 8": "--blocks", "--versoin": "--version"}
+SUGGESTED = "".join(f"$ escrow {words} 2> errors -> !2\n$ grep tip: errors ->   tip: a similar argument exists: '{option}'\n"
+                    for words, option in MISTYPED.items())
 
 transcripts(__name__, rf"""
 == of the words the first that has a fault is reported
@@ -20,6 +28,8 @@ $ for n in -1 1000001 x ''; do escrow sweep d --at-most "$n" 2>> errors || echo 
 $ grep -c "invalid value '.*' for '--at-most <N>'" errors -> 3
 $ escrow sweep d --at-most 1 --at-most 2 2> errors -> !2
 $ escrow sweep d --at-most 1000000 -> !3 file failed: d/vault.vol: file missing
+== a mistyped option suggests the one that is like it
+{SUGGESTED}$ ls -> errors
 == after the words come the file of a part and the folder which is not made
 $ mkdir in; touch in/{PART}
 $ {VERIFY} --date {DAY} --kind full --id X -> !3 file failed: nowhere: folder missing

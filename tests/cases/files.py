@@ -1,4 +1,4 @@
-"""The files of a vault: not made yet, made twice, those of another vault, and those that may not be written."""
+"""The files of a vault: not made yet, made twice, those of another vault, and those that cannot be opened."""
 import os
 
 from lib import DAY, PART, TEN, state, transcripts
@@ -8,6 +8,7 @@ INIT, STATE = "--blocks 8 --number 0000000000000001", state(6, f"part {PART} 5 h
 VAULT = f"""$ vault d
 $ echo -n hello > {PART}; escrow put d {PART} --now {TEN} -> received {PART} 5 {TEN}
 $ sha256sum d/vault.vol d/custody.db > digests"""
+LOG = "!3 file failed: d/custody.db-wal:"
 # Runs a program as a user to whom the modes of files apply.
 NOBODY = "" if os.getuid() else "setpriv --reuid=65534 --regid=65534 --clear-groups"
 
@@ -74,7 +75,24 @@ $ sha256sum -c --quiet digests
 == a folder is no database
 $ vault d
 $ rm d/custody.db*; mkdir d/custody.db
-$ escrow state d -> !3 file failed: d/custody.db: unable to open database file""")
+$ escrow state d -> !3 file failed: d/custody.db: unable to open database file
+== a log that is a folder is named
+{VAULT}
+$ rm d/custody.db-wal; mkdir d/custody.db-wal
+$ escrow state d -> {LOG} Is a directory (os error 21)
+$ escrow put d {PART} --now {TEN} -> {LOG} Is a directory (os error 21)
+$ escrow init d {INIT} -> {LOG} Is a directory (os error 21)
+$ sha256sum -c --quiet digests; rmdir d/custody.db-wal
+$ escrow state d -> {STATE}
+== a journal beside the database is not named
+{VAULT}
+$ echo x > d/custody.db-journal
+$ escrow state d -> !3 file failed: d/custody.db: unable to open database file
+$ sha256sum -c --quiet digests; rm d/custody.db-journal
+$ escrow state d -> {STATE}""")
+# Commands where the log has each of these modes.
+DENIED = "".join(f"$ chmod {mode} d/custody.db-wal; {NOBODY} escrow {words} -> {LOG} Permission denied (os error 13)\n"
+                 for mode, words in (("000", "state d"), ("222", f"put d {PART}"), ("444", f"init d {INIT}")))
 
 transcripts(__name__, f"""
 == nothing is made in a folder that may not be written
@@ -86,4 +104,17 @@ $ ls -A closed
 $ chmod 444 d/*; chmod 555 d
 $ {NOBODY} escrow state d -> !3 file failed: d/vault.vol: Permission denied (os error 13)
 $ sha256sum -c --quiet digests
-$ chmod 755 d""", needs=NOBODY.split(" ")[0])
+$ chmod 755 d
+== a log that may not be read and written is named
+{VAULT}
+$ chmod 777 d; chmod 666 d/*; {NOBODY} escrow state d -> {STATE}
+$ sha256sum d/* > digests
+{DENIED}$ chmod 666 d/custody.db-wal; sha256sum -c --quiet digests
+$ {NOBODY} escrow state d -> {STATE}
+== a log that is missing and may not be made is not named
+{VAULT}
+$ rm d/custody.db-wal; chmod 666 d/*; chmod 555 d
+$ {NOBODY} escrow state d -> !3 file failed: d/custody.db: unable to open database file
+$ sha256sum -c --quiet digests; ls d -> custody.db
+vault.vol
+$ chmod 777 d; {NOBODY} escrow state d -> {STATE}""", needs=NOBODY.split(" ")[0])

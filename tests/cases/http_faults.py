@@ -110,5 +110,5 @@ def a_volume_that_cannot_be_written_closes_the_vault(room: Room) -> None:
         (PUT, LARGE, 503, "C2 volume failed"),
         (PUT, "hello", 503, "C4 closed"),
         *((f"GET /{path}", None, 503, "C4 closed") for path in ("notices/example", "state", "due", "digests/example"))),
-        f"$ escrow state d -> {state(299, blocks=300)}",
+        f"$ escrow state d -> {state(299, blocks=300)}", errors="C2 volume failed",
         under=("env", "--ignore-signal=XFSZ", "prlimit", "--fsize=700000"))

@@ -63,10 +63,11 @@ $ escrow fetch d R_1 {PART} -> !2 bad value for REF
 $ escrow fetch nowhere R-1 {PART} -> !3 file failed: nowhere: folder missing
 == a part that cannot be written is a failure
 {RELEASE}
-$ escrow fetch d R-1 {PART} > /dev/full -> !3
+$ escrow fetch d R-1 {PART} > /dev/full -> !3 output failed
+$ escrow fetch d R-1 {PART} >&- -> !3 output failed
 # The reader of the pipe has gone when the part is written.
-$ exec 3> >(:); wait $!; escrow fetch d R-1 {PART} >&3 -> !3
-$ trap '' PIPE; exec 3> >(:); wait $!; escrow fetch d R-1 {PART} >&3 -> !3
+$ exec 3> >(:); wait $!; escrow fetch d R-1 {PART} >&3 -> !3 output failed
+$ trap '' PIPE; exec 3> >(:); wait $!; escrow fetch d R-1 {PART} >&3 -> !3 output failed
 == a spoiled part is not fetched
 {RELEASE}
 $ printf x | dd of=d/vault.vol bs=4096 seek=2 conv=notrunc status=none
