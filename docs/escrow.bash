@@ -17,7 +17,10 @@ declare -gA _escrow_options=(
     [digests]=''
     [state]=''
     [audit]=''
-    [serve]='--port --requests --now'
+    [serve]='--port --requests --until-closed --now'
+)
+declare -gA _escrow_flags=(
+    [serve]='--until-closed'
 )
 declare -gA _escrow_places=(
     [init]='DIR'
@@ -47,6 +50,11 @@ declare -gA _escrow_values=(
 # What is offered for the word at the cursor.
 _escrow_offer() { mapfile -t COMPREPLY < <(compgen "$@" -- "${COMP_WORDS[COMP_CWORD]}"); }
 
+# Whether an option of the command has a value.
+_escrow_takes_value() {
+    [[ " ${_escrow_options[$1]} " == *" $2 "* && " ${_escrow_flags[$1]} " != *" $2 "* ]]
+}
+
 _escrow() {
     local command=${COMP_WORDS[1]} before=${COMP_WORDS[COMP_CWORD - 1]} places=() place=0 at
     COMPREPLY=()
@@ -54,14 +62,15 @@ _escrow() {
         _escrow_offer -W "${!_escrow_places[*]} help --help --version"
     elif [[ $command == help ]]; then
         ((COMP_CWORD == 2)) && _escrow_offer -W "${!_escrow_places[*]}"
-    elif [[ " ${_escrow_options[$command]} " == *" $before "* ]]; then
+    elif _escrow_takes_value "$command" "$before"; then
         _escrow_offer -W "${_escrow_values[$command $before]}"
     elif [[ ${COMP_WORDS[COMP_CWORD]} == -* ]]; then
         _escrow_offer -W "${_escrow_options[$command]} --help"
     else
         # the place of the word among those that are no option and no value of one
         for ((at = 2; at < COMP_CWORD; at++)); do
-            if [[ ${COMP_WORDS[at]} == --* ]]; then ((at++)); else ((place++)); fi
+            if _escrow_takes_value "$command" "${COMP_WORDS[at]}"; then ((at++))
+            elif [[ ${COMP_WORDS[at]} != --* ]]; then ((place++)); fi
         done
         read -ra places <<< "${_escrow_places[$command]}"
         case ${places[place]} in
