@@ -155,9 +155,9 @@ pub fn serve_connections<C: Clock, V: Volume, S: Alter, E: Write>(
     // The clock fails only where it is read.
     ensures clock { result ≡ Err ServiceError.Clock → now ≡ None }
     ensures fewer { IfErr result (λ fault. (served : ℕ) × MayEndAfter fault served count × AreConnections now served custody.old custody.new) }
-    // It ends early where the custody is closed, by the failure that is answered.
+    // The custody is then closed, by the failure that is returned.
     ensures closed { (why : failure) → result ≡ Err (ServiceError.Closed why) → (until_closed ≡ true) × (failure_of custody.new ≡ Some why) }
-    // And does not go on with one that it has closed.
+    // No error means that none of them has closed it.
     ensures stays_open { until_closed ≡ true → is_open custody.old ≡ true → OnOk result (is_open custody.new ≡ true) }
 {
     for _ in 0..count {
