@@ -5,8 +5,8 @@ use std::alloc::Global;
 use std::test::Fail;
 use std::{env, fs, process};
 use vault_volume::{
-    BLOCK_BYTES, Extent, ExtentMap, FileError, FileVolume, MemVolume, Staged, Vault, Volume,
-    read_head, write_head,
+    Access, BLOCK_BYTES, Extent, ExtentMap, FileError, FileVolume, MemVolume, Staged, Vault,
+    Volume, read_head, write_head,
 };
 
 const BLOCK: usize = BLOCK_BYTES as usize;
@@ -371,21 +371,25 @@ fn a_file_is_opened_again(rt: HostRuntime) -> Result<(), Fail> {
     let name_of = format!(in rt.alloc(); "vault-volume-test-{}", process::id(rt.process()))?;
     let folder = env::temp_dir(&rt)?.join(rt.alloc(), name_of.as_str())?;
     let path = folder.as_path().as_str();
-    assert!(rt; has_kind(FileVolume::open(&rt, path), "missing"));
+    assert!(rt; has_kind(FileVolume::open(&rt, path, Access::ReadAndWrite), "missing"));
     let mut volume = FileVolume::create(&rt, path, 3)?;
-    assert!(rt; has_kind(FileVolume::open(&rt, path), "locked"));
+    assert!(rt; has_kind(FileVolume::open(&rt, path, Access::ReadAndWrite), "locked"));
     assert!(rt; has_kind(FileVolume::create(&rt, path, 1), "locked"));
     assert!(rt; name(&mut volume));
     let (volume, staged) = keep_from(rt.alloc(), volume, 1, &HELD);
     assert!(rt; staged && volume.size() == 3);
     drop(volume);
-    let mut volume = FileVolume::open(&rt, path)?;
+    let mut volume = FileVolume::open(&rt, path, Access::ReadAndWrite)?;
     assert_eq!(rt; (volume.size(), number_of(&mut volume)), (3, Some(NUMBER)));
     let (volume, out) = held(rt.alloc(), volume);
     assert_eq!(rt; out.as_slice(), HELD.as_slice());
     drop(volume);
+    let mut volume = FileVolume::open(&rt, path, Access::Read)?;
+    assert!(rt; !name(&mut volume));
+    assert_eq!(rt; number_of(&mut volume), Some(NUMBER));
+    drop(volume);
     fs::write(&rt, path, b"short")?;
-    assert!(rt; has_kind(FileVolume::open(&rt, path), "length"));
+    assert!(rt; has_kind(FileVolume::open(&rt, path, Access::ReadAndWrite), "length"));
     fs::remove_file(&rt, path)?;
     Ok(())
 }
