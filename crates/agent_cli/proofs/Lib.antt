@@ -6,4 +6,5 @@ mod HelpLemmas
 pub mod OneReading
 pub mod PathLemmas
 pub mod Readings
+mod ReadLemmas
 mod SweepLemmas

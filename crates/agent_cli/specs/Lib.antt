@@ -5,3 +5,4 @@ pub mod Faults
 pub mod Forms
 pub mod Grammar
 pub mod Order
+pub mod Reads

@@ -1,7 +1,8 @@
-//! Laws of orders and of sweeps.
+//! Laws of orders, of sweeps and of deeds that only read.
 ghost use Rattle.agent_cli.specs.DueSwept.{DueIsChecked, SweepRecordsDue};
 ghost use Rattle.agent_cli.specs.Examples.{WordsGiveOrders};
 ghost use Rattle.agent_cli.specs.Order.{IsOneReading};
+ghost use Rattle.agent_cli.specs.Reads.{ReadingLeavesAlone};
 
 use custody::Custody;
 use sqlite::Alter;
@@ -19,4 +20,9 @@ pub fn law_orders()
 pub fn law_due<V: Volume, S: Alter>(old: &Custody<V, S>, new: &Custody<V, S>)
     ensures checked { DueIsChecked }
     ensures swept { SweepRecordsDue old.now new.now }
+{}
+
+/// A deed that only reads leaves the agent its records and its database, and does not write its volume.
+pub fn law_reads<V: Volume, S: Alter>(old: &Custody<V, S>, new: &Custody<V, S>)
+    ensures { ReadingLeavesAlone old.now new.now }
 {}

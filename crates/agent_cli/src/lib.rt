@@ -14,7 +14,7 @@ mod words;
 
 pub use acting::act;
 pub use answer_lines::tell;
-pub use laws::{law_due, law_orders};
+pub use laws::{law_due, law_orders, law_reads};
 pub use order::{Argument, Deed, Order, WordFault};
 pub use paths::file_name;
 pub use words::order_of;

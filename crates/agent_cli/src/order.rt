@@ -1,6 +1,7 @@
 //! What a command line asks for.
 ghost use Rattle.std.specs.Prelude.{◌≡◌, Some};
 ghost use Rattle.agent_cli.specs.Faults.{IsStatusOf, argument_text, word_fault_text};
+ghost use Rattle.agent_cli.specs.Reads.{only_reads};
 ghost use Rattle.agent_cli.specs.declared.order.WordFault.TheVariants.{NoMemory};
 
 use answer_lines::VolumeNumber;
@@ -62,6 +63,28 @@ pub enum Deed<'a> {
         /// Whether it ends where the agent is closed.
         until_closed: bool,
     },
+}
+
+impl Deed<'_> {
+    /// Whether it only reads: it records nothing, and writes nothing into the vault.
+    pub fn only_reads(&self) -> bool
+        ensures { result ≡ only_reads self.now }
+    {
+        match self {
+            Deed::Preview(_)
+            | Deed::Due
+            | Deed::Fetch { .. }
+            | Deed::Report { .. }
+            | Deed::Digests { .. }
+            | Deed::State
+            | Deed::Audit => true,
+            Deed::Init { .. }
+            | Deed::Put { .. }
+            | Deed::Do(_)
+            | Deed::Sweep { .. }
+            | Deed::Serve { .. } => false,
+        }
+    }
 }
 
 /// An argument whose text has a form of its own, in the order in which they are tested.
