@@ -1,8 +1,25 @@
--- What is said of an order over some files of a folder, put in other words.
-use Rattle.std.proofs.Common.{Result, IfOk}
+-- What is said of an order that acts over the files of a folder, said of an order that is done there.
+use Rattle.std.proofs.Common.{ℕ, List, Option, Result, IfOk}
 use Rattle.std.proofs.lemmas.Result.{IfOk-weaker}
+use Rattle.vault_volume.specs.declared.volume.Volume as volume
+use Rattle.vault_volume.specs.declared.file.FileVolume.{FileVolume}
+use Rattle.sqlite.specs.Store.{Ghosts}
+use Rattle.sqlite.specs.Held.{Held}
+use Rattle.answer_lines.specs.Printing.{Writer}
+use Rattle.agent_cli.specs.declared.order.Order.{Order}
+use Rattle.escrow.specs.Folder.{ActsInFolder, HasActed, HasEnded, IsOrderDone}
+use Rattle.escrow.specs.declared.files.FolderCallEnd.{FolderCallEnd}
+use Rattle.escrow.specs.declared.files.FolderCallEnd.TheVariants as end
 
-pub IfOk-over : {T E F : Type 0} (r : Result T E) (P Q : T → F → Type 0) → ((value : T) (files : F) → P value files → Q value files)
-    → IfOk r (λ value. (files : F) × P value files) → IfOk r (λ value. (files : F) × Q value files)
-IfOk-over {F = F} r P Q in_words =
-    IfOk-weaker r (λ value. (files : F) × P value files) (λ value. (files : F) × Q value files) (λ value over. (over.0, in_words value over.0 over.1))
+module _ (g : volume.Ghosts FileVolume) (output errors : Writer) (order : Order) (bytes : List ℕ) (IsRead : List ℕ → Type 0) where
+  -- over whatever files, an order that has acted is done
+  abbrev IsDoneOverAny : Type 1
+  IsDoneOverAny = (S : Type 0) (database : Ghosts S) (volume : FileVolume) (db : Held S) (status : ℕ) (vault : Option (FileVolume × Held S))
+      → ActsInFolder g database volume db status vault output errors order bytes → IsOrderDone g database volume db status vault output errors IsRead order
+
+  acted : IsDoneOverAny → (ended : FolderCallEnd) → HasActed g output errors order bytes ended → HasEnded g output errors IsRead order ended
+  acted done (end.Open ended) (files, works) = (files, done _ _ _ _ _ _ works)
+  acted done (end.ReadOnly ended) (reads, (files, works)) = (reads, (files, done _ _ _ _ _ _ works))
+
+  pub IfOk-acted : {E : Type 0} (r : Result FolderCallEnd E) → IfOk r (HasActed g output errors order bytes) → IsDoneOverAny → IfOk r (HasEnded g output errors IsRead order)
+  IfOk-acted r acts done = IfOk-weaker r (HasActed g output errors order bytes) (HasEnded g output errors IsRead order) (acted done) acts

@@ -1,3 +1,4 @@
+mod CopyLemmas
 mod ErrorLemmas
 mod FolderLemmas
 mod PartLemmas

@@ -3,6 +3,7 @@ use Rattle.std.specs.Prelude.{◌≡◌, ℕ, Bool, List, [], Option, None, Some
 use Rattle.vault_volume.specs.declared.volume.Volume as volume
 use Rattle.vault_volume.specs.declared.file.FileVolume.{FileVolume}
 use Rattle.vault_volume.specs.File.{is_new_file}
+use Rattle.sqlite.specs.Files.{over_files}
 use Rattle.sqlite.specs.Store.{Ghosts}
 use Rattle.sqlite.specs.Held.{Held}
 use Rattle.sqlite.specs.State.{State}
@@ -10,6 +11,11 @@ use Rattle.answer_lines.specs.Printing.{Writer}
 use Rattle.agent_cli.specs.declared.order.Deed.{Deed}
 use Rattle.agent_cli.specs.declared.order.Deed.TheVariants as deed
 use Rattle.agent_cli.specs.declared.order.Order.{Order}
+use Rattle.agent_cli.specs.Reads.{only_reads}
+use Rattle.escrow.specs.declared.files.FolderCallEnd.{FolderCallEnd}
+use Rattle.escrow.specs.declared.files.FolderCallEnd.TheVariants as end
+use Rattle.escrow.specs.declared.files.OpenFolder.{OpenFolder}
+use Rattle.escrow.specs.declared.files.ReadOnlyFolder.{ReadOnlyFolder}
 use Rattle.escrow.specs.VaultCalls.{HasServedConnections, HasPrintedReady, IsCarriedOut, HasPrintedInitError, HasPrintedOpenFailure}
 
 -- a database has no table, no index and no view
@@ -51,10 +57,21 @@ module _ {S : Type 0} (g : volume.Ghosts FileVolume) (database : Ghosts S) (volu
       by (deed.Serve port requests until_closed) = ServesFolder port requests until_closed order.now
       by other = ActsInFolder order []
 
--- an order was done over a volume and a database, with this status
-pub record IsObeyed {S R : Type 0} (g : volume.Ghosts FileVolume) (database : Ghosts S) (remaining : R → Option (List ℕ)) (volume : FileVolume) (db : Held S) (order : Order) (status : ℕ) : Type 0 where
-  pub vault : Option (FileVolume × Held S)
-  pub output : Writer
-  pub errors : Writer
-  pub part : Option R
-  pub done : IsOrderDone g database volume db status vault output errors (IsPartRead remaining part) order
+-- the status with which an order over a folder ended
+abbrev pub end_status : FolderCallEnd → ℕ
+end_status (end.Open ended) = ended.status
+end_status (end.ReadOnly ended) = ended.status
+
+-- What is said of a volume and a database, a status and what is to be closed, holds of the files of a folder: of those that were opened, or, for an order that only reads, of the volume that may not be written and a copy of the database.
+abbrev pub IsOverFolder : ((S : Type 0) → Ghosts S → FileVolume → Held S → ℕ → Option (FileVolume × Held S) → Type 0) → Order → FolderCallEnd → Type 0
+IsOverFolder P order (end.Open ended) = (files : OpenFolder) × P _ over_files files.volume files.db ended.status ended.vault
+IsOverFolder P order (end.ReadOnly ended) = (only_reads order.deed ≡ true) × ((files : ReadOnlyFolder) × P _ over_files files.volume files.db ended.status ended.vault)
+
+module _ (g : volume.Ghosts FileVolume) (output errors : Writer) where
+  -- an order that acts was done over a folder
+  abbrev pub HasActed : Order → List ℕ → FolderCallEnd → Type 0
+  HasActed order bytes = IsOverFolder (λ S database volume db status vault. ActsInFolder g database volume db status vault output errors order bytes) order
+
+  -- an order was done over a folder
+  abbrev pub HasEnded : (List ℕ → Type 0) → Order → FolderCallEnd → Type 0
+  HasEnded IsRead order = IsOverFolder (λ S database volume db status vault. IsOrderDone g database volume db status vault output errors IsRead order) order

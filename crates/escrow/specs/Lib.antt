@@ -1,4 +1,5 @@
 pub mod Calls
+pub mod Copies
 pub mod Errors
 pub mod Folder
 pub mod VaultCalls

@@ -8,6 +8,9 @@ use std::alloc::{AllocError, Global};
 use std::fmt;
 use std::io::{self, ErrorKind};
 
+/// What is said of a file that is not there.
+pub const MISSING: &str = "file missing";
+
 /// What stops the program before an order is carried out.
 #[derive(Debug, Drop)]
 pub enum ProgramError {
@@ -54,7 +57,7 @@ impl ProgramError {
     {
         match error.kind() {
             ErrorKind::OutOfMemory => ProgramError::Failure(Failure::NoMemory),
-            ErrorKind::NotFound => ProgramError::of_file(alloc, path, "file missing"),
+            ErrorKind::NotFound => ProgramError::of_file(alloc, path, MISSING),
             _ => ProgramError::of_file(alloc, path, error),
         }
     }

@@ -6,8 +6,9 @@ ghost use Rattle.sqlite.specs.Held.{state};
 ghost use Rattle.custody_store.specs.StoreState.{store_state, HasMetaOrNone, has_any_table};
 ghost use Rattle.custody.specs.Opening.{HasNoRecord};
 ghost use Rattle.escrow.specs.Errors.{IsOfVault, IsOpenError};
-ghost use Rattle.escrow.specs.Folder.{IsPartRead, ListsNothing};
+ghost use Rattle.escrow.specs.Folder.{IsPartRead, ListsNothing, end_status};
 
+use crate::copies::{DatabaseCopy, copy_database};
 use crate::errors::ProgramError;
 use crate::vault_calls::CallEnd;
 use agent_cli::{Deed, Order};
@@ -15,10 +16,11 @@ use custody::has_record;
 use custody_machine::Failure;
 use custody_store::has_any_table;
 use sqlite::{Alter, Connection, Error, ErrorCode, File, FileStore};
+use sqlite_disk::Memory;
 use std::alloc::{AllocError, Global};
 use std::fs::{self, OpenOptions};
 use std::io::{self, Read};
-use vault_volume::{FileVolume, Volume};
+use vault_volume::{Access, FileVolume, Volume};
 
 /// The database in a file.
 pub type Database = Connection<FileStore<File>>;
@@ -30,8 +32,22 @@ pub struct OpenFolder {
     pub db: Database,
 }
 
-/// How an order over the files of a folder ended.
-pub type FolderCallEnd = CallEnd<FileVolume, FileStore<File>>;
+/// The two files of a vault's folder that may not be written: the volume, and a copy of the database.
+#[derive(Drop)]
+pub struct ReadOnlyFolder {
+    pub volume: FileVolume,
+    pub db: DatabaseCopy,
+}
+
+/// How an order over a folder ended.
+#[derive(Drop)]
+pub enum FolderCallEnd {
+    Open(CallEnd<FileVolume, FileStore<File>>),
+    ReadOnly(CallEnd<FileVolume, FileStore<Memory>>),
+}
+
+/// What is said of a database whose files are not those of one.
+pub const UNABLE: &str = "unable to open database file";
 
 /// One byte more than a part may have: of a longer file no more is read, and it is refused for its size.
 const READ_BYTES: u64 = 1_048_577;
@@ -76,9 +92,57 @@ pub fn open_folder(rt: &HostRuntime, folder: &str) -> Result<OpenFolder, Program
     ensures error { IfErr result IsOfVault }
 {
     find_folder(rt, folder)?;
-    let volume = open_volume(rt, folder)?;
+    let volume = open_volume(rt, folder, Access::ReadAndWrite)?;
     let (volume, db) = with_database(rt, folder, volume)?;
     Ok(OpenFolder { volume, db })
+}
+
+/// Opens the two files of a folder only to read them.
+pub fn open_folder_to_read(rt: &HostRuntime, folder: &str) -> Result<ReadOnlyFolder, ProgramError>
+    ensures failures { IfOk result (λ files. ⟦<FileVolume as Volume>⟧.failures files.volume ≡ 0) }
+    ensures found { IfOk result (λ files. is_new_file files.volume ≡ false) }
+    ensures error { IfErr result IsOfVault }
+{
+    find_folder(rt, folder)?;
+    let volume = open_volume(rt, folder, Access::Read)?;
+    let path = database_path(rt.alloc(), folder)?;
+    let db = copy_database(rt, &path)?;
+    Ok(ReadOnlyFolder { volume, db })
+}
+
+/// Whether a file of a vault's folder is there and may not be written, as on a medium that is only read.
+pub fn is_read_only(rt: &HostRuntime, folder: &str) -> Result<bool, ProgramError>
+    ensures { IfErr result IsOfVault }
+{
+    let volume = volume_path(rt.alloc(), folder)?;
+    let db = database_path(rt.alloc(), folder)?;
+    let log = log_path(rt.alloc(), &db)?;
+    // Of a pipe, an open to read would wait for a writer.
+    if !is_file(rt, &volume) {
+        return Ok(false);
+    }
+    Ok(
+        may_not_be_written(rt, &volume)
+            || may_not_be_written(rt, &db)
+            || may_not_be_written(rt, &log),
+    )
+}
+
+fn is_file(rt: &HostRuntime, path: &str) -> bool {
+    match fs::metadata(rt, path) {
+        Ok(found) => found.is_file(),
+        Err(_) => false,
+    }
+}
+
+fn may_not_be_written(rt: &HostRuntime, path: &str) -> bool {
+    match open_file(rt, path) {
+        Ok(_) => false,
+        Err(error) => matches!(
+            error.kind(),
+            io::ErrorKind::PermissionDenied | io::ErrorKind::ReadOnlyFilesystem
+        ),
+    }
 }
 
 /// Makes the two files of a folder. A volume of which the database has a record is left as it is.
@@ -134,7 +198,7 @@ fn with_volume<S: Alter + Drop>(
     let mut db = db;
     let is_new = is_empty(&db) && !has_any_table(&db);
     let volume = match has_record(&mut db) {
-        Ok(true) => open_volume(rt, folder)?,
+        Ok(true) => open_volume(rt, folder, Access::ReadAndWrite)?,
         Ok(false) if is_new => create_volume(rt, folder, blocks)?,
         Ok(false) => return Err(ProgramError::Failure(Failure::StoreFailed)),
         Err(failure) => return Err(ProgramError::Failure(failure)),
@@ -157,14 +221,18 @@ fn is_empty<S: Alter>(db: &Connection<S>) -> bool
 /// Closes the files of a vault, and answers the exit status. What was acknowledged is kept also where
 /// the database's log cannot be copied.
 pub fn close(ended: FolderCallEnd) -> u8
-    ensures { result ≡ ended.status }
+    ensures { result ≡ end_status ended }
 {
-    let CallEnd { status, vault } = ended;
-    if let Some((volume, db)) = vault {
-        let _ = db.close();
-        drop(volume);
+    match ended {
+        FolderCallEnd::Open(CallEnd { status, vault }) => {
+            if let Some((volume, db)) = vault {
+                let _ = db.close();
+                drop(volume);
+            }
+            status
+        }
+        FolderCallEnd::ReadOnly(ended) => ended.status,
     }
-    status
 }
 
 /// Finds the folder of a vault, which has to be there.
@@ -212,19 +280,26 @@ fn database_path(alloc: Global, folder: &str) -> Result<String, AllocError>
     format!(in alloc; "{folder}/custody.db")
 }
 
+/// The path of the log of a database.
+pub fn log_path(alloc: Global, database: &str) -> Result<String, AllocError>
+    ensures { IfOk result (λ path. string_bytes path ≡ database.now ++ codes "-wal") }
+{
+    format!(in alloc; "{database}-wal")
+}
+
 fn volume_path(alloc: Global, folder: &str) -> Result<String, AllocError>
     ensures { IfOk result (λ path. string_bytes path ≡ folder.now ++ codes "/vault.vol") }
 {
     format!(in alloc; "{folder}/vault.vol")
 }
 
-fn open_volume(rt: &HostRuntime, folder: &str) -> Result<FileVolume, ProgramError>
+fn open_volume(rt: &HostRuntime, folder: &str, access: Access) -> Result<FileVolume, ProgramError>
     ensures failures { IfOk result (λ volume. ⟦<FileVolume as Volume>⟧.failures volume ≡ 0) }
     ensures found { IfOk result (λ volume. is_new_file volume ≡ false) }
     ensures error { IfErr result IsOfVault }
 {
     let path = volume_path(rt.alloc(), folder)?;
-    match FileVolume::open(rt, &path) {
+    match FileVolume::open(rt, &path, access) {
         Ok(volume) => Ok(volume),
         Err(cause) => Err(ProgramError::of_file(rt.alloc(), &path, cause)),
     }
@@ -273,7 +348,7 @@ fn find_log(rt: &HostRuntime, path: &str) -> Result<(), ProgramError>
     if open_file(rt, path).is_err() {
         return Ok(());
     }
-    let log = format!(in rt.alloc(); "{path}-wal")?;
+    let log = log_path(rt.alloc(), path)?;
     match open_file(rt, &log) {
         Err(error) if error.kind() != io::ErrorKind::NotFound => {
             Err(ProgramError::by_file(rt.alloc(), &log, error))
@@ -282,7 +357,8 @@ fn find_log(rt: &HostRuntime, path: &str) -> Result<(), ProgramError>
     }
 }
 
-fn open_error(alloc: Global, path: &str, error: Error) -> ProgramError
+/// Why a database is not opened.
+pub fn open_error(alloc: Global, path: &str, error: Error) -> ProgramError
     ensures kind { IsOpenError path.now error result }
     ensures vault { IsOfVault result }
 {
@@ -291,7 +367,7 @@ fn open_error(alloc: Global, path: &str, error: Error) -> ProgramError
             ProgramError::of_file(alloc, path, "file in use")
         }
         Error::SqliteFailure(ErrorCode::CannotOpen) => {
-            ProgramError::of_file(alloc, path, "unable to open database file")
+            ProgramError::of_file(alloc, path, UNABLE)
         }
         Error::SqliteFailure(ErrorCode::OutOfMemory) => ProgramError::Failure(Failure::NoMemory),
         _ => ProgramError::Failure(Failure::StoreFailed),

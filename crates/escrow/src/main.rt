@@ -3,17 +3,16 @@
 
 ghost use Rattle.std.specs.Prelude.{◌≡◌, ◌⊎◌, IfErr, IfOk, IfSome, MatchResult, OnOk, map, string_bytes};
 ghost use Rattle.std.specs.Process.{exit_status};
-ghost use Rattle.sqlite.specs.Files.{over_files};
 ghost use Rattle.std.specs.Io.KnownBytes.{Appends};
 ghost use Rattle.answer_lines.specs.Printing.{WritesBeginning, IsUnused};
 ghost use Rattle.agent_cli.specs.Faults.{IsStatusOf};
 ghost use Rattle.agent_cli.specs.declared.order.Order.{Order};
-ghost use Rattle.escrow.specs.Calls.{AskFor, EndsCall, IsObeyedInFolder};
+ghost use Rattle.escrow.specs.Calls.{AskFor, EndsCall, IsObeyed};
 ghost use Rattle.escrow.specs.Errors.{IsProgramFailure, IsErrorPrinted, error_line};
-ghost use Rattle.escrow.specs.Folder.{IsOrderDone, IsPartRead, ActsInFolder};
-ghost use Rattle.escrow.specs.declared.files.OpenFolder.{OpenFolder};
+ghost use Rattle.escrow.specs.Folder.{HasActed, HasEnded, IsPartRead};
 
 mod clock;
+mod copies;
 mod errors;
 mod files;
 mod output;
@@ -25,7 +24,10 @@ use agent_cli::{Deed, Order, WordFault, order_of};
 use answer_lines::{WriteFailed, failure_bytes, write_whole};
 use custody_machine::{ExitStatus, Failure};
 use errors::ProgramError;
-use files::{FolderCallEnd, close, create_folder, open_folder, open_part, read_part};
+use files::{
+    FolderCallEnd, close, create_folder, is_read_only, open_folder, open_folder_to_read, open_part,
+    read_part,
+};
 use output::Output;
 use schedule::Sec;
 use std::env;
@@ -99,23 +101,23 @@ fn act_in_folder<W: Write, E: Write>(
     out: &mut W,
     err: &mut E,
 ) -> Result<FolderCallEnd, ProgramError>
-    ensures done { IfOk result (λ ended. (files : OpenFolder) × ActsInFolder ⟦<FileVolume as Volume>⟧ over_files files.volume files.db ended.status ended.vault (record { before = W.contents out.old; after = W.contents out.new }) (record { before = E.contents err.old; after = E.contents err.new }) order.entry.now file.now) }
+    ensures done { IfOk result (HasActed ⟦<FileVolume as Volume>⟧ (record { before = W.contents out.old; after = W.contents out.new }) (record { before = E.contents err.old; after = E.contents err.new }) order.entry.now file.now) }
     ensures error { IfErr result IsProgramFailure }
 {
     let now = moment_of(rt, order)?;
+    let alloc = rt.alloc();
+    let deed = &order.deed;
+    let mut progress = Terminal::of(rt, deed);
+    if deed.only_reads() && is_read_only(rt, order.folder)? {
+        let found = open_folder_to_read(rt, order.folder)?;
+        let files = (found.volume, found.db);
+        let ended = open_and_act(alloc, files, deed, file, now, out, err, &mut progress);
+        return Ok(FolderCallEnd::ReadOnly(ended));
+    }
     let found = open_folder(rt, order.folder)?;
     let files = (found.volume, found.db);
-    let mut progress = Terminal::of(rt, &order.deed);
-    Ok(open_and_act(
-        rt.alloc(),
-        files,
-        &order.deed,
-        file,
-        now,
-        out,
-        err,
-        &mut progress,
-    ))
+    let ended = open_and_act(alloc, files, deed, file, now, out, err, &mut progress);
+    Ok(FolderCallEnd::Open(ended))
 }
 
 /// Carries out an order over the files of its folder, which are to be closed then. `part` is the file that
@@ -127,14 +129,14 @@ fn carry_out<R: Read + Drop, W: Write, E: Write>(
     out: &mut W,
     err: &mut E,
 ) -> Result<FolderCallEnd, ProgramError>
-    ensures done { IfOk result (λ ended. (files : OpenFolder) × IsOrderDone ⟦<FileVolume as Volume>⟧ over_files files.volume files.db ended.status ended.vault (record { before = W.contents out.old; after = W.contents out.new }) (record { before = E.contents err.old; after = E.contents err.new }) (IsPartRead R.remaining part) order.entry.now) }
+    ensures done { IfOk result (HasEnded ⟦<FileVolume as Volume>⟧ (record { before = W.contents out.old; after = W.contents out.new }) (record { before = E.contents err.old; after = E.contents err.new }) (IsPartRead R.remaining part) order.entry.now) }
     ensures error { IfErr result IsProgramFailure }
 {
     match order.deed {
         Deed::Init { blocks, number } => {
             let made = create_folder(rt, order.folder, blocks)?;
             let files = (made.volume, made.db);
-            Ok(init_vault(rt.alloc(), files, blocks, number, out, err))
+            Ok(FolderCallEnd::Open(init_vault(rt.alloc(), files, blocks, number, out, err)))
         }
         Deed::Put { file } => {
             let bytes = read_part(rt.alloc(), file, part)?;
@@ -147,7 +149,16 @@ fn carry_out<R: Read + Drop, W: Write, E: Write>(
         } => {
             let found = open_folder(rt, order.folder)?;
             let files = (found.volume, found.db);
-            Ok(serve(rt, files, port, requests, until_closed, order.now, out, err))
+            Ok(FolderCallEnd::Open(serve(
+                rt,
+                files,
+                port,
+                requests,
+                until_closed,
+                order.now,
+                out,
+                err,
+            )))
         }
         Deed::Preview(_)
         | Deed::Do(_)
@@ -163,7 +174,7 @@ fn carry_out<R: Read + Drop, W: Write, E: Write>(
 
 /// Carries out an order, closes the files of its folder, and answers its status.
 fn obey(rt: &HostRuntime, order: &Order<'_>) -> Result<u8, ProgramError>
-    ensures done { IfOk result (IsObeyedInFolder ⟦<FileVolume as Volume>⟧ ⟦<std::fs::File as Read>⟧.remaining order.entry.now) }
+    ensures done { IfOk result (IsObeyed ⟦<FileVolume as Volume>⟧ ⟦<std::fs::File as Read>⟧.remaining order.entry.now) }
     ensures error { IfErr result IsProgramFailure }
 {
     let _streams = hold_streams(rt)?;

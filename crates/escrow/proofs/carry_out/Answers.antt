@@ -1,5 +1,6 @@
 use Rattle.std.proofs.Common.{rules}
-use Rattle.escrow.proofs.FolderLemmas.{IfOk-over}
+use Rattle.escrow.specs.Folder.{IsPartRead}
+use Rattle.escrow.proofs.FolderLemmas.{IfOk-acted}
 use Rattle.escrow.proofs.carry_out.Goals as goal
 
 pub returns-in_ok-made-in-Init-clause-done : goal.returns-in_ok-made-in-Init-clause-done
@@ -23,7 +24,9 @@ returns-in_ok-found-in-Serve-clause-done g c =
     )
 
 pub returns-in_ok-bytes-in-Put-clause-done : goal.returns-in_ok-bytes-in-Put-clause-done
-returns-in_ok-bytes-in-Put-clause-done g c = IfOk-over _ _ _ (λ ended files works. search rules) c.act_in_folder.ensures.done
+returns-in_ok-bytes-in-Put-clause-done g c =
+    IfOk-acted _ _ _ c.args.order.now _ (IsPartRead g.R.Read.remaining c.args.part) _ c.act_in_folder.ensures.done (λ S database volume db status vault works. search rules)
 
 pub returns-in-Preview-clause-done : goal.returns-in-Preview-clause-done
-returns-in-Preview-clause-done g c = IfOk-over _ _ _ (λ ended files works. search rules) c.act_in_folder-in-Preview.ensures.done
+returns-in-Preview-clause-done g c =
+    IfOk-acted _ _ _ c.args.order.now _ (IsPartRead g.R.Read.remaining c.args.part) _ c.act_in_folder-in-Preview.ensures.done (λ S database volume db status vault works. search rules)
