@@ -97,16 +97,16 @@ def body(name: str, text: str) -> str:
     raise ValueError("nothing makes a block of this name")
 
 
-def filled(page: str, text: str) -> str:
-    """The text of a page with each of its blocks made anew."""
+def filled(page: str, text: str, body: Callable[[str, str], str] = body, begins: re.Pattern = BEGIN, ends: str = END) -> str:
+    """The text of a page with each of its blocks made anew. The lines around a block have these forms."""
     lines, out, at = text.split("\n"), [], 0
     while at < len(lines):
         out.append(lines[at])
         at += 1
-        if begin := BEGIN.fullmatch(out[-1]):
+        if begin := begins.fullmatch(out[-1]):
             where = f"{page}:{at}: the block `{begin[1]}`"
-            end = next((n for n in range(at, len(lines)) if lines[n] == END or BEGIN.fullmatch(lines[n])), None)
-            if end is None or lines[end] != END:
+            end = next((n for n in range(at, len(lines)) if lines[n] == ends or begins.fullmatch(lines[n])), None)
+            if end is None or lines[end] != ends:
                 raise BlockError(f"{where} has no end")
             try:
                 out += body(begin[1], "".join(f"{it}\n" for it in lines[at:end])).removesuffix("\n").split("\n")

@@ -4,14 +4,15 @@
     tests/hostile.py [PROGRAM] [--cases N] [--seed S] [--seconds T] [--only N]
 
 A case takes the files of a vault that the program made and changes them one to three times: bytes, the database by SQL, or
-files for those of other vaults. Then it runs `state`, `report`, `digests`, `due`, `audit` and `fetch` twice, a `put`, a `sweep`
-or `verify`, and an `init`. It checks:
+files for those of other vaults. Then it runs `state`, `report`, `digests`, `due`, `audit`, `fetch` and `preview` twice, and
+once over a copy of the files that may only be read; a `put`, a `sweep` or `verify`, and an `init`. It checks:
 
 - Each call ends within 20 seconds, by no signal, with a status and lines of docs/CODES.md.
 - A call that reads prints the same again. It leaves `vault.vol` as it was. It may write the head of the log `custody.db-wal`
   anew. It may write `custody.db` only if the log has more than a head, which it then copies, or if the file has at most one
   byte: that becomes a database without tables. sqlite3 finds the same objects and rows as before; if a database of schema 1
   opens, those of schema 2 that stand for the same.
+- Over files that may only be read it prints the same too, and they stay as they are.
 - If the vault does not open, each call prints the line of `state` and nothing else. Then nothing changes, nor by a refused
   call. The next `state` lists a part that was received. `init` makes no volume anew if sqlite3 finds a table, an index, a
   view or a trigger.
@@ -24,7 +25,7 @@ or `verify`, and an `init`. It checks:
 
 A case depends on the seed and its number alone. `--only N` runs that one, and leaves its files, as the program finds
 them, in `hostile.N`. 300 cases take minutes; TMPDIR=/dev/shm, where the vaults then stand, makes it fast. It needs
-PROGRAM, which is crates/escrow/out/escrow unless named (`rt run` builds it).
+PROGRAM, which is crates/escrow/out/escrow unless named (`rt run` builds it), and setpriv if root runs it.
 """
 import datetime
 import hashlib
@@ -38,7 +39,7 @@ import sys
 import tempfile
 import time
 from collections import Counter, namedtuple
-from collections.abc import Iterator
+from collections.abc import Iterator, Sequence
 from pathlib import Path
 
 from lib import DEPOSIT, ESCROW, TOP, Answer, answer_of, built, notice, parser, part_name, tell
@@ -53,6 +54,8 @@ COLUMNS = {table: re.findall(r"(\w+) (INTEGER|TEXT|BLOB)", text) for table, text
 ROWS = {table: namedtuple(table, dict(columns)) for table, columns in COLUMNS.items()}
 FILES = ("vault.vol", "custody.db", "custody.db-wal")
 FAULTS = (sqlite3.Error, ValueError, OverflowError)
+# Runs a program as a user to whom the modes of files apply.
+NOBODY = () if os.getuid() else ("setpriv", "--reuid=65534", "--regid=65534", "--clear-groups")
 
 # ---- the vaults
 
@@ -72,11 +75,13 @@ put example_2026-08-05_diff_S1_R0.ryde {LATER}; put other_2026-08-04_full_S1_R0.
 release R-1 example operator {LATER}; release R-2 other order {LATER}
 hold H-1 example --date 2026-08-05 {LATER}; hold H-0 other --date 2026-08-04 {LATER}; lift H-0 {LATER}"""
 READS = ("state", "report example", "digests example", f"due {LATER}", "audit",
-         "fetch R-1 example_2026-08-05_diff_S1_R0.ryde")
+         "fetch R-1 example_2026-08-05_diff_S1_R0.ryde",
+         f"preview example --date 2026-08-05 --kind diff --revision 0 --parts 1 --id X {LATER}")
 PUT = "put example_2026-08-06_full_S1_R0.ryde --now 2026-08-06T12:00:00Z"
 VERIFY = f"verify example --date 2026-08-06 --kind full --revision 0 --parts 1 --id X {LATER}"
 REFUSALS = {
-    "report": "Q2", "digests": "Q2", "fetch": "Q6 Q18 Q19", "put": "Q2 Q3 Q5 Q6 Q7 Q8 Q9 Q10 Q11", "verify": "Q2 Q3 Q6 Q8 Q9 Q12 Q13"}
+    "report": "Q2", "digests": "Q2", "fetch": "Q6 Q18 Q19", "put": "Q2 Q3 Q5 Q6 Q7 Q8 Q9 Q10 Q11"} | dict.fromkeys(
+    ("verify", "preview"), "Q2 Q3 Q6 Q8 Q9 Q12 Q13")
 
 
 def read(folder: str) -> Files:
@@ -105,10 +110,10 @@ def closed(db: sqlite3.Connection, in_log: bool) -> Files:
     return left if in_log else read("scratch")
 
 
-def run(line: str) -> Answer:
-    """What a call on the vault comes to."""
+def run(line: str, folder: str = ".", under: Sequence[str] = ()) -> Answer:
+    """What a call on the vault in a folder comes to."""
     command, *words = line.split()
-    return answer_of(["./escrow", command, "vault", *words], seconds=20)
+    return answer_of([*under, Path("escrow").resolve(), command, "vault", *words], Path(folder), seconds=20)
 
 
 def make_vaults() -> dict[str, Files]:
@@ -489,7 +494,7 @@ def is_on_page(command: str, answer: Answer) -> bool:
         return answer.status == 3
     return (answer.status == STATUSES.get(re.sub("H[0-8]$", "Hn", line))
             and (line[0] == "C" or line.split()[0] in REFUSALS.get(command, "").split())
-            and (line != "C5 damaged H8" or command in ("fetch", "put", "verify")))
+            and (line != "C5 damaged H8" or command in ("fetch", "put", "verify", "preview")))
 
 
 def gone_over(objects: list[tuple], rows: Rows) -> tuple[list[tuple], Rows]:
@@ -520,6 +525,23 @@ def call(line: str, state: Answer | None, wrong: list[str]) -> Answer:
     return answer
 
 
+def reads_only(files: Files, came: dict[str, Answer], wrong: list[str]) -> None:
+    """Makes the calls that read where the files may only be read, and adds what is not as it came elsewhere.
+
+    The two differ in what is not tried here. Only there a `custody.db` that is a link is refused, and a journal that begins
+    with a zero. A log that is no file of one name has another line. A lock of another program on `custody.db` is not seen.
+    """
+    folder = Path("read-only/vault")
+    write(folder, files)
+    for path in folder.iterdir():
+        path.chmod(0o444)
+    for line, answer in came.items():
+        if (found := run(line, "read-only", NOBODY)) != answer:
+            wrong.append(f"{line} gives {answer}, but {found} where the files may only be read")
+    left = {path.name: path.read_bytes() for path in folder.iterdir()}
+    wrong += [f"{name} changed, which may only be read" for name in {*files, *left} if files.get(name) != left.get(name)]
+
+
 def reads(files: Files, found: Look | None, wrong: list[str]) -> tuple[Answer, list[str] | None]:
     """Makes the calls that read, and adds what is wrong. Gives the answer of `state`, and what the pages allow it."""
     expected, came = allowed(files, found), {}
@@ -527,6 +549,7 @@ def reads(files: Files, found: Look | None, wrong: list[str]) -> tuple[Answer, l
         came[line] = call(line, came.get("state"), wrong)
         if (again := run(line)) != came[line]:
             wrong.append(f"{line} gives {came[line]}, and then {again}")
+    reads_only(files, came, wrong)
     label = label_of(came["state"])
     goes_over = bool(found) and label == "opens" and [row.schema_no for row in found.rows.get("meta", [])][:1] == [1]
     may_copy = goes_over or len(files.get("custody.db-wal", b"")) > 56 or len(files.get("custody.db", b"")) <= 1
@@ -571,7 +594,10 @@ def main() -> int:
     program, counts, failed, start = built(asked.program), (Counter(), Counter()), 0, time.monotonic()
     with tempfile.TemporaryDirectory() as folder:
         os.chdir(folder)
-        Path("escrow").symlink_to(program)
+        os.umask(0o022)
+        os.chmod(".", 0o755)
+        os.mkdir("read-only")
+        shutil.copy(program, "escrow")
         made = make_vaults()
         for number in range(asked.cases) if asked.only is None else [asked.only]:
             if time.monotonic() - start > asked.seconds:

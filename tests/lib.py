@@ -32,8 +32,10 @@ ESCROW = TOP / "crates/escrow/out/escrow"
 # Seconds for a command to end, or a server to listen.
 LIMIT = 120
 # The tools that some tests need, each with its Debian package.
-PACKAGES = {"curl": "curl", "flock": "util-linux", "nginx": "nginx", "openssl": "openssl", "prlimit": "util-linux",
-            "script": "bsdutils", "setpriv": "util-linux", "sqlite3": "sqlite3", "strace": "strace"}
+PACKAGES = {"curl": "curl", "fallocate": "util-linux", "flock": "util-linux", "groff": "groff-base", "ip": "iproute2",
+            "nginx": "nginx", "nsenter": "util-linux", "openssl": "openssl", "prlimit": "util-linux", "script": "bsdutils",
+            "setpriv": "util-linux", "sqlite3": "sqlite3", "strace": "strace", "systemctl": "systemd",
+            "systemd-analyze": "systemd", "unshare": "util-linux"}
 
 
 class Wrong(Exception):

@@ -99,12 +99,6 @@ transcripts(__name__, f"""
 $ mkdir -m 555 closed
 $ {NOBODY} escrow init closed {INIT} -> !3 file failed: closed/custody.db: unable to open database file
 $ ls -A closed
-== a vault that may only be read is not opened
-{VAULT}
-$ chmod 444 d/*; chmod 555 d
-$ {NOBODY} escrow state d -> !3 file failed: d/vault.vol: Permission denied (os error 13)
-$ sha256sum -c --quiet digests
-$ chmod 755 d
 == a log that may not be read and written is named
 {VAULT}
 $ chmod 777 d; chmod 666 d/*; {NOBODY} escrow state d -> {STATE}

@@ -1,9 +1,8 @@
 """The routes, asked by curl: what each does, what it refuses, and its responses byte for byte."""
 import hashlib
-import re
 from pathlib import Path
 
-from lib import DAY, DEPOSIT, PART, TEN, TOP, Room, case, each, notice, part_name, state, stated, statement
+from lib import DAY, DEPOSIT, PART, TEN, Room, case, each, notice, part_name, state, stated, statement
 
 EARLIER, LATER, FIFTH = part_name("2026-08-01", "diff"), part_name("2026-08-05"), "2026-08-05T00:00:00Z"
 SECOND, REVISION = part_name(part=2), part_name(revision=1)
@@ -144,13 +143,3 @@ def what_is_read_is_what_the_program_prints(room: Room) -> None:
     printed = {path: room.run(f"escrow {words}").out for path, words in commands.items()}
     room.asks("d", [(f"GET {path}", None, 200, text.decode().removesuffix("\n")) for path, text in printed.items()], FIFTH)
     room.equal(printed["/state"], room.run("escrow state d").out, "the state")
-
-
-@case("curl")
-def a_sweep_by_requests_records_what_is_due(room: Room) -> None:
-    room.plays(STATED)
-    loop = re.search("```sh\n(.*?)```", (TOP / "docs/OPERATING.md").read_text().split("\n## Over HTTP\n")[1], re.DOTALL)[1]
-    with room.serve("d", 4, FIFTH) as server:
-        swept = room.run(loop.replace("8080", str(server.port)))
-        absences = (notice(2 + at, "ABSENCE", f"2026-08-0{day}", FIFTH) for at, day in enumerate((1, 3, 4)))
-        room.equal("".join(f"{line}\n" for line in absences), swept.out.decode(), "the checks")

@@ -81,7 +81,7 @@ def the_code_has_what_a_page_quotes(room: Room, page: str) -> None:
 # ---- the scripts
 
 # Everything that a person may run, and the modules that these import.
-FORMS = (".ci/run", "demo", "prove", "tests/run", "tests/*.py", "tests/demo/*.py", "bench/*.py")
+FORMS = (".ci/run", "demo", "prove", "tests/run", "tests/*.py", "tests/demo/*.py", "bench/*.py", "deploy/*")
 FILES = [it for form in FORMS for it in sorted(TOP.glob(form))]
 SCRIPTS = [it for it in FILES if it.read_bytes().startswith(b"#!")]
 
