@@ -5,8 +5,8 @@
     tests/made.py --check    compares them, and looks up in the code what docs/GLOSSARY.md decides. The last line is
                              `N passed, M failed, K skipped`
 
-    docs/escrow.1, docs/escrow.bash   the manual page, and the tables of bash's completions, from the table of the words
-                                      (crates/agent_cli/src/subcommands.rt, and the texts of src/grammar.rt beside it)
+    docs/escrow.1, docs/escrow.bash   blocks of the manual page, and the tables of bash's completions, from the table of the
+                                      words (crates/agent_cli/src/subcommands.rt, and the texts of src/grammar.rt beside it)
     docs/crates.svg                   the crates with the ways of a command and of a request, from crates.txt
     each page with a block            the lines between `<!-- made: NAME -->` and `<!-- end -->`: counts, and results of
                                       benches (tests/blocks.py lists the names)
@@ -15,8 +15,10 @@ It takes a second, and needs `git`.
 """
 import re
 import sys
+import textwrap
 from collections.abc import Iterable
 from dataclasses import dataclass
+from functools import partial
 
 import blocks
 import words
@@ -106,34 +108,67 @@ def roff(line: str) -> str:
     return "\\&" + escaped if escaped[:1] in (".", "'") else escaped
 
 
-def usage(row: Row) -> str:
-    """The words of a call in roff, names in bold and values in italics."""
+def call_words(row: Row) -> list[str]:
+    """The words of a call behind the command, options in bold and values in italics. An option keeps its value beside it."""
     places = [f"\\fI{it.id}\\fR" for it in row.words if it.value is None]
-    options = [(f"\\fB\\-\\-{it.id}\\fR" + (f" \\fI{it.value}\\fR" if it.value else ""), it.required)
+    options = [(f"\\fB{roff(it.name)}\\fR" + (f"\\ \\fI{it.value}\\fR" if it.value else ""), it.required)
                for it in row.words if it.value is not None]
-    shown = [option if required else f"[{option}]" for option, required in options]
-    return " ".join([f"\\fBescrow {row.name}\\fR", *places, *shown])
+    return [*places, *(option if required else f"[{option}]" for option, required in options)]
+
+
+def shell(command: str) -> list[str]:
+    """A command as lines of at most 64 columns for a shell. An option keeps its value beside it."""
+    joined = re.sub(r" (--\S+|>) (?!-)", " \\1\N{NO-BREAK SPACE}", command)
+    lines = textwrap.wrap(joined, 62, subsequent_indent="    ", break_on_hyphens=False, break_long_words=False)
+    return [roff(it) for it in " \\\n".join(lines).replace("\N{NO-BREAK SPACE}", " ").split("\n")]
+
+
+def explained(words: Iterable[Word]) -> list[str]:
+    named = [(f"{it.name} {it.value or ''}".rstrip(), it.help) for it in words]
+    return [line for name, help in named for line in (".TP", f"\\fI{roff(name)}\\fR", f"{roff(help)}.")]
+
+
+def behind(row: Row) -> list[str]:
+    """What help prints behind the words of a command: sentences, lines with a label such as `Prints:`, and an example. A
+    line that ends with a comma goes on in the next."""
+    lines = []
+    for line in re.sub(r",\n +", ", ", row.after).split("\n"):
+        label, _, rest = line.partition(": ")
+        if label == "Example":
+            lines += [".PP", ".EX", *shell(rest), ".EE"]
+        elif rest and label.isalpha():
+            lines += [".TP 8", f"{label}:", roff(rest)]
+        else:
+            lines += [".br", roff(line.strip())] if line.startswith(" ") else [".PP", f"{roff(line)}."]
+    return lines
+
+
+# The lines around a block of the page.
+BEGINS, ENDS = re.compile(r'\.\\" made: (.*)'), '.\\" end'
 
 
 def manual(rows: list[Row]) -> str:
+    """The page with its blocks made anew. A word that all commands share is explained once."""
     about, after, version = texts()
-    first, status = after.split("\n\n")
-    lines = ['.\\" Made by tests/made.py from the table of the words.', f'.TH ESCROW 1 "" "escrow {version}"',
-             ".SH NAME", "escrow \\- custody of registry data escrow deposits", ".SH SYNOPSIS"]
+    shared = [it for it in rows[0].words if all(it in row.words for row in rows)]
+    synopsis, commands = [], explained(shared)
     for row in rows:
-        lines += [usage(row), ".br"]
-    lines += [".SH DESCRIPTION", roff(about) + ".", ".SH COMMANDS"]
-    for row in rows:
-        lines += [".TP", usage(row), roff(row.about) + "."]
-        for word in row.words:
-            shown = roff(f"{word.name} {word.value or ''}".rstrip())
-            lines += [".RS", ".TP", f"\\fI{shown}\\fR", roff(word.help) + ".", ".RE"]
-        lines += [".RS", ".PP", ".nf", *map(roff, row.after.split("\n")), ".fi", ".RE"]
-    lines += [".SH EXAMPLES", ".nf", *(roff(it.strip()) for it in first.split("\n")[1:]), ".fi", ".SH EXIT STATUS"]
-    for it in status.removeprefix("Exit status: ").split(", "):
-        number, meaning = it.split(" ", 1)
-        lines += [".TP", f"\\fB{number}\\fR", roff(meaning)]
-    return "\n".join(lines) + "\n"
+        words = call_words(row)
+        synopsis += [f'.SY "escrow {row.name}"', *words]
+        commands += [".TP", " ".join([f"\\fBescrow {row.name}\\fR", *words]), f"{roff(row.about)}.", ".RS",
+                     *explained(it for it in row.words if it not in shared), *behind(row), ".RE"]
+    steps = [line for it in after.split("\n\n")[0].split("\n")[1:] for line in shell(it.strip())]
+    parts = {
+        "title": [f'.TH ESCROW 1 "" "escrow {version}"'], "synopsis": synopsis, "commands": commands,
+        "about": [f"{roff(about[:1].lower() + about[1:])}."], "first steps": [".EX", *steps, ".EE"]}
+
+    def body(name: str, _: str) -> str:
+        if name not in parts:
+            raise ValueError("nothing makes a block of this name")
+        return "\n".join(parts[name])
+
+    page = "docs/escrow.1"
+    return blocks.filled(page, (TOP / page).read_text(), body, BEGINS, ENDS)
 
 
 # ---- completions
@@ -283,10 +318,12 @@ def picture() -> str:
 def made() -> tuple[dict[str, str], list[str]]:
     """The text of each file that is made, and why others cannot be."""
     rows, faults = table(), []
-    texts = {"docs/escrow.1": manual(rows), "docs/escrow.bash": completions(rows), "docs/crates.svg": picture()}
-    for name, text in blocks.pages().items():
+    ways = {"docs/escrow.1": lambda: manual(rows), "docs/escrow.bash": lambda: completions(rows), "docs/crates.svg": picture,
+            **{name: partial(blocks.filled, name, text) for name, text in blocks.pages().items()}}
+    texts = {}
+    for name, make in ways.items():
         try:
-            texts[name] = blocks.filled(name, text)
+            texts[name] = make()
         except blocks.BlockError as why:
             faults.append(str(why))
     return texts, faults
