@@ -192,8 +192,12 @@ def minutes(clock):
     return int(whole) + int(seconds) / 60
 
 
+# The minutes of the processor from which on a crate's proof is a row of its own.
+SHOWN = 3
+
+
 def prove(log):
-    """Keeps the times of the proofs, from a log of `./prove`."""
+    """Keeps the times of the longest proofs and of all, from a log of `./prove`."""
     text = log.read_text(errors="replace")
     lanes = re.search(r"^.*\d+ crates, at most (\d+) side by side$", text, re.MULTILINE)
     proved = re.findall(r"(\w+) is proved, in (\d+:\d\d), ([\d.]+) minutes of the processor", text)
@@ -201,7 +205,8 @@ def prove(log):
     if not (lanes and proved and whole):
         raise NotMeasured(f"{log} does not end with all crates proved")
     found = sorted(((name, minutes(clock), float(worked)) for name, clock, worked in proved), key=lambda it: -it[2])
-    found.append(("all", minutes(whole[-1]), sum(worked for *_, worked in found)))
+    every = ("all", minutes(whole[-1]), sum(worked for *_, worked in found))
+    found = [*(it for it in found if it[2] >= SHOWN), every]
     rows = [(name, f"{clock:.1f}", f"{worked:.1f}") for name, clock, worked in found]
     day = datetime.date.fromtimestamp(log.stat().st_mtime)
     first = heading(day, f"at most {lanes[1]} crates side by side")
