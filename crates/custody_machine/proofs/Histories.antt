@@ -81,7 +81,7 @@ module _ (first : State) where
   answered_fits old new command now (Failed Closed) next f fits h = absurd h.1.0
   answered_fits old new command now (Failed (Damaged damage)) next f fits h = subst (λ c. Fits c (found_after_event first f (Answered command now (Failed (Damaged damage))))) (sym h.2) (fits.0 ∙ sym h.1.1, ap (λ d. option_or d None) fits.1)
 
-  or_none : (d : Option TimedCommand) → option_or d None ≡ d
+  pub or_none : (d : Option TimedCommand) → option_or d None ≡ d
   or_none None = refl
   or_none (Some entry) = refl
 

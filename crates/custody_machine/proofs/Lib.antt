@@ -12,6 +12,7 @@ pub mod Holding
 pub mod Continuing
 pub mod Keeping
 pub mod Histories
+pub mod Findable
 pub mod Retries
 pub mod Received
 pub mod Heads

@@ -201,3 +201,31 @@ WasReceived entries key part bytes =
 abbrev pub HeldAsReceived : State → Type 0
 HeldAsReceived first = (entries : List TimedCommand) (key : PartKey) (part : Part) (bytes : List ℕ) → get (after first entries).parts key ≡ Some part → part.content ≡ Held bytes →
     (get first.parts key ≡ Some part) ⊎ WasReceived entries key part bytes
+
+-- ---- where the commands found come from
+
+-- the command that an event may leave to be found: one that is accepted, one that is answered that the store failed (C3), or the one within which its session is stopped; of any other answer none
+abbrev pub findable_command : Event → Option TimedCommand
+findable_command (Answered command now (Accepted reply)) = Some (command, now)
+findable_command (Answered command now (Refused refusal)) = None
+findable_command (Answered command now (Failed NoMemory)) = None
+findable_command (Answered command now (Failed VolumeFailed)) = None
+findable_command (Answered command now (Failed StoreFailed)) = Some (command, now)
+findable_command (Answered command now (Failed Closed)) = None
+findable_command (Answered command now (Failed (Damaged damage))) = None
+findable_command AnsweredOtherCall = None
+findable_command ShutDown = None
+findable_command (StoppedAtRest pair) = None
+findable_command (StoppedWithin command now pair) = Some (command, now)
+findable_command (OpenedWith pair answer) = None
+
+-- each of the commands is left by an event of its own, in the order of the events
+abbrev pub AreLeftBy : List Event → List TimedCommand → Type 0
+AreLeftBy [] entries = entries ≡ []
+AreLeftBy (event ∷ events) entries =
+    AreLeftBy events entries
+    ⊎ ((entry : TimedCommand) × (rest : List TimedCommand) × (entries ≡ entry ∷ rest) × (findable_command event ≡ Some entry) × AreLeftBy events rest)
+
+-- Every command that is found was answered as accepted, or is one that was answered that the store failed, or one within which its session was stopped; none is found for an answer that is a refusal or another failure.
+abbrev pub NothingElseIsFound : State → Type 0
+NothingElseIsFound first = (events : List Event) → IsHistory first events → AreLeftBy events (found first events)

@@ -5,7 +5,7 @@ ghost use Rattle.custody_machine.specs.Damage.{IsRefinement};
 ghost use Rattle.custody_machine.specs.State.{State};
 ghost use Rattle.custody_machine.specs.FetchResult.{FetchesOne, FetchesHeld};
 ghost use Rattle.custody_machine.specs.Machine.{TestsAreInOrder};
-ghost use Rattle.custody_machine.specs.History.{OpeningsAreRight, NothingIsTakenBack, AcceptedIsFound, HeldAsReceived};
+ghost use Rattle.custody_machine.specs.History.{OpeningsAreRight, NothingIsTakenBack, AcceptedIsFound, NothingElseIsFound, HeldAsReceived};
 ghost use Rattle.custody_machine.specs.Examples.{HistoriesHappen};
 ghost use Rattle.custody_machine.specs.ExampleLife.{CustodyLives};
 ghost use Rattle.custody_machine.specs.Moves.{MovesAreHistories, PlacesAreRight, NoDamageIsReported, ReadsBackAsReceived, FindsOne, AnswersAreMoves};
@@ -53,6 +53,7 @@ pub fn law_histories()
     ensures opens { (first : State) → OpeningsAreRight first }
     ensures again { (first : State) → NothingIsTakenBack first }
     ensures acknowledged { (first : State) → AcceptedIsFound first }
+    ensures nothing_else { (first : State) → NothingElseIsFound first }
     ensures received { (first : State) → HeldAsReceived first }
     ensures kept { (first : State) → AcknowledgedIsKept first }
     // Of each command that is accepted there are such histories.

@@ -1,5 +1,6 @@
 use Rattle.custody_machine.proofs.Examples.{histories_happen}
 use Rattle.custody_machine.proofs.Histories.{openings_are_right, nothing_is_taken_back, accepted_is_found}
+use Rattle.custody_machine.proofs.Findable.{nothing_else_is_found}
 use Rattle.custody_machine.proofs.Moves.{moves_are_histories, places_are_right, reads_back, no_damage_is_told, finds_one_thing, chains_move}
 use Rattle.custody_machine.proofs.Received.{held_as_received}
 use Rattle.custody_machine.proofs.Retries.{acknowledged_is_kept}
@@ -16,6 +17,7 @@ returns c = record {
   opens = openings_are_right;
   again = nothing_is_taken_back;
   acknowledged = accepted_is_found;
+  nothing_else = nothing_else_is_found;
   received = held_as_received;
   kept = acknowledged_is_kept;
   happen = histories_happen;
