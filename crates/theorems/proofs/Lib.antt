@@ -5,7 +5,16 @@ pub mod OnceLemmas
 pub mod Told
 pub mod Beginnings
 pub mod ServingLemmas
+pub mod ReadingLemmas
+pub mod FetchedLemmas
 pub mod ClientLemmas
 pub mod RequestLemmas
 pub mod WholeLemmas
 pub mod EvidenceLemmas
+pub mod CallLemmas
+pub mod LifeLemmas
+pub mod ExamplePlaces
+pub mod ExampleStops
+pub mod ExampleStates
+pub mod ExampleRequests
+pub mod ExampleHistory

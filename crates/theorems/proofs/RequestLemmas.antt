@@ -44,6 +44,7 @@ use Rattle.http_api.specs.Handling.{IsServed, response_of, reply_status}
 use Rattle.theorems.specs.Responses.{response_to, accepted_status, record_text, status_of}
 use Rattle.theorems.specs.Service.{Exchange, Exchanged, Unread, StoppedInRequest, MovesIfAny, IsBeginning, IsNoCommandEvent, IsStopWithin, IsUp, Responds, ServiceMoves}
 use Rattle.theorems.proofs.RunMoves.{is_serving, is_shut, serves_on}
+use Rattle.theorems.proofs.CallLemmas.{IsTaken, rested, applied}
 use Rattle.theorems.proofs.SessionLemmas.{stop_at_rest}
 use Rattle.theorems.proofs.Beginnings.{whole_begins}
 use Rattle.theorems.specs.Requests.{ServeCall, ServeReturns, HasAnswered, HasMovedByCall, IsEventOf, IsCustodyAt, RequestsMove, RequestsMayStop, MayStopAfterwards}
@@ -118,32 +119,27 @@ module _ {V S : Type 0} {g : volume.Ghosts V} {database : Ghosts S} (tells : g.t
         (StoppedAtRest pair, tt, stop_at_rest place rows image pair (h.leaves rows image may left) finds);
   }
 
+  -- one that an event has taken on
+  by_event : (old new : Custody V S g database) (place : Place) (input : List ℕ) (now : ℕ) (event : history.Event) (stop : Pair → history.Event) → IsTaken old new place event stop → ((pair : Pair) → IsStopWithin input now (stop pair))
+      → Went old new place input now (Some event)
+  by_event old new place input now event stop taken is_stop = record {
+    next = taken.next;
+    goes = taken.moves;
+    there = taken.there;
+    stops = λ rows image pair may since finds. (stop pair, is_stop pair, (taken.stops rows image may since).moves pair finds);
+  }
+
   -- ---- an open custody
 
   module _ (old new : Custody V S g database) (serving : IsServing database old) (honest : (store_state_of database (open_custody_of new)).IsHonest) (input : List ℕ) (now : ℕ) where
     -- a call that is no command
-    rested : (b : Bool) → is_open new ≡ b → RecordsNothing database (open_custody_of old) (is_open new) (open_custody_of new) → Went old new (place_of database old) input now (Some (other_call_event b))
-    rested b is h =
-        let r = h.rests tells serving.image serving.rows in record {
-          next = r.next;
-          goes = subst (λ c. Moves (place_of database old) (other_call_event c) r.next) is r.moves;
-          there = record { is_at = r.is_at; leaves = r.leaves.at_exit; serves = λ opened. record { opened = opened; image = h.image opened tells serving.image; rows = h.rows serving.rows } };
-          stops = λ rows image pair may since finds. (StoppedAtRest pair, tt, (rows, image, r.leaves.within rows image may since, finds, refl));
-        }
+    went_rested : (b : Bool) → is_open new ≡ b → RecordsNothing database (open_custody_of old) (is_open new) (open_custody_of new) → Went old new (place_of database old) input now (Some (other_call_event b))
+    went_rested b is h = by_event old new (place_of database old) input now (other_call_event b) StoppedAtRest (rested tells old new b is serving h) (λ pair. tt)
 
     -- a command
-    applied : (command : Command) (r : Result Reply not_accepted.Refused) → RequestMeans input (asks_for (Do command)) → HasApplied old command now r new → Went old new (place_of database old) input now (Some (Answered command now (answer_of command r)))
-    applied command r asks h =
-        let did = (h.done serving.opened).serves tells honest serving.image serving.rows in record {
-          next = did.next;
-          goes = did.moves;
-          there = record {
-            is_at = subst (λ b. IsAtPlace b (current_records (open_custody_of new)) (image_of (open_custody_of new)) did.next) (sym (ap is_none (h.closes serving.opened))) did.is_at;
-            leaves = did.leaves.at_exit;
-            serves = λ opened. serves_on tells old new command now r serving honest h (sym (ap is_none (h.closes serving.opened)) ∙ opened);
-          };
-          stops = λ rows image pair may since finds. (history.StoppedWithin command now pair, (refl, asks), (rows, image, did.leaves.within rows image may since, finds, refl));
-        }
+    went_applied : (command : Command) (r : Result Reply not_accepted.Refused) → RequestMeans input (asks_for (Do command)) → HasApplied old command now r new → Went old new (place_of database old) input now (Some (Answered command now (answer_of command r)))
+    went_applied command r asks h =
+        by_event old new (place_of database old) input now (Answered command now (answer_of command r)) (history.StoppedWithin command now) (applied tells old new command now r honest serving h) (λ pair. (refl, asks))
 
     -- and its response
     answered : (command : Command) (r : Result Reply not_accepted.Refused) → HasApplied old command now r new → response_of r ≡ response_to (answer_of command r)
@@ -178,7 +174,7 @@ module _ {V S : Type 0} {g : volume.Ghosts V} {database : Ghosts S} (tells : g.t
         by true opened = subst (λ p. Nothing old new p input now) (sym (is_serving (is_open old) (current_records (open_custody_of old)) (image_of (open_custody_of old)) place opened h.is_at)) (record {
           did = Some (other_call_event (is_open new));
           no_command = sends (is_open new) input ended.0;
-          went = rested old new (h.serves opened) honest input now (is_open new) refl (ended.1.rested opened);
+          went = went_rested old new (h.serves opened) honest input now (is_open new) refl (ended.1.rested opened);
         })
 
     -- nothing was done, and it is answered so
@@ -200,7 +196,7 @@ module _ {V S : Type 0} {g : volume.Ghosts V} {database : Ghosts S} (tells : g.t
     does_open serving h (Do command) answer asks did = record {
       did = Some (Answered command now (answer_of command did.0));
       responds = λ written. inl (asks_for (Do command), asks, (answer_of command did.0, refl, did.2 ∙ answered old new serving honest input now command did.0 did.1));
-      went = applied old new serving honest input now command did.0 asks did.1;
+      went = went_applied old new serving honest input now command did.0 asks did.1;
     }
     does_open serving h (Report tld) answer asks did = unmoved (place_of database old) h did.1 answer
         (λ written. inl (asks_for (Report tld), asks, (refl, did.0 ∙ ap (told_if (λ records. served.registry_report records tld)) serving.opened)))
@@ -213,7 +209,7 @@ module _ {V S : Type 0} {g : volume.Ghosts V} {database : Ghosts S} (tells : g.t
     does_open serving h (Fetch reference name) answer asks did = record {
       did = Some (other_call_event (stays_open did.0));
       responds = λ written. inl (asks_for (Fetch reference name), asks, (did.0, did.1.bytes serving.opened tells, refl, did.2));
-      went = rested old new serving honest input now (stays_open did.0) (ap is_none (did.1.closes serving.opened)) (did.1.rested serving.opened);
+      went = went_rested old new serving honest input now (stays_open did.0) (ap is_none (did.1.closes serving.opened)) (did.1.rested serving.opened);
     }
 
     -- and a closed one

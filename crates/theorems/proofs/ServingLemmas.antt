@@ -77,7 +77,7 @@ cut first earlier later h =
 
 -- ---- whole responses
 
-contains-cons : {X : Type 0} (x z : X) (xs : List X) → Contains (x ∷ xs) z → (x ≡ z) ⊎ Contains xs z
+pub contains-cons : {X : Type 0} (x z : X) (xs : List X) → Contains (x ∷ xs) z → (x ≡ z) ⊎ Contains xs z
 contains-cons x z xs h = ⊎_elim (λ one. ⊎_elim (λ (none : Contains [] z). let never = none.1 in absurd (omega arith)) inl (Contains-push_cases [] x z one)) inr (Contains-append_cases (x ∷ []) xs z h)
 
 if_delivered_is : (event : ServiceEvent) (x : Exchange) → delivered_exchange event ≡ Some x → event ≡ Exchanged x

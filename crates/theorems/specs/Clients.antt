@@ -1,23 +1,28 @@
 -- What a client over HTTP may rely on, whenever the service is stopped, and however often it sends a request again (Specification 2, Part B).
-use Rattle.std.specs.Prelude.{◌≡◌, ◌⊎◌, ℕ, List, [], ◌∷◌, ◌++◌, map, Contains, count_by, Some, is_some, true, false}
+use Rattle.std.specs.Prelude.{◌≡◌, ◌≢◌, ◌⊎◌, ℕ, List, [], ◌∷◌, ◌++◌, map, Contains, count_by, Some, is_some, true, false, Result, Ok}
 use Rattle.std.specs.List.{flat_map}
 use Rattle.custody_machine.specs.declared.answers.Failure.{Failure}
 use Rattle.custody_machine.specs.declared.answers.Failure.TheVariants.{NoMemory, VolumeFailed, StoreFailed, Closed, Damaged}
 use Rattle.custody_machine.specs.declared.answers.Refusal.TheVariants.{DroppedAfterKeeping}
-use Rattle.custody_machine.specs.State.{State}
+use Rattle.custody_machine.specs.declared.codes.HttpStatus.TheVariants.{InternalServerError}
+use Rattle.custody_machine.specs.NameReading.{read_name}
+use Rattle.custody_machine.specs.State.{State, Part}
 use Rattle.custody_machine.specs.Machine as machine
-use Rattle.custody_machine.specs.Machine.{Command, Purge, TimedCommand, Record, after}
+use Rattle.custody_machine.specs.Machine.{Command, Purge, Receive, TimedCommand, Record, after, is_dropped}
 use Rattle.custody_machine.specs.History as history
 use Rattle.custody_machine.specs.History.{Answered, AnsweredOtherCall, ShutDown, StoppedAtRest, OpenedWith, Opened, Pair}
 use Rattle.custody_machine.specs.Moves.{Place, IsInState}
+use Rattle.custody_machine.specs.FetchResult.{ReleasesName, part_named}
 use Rattle.custody_machine.specs.Retries.{AsksAgain, IsDroppedSince, IsOfCommand, StillHas, first_record, has_same_key, command_key, once}
 use Rattle.http_request.specs.RequestMeaning.{RequestMeaning, RequestMeans, asks_for}
-use Rattle.http_request.specs.Action.{Do}
+use Rattle.http_request.specs.Action.{Do, Fetch}
+use Rattle.custody.specs.declared.answers.Refused.{Refused}
 use Rattle.http_api.specs.Responses.{HttpResponse, response_bytes, text_response}
-use Rattle.http_api.specs.Handling.{failure_response, refusal_response}
-use Rattle.http_api.specs.declared.status.ResponseStatus.TheVariants.{Done}
+use Rattle.http_api.specs.Handling.{failure_response, fetch_response, refusal_response}
+use Rattle.http_api.specs.declared.status.ResponseStatus.TheVariants.{Coded, Done}
 use Rattle.theorems.specs.Responses.{response_to, record_text, tells_accepted, tells_failure}
 use Rattle.theorems.specs.Service.{ServiceEvent, Exchange, Exchanged, Unread, StoppedInRequest, OutsideRequest, IsBeginning, IsServiceHistory, IsUp, Responds, delivered_exchanges, found_by_service, state_by_service}
+use Rattle.theorems.specs.Reading.{IsReadAsReceived}
 
 -- a request asks for a command
 abbrev pub AsksFor : Exchange → Command → Type 0
@@ -85,6 +90,35 @@ BodiesAreTheSame first = (earlier between later : List ServiceEvent) (x again : 
     → IsServiceHistory first (earlier ++ Exchanged x ∷ between ++ Exchanged again ∷ later)
     → AsksFor x command → AsksFor again other → AsksAgain command other → tells_accepted x.answer.status ≡ true
     → IsRepeatResponse (state_by_service first (earlier ++ Exchanged x ∷ between)) other (λ body. body ≡ x.answer.body) again.answer
+
+-- ---- parts that are fetched
+
+-- a request asks for a part of a release
+abbrev pub AsksToFetch : Exchange → (reference name : List ℕ) → Type 0
+AsksToFetch x reference name = RequestMeans x.input (asks_for (Fetch reference name))
+
+-- Whatever stops there were, no request is answered by 500: no response tells that a part is damaged.
+abbrev pub NoInternalError : State → Type 0
+NoInternalError first = (earlier later : List ServiceEvent) (x : Exchange) → IsServiceHistory first (earlier ++ Exchanged x ∷ later) → x.answer.status ≢ Coded InternalServerError
+
+-- A recorded part that is asked for is answered as it is read: by the bytes that were received, by the refusal that the state decides, or by a failure; or the custody is closed.
+abbrev pub PartsAreFetched : State → Type 0
+PartsAreFetched first = (earlier later : List ServiceEvent) (x : Exchange) (reference name : List ℕ) (part : Part)
+    → IsServiceHistory first (earlier ++ Exchanged x ∷ later) → AsksToFetch x reference name → part_named (state_by_service first earlier) (read_name name) ≡ Some part
+    → ((read : Result (List ℕ) Refused) × (x.answer ≡ fetch_response read) × IsReadAsReceived first (found_by_service first earlier) reference name read)
+    ⊎ (x.answer ≡ failure_response Closed)
+
+-- a release lists the name, and the bytes of its part are not dropped
+abbrev pub ReleasesBytes : State → (reference name : List ℕ) → Type 0
+ReleasesBytes state reference name = ReleasesName state reference name × (is_dropped (part_named state (read_name name)) ≡ false)
+
+-- A part that a request was told is accepted, and that a release lists and is not dropped, is answered by 200 and the bytes that were sent, whatever came between; or a failure comes in the way (503).
+abbrev pub PartsAreFetchedAsSent : State → Type 0
+PartsAreFetchedAsSent first = (earlier between later : List ServiceEvent) (sent x : Exchange) (reference name bytes : List ℕ)
+    → IsServiceHistory first (earlier ++ Exchanged sent ∷ between ++ Exchanged x ∷ later)
+    → AsksFor sent (Receive name bytes) → tells_accepted sent.answer.status ≡ true
+    → AsksToFetch x reference name → ReleasesBytes (state_by_service first (earlier ++ Exchanged sent ∷ between)) reference name
+    → (x.answer ≡ fetch_response (Ok bytes)) ⊎ ((failure : Failure) × MayFailAgain failure × (x.answer ≡ failure_response failure))
 
 -- ---- a client
 

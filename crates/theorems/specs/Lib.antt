@@ -1,8 +1,12 @@
 pub mod Sessions
 pub mod OtherCallMoves
+pub mod Reading
 pub mod Responses
 pub mod Service
 pub mod Clients
 pub mod Requests
 pub mod WholeResponses
 pub mod Evidence
+pub mod CustodyCalls
+pub mod Lives
+pub mod ExampleService

@@ -2,11 +2,13 @@
 //! what this speaks of.
 ghost use Rattle.custody_machine.specs.State.{State};
 ghost use Rattle.theorems.specs.Sessions.{IsServing, place_of};
-ghost use Rattle.theorems.specs.Clients.{AcceptedIsFoundOnce, BodiesAreTheSame, ClientsEndAsOnce, ServiceAnswersRepeats};
+ghost use Rattle.theorems.specs.Clients.{AcceptedIsFoundOnce, BodiesAreTheSame, ClientsEndAsOnce, NoInternalError, PartsAreFetched, PartsAreFetchedAsSent, ServiceAnswersRepeats};
+ghost use Rattle.theorems.specs.ExampleService.{ServicesLive};
 ghost use Rattle.theorems.specs.Requests.{IsCustodyAt, RequestsMove, RequestsMayStop, MayStopAfterwards};
 ghost use Rattle.theorems.specs.WholeResponses.{ClientsCanTell, NoResponseBeginsAnother};
 
 use custody::Custody;
+use custody_machine::law_accepted;
 use http_request::law_asked;
 use sqlite::Alter;
 use vault_volume::Volume;
@@ -16,13 +18,22 @@ use vault_volume::Volume;
 /// with the same body, or that its bytes were dropped, or by a failure; and a client that is alone and
 /// sends each of its requests until it is answered, and by no failure, ends in the state of those
 /// requests sent once, in that order, without a stop. A purge has no record, and is done anew each time.
+/// No request is answered by 500; and a part that a release lists and that is not dropped is answered by
+/// the bytes that were sent, or by a failure of memory or volume, or that the custody is closed (503).
+/// Three such histories are written out, by the bytes that a client sends, with the answers that it
+/// reads.
 pub fn law_clients()
     ensures accepted { (first : State) → AcceptedIsFoundOnce first }
     ensures again { (first : State) → ServiceAnswersRepeats first }
     ensures same_body { (first : State) → BodiesAreTheSame first }
+    ensures no_internal_error { (first : State) → NoInternalError first }
+    ensures fetched { (first : State) → PartsAreFetched first }
+    ensures as_sent { (first : State) → PartsAreFetchedAsSent first }
     ensures ends { (first : State) → ClientsEndAsOnce first }
+    ensures happen { ServicesLive }
 {
     law_asked();
+    law_accepted();
 }
 
 /// A client can tell from the bytes that it has read whether they are a whole response, and which: no

@@ -4,11 +4,14 @@ ghost use Rattle.std.specs.Prelude.{◌≡◌, ◌<◌, ◌-◌, ◌*◌, ◌^�
 ghost use Rattle.vault_volume.specs.Disk.{LeavesOneImage};
 ghost use Rattle.sqlite.specs.Steps.{over_memory};
 ghost use Rattle.custody_store.specs.StoreState.{store_state};
+ghost use Rattle.custody_machine.specs.Commands.{command_of};
 ghost use Rattle.custody.specs.Custody.{timed_commands, open_custody_of};
 ghost use Rattle.custody.specs.OpenCustody.{current_records, store_state_of, image_of};
 ghost use Rattle.custody.specs.Opening.{HasAllTables};
 ghost use Rattle.theorems.specs.Sessions.{answers_of, IsSession, IsNotOpened, IsReopened, IsResumed};
+ghost use Rattle.theorems.specs.Lives.{HasLivedOnce};
 
+use crate::life_laws::open_custody;
 use custody::{Custody, InitError, Refused, Reply};
 use custody_machine::{Command, Failure};
 use schedule::Sec;
@@ -146,6 +149,39 @@ pub fn begin_run_and_reopen(
     stopped.restart(fill);
     match Custody::open(alloc, stopped, db) {
         Ok(custody) => Ok(Resumed { custody, answers }),
+        Err(failed) => Err(InitError::Failure(failed.0)),
+    }
+}
+
+/// Begins a custody over a volume and a new database in memory, gives it a command, closes it, and opens
+/// it again as `begin_run_and_reopen` does: so what `law_lives` supposes can be met.
+pub fn live_once(
+    alloc: Global,
+    volume: MemVolume,
+    number: u64,
+    command: &Command<'_>,
+    now: Sec,
+    fill: &[u8],
+) -> Result<Custody<MemVolume, MemStore>, InitError>
+    requires { ⟦<MemVolume as Volume>⟧.failures volume < 2 ^ 64 - 1 }
+    ensures { IfOk result (λ later. HasLivedOnce over_memory volume number (command_of command.now) now later) }
+{
+    let Ok(db) = new_database(alloc) else {
+        return Err(InitError::Failure(Failure::NoMemory));
+    };
+    let mut custody = match Custody::init(alloc, volume, db, number) {
+        Ok(custody) => custody,
+        Err(failed) => return Err(failed.0),
+    };
+    let _ = custody.apply(alloc, command, now);
+    custody.records()?;
+    let (mut stopped, db) = custody.close();
+    if !may_restart(&stopped, fill) {
+        return Err(InitError::Failure(Failure::VolumeFailed));
+    }
+    stopped.restart(fill);
+    match open_custody(alloc, stopped, db) {
+        Ok(custody) => Ok(custody),
         Err(failed) => Err(InitError::Failure(failed.0)),
     }
 }
