@@ -9,7 +9,7 @@ use schedule::{Day, Sec, read_day, read_moment};
 use sqlite::{Alter, Connection};
 use std::alloc::Global;
 use std::io::{self, Write};
-use theorems::sessions::{begin_run_and_reopen, new_database, open_run_and_reopen};
+use theorems::sessions::{begin_run_and_reopen, live_once, new_database, open_run_and_reopen};
 use vault_volume::{MemVolume, Volume};
 
 const BLOCKS: u32 = 8;
@@ -105,6 +105,20 @@ fn show_whole<W: Write>(alloc: Global, out: &mut W) -> Result<(), ScriptFault> {
     Ok(shown?)
 }
 
+/// A life of one command, a stop and an opening.
+fn show_life<W: Write>(alloc: Global, out: &mut W) -> Result<(), ScriptFault> {
+    let (tld, first_day, now) = registry().ok_or(ScriptFault::Line)?;
+    let volume = MemVolume::new(alloc, BLOCKS, 64, 16)?;
+    let fill = vec![in alloc; 255u8; BLOCK * BLOCKS as usize]?;
+    write!(out, "a life:")?;
+    let command = Command::Register(tld, first_day);
+    let shown = match live_once(alloc, volume, 1, &command, now, &fill) {
+        Ok(custody) => show(&[], custody.room().ok().map(|room| room.0), out),
+        Err(error) => writeln!(out, " {error}"),
+    };
+    Ok(shown?)
+}
+
 /// Prints the sessions. A beginning makes two calls, an opening one and a part two.
 pub fn show_sessions<W: Write>(alloc: Global, out: &mut W) -> Result<(), ScriptFault> {
     writeln!(out, "! sessions")?;
@@ -118,6 +132,7 @@ pub fn show_sessions<W: Write>(alloc: Global, out: &mut W) -> Result<(), ScriptF
         out,
     )?;
     show_whole(alloc, out)?;
+    show_life(alloc, out)?;
     writeln!(out)?;
     Ok(())
 }
