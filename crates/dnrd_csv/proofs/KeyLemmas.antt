@@ -52,7 +52,7 @@ is_eq-then Equal next = refl
 is_eq-then Greater next = refl
 
 -- keys compare `Equal` exactly if they are the same texts
-same_texts : (xs ys : List (List ℕ)) → is_eq (key_cmp xs ys) ≡ same_key xs ys
+pub same_texts : (xs ys : List (List ℕ)) → is_eq (key_cmp xs ys) ≡ same_key xs ys
 same_texts [] [] = refl
 same_texts [] (y ∷ ys) = refl
 same_texts (x ∷ xs) [] = refl
@@ -64,7 +64,7 @@ same_texts (x ∷ xs) (y ∷ ys) = is_eq-then (slice_cmp nat_cmp x y) (key_cmp x
 abbrev pub plain_keys : ℕ → List (List (List ℕ)) → List (List (List ℕ))
 plain_keys key rows = map (take key) rows
 
-unpadded : (key : ℕ) (one : List (List ℕ)) → length one ≡ key → key ≤ 3 → take key (padded_key one) ≡ one
+pub unpadded : (key : ℕ) (one : List (List ℕ)) → length one ≡ key → key ≤ 3 → take key (padded_key one) ≡ one
 unpadded key one len most =
     take-take key 3 (one ++ [] ∷ [] ∷ []) most
     ∙ ap (λ (n : ℕ). take n (one ++ [] ∷ [] ∷ [])) (sym len)
@@ -94,7 +94,7 @@ plain_differ key rows differ i j d below inside same =
     let at_j = get_or-map padded_key (plain_keys key rows) j d (padded_key d) inside in
     differ i j (padded_key d) below later (at_i ∙ ap padded_key same ∙ sym at_j)
 
-plain_len : (key : ℕ) (rows : List (List (List ℕ))) (i : ℕ) → All (λ row. key ≤ length row) rows → i < length rows → length (get_or (plain_keys key rows) i []) ≡ key
+pub plain_len : (key : ℕ) (rows : List (List (List ℕ))) (i : ℕ) → All (λ row. key ≤ length row) rows → i < length rows → length (get_or (plain_keys key rows) i []) ≡ key
 plain_len key rows i within inside =
     ap length (get_or-map (take key) rows i [] [] inside) ∙ length-take key (get_or rows i []) ∙ omega (arith, within i [] inside)
 
@@ -150,7 +150,7 @@ below_if Less back turned up apart = refl
 below_if Equal back turned up apart = absurd (apart refl)
 below_if Greater back turned up apart = cc (ap is_lt turned, up)
 
-same_if : (one other : List (List ℕ)) → key_cmp one other ≡ Equal → one ≡ other
+pub same_if : (one other : List (List ℕ)) → key_cmp one other ≡ Equal → one ≡ other
 same_if one other equal = (same_key-Decides one other).0 (sym (same_texts one other) ∙ ap is_eq equal)
 
 -- keys in order that differ ascend

@@ -2,6 +2,7 @@ pub mod Decided
 pub mod FieldLemmas
 pub mod KeyLemmas
 pub mod Records
+pub mod RepeatLemmas
 pub mod RowLemmas
 pub mod SpellingLemmas
 pub mod TableReading

@@ -4,7 +4,7 @@ ghost use Rattle.std.specs.Prelude.{◌≡◌, ◌≢◌, ◌⊎◌, ◌≤◌, 
 ghost use Rattle.dnrd_csv.specs.Form.{HasForm, IsAddressByte, IsDigit, IsGurid, IsHostNameByte, IsIdByte, IsRoidByte, IsStatusByte, IsTextOfBytes};
 
 use schedule::read_moment;
-use std::str;
+use std::{fmt, str};
 
 /// What the bytes of a field have to be.
 #[derive(Clone, Copy, Debug, PartialEq, Eq)]
@@ -148,5 +148,29 @@ impl Form {
             Form::RegistrarName => str::from_utf8(field).is_ok() && is_registrar_name(field),
             Form::Gurid => is_gurid(field),
         }
+    }
+}
+
+/// What a field of this form is, so that "not " may stand before it.
+impl fmt::Display for Form {
+    ghost use Rattle.std.specs.Prelude.{Some};
+    ghost use Rattle.dnrd_csv.specs.ErrorText.{form_text};
+
+    ghost output = { λ form. Some (form_text form) };
+
+    fn fmt<W: fmt::Write>(&self, f: &mut fmt::Formatter<W>) -> fmt::Result {
+        f.write_str(match self {
+            Form::HostName => "a host name",
+            Form::Roid => "a repository object identifier",
+            Form::Id => "an identifier",
+            Form::OptionalId => "an identifier or empty",
+            Form::Moment => "a moment",
+            Form::ContactType => "admin, billing or tech",
+            Form::Status => "a status",
+            Form::Address => "an address",
+            Form::AddressVersion => "v4 or v6",
+            Form::RegistrarName => "a registrar's name",
+            Form::Gurid => "an IANA ID or empty",
+        })
     }
 }

@@ -1,6 +1,6 @@
 //! The columns and the key of each table.
-ghost use Rattle.std.specs.Prelude.{◌≡◌};
-ghost use Rattle.dnrd_csv.specs.Table.{columns_of, key_columns_of};
+ghost use Rattle.std.specs.Prelude.{◌≡◌, length, map};
+ghost use Rattle.dnrd_csv.specs.Table.{column_names_of, columns_of, key_columns_of};
 
 use crate::form::Form;
 use deposit_name::TableName;
@@ -25,6 +25,30 @@ pub fn columns(table: TableName) -> &'static [Form]
         TableName::HostAddresses => &[Form::HostName, Form::Address, Form::AddressVersion],
         TableName::Contact => &[Form::Id, Form::Roid, Form::Id, Form::Moment],
         TableName::Registrar => &[Form::Id, Form::RegistrarName, Form::Gurid, Form::Status],
+    }
+}
+
+/// The names of a table's columns.
+pub fn column_names(table: TableName) -> &'static [&'static str]
+    ensures names { map (λ name. name.now) result.now ≡ column_names_of table }
+    ensures count { length result.now ≡ length (columns_of table) }
+{
+    match table {
+        TableName::Domain => &[
+            "fName",
+            "fRoid",
+            "fRegistrant",
+            "fClID",
+            "fCrDate",
+            "fExDate",
+        ],
+        TableName::DomainContacts => &["fName", "fContactType", "fId"],
+        TableName::DomainStatuses => &["fName", "fStatus"],
+        TableName::DomainNameServers => &["fName", "fHostName"],
+        TableName::Host => &["fName", "fRoid", "fClID", "fCrDate"],
+        TableName::HostAddresses => &["fName", "fAddr", "fAddrVersion"],
+        TableName::Contact => &["fId", "fRoid", "fClID", "fCrDate"],
+        TableName::Registrar => &["fId", "fName", "fGurid", "fStatus"],
     }
 }
 

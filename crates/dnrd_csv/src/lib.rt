@@ -16,6 +16,6 @@ pub use crate::errors::TableError;
 pub use crate::form::Form;
 pub use crate::keys::Keys;
 pub use crate::laws::{law_one_text, law_table_reader};
-pub use crate::layout::{columns, key_columns};
+pub use crate::layout::{column_names, columns, key_columns};
 pub use crate::rows::Rows;
 pub use crate::table::{Table, read_keys, read_table, write_table};

@@ -1,5 +1,5 @@
 //! Reading rows in their one spelling.
-ghost use Rattle.std.specs.Prelude.{◌≡◌, ◌≢◌, ◌⊎◌, ◌↔◌, ◌++◌, [], true, false, ℕ, List, IfErr, IfOk, IfSome, IsSome, IsTrue, IsUtf8, OnOk, length, nat_eq};
+ghost use Rattle.std.specs.Prelude.{◌≡◌, ◌≢◌, ◌⊎◌, ◌↔◌, ◌++◌, [], false, ℕ, List, IfErr, IfNone, IfOk, IfSome, IsSome, IsTrue, IsUtf8, OnOk, length, nat_eq};
 ghost use Rattle.std.specs.List.{starts_with};
 ghost use Rattle.csv.specs.Records.{fields_of, partial_of};
 ghost use Rattle.dnrd_csv.specs.inside.RowReading.{IsAtRow, RefusesRow, RefusesRows};
@@ -47,30 +47,31 @@ fn after<'t>(text: &'t [u8], front: &[u8]) -> Option<&'t [u8]>
     if start == front { Some(rest) } else { None }
 }
 
-// Reads the row at the front, if it has its one spelling, and gives what follows it.
+// Reads the row at the front, behind so many, if it has its one spelling, and gives what follows it.
 fn next_row<'t>(
     reader: &mut Reader<&'t [u8]>,
     row: &mut ByteRecord,
     spelled: &mut Vec<u8>,
+    count: usize,
     text: &'t [u8],
 ) -> Result<&'t [u8], TableError>
     requires { IsAtRow reader.old text.now }
     ensures row { IfOk result (λ _. IsRow (fields_of row.new)) }
     ensures text { IfOk result (λ rest. text.now ≡ row_text (fields_of row.new) ++ rest.now) }
     ensures at { IfOk result (λ rest. IsAtRow reader.new rest.now) }
-    ensures refused { IfErr result (λ fault. RefusesRow text.now fault) }
+    ensures refused { IfErr result (λ fault. RefusesRow count text.now fault) }
 {
     let found = reader.read_byte_record(row)?;
     if !found {
-        return Err(TableError::NotRows);
+        return Err(TableError::NotRows { row: count });
     }
     if !is_row(row) {
-        return Err(TableError::NotRows);
+        return Err(TableError::NotRows { row: count });
     }
     spell(row, spelled)?;
     match after(text, spelled) {
         Some(rest) => Ok(rest),
-        None => Err(TableError::NotRows),
+        None => Err(TableError::NotRows { row: count }),
     }
 }
 
@@ -86,24 +87,29 @@ fn append(row: &ByteRecord, fields: &mut ByteRecord) -> Result<(), AllocError>
     Ok(())
 }
 
-// Keeps a row while all have had the width, and says whether they still have.
+// Keeps a row behind so many while all have had the width. Gives the first without it, and how many fields that has.
 fn keep(
     row: &ByteRecord,
+    count: usize,
     width: usize,
-    even: bool,
+    uneven: Option<(usize, usize)>,
     fields: &mut ByteRecord,
-) -> Result<bool, AllocError>
+) -> Result<Option<(usize, usize)>, AllocError>
     requires { partial_of fields.old ≡ [] }
-    ensures kept { IfOk result (λ still. still ≡ true → (even ≡ true) × (length (fields_of row.now) ≡ width)
-        × (fields_of fields.new ≡ fields_of fields.old ++ fields_of row.now)) }
-    ensures uneven { IfOk result (λ still. still ≡ false → (even ≡ false) ⊎ (length (fields_of row.now) ≢ width)) }
+    ensures even { IfOk result (λ first. IfNone first ((uneven ≡ None) × (length (fields_of row.now) ≡ width)
+        × (fields_of fields.new ≡ fields_of fields.old ++ fields_of row.now))) }
+    ensures uneven { IfOk result (λ first. IfSome first (λ place. (uneven ≡ Some place)
+        ⊎ ((uneven ≡ None) × (place.0 ≡ count) × (place.1 ≡ length (fields_of row.now)) × (place.1 ≢ width)))) }
     ensures partial { OnOk result (partial_of fields.new ≡ []) }
 {
-    if !even || row.len() != width {
-        return Ok(false);
+    if uneven.is_some() {
+        return Ok(uneven);
+    }
+    if row.len() != width {
+        return Ok(Some((count, row.len())));
     }
     append(row, fields)?;
-    Ok(true)
+    Ok(None)
 }
 
 // The rows of a text with no byte order mark.
@@ -121,21 +127,21 @@ fn read_unmarked(alloc: Global, text: &[u8], width: usize) -> Result<Rows, Table
     let mut spelled = Vec::new(alloc);
     let mut fields = ByteRecord::new(alloc);
     let mut count: usize = 0;
-    let mut even = true;
+    let mut uneven = None;
     let mut rest = text;
     while !rest.is_empty() {
-        rest = next_row(&mut reader, &mut row, &mut spelled, rest)?;
-        even = keep(&row, width, even, &mut fields)?;
+        rest = next_row(&mut reader, &mut row, &mut spelled, count, rest)?;
+        uneven = keep(&row, count, width, uneven, &mut fields)?;
         count += 1;
     }
-    if !even {
-        return Err(TableError::ColumnCount);
+    match uneven {
+        Some((row, fields)) => Err(TableError::ColumnCount { row, fields }),
+        None => Ok(Rows {
+            fields,
+            width,
+            count,
+        }),
     }
-    Ok(Rows {
-        fields,
-        width,
-        count,
-    })
 }
 
 /// The rows of which the bytes are the text, if each has so many fields.
@@ -143,11 +149,13 @@ pub fn read_rows(alloc: Global, text: &[u8], width: usize) -> Result<Rows, Table
     ensures ok { IfOk result (λ rows. IsUtf8 text.now × IsTextOf text.now rows × HaveWidth width rows) }
     ensures refused { IfErr result (λ fault. RefusesRows width text.now fault) }
 {
-    if str::from_utf8(text).is_err() {
-        return Err(TableError::NotUtf8);
+    if let Err(error) = str::from_utf8(text) {
+        return Err(TableError::NotUtf8 {
+            offset: error.valid_up_to(),
+        });
     }
     if text.starts_with(BYTE_ORDER_MARK.as_slice()) {
-        return Err(TableError::NotRows);
+        return Err(TableError::NotRows { row: 0 });
     }
     read_unmarked(alloc, text, width)
 }

@@ -9,7 +9,7 @@ use crate::form::Form;
 use crate::keys::Keys;
 use crate::layout::{columns, key_columns};
 use crate::reading::read_rows;
-use crate::row_checks::{have_distinct_keys, have_forms};
+use crate::row_checks::{first_out_of_form, first_repeat};
 use crate::rows::Rows;
 use deposit_name::TableName;
 use std::alloc::{AllocError, Global};
@@ -35,11 +35,12 @@ fn read_columns(
     ensures refused { IfErr result (λ fault. RefusesTableFile columns.now key text.now fault) }
 {
     let rows = read_rows(alloc, text, columns.len())?;
-    if !have_forms(columns, &rows) {
-        return Err(TableError::FieldForm);
+    if let Some((row, column)) = first_out_of_form(columns, &rows) {
+        let field = rows.field(row, column).to_vec(alloc)?;
+        return Err(TableError::FieldForm { row, column, field });
     }
-    if !have_distinct_keys(alloc, key, &rows)? {
-        return Err(TableError::DuplicateKey);
+    if let Some((row, earlier)) = first_repeat(alloc, key, &rows)? {
+        return Err(TableError::DuplicateKey { row, earlier });
     }
     Ok(rows)
 }

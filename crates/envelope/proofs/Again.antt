@@ -12,7 +12,7 @@ use Rattle.schedule.specs.Reading.{day_at}
 use Rattle.schedule.specs.Schedule.{IsDay}
 use Rattle.schedule.specs.Text.{day_text}
 use Rattle.schedule.proofs.ReadingLemmas.{day_at-day_text, length-day_text}
-use Rattle.deposit_name.specs.Identifiers.{passing_text, IsTld, is_tld, IsDepositId, is_deposit_id}
+use Rattle.deposit_name.specs.Identifiers.{passing_text, is_tld, IsDepositId, is_deposit_id}
 use Rattle.deposit_name.proofs.IdentifierLemmas.{is_tld-IsTld, is_deposit_id-IsDepositId}
 use Rattle.deposit_name.proofs.TableLemmas.{table_at-table_text}
 use Rattle.deposit_name.specs.Tables.{has_deletes}
@@ -25,8 +25,9 @@ use Rattle.envelope.specs.Uri.{is_uri}
 use Rattle.envelope.specs.declared.envelope.FileEntry.{FileEntry}
 use Rattle.envelope.specs.declared.envelope.Count.{Count}
 use Rattle.envelope.specs.Envelope.{Env, IsFile, IsCount, AreDeletes, FitsKind, IsEnvelope, file_length_max, type_text}
-use Rattle.envelope.specs.JsonReading.{◌>>=◌, number_at, text_at, digest_at, file_at, uri_at, each_at, count_at, counts_of, files_at, uris_at, counts_at, kind_at, deletes_member_at, deletes_at, id_at, prev_id_at, watermark_at, tld_at, header_at, menu_at, resend_at, env_at}
-use Rattle.envelope.proofs.Values.{members_from, file_data, files_data, count_pair, counts_data, header_data, menu_data, watermark_data, env_with, env_data}
+use Rattle.envelope.specs.JsonReading.{◌>>=◌, number_at, text_at, digest_at, file_at, uri_at, each_at, count_at, counts_of, files_at, uris_at, counts_at, kind_at, deletes_member_at, deletes_at, id_at, prev_id_at, watermark_at, contents_at, type_at, count_in_header, tld_in_header, uris_in_menu, resend_at, env_at}
+use Rattle.envelope.specs.Spelling.{first_out_of_form}
+use Rattle.envelope.proofs.Values.{members_from, file_data, files_data, count_pair, counts_data, header_data, menu_data, uris_data, watermark_data, env_with, env_data}
 use Rattle.envelope.proofs.Plain.{IsUri}
 
 if_true : {A : Type 0} (b : Bool) (x : A) → b ≡ true → cond b (Some x) None ≡ Some x
@@ -66,9 +67,9 @@ uri_again : (u : List ℕ) → IsUri u → uri_at (string u) ≡ Some u
 unfolding uri_at
 uri_again u h = if_true (is_uri u) u h
 
-menu_again : (us : List (List ℕ)) → 1 ≤ length us → length us ≤ 16 → All IsUri us → menu_at (menu_data us) ≡ Some us
-unfolding menu_at uris_at
-menu_again us some small h = rw (each_again IsUri uri_at string uri_again us h, le-leb 1 (length us) some, le-leb (length us) 16 small) refl
+uris_again : (us : List (List ℕ)) → 1 ≤ length us → length us ≤ 16 → All IsUri us → uris_at (uris_data us) ≡ Some us
+unfolding uris_at
+uris_again us some small h = rw (each_again IsUri uri_at string uri_again us h, le-leb 1 (length us) some, le-leb (length us) 16 small) refl
 
 count_again : (c : Count) → IsCount c → count_at c.uri (number (unsigned c.count)) ≡ Some c
 unfolding count_at
@@ -84,10 +85,6 @@ each_count_again (c ∷ cs) h = rw (count_again c (All-head IsCount c cs h), eac
 counts_again : (cs : List Count) → length cs ≤ 16 → All IsCount cs → counts_at (counts_data cs) ≡ Some cs
 unfolding counts_at
 counts_again cs small h = rw (each_count_again cs h, le-leb (length cs) 16 small) refl
-
-header_again : (cs : List Count) (t : List ℕ) → length cs ≤ 16 → All IsCount cs → IsTld t → header_at (header_data cs t) ≡ Some (cs, t)
-unfolding header_at tld_at text_at
-header_again cs t small h ht = rw (counts_again cs small h, if_true (is_tld t) t ((is_tld-IsTld t).1 ht)) refl
 
 -- what stands under each name
 abbrev found_in : Data → List (Option Data)
@@ -138,24 +135,45 @@ watermark_again d day e h =
     ap (λ o. o >>= λ t. day_at (take 10 t)) (text_again (codes "watermark") d (day_text day ++ codes "T00:00:00Z") e)
     ∙ ap day_at (take_at (day_text day) (codes "T00:00:00Z") 10 (length-day_text day)) ∙ day_at-day_text day h
 
-pub env_again : (v : Env) → IsEnvelope v → env_at (env_data v) ≡ Some v
-unfolding env_at
-env_again v h =
+-- each member of the value is read as that of the envelope
+record IsReadAs (v : Env) (d : Data) : Type 0 where
+  contents : contents_at d ≡ Some v.contents
+  kind : type_at d ≡ Some v.kind
+  deletes : deletes_at v.kind d ≡ Some v.deletes
+  count : count_in_header d ≡ Some v.count
+  tld : tld_in_header d ≡ Some v.tld
+  id : id_at (codes "id") d ≡ Some v.id
+  prev_id : prev_id_at d ≡ Some v.prev_id
+  object_uris : uris_in_menu d ≡ Some v.object_uris
+  resend : resend_at d ≡ Some v.resend
+  watermark : watermark_at d ≡ Some v.watermark
+
+members_again : (v : Env) → IsEnvelope v → IsReadAs v (env_data v)
+unfolding contents_at type_at count_in_header tld_in_header uris_in_menu text_at
+members_again v h =
     let d = env_data v in
     let all = found (option_map files_data v.deletes) (option_map string v.prev_id) v in
     let at = λ (k : ℕ). ap (λ os. get_or os k None) all in
-    rw (
-      at 0,
-      files_again 8 v.contents h.contents_few h.contents,
-      text_again (codes "type") d (type_text v.kind) (at 7),
-      kind_again v.kind,
-      deletes_again v.kind v.deletes d h.deletes (at 1),
-      at 2,
-      header_again v.count v.tld h.count_few h.counts h.tld,
-      id_again (codes "id") d v.id (at 3) h.id,
-      prev_again v.prev_id d (at 4) h.prev_id,
-      at 5,
-      menu_again v.object_uris h.object_uris_some h.object_uris_few h.object_uris,
-      resend_again d v.resend (at 6) h.resend,
-      watermark_again d v.watermark (at 8) h.watermark,
-    ) refl
+    record {
+      contents = rw (at 0) (files_again 8 v.contents h.contents_few h.contents);
+      kind = rw (text_again (codes "type") d (type_text v.kind) (at 7)) (kind_again v.kind);
+      deletes = deletes_again v.kind v.deletes d h.deletes (at 1);
+      count = rw (at 2) (counts_again v.count h.count_few h.counts);
+      tld = rw (at 2) (if_true (is_tld v.tld) v.tld ((is_tld-IsTld v.tld).1 h.tld));
+      id = id_again (codes "id") d v.id (at 3) h.id;
+      prev_id = prev_again v.prev_id d (at 4) h.prev_id;
+      object_uris = rw (at 5) (uris_again v.object_uris h.object_uris_some h.object_uris_few h.object_uris);
+      resend = resend_again d v.resend (at 6) h.resend;
+      watermark = watermark_again d v.watermark (at 8) h.watermark;
+    }
+
+pub env_again : (v : Env) → IsEnvelope v → env_at (env_data v) ≡ Some v
+unfolding env_at
+env_again v h =
+    let r = members_again v h in
+    rw (r.contents, r.kind, r.deletes, r.count, r.tld, r.id, r.prev_id, r.object_uris, r.resend, r.watermark) refl
+
+pub in_form_again : (v : Env) → IsEnvelope v → first_out_of_form (env_data v) ≡ None
+in_form_again v h =
+    let r = members_again v h in
+    rw (r.contents, r.kind, r.deletes, r.count, r.tld, r.id, r.prev_id, r.object_uris, r.resend, r.watermark) refl

@@ -9,3 +9,5 @@ pub mod Forms
 pub mod Lengths
 pub mod FormDecided
 pub mod TextReading
+pub mod Faults
+pub mod Places

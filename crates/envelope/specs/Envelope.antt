@@ -14,8 +14,6 @@ use Rattle.deposit_name.specs.declared.kinds.Kind.TheVariants.{Full, Diff, Incr}
 use Rattle.envelope.specs.Uri.{is_uri}
 use Rattle.envelope.specs.declared.envelope.FileEntry.{FileEntry}
 use Rattle.envelope.specs.declared.envelope.Count.{Count}
-use Rattle.envelope.specs.declared.envelope.Header.{Header}
-use Rattle.envelope.specs.declared.envelope.Menu.{Menu}
 use Rattle.envelope.specs.declared.envelope.Envelope.{Envelope}
 
 -- an envelope without where it lies in memory
@@ -94,19 +92,6 @@ pub record IsEnvelope (v : Env) : Type 0 where
   pub object_uris : All (λ u. IsTrue (is_uri u)) v.object_uris
   pub resend : v.resend ≤ 99
   pub watermark : IsDay v.watermark
-
--- ---- of the parts, for private clauses
-
-pub record IsHeader (h : Header) : Type 0 where
-  pub few : length h.count.items ≤ 16
-  pub counts : All IsCount h.count.items
-  pub order : UrisRise h.count.items
-  pub tld : IsTld h.tld
-
-pub record IsMenu (m : Menu) : Type 0 where
-  pub some : 1 ≤ length m.object_uris.items
-  pub few : length m.object_uris.items ≤ 16
-  pub uris : All (λ u. IsTrue (is_uri u)) m.object_uris.items
 
 -- ---- the text
 

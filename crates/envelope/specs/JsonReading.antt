@@ -17,19 +17,21 @@ use Rattle.envelope.specs.declared.envelope.FileEntry.{FileEntry}
 use Rattle.envelope.specs.declared.envelope.Count.{Count}
 use Rattle.envelope.specs.declared.errors.EnvError.{EnvError}
 use Rattle.envelope.specs.declared.errors.EnvError.TheVariants.{Spelling, Memory}
+use Rattle.envelope.specs.declared.errors.Member.{Member}
+use Rattle.envelope.specs.declared.errors.SpellingFault.TheVariants as fault
 
 infixl 10 ◌>>=◌
 abbrev pub ◌>>=◌ : {A B : Type 0} → Option A → (A → Option B) → Option B
 o >>= f = option_and_then f o
 
--- What a function returned, seen by view, is what reading gives, unless memory ran out.
-abbrev pub FailsReading : {Y : Type 0} → EnvError → Option Y → Type 0
-FailsReading Memory read = Unit {0}
-FailsReading Spelling read = read ≡ None
+-- What a function returned for a member, seen by view, is what reading gives; where that is nothing, the fault names the member. Memory may run out instead.
+abbrev pub FailsReading : {Y : Type 0} → Member → EnvError → Option Y → Type 0
+FailsReading m Memory read = Unit {0}
+FailsReading m (Spelling f) read = (f ≡ fault.Member m) × (read ≡ None)
 
-abbrev pub GivesReading : {X Y : Type 0} → (X → Y) → Result X EnvError → Option Y → Type 0
-GivesReading view (Ok x) read = read ≡ Some (view x)
-GivesReading view (Err e) read = FailsReading e read
+abbrev pub GivesReading : {X Y : Type 0} → Member → (X → Y) → Result X EnvError → Option Y → Type 0
+GivesReading m view (Ok x) read = read ≡ Some (view x)
+GivesReading m view (Err e) read = FailsReading m e read
 
 -- ---- the parts
 
@@ -115,6 +117,16 @@ kind_at t =
     else if bytes_eq t (codes "INCR") then Some Incr
     else None
 
+unfoldable pub type_at : Data → Option Kind
+type_at d = do
+  t ← text_at (codes "type") d
+  kind_at t
+
+unfoldable pub contents_at : Data → Option (List FileEntry)
+contents_at d = do
+  c ← get (codes "contents") d
+  files_at 8 c
+
 abbrev pub deletes_member_at : Data → Option (Option (List FileEntry))
 deletes_member_at d = do
   x ← get (codes "deletes") d
@@ -141,22 +153,24 @@ watermark_at d = do
   t ← text_at (codes "watermark") d
   day_at (take 10 t)
 
-unfoldable pub tld_at : Data → Option (List ℕ)
-tld_at d = do
-  t ← text_at (codes "tld") d
+-- the members of the header
+unfoldable pub count_in_header : Data → Option (List Count)
+count_in_header d = do
+  h ← get (codes "header") d
+  n ← get (codes "count") h
+  counts_at n
+
+unfoldable pub tld_in_header : Data → Option (List ℕ)
+tld_in_header d = do
+  h ← get (codes "header") d
+  t ← text_at (codes "tld") h
   passing_text is_tld t
 
--- the counts and the registry
-unfoldable pub header_at : Data → Option (List Count × List ℕ)
-header_at d = do
-  n ← get (codes "count") d
-  count ← counts_at n
-  tld ← tld_at d
-  Some (count, tld)
-
-unfoldable pub menu_at : Data → Option (List (List ℕ))
-menu_at d = do
-  o ← get (codes "objURI") d
+-- the URIs of the menu
+unfoldable pub uris_in_menu : Data → Option (List (List ℕ))
+uris_in_menu d = do
+  m ← get (codes "rdeMenu") d
+  o ← get (codes "objURI") m
   uris_at o
 
 unfoldable pub resend_at : Data → Option ℕ
@@ -167,24 +181,21 @@ resend_at d = do
 -- the whole envelope
 unfoldable pub env_at : Data → Option Env
 env_at d = do
-  c ← get (codes "contents") d
-  contents ← files_at 8 c
-  k ← text_at (codes "type") d
-  kind ← kind_at k
+  contents ← contents_at d
+  kind ← type_at d
   deletes ← deletes_at kind d
-  h ← get (codes "header") d
-  header ← header_at h
+  count ← count_in_header d
+  tld ← tld_in_header d
   id ← id_at (codes "id") d
   prev_id ← prev_id_at d
-  m ← get (codes "rdeMenu") d
-  object_uris ← menu_at m
+  object_uris ← uris_in_menu d
   resend ← resend_at d
   watermark ← watermark_at d
   Some (record {
     contents = contents;
     deletes = deletes;
-    count = header.0;
-    tld = header.1;
+    count = count;
+    tld = tld;
     id = id;
     prev_id = prev_id;
     object_uris = object_uris;

@@ -1,5 +1,5 @@
 //! Reading an envelope: the JSON value of the text, the envelope that the value stands for, its text, and the comparison.
-ghost use Rattle.std.specs.Prelude.{◌≡◌, ◌-◌, ◌≤◌, ◌<◌, Option, Some, None, Ok, option_map, IfSome, IfOk, IsUtf8, IsTrue, IsErrOf, All, length};
+ghost use Rattle.std.specs.Prelude.{◌≡◌, ◌≢◌, ◌-◌, ◌≤◌, ◌<◌, Option, Some, None, Ok, option_map, IfSome, IfOk, IfErr, IsTrue, IsErrOf, MatchResult, All, length, slice_get, take};
 ghost use Rattle.serde_json.specs.View.{items_view, members_view};
 ghost use Rattle.serde_json.specs.Read.{read};
 ghost use Rattle.serde_json.specs.View as json;
@@ -8,12 +8,15 @@ ghost use Rattle.deposit_name.specs.Tables.{has_deletes};
 ghost use Rattle.deposit_name.specs.Identifiers.{IsTld, IsDepositId};
 ghost use Rattle.schedule.specs.Schedule.{IsDay};
 ghost use Rattle.envelope.specs.Uri.{is_uri};
-ghost use Rattle.envelope.specs.Envelope.{Env, IsFile, IsCount, FitsKind, UrisRise, IsHeader, IsMenu, IsEnvelope, env_of, env_text, text_max};
-ghost use Rattle.envelope.specs.declared.errors.EnvError.TheVariants.{Spelling};
-ghost use Rattle.envelope.specs.JsonReading.{GivesReading, number_at, text_at, file_at, uri_at, each_at, counts_of, files_at, uris_at, counts_at, kind_at, deletes_at, id_at, prev_id_at, watermark_at, count_at, header_at, tld_at, menu_at, resend_at, env_at};
+ghost use Rattle.envelope.specs.Envelope.{Env, IsFile, IsCount, FitsKind, UrisRise, IsEnvelope, env_of, env_text, text_max};
+ghost use Rattle.envelope.specs.declared.errors.EnvError.TheVariants.{Memory, Spelling};
+ghost use Rattle.envelope.specs.declared.errors.Member.TheVariants as member;
+ghost use Rattle.envelope.specs.declared.errors.SpellingFault.TheVariants.{Long};
+ghost use Rattle.envelope.specs.JsonReading.{GivesReading, number_at, text_at, file_at, uri_at, each_at, counts_of, files_at, uris_at, counts_at, kind_at, type_at, contents_at, deletes_at, id_at, prev_id_at, watermark_at, count_at, count_in_header, tld_in_header, uris_in_menu, resend_at, env_at};
+ghost use Rattle.envelope.specs.Spelling.{IsJson, NamesMember, RefusesEnvelope, TellsFault};
 
 use crate::envelope::{Count, Envelope, FileEntry, Header, Menu};
-use crate::errors::EnvError;
+use crate::errors::{EnvError, Member, SpellingFault};
 use crate::uri::Uri;
 use crate::writing::write_envelope;
 use deposit_name::{DepositId, Kind, TableName, Tld};
@@ -21,6 +24,7 @@ use hex::FromHex;
 use schedule::{Day, read_day};
 use serde_json::{Category, Map, Value};
 use std::alloc::Global;
+use std::str;
 
 /// No envelope has a text of more bytes.
 const TEXT_MAX: usize = 8192;
@@ -97,6 +101,13 @@ fn prev_id_of(value: &Value) -> Option<Option<DepositId>>
     Some(Some(id))
 }
 
+#[tactic(auto, unfolding(crate::specs::JsonReading::type_at))]
+fn type_of(value: &Value) -> Option<Kind>
+    ensures { result ≡ type_at (json.view value.now) }
+{
+    kind_of(text_of(value, "type")?)
+}
+
 #[tactic(auto, unfolding(crate::specs::JsonReading::kind_at))]
 fn kind_of(t: &str) -> Option<Kind>
     ensures { result ≡ kind_at t.now }
@@ -118,74 +129,113 @@ fn watermark_of(value: &Value) -> Option<Day>
     read_day(t.get(..10).unwrap_or(t))
 }
 
+// The files of a member.
 #[tactic(auto, unfolding(crate::specs::JsonReading::files_at))]
-fn files_of(alloc: Global, value: &Value, limit: usize) -> Result<Vec<FileEntry>, EnvError>
-    ensures value { GivesReading (λ v. v.items) result (files_at limit (json.view value.now)) }
+fn files_of(
+    alloc: Global,
+    value: &Value,
+    limit: usize,
+    member: Member,
+) -> Result<Vec<FileEntry>, EnvError>
+    ensures value { GivesReading member (λ v. v.items) result (files_at limit (json.view value.now)) }
     ensures few { IfOk result (λ v. length v.items ≤ limit) }
     ensures valid { IfOk result (λ v. All IsFile v.items) }
 {
-    let items = value.as_array().ok_or(EnvError::Spelling)?;
-    let files = each_file(alloc, items)?;
+    let items = value.as_array().ok_or(member)?;
+    let files = each_file(alloc, items, member)?;
     if files.len() > limit {
-        return Err(EnvError::Spelling);
+        return Err(EnvError::from(member));
     }
     Ok(files)
 }
 
-fn each_file(alloc: Global, items: &[Value]) -> Result<Vec<FileEntry>, EnvError>
-    ensures value { GivesReading (λ v. v.items) result (each_at file_at (items_view items.now)) }
+fn each_file(alloc: Global, items: &[Value], member: Member) -> Result<Vec<FileEntry>, EnvError>
+    ensures value { GivesReading member (λ v. v.items) result (each_at file_at (items_view items.now)) }
     ensures valid { IfOk result (λ v. All IsFile v.items) }
 {
     let mut files = Vec::new(alloc);
     for item in items {
         let Some(file) = file_of(item) else {
-            return Err(EnvError::Spelling);
+            return Err(EnvError::from(member));
         };
         files.push(file)?;
     }
     Ok(files)
 }
 
-#[tactic(auto, unfolding(crate::specs::JsonReading::uris_at))]
-fn uris_of(alloc: Global, value: &Value) -> Result<Vec<Uri>, EnvError>
-    ensures value { GivesReading (λ v. v.items) result (uris_at (json.view value.now)) }
-    ensures some { IfOk result (λ v. 1 ≤ length v.items) }
-    ensures few { IfOk result (λ v. length v.items ≤ 16) }
-    ensures valid { IfOk result (λ v. All (λ u. IsTrue (is_uri u)) v.items) }
+#[tactic(auto, unfolding(crate::specs::JsonReading::contents_at))]
+fn contents_of(alloc: Global, value: &Value) -> Result<Vec<FileEntry>, EnvError>
+    ensures value { GivesReading member.Contents (λ v. v.items) result (contents_at (json.view value.now)) }
+    ensures few { IfOk result (λ v. length v.items ≤ 8) }
+    ensures valid { IfOk result (λ v. All IsFile v.items) }
 {
-    let items = value.as_array().ok_or(EnvError::Spelling)?;
-    let uris = each_uri(alloc, items)?;
-    if uris.is_empty() || uris.len() > OBJECT_URIS_MAX {
-        return Err(EnvError::Spelling);
-    }
-    Ok(uris)
+    let list = value.get("contents").ok_or(Member::Contents)?;
+    files_of(alloc, list, CONTENTS_MAX, Member::Contents)
 }
 
-fn each_uri(alloc: Global, items: &[Value]) -> Result<Vec<Uri>, EnvError>
-    ensures value { GivesReading (λ v. v.items) result (each_at uri_at (items_view items.now)) }
-    ensures valid { IfOk result (λ v. All (λ u. IsTrue (is_uri u)) v.items) }
+#[tactic(auto, unfolding(crate::specs::JsonReading::deletes_at))]
+fn deletes_of(alloc: Global, value: &Value, kind: Kind) -> Result<Option<Vec<FileEntry>>, EnvError>
+    ensures value { GivesReading member.Deletes (option_map (λ v. v.items)) result (deletes_at kind (json.view value.now)) }
+    ensures valid { IfOk result (λ d. FitsKind kind (option_map (λ v. v.items) d)) }
 {
-    let mut uris = Vec::new(alloc);
-    for item in items {
-        let Some(uri) = uri_of(item) else {
-            return Err(EnvError::Spelling);
-        };
-        uris.push(uri)?;
+    match kind {
+        Kind::Full => Ok(None),
+        Kind::Diff | Kind::Incr => {
+            let list = value.get("deletes").ok_or(Member::Deletes)?;
+            let files = files_of(alloc, list, DELETES_MAX, Member::Deletes)?;
+            if !have_deletes(&files) {
+                return Err(EnvError::from(Member::Deletes));
+            }
+            Ok(Some(files))
+        }
     }
-    Ok(uris)
 }
 
-#[tactic(auto, unfolding(crate::specs::JsonReading::counts_at))]
-fn list_counts(alloc: Global, value: &Value) -> Result<Vec<Count>, EnvError>
-    ensures value { GivesReading (λ v. v.items) result (counts_at (json.view value.now)) }
+fn have_deletes(files: &[FileEntry]) -> bool
+    ensures value { result ≡ list_all (λ f. has_deletes f.name) files.now }
+    ensures named { IsTrue result → All (λ f. IsTrue (has_deletes f.name)) files.now }
+{
+    files.iter().all(|f| f.name.has_deletes())
+}
+
+#[tactic(auto, unfolding(crate::specs::JsonReading::count_in_header))]
+fn counts_in(alloc: Global, value: &Value) -> Result<Vec<Count>, EnvError>
+    ensures value { GivesReading member.Count (λ v. v.items) result (count_in_header (json.view value.now)) }
     ensures few { IfOk result (λ v. length v.items ≤ 16) }
     ensures valid { IfOk result (λ v. All IsCount v.items) }
     ensures order { IfOk result (λ v. UrisRise v.items) }
 {
-    let members = value.as_object().ok_or(EnvError::Spelling)?;
+    let header = value.get("header").ok_or(Member::Count)?;
+    let counts = header.get("count").ok_or(Member::Count)?;
+    list_counts(alloc, counts)
+}
+
+#[tactic(auto, unfolding(crate::specs::JsonReading::counts_at))]
+fn list_counts(alloc: Global, value: &Value) -> Result<Vec<Count>, EnvError>
+    ensures value { GivesReading member.Count (λ v. v.items) result (counts_at (json.view value.now)) }
+    ensures few { IfOk result (λ v. length v.items ≤ 16) }
+    ensures valid { IfOk result (λ v. All IsCount v.items) }
+    ensures order { IfOk result (λ v. UrisRise v.items) }
+{
+    let members = value.as_object().ok_or(Member::Count)?;
     let counts = each_count(alloc, members)?;
     if counts.len() > COUNTS_MAX {
-        return Err(EnvError::Spelling);
+        return Err(EnvError::from(Member::Count));
+    }
+    Ok(counts)
+}
+
+fn each_count(alloc: Global, members: &Map<String, Value>) -> Result<Vec<Count>, EnvError>
+    ensures value { GivesReading member.Count (λ v. v.items) result (counts_of (members_view members.now.entries)) }
+    ensures valid { IfOk result (λ v. All IsCount v.items) }
+    ensures order { IfOk result (λ v. UrisRise v.items) }
+{
+    let mut counts = Vec::new(alloc);
+    for (name, value) in members.iter() {
+        let Some(count) = count_of(name, value) else {
+            return Err(EnvError::from(Member::Count));
+        };
+        counts.push(count)?;
     }
     Ok(counts)
 }
@@ -200,137 +250,54 @@ fn count_of(name: &str, value: &Value) -> Option<Count>
     Some(Count { uri, count })
 }
 
-fn each_count(alloc: Global, members: &Map<String, Value>) -> Result<Vec<Count>, EnvError>
-    ensures value { GivesReading (λ v. v.items) result (counts_of (members_view members.now.entries)) }
-    ensures valid { IfOk result (λ v. All IsCount v.items) }
-    ensures order { IfOk result (λ v. UrisRise v.items) }
-{
-    let mut counts = Vec::new(alloc);
-    for (name, value) in members.iter() {
-        let Some(count) = count_of(name, value) else {
-            return Err(EnvError::Spelling);
-        };
-        counts.push(count)?;
-    }
-    Ok(counts)
-}
-
-#[tactic(auto, unfolding(crate::specs::JsonReading::deletes_at))]
-fn deletes_of(alloc: Global, value: &Value, kind: Kind) -> Result<Option<Vec<FileEntry>>, EnvError>
-    ensures value { GivesReading (option_map (λ v. v.items)) result (deletes_at kind (json.view value.now)) }
-    ensures valid { IfOk result (λ d. FitsKind kind (option_map (λ v. v.items) d)) }
-{
-    match kind {
-        Kind::Full => Ok(None),
-        Kind::Diff | Kind::Incr => {
-            let list = value.get("deletes").ok_or(EnvError::Spelling)?;
-            let files = files_of(alloc, list, DELETES_MAX)?;
-            if !have_deletes(&files) {
-                return Err(EnvError::Spelling);
-            }
-            Ok(Some(files))
-        }
-    }
-}
-
-fn have_deletes(files: &[FileEntry]) -> bool
-    ensures value { result ≡ list_all (λ f. has_deletes f.name) files.now }
-    ensures named { IsTrue result → All (λ f. IsTrue (has_deletes f.name)) files.now }
-{
-    files.iter().all(|f| f.name.has_deletes())
-}
-
-#[tactic(auto, unfolding(crate::specs::JsonReading::header_at))]
-fn header_of(alloc: Global, value: &Value) -> Result<Header, EnvError>
-    ensures value { GivesReading (λ h. (h.count.items, h.tld)) result (header_at (json.view value.now)) }
-    ensures valid { IfOk result IsHeader }
-{
-    let counts = value.get("count").ok_or(EnvError::Spelling)?;
-    let count = list_counts(alloc, counts)?;
-    let tld = tld_of(value).ok_or(EnvError::Spelling)?;
-    Ok(Header { count, tld })
-}
-
-#[tactic(auto, unfolding(crate::specs::JsonReading::tld_at))]
-fn tld_of(value: &Value) -> Option<Tld>
-    ensures value { result ≡ tld_at (json.view value.now) }
+#[tactic(auto, unfolding(crate::specs::JsonReading::tld_in_header))]
+fn tld_in(value: &Value) -> Option<Tld>
+    ensures value { result ≡ tld_in_header (json.view value.now) }
     ensures valid { IfSome result IsTld }
 {
-    Tld::parse(text_of(value, "tld")?.as_bytes())
+    let header = value.get("header")?;
+    Tld::parse(text_of(header, "tld")?.as_bytes())
 }
 
-#[tactic(auto, unfolding(crate::specs::JsonReading::menu_at))]
-fn menu_of(alloc: Global, value: &Value) -> Result<Menu, EnvError>
-    ensures value { GivesReading (λ m. m.object_uris.items) result (menu_at (json.view value.now)) }
-    ensures valid { IfOk result IsMenu }
+#[tactic(auto, unfolding(crate::specs::JsonReading::uris_in_menu))]
+fn uris_in(alloc: Global, value: &Value) -> Result<Vec<Uri>, EnvError>
+    ensures value { GivesReading member.ObjectUris (λ v. v.items) result (uris_in_menu (json.view value.now)) }
+    ensures some { IfOk result (λ v. 1 ≤ length v.items) }
+    ensures few { IfOk result (λ v. length v.items ≤ 16) }
+    ensures valid { IfOk result (λ v. All (λ u. IsTrue (is_uri u)) v.items) }
 {
-    let uris = value.get("objURI").ok_or(EnvError::Spelling)?;
-    let object_uris = uris_of(alloc, uris)?;
-    Ok(Menu { object_uris })
+    let menu = value.get("rdeMenu").ok_or(Member::ObjectUris)?;
+    let uris = menu.get("objURI").ok_or(Member::ObjectUris)?;
+    list_uris(alloc, uris)
 }
 
-/// The envelope whose one text this is. Any other text is refused as a spelling, and one of more than 8,192 bytes
-/// before any memory is taken.
-pub fn read_envelope(alloc: Global, t: &[u8]) -> Result<Envelope, EnvError>
-    // What is read is in form, and the text is its one text.
-    ensures found { IfOk result (λ e. IsEnvelope (env_of e) × (t.now ≡ env_text (env_of e))) }
-    // The text of each envelope in form is read as it, unless memory runs out.
-    ensures only { (v : Env) → IsEnvelope v → t.now ≡ env_text v → GivesReading env_of result (Some v) }
-    // What is too long for any envelope is told so, however little memory there is.
-    ensures long { text_max < length t.now → IsErrOf result Spelling }
+#[tactic(auto, unfolding(crate::specs::JsonReading::uris_at))]
+fn list_uris(alloc: Global, value: &Value) -> Result<Vec<Uri>, EnvError>
+    ensures value { GivesReading member.ObjectUris (λ v. v.items) result (uris_at (json.view value.now)) }
+    ensures some { IfOk result (λ v. 1 ≤ length v.items) }
+    ensures few { IfOk result (λ v. length v.items ≤ 16) }
+    ensures valid { IfOk result (λ v. All (λ u. IsTrue (is_uri u)) v.items) }
 {
-    if t.len() > TEXT_MAX {
-        return Err(EnvError::Spelling);
+    let items = value.as_array().ok_or(Member::ObjectUris)?;
+    let uris = each_uri(alloc, items)?;
+    if uris.is_empty() || uris.len() > OBJECT_URIS_MAX {
+        return Err(EnvError::from(Member::ObjectUris));
     }
-    let value = value_of(alloc, t)?;
-    let envelope = envelope_of(alloc, &value)?;
-    let text = write_envelope(alloc, &envelope)?;
-    if text.as_slice() != t {
-        return Err(EnvError::Spelling);
-    }
-    Ok(envelope)
+    Ok(uris)
 }
 
-// The JSON value of a text.
-fn value_of(alloc: Global, t: &[u8]) -> Result<Value, EnvError>
-    ensures { IsUtf8 t.now → GivesReading json.view result (read t.now) }
+fn each_uri(alloc: Global, items: &[Value]) -> Result<Vec<Uri>, EnvError>
+    ensures value { GivesReading member.ObjectUris (λ v. v.items) result (each_at uri_at (items_view items.now)) }
+    ensures valid { IfOk result (λ v. All (λ u. IsTrue (is_uri u)) v.items) }
 {
-    match Value::from_slice(alloc, t) {
-        Ok(value) => Ok(value),
-        Err(e) if e.classify() == Category::Memory => Err(EnvError::Memory),
-        Err(_) => Err(EnvError::Spelling),
+    let mut uris = Vec::new(alloc);
+    for item in items {
+        let Some(uri) = uri_of(item) else {
+            return Err(EnvError::from(Member::ObjectUris));
+        };
+        uris.push(uri)?;
     }
-}
-
-#[tactic(auto, unfolding(crate::specs::JsonReading::env_at))]
-fn envelope_of(alloc: Global, value: &Value) -> Result<Envelope, EnvError>
-    ensures value { GivesReading env_of result (env_at (json.view value.now)) }
-    ensures valid { IfOk result (λ e. IsEnvelope (env_of e)) }
-{
-    let list = value.get("contents").ok_or(EnvError::Spelling)?;
-    let contents = files_of(alloc, list, CONTENTS_MAX)?;
-    let kind_text = text_of(value, "type").ok_or(EnvError::Spelling)?;
-    let kind = kind_of(kind_text).ok_or(EnvError::Spelling)?;
-    let deletes = deletes_of(alloc, value, kind)?;
-    let object = value.get("header").ok_or(EnvError::Spelling)?;
-    let header = header_of(alloc, object)?;
-    let id = id_of(value, "id").ok_or(EnvError::Spelling)?;
-    let prev_id = prev_id_of(value).ok_or(EnvError::Spelling)?;
-    let object = value.get("rdeMenu").ok_or(EnvError::Spelling)?;
-    let menu = menu_of(alloc, object)?;
-    let resend = resend_of(value).ok_or(EnvError::Spelling)?;
-    let watermark = watermark_of(value).ok_or(EnvError::Spelling)?;
-    Ok(Envelope {
-        contents,
-        deletes,
-        header,
-        id,
-        prev_id,
-        menu,
-        resend,
-        kind,
-        watermark,
-    })
+    Ok(uris)
 }
 
 #[tactic(auto, unfolding(crate::specs::JsonReading::resend_at))]
@@ -339,4 +306,94 @@ fn resend_of(value: &Value) -> Option<u8>
     ensures valid { IfSome result (λ n. n ≤ 99) }
 {
     Some(number_of(value.get("resend")?, RESEND_MAX)? as u8)
+}
+
+/// The envelope whose one text this is. Any other text is refused as a spelling, with the place where it parts from an
+/// envelope's text, and one of more than 8,192 bytes before any memory is taken.
+pub fn read_envelope(alloc: Global, t: &[u8]) -> Result<Envelope, EnvError>
+    // What is read is in form, and the text is its one text.
+    ensures found { IfOk result (λ e. IsEnvelope (env_of e) × (t.now ≡ env_text (env_of e))) }
+    // The text of each envelope in form is read as it, unless memory runs out.
+    ensures only { (v : Env) → IsEnvelope v → t.now ≡ env_text v
+        → MatchResult result (λ e. env_of e ≡ v) (λ error. error ≡ Memory) }
+    // What is too long for any envelope is told so, however little memory there is.
+    ensures long { text_max < length t.now → IsErrOf result (Spelling Long) }
+    // Which refusal it is, and where.
+    ensures refused { IfErr result (λ error. RefusesEnvelope error t.now) }
+{
+    if t.len() > TEXT_MAX {
+        return Err(EnvError::Spelling(SpellingFault::Long));
+    }
+    let value = value_of(alloc, t)?;
+    let envelope = envelope_of(alloc, &value)?;
+    let text = write_envelope(alloc, &envelope)?;
+    if text.as_slice() != t {
+        let offset = first_difference(t, &text);
+        let wanted = text.get(offset).copied();
+        return Err(EnvError::Spelling(SpellingFault::Byte { offset, wanted }));
+    }
+    Ok(envelope)
+}
+
+// The JSON value of a text.
+fn value_of(alloc: Global, t: &[u8]) -> Result<Value, EnvError>
+    ensures { MatchResult result (λ value. IsJson t.now (json.view value)) (λ error. TellsFault error t.now) }
+{
+    let text = match str::from_utf8(t) {
+        Ok(text) => text,
+        Err(e) => {
+            let offset = e.valid_up_to();
+            return Err(EnvError::Spelling(SpellingFault::NotUtf8 { offset }));
+        }
+    };
+    match Value::from_str(alloc, text) {
+        Ok(value) => Ok(value),
+        Err(e) if e.classify() == Category::Memory => Err(EnvError::Memory),
+        Err(e) => Err(EnvError::Spelling(SpellingFault::NotJson {
+            line: e.line(),
+            column: e.column(),
+        })),
+    }
+}
+
+#[tactic(auto, unfolding(crate::specs::JsonReading::env_at))]
+fn envelope_of(alloc: Global, value: &Value) -> Result<Envelope, EnvError>
+    ensures value { MatchResult result (λ e. env_at (json.view value.now) ≡ Some (env_of e))
+        (λ error. NamesMember error (json.view value.now)) }
+    ensures valid { IfOk result (λ e. IsEnvelope (env_of e)) }
+{
+    let contents = contents_of(alloc, value)?;
+    let kind = type_of(value).ok_or(Member::Type)?;
+    let deletes = deletes_of(alloc, value, kind)?;
+    let count = counts_in(alloc, value)?;
+    let tld = tld_in(value).ok_or(Member::Tld)?;
+    let id = id_of(value, "id").ok_or(Member::Id)?;
+    let prev_id = prev_id_of(value).ok_or(Member::PrevId)?;
+    let object_uris = uris_in(alloc, value)?;
+    let resend = resend_of(value).ok_or(Member::Resend)?;
+    let watermark = watermark_of(value).ok_or(Member::Watermark)?;
+    Ok(Envelope {
+        contents,
+        deletes,
+        header: Header { count, tld },
+        id,
+        prev_id,
+        menu: Menu { object_uris },
+        resend,
+        kind,
+        watermark,
+    })
+}
+
+// The first offset at which a text differs from the one wanted, or its length.
+fn first_difference(text: &[u8], wanted: &[u8]) -> usize
+    ensures same { take result text.now ≡ take result wanted.now }
+    ensures other { text.now ≢ wanted.now → slice_get text.now result ≢ slice_get wanted.now result }
+{
+    for (offset, byte) in text.iter().enumerate() {
+        if wanted.get(offset) != Some(byte) {
+            return offset;
+        }
+    }
+    text.len()
 }

@@ -1,9 +1,9 @@
-use Rattle.std.proofs.Common.{◌∙◌, Some, ap, arith, inr, refl, sym}
+use Rattle.std.proofs.Common.{◌∙◌, Some, ap, arith, inr, sym}
 use Rattle.std.proofs.lemmas.Result.{err_from_is_err_and}
 use Rattle.csv.specs.Records.{fields_of}
 use Rattle.dnrd_csv.specs.inside.RowReading.{IsAtRow}
 use Rattle.dnrd_csv.proofs.Records.{unmarked_stays}
-use Rattle.dnrd_csv.proofs.WalkLemmas.{no_rest, refused_rest, some_rest, walked_fits, walked_more, walked_none, walked_rows, walked_short, walked_text}
+use Rattle.dnrd_csv.proofs.WalkLemmas.{no_rest, refused_rest, some_rest, uneven_rows, walked_fits, walked_more, walked_none, walked_rows, walked_short, walked_text, walked_uneven}
 use Rattle.dnrd_csv.proofs.reading.read_unmarked.Goals as goal
 
 pub loop-rest-init : goal.loop-rest-init
@@ -25,25 +25,27 @@ returns-in_err-rest-clause-refused c =
     let told = err_from_is_err_and c.from_residual.result c.from_residual.ensures.1 in
     let rest = c.loop-rest.rest.now in
     let some = some_rest rest (sym c.is_empty.ensures ∙ c.loop-rest-test.true) in
-    rw (told.1, told.2) (refused_rest c.args.text.now c.args.width c.loop-rest.reader c.loop-rest.fields c.loop-rest.count c.loop-rest.even rest
-    c.loop-rest.invariant c.requires.utf8 some _ c.in_err-rest.ensures.refused)
+    rw (told.1, told.2) (refused_rest c.args.text.now c.args.width c.loop-rest.reader c.loop-rest.fields c.loop-rest.count c.loop-rest.uneven rest
+    c.loop-rest.invariant c.requires.utf8 c.requires.unmarked some _ c.in_err-rest.ensures.refused)
 
 pub loop-rest-preserved : goal.loop-rest-preserved
 loop-rest-preserved c =
-    walked_more c.args.text.now c.args.width c.loop-rest.reader c.next_row.new.reader c.loop-rest.fields c.keep.new.fields c.loop-rest.count c.loop-rest.even c.in_ok-even.even
+    walked_more c.args.text.now c.args.width c.loop-rest.reader c.next_row.new.reader c.loop-rest.fields c.keep.new.fields c.loop-rest.count c.loop-rest.uneven c.in_ok-uneven.uneven
     c.loop-rest.rest.now c.in_ok-rest.rest.now (fields_of c.next_row.new.row) c.loop-rest.invariant
-    c.in_ok-rest.ensures.row c.in_ok-rest.ensures.text c.in_ok-rest.ensures.at c.in_ok-even.ensures.partial c.in_ok-even.ensures.kept c.in_ok-even.ensures.uneven
+    c.in_ok-rest.ensures.row c.in_ok-rest.ensures.text c.in_ok-rest.ensures.at c.in_ok-uneven.ensures.partial c.in_ok-uneven.ensures.even c.in_ok-uneven.ensures.uneven
 
-pub returns-then-not-even-clause-refused : goal.returns-then-not-even-clause-refused
-returns-then-not-even-clause-refused c =
+pub returns-in-Some-clause-refused : goal.returns-in-Some-clause-refused
+returns-in-Some-clause-refused c =
     let walked = c.loop-rest.invariant in
+    let width = c.args.width in
     let end = no_rest c.loop-rest.rest.now (sym c.is_empty.ensures ∙ c.loop-rest-test.false) in
-    let text = walked_text c.args.text.now c.args.width c.loop-rest.reader c.loop-rest.fields c.loop-rest.count c.loop-rest.even c.loop-rest.rest.now walked c.requires.unmarked end in
-    (c.requires.utf8, walked.all, text, walked.uneven c.if-not-even.true)
+    let text = walked_text c.args.text.now width c.loop-rest.reader c.loop-rest.fields c.loop-rest.count c.loop-rest.uneven c.loop-rest.rest.now walked c.requires.unmarked end in
+    let first = walked_uneven c.args.text.now width c.loop-rest.reader c.loop-rest.fields c.loop-rest.count c.loop-rest.uneven c.loop-rest.rest.now (c.in-Some.row, c.in-Some.fields) walked c.in-Some.is in
+    (c.requires.utf8, walked.all, text, uneven_rows width walked.all c.in-Some.row c.in-Some.fields first, first)
 
 pub invariant_of-result : goal.invariant_of-result
 invariant_of-result c =
-    let walked = rw c.if-not-even.false at c.loop-rest.invariant in
+    let walked = rw c.in-None.is at c.loop-rest.invariant in
     let fits = walked_fits c.args.text.now c.args.width c.loop-rest.reader c.loop-rest.fields c.loop-rest.count c.loop-rest.rest.now walked in
     record {
       fits = fits;
@@ -53,8 +55,8 @@ invariant_of-result c =
 
 pub returns-clause-ok : goal.returns-clause-ok
 returns-clause-ok c =
-    let walked = rw c.if-not-even.false at c.loop-rest.invariant in
+    let walked = rw c.in-None.is at c.loop-rest.invariant in
     let end = no_rest c.loop-rest.rest.now (sym c.is_empty.ensures ∙ c.loop-rest-test.false) in
     let rows = walked_rows c.args.text.now c.args.width c.loop-rest.reader c.loop-rest.fields c.loop-rest.count c.loop-rest.rest.now walked in
     let text = walked_text c.args.text.now c.args.width c.loop-rest.reader c.loop-rest.fields c.loop-rest.count _ c.loop-rest.rest.now walked c.requires.unmarked end in
-    rw rows (text, (walked.kept refl).1)
+    rw rows (text, walked.widths.1)
