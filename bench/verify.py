@@ -272,7 +272,7 @@ def main():
         found = []
         for kind, verdict, deposit in hostile():
             answer, ours, memory = timed(folder, deposit)
-            assert answer == verdict, (kind, answer)
+            assert answer.split(" ")[0] == verdict, (kind, answer)
             found.append((kind, ours, memory / len(deposit)))
     for place, word in ((1, "slowest"), (2, "most memory")):
         kind, ours, memory = max(found, key=lambda it: it[place])

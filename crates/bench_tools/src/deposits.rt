@@ -1,20 +1,20 @@
 //! Deposits that are verified.
 use deposit_name::{DepositId, DepositName};
-use deposit_verify::{About, Verdict, verify};
+use deposit_verify::{About, Reason, explain};
 use std::alloc::{AllocError, Global};
 use std::{fs, io};
 
-fn verify_often(
+fn explain_often(
     alloc: Global,
     joined: &[u8],
     about: &About,
     times: u32,
-) -> Result<Verdict, AllocError> {
-    let mut verdict = verify(alloc, joined, about)?;
+) -> Result<Option<Reason>, AllocError> {
+    let mut found = explain(alloc, joined, about)?;
     for _ in 1..times {
-        verdict = verify(alloc, joined, about)?;
+        found = explain(alloc, joined, about)?;
     }
-    Ok(verdict)
+    Ok(found)
 }
 
 /// What is known of a deposit: its name, its id, and the id of the deposit before it, or another text.
@@ -29,7 +29,7 @@ fn about(alloc: Global, name: &str, id: &str, latest: &str) -> Option<About> {
     })
 }
 
-/// Verifies the deposit in a file so often, and prints the verdict.
+/// Verifies the deposit in a file so often, and prints the verdict, with the reason where it fails.
 pub fn print_verdict(
     rt: &HostRuntime,
     [name, id, latest]: [&str; 3],
@@ -40,9 +40,9 @@ pub fn print_verdict(
         return println!(rt; "no such name or id");
     };
     let joined = fs::read(rt, path)?;
-    match verify_often(rt.alloc(), joined.as_slice(), &about, times) {
-        Ok(Verdict::Pass) => println!(rt; "PASS"),
-        Ok(Verdict::Fail(check)) => println!(rt; "FAILURE-{check}"),
+    match explain_often(rt.alloc(), joined.as_slice(), &about, times) {
+        Ok(None) => println!(rt; "PASS"),
+        Ok(Some(reason)) => println!(rt; "FAILURE-{} {reason}", reason.check()),
         Err(AllocError) => println!(rt; "no memory"),
     }
 }

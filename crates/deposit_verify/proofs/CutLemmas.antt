@@ -1,7 +1,7 @@
 -- Bytes that are cut into files.
-use Rattle.std.proofs.Common.{◌≡◌, ◌≢◌, ◌<◌, ◌≤◌, ◌+◌, ◌++◌, ◌∷◌, ◌∙◌, [], List, ℕ, add-one, ap, append-nil, append_assoc, arith, drop, drop-cons, get_or, length, length-append, refl, suc, sym, take}
+use Rattle.std.proofs.Common.{◌≡◌, ◌≢◌, ◌<◌, ◌≤◌, ◌+◌, ◌++◌, ◌∷◌, ◌∙◌, [], List, ℕ, add-one, ap, append-nil, append_assoc, arith, drop, drop-cons, get_or, length, refl, suc, sym, take}
 use Rattle.std.specs.List.{AllZip, concat}
-use Rattle.std.proofs.lemmas.List.{drop_all, take-append-drop, take_all, take_more}
+use Rattle.std.proofs.lemmas.List.{take-append-drop, take_all, take_more}
 use Rattle.std.proofs.Math.Seq.{drop-append_seam, take-append_seam}
 use Rattle.std.proofs.lemmas.Slice.Zip.{all_zipped_more}
 use Rattle.sha2.specs.Sha256.{sha256}
@@ -33,12 +33,6 @@ next_file entries bytes i e files rest cut inside all are =
     let within : i < length all = omega (arith, zip_length IsFileOf entries all are.each) in
     (within, zip_at IsFileOf entries all i e [] are.each inside, (cut.only all are).1 ∙ ap concat (drop-cons all i [] within))
 
-pub too_short : (entries : List FileEntry) (bytes : List ℕ) (i : ℕ) (e : FileEntry) (files : List (List ℕ)) (rest : List ℕ) → IsCut entries bytes i files rest → i < length entries
-    → length rest < (get_or entries i e).length → (all : List (List ℕ)) → AreFiles entries bytes all → ⊥
-too_short entries bytes i e files rest cut inside short all are =
-    let next = next_file entries bytes i e files rest cut inside all are in
-    omega (arith, short, next.1.length_right, ap length next.2, length-append (get_or all i []) (concat (drop (suc i) all)))
-
 -- where some files are those of the bytes, the next one is the front of what is left
 pub same_file : (a t rest : List ℕ) (n : ℕ) → rest ≡ a ++ t → length a ≡ n → (take n rest ≡ a) × (drop n rest ≡ t)
 same_file a t rest n is len = (
@@ -52,11 +46,6 @@ other_digest entries bytes i e files rest file cut inside front differs all are 
     let next = next_file entries bytes i e files rest cut inside all are in
     let same = same_file (get_or all i []) (concat (drop (suc i) all)) rest (get_or entries i e).length next.2 next.1.length_right in
     differs (ap sha256 (front ∙ same.0) ∙ next.1.digest_right)
-
-pub left_over : (entries : List FileEntry) (bytes : List ℕ) (i : ℕ) (files : List (List ℕ)) (rest : List ℕ) → IsCut entries bytes i files rest → length entries ≤ i → rest ≢ []
-    → (all : List (List ℕ)) → AreFiles entries bytes all → ⊥
-left_over entries bytes i files rest cut past some all are =
-    some ((cut.only all are).1 ∙ ap concat (drop_all i all (omega (arith, past, zip_length IsFileOf entries all are.each))))
 
 -- one file more
 pub cut_more : (entries : List FileEntry) (bytes : List ℕ) (i : ℕ) (e : FileEntry) (files : List (List ℕ)) (rest file more : List ℕ) → IsCut entries bytes i files rest → i < length entries

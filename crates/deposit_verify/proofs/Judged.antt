@@ -1,10 +1,8 @@
 -- The checks of files and tables, from what was read.
-use Rattle.std.proofs.Common.{◌≡◌, ◌≢◌, ◌<◌, IfSome, ◌≤◌, ◌∙◌, [], All, Bor, IsTrue, List, Option, Some, None, ℕ, ap, arith, drop, get_or, length, length-append, length-drop, length-take, unwrap_or, map, refl, subst, sym, take}
+use Rattle.std.proofs.Common.{◌≡◌, ◌≢◌, ◌<◌, IfSome, ◌≤◌, ◌∙◌, [], Bor, List, Option, Some, None, ℕ, ap, arith, drop, get_or, length, length-append, length-drop, length-take, unwrap_or, map, refl, subst, sym, take}
 use Rattle.std.specs.List.{AllZip}
-use Rattle.std.proofs.lemmas.List.Elements.{All-nil}
 use Rattle.std.proofs.lemmas.List.{drop-map, get_or-map, length-map, take-map}
 use Rattle.dnrd_csv.specs.inside.RowKeys.{borrowed_texts}
-use Rattle.deposit_name.specs.Tables.{has_deletes}
 use Rattle.deposit_name.specs.declared.kinds.Kind.{Kind}
 use Rattle.deposit_name.specs.declared.kinds.Kind.TheVariants.{Full}
 use Rattle.deposit_name.specs.declared.table.TableName.{TableName}
@@ -79,15 +77,6 @@ files_parted v rest files are =
     let len = zip_length IsFileOf (all_entries v) files are.each in
     let fits : length v.contents ≤ length files = omega (arith, len, length-append v.contents (deletes_of v)) in
     (fits, omega (arith, length-take (length v.contents) files, fits), omega (arith, length-drop (length v.contents) files, len, length-append v.contents (deletes_of v)))
-
--- each entry of deletes names a table whose keys may be deleted
-pub named_deletes : (v : Env) → IsEnvelope v → All (λ entry. IsTrue (has_deletes entry.name)) (deletes_of v)
-named_deletes v form = by_kind v.kind v.deletes form.deletes
-  where
-    by_kind : (kind : Kind) (deletes : Option (List FileEntry)) → FitsKind kind deletes → All (λ entry. IsTrue (has_deletes entry.name)) (unwrap_or deletes [])
-    by_kind Full (Some ds) fits = absurd fits
-    by_kind _ (Some ds) fits = fits.named
-    by_kind kind None fits = All-nil (λ entry. IsTrue (has_deletes entry.name))
 
 -- ---- the checks from that of the files on, each where the lower ones hold
 

@@ -1,12 +1,15 @@
 pub mod Columns
 pub mod Searches
 pub mod Lists
+pub mod MenuLemmas
 pub mod TableLemmas
+pub mod FaultPlaces
 pub mod Verdicts
 pub mod Uniques
 pub mod Judged
 pub mod Lifted
 pub mod CutLemmas
+pub mod CutPlaces
 pub mod FilesDecided
 pub mod HeaderDecided
 pub mod LeastVerdict
@@ -17,3 +20,7 @@ pub mod CountsDecided
 pub mod ChainLemmas
 pub mod BaseLemmas
 pub mod NumberLemmas
+pub mod BreachLemmas
+pub mod WrongCounts
+pub mod TablesPlaces
+pub mod ReasonLemmas

@@ -38,7 +38,7 @@ pub unnegated : (b : Bool) → false ≡ not b → b ≡ true
 unnegated true e = refl
 unnegated false e = cc e
 
-none_from_length : {X : Type 0} (xs : List X) → length xs ≡ 0 → xs ≡ []
+pub none_from_length : {X : Type 0} (xs : List X) → length xs ≡ 0 → xs ≡ []
 none_from_length [] e = refl
 none_from_length (x ∷ xs) e = absurd (omega arith)
 

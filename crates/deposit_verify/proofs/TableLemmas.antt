@@ -47,9 +47,6 @@ place_of files i e inside =
     let named : i < length (map (λ (f : FileEntry). f.name) files) = omega (arith, length-map files (λ (f : FileEntry). f.name)) in
     get_or-map table_place (map (λ (f : FileEntry). f.name) files) i e.name 0 named ∙ ap table_place (get_or-map (λ (f : FileEntry). f.name) files i e e.name inside)
 
-pub length-places : (files : List FileEntry) → length (map table_place (map (λ f. f.name) files)) ≡ length files
-length-places files = length-map (map (λ (f : FileEntry). f.name) files) table_place ∙ length-map files (λ (f : FileEntry). f.name)
-
 -- the numbers at two places that follow each other
 abbrev pub RisesAt : List FileEntry → ℕ → ℕ → Type 0
 RisesAt files m n = get_or (map table_place (map (λ f. f.name) files)) m 0 < get_or (map table_place (map (λ f. f.name) files)) n 0
@@ -62,11 +59,3 @@ rise_more files i d e before here p q some inside rises k same =
     let last : i - 1 ≡ k = omega arith in
     let next : i ≡ k + 1 = sym same in
     subst (λ (n : ℕ). RisesAt files k n) next (subst (λ (m : ℕ). RisesAt files m i) last at)
-
--- and that do not
-pub no_rise : (files : List FileEntry) (i : ℕ) (d e : FileEntry) (before here : ℕ) → before ≡ table_place (get_or files (i - 1) d).name → here ≡ table_place (get_or files i e).name
-    → 1 ≤ i → i < length files → here ≤ before → RisesAt files (i - 1) (i - 1 + 1) → ⊥
-no_rise files i d e before here p q some inside falls rises =
-    let next : i - 1 + 1 ≡ i = omega arith in
-    let at : RisesAt files (i - 1) i = subst (λ (n : ℕ). RisesAt files (i - 1) n) next rises in
-    omega (arith, place_of files (i - 1) d (omega arith), place_of files i e inside, at, p, q)

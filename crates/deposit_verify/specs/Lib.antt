@@ -5,9 +5,14 @@ pub mod Deposit
 pub mod References
 pub mod Keys
 pub mod Checks
+pub mod HeaderReasons
 pub mod Chain
 pub mod Tables
+pub mod FilesReasons
 pub mod Verdict
 pub mod Bases
 pub mod Numbers
+pub mod TablesReasons
+pub mod Reasons
+pub mod ReasonText
 pub mod inside

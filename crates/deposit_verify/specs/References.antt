@@ -1,5 +1,5 @@
 -- Which objects of a full deposit name which others, by their keys.
-use Rattle.std.specs.Prelude.{◌≢◌, ℕ, List, [], All, Contains, map, slice_index_or}
+use Rattle.std.specs.Prelude.{◌≢◌, ℕ, Bool, true, false, List, [], All, Contains, map, slice_index_or}
 use Rattle.deposit_name.specs.declared.table.TableName.{TableName}
 use Rattle.deposit_name.specs.declared.table.TableName.TheVariants.{Domain, DomainContacts, DomainStatuses, DomainNameServers, Host, HostAddresses, Contact, Registrar}
 
@@ -14,6 +14,11 @@ AreKeysOf rows texts = All (Contains (column 0 rows)) texts
 -- each of these texts is the key of a row, or empty
 abbrev pub AreKeysOrEmpty : List (List (List ℕ)) → List (List ℕ) → Type 0
 AreKeysOrEmpty rows texts = All (λ text. text ≢ [] → Contains (column 0 rows) text) texts
+
+-- a text is one of the keys, or empty where it may be
+abbrev pub IsKeyIn : Bool → List (List ℕ) → List ℕ → Type 0
+IsKeyIn false keys text = Contains keys text
+IsKeyIn true keys text = text ≢ [] → Contains keys text
 
 -- the sponsoring registrars of domains, hosts and contacts are there
 pub record RegistrarsAreThere (tables : TableName → List (List (List ℕ))) : Type 0 where

@@ -1,2 +1,4 @@
 pub mod Reading
+pub mod Reasons
 pub mod SortedKeys
+pub mod MenuReasons

@@ -1,5 +1,5 @@
 //! The keys of a chain of deposits.
-ghost use Rattle.std.specs.Prelude.{◌≡◌, ◌↔◌, ◌++◌, ◌∷◌, [], true, ℕ, List, Some, None, IfOk, IfSome, IsTrue, MatchOption, OnOk, if◌then◌else◌, map, option_map};
+ghost use Rattle.std.specs.Prelude.{◌≡◌, ◌↔◌, ◌++◌, ◌∷◌, [], true, ℕ, List, Some, None, IfOk, IfSome, IsTrue, MatchOption, OnOk, if◌then◌else◌, is_none, length, map, option_map};
 ghost use Rattle.std.specs.Set.{distinct_count};
 ghost use Rattle.std.specs.Str.{bytes_eq};
 ghost use Rattle.deposit_name.specs.Tables.{has_deletes};
@@ -10,6 +10,8 @@ ghost use Rattle.deposit_verify.specs.Chain.{IsBase, IsFirstOfChain, IsLaterOfCh
 ghost use Rattle.deposit_verify.specs.Rows.{keys_after};
 ghost use Rattle.deposit_verify.specs.Tables.{AreCountable};
 ghost use Rattle.deposit_verify.specs.Verdict.{are_key_counts, is_full, keys_after_files};
+ghost use Rattle.deposit_verify.specs.TablesReasons.{IsFirstWrong, said_counts};
+ghost use Rattle.deposit_verify.specs.inside.Reasons.{key_numbers};
 ghost use Rattle.deposit_verify.specs.inside.SortedKeys.{AreNamedKeys};
 ghost use Rattle.dnrd_csv.specs.inside.RowKeys.{borrowed_texts};
 
@@ -19,6 +21,7 @@ use crate::keys::sorted_texts;
 use crate::laws::law_reading;
 use crate::menu::has_menu;
 use crate::named_keys::{contained_keys, deleted_keys};
+use crate::tables_reason::WrongCount;
 use deposit_name::{Kind, TableName};
 use envelope::{EnvError, Envelope, read_envelope, split_frame};
 use std::alloc::{AllocError, Global};
@@ -63,7 +66,7 @@ fn read_whole(alloc: Global, joined: &[u8]) -> Result<Option<WholeDeposit>, Allo
     };
     let envelope = match read_envelope(alloc, frame.envelope) {
         Ok(envelope) => envelope,
-        Err(EnvError::Spelling) => return Ok(None),
+        Err(EnvError::Spelling(_)) => return Ok(None),
         Err(EnvError::Memory) => return Err(AllocError),
     };
     if !has_menu(&envelope) {
@@ -231,20 +234,21 @@ impl Base {
         )
     }
 
-    /// Whether the counts of a deposit are the numbers of the keys after it.
-    pub(crate) fn has_counts(
+    /// Of the counts of a deposit, the first that is not the number of the keys after it.
+    pub(crate) fn wrong_count(
         &self,
         alloc: Global,
         envelope: &Envelope,
         files: &FilesRead,
-    ) -> Result<bool, AllocError>
-        requires { AreCountable (env_of envelope.now) files.now.tables.items files.now.deleted.items }
-        ensures { IfOk result (λ has. has ≡ are_key_counts (env_of envelope.now) self.now
+    ) -> Result<Option<WrongCount>, AllocError>
+        requires counts { length (env_of envelope.now).count ≡ 4 }
+        requires files { AreCountable (env_of envelope.now) files.now.tables.items files.now.deleted.items }
+        ensures right { IfOk result (λ wrong. is_none wrong ≡ are_key_counts (env_of envelope.now) self.now
             files.now.tables.items (map key_rows files.now.deleted.items)) }
+        ensures first { IfOk result (λ wrong. IfSome wrong (IsFirstWrong
+            (key_numbers (env_of envelope.now) self.now files.now.tables.items (map key_rows files.now.deleted.items))
+            (said_counts (env_of envelope.now).count))) }
     {
-        let [contact, domain, host, registrar] = envelope.header.count.as_slice() else {
-            return Ok(false);
-        };
         let contacts = count_after(alloc, &self.contacts, envelope, files, TableName::Contact)?;
         let domains = count_after(alloc, &self.domains, envelope, files, TableName::Domain)?;
         let hosts = count_after(alloc, &self.hosts, envelope, files, TableName::Host)?;
@@ -255,11 +259,7 @@ impl Base {
             files,
             TableName::Registrar,
         )?;
-        Ok(
-            contact.count as usize == contacts
-                && domain.count as usize == domains
-                && host.count as usize == hosts
-                && registrar.count as usize == registrars,
-        )
+        let there = [contacts, domains, hosts, registrars];
+        Ok(WrongCount::first(&envelope.header.count, there))
     }
 }

@@ -1,14 +1,16 @@
 //! What is read behind an envelope.
-ghost use Rattle.std.specs.Prelude.{◌≡◌, ◌≤◌, ℕ, List, IfOk, MatchOption, MatchResult, length};
+ghost use Rattle.std.specs.Prelude.{◌≡◌, ◌≤◌, ℕ, List, IfErr, IfOk, MatchResult, length, slice_get};
 ghost use Rattle.dnrd_csv.specs.inside.RowKeys.{borrowed_texts};
 ghost use Rattle.envelope.specs.Envelope.{IsEnvelope, env_of};
 ghost use Rattle.deposit_verify.specs.Checks.{HasMenu};
 ghost use Rattle.deposit_verify.specs.Deposit.{AreFiles, all_entries, contents_files, deletes_files, deletes_of};
+ghost use Rattle.deposit_verify.specs.FilesReasons.{IsFilesReason, IsReadFault, entries_in, fault_check, place_among_all};
 ghost use Rattle.deposit_verify.specs.Tables.{AreReadFrom, IsUnread};
 
-use crate::files::{all_entries, cut_files};
+use crate::files::{all_entries, cut_files, total_length};
+use crate::files_reason::{FileList, FilePlace, FilesReason, ReadFault};
 use crate::tables::{read_key_files, read_tables};
-use desk::Check;
+use deposit_name::TableName;
 use dnrd_csv::{Keys, Rows};
 use envelope::{Envelope, FileEntry};
 use std::alloc::{AllocError, Global};
@@ -32,18 +34,49 @@ pub fn deletes_of(envelope: &Envelope) -> &[FileEntry]
     }
 }
 
-// Cuts bytes into the files of an envelope, where they are its files.
+// A place among all files, as one in its list.
+fn file_place(envelope: &Envelope, place: usize, name: TableName) -> FilePlace
+    ensures place { place_among_all (env_of envelope.now) result ≡ place }
+    ensures entry { slice_get (entries_in (env_of envelope.now) result.list) result.place
+        ≡ slice_get (all_entries (env_of envelope.now)) place }
+    ensures name { result.name ≡ name }
+{
+    let contents = envelope.contents.len();
+    let (list, place) = if place < contents {
+        (FileList::Contents, place)
+    } else {
+        (FileList::Deletes, place - contents)
+    };
+    FilePlace { list, place, name }
+}
+
+// Cuts bytes into the files of an envelope, or tells why they are not its files.
 fn envelope_files<'d>(
     alloc: Global,
     envelope: &Envelope,
     rest: &'d [u8],
-) -> Result<Option<Vec<&'d [u8]>>, AllocError>
-    ensures { IfOk result (λ cut. MatchOption cut
-        ((files : List (List ℕ)) → ¬ AreFiles (all_entries (env_of envelope.now)) rest.now files)
-        (λ files. AreFiles (all_entries (env_of envelope.now)) rest.now (borrowed_texts files.items))) }
+) -> Result<Result<Vec<&'d [u8]>, FilesReason>, AllocError>
+    requires { IsEnvelope (env_of envelope.now) }
+    ensures cut { IfOk result (λ cut. MatchResult cut
+        (λ files. AreFiles (all_entries (env_of envelope.now)) rest.now (borrowed_texts files.items))
+        (λ _. (files : List (List ℕ)) → ¬ AreFiles (all_entries (env_of envelope.now)) rest.now files)) }
+    ensures reason { IfOk result (λ cut. IfErr cut (IsFilesReason (env_of envelope.now) rest.now)) }
 {
     let entries = all_entries(alloc, envelope)?;
-    cut_files(alloc, &entries, rest)
+    let said = total_length(&entries);
+    let there = rest.len();
+    if said != there {
+        return Ok(Err(FilesReason::Lengths { said, there }));
+    }
+    match cut_files(alloc, &entries, rest)? {
+        Ok(files) => Ok(Ok(files)),
+        Err(other) => {
+            let place = file_place(envelope, other.place, other.entry.name);
+            let said = other.entry.sha256;
+            let found = other.found;
+            Ok(Err(FilesReason::Digest { place, said, found }))
+        }
+    }
 }
 
 // The files of contents, and those of deletes.
@@ -55,27 +88,31 @@ fn parted<'f, 'd>(envelope: &Envelope, files: &'f [&'d [u8]]) -> (&'f [&'d [u8]]
     files.split_at(envelope.contents.len())
 }
 
-/// Reads the files of a deposit, or tells the first of their checks that fails.
+/// Reads the files of a deposit, or tells the first place at which they fail one of their checks.
 pub fn read_files(
     alloc: Global,
     envelope: &Envelope,
     rest: &[u8],
-) -> Result<Result<FilesRead, Check>, AllocError>
+) -> Result<Result<FilesRead, ReadFault>, AllocError>
     requires form { IsEnvelope (env_of envelope.now) }
     requires menu { HasMenu (env_of envelope.now) }
-    ensures { IfOk result (λ read. MatchResult read
+    ensures read { IfOk result (λ read. MatchResult read
         (λ files. AreReadFrom (env_of envelope.now) rest.now files.tables.items files.deleted.items)
-        (IsUnread (env_of envelope.now) rest.now)) }
+        (λ fault. IsUnread (env_of envelope.now) rest.now (fault_check fault))) }
+    ensures place { IfOk result (λ read. IfErr read (IsReadFault (env_of envelope.now) rest.now)) }
 {
-    let Some(files) = envelope_files(alloc, envelope, rest)? else {
-        return Ok(Err(Check::Files));
+    let files = match envelope_files(alloc, envelope, rest)? {
+        Ok(files) => files,
+        Err(reason) => return Ok(Err(ReadFault::Files(reason))),
     };
     let (contents, deletes) = parted(envelope, &files);
-    let Some(tables) = read_tables(alloc, &envelope.contents, contents)? else {
-        return Ok(Err(Check::Table));
+    let tables = match read_tables(alloc, &envelope.contents, contents)? {
+        Ok(tables) => tables,
+        Err(reason) => return Ok(Err(ReadFault::Table(reason))),
     };
-    let Some(deleted) = read_key_files(alloc, deletes_of(envelope), deletes)? else {
-        return Ok(Err(Check::Deletes));
+    let deleted = match read_key_files(alloc, deletes_of(envelope), deletes)? {
+        Ok(deleted) => deleted,
+        Err(reason) => return Ok(Err(ReadFault::Deletes(reason))),
     };
     Ok(Ok(FilesRead { tables, deleted }))
 }

@@ -59,7 +59,7 @@ fn drop_named(keys: &mut Vec<Vec<u8>>, named: &[&[u8]])
     keys.retain(|key| is_unnamed(key.as_slice(), named));
 }
 
-fn owned_copy(alloc: Global, text: &[u8]) -> Result<Vec<u8>, AllocError>
+pub(crate) fn owned_copy(alloc: Global, text: &[u8]) -> Result<Vec<u8>, AllocError>
     ensures { IfOk result (λ copy. copy.items ≡ text.now) }
 {
     let mut copy = Vec::with_capacity(alloc, text.len())?;

@@ -5,11 +5,15 @@ ghost use Rattle.deposit_verify.specs.Known.{Known};
 ghost use Rattle.deposit_verify.specs.Bases.{AreBases};
 ghost use Rattle.deposit_verify.specs.Chain.{AreChainKeys};
 ghost use Rattle.deposit_verify.specs.Numbers.{AreChainNumbers};
-ghost use Rattle.deposit_verify.specs.Verdict.{IsLawful};
+ghost use Rattle.deposit_verify.specs.TablesReasons.{AreRulesOfReferences};
+ghost use Rattle.deposit_verify.specs.Verdict.{IsLawful, verdict};
+ghost use Rattle.deposit_verify.specs.Reasons.{IsReason, reason_check};
+ghost use Rattle.deposit_verify.specs.declared.reason.Reason.{Reason};
 ghost use Rattle.deposit_verify.specs.inside.Reading.{OneReading};
 ghost use Rattle.dnrd_csv.specs.Readers.{IsTableReader};
 ghost use Rattle.envelope.specs.Readers.{AreReaders};
 ghost use Rattle.deposit_verify.specs.declared.verdict.Verdict.{Verdict};
+ghost use Rattle.deposit_verify.specs.declared.verdict.Verdict.TheVariants.{Fail};
 
 use dnrd_csv::{law_one_text, law_table_reader};
 use envelope::{law_one_reading, law_readers};
@@ -39,6 +43,13 @@ pub fn law_verdict()
     law_one_text();
 }
 
+/// Why a deposit fails: one that has a reason has that verdict.
+pub fn law_reasons()
+    ensures { (joined : List ℕ) (k : Known) (reason : Reason) → IsReason joined k reason → verdict joined k ≡ Fail (reason_check reason) }
+{
+    law_verdict();
+}
+
 /// The keys of a chain of deposits: those of a chain of one, and how each deposit changes them.
 pub fn law_chains()
     ensures { AreChainKeys }
@@ -59,3 +70,8 @@ pub fn law_chain_numbers()
 {
     law_reading();
 }
+
+/// The rules of references, one for each column that names keys, say what the check of references says.
+pub fn law_reference_rules()
+    ensures { AreRulesOfReferences }
+{}

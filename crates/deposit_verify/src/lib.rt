@@ -3,22 +3,36 @@
 
 mod about;
 mod base;
+mod breaches;
+mod counts;
 mod files;
 mod files_read;
+mod files_reason;
 mod header;
+mod header_reason;
 mod key_set;
 mod keys;
 mod laws;
 mod menu;
 mod named_keys;
 mod places;
+mod reason;
+mod reason_text;
 mod references;
 mod tables;
+mod tables_reason;
 mod verdict;
 mod verification;
 
 pub use about::About;
 pub use base::Base;
-pub use laws::{law_bases, law_chain_numbers, law_chains, law_one_verdict, law_verdict};
+pub use files_reason::{FileList, FilePlace, FilesReason, NoTable, ReadFault};
+pub use header_reason::{HeaderReason, MenuReason, OtherName};
+pub use laws::{
+    law_bases, law_chain_numbers, law_chains, law_one_verdict, law_reasons, law_reference_rules,
+    law_verdict,
+};
+pub use reason::Reason;
+pub use tables_reason::{NoKey, TablesReason, WrongCount};
 pub use verdict::Verdict;
-pub use verification::verify;
+pub use verification::{explain, verify};

@@ -3,8 +3,8 @@ ghost use Rattle.std.specs.List.Sorted.{IsSorted};
 ghost use Rattle.std.specs.Prelude.{◌<◌, ◌↔◌, All, IfOk, IsTrue, length};
 ghost use Rattle.dnrd_csv.specs.inside.RowKeys.{borrowed_texts};
 ghost use Rattle.dnrd_csv.specs.Table.{columns_of};
-ghost use Rattle.deposit_verify.specs.inside.SortedKeys.{AreSortedKeys, IsKeyIn, borrowed_text_cmp};
-ghost use Rattle.deposit_verify.specs.References.{AreReferencesKept, ContactsAreThere, DomainsAreThere, HostsAreThere, RegistrarsAreThere, column as texts_in};
+ghost use Rattle.deposit_verify.specs.inside.SortedKeys.{AreSortedKeys, borrowed_text_cmp};
+ghost use Rattle.deposit_verify.specs.References.{AreReferencesKept, ContactsAreThere, DomainsAreThere, HostsAreThere, IsKeyIn, RegistrarsAreThere, column as texts_in};
 ghost use Rattle.deposit_verify.specs.Tables.{AreAllTables, table_of};
 
 use crate::keys::{has_key, sorted_keys};
@@ -13,8 +13,8 @@ use deposit_name::TableName;
 use dnrd_csv::Rows;
 use std::alloc::{AllocError, Global};
 
-// The keys of a table, in ascending order.
-fn keys_of<'t>(
+/// The keys of a table, in ascending order.
+pub(crate) fn keys_of<'t>(
     alloc: Global,
     tables: &'t [Rows],
     name: TableName,
@@ -25,8 +25,8 @@ fn keys_of<'t>(
     sorted_keys(alloc, table(tables, name))
 }
 
-// Whether a text is one of the keys, which ascend, or empty where it may be.
-fn is_key_in(keys: &[&[u8]], text: &[u8], may_be_empty: bool) -> bool
+/// Whether a text is one of the keys, which ascend, or empty where it may be.
+pub(crate) fn is_key_in(keys: &[&[u8]], text: &[u8], may_be_empty: bool) -> bool
     requires { IsSorted borrowed_text_cmp keys.now }
     ensures { IsTrue result ↔ IsKeyIn may_be_empty (borrowed_texts keys.now) text.now }
 {

@@ -1,79 +1,105 @@
 //! Reading the files of a deposit as tables.
-ghost use Rattle.std.specs.Prelude.{◌≡◌, true, ℕ, List, All, IfOk, IsTrue, MatchOption, length};
+ghost use Rattle.std.specs.Prelude.{◌≡◌, true, ℕ, List, All, IfErr, IfOk, IsTrue, MatchResult, length};
 ghost use Rattle.std.specs.List.{AllZip};
 ghost use Rattle.dnrd_csv.specs.inside.RowKeys.{borrowed_texts};
 ghost use Rattle.deposit_name.specs.Tables.{has_deletes};
 ghost use Rattle.dnrd_csv.specs.Text.{key_rows};
 ghost use Rattle.deposit_verify.specs.Deposit.{IsKeyFileOf, IsKeyFile, IsTableOf};
+ghost use Rattle.deposit_verify.specs.FilesReasons.{IsKeysFault, IsNoKeyFile, IsNoTable, IsTableFault};
 ghost use Rattle.deposit_verify.specs.Tables.{AreKeysReadAs, AreReadAs, HasNoTable};
 
+use crate::files_reason::{FileList, FilePlace, NoTable};
 use deposit_name::TableName;
 use dnrd_csv::{Keys, Rows, TableError, read_keys, read_table};
 use envelope::FileEntry;
 use std::alloc::{AllocError, Global};
 
-// The rows of a file that is a table.
-fn rows_of(alloc: Global, name: TableName, file: &[u8]) -> Result<Option<Rows>, AllocError>
-    ensures { IfOk result (λ read. MatchOption read
-        ((rows : List (List (List ℕ))) → ¬ IsTableOf name file.now rows) (IsTableOf name file.now)) }
+// The rows of a file, or why it is no table.
+fn rows_of(
+    alloc: Global,
+    name: TableName,
+    file: &[u8],
+) -> Result<Result<Rows, TableError>, AllocError>
+    ensures read { IfOk result (λ read. MatchResult read (IsTableOf name file.now)
+        (λ _. (rows : List (List (List ℕ))) → ¬ IsTableOf name file.now rows)) }
+    ensures fault { IfOk result (λ read. IfErr read (IsTableFault name file.now)) }
 {
     match read_table(alloc, name, file) {
-        Ok(table) => Ok(Some(table.rows)),
+        Ok(table) => Ok(Ok(table.rows)),
         Err(TableError::OutOfMemory) => Err(AllocError),
-        Err(_) => Ok(None),
+        Err(fault) => Ok(Err(fault)),
     }
 }
 
-/// The tables of files, each under the name of its entry, where each file is one.
+/// The tables of the files of contents, each under the name of its entry, or the first that is none.
 pub fn read_tables(
     alloc: Global,
     entries: &[FileEntry],
     files: &[&[u8]],
-) -> Result<Option<Vec<Rows>>, AllocError>
+) -> Result<Result<Vec<Rows>, NoTable>, AllocError>
     requires { length files.now ≡ length entries.now }
-    ensures { IfOk result (λ read. MatchOption read (HasNoTable entries.now (borrowed_texts files.now))
-        (λ tables. AreReadAs entries.now (borrowed_texts files.now) tables.items)) }
+    ensures read { IfOk result (λ read. MatchResult read
+        (λ tables. AreReadAs entries.now (borrowed_texts files.now) tables.items)
+        (λ _. HasNoTable entries.now (borrowed_texts files.now))) }
+    ensures place { IfOk result (λ read. IfErr read (IsNoTable entries.now (borrowed_texts files.now))) }
 {
     let mut tables = Vec::with_capacity(alloc, entries.len())?;
-    for i in 0..entries.len() {
-        let Some(rows) = rows_of(alloc, entries[i].name, files[i])? else {
-            return Ok(None);
-        };
-        tables.push(rows)?;
+    for place in 0..entries.len() {
+        let name = entries[place].name;
+        match rows_of(alloc, name, files[place])? {
+            Ok(rows) => tables.push(rows)?,
+            Err(fault) => {
+                let list = FileList::Contents;
+                let file = FilePlace { list, place, name };
+                return Ok(Err(NoTable { file, fault }));
+            }
+        }
     }
-    Ok(Some(tables))
+    Ok(Ok(tables))
 }
 
-// The keys of a file of deleted keys.
-fn keys_of(alloc: Global, name: TableName, file: &[u8]) -> Result<Option<Keys>, AllocError>
+// The keys of a file of deleted keys, or why it is none.
+fn keys_of(
+    alloc: Global,
+    name: TableName,
+    file: &[u8],
+) -> Result<Result<Keys, TableError>, AllocError>
     requires { has_deletes name ≡ true }
-    ensures { IfOk result (λ read. MatchOption read
-        ((rows : List (List (List ℕ))) → ¬ IsKeyFileOf name file.now rows) (λ keys. IsKeyFileOf name file.now (key_rows keys))) }
+    ensures read { IfOk result (λ read. MatchResult read (λ keys. IsKeyFileOf name file.now (key_rows keys))
+        (λ _. (rows : List (List (List ℕ))) → ¬ IsKeyFileOf name file.now rows)) }
+    ensures fault { IfOk result (λ read. IfErr read (IsKeysFault name file.now)) }
 {
     match read_keys(alloc, name, file) {
-        Ok(keys) => Ok(Some(keys)),
+        Ok(keys) => Ok(Ok(keys)),
         Err(TableError::OutOfMemory) => Err(AllocError),
-        Err(_) => Ok(None),
+        Err(fault) => Ok(Err(fault)),
     }
 }
 
-/// The keys of files of deleted keys, each of the table that its entry names, where each file is one.
+/// The keys of the files of deletes, each of the table that its entry names, or the first that is none of deleted keys.
 pub fn read_key_files(
     alloc: Global,
     entries: &[FileEntry],
     files: &[&[u8]],
-) -> Result<Option<Vec<Keys>>, AllocError>
+) -> Result<Result<Vec<Keys>, NoTable>, AllocError>
     requires count { length files.now ≡ length entries.now }
     requires named { All (λ entry. IsTrue (has_deletes entry.name)) entries.now }
-    ensures { IfOk result (λ read. MatchOption read (¬ AllZip IsKeyFile entries.now (borrowed_texts files.now))
-        (λ keys. AreKeysReadAs entries.now (borrowed_texts files.now) keys.items)) }
+    ensures read { IfOk result (λ read. MatchResult read
+        (λ keys. AreKeysReadAs entries.now (borrowed_texts files.now) keys.items)
+        (λ _. ¬ AllZip IsKeyFile entries.now (borrowed_texts files.now))) }
+    ensures place { IfOk result (λ read. IfErr read (IsNoKeyFile entries.now (borrowed_texts files.now))) }
 {
     let mut all = Vec::with_capacity(alloc, entries.len())?;
-    for i in 0..entries.len() {
-        let Some(keys) = keys_of(alloc, entries[i].name, files[i])? else {
-            return Ok(None);
-        };
-        all.push(keys)?;
+    for place in 0..entries.len() {
+        let name = entries[place].name;
+        match keys_of(alloc, name, files[place])? {
+            Ok(keys) => all.push(keys)?,
+            Err(fault) => {
+                let list = FileList::Deletes;
+                let file = FilePlace { list, place, name };
+                return Ok(Err(NoTable { file, fault }));
+            }
+        }
     }
-    Ok(Some(all))
+    Ok(Ok(all))
 }

@@ -1,7 +1,9 @@
 //! Chains of deposits: which keys there are after them, and counts of deposits that are not full.
 use crate::deposits::{DIFF, FULL, framed};
 use deposit_name::{DepositId, DepositName};
-use deposit_verify::{About, Base, Verdict, law_bases, law_chains, verify};
+use deposit_verify::{
+    About, Base, Reason, TablesReason, WrongCount, explain, law_bases, law_chains,
+};
 use desk::Check;
 use std::alloc::{AllocError, Global};
 use std::test::Fail;
@@ -60,22 +62,22 @@ const REFUSED: Deposit = Deposit {
     files: &[R1, TWICE],
 };
 
-/// Deposits after the full one, a deposit that follows them, the registrars that it counts, and whether that is right.
-type Case = (&'static [Deposit], Deposit, u32, bool);
+/// Deposits after the full one, a deposit that follows them, the registrars that it counts, and those that are there.
+type Case = (&'static [Deposit], Deposit, u32, usize);
 
 static CASES: [Case; 12] = [
-    (&[], NOTHING, 0, true),
-    (&[], NOTHING, 1, false),
-    (&[], BRINGS, 1, true),
-    (&[], BRINGS, 0, false),
-    (&[], DELETES, 0, true),
-    (&[BRINGS], DELETES, 0, true),
-    (&[BRINGS], DELETES, 1, false),
-    (&[BRINGS], BOTH, 1, true),
-    (&[BRINGS], NOTHING, 1, true),
-    (&[BRINGS], NOTHING, 0, false),
-    (&[BRINGS, DELETES], NOTHING, 0, true),
-    (&[BRINGS, DELETES, BOTH], BRINGS, 1, true),
+    (&[], NOTHING, 0, 0),
+    (&[], NOTHING, 1, 0),
+    (&[], BRINGS, 1, 1),
+    (&[], BRINGS, 0, 1),
+    (&[], DELETES, 0, 0),
+    (&[BRINGS], DELETES, 0, 0),
+    (&[BRINGS], DELETES, 1, 0),
+    (&[BRINGS], BOTH, 1, 1),
+    (&[BRINGS], NOTHING, 1, 1),
+    (&[BRINGS], NOTHING, 0, 1),
+    (&[BRINGS, DELETES], NOTHING, 0, 0),
+    (&[BRINGS, DELETES, BOTH], BRINGS, 1, 1),
 ];
 
 fn joined(
@@ -111,7 +113,12 @@ fn base(alloc: Global, chain: &[Deposit]) -> Option<Base> {
     Some(base)
 }
 
-fn verdict(alloc: Global, deposit: Deposit, count: u32, base: Option<Base>) -> Option<Verdict> {
+fn reason(
+    alloc: Global,
+    deposit: Deposit,
+    count: u32,
+    base: Option<Base>,
+) -> Option<Option<Reason>> {
     let full = DepositId::parse(b"20260802001");
     let about = About {
         name: DepositName::parse(b"example_2026-08-03_diff_S1_R0.ryde").ok()?,
@@ -122,17 +129,26 @@ fn verdict(alloc: Global, deposit: Deposit, count: u32, base: Option<Base>) -> O
         base,
     };
     let joined = joined(alloc, DIFF, deposit, count).ok()?;
-    verify(alloc, joined.as_bytes(), &about).ok()
+    explain(alloc, joined.as_bytes(), &about).ok()
 }
 
-fn is_told(alloc: Global, (chain, deposit, count, is_right): Case) -> Option<bool> {
-    let wanted = if is_right {
-        Verdict::Pass
-    } else {
-        Verdict::Fail(Check::Counts)
+fn is_told(alloc: Global, (chain, deposit, said, there): Case) -> Option<bool> {
+    let wrong = WrongCount {
+        place: 3,
+        said,
+        there,
     };
     let base = base(alloc, chain)?;
-    Some(verdict(alloc, deposit, count, Some(base))? == wanted)
+    let reason = reason(alloc, deposit, said, Some(base))?;
+    Some(match reason {
+        None => said as usize == there,
+        Some(reason) => reason == Reason::Tables(TablesReason::Count(wrong)),
+    })
+}
+
+fn check(alloc: Global, base: Option<Base>, deposit: Deposit) -> Option<Option<Check>> {
+    let reason = reason(alloc, deposit, 7, base)?;
+    Some(reason.map(|reason| reason.check()))
 }
 
 #[test]
@@ -147,10 +163,10 @@ fn counts_the_keys_of_a_chain(rt: HostRuntime) {
 #[test]
 fn counts_nothing_without_a_chain(rt: HostRuntime) {
     let alloc = rt.alloc();
-    assert_eq!(rt; verdict(alloc, BRINGS, 7, None), Some(Verdict::Pass));
-    let refused = Some(Verdict::Fail(Check::Deletes));
-    assert_eq!(rt; verdict(alloc, REFUSED, 7, None), refused);
-    assert_eq!(rt; verdict(alloc, REFUSED, 7, first(alloc)), refused);
+    assert_eq!(rt; check(alloc, None, BRINGS), Some(None));
+    let refused = Some(Some(Check::Deletes));
+    assert_eq!(rt; check(alloc, None, REFUSED), refused);
+    assert_eq!(rt; check(alloc, first(alloc), REFUSED), refused);
 }
 
 fn is_no_first(alloc: Global, joined: &[u8]) -> bool {

@@ -1,7 +1,7 @@
 //! The examples of the pages of the crates that are tested here.
 use crate::deposits::{DIFF, FULL, framed};
 use deposit_name::{DepositId, DepositName, Kind, NameError, TableName, Tld};
-use deposit_verify::{About, Base, Verdict, verify};
+use deposit_verify::{About, Base, Verdict, explain, verify};
 use desk::{Check, Ground, Notice, NoticeKind, Revision, ground_stands, report};
 use dnrd_csv::{TableError, read_keys, read_table, write_table};
 use envelope::{read_envelope, split_frame, write_envelope};
@@ -88,7 +88,7 @@ fn tables(rt: HostRuntime) -> Result<(), Fail> {
 
     // Quotes that the field does not need are K2.
     let quoted = read_table(alloc, TableName::Registrar, b"R1,\"Example\",292,ok\n");
-    assert_eq!(rt; quoted.err(), Some(TableError::NotRows));
+    assert_eq!(rt; quoted.err(), Some(TableError::NotRows { row: 0 }));
 
     // The keys of deleted hosts.
     let keys = read_keys(alloc, TableName::Host, b"ns1.a.example\n")?;
@@ -113,8 +113,13 @@ fn verdicts(rt: HostRuntime) -> Result<(), Fail> {
 
     // The statement has another id than the envelope.
     about.id = DepositId::parse(b"20260802002").ok_or("an id")?;
-    let verdict = verify(alloc, joined.as_bytes(), &about)?;
-    assert_eq!(rt; verdict, Verdict::Fail(Check::Statement));
+    let reason = explain(alloc, joined.as_bytes(), &about)?.ok_or("a reason")?;
+    assert_eq!(rt; reason.check(), Check::Statement);
+    let line = format!(in alloc; "{reason}")?;
+    assert_eq!(rt;
+        line.as_str(),
+        "id is 20260802001, the statement says 20260802002"
+    );
     Ok(())
 }
 

@@ -3,7 +3,7 @@ use crate::deposits::{DIFF, filled, framed};
 use deposit_name::{DepositId, DepositName, Kind};
 use deposit_verify::{About, Verdict, verify};
 use desk::Check;
-use envelope::{EnvError, read_envelope, write_envelope};
+use envelope::{EnvError, Member, read_envelope, write_envelope};
 use std::alloc::{AllocError, Global};
 use std::test::Fail;
 
@@ -99,7 +99,7 @@ fn reads_an_incremental_envelope(rt: HostRuntime) -> Result<(), Fail> {
     let other = text.replacen(alloc, r#""deletes":[],"#, "", 1)?;
     assert_eq!(rt;
         read_envelope(alloc, other.as_bytes()).err(),
-        Some(EnvError::Spelling)
+        Some(EnvError::from(Member::Deletes))
     );
     Ok(())
 }

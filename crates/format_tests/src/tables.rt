@@ -5,6 +5,7 @@ use deposit_name::TableName;
 use dnrd_csv::{Keys, Rows, Table, TableError, read_keys, read_table, write_table};
 use std::alloc::{AllocError, Global};
 use std::rt::Files;
+use std::str;
 use std::test::Fail;
 
 /// Texts that are read, with the number of their rows.
@@ -38,30 +39,51 @@ static READ: [(TableName, &[u8], usize); 7] = [
     ),
 ];
 
-/// Texts of registrars that are refused.
-static REFUSED: [(&[u8], TableError); 16] = [
-    (b"R1,\"Example\",292,ok\n", TableError::NotRows),
-    (b"R1,Example,292,ok", TableError::NotRows),
-    (b"\n", TableError::NotRows),
-    (b"R1,Example,292,ok\n\n", TableError::NotRows),
-    (b"\"\"\n", TableError::NotRows),
-    (b"R1,Example,292,ok\r\n", TableError::NotRows),
-    (b"R1,\"Example\n", TableError::NotRows),
-    (b"R1,Exam\"ple,292,ok\n", TableError::NotRows),
-    (b"\xEF\xBB\xBFR1,Example,292,ok\n", TableError::NotRows),
-    (b"R1,Example,0292\nR2,Example,292,ok", TableError::NotRows),
+/// Texts of registrars that are refused, and what is told of the fault.
+static REFUSED: [(&[u8], &str); 28] = [
+    (b"R1,\xFF,,ok\n\n", "K1 behind 3 bytes"),
+    (b"R1,\xC3\xA9\xC3", "K1 behind 5 bytes"),
+    (b"\xFF\xFF", "K1 behind 0 bytes"),
+    (b"R1,\"Example\",292,ok\n", "K2 behind 0 rows"),
+    (b"R1,Example,292,ok", "K2 behind 0 rows"),
+    (b"\n", "K2 behind 0 rows"),
+    (b"R1,Example,292,ok\n\n", "K2 behind 1 rows"),
+    (b"R1,A,,ok\nR2,B,,ok\nR3,\"C\",,ok\n", "K2 behind 2 rows"),
+    (b"R1,A,,ok\n\nR2,B,,ok\n\n", "K2 behind 1 rows"),
+    (b"\"\"\n", "K2 behind 0 rows"),
+    (b"R1,Example,292,ok\r\n", "K2 behind 0 rows"),
+    (b"R1,\"Example\n", "K2 behind 0 rows"),
+    (b"R1,Exam\"ple,292,ok\n", "K2 behind 0 rows"),
+    (b"\xEF\xBB\xBFR1,Example,292,ok\n", "K2 behind 0 rows"),
+    (b"R1,Example,0292\nR2,Example,292,ok", "K2 behind 1 rows"),
     (
         b"R1,Example,0292,ok\nR2,Example,292\n",
-        TableError::ColumnCount,
+        "K3 row 1 of 3 fields",
     ),
     (
         b"R1,Example,,ok\nR1,Other,,ok,more\n",
-        TableError::ColumnCount,
+        "K3 row 1 of 5 fields",
     ),
-    (b"R1,Example,0292,ok\n", TableError::FieldForm),
-    (b"R1,Example,,ok\nR1,Other,,o1\n", TableError::FieldForm),
-    (b"R1,Example,,ok\nR1,Other,,ok\n", TableError::DuplicateKey),
-    (b"R1,\xFF,,ok\n\n", TableError::NotUtf8),
+    (b"R1\nR2,B,,ok\nR3,C\n", "K3 row 0 of 1 fields"),
+    (b"R1,Example,0292,ok\n", "K4 row 0 column 2: 0292"),
+    (b"R1,Example,,ok\nR1,Other,,o1\n", "K4 row 1 column 3: o1"),
+    (b"R1,A,,o1\nR2,B,,o2\n", "K4 row 0 column 3: o1"),
+    (b"R1,,0292,ok\n", "K4 row 0 column 1: "),
+    (b"R1,A,,ok\nR2,B,,ok\nR 3,C,,o3\n", "K4 row 2 column 0: R 3"),
+    (b"R1,A,,ok\nR1,B,,ok\n", "K5 row 1 as row 0"),
+    (b"R1,A,,ok\nR1,B,,ok\nR1,C,,ok\n", "K5 row 1 as row 0"),
+    (
+        b"R2,A,,ok\nR1,B,,ok\nR3,C,,ok\nR1,D,,ok\n",
+        "K5 row 3 as row 1",
+    ),
+    (
+        b"R1,A,,ok\nR2,B,,ok\nR2,C,,ok\nR1,D,,ok\n",
+        "K5 row 2 as row 1",
+    ),
+    (
+        b"R2,A,,ok\nR1,B,,ok\nR2,C,,ok\nR1,D,,ok\n",
+        "K5 row 2 as row 0",
+    ),
 ];
 
 /// The fields of two registrars, one row after the other.
@@ -127,28 +149,50 @@ fn gives_the_fields(rt: HostRuntime) {
     assert!(rt; is_one_contact(rt.alloc(), text, b"c,1", b"2020-01-01T00:00:00Z"));
 }
 
-fn is_refused(alloc: Global, name: TableName, text: &[u8], error: TableError) -> bool {
-    read_table(alloc, name, text).err() == Some(error)
+/// A fault with its place.
+fn told(alloc: Global, fault: &TableError) -> Result<String, AllocError> {
+    match fault {
+        TableError::NotUtf8 { offset } => format!(in alloc; "{fault} behind {offset} bytes"),
+        TableError::NotRows { row } => format!(in alloc; "{fault} behind {row} rows"),
+        TableError::ColumnCount { row, fields } => {
+            format!(in alloc; "{fault} row {row} of {fields} fields")
+        }
+        TableError::FieldForm { row, column, field } => {
+            let field = str::from_utf8(field.as_slice()).unwrap_or("not UTF-8");
+            format!(in alloc; "{fault} row {row} column {column}: {field}")
+        }
+        TableError::DuplicateKey { row, earlier } => {
+            format!(in alloc; "{fault} row {row} as row {earlier}")
+        }
+        TableError::OutOfMemory => format!(in alloc; "{fault}"),
+    }
+}
+
+/// Whether a text is refused with this fault and place.
+fn is_refused(
+    alloc: Global,
+    name: TableName,
+    text: &[u8],
+    wanted: &str,
+) -> Result<bool, AllocError> {
+    match read_table(alloc, name, text) {
+        Ok(_) => Ok(false),
+        Err(fault) => Ok(told(alloc, &fault)?.as_str() == wanted),
+    }
 }
 
 #[test]
-fn refuses_texts(rt: HostRuntime) {
+fn refuses_texts(rt: HostRuntime) -> Result<(), Fail> {
     let alloc = rt.alloc();
-    for &(text, error) in &REFUSED {
+    for &(text, wanted) in &REFUSED {
         assert!(rt;
-            is_refused(alloc, TableName::Registrar, text, error),
-            "wants {error}"
+            is_refused(alloc, TableName::Registrar, text, wanted)?,
+            "wants {wanted}"
         );
     }
-    let twice = b"a.example,ok\na.example,ok\n";
-    assert!(rt;
-        is_refused(
-            alloc,
-            TableName::DomainStatuses,
-            twice,
-            TableError::DuplicateKey
-        )
-    );
+    let twice = b"a.example,ok\na.example,hold\na.example,ok\n";
+    assert!(rt; is_refused(alloc, TableName::DomainStatuses, twice, "K5 row 2 as row 0")?);
+    Ok(())
 }
 
 fn only_key(keys: &Keys) -> Option<&[u8]> {
@@ -171,7 +215,8 @@ fn reads_keys(rt: HostRuntime) {
     let alloc = rt.alloc();
     assert!(rt; is_only_key(alloc, b"ns1.a.example\n", b"ns1.a.example"));
     let twice = read_keys(alloc, TableName::Host, b"b.example\na.example\nb.example\n");
-    assert!(rt; twice.err() == Some(TableError::DuplicateKey));
+    let fault = TableError::DuplicateKey { row: 2, earlier: 0 };
+    assert!(rt; twice.err() == Some(fault));
 }
 
 /// Whether these are the fields of registrars with this text, and come back from their rows.
@@ -218,7 +263,7 @@ fn held_for(rt: &(impl Files + AllocGlobal), length: usize, byte: u8) -> Result<
     let alloc = rt.alloc();
     let mut text = Vec::new(alloc);
     text.resize(length, byte)?;
-    if is_refused(alloc, TableName::Registrar, &text, TableError::NotRows) {
+    if is_refused(alloc, TableName::Registrar, &text, "K2 behind 0 rows")? {
         most_held(rt)
     } else {
         Err(Fail::from("not refused"))

@@ -1,7 +1,7 @@
 //! Worked deposits with their verdicts. The lengths and digests of files come from another program.
 use crate::deposits::{DIFF, FULL, framed};
 use deposit_name::{DepositId, DepositName};
-use deposit_verify::{About, Verdict, law_one_verdict, verify};
+use deposit_verify::{About, Verdict, explain, law_one_verdict, verify};
 use desk::Check;
 use std::alloc::{AllocError, Global};
 use std::test::Fail;
@@ -115,7 +115,7 @@ const NEW_FULL: Known = (FULL_NAME, FULL_ID, "-");
 /// A differential deposit after the full one.
 const NEXT_DIFF: Known = (DIFF_NAME, DIFF_ID, FULL_ID);
 
-/// A deposit, as an envelope that is changed and the files behind it, and its verdict.
+/// A deposit, as an envelope that is changed and the files behind it, and its verdict, with the reason where it fails.
 #[derive(Clone, Copy)]
 struct Case {
     tells: &'static str,
@@ -123,7 +123,7 @@ struct Case {
     changes: &'static [Change],
     files: &'static [&'static str],
     known: Known,
-    verdict: Verdict,
+    told: &'static str,
 }
 
 /// Deposits that pass.
@@ -134,7 +134,7 @@ static ACCEPTED: [Case; 4] = [
         changes: &[],
         files: &[],
         known: NEW_FULL,
-        verdict: Verdict::Pass,
+        told: "PASS",
     },
     Case {
         tells: "a full deposit with a domain",
@@ -142,7 +142,7 @@ static ACCEPTED: [Case; 4] = [
         changes: &[HAS_DOMAIN, HAS_REGISTRAR, ONE_DOMAIN, ONE_REGISTRAR],
         files: &[DOMAIN, REGISTRAR],
         known: NEW_FULL,
-        verdict: Verdict::Pass,
+        told: "PASS",
     },
     Case {
         tells: "a differential deposit with no files",
@@ -150,7 +150,7 @@ static ACCEPTED: [Case; 4] = [
         changes: &[],
         files: &[],
         known: NEXT_DIFF,
-        verdict: Verdict::Pass,
+        told: "PASS",
     },
     Case {
         tells: "a differential deposit with a table and a deleted host",
@@ -158,7 +158,7 @@ static ACCEPTED: [Case; 4] = [
         changes: &[HAS_SOME, DELETES_HOST],
         files: &[REGISTRAR, "ns1.a.example\n"],
         known: NEXT_DIFF,
-        verdict: Verdict::Pass,
+        told: "PASS",
     },
 ];
 
@@ -170,7 +170,7 @@ static ONE_FAILS: [Case; 12] = [
         changes: &[SPACED],
         files: &[],
         known: NEW_FULL,
-        verdict: Verdict::Fail(Check::Envelope),
+        told: "FAILURE-02 envelope offset 118: '{' is wanted",
     },
     Case {
         tells: "another resend number than the name's",
@@ -178,7 +178,7 @@ static ONE_FAILS: [Case; 12] = [
         changes: &[SENT_AGAIN],
         files: &[],
         known: NEW_FULL,
-        verdict: Verdict::Fail(Check::Name),
+        told: "FAILURE-03 resend is 1, the name says 0",
     },
     Case {
         tells: "another id than the stated one",
@@ -186,7 +186,7 @@ static ONE_FAILS: [Case; 12] = [
         changes: &[],
         files: &[],
         known: (FULL_NAME, "X", "-"),
-        verdict: Verdict::Fail(Check::Statement),
+        told: "FAILURE-04 id is 20260802001, the statement says X",
     },
     Case {
         tells: "a differential deposit of a Sunday",
@@ -194,7 +194,7 @@ static ONE_FAILS: [Case; 12] = [
         changes: &[OF_SUNDAY],
         files: &[],
         known: (SUNDAY_NAME, DIFF_ID, FULL_ID),
-        verdict: Verdict::Fail(Check::Weekday),
+        told: "FAILURE-05 watermark 2026-08-09 is a Sunday, and the deposit is not full",
     },
     Case {
         tells: "another prevId than the latest",
@@ -202,7 +202,7 @@ static ONE_FAILS: [Case; 12] = [
         changes: &[FOLLOWS_X],
         files: &[],
         known: NEXT_DIFF,
-        verdict: Verdict::Fail(Check::PrevId),
+        told: "FAILURE-06 prevId is X, 20260802001 is wanted",
     },
     Case {
         tells: "an id that has passed",
@@ -210,7 +210,7 @@ static ONE_FAILS: [Case; 12] = [
         changes: &[],
         files: &[],
         known: (FULL_NAME, FULL_ID, FULL_ID),
-        verdict: Verdict::Fail(Check::IdTaken),
+        told: "FAILURE-07 id 20260802001 has passed before",
     },
     Case {
         tells: "another object in the menu",
@@ -218,7 +218,7 @@ static ONE_FAILS: [Case; 12] = [
         changes: &[OTHER_HEADER],
         files: &[],
         known: NEW_FULL,
-        verdict: Verdict::Fail(Check::Menu),
+        told: "FAILURE-08 rdeMenu.objURI 5: urn:ietf:params:xml:ns:rdeHeader-1.1, urn:ietf:params:xml:ns:rdeHeader-1.0 is wanted",
     },
     Case {
         tells: "the digest of another file",
@@ -226,7 +226,7 @@ static ONE_FAILS: [Case; 12] = [
         changes: &[OF_OTHER_BYTES],
         files: &[],
         known: NEW_FULL,
-        verdict: Verdict::Fail(Check::Files),
+        told: "FAILURE-09 contents 1 domain: sha256 is e3b0c44298fc1c149afbf4c8996fb92427ae41e4649b934ca495991b7852b855, the envelope says 2cf24dba5fb0a30e26e83b2ac5b9e29e1b161e5c1fa7425e73043362938b9824",
     },
     Case {
         tells: "a line without its end",
@@ -234,7 +234,7 @@ static ONE_FAILS: [Case; 12] = [
         changes: &[HAS_CUT_REGISTRAR, ONE_REGISTRAR],
         files: &[CUT_REGISTRAR],
         known: NEW_FULL,
-        verdict: Verdict::Fail(Check::Table),
+        told: "FAILURE-10 registrar row 1: not a row in its one spelling",
     },
     Case {
         tells: "two domains counted in place of one",
@@ -242,7 +242,7 @@ static ONE_FAILS: [Case; 12] = [
         changes: &[HAS_DOMAIN, HAS_REGISTRAR, TWO_DOMAINS, ONE_REGISTRAR],
         files: &[DOMAIN, REGISTRAR],
         known: NEW_FULL,
-        verdict: Verdict::Fail(Check::Counts),
+        told: "FAILURE-11 urn:ietf:params:xml:ns:csvDomain-1.0 counts 2, 1 are there",
     },
     Case {
         tells: "a registrar that is not there",
@@ -250,7 +250,7 @@ static ONE_FAILS: [Case; 12] = [
         changes: &[HAS_DOMAIN, ONE_DOMAIN],
         files: &[DOMAIN],
         known: NEW_FULL,
-        verdict: Verdict::Fail(Check::References),
+        told: "FAILURE-12 domain row 1 fClID: no registrar: R9",
     },
     Case {
         tells: "a deleted key twice",
@@ -258,7 +258,7 @@ static ONE_FAILS: [Case; 12] = [
         changes: &[KEY_TWICE],
         files: &["R1\nR1\n"],
         known: NEXT_DIFF,
-        verdict: Verdict::Fail(Check::Deletes),
+        told: "FAILURE-13 deletes/registrar row 2: the key of row 1",
     },
 ];
 
@@ -270,7 +270,7 @@ static TWO_FAIL: [Case; 10] = [
         changes: &[SPACED],
         files: &[],
         known: (FULL_NAME, "X", "-"),
-        verdict: Verdict::Fail(Check::Envelope),
+        told: "FAILURE-02 envelope offset 118: '{' is wanted",
     },
     Case {
         tells: "name and statement",
@@ -278,7 +278,7 @@ static TWO_FAIL: [Case; 10] = [
         changes: &[SENT_AGAIN],
         files: &[],
         known: (FULL_NAME, "X", "-"),
-        verdict: Verdict::Fail(Check::Name),
+        told: "FAILURE-03 resend is 1, the name says 0",
     },
     Case {
         tells: "statement and weekday",
@@ -286,7 +286,7 @@ static TWO_FAIL: [Case; 10] = [
         changes: &[OF_SUNDAY],
         files: &[],
         known: (SUNDAY_NAME, "X", FULL_ID),
-        verdict: Verdict::Fail(Check::Statement),
+        told: "FAILURE-04 id is 20260803001, the statement says X",
     },
     Case {
         tells: "weekday and prevId",
@@ -294,7 +294,7 @@ static TWO_FAIL: [Case; 10] = [
         changes: &[OF_SUNDAY],
         files: &[],
         known: (SUNDAY_NAME, DIFF_ID, "-"),
-        verdict: Verdict::Fail(Check::Weekday),
+        told: "FAILURE-05 watermark 2026-08-09 is a Sunday, and the deposit is not full",
     },
     Case {
         tells: "prevId and id taken",
@@ -302,7 +302,7 @@ static TWO_FAIL: [Case; 10] = [
         changes: &[],
         files: &[],
         known: (DIFF_NAME, DIFF_ID, DIFF_ID),
-        verdict: Verdict::Fail(Check::PrevId),
+        told: "FAILURE-06 prevId is 20260802001, 20260803001 is wanted",
     },
     Case {
         tells: "id taken and menu",
@@ -310,7 +310,7 @@ static TWO_FAIL: [Case; 10] = [
         changes: &[OTHER_HEADER],
         files: &[],
         known: (FULL_NAME, FULL_ID, FULL_ID),
-        verdict: Verdict::Fail(Check::IdTaken),
+        told: "FAILURE-07 id 20260802001 has passed before",
     },
     Case {
         tells: "menu and files",
@@ -318,7 +318,7 @@ static TWO_FAIL: [Case; 10] = [
         changes: &[OTHER_HEADER],
         files: &["\n"],
         known: NEW_FULL,
-        verdict: Verdict::Fail(Check::Menu),
+        told: "FAILURE-08 rdeMenu.objURI 5: urn:ietf:params:xml:ns:rdeHeader-1.1, urn:ietf:params:xml:ns:rdeHeader-1.0 is wanted",
     },
     Case {
         tells: "files and table",
@@ -326,7 +326,7 @@ static TWO_FAIL: [Case; 10] = [
         changes: &[HAS_CUT_REGISTRAR, OF_OTHER_BYTES],
         files: &[CUT_REGISTRAR],
         known: NEW_FULL,
-        verdict: Verdict::Fail(Check::Files),
+        told: "FAILURE-09 contents 1 domain: sha256 is e3b0c44298fc1c149afbf4c8996fb92427ae41e4649b934ca495991b7852b855, the envelope says 2cf24dba5fb0a30e26e83b2ac5b9e29e1b161e5c1fa7425e73043362938b9824",
     },
     Case {
         tells: "table and deletes",
@@ -334,7 +334,7 @@ static TWO_FAIL: [Case; 10] = [
         changes: &[HAS_SOME_CUT, KEY_TWICE],
         files: &[CUT_REGISTRAR, "R1\nR1\n"],
         known: NEXT_DIFF,
-        verdict: Verdict::Fail(Check::Table),
+        told: "FAILURE-10 registrar row 1: not a row in its one spelling",
     },
     Case {
         tells: "counts and references",
@@ -342,7 +342,7 @@ static TWO_FAIL: [Case; 10] = [
         changes: &[HAS_DOMAIN, TWO_DOMAINS],
         files: &[DOMAIN],
         known: NEW_FULL,
-        verdict: Verdict::Fail(Check::Counts),
+        told: "FAILURE-11 urn:ietf:params:xml:ns:csvDomain-1.0 counts 2, 1 are there",
     },
 ];
 
@@ -354,7 +354,7 @@ static HOSTILE: [Case; 8] = [
         changes: &[LONG],
         files: &[],
         known: NEW_FULL,
-        verdict: Verdict::Fail(Check::Files),
+        told: "FAILURE-09 the files have 8388608 bytes, says the envelope, and 0 are there",
     },
     Case {
         tells: "a length above any file's",
@@ -362,7 +362,7 @@ static HOSTILE: [Case; 8] = [
         changes: &[TOO_LONG],
         files: &[],
         known: NEW_FULL,
-        verdict: Verdict::Fail(Check::Envelope),
+        told: "FAILURE-02 contents: not there, or not in form",
     },
     Case {
         tells: "an envelope with a byte behind it",
@@ -370,7 +370,7 @@ static HOSTILE: [Case; 8] = [
         changes: &[("00Z\"}", "00Z\"}\n")],
         files: &[],
         known: NEW_FULL,
-        verdict: Verdict::Fail(Check::Envelope),
+        told: "FAILURE-02 envelope offset 1408: its end is wanted",
     },
     Case {
         tells: "a byte behind the files",
@@ -378,7 +378,7 @@ static HOSTILE: [Case; 8] = [
         changes: &[],
         files: &["\n"],
         known: NEW_FULL,
-        verdict: Verdict::Fail(Check::Files),
+        told: "FAILURE-09 the files have 0 bytes, says the envelope, and 1 are there",
     },
     Case {
         tells: "a row of empty fields",
@@ -386,7 +386,7 @@ static HOSTILE: [Case; 8] = [
         changes: &[HAS_COMMAS, ONE_DOMAIN],
         files: &[",,,,,\n"],
         known: NEW_FULL,
-        verdict: Verdict::Fail(Check::Table),
+        told: "FAILURE-10 domain row 1 fName: not a host name: ",
     },
     Case {
         tells: "files in another order",
@@ -394,7 +394,7 @@ static HOSTILE: [Case; 8] = [
         changes: &[HAS_DOMAIN, HAS_REGISTRAR, ONE_DOMAIN, ONE_REGISTRAR],
         files: &[REGISTRAR, DOMAIN],
         known: NEW_FULL,
-        verdict: Verdict::Fail(Check::Files),
+        told: "FAILURE-09 contents 1 domain: sha256 is bee98454998ae22b902dafdfa1d210f81e63124fb35be2d26aeb2d144551f8f2, the envelope says 9447769a1bbb283082e07aef1ee6ff1e927416f0410c5794289136736d69dc6b",
     },
     Case {
         tells: "tables in another order",
@@ -402,7 +402,7 @@ static HOSTILE: [Case; 8] = [
         changes: &[DOMAIN_IS_HOST, HOST_IS_DOMAIN],
         files: &[],
         known: NEW_FULL,
-        verdict: Verdict::Fail(Check::Menu),
+        told: "FAILURE-08 contents 1: host, domain is wanted",
     },
     Case {
         tells: "one key in two rows",
@@ -410,7 +410,7 @@ static HOSTILE: [Case; 8] = [
         changes: &[HAS_TWO_REGISTRARS, ONE_REGISTRAR],
         files: &["R9,Example,292,ok\nR9,Other,293,ok\n"],
         known: NEW_FULL,
-        verdict: Verdict::Fail(Check::Table),
+        told: "FAILURE-10 registrar row 2: the key of row 1",
     },
 ];
 
@@ -436,17 +436,29 @@ fn joined(alloc: Global, case: &Case) -> Result<String, AllocError> {
     framed(alloc, changed.as_str(), case.files)
 }
 
-fn verdict_on(alloc: Global, case: &Case) -> Option<Verdict> {
+/// The verdict on a deposit, with the reason where it fails.
+fn verdict_on(alloc: Global, case: &Case) -> Option<String> {
     let about = about(alloc, case.known)?;
     let joined = joined(alloc, case).ok()?;
-    verify(alloc, joined.as_bytes(), &about).ok()
+    let told = match explain(alloc, joined.as_bytes(), &about).ok()? {
+        None => String::from_str(alloc, "PASS"),
+        Some(reason) => format!(in alloc; "FAILURE-{} {reason}", reason.check()),
+    };
+    told.ok()
 }
 
-/// What the first case tells that has another verdict.
+fn is_told(alloc: Global, case: &Case) -> bool {
+    match verdict_on(alloc, case) {
+        Some(told) => told.as_str() == case.told,
+        None => false,
+    }
+}
+
+/// What the first case tells that has another verdict, or another reason.
 fn first_wrong(alloc: Global, cases: &[Case]) -> Option<&'static str> {
     cases
         .iter()
-        .find(|case| verdict_on(alloc, case) != Some(case.verdict))
+        .find(|case| !is_told(alloc, case))
         .map(|case| case.tells)
 }
 

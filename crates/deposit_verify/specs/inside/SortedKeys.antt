@@ -1,6 +1,6 @@
 -- Keys in order, for private clauses.
 use Rattle.std.specs.Borrow.{Bor}
-use Rattle.std.specs.Prelude.{◌≢◌, ◌↔◌, ◌++◌, [], ℕ, Bool, true, false, AllPairs, List, Contains, Vec, map}
+use Rattle.std.specs.Prelude.{◌≢◌, ◌↔◌, ◌++◌, ℕ, AllPairs, List, Contains, Vec, map}
 use Rattle.std.specs.Cmp.Lexicographic.{slice_cmp}
 use Rattle.std.specs.List.Sorted.{IsSorted}
 use Rattle.std.specs.declared.alloc.Global.{Global}
@@ -32,8 +32,3 @@ pub record AreNamedKeys (contained named : List (Bor (List ℕ))) : Type 0 where
   pub once : AllPairs (λ one other. one ≢ other) (borrowed_texts contained)
   pub among : (text : List ℕ) → Contains (borrowed_texts contained) text → Contains (borrowed_texts named) text
   pub sorted : IsSorted borrowed_text_cmp named
-
--- a text is one of the keys, or empty where it may be
-abbrev pub IsKeyIn : Bool → List (List ℕ) → List ℕ → Type 0
-IsKeyIn false keys text = Contains keys text
-IsKeyIn true keys text = text ≢ [] → Contains keys text

@@ -1,14 +1,9 @@
-use Rattle.std.proofs.Common.{◌<◌, ◌↔◌, Bool, true, false, Contains, List, ℕ, ap, arith, length, rules, subst, sym}
-use Rattle.deposit_verify.specs.inside.SortedKeys.{IsKeyIn}
-use Rattle.deposit_verify.specs.References.{column}
+use Rattle.std.proofs.Common.{◌<◌, ap, arith, length, rules, subst, sym}
+use Rattle.deposit_verify.specs.References.{IsKeyIn, column}
 use Rattle.deposit_verify.specs.Tables.{table_of}
+use Rattle.deposit_verify.proofs.BreachLemmas.{same_in}
 use Rattle.deposit_verify.proofs.Columns.{column_at, column_holds, column_whole}
 use Rattle.deposit_verify.proofs.references.are_keys.Goals as goal
-
--- the same keys in another order
-same_in : (may : Bool) (xs ys : List (List ℕ)) (text : List ℕ) → Contains xs text ↔ Contains ys text → IsKeyIn may xs text ↔ IsKeyIn may ys text
-same_in false xs ys text same = same
-same_in true xs ys text same = (λ h some. same.0 (h some), λ h some. same.1 (h some))
 
 pub loop-i-preserved : goal.loop-i-preserved
 loop-i-preserved c =

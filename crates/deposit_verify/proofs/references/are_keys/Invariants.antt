@@ -1,6 +1,5 @@
 use Rattle.std.proofs.Common.{All, take}
-use Rattle.deposit_verify.specs.inside.SortedKeys.{IsKeyIn}
-use Rattle.deposit_verify.specs.References.{column}
+use Rattle.deposit_verify.specs.References.{IsKeyIn, column}
 use Rattle.deposit_verify.specs.Tables.{table_of}
 use Rattle.deposit_verify.proofs.references.are_keys.Given as goal
 

@@ -5,8 +5,8 @@ use Rattle.envelope.specs.declared.envelope.FileEntry.{FileEntry}
 use Rattle.deposit_verify.specs.Deposit.{IsKeyFileOf}
 use Rattle.deposit_verify.proofs.tables.read_key_files.Given as goal
 
-abbrev pub invariant-loop-i : goal.invariant-loop-i
-invariant-loop-i l = record {
-  count : length l.all.items ≡ l.i;
-  each : (k : ℕ) (e : FileEntry) → k < l.i → IsKeyFileOf (get_or l.entries k e).name (get_or (borrowed_texts l.files) k []) (key_rows (get_or l.all.items k []));
+abbrev pub invariant-loop-place : goal.invariant-loop-place
+invariant-loop-place l = record {
+  count : length l.all.items ≡ l.place;
+  each : (k : ℕ) (e : FileEntry) → k < l.place → IsKeyFileOf (get_or l.entries k e).name (get_or (borrowed_texts l.files) k []) (key_rows (get_or l.all.items k []));
 }

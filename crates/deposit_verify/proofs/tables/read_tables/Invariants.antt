@@ -4,8 +4,8 @@ use Rattle.envelope.specs.declared.envelope.FileEntry.{FileEntry}
 use Rattle.deposit_verify.specs.Deposit.{IsTableOf}
 use Rattle.deposit_verify.proofs.tables.read_tables.Given as goal
 
-abbrev pub invariant-loop-i : goal.invariant-loop-i
-invariant-loop-i l = record {
-  count : length l.tables.items ≡ l.i;
-  each : (k : ℕ) (e : FileEntry) → k < l.i → IsTableOf (get_or l.entries k e).name (get_or (borrowed_texts l.files) k []) (get_or l.tables.items k []);
+abbrev pub invariant-loop-place : goal.invariant-loop-place
+invariant-loop-place l = record {
+  count : length l.tables.items ≡ l.place;
+  each : (k : ℕ) (e : FileEntry) → k < l.place → IsTableOf (get_or l.entries k e).name (get_or (borrowed_texts l.files) k []) (get_or l.tables.items k []);
 }

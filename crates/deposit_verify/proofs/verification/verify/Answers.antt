@@ -1,6 +1,7 @@
+use Rattle.std.proofs.Common.{◌∙◌, ap}
+use Rattle.deposit_verify.specs.declared.verdict.Verdict.TheVariants.{Fail}
 use Rattle.deposit_verify.specs.Known.{known_in}
-use Rattle.deposit_verify.proofs.Lifted.{if_ok}
 use Rattle.deposit_verify.proofs.verification.verify.Goals as goal
 
-pub returns-clause-computed : goal.returns-clause-computed
-returns-clause-computed c = if_ok c.judge.result _ _ c.judge.ensures (c.law_verdict.ensures.only c.args.joined.now (known_in c.args.about.now))
+pub returns-in-Some-clause-computed : goal.returns-in-Some-clause-computed
+returns-in-Some-clause-computed c = ap Fail c.check.ensures ∙ c.law_verdict.ensures.only c.args.joined.now (known_in c.args.about.now) _ (rw c.in-Some.is at c.in_ok-reason.ensures.verdict)
