@@ -2,6 +2,7 @@
 //! lines with what the agent answers.
 #![tactic(auto)]
 
+mod clients;
 mod command_pairs;
 mod cuts;
 mod databases;

@@ -11,7 +11,7 @@ use std::io::{self, Read, Write};
 use vault_volume::{MemVolume, Volume};
 
 /// The moment of each request.
-const MOMENT: &[u8] = b"2026-08-02T10:05:00Z";
+pub const MOMENT: &[u8] = b"2026-08-02T10:05:00Z";
 
 /// Room for each response.
 pub const AMPLE: usize = 100_000;
@@ -148,9 +148,14 @@ fn send<S: Alter + Drop>(
     }
 }
 
-fn bytes_of(alloc: Global, text: &str) -> Result<Vec<u8>, AllocError> {
+/// The text in which `\r` and `\n` stand for their bytes.
+pub fn text_of(alloc: Global, text: &str) -> Result<String, AllocError> {
     let text = text.replace(alloc, "\\r", "\r")?;
-    let text = text.replace(alloc, "\\n", "\n")?;
+    text.replace(alloc, "\\n", "\n")
+}
+
+fn bytes_of(alloc: Global, text: &str) -> Result<Vec<u8>, AllocError> {
+    let text = text_of(alloc, text)?;
     Vec::from_slice(alloc, text.as_bytes())
 }
 

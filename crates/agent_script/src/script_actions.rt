@@ -1,4 +1,5 @@
 //! What a script does beside calls of `escrow`.
+use crate::clients::serve_clients;
 use crate::command_pairs::run_list;
 use crate::fault::ScriptFault;
 use crate::files::Files;
@@ -38,6 +39,10 @@ pub fn deed<S: Alter + Drop, W: Write>(
         "send" | "resend" | "break" | "breaks" | "cut" | "cuts" => {
             plain.leave();
             request(alloc, verb, rest, files, vault, out)
+        }
+        "clients" => {
+            plain.leave();
+            serve_clients(alloc, rest, vault, out)
         }
         "parts" => {
             show_parts(&vault, out)?;

@@ -2,3 +2,4 @@ mod CopyLemmas
 mod ErrorLemmas
 mod FolderLemmas
 mod PartLemmas
+mod SocketLemmas

@@ -17,7 +17,7 @@ use Rattle.answer_lines.specs.Statuses.{IsStatusAfter, init_status}
 use Rattle.answer_lines.specs.declared.lines.Line.TheVariants.{Listening, Ready}
 use Rattle.agent_cli.specs.Acts.{Acts}
 use Rattle.agent_cli.specs.declared.order.Deed.{Deed}
-use Rattle.http_api.specs.Connections.{AreConnections}
+use Rattle.http_api.specs.Connections.{AreConnections, socket_state}
 
 module _ {V S : Type 0} (g : volume.Ghosts V) (database : Ghosts S) (volume : V) (db : Held S) where
   -- an agent was opened, the deed was done on it, and volume and database are handed back as it left them
@@ -69,7 +69,7 @@ module _ {V S : Type 0} (g : volume.Ghosts V) (database : Ghosts S) (volume : V)
     pub loaded : IsLoaded g database volume db old
     pub at_most : served ≤ requests
     pub all : status ≡ 0 → served ≡ requests
-    pub turns : AreConnections given served old new
+    pub turns : AreConnections given served (socket_state old) (socket_state new)
     pub stays_open : until_closed ≡ true → status ≡ 0 → is_open new ≡ true
     pub done : IsStatusAfter 0 status
     pub told : WritesWholeAt output (as_line (line_text (Listening port))) 0 status

@@ -5,7 +5,7 @@ ghost use Rattle.answer_lines.specs.Lines.{line_text};
 ghost use Rattle.answer_lines.specs.Printing.{WritesWholeAt, as_line};
 ghost use Rattle.answer_lines.specs.Statuses.{IsStatusAfter};
 ghost use Rattle.escrow.specs.VaultCalls.{HasServedConnections, HasPrintedReady, IsCarriedOut, HasPrintedInitError, HasPrintedOpenFailure};
-ghost use Rattle.http_api.specs.Connections.{AreConnections};
+ghost use Rattle.http_api.specs.Connections.{AreConnections, socket_state};
 
 use agent_cli::{Deed, act};
 use answer_lines::{Line, VolumeNumber, print_line, tell, tell_init};
@@ -138,7 +138,7 @@ fn answer_connections<V: Volume, S: Alter, W: Write, E: Write>(
     out: &mut W,
     err: &mut E,
 ) -> u8
-    ensures turns { (served : ℕ) × (served ≤ requests) × (result ≡ 0 → served ≡ requests) × AreConnections now served custody.old custody.new }
+    ensures turns { (served : ℕ) × (served ≤ requests) × (result ≡ 0 → served ≡ requests) × AreConnections now served (socket_state custody.old) (socket_state custody.new) }
     ensures stays_open { until_closed ≡ true → is_open custody.old ≡ true → result ≡ 0 → is_open custody.new ≡ true }
     ensures status { IsStatusAfter 0 result }
     ensures told { WritesWholeAt (record { before = W.contents out.old; after = W.contents out.new }) (as_line (line_text (Line.Listening port))) 0 result }
@@ -147,7 +147,7 @@ fn answer_connections<V: Volume, S: Alter, W: Write, E: Write>(
     let Ok(api) = Api::new(alloc) else {
         return tell(&Failure::NoMemory, err);
     };
-    let listener = match Listener::bind(rt, port) {
+    let mut listener = match Listener::bind(rt, port, rt) {
         Ok(listener) => listener,
         Err(fault) => return print_service_error(fault, err),
     };
@@ -159,7 +159,7 @@ fn answer_connections<V: Volume, S: Alter, W: Write, E: Write>(
         alloc,
         rt,
         &api,
-        &listener,
+        &mut listener,
         requests,
         until_closed,
         custody,

@@ -1,4 +1,5 @@
 mod ReportLemmas
 mod HeadLemmas
 mod PartLemmas
+mod ClientLemmas
 mod TurnLemmas

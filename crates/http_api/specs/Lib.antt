@@ -1,4 +1,5 @@
 pub mod Responses
 pub mod Handling
 pub mod Statuses
+pub mod Clients
 pub mod Connections

@@ -1,11 +1,14 @@
 //! Connections, one after the other.
-ghost use Rattle.std.specs.Prelude.{◌≡◌, ◌⊎◌, ℕ, true, Some, None, Err, IfOk, IfErr, IfSome, OnOk, OnErr};
+ghost use Rattle.std.specs.Prelude.{◌≡◌, ◌⊎◌, ◌≤◌, ℕ, [], length, take, true, Some, None, Err, IfOk, IfErr, IfSome, IfNone, OnOk, OnSome};
 ghost use Rattle.custody_machine.specs.declared.answers.Failure.{Failure as failure};
 ghost use Rattle.custody.specs.Custody.{failure_of, is_open};
-ghost use Rattle.http_api.specs.Connections.{AreConnections, IsConnection, IsOfSocket, MayEndAfter};
+ghost use Rattle.http_api.specs.Clients.{IsOfSocket, LastHasTaken};
+ghost use Rattle.http_api.specs.Connections.{AreConnections, ConnectionsEnd, IsConnection, ServiceErrorLeaves, server_state};
+ghost use Rattle.http_api.specs.Handling.{IsNoCommand, IsServed};
+ghost use Rattle.http_api.specs.Responses.{HttpResponse, response_bytes};
 
-use crate::client::{REQUEST_SECONDS, RESPONSE_SECONDS, TimedStream, end_connection};
-use crate::{Api, ServeError};
+use crate::handling::{respond, write_outcome};
+use crate::{Api, Clients, ServeError, Served};
 use custody::Custody;
 use custody_machine::Failure;
 use schedule::Sec;
@@ -13,7 +16,6 @@ use sqlite::Alter;
 use std::alloc::Global;
 use std::fmt;
 use std::io::{self, Write};
-use std::net::{Ipv4Addr, TcpListener, TcpStream};
 use std::time::Clock;
 use vault_volume::Volume;
 
@@ -44,40 +46,6 @@ impl fmt::Display for ServiceError {
     }
 }
 
-/// A socket that listens at a port of 127.0.0.1.
-#[derive(Drop)]
-pub struct Listener {
-    port: u16,
-    socket: TcpListener,
-}
-
-impl Listener {
-    pub fn bind(rt: &HostRuntime, port: u16) -> Result<Listener, ServiceError>
-        ensures { IfErr result IsOfSocket }
-    {
-        match TcpListener::bind(rt, (Ipv4Addr::LOCALHOST, port)) {
-            Ok(socket) => Ok(Listener { port, socket }),
-            Err(cause) => Err(ServiceError::Socket { port, cause }),
-        }
-    }
-
-    /// The next connection, if one is there. One that was given up before it is accepted is none.
-    fn next_client(&self) -> Result<Option<TcpStream>, ServiceError>
-        ensures { IfErr result IsOfSocket }
-    {
-        match self.socket.accept() {
-            Ok((stream, _)) => Ok(Some(stream)),
-            Err(cause) => match cause.kind() {
-                io::ErrorKind::ConnectionAborted | io::ErrorKind::Interrupted => Ok(None),
-                _ => Err(ServiceError::Socket {
-                    port: self.port,
-                    cause,
-                }),
-            },
-        }
-    }
-}
-
 /// The moment of a connection: the one that is given, or that of the clock.
 fn moment_at<C: Clock>(given: &Option<Sec>, clock: &C) -> Result<Sec, ServiceError>
     ensures found { IfOk result (λ now. IfSome given.now (λ moment. now ≡ moment)) }
@@ -89,72 +57,102 @@ fn moment_at<C: Clock>(given: &Option<Sec>, clock: &C) -> Result<Sec, ServiceErr
     }
 }
 
-/// Serves a connection, if one is there: one request, one response.
-fn serve_client<C: Clock, V: Volume, S: Alter>(
+/// Serves a client: one request, one response.
+fn serve_client<K: Clients, V: Volume, S: Alter>(
     alloc: Global,
-    clock: &C,
     api: &Api,
-    client: Option<&TcpStream>,
+    clients: &mut K,
+    sender: K::Sender,
     custody: &mut Custody<V, S>,
     now: Sec,
-) -> Result<(), ServeError>
-    ensures { IsConnection (Some now) custody.old custody.new }
+) -> Result<Served, ServeError>
+    ensures served { OnOk result ((answer : HttpResponse)
+        × IsServed (K.Sender.remaining sender) now custody.old answer custody.new
+        × LastHasTaken (Some (response_bytes answer)) (K.responses clients.old) (K.responses clients.new)) }
+    ensures read_failed { result ≡ Err ServeError.Read
+        → IsNoCommand (K.Sender.remaining sender) custody.old custody.new
+        × LastHasTaken (Some []) (K.responses clients.old) (K.responses clients.new) }
+    ensures write_failed { result ≡ Err ServeError.Write → (answer : HttpResponse)
+        × IsServed (K.Sender.remaining sender) now custody.old answer custody.new
+        × (taken : ℕ) × (taken ≤ length (response_bytes answer))
+        × LastHasTaken (Some (take taken (response_bytes answer))) (K.responses clients.old) (K.responses clients.new) }
+    ensures others { K.requests clients.new ≡ K.requests clients.old }
 {
-    let Some(stream) = client else {
-        return Err(ServeError::Read);
-    };
-    let Ok(mut reader) = TimedStream::new(stream, clock, REQUEST_SECONDS) else {
-        return Err(ServeError::Read);
-    };
-    let Ok(mut writer) = TimedStream::new(stream, clock, RESPONSE_SECONDS) else {
-        return Err(ServeError::Read);
-    };
-    api.serve_one(alloc, &mut reader, &mut writer, custody, now)?;
-    end_connection(stream, clock);
-    Ok(())
+    let mut sender = sender;
+    let outcome = respond(alloc, &api.routes, &mut sender, custody, now);
+    let mut taker = clients.taker(sender);
+    let served = write_outcome(custody, outcome, &mut taker);
+    clients.end_client(taker, served);
+    served
 }
 
-/// Serves the next connection, and writes a line where it fails.
-fn serve_next<C: Clock, V: Volume, S: Alter, E: Write>(
+/// Lets a client go, if one came.
+fn let_go<K: Clients>(clients: &mut K, client: Option<K::Sender>)
+    ensures gone { OnSome client (LastHasTaken (Some []) (K.responses clients.old) (K.responses clients.new)) }
+    ensures none { IfNone client (clients.new ≡ clients.old) }
+    ensures others { K.requests clients.new ≡ K.requests clients.old }
+{
+    if let Some(sender) = client {
+        let taker = clients.taker(sender);
+        clients.end_client(taker, Err(ServeError::Read));
+    }
+}
+
+/// Writes a line where a client was not served.
+fn write_failure<E: Write>(served: Result<Served, ServeError>, err: &mut E) {
+    if let Err(error) = served {
+        let _ = writeln!(err, "{error}");
+    }
+}
+
+/// Serves the next client, and writes a line where that fails.
+fn serve_next<K: Clients, C: Clock, V: Volume, S: Alter, E: Write>(
     alloc: Global,
     clock: &C,
     api: &Api,
-    listener: &Listener,
+    clients: &mut K,
     custody: &mut Custody<V, S>,
     now: &Option<Sec>,
     err: &mut E,
 ) -> Result<(), ServiceError>
-    ensures served { OnOk result (IsConnection now.now custody.old custody.new) }
-    ensures none { OnErr result (custody.new ≡ custody.old) }
+    ensures served { OnOk result (IsConnection now.now (server_state K.Clients clients.old custody.old) (server_state K.Clients clients.new custody.new)) }
+    ensures none { IfErr result (λ fault. ServiceErrorLeaves fault (server_state K.Clients clients.old custody.old) (server_state K.Clients clients.new custody.new)) }
     ensures kind { IfErr result (λ fault. IsOfSocket fault ⊎ ((fault ≡ ServiceError.Clock) × (now.now ≡ None))) }
 {
-    let client = listener.next_client()?;
-    let moment = moment_at(now, clock)?;
-    let served = serve_client(alloc, clock, api, client.as_ref(), custody, moment);
-    if let Err(error) = served {
-        let _ = writeln!(err, "{error}");
-    }
+    let client = clients.next_client()?;
+    let moment = match moment_at(now, clock) {
+        Ok(moment) => moment,
+        Err(fault) => {
+            let_go(clients, client);
+            return Err(fault);
+        }
+    };
+    let served = match client {
+        Some(sender) => serve_client(alloc, api, clients, sender, custody, moment),
+        None => Err(ServeError::Read),
+    };
+    write_failure(served, err);
     Ok(())
 }
 
-/// Serves so many connections, each at its moment: the one that is given, or that of the clock. One that
-/// fails is a line among the errors, and counts. The failure that closes the custody is a line, too; with
-/// `until_closed` it is returned instead, and no further connection is served.
-pub fn serve_connections<C: Clock, V: Volume, S: Alter, E: Write>(
+/// Serves so many clients, each at its moment: the one that is given, or that of the clock. One that fails
+/// is a line among the errors, and counts; so does a turn at which nobody comes. The failure that closes
+/// the custody is a line, too; with `until_closed` it is returned instead, and no further client is served.
+pub fn serve_connections<K: Clients, C: Clock, V: Volume, S: Alter, E: Write>(
     alloc: Global,
     clock: &C,
     api: &Api,
-    listener: &Listener,
+    clients: &mut K,
     count: u32,
     until_closed: bool,
     custody: &mut Custody<V, S>,
     now: Option<Sec>,
     err: &mut E,
 ) -> Result<(), ServiceError>
-    ensures all { OnOk result (AreConnections now count custody.old custody.new) }
+    ensures all { OnOk result (AreConnections now count (server_state K.Clients clients.old custody.old) (server_state K.Clients clients.new custody.new)) }
     // The clock fails only where it is read.
     ensures clock { result ≡ Err ServiceError.Clock → now ≡ None }
-    ensures fewer { IfErr result (λ fault. (served : ℕ) × MayEndAfter fault served count × AreConnections now served custody.old custody.new) }
+    ensures fewer { IfErr result (λ fault. ConnectionsEnd now count fault (server_state K.Clients clients.old custody.old) (server_state K.Clients clients.new custody.new)) }
     // The custody is then closed, by the failure that is returned.
     ensures closed { (why : failure) → result ≡ Err (ServiceError.Closed why) → (until_closed ≡ true) × (failure_of custody.new ≡ Some why) }
     // No error means that none of them has closed it.
@@ -162,7 +160,7 @@ pub fn serve_connections<C: Clock, V: Volume, S: Alter, E: Write>(
 {
     for _ in 0..count {
         let was_open = custody.failure().is_none();
-        serve_next(alloc, clock, api, listener, custody, &now, err)?;
+        serve_next(alloc, clock, api, clients, custody, &now, err)?;
         if let Some(failure) = custody.failure() {
             if until_closed {
                 return Err(ServiceError::Closed(failure));

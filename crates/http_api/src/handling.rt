@@ -1,5 +1,5 @@
 //! One request, one response.
-ghost use Rattle.std.specs.Prelude.{◌≡◌, ◌≤◌, ◌++◌, ℕ, List, length, take, Err, Some, None, Result, IfOk, IfErr, IfSome, OnOk};
+ghost use Rattle.std.specs.Prelude.{◌≡◌, ◌≤◌, ◌++◌, ℕ, List, length, take, Err, Some, None, Result, IfOk, IfErr, IfSome, OnOk, OnErr};
 ghost use Rattle.std.specs.Io.KnownBytes.{Appends, Keeps};
 ghost use Rattle.desk.specs.Lines.{AppendsBeginning};
 ghost use Rattle.custody.specs.Fetching.{HasFetched};
@@ -191,7 +191,7 @@ fn pending_response<R: Read, V: Volume, S: Alter>(
 }
 
 /// What a request comes to, faults too; or the reader failed.
-fn respond<R: Read, V: Volume, S: Alter>(
+pub(crate) fn respond<R: Read, V: Volume, S: Alter>(
     alloc: Global,
     routes: &Routes,
     reader: &mut R,
@@ -242,10 +242,27 @@ fn message_of<'c, V: Volume, S: Alter>(
     }
 }
 
+/// Writes what a request came to, unless its reader failed.
+pub(crate) fn write_outcome<W: Write, V: Volume, S: Alter>(
+    custody: &Custody<V, S>,
+    outcome: Result<PendingResponse, ServeError>,
+    writer: &mut W,
+) -> Result<Served, ServeError>
+    ensures served { OnOk result (IfOk outcome (λ pending. (answer : HttpResponse) × IsCompletedAs custody.now pending answer
+        × Appends (W.contents writer.old) (W.contents writer.new) (response_bytes answer))) }
+    ensures write_failed { OnErr result (IfOk outcome (λ pending. (result ≡ Err ServeError.Write)
+        × (answer : HttpResponse) × IsCompletedAs custody.now pending answer
+        × AppendsBeginning (W.contents writer.old) (W.contents writer.new) (response_bytes answer))) }
+    ensures read_failed { IfErr outcome (λ error. (result ≡ Err error) × Keeps (W.contents writer.old) (W.contents writer.new)) }
+{
+    write_message(&message_of(custody, outcome?), writer)?;
+    Ok(Served)
+}
+
 /// The HTTP interface: its routes, made once.
 #[derive(Drop)]
 pub struct Api {
-    routes: Routes,
+    pub(crate) routes: Routes,
 }
 
 impl Api {
@@ -276,8 +293,7 @@ impl Api {
             × IsServed (R.remaining reader.old) now custody.old answer custody.new
             × AppendsBeginning (W.contents writer.old) (W.contents writer.new) (response_bytes answer) }
     {
-        let outcome = respond(alloc, &self.routes, reader, custody, now)?;
-        write_message(&message_of(custody, outcome), writer)?;
-        Ok(Served)
+        let outcome = respond(alloc, &self.routes, reader, custody, now);
+        write_outcome(custody, outcome, writer)
     }
 }

@@ -3,6 +3,7 @@ use Rattle.std.proofs.KnownBytes.{Appends-nil}
 use Rattle.http_api.specs.declared.connections.ServiceError.{ServiceError}
 use Rattle.http_api.specs.declared.connections.ServiceError.TheVariants.{Socket, Clock, Closed}
 use Rattle.http_api.specs.Connections.{MayEndAfter}
+use Rattle.escrow.proofs.SocketLemmas.{sockets_end}
 use Rattle.escrow.proofs.vault_calls.answer_connections.Goals as goal
 
 not_done : {P : Type 0} (status : ℕ) → status ≡ 3 → status ≡ 0 → P
@@ -27,5 +28,6 @@ returns-then-status-number-clause-turns g c = (0, omega arith, (λ done. absurd 
 -- no further connection is served
 pub returns-clause-turns : goal.returns-clause-turns
 returns-clause-turns g c =
-    let served = c.in-Err-served.ensures.fewer in
-    (served.0, at_most c.in-Err-served.fault served.0 c.args.requests served.1, not_done _ c.print_service_error-in-Err-served.ensures, served.2)
+    let fault = c.in-Err-served.fault in
+    let served = sockets_end c.args.now c.args.requests fault c.args.custody.now c.serve_connections-served.new.custody c.in-Err-served.ensures.fewer in
+    (served.0, at_most fault served.0 c.args.requests served.1, not_done _ c.print_service_error-in-Err-served.ensures, served.2)
