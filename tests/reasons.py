@@ -4,11 +4,11 @@
     tests/reasons.py [--cases N] [--seed S] [--only K]
 
 A case makes a full or a differential deposit of some rows, breaks it in one of the ways below, and works out the line by
-itself: the check, and the place that it broke. A few cases break nothing, and have to pass. The ways know no more of the
-program than docs/FORMATS.md says. A case depends on the seed and its number alone; `--only K` runs that one, prints its
-line, and leaves its deposit in `reasons.K`.
+itself: the check, and the place that it broke. A few cases break nothing, and have to pass. It knows the formats from
+docs/FORMATS.md, and the words of each line. A case depends on the seed and its number alone; `--only K` runs that one,
+prints its line, and leaves its deposit in `reasons.K`.
 
-2,000 cases take a quarter of a minute. It needs the program that `rt run` builds in crates/bench_tools.
+2,000 cases take some seconds. It needs the program that `rt run` builds in crates/bench_tools.
 """
 from __future__ import annotations
 
