@@ -1,7 +1,7 @@
 -- What a refusal or a failure is told as: one row each.
 use Rattle.std.specs.Prelude.{ℕ, List, ◌++◌, Option, Some, codes}
 use Rattle.custody_machine.specs.declared.answers.Refusal.{Refusal}
-use Rattle.custody_machine.specs.declared.answers.Refusal.TheVariants.{NameRefused, RegistryUnknown, DateOutOfRange, Size, OtherBytes, DroppedAfterKeeping, RevisionNotDue, AlreadyStated, TypeDiffers, PartOutOfOrder, VolumeFull, PartsDiffer, LaterDayPassed, NotYetDue, DayHasVerdict, GroundDoesNotStand, ReferenceUsed, NotInRelease, ReleaseUnknown, HoldReferenceUsed, HoldUnknown}
+use Rattle.custody_machine.specs.declared.answers.Refusal.TheVariants.{NameRefused, RegistryUnknown, DateOutOfRange, Size, OtherBytes, DroppedAfterKeeping, RevisionNotDue, AlreadyStated, TypeDiffers, PartOutOfOrder, VolumeFull, PartsDiffer, LaterDayPassed, NotYetDue, DayHasVerdict, GroundDoesNotStand, ReferenceUsed, NotInRelease, ReleaseUnknown, HoldReferenceUsed, HoldUnknown, NoFailure}
 use Rattle.custody_machine.specs.declared.answers.Failure.{Failure}
 use Rattle.custody_machine.specs.declared.answers.Failure.TheVariants.{NoMemory, VolumeFailed, StoreFailed, Closed, Damaged}
 use Rattle.custody_machine.specs.declared.codes.Code.{Code}
@@ -58,6 +58,7 @@ refusal_row NotInRelease = (codes "Q18", codes "not in release", NotFound)
 refusal_row ReleaseUnknown = (codes "Q19", codes "release unknown", NotFound)
 refusal_row HoldReferenceUsed = (codes "Q20", codes "hold reference used", Conflict)
 refusal_row HoldUnknown = (codes "Q21", codes "hold unknown", NotFound)
+refusal_row NoFailure = (codes "Q22", codes "no failure", NotFound)
 
 abbrev pub failure_row : Failure → List ℕ × List ℕ × HttpStatus
 failure_row NoMemory = (codes "C1", codes "no memory", ServiceUnavailable)

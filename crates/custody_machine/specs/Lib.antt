@@ -11,6 +11,7 @@ pub mod StoredState
 pub mod Purge
 pub mod Damage
 pub mod FetchResult
+pub mod Explaining
 pub mod Moves
 pub mod Releases
 pub mod Rulings

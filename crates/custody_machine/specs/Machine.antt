@@ -27,7 +27,7 @@ use Rattle.custody_records.specs.Records.{Notice, key_of, lifted_at, name_of, ne
 use Rattle.custody_records.specs.Tables.{is_rising}
 pub use Rattle.custody_machine.specs.declared.damage.Damage.{Damage}
 pub use Rattle.custody_machine.specs.declared.answers.Refusal.{Refusal}
-pub use Rattle.custody_machine.specs.declared.answers.Refusal.TheVariants.{NameRefused, RegistryUnknown, DateOutOfRange, Size, OtherBytes, DroppedAfterKeeping, RevisionNotDue, AlreadyStated, TypeDiffers, PartOutOfOrder, VolumeFull, PartsDiffer, LaterDayPassed, NotYetDue, DayHasVerdict, GroundDoesNotStand, ReferenceUsed, NotInRelease, ReleaseUnknown, HoldReferenceUsed, HoldUnknown}
+pub use Rattle.custody_machine.specs.declared.answers.Refusal.TheVariants.{NameRefused, RegistryUnknown, DateOutOfRange, Size, OtherBytes, DroppedAfterKeeping, RevisionNotDue, AlreadyStated, TypeDiffers, PartOutOfOrder, VolumeFull, PartsDiffer, LaterDayPassed, NotYetDue, DayHasVerdict, GroundDoesNotStand, ReferenceUsed, NotInRelease, ReleaseUnknown, HoldReferenceUsed, HoldUnknown, NoFailure}
 pub use Rattle.custody_machine.specs.declared.answers.Failure.{Failure}
 pub use Rattle.custody_machine.specs.declared.answers.Failure.TheVariants.{NoMemory, VolumeFailed, StoreFailed, Closed, Damaged}
 use Rattle.custody_machine.specs.declared.damage.Damage.TheVariants.{Digest}
@@ -373,7 +373,7 @@ known_of state stated = record {
 
 -- ---- refusals
 
--- the numbers Q1 to Q17, of a fetch Q18 and Q19, and of holds Q20 and Q21
+-- the numbers Q1 to Q17, of a fetch Q18 and Q19, of holds Q20 and Q21, and of an explanation Q22
 abbrev pub refusal_number : Refusal → ℕ
 refusal_number (NameRefused _) = 1
 refusal_number RegistryUnknown = 2
@@ -396,6 +396,7 @@ refusal_number NotInRelease = 18
 refusal_number ReleaseUnknown = 19
 refusal_number HoldReferenceUsed = 20
 refusal_number HoldUnknown = 21
+refusal_number NoFailure = 22
 
 abbrev pub is_tld_unregistered : State → List ℕ → Bool
 is_tld_unregistered state tld = is_none (first_day_of state tld)

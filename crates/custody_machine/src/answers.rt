@@ -48,6 +48,8 @@ pub enum Refusal {
     HoldReferenceUsed,
     /// No hold has this reference.
     HoldUnknown,
+    /// The revision has no notice of failure.
+    NoFailure,
 }
 
 /// Why a command failed.

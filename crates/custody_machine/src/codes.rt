@@ -104,6 +104,7 @@ impl Refusal {
             Refusal::ReleaseUnknown => ("Q19", "release unknown", HttpStatus::NotFound),
             Refusal::HoldReferenceUsed => ("Q20", "hold reference used", HttpStatus::Conflict),
             Refusal::HoldUnknown => ("Q21", "hold unknown", HttpStatus::NotFound),
+            Refusal::NoFailure => ("Q22", "no failure", HttpStatus::NotFound),
         };
         Code {
             number,

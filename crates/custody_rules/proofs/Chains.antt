@@ -1,30 +1,34 @@
 -- The chain of a deposit as the records tell it is that of their state.
 use Rattle.std.specs.Prelude.{bytes_eq}
-use Rattle.std.proofs.Common.{◌≡◌, ℕ, List, [], ◌∷◌, map, Bool, true, false, ◌&&◌, refl, sym, ◌∙◌, ap, cond}
+use Rattle.std.proofs.Common.{◌≡◌, ℕ, List, [], ◌∷◌, map, Bool, true, false, ◌&&◌, ◌==◌, refl, sym, ◌∙◌, ap, cond}
 use Rattle.std.specs.List.{filter, list_any}
 use Rattle.std.specs.FinMap.{entries}
 use Rattle.std.specs.Ordering.{is_eq}
+use Rattle.std.proofs.lemmas.Bool.{and_parts}
 use Rattle.std.proofs.lemmas.Map.Text.{is_eq-slice_cmp}
 use Rattle.deposit_name.specs.Name.{Name}
+use Rattle.desk.specs.declared.notices.Notice as desk
 use Rattle.custody_records.specs.declared.parts.Part as typed
 use Rattle.custody_records.specs.Keys.{PartKey, part_cmp, text_cmp}
 use Rattle.custody_records.specs.Records.{PartRecord, Records, key_of, name_of, parts_of}
 use Rattle.custody_records.specs.Tables.{row_entries}
 use Rattle.custody_records.specs.TypedRecords.{key_of_part, part_value}
 use Rattle.custody_records.proofs.GroupLemmas.{filter_entries}
-use Rattle.custody_machine.specs.Machine.{chain_of, has_dropped_part, held_chain, latest_full, passed_first_names}
+use Rattle.custody_machine.specs.Machine.{chain_of, has_dropped_part, held_chain, is_receipt_of, latest_full, passed_first_names}
 use Rattle.custody_machine.specs.Machine as machine
 use Rattle.custody_machine.specs.declared.command.Statement as stated
-use Rattle.custody_machine.specs.State.{State, Part}
+use Rattle.custody_machine.specs.State.{State, Part, has_notice, is_notice_of}
 use Rattle.custody_machine.specs.StoredState.{part_of, state_in}
 use Rattle.custody_machine.specs.MapValues.{map_entries}
 use Rattle.custody_machine.proofs.MapValues.{entries-map_values}
-use Rattle.custody_rules.specs.inside.Chains.{is_first_of_passed_in}
+use Rattle.custody_rules.specs.inside.Chains.{is_first_of_passed_by}
+use Rattle.custody_rules.specs.Explaining.{AreNoticesOf}
 use Rattle.custody_rules.specs.Judging.{has_dropped_part_in}
 use Rattle.custody_rules.proofs.Judged.{dropped_in_state}
+use Rattle.custody_rules.proofs.Notices.{some_of_registry}
 
 -- one test after another
-filter_both : {X : Type 0} (p q : X → Bool) (xs : List X) → filter q (filter p xs) ≡ filter (λ x. p x && q x) xs
+pub filter_both : {X : Type 0} (p q : X → Bool) (xs : List X) → filter q (filter p xs) ≡ filter (λ x. p x && q x) xs
 filter_both p q [] = refl
 filter_both {X} p q (x ∷ xs) = by (p x) (filter_both p q xs)
   where
@@ -37,9 +41,13 @@ module _ (records : Records) (tld : List ℕ) (image : List ℕ) where
   abbrev name_in : PartKey × PartRecord → Name
   name_in e = name_of e.0 e.1.kind
 
-  -- an entry, of the registry, is that of the first part of a deposit that passed
+  -- a name is that of the first part of a deposit that passed
+  abbrev is_first : Name → Bool
+  is_first name = name.part == 1 && has_notice records.notices tld name.day (is_receipt_of name.rev)
+
+  -- an entry, of the registry, is that of one
   abbrev leads : PartKey × PartRecord → Bool
-  leads e = is_first_of_passed_in records tld (name_in e)
+  leads e = is_first (name_in e)
 
   abbrev leads_registry : PartKey × PartRecord → Bool
   leads_registry e = bytes_eq e.0.tld tld && leads e
@@ -62,11 +70,17 @@ module _ (records : Records) (tld : List ℕ) (image : List ℕ) where
       by true rest = ap (λ (l : List Name). name_in e ∷ l) rest
       by false rest = rest
 
-  -- the rows of a registry's parts tell which of its deposits passed
-  pub passed_in_state : (rows : List typed.Part) → row_entries key_of_part part_value rows ≡ parts_of records tld
-      → map (λ (p : typed.Part). p.name) (filter (λ (p : typed.Part). is_first_of_passed_in records tld p.name) rows) ≡ passed_first_names (state_in records image) tld
-  passed_in_state rows is =
-      names_as_entries (filter (λ (p : typed.Part). is_first_of_passed_in records tld p.name) rows)
+  -- the rows of a registry's notices tell what those of the records do
+  by_notices : (notices : List desk.Notice) → AreNoticesOf records tld notices → (name : Name) → is_first_of_passed_by notices tld name ≡ is_first name
+  by_notices notices told name =
+      ap (λ b. name.part == 1 && b) (some_of_registry records tld notices told (is_notice_of tld name.day (is_receipt_of name.rev)) (λ e passed. (and_parts (bytes_eq e.0.tld tld) _ passed).0))
+
+  -- the rows of a registry's parts and notices tell which of its deposits passed
+  pub passed_in_state : (notices : List desk.Notice) → AreNoticesOf records tld notices → (rows : List typed.Part) → row_entries key_of_part part_value rows ≡ parts_of records tld
+      → map (λ (p : typed.Part). p.name) (filter (λ (p : typed.Part). is_first_of_passed_by notices tld p.name) rows) ≡ passed_first_names (state_in records image) tld
+  passed_in_state notices told rows is =
+      (λ i. map (λ (p : typed.Part). p.name) (filter (λ (p : typed.Part). by_notices notices told p.name i) rows))
+      ∙ names_as_entries (filter (λ (p : typed.Part). is_first p.name) rows)
       ∙ ap (map name_in) (sym (filter_entries key_of_part part_value leads rows) ∙ ap (filter leads) is ∙ filter_both (λ (e : PartKey × PartRecord). is_eq (text_cmp e.0.tld tld)) leads (entries records.parts))
       ∙ (λ i. map name_in (filter (λ (e : PartKey × PartRecord). is_eq-slice_cmp e.0.tld tld i && leads e) (entries records.parts)))
       ∙ in_state (entries records.parts)

@@ -1,6 +1,7 @@
 pub mod Apart
 pub mod Chains
 pub mod DueDays
+pub mod Explained
 pub mod Fetched
 pub mod Judged
 pub mod LinkLemmas

@@ -2,7 +2,7 @@
 use Rattle.std.proofs.Common.{get_or, subst, ◌+◌, ◌≡◌, ℕ, ◌<◌, ◌≤◌, List, [], ◌∷◌, ◌++◌, map, take, Option, Some, None, Bool, true, false, ◌&&◌, refl, sym, ◌∙◌, ap, cond, nat_lt, length, append-nil, append_assoc, arith}
 use Rattle.std.specs.Prelude.{is_some, nat_le, option_map, bytes_eq}
 use Rattle.std.specs.List.{filter, filter_map, cons_option, find, list_all}
-use Rattle.std.specs.FinMap.{entries, get}
+use Rattle.std.specs.FinMap.{FinMap, entries, get}
 use Rattle.std.specs.Option.{option_and_then}
 use Rattle.std.specs.Ordering.{is_eq}
 use Rattle.std.proofs.Math.Bool.{and-false}
@@ -20,15 +20,16 @@ use Rattle.std.proofs.lemmas.Map.Text.{is_eq-slice_cmp}
 use Rattle.desk.specs.declared.notices.Notice as desk
 use Rattle.desk.specs.declared.notices.NoticeKind.{NoticeKind}
 use Rattle.desk.specs.declared.notices.NoticeKind.TheVariants.{Receipt}
-use Rattle.custody_records.specs.Keys.{NoticeKey, text_cmp}
+use Rattle.custody_records.specs.Keys.{NoticeKey, notice_cmp, text_cmp}
 use Rattle.custody_records.specs.Records.{Notice, PartRecord, Records, key_of, notices_of}
 use Rattle.custody_records.specs.Tables.{row_entries}
 use Rattle.custody_records.specs.TypedRecords.{notice_entry, notice_key, notice_value}
 use Rattle.custody_records.proofs.GroupLemmas.{filter_entries, filter_swap}
+use Rattle.custody_machine.specs.Explaining.{passed_day, with_notices}
 use Rattle.custody_machine.specs.Machine.{first_part, passed_full_deposits, is_full_revision, is_receipt_of_full, known_of, latest_id, passed_id, passed_deposit, passed_deposits, is_receipt_entry_of_full}
 use Rattle.custody_machine.specs.StoredState.{is_part_of, part_of, state_in}
 use Rattle.custody_rules.specs.Judging.{if_of_kind}
-use Rattle.custody_rules.specs.inside.PassedDeposits.{is_receipt_of_full_in, later_pair, passed_deposit_of, passed_deposits_of, tells_full_in}
+use Rattle.custody_rules.specs.inside.PassedDeposits.{has_passed, is_of_id, is_receipt_of_full_in, later_pair, passed_deposit_of, passed_deposits_of, tells_full_in}
 use Rattle.custody_rules.proofs.Judged.{recorded_in_state}
 use Rattle.custody_rules.proofs.Tables.{filter_map_kept}
 
@@ -180,6 +181,44 @@ module _ (records : Records) (image : List ℕ) where
       (λ i. passed_deposits_of (filter (λ n. receipt_in_state n.tld n.day n.kind i) rows)) ∙ rows_as_entries (filter (λ n. is_receipt_entry_of_full (state_in records image) (notice_entry n)) rows)
       ∙ ap (filter_map unique_key_of) (sym (filter_entries notice_key notice_value (is_receipt_entry_of_full (state_in records image)) rows) ∙ ap (filter (is_receipt_entry_of_full (state_in records image))) is
       ∙ filter_swap (is_receipt_entry_of_full (state_in records image)) (λ (e : NoticeKey × Notice). is_eq (text_cmp e.0.tld tld)) (entries records.notices)) ∙ of_registry tld (filter (is_receipt_entry_of_full (state_in records image)) (entries records.notices))
+
+-- which of them are full is told by the parts alone
+pub full_by_parts : (records : Records) (told : FinMap notice_cmp Notice) (rows : List desk.Notice) → filter (tells_full_in records) rows ≡ filter (tells_full_in (with_notices records told)) rows
+full_by_parts records told rows = λ i. filter (λ n. by_kind n.tld n.day n.kind i) rows
+  where
+    by_kind : (tld : List ℕ) (day : ℕ) (kind : NoticeKind) → is_receipt_of_full_in records tld day kind ≡ is_receipt_of_full_in (with_notices records told) tld day kind
+    by_kind tld day (Receipt rev _) = refl
+    by_kind tld day _ = refl
+
+-- ---- the first deposit with an id
+
+-- a deposit has the id
+abbrev pub has_id_of : List ℕ → ℕ × List ℕ → Bool
+has_id_of id one = bytes_eq one.1 id
+
+abbrev first_day : List (ℕ × List ℕ) → List ℕ → Option ℕ
+first_day all id = option_map (λ (one : ℕ × List ℕ). one.0) (find (has_id_of id) all)
+
+abbrev first_row_day : List desk.Notice → List ℕ → Option ℕ
+first_row_day rows id = option_map (λ (n : desk.Notice). n.day) (find (has_passed id) rows)
+
+day_by_rows : (id : List ℕ) (rows : List desk.Notice) → first_row_day rows id ≡ first_day (passed_deposits_of rows) id
+day_by_rows id [] = refl
+day_by_rows id (n ∷ rows) = by (passed_id n.kind) (day_by_rows id rows)
+  where
+    by_test : (passed : List ℕ) (b : Bool) → first_row_day rows id ≡ first_day (passed_deposits_of rows) id
+        → option_map (λ (n : desk.Notice). n.day) (cond b (Some n) (find (has_passed id) rows)) ≡ option_map (λ (one : ℕ × List ℕ). one.0) (cond b (Some (n.day, passed)) (find (has_id_of id) (passed_deposits_of rows)))
+    by_test passed true rest = refl
+    by_test passed false rest = rest
+
+    by : (o : Option (List ℕ)) → first_row_day rows id ≡ first_day (passed_deposits_of rows) id
+        → option_map (λ (n : desk.Notice). n.day) (cond (is_of_id id o) (Some n) (find (has_passed id) rows)) ≡ first_day (cons_option (option_map (λ (id : List ℕ). (n.day, id)) o) (passed_deposits_of rows)) id
+    by None rest = rest
+    by (Some passed) rest = by_test passed (bytes_eq passed id) rest
+
+-- the rows of a registry tell it
+pub day_of_registry : (records : Records) (tld id : List ℕ) (rows : List desk.Notice) → row_entries notice_key notice_value rows ≡ notices_of records tld → first_row_day rows id ≡ passed_day records.notices tld id
+day_of_registry records tld id rows is = day_by_rows id rows ∙ ap (λ (all : List (ℕ × List ℕ)). first_day all id) (rows_of_registry records tld rows is)
 
 -- ---- a loop over the rows
 

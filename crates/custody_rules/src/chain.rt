@@ -1,32 +1,40 @@
 //! The deposits that a stated one follows.
 ghost use Rattle.std.specs.Prelude.{◌≡◌, List, ℕ, IfOk};
+ghost use Rattle.std.specs.FinMap.{FinMap};
 ghost use Rattle.std.specs.List.{list_any};
 ghost use Rattle.custody_records.specs.MemoryRecords.{records_of};
+ghost use Rattle.custody_records.specs.Keys.{notice_cmp};
+ghost use Rattle.custody_records.specs.Records as recorded;
 ghost use Rattle.custody_records.specs.Records.{key_of};
 ghost use Rattle.custody_machine.specs.Machine.{chain_of, held_chain, later_names, latest_full, passed_first_names};
 ghost use Rattle.custody_machine.specs.StoredState.{state_in};
 ghost use Rattle.custody_rules.specs.Judging.{has_dropped_part_in};
-ghost use Rattle.custody_rules.specs.inside.Chains.{is_first_of_passed_in};
+ghost use Rattle.custody_machine.specs.Explaining.{with_notices};
+ghost use Rattle.custody_rules.specs.Explaining.{AreNoticesOf};
+ghost use Rattle.custody_rules.specs.inside.Chains.{is_first_of_passed_by};
 
-use crate::days::{Sought, has_notice};
+use crate::days::{Sought, has_notice_among};
 use crate::revision::has_dropped_part;
 use custody_machine::Statement;
 use custody_records::{PartKey, Records};
 use deposit_name::{DepositName, Kind, Tld};
+use desk::Notice;
 use schedule::Day;
 use std::alloc::{AllocError, Global};
 
-/// The deposits that a stated one follows, oldest first, each by the name of its first part, where all
-/// their parts are held: of a differential one the latest full one that passed and all of later days, of an
-/// incremental one that full one (the types of RFC 8909, section 2).
+/// The deposits that a stated one follows by some notices of its registry, oldest first, each by the name
+/// of its first part, where all their parts are held: of a differential one the latest full one that passed
+/// and all of later days, of an incremental one that full one (the types of RFC 8909, section 2).
 pub fn held_chain(
     alloc: Global,
     records: &Records,
+    notices: &[Notice],
     statement: &Statement,
 ) -> Result<Vec<DepositName>, AllocError>
-    ensures { IfOk result (λ chain. (image : List ℕ) → chain.items ≡ held_chain (state_in (records_of records.now) image) statement.now) }
+    ensures { IfOk result (λ chain. (told : FinMap notice_cmp recorded.Notice) (image : List ℕ) → AreNoticesOf (with_notices (records_of records.now) told) statement.now.tld notices.now
+        → chain.items ≡ held_chain (state_in (with_notices (records_of records.now) told) image) statement.now) }
 {
-    let passed = passed_first_names(alloc, records, &statement.tld)?;
+    let passed = passed_first_names(alloc, records, notices, &statement.tld)?;
     let chain = chain_of(alloc, statement.kind, &passed)?;
     if is_any_dropped(records, &chain) {
         Ok(Vec::new(alloc))
@@ -44,27 +52,29 @@ fn is_any_dropped(records: &Records, chain: &[DepositName]) -> bool
         .any(|name| has_dropped_part(records, &PartKey::of(name)))
 }
 
-/// The first parts of a registry's deposits that passed, by day.
+/// The first parts of a registry's deposits that passed by its notices, by day.
 fn passed_first_names(
     alloc: Global,
     records: &Records,
+    notices: &[Notice],
     tld: &Tld,
 ) -> Result<Vec<DepositName>, AllocError>
-    ensures { IfOk result (λ names. (image : List ℕ) → names.items ≡ passed_first_names (state_in (records_of records.now) image) tld.now) }
+    ensures { IfOk result (λ names. (told : FinMap notice_cmp recorded.Notice) (image : List ℕ) → AreNoticesOf (with_notices (records_of records.now) told) tld.now notices.now
+        → names.items ≡ passed_first_names (state_in (with_notices (records_of records.now) told) image) tld.now) }
 {
     records
         .parts_of(tld)
         .iter()
-        .filter(|part| is_first_of_passed_in(records, tld, &part.name))
+        .filter(|part| is_first_of_passed(notices, tld, &part.name))
         .map(|part| part.name)
         .collect(alloc)
 }
 
 /// Whether a name is that of the first part of a deposit that passed.
-fn is_first_of_passed_in(records: &Records, tld: &Tld, name: &DepositName) -> bool
-    ensures { result ≡ is_first_of_passed_in (records_of records.now) tld.now name.now }
+fn is_first_of_passed(notices: &[Notice], tld: &Tld, name: &DepositName) -> bool
+    ensures { result ≡ is_first_of_passed_by notices.now tld.now name.now }
 {
-    name.part == 1 && has_notice(records, tld, name.day, Sought::ReceiptOf(name.rev))
+    name.part == 1 && has_notice_among(notices, tld, name.day, Sought::ReceiptOf(name.rev))
 }
 
 /// Of the deposits that passed those that one of a kind follows.

@@ -1,6 +1,7 @@
 //! A day: whether it is in range, and its notices.
 ghost use Rattle.std.specs.Prelude.{◌≡◌, ◌||◌, nat_lt, find, option_copied, option_map};
 ghost use Rattle.std.specs.FinMap.{entries};
+ghost use Rattle.std.specs.List.{list_any};
 ghost use Rattle.schedule.specs.Schedule.{day_of};
 ghost use Rattle.custody_records.specs.MemoryRecords.{records_of};
 ghost use Rattle.custody_records.specs.TypedRecords.{notice_entry};
@@ -55,8 +56,14 @@ pub(crate) fn notice_of<'a>(
 pub(crate) fn has_notice(records: &Records, tld: &Tld, day: Day, sought: Sought) -> bool
     ensures { result ≡ has_notice (records_of records.now).notices tld.now day (is_sought sought) }
 {
-    records
-        .notices_of(tld)
+    has_notice_among(records.notices_of(tld), tld, day, sought)
+}
+
+/// Whether one of these notices is of a day, and tells it.
+pub(crate) fn has_notice_among(notices: &[Notice], tld: &Tld, day: Day, sought: Sought) -> bool
+    ensures { result ≡ list_any (λ notice. is_notice_of tld.now day (is_sought sought) (notice_entry notice)) notices.now }
+{
+    notices
         .iter()
         .any(|notice| is_notice_of(notice, tld, day, sought))
 }

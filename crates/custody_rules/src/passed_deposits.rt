@@ -1,11 +1,17 @@
 //! What the records tell of a deposit before it is read, and the next number of a notice.
 ghost use Rattle.std.specs.Prelude.{◌≡◌, ◌≤◌, ◌^◌, List, ℕ, IfNone, IfOk, IfSome, option_map};
+ghost use Rattle.std.specs.FinMap.{FinMap};
 ghost use Rattle.std.specs.List.{filter, filter_map};
 ghost use Rattle.custody_machine.specs.Machine.{first_part, known_of, latest_id, next_number, passed_id};
 ghost use Rattle.custody_machine.specs.StoredState.{state_in};
+ghost use Rattle.custody_machine.specs.Explaining.{passed_day, with_notices};
+ghost use Rattle.custody_records.specs.Keys.{notice_cmp};
 ghost use Rattle.custody_records.specs.MemoryRecords.{records_of};
+ghost use Rattle.custody_records.specs.Records as recorded;
+ghost use Rattle.custody_records.specs.Records.{Records as AllRecords};
 ghost use Rattle.deposit_verify.specs.Known.{known_in};
-ghost use Rattle.custody_rules.specs.inside.PassedDeposits.{greatest_notice_number, later_pair, passed_pair, passed_deposit_of, passed_deposits_of, tells_full_in};
+ghost use Rattle.custody_rules.specs.Explaining.{AreNoticesOf};
+ghost use Rattle.custody_rules.specs.inside.PassedDeposits.{greatest_notice_number, has_passed, later_pair, passed_pair, passed_deposit_of, passed_deposits_of, tells_full_in};
 
 use crate::revision::has_part_of;
 use custody_machine::Statement;
@@ -16,19 +22,20 @@ use desk::{Notice, NoticeKind};
 use schedule::Day;
 use std::alloc::{AllocError, Global};
 
-/// What is known of a stated deposit, by the notices of its registry and the kinds of their deposits. The
+/// What is known of a stated deposit by some notices of its registry and the kinds of their deposits. The
 /// keys before it are handed in.
 pub fn known_about(
     alloc: Global,
     records: &Records,
+    notices: &[Notice],
     statement: &Statement,
     name: &DepositName,
     base: Option<Base>,
 ) -> Result<About, AllocError>
     requires named { name.now ≡ first_part statement.now }
-    ensures { IfOk result (λ about. (image : List ℕ) → known_in about ≡ record (known_of (state_in (records_of records.now) image) statement.now) { base = base }) }
+    ensures { IfOk result (λ about. (told : FinMap notice_cmp recorded.Notice) (image : List ℕ) → AreNoticesOf (with_notices (records_of records.now) told) statement.now.tld notices.now
+        → known_in about ≡ record (known_of (state_in (with_notices (records_of records.now) told) image) statement.now) { base = base }) }
 {
-    let notices = records.notices_of(&statement.tld);
     let full = full_receipts(alloc, records, notices)?;
     Ok(About {
         name: *name,
@@ -131,6 +138,24 @@ fn passed_ids(alloc: Global, notices: &[Notice]) -> Result<Vec<DepositId>, Alloc
         .iter()
         .filter_map(|notice| passed_id(notice))
         .collect(alloc)
+}
+
+/// The day of the first of some notices that tells that a deposit with this id has passed.
+pub fn passed_day(notices: &[Notice], id: &DepositId) -> Option<Day>
+    ensures { (records : AllRecords) (tld : List ℕ) → AreNoticesOf records tld notices.now → result ≡ passed_day records.notices tld id.now }
+{
+    let notice = notices.iter().find(|notice| has_passed(notice, id))?;
+    Some(notice.day)
+}
+
+/// Whether a notice tells that a deposit with this id has passed.
+fn has_passed(notice: &Notice, id: &DepositId) -> bool
+    ensures { result ≡ has_passed id.now notice.now }
+{
+    match passed_id(notice) {
+        Some(passed) => passed == *id,
+        None => false,
+    }
 }
 
 /// The number of the next notice of a registry, where there is one.

@@ -1,5 +1,5 @@
 -- The deposits that passed and the greatest number, as the rows of notices tell them.
-use Rattle.std.specs.Prelude.{ℕ, max, List, Option, Some, None, Bool, false, if◌then◌else◌, nat_le, option_map}
+use Rattle.std.specs.Prelude.{ℕ, max, List, Option, Some, None, Bool, false, if◌then◌else◌, nat_le, option_map, bytes_eq}
 use Rattle.std.specs.List.{filter_map, fold}
 use Rattle.std.specs.FinMap.{get}
 use Rattle.deposit_name.specs.declared.kinds.Kind.TheVariants.{Full}
@@ -37,3 +37,11 @@ later_pair (Some before) next = if nat_le next.0 before.0 then before else next
 
 abbrev pub greatest_notice_number : List desk.Notice → ℕ
 greatest_notice_number = fold (λ greatest (notice : desk.Notice). max greatest notice.number) 0
+
+-- a notice tells that a deposit with this id has passed
+abbrev pub is_of_id : List ℕ → Option (List ℕ) → Bool
+is_of_id id None = false
+is_of_id id (Some passed) = bytes_eq passed id
+
+abbrev pub has_passed : List ℕ → desk.Notice → Bool
+has_passed id notice = is_of_id id (passed_id notice.kind)
