@@ -1,15 +1,17 @@
 -- The deposits of a chain, read one after the other: the keys after them, and the digests of their parts.
 use Rattle.std.proofs.Common.{◌≡◌, ℕ, zero, suc, ◌+◌, ◌-◌, ◌<◌, ◌≤◌, List, [], ◌∷◌, ◌++◌, map, length, get_or, take, drop, Option, None, refl, sym, ◌∙◌, ap, subst, arith, Contains, ⊎_elim}
-use Rattle.std.specs.Prelude.{option_and_then}
+use Rattle.std.specs.Prelude.{option_and_then, IfSome}
 use Rattle.std.specs.List.{flat_map}
 use Rattle.std.proofs.lemmas.List.{flat_map_more, map_more, nil_from_length, take_all, take_more}
 use Rattle.std.proofs.lemmas.List.Elements.{Contains-append_left, Contains-append_right, Contains-append_cases}
 use Rattle.std.proofs.lemmas.List.Sums.{fold-append}
 use Rattle.deposit_name.specs.Name.{Name}
 use Rattle.deposit_verify.specs.declared.base.Base.{Base}
+use Rattle.deposit_verify.specs.declared.reason.Reason.{Reason}
 use Rattle.deposit_verify.specs.declared.verdict.Verdict.{Verdict}
 use Rattle.deposit_verify.specs.Bases.{all_then, base_at, base_of_first, base_then}
 use Rattle.deposit_verify.specs.Known.{Known}
+use Rattle.deposit_verify.specs.Reasons.{IsReason}
 use Rattle.deposit_verify.specs.Verdict.{verdict}
 use Rattle.custody_records.specs.Keys.{PartKey}
 use Rattle.custody_records.specs.Records.{Records}
@@ -163,10 +165,20 @@ module _ (records : Records) (image : List ℕ) (stated : statement.Statement) w
         both_sound records image (part_keys (state_in records image) (first_part stated)) (chain_keys records image stated)
         (subst (λ n. AreSound records image (part_keys (state_in records image) n)) is (subst (λ j. AreSound records j (part_keys (state_in records j) name)) same there)) chain
 
-    -- the verdict on what was read, with what is known of it
-    pub verdict_is : (found : Verdict) (bytes : List ℕ) (about : Known) (base : Option Base) → found ≡ verdict bytes about → bytes ≡ joined_bytes (state_in records seen) name
-        → about ≡ record (known_of (state_in records image) stated) { base = base } → base ≡ base_of (state_in records image) stated → found ≡ verdict_on (state_in records image) stated
-    verdict_is found bytes about base told read knows at =
-        told
-        ∙ ap (λ b. verdict b about) (read ∙ (λ i. joined_bytes (state_in records (same i)) (is i)))
-        ∙ ap (verdict (joined_bytes (state_in records image) (first_part stated))) (knows ∙ ap (λ b. record (known_of (state_in records image) stated) { base = b }) at)
+    -- the bytes that were read are those of the stated parts
+    pub bytes_are : (bytes : List ℕ) → bytes ≡ joined_bytes (state_in records seen) name → bytes ≡ joined_bytes (state_in records image) (first_part stated)
+    bytes_are bytes read = read ∙ (λ i. joined_bytes (state_in records (same i)) (is i))
+
+  -- with the keys after its chain all is known of it
+  pub known_is : (about : Known) (base : Option Base) → about ≡ record (known_of (state_in records image) stated) { base = base } → base ≡ base_of (state_in records image) stated → about ≡ known_of (state_in records image) stated
+  known_is about base knows at = knows ∙ ap (λ b. record (known_of (state_in records image) stated) { base = b }) at
+
+  -- the verdict on what was read, with what is known of it
+  pub verdict_is : (found : Verdict) (bytes : List ℕ) (about : Known) → found ≡ verdict bytes about → bytes ≡ joined_bytes (state_in records image) (first_part stated) → about ≡ known_of (state_in records image) stated
+      → found ≡ verdict_on (state_in records image) stated
+  verdict_is found bytes about told read known = told ∙ (λ i. verdict (read i) (known i))
+
+  -- and the reason
+  pub reason_is : (found : Option Reason) (bytes : List ℕ) (about : Known) → bytes ≡ joined_bytes (state_in records image) (first_part stated) → about ≡ known_of (state_in records image) stated
+      → IfSome found (IsReason bytes about) → IfSome found (IsReason (joined_bytes (state_in records image) (first_part stated)) (known_of (state_in records image) stated))
+  reason_is found bytes about read known told = subst (λ k. IfSome found (IsReason (joined_bytes (state_in records image) (first_part stated)) k)) known (subst (λ b. IfSome found (IsReason b about)) read told)

@@ -4,6 +4,7 @@ pub mod ChainLemmas
 pub mod Coming
 pub mod Done
 pub mod Ended
+pub mod ExplainLemmas
 pub mod FetchLemmas
 pub mod FirstDamage
 pub mod Gathered

@@ -2,6 +2,8 @@ pub mod Answers
 pub mod Auditing
 pub mod Calls
 pub mod Custody
+pub mod Explaining
+pub mod ExplanationText
 pub mod Fetching
 pub mod Previewing
 pub mod Upload

@@ -13,18 +13,19 @@ ghost use Rattle.custody.specs.OpenCustody.{current_records, store_state_of, Kee
 ghost use Rattle.custody.specs.Opening.{HasNoRecord, ReportsDamage, OnlyReads, OnlyMigrates, free_blocks};
 
 use crate::auditing::audit_parts;
+use crate::explaining::explain_failure;
 use crate::fetching::fetch_part;
 use crate::open_custody::OpenCustody;
 use crate::opening::{identify, load_current, make_records, may_begin, open_custody_over};
 use crate::previewing::preview_notice;
 use crate::receiving::drop_body;
-use crate::{InitError, Outcome, Progress, ReceiveError, Refused, Reply};
+use crate::{Explanation, InitError, Outcome, Progress, ReceiveError, Refused, Reply};
 use custody_machine::{Command, Failure, Statement};
 use custody_records::Records;
 use custody_store::{Store, has_earlier_tables};
-use deposit_name::{DepositName, Reference};
-use desk::Notice;
-use schedule::Sec;
+use deposit_name::{DepositName, Reference, Tld};
+use desk::{Notice, Revision};
+use schedule::{Day, Sec};
 use sqlite::{Alter, Connection};
 use std::alloc::{AllocError, Global};
 use std::io::Read;
@@ -51,6 +52,7 @@ impl<V: Volume, S: Alter> Custody<V, S> {
     ghost use Rattle.custody.specs.Receiving.{HasReceived};
     ghost use Rattle.custody.specs.Fetching.{HasFetched, bytes_if_answered};
     ghost use Rattle.custody.specs.Previewing.{HasPreviewed};
+    ghost use Rattle.custody.specs.Explaining.{HasExplained};
     ghost use Rattle.custody.specs.Auditing.{HasAudited, answered_names};
     ghost use Rattle.custody.specs.Calls.{
       HasBegun,
@@ -253,6 +255,25 @@ impl<V: Volume, S: Alter> Custody<V, S> {
         }
         let OpenCustody { vault, records, .. } = &mut self.open_custody;
         let answer = preview_notice(alloc, vault, records, statement, now);
+        self.failure = closing_failure(&answer);
+        answer
+    }
+
+    /// Why a revision has failed, found again by what was known when it was stated. Nothing is recorded.
+    pub fn explain(
+        &mut self,
+        alloc: Global,
+        tld: &Tld,
+        day: Day,
+        rev: Revision,
+    ) -> Result<Explanation, Refused>
+        ensures { HasExplained self.old tld.now day rev result self.new }
+    {
+        if !self.is_open() {
+            return Err(Refused::Failure(Failure::Closed));
+        }
+        let OpenCustody { vault, records, .. } = &mut self.open_custody;
+        let answer = explain_failure(alloc, vault, records, tld, day, rev);
         self.failure = closing_failure(&answer);
         answer
     }

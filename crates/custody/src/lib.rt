@@ -8,6 +8,8 @@
 mod answers;
 mod auditing;
 mod custody;
+mod explaining;
+mod explanation;
 mod fetching;
 mod open_custody;
 mod opening;
@@ -20,6 +22,7 @@ mod verifying;
 
 pub use answers::{InitError, Outcome, Record, Refused, Reply};
 pub use custody::Custody;
+pub use explanation::Explanation;
 pub use opening::has_record;
 pub use progress::{Progress, Silent};
 pub use receiving::ReceiveError;
