@@ -50,6 +50,7 @@ words_give_orders = record {
   of_release_now = inl (_, inl (codes "example", (refl, example_is_tld), inl (codes "R-1", (refl, r_1_is_reference), inl (Operator, refl, refl))), inl (None, refl, refl));
   of_fetch = inl (_, inl (codes "R-1", (refl, r_1_is_reference), refl), inl (None, refl, refl));
   of_report = inl (_, inl (codes "example", (refl, example_is_tld), refl), inl (None, refl, refl));
+  of_explain = inl (_, inl (codes "example", (refl, example_is_tld), inl (20_667, (omega arith, refl), refl)), inl (None, refl, refl));
   of_digests = inl (_, inl (codes "example", (refl, example_is_tld), refl), inl (None, refl, refl));
   of_state = inl (_, refl, inl (None, refl, refl));
   of_audit = inl (_, refl, inl (None, refl, refl));

@@ -88,6 +88,7 @@ deed_one subcommand.Release rows =
     value_one _ _ _ (λ x y h k. ground_text-injective x y (sym h ∙ k)) (λ reason. only_one _)))
 deed_one subcommand.Fetch rows = value_one _ _ _ (text_one _ _) (λ reference. only_one _)
 deed_one subcommand.Report rows = value_one _ _ _ (text_one _ _) (λ tld. only_one _)
+deed_one subcommand.Explain rows = value_one _ _ _ (text_one _ _) (λ tld. value_one _ _ _ (day_one _) (λ day. only_one _))
 deed_one subcommand.Digests rows = value_one _ _ _ (text_one _ _) (λ tld. only_one _)
 deed_one subcommand.State rows = only_one _
 deed_one subcommand.Audit rows = only_one _

@@ -26,6 +26,7 @@ module _ {V S : Type 0} {g : volume.Ghosts V} {database : Ghosts S} (old new : C
   reading_leaves_alone deed.Due bytes now status output errors reads works acts = same acts.0
   reading_leaves_alone (deed.Fetch reference name) bytes now status output errors reads works acts = rested (acts.1.1.rested works) (acts.1.1.unwritten works)
   reading_leaves_alone (deed.Report tld) bytes now status output errors reads works acts = same acts.0
+  reading_leaves_alone (deed.Explain tld day rev) bytes now status output errors reads works acts = rested (acts.1.1.rested works) (acts.1.1.unwritten works)
   reading_leaves_alone (deed.Digests tld) bytes now status output errors reads works acts = same acts.0
   reading_leaves_alone deed.State bytes now status output errors reads works acts = same acts.0
   reading_leaves_alone deed.Audit bytes now status output errors reads works acts = rested (acts.1.1.rested works) (acts.1.1.unwritten works)

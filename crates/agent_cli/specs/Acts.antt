@@ -18,11 +18,14 @@ use Rattle.custody_machine.specs.Texts.{failure_text, refusal_text}
 use Rattle.custody_rules.specs.DueDays.{due_days}
 use Rattle.custody.specs.Custody.{HasApplied, open_custody_of, is_open}
 use Rattle.custody.specs.Auditing.{HasAudited}
+use Rattle.custody.specs.Explaining.{HasExplained}
+use Rattle.custody.specs.ExplanationText.{explanation_text}
 use Rattle.custody.specs.Fetching.{HasFetched}
 use Rattle.custody.specs.OpenCustody.{current_records}
 use Rattle.custody.specs.Opening.{free_blocks}
 use Rattle.custody.specs.Previewing.{HasPreviewed}
 use Rattle.custody.specs.declared.custody.Custody.{Custody}
+use Rattle.custody.specs.declared.explanation.Explanation.{Explanation}
 use Rattle.custody.specs.Answers.{init_error_text}
 use Rattle.custody.specs.declared.answers.InitError.TheVariants.{AlreadyInitialised}
 use Rattle.custody.specs.declared.answers.Reply.{Reply}
@@ -47,6 +50,11 @@ abbrev pub IsFoundPrinted : {T : Type 0} → (T → List ℕ) → Result T Refus
 IsFoundPrinted text (Ok found) status output errors = WritesWholeAt output (text found) 0 status × IsUnused errors
 IsFoundPrinted text (Err (refused.Refusal why)) status output errors = WritesWholeAt errors (as_line (refusal_text why)) 1 status × IsUnused output
 IsFoundPrinted text (Err (refused.Failure why)) status output errors = WritesBeginning errors (as_line (failure_text why)) × IsUnused output
+
+-- there was no memory for the line of what was found, which the line of that failure says
+abbrev pub LacksLine : {T : Type 0} → Result T Refused → ℕ → Writer → Writer → Type 0
+LacksLine (Ok found) status output errors = (status ≡ 3) × WritesBeginning errors (as_line (failure_text NoMemory)) × IsUnused output
+LacksLine (Err why) status output errors = ⊥
 
 -- What an audit has found goes to the output: the parts that are damaged, with status 1, or how many are held, with status 0, and whatever the status a beginning of it. The line of a failure goes to the errors.
 abbrev pub IsAuditPrinted : Records → Result (List Name) Failure → ℕ → Writer → Writer → Type 0
@@ -74,6 +82,12 @@ module _ {V S : Type 0} {g : volume.Ghosts V} {database : Ghosts S} where
   abbrev pub Fetches : Custody V S g database → (reference name : List ℕ) → Custody V S g database → ℕ → Writer → Writer → Type 0
   Fetches old reference name new status output errors =
       (answer : Result (List ℕ) Refused) × HasFetched old reference name answer new × IsStatusAfter (answer_status answer) status × IsFoundPrinted (λ bytes. bytes) answer status output errors
+
+  -- the line of why a revision has failed is printed, and nothing else; or there is no memory for that line
+  abbrev pub Explains : Custody V S g database → (tld : List ℕ) → (day rev : ℕ) → Custody V S g database → ℕ → Writer → Writer → Type 0
+  Explains old tld day rev new status output errors =
+      (answer : Result Explanation Refused) × HasExplained old tld day rev answer new
+      × ((IsStatusAfter (answer_status answer) status × IsFoundPrinted (λ told. as_line (explanation_text told)) answer status output errors) ⊎ LacksLine answer status output errors)
 
   -- it is audited, and what was found is all that is printed
   abbrev pub Audits : Custody V S g database → Custody V S g database → ℕ → Writer → Writer → Type 0
@@ -128,7 +142,7 @@ module _ {V S : Type 0} {g : volume.Ghosts V} {database : Ghosts S} where
     pub swept : is_open old ≡ true → SweepsDays at_most (due_days (current_records (open_custody_of old)) now) old now new status output errors ⊎ ((new ≡ old) × (status ≡ 3) × WritesBeginning errors (as_line (failure_text NoMemory)) × IsUnused output)
     pub while_closed : is_open old ≡ false → (new ≡ old) × (status ≡ 3) × WritesBeginning errors (as_line (failure_text Closed)) × IsUnused output
 
-  -- A command is given to it, and a `put` as the receipt of a part; `sweep` gives it its checks, `preview`, `fetch` and `audit` read, and no other deed changes it.
+  -- A command is given to it, and a `put` as the receipt of a part; `sweep` gives it its checks, `preview`, `fetch`, `explain` and `audit` read, and no other deed changes it.
   abbrev pub Acts : Deed → List ℕ → ℕ → Custody V S g database → Custody V S g database → ℕ → Writer → Writer → Type 0
   Acts (deed.Init blocks number) bytes now old new status output errors =
       (new ≡ old) × IsStatusAfter 1 status × WritesWholeAt errors (as_line (init_error_text AlreadyInitialised)) 1 status × IsUnused output
@@ -139,6 +153,7 @@ module _ {V S : Type 0} {g : volume.Ghosts V} {database : Ghosts S} where
   Acts (deed.Sweep at_most) bytes now old new status output errors = IsExitStatus status × Sweeps at_most old now new status output errors
   Acts (deed.Fetch reference name) bytes now old new status output errors = IsExitStatus status × Fetches old reference name.now new status output errors
   Acts (deed.Report tld) bytes now old new status output errors = (new ≡ old) × IsExitStatus status × PrintsOfRegistry registry_report_text old tld status output errors
+  Acts (deed.Explain tld day rev) bytes now old new status output errors = IsExitStatus status × Explains old tld day rev new status output errors
   Acts (deed.Digests tld) bytes now old new status output errors = (new ≡ old) × IsExitStatus status × PrintsOfRegistry digests_text old tld status output errors
   Acts deed.State bytes now old new status output errors = (new ≡ old) × IsExitStatus status × PrintsState old status output errors
   Acts deed.Audit bytes now old new status output errors = IsExitStatus status × Audits old new status output errors

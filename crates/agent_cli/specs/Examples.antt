@@ -4,7 +4,7 @@ use Rattle.clap.specs.Words.{Text}
 use Rattle.deposit_name.specs.declared.kinds.Kind.TheVariants.{Full, Incr}
 use Rattle.desk.specs.declared.grounds.Ground.TheVariants.{Operator}
 use Rattle.custody_machine.specs.Machine.{Register, Statement, Release, Hold, Lift, Purge}
-use Rattle.agent_cli.specs.Order.{ReadsWords, DeedMeaning, Init, Put, Preview, Do, Due, Sweep, Fetch, Report, Digests, State, Audit, Serve}
+use Rattle.agent_cli.specs.Order.{ReadsWords, DeedMeaning, Init, Put, Preview, Do, Due, Sweep, Fetch, Report, Explain, Digests, State, Audit, Serve}
 
 -- these words, behind the name of the program, ask for this, in the folder `vault` and at a moment that they may name
 abbrev pub GivesOrder : List Text → Option ℕ → DeedMeaning → Type 0
@@ -41,6 +41,7 @@ pub record WordsGiveOrders : Type 0 where
   pub of_release_now : GivesOrder (codes "release" ∷ codes "vault" ∷ codes "R-1" ∷ codes "example" ∷ codes "operator" ∷ []) None (Do (Release (codes "R-1") (codes "example") Operator))
   pub of_fetch : GivesOrder (codes "fetch" ∷ codes "vault" ∷ codes "R-1" ∷ codes "part.ryde" ∷ []) None (Fetch (codes "R-1") (codes "part.ryde"))
   pub of_report : GivesOrder (codes "report" ∷ codes "vault" ∷ codes "example" ∷ []) None (Report (codes "example"))
+  pub of_explain : GivesOrder (codes "explain" ∷ codes "vault" ∷ codes "example" ∷ codes "--date" ∷ codes "2026-08-02" ∷ codes "--revision" ∷ codes "3" ∷ []) None (Explain (codes "example") 20_667 3)
   pub of_digests : GivesOrder (codes "digests" ∷ codes "vault" ∷ codes "example" ∷ []) None (Digests (codes "example"))
   pub of_state : GivesOrder (codes "state" ∷ codes "vault" ∷ []) None State
   pub of_audit : GivesOrder (codes "audit" ∷ codes "vault" ∷ []) None Audit

@@ -7,7 +7,7 @@ use Rattle.clap.specs.declared.builder.action.ArgAction.TheVariants.{SetTrue}
 use Rattle.agent_cli.specs.declared.subcommands.WordForm.{WordForm}
 use Rattle.agent_cli.specs.declared.subcommands.WordForm.TheVariants.{Place, Option, Count, Flag}
 use Rattle.agent_cli.specs.declared.subcommands.Subcommand.{Subcommand}
-use Rattle.agent_cli.specs.declared.subcommands.Subcommand.TheVariants.{Init, Register, Put, Preview, Verify, Due, Sweep, Purge, Hold, Lift, Release, Fetch, Report, Digests, State, Audit, Serve}
+use Rattle.agent_cli.specs.declared.subcommands.Subcommand.TheVariants.{Init, Register, Put, Preview, Verify, Due, Sweep, Purge, Hold, Lift, Release, Fetch, Report, Explain, Digests, State, Audit, Serve}
 use Rattle.agent_cli.specs.declared.subcommands.Word.{Word}
 use Rattle.extent_map.specs.Limits.{fewest_blocks, most_blocks}
 
@@ -82,6 +82,8 @@ words_of Release = (codes "release", folder_rule ∷ positional_rule (codes "REF
 words_of Fetch = (codes "fetch", folder_rule ∷ positional_rule (codes "REF") ∷ positional_rule (codes "NAME") ∷ [])
 -- `report DIR TLD`
 words_of Report = (codes "report", folder_rule ∷ tld_rule ∷ [])
+-- `explain DIR TLD --date DATE --revision N`
+words_of Explain = (codes "explain", folder_rule ∷ tld_rule ∷ option_rule (codes "date") true ∷ count_rule (codes "revision") 0 99 true ∷ [])
 -- `digests DIR TLD`
 words_of Digests = (codes "digests", folder_rule ∷ tld_rule ∷ [])
 -- `state DIR`
@@ -92,7 +94,7 @@ words_of Audit = (codes "audit", folder_rule ∷ [])
 words_of Serve = (codes "serve", folder_rule ∷ count_rule (codes "port") 1 65_535 true ∷ count_rule (codes "requests") 1 1_000_000 true ∷ flag_rule (codes "until-closed") ∷ now_rule ∷ [])
 
 abbrev pub subcommands : List Subcommand
-subcommands = Init ∷ Register ∷ Put ∷ Preview ∷ Verify ∷ Due ∷ Sweep ∷ Purge ∷ Hold ∷ Lift ∷ Release ∷ Fetch ∷ Report ∷ Digests ∷ State ∷ Audit ∷ Serve ∷ []
+subcommands = Init ∷ Register ∷ Put ∷ Preview ∷ Verify ∷ Due ∷ Sweep ∷ Purge ∷ Hold ∷ Lift ∷ Release ∷ Fetch ∷ Report ∷ Explain ∷ Digests ∷ State ∷ Audit ∷ Serve ∷ []
 
 abbrev pub is_named : Text → Subcommand → Bool
 is_named name subcommand = bytes_eq (words_of subcommand).0 name

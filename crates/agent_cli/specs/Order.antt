@@ -32,6 +32,7 @@ pub data DeedMeaning : Type 0 where
   Sweep : (at_most : Option ℕ) → DeedMeaning
   Fetch : (reference : List ℕ) → (name : Text) → DeedMeaning
   Report : (tld : List ℕ) → DeedMeaning
+  Explain : (tld : List ℕ) → (day rev : ℕ) → DeedMeaning
   Digests : (tld : List ℕ) → DeedMeaning
   State : DeedMeaning
   Audit : DeedMeaning
@@ -109,6 +110,10 @@ DeedReading subcommand.Fetch rows r =
 DeedReading subcommand.Report rows r =
     ReadsValue argument.Tld (ShowsTld (text_in (codes "TLD") rows)) (λ tld r.
     r ≡ Ok (Report tld)) r
+DeedReading subcommand.Explain rows r =
+    ReadsValue argument.Tld (ShowsTld (text_in (codes "TLD") rows)) (λ tld.
+    ReadsValue argument.Date (ShowsDay (text_in (codes "date") rows)) (λ day r.
+    r ≡ Ok (Explain tld day (count_of (codes "revision") 99 rows)))) r
 DeedReading subcommand.Digests rows r =
     ReadsValue argument.Tld (ShowsTld (text_in (codes "TLD") rows)) (λ tld r.
     r ≡ Ok (Digests tld)) r
@@ -157,6 +162,7 @@ deed_meaning deed.Due = Due
 deed_meaning (deed.Sweep at_most) = Sweep at_most
 deed_meaning (deed.Fetch reference name) = Fetch reference name.now
 deed_meaning (deed.Report tld) = Report tld
+deed_meaning (deed.Explain tld day rev) = Explain tld day rev
 deed_meaning (deed.Digests tld) = Digests tld
 deed_meaning deed.State = State
 deed_meaning deed.Audit = Audit

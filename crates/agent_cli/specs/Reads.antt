@@ -16,6 +16,7 @@ only_reads (deed.Preview stated) = true
 only_reads deed.Due = true
 only_reads (deed.Fetch reference name) = true
 only_reads (deed.Report tld) = true
+only_reads (deed.Explain tld day rev) = true
 only_reads (deed.Digests tld) = true
 only_reads deed.State = true
 only_reads deed.Audit = true

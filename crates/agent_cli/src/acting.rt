@@ -1,6 +1,6 @@
 //! What a deed does to the agent of a folder.
 ghost use Rattle.answer_lines.specs.Statuses.{IsExitStatus};
-ghost use Rattle.agent_cli.specs.Acts.{Acts, Audits, Fetches, Previews};
+ghost use Rattle.agent_cli.specs.Acts.{Acts, Audits, Explains, Fetches, Previews};
 
 use crate::reading::{list_digests, list_due, report, show};
 use crate::sweeping::sweep;
@@ -9,9 +9,10 @@ use answer_lines::{
     Line, print_audit, print_bytes, print_line, tell, tell_answer, tell_init, tell_refusal,
 };
 use custody::{Custody, InitError, Progress, Refused};
-use custody_machine::{Command, ExitStatus, Statement};
-use deposit_name::Reference;
-use schedule::Sec;
+use custody_machine::{Command, ExitStatus, Failure, Statement};
+use deposit_name::{Reference, Tld};
+use desk::Revision;
+use schedule::{Day, Sec};
 use sqlite::Alter;
 use std::alloc::Global;
 use std::io::Write;
@@ -49,6 +50,7 @@ pub fn act<V: Volume, S: Alter, W: Write, E: Write, P: Progress>(
         Deed::Sweep { at_most } => sweep(alloc, custody, *at_most, now, out, err, progress),
         Deed::Fetch { reference, name } => fetch(alloc, custody, reference, name, out, err),
         Deed::Report { tld } => report(custody, tld, out, err),
+        Deed::Explain { tld, day, rev } => explain(alloc, custody, tld, *day, *rev, out, err),
         Deed::Digests { tld } => list_digests(custody, tld, out, err),
         Deed::State => show(custody, out, err),
         Deed::Audit => audit(alloc, custody, out, err, progress),
@@ -88,6 +90,28 @@ fn fetch<V: Volume, S: Alter, W: Write, E: Write>(
     let mut bytes = Vec::new(alloc);
     match custody.fetch(alloc, reference, name.as_bytes(), &mut bytes) {
         Ok(()) => print_bytes(&bytes, out),
+        Err(Refused::Refusal(refusal)) => tell_refusal(&refusal, err),
+        Err(Refused::Failure(failure)) => tell(&failure, err),
+    }
+}
+
+fn explain<V: Volume, S: Alter, W: Write, E: Write>(
+    alloc: Global,
+    custody: &mut Custody<V, S>,
+    tld: &Tld,
+    day: Day,
+    rev: Revision,
+    out: &mut W,
+    err: &mut E,
+) -> u8
+    ensures status { IsExitStatus result }
+    ensures explains { Explains custody.old tld.now day rev custody.new result (record { before = W.contents out.old; after = W.contents out.new }) (record { before = E.contents err.old; after = E.contents err.new }) }
+{
+    match custody.explain(alloc, tld, day, rev) {
+        Ok(explanation) => match format!(in alloc; "{explanation}\n") {
+            Ok(line) => print_bytes(line.as_bytes(), out),
+            Err(_) => tell(&Failure::NoMemory, err),
+        },
         Err(Refused::Refusal(refusal)) => tell_refusal(&refusal, err),
         Err(Refused::Failure(failure)) => tell(&failure, err),
     }

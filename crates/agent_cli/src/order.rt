@@ -8,7 +8,8 @@ use answer_lines::VolumeNumber;
 use clap::error::ErrorKind;
 use custody_machine::{Command, ExitStatus, Failure, Statement};
 use deposit_name::{Reference, Tld};
-use schedule::Sec;
+use desk::Revision;
+use schedule::{Day, Sec};
 use std::alloc::AllocError;
 use std::fmt;
 
@@ -51,6 +52,12 @@ pub enum Deed<'a> {
     Report {
         tld: Tld,
     },
+    /// Why a revision has failed is told.
+    Explain {
+        tld: Tld,
+        day: Day,
+        rev: Revision,
+    },
     Digests {
         tld: Tld,
     },
@@ -75,6 +82,7 @@ impl Deed<'_> {
             | Deed::Due
             | Deed::Fetch { .. }
             | Deed::Report { .. }
+            | Deed::Explain { .. }
             | Deed::Digests { .. }
             | Deed::State
             | Deed::Audit => true,

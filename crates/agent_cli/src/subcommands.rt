@@ -20,6 +20,7 @@ pub(crate) enum Subcommand {
     Release,
     Fetch,
     Report,
+    Explain,
     Digests,
     State,
     Audit,
@@ -27,7 +28,7 @@ pub(crate) enum Subcommand {
 }
 
 /// All of them, in the order in which help shows them.
-pub(crate) const SUBCOMMANDS: [Subcommand; 17] = [
+pub(crate) const SUBCOMMANDS: [Subcommand; 18] = [
     Subcommand::Init,
     Subcommand::Register,
     Subcommand::Put,
@@ -41,6 +42,7 @@ pub(crate) const SUBCOMMANDS: [Subcommand; 17] = [
     Subcommand::Release,
     Subcommand::Fetch,
     Subcommand::Report,
+    Subcommand::Explain,
     Subcommand::Digests,
     Subcommand::State,
     Subcommand::Audit,
@@ -98,6 +100,25 @@ const TLD: Word<'static> = Word {
     id: "TLD",
     form: WordForm::Place,
     help: "Top-level domain of the registry",
+};
+
+const DATE: Word<'static> = Word {
+    id: "date",
+    form: WordForm::Option {
+        value: "DATE",
+        required: true,
+    },
+    help: "Day of the deposit, such as 2026-08-02",
+};
+
+const REVISION: Word<'static> = Word {
+    id: "revision",
+    form: WordForm::Count {
+        least: 0,
+        most: 99,
+        required: true,
+    },
+    help: "Resend number of the deposit, 0 to 99; 0 if the names of its parts end in R0.ryde",
 };
 
 static INIT: Row<'static> = Row {
@@ -178,14 +199,7 @@ static PUT: Row<'static> = Row {
 const STATEMENT_WORDS: &[Word<'static>] = &[
     DIR,
     TLD,
-    Word {
-        id: "date",
-        form: WordForm::Option {
-            value: "DATE",
-            required: true,
-        },
-        help: "Day of the deposit, such as 2026-08-02",
-    },
+    DATE,
     Word {
         id: "kind",
         form: WordForm::Option {
@@ -194,15 +208,7 @@ const STATEMENT_WORDS: &[Word<'static>] = &[
         },
         help: "Kind of the deposit: full, diff or incr",
     },
-    Word {
-        id: "revision",
-        form: WordForm::Count {
-            least: 0,
-            most: 99,
-            required: true,
-        },
-        help: "Resend number of the deposit, 0 to 99; 0 if the names of its parts end in R0.ryde",
-    },
+    REVISION,
     Word {
         id: "parts",
         form: WordForm::Count {
@@ -432,6 +438,14 @@ static REPORT: Row<'static> = Row {
     words: &[DIR, TLD],
 };
 
+static EXPLAIN: Row<'static> = Row {
+    name: "explain",
+    about: "Prints why a revision failed",
+    after: "Prints: FAILURE-NN REASON\n\
+            Example: escrow explain vault example --date 2026-08-02 --revision 0",
+    words: &[DIR, TLD, DATE, REVISION],
+};
+
 static DIGESTS: Row<'static> = Row {
     name: "digests",
     about: "Prints the SHA-256 of each part of a registry, held or dropped",
@@ -524,6 +538,7 @@ impl Subcommand {
             Subcommand::Release => &RELEASE,
             Subcommand::Fetch => &FETCH,
             Subcommand::Report => &REPORT,
+            Subcommand::Explain => &EXPLAIN,
             Subcommand::Digests => &DIGESTS,
             Subcommand::State => &STATE,
             Subcommand::Audit => &AUDIT,

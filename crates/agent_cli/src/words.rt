@@ -44,6 +44,7 @@ fn deed_in<'a>(subcommand: Subcommand, matches: &ArgMatches<'a>) -> Result<Deed<
         Subcommand::Report => Ok(Deed::Report {
             tld: tld_in(matches)?,
         }),
+        Subcommand::Explain => explain_in(matches),
         Subcommand::Digests => Ok(Deed::Digests {
             tld: tld_in(matches)?,
         }),
@@ -107,6 +108,15 @@ fn fetch_in<'a>(matches: &ArgMatches<'a>) -> Result<Deed<'a>, WordFault>
     let reference = reference_in(matches)?;
     let name = text_in(matches, "NAME");
     Ok(Deed::Fetch { reference, name })
+}
+
+fn explain_in<'a>(matches: &ArgMatches<'a>) -> Result<Deed<'a>, WordFault>
+    ensures { AnswersAsRead deed_meaning (DeedReading Subcommand.Explain (rows_of (found_of matches.now))) result }
+{
+    let tld = tld_in(matches)?;
+    let day = date_in(matches)?;
+    let rev = revision_in(matches);
+    Ok(Deed::Explain { tld, day, rev })
 }
 
 /// The order that the words of a subcommand give.

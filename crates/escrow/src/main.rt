@@ -166,6 +166,7 @@ fn carry_out<R: Read + Drop, W: Write, E: Write>(
         | Deed::Sweep { .. }
         | Deed::Fetch { .. }
         | Deed::Report { .. }
+        | Deed::Explain { .. }
         | Deed::Digests { .. }
         | Deed::State
         | Deed::Audit => act_in_folder(rt, order, &[], out, err),
