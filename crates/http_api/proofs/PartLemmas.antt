@@ -111,6 +111,6 @@ module _ {V S : Type 0} {g : volume.Ghosts V} {database : Ghosts S} (head : Head
   part_done a b taken is plans e len told now old new outcome (body, has, step) =
       let wanted = Do (Receive plan.target.first.now body) in
       let whole = subst (λ (t : Option ℕ). IfSome b (λ rest. IsDeclaredBody (rest_of head ++ rest) t body)) (sym told) has in
-      let means = subst (λ (r : Route). Means (target_of r plan.target.first.now plan.target.second.now) body wanted) (sym e) refl in
+      let means = subst (λ (r : Route). Means (target_of r plan.target.first.now plan.target.second.now plan.target.third.now) body wanted) (sym e) refl in
       let asks = asks_wanted head plan a b taken is plans body whole wanted means in
       (wanted, asks, step)

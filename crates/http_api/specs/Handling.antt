@@ -1,5 +1,5 @@
 -- What is answered to a request, and what the agent does for it.
-use Rattle.std.specs.Prelude.{◌≡◌, ◌≤◌, ◌-◌, ◌^◌, ◌⊎◌, ◌++◌, [], ◌∷◌, ℕ, List, codes, length, Option, Some, None, Result, Ok, Err, IfSome, is_some, if◌then◌else◌}
+use Rattle.std.specs.Prelude.{◌≡◌, ◌≤◌, ◌-◌, ◌^◌, ◌⊎◌, ◌++◌, [], ◌∷◌, ℕ, List, codes, length, Option, Some, None, Result, Ok, Err, IfSome, IsOk, is_some, if◌then◌else◌}
 use Rattle.std.specs.FinMap.{get}
 use Rattle.std.specs.Global.{Vec}
 use Rattle.vault_volume.specs.declared.volume.Volume as volume
@@ -19,9 +19,12 @@ use Rattle.custody.specs.declared.answers.Reply.{Reply}
 use Rattle.custody.specs.declared.answers.Refused as not_accepted
 use Rattle.custody.specs.declared.answers.Refused.TheVariants as refused
 use Rattle.custody.specs.declared.custody.Custody.{Custody}
+use Rattle.custody.specs.declared.explanation.Explanation.{Explanation}
 use Rattle.custody.specs.Custody.{HasApplied, open_custody_of, is_open}
 use Rattle.custody.specs.OpenCustody.{current_records}
 use Rattle.custody.specs.Opening.{free_blocks}
+use Rattle.custody.specs.Explaining.{HasExplained}
+use Rattle.custody.specs.ExplanationText.{explanation_text}
 use Rattle.custody.specs.Fetching.{HasFetched}
 use Rattle.custody.specs.Receiving.{HasEndedEarly}
 use Rattle.answer_lines.specs.Digests.{digests_text}
@@ -35,7 +38,7 @@ use Rattle.http_request.specs.declared.faults.RequestFault.TheVariants as fault
 use Rattle.http_request.specs.declared.errors.RequestError.{RequestError}
 use Rattle.http_request.specs.declared.errors.RequestError.TheVariants as error
 use Rattle.http_request.specs.Body.{IsDeclaredBody}
-use Rattle.http_request.specs.Action.{RequestAction, Do, Report, State, Due, Digests, Fetch}
+use Rattle.http_request.specs.Action.{RequestAction, Do, Report, Explain, State, Due, Digests, Fetch}
 use Rattle.http_api.specs.declared.status.ResponseStatus.{ResponseStatus}
 use Rattle.http_api.specs.declared.status.ResponseStatus.TheVariants as status
 use Rattle.http_api.specs.declared.response.Media.TheVariants.{Text, Bytes}
@@ -112,6 +115,15 @@ abbrev pub fetch_response : Result (List ℕ) not_accepted.Refused → HttpRespo
 fetch_response (Ok bytes) = http_response status.Done Bytes None bytes
 fetch_response (Err why) = refused_response why
 
+-- why a revision has failed, as a line, or what is in the way
+abbrev pub explanation_response : Result Explanation not_accepted.Refused → HttpResponse
+explanation_response (Ok told) = text_response status.Done (explanation_text told ++ 10 ∷ [])
+explanation_response (Err why) = refused_response why
+
+-- it is told, or that there is no memory for its line
+abbrev pub IsExplanationTold : Result Explanation not_accepted.Refused → HttpResponse → Type 0
+IsExplanationTold r answer = (answer ≡ explanation_response r) ⊎ (IsOk r × (answer ≡ no_memory_response))
+
 -- the text that is read, or what is in the way
 abbrev pub reading_response : Result (Vec ℕ) not_accepted.Refused → HttpResponse
 reading_response (Ok text) = text_response status.Done text.items
@@ -175,6 +187,7 @@ module _ {V S : Type 0} {g : volume.Ghosts V} {database : Ghosts S} where
   abbrev pub Performs : RequestAction → ℕ → Custody V S g database → HttpResponse → Custody V S g database → Type 0
   Performs (Do command) now old answer new = (r : Result Reply not_accepted.Refused) × HasApplied old command now r new × (answer ≡ response_of r)
   Performs (Report tld) now old answer new = (answer ≡ report_response old tld) × (new ≡ old)
+  Performs (Explain tld day rev) now old answer new = (r : Result Explanation not_accepted.Refused) × HasExplained old tld day rev r new × IsExplanationTold r answer
   Performs State now old answer new = (answer ≡ state_response old) × (new ≡ old)
   Performs Due now old answer new = (answer ≡ due_response old now) × (new ≡ old)
   Performs (Digests tld) now old answer new = (answer ≡ digests_response old tld) × (new ≡ old)
@@ -200,6 +213,7 @@ module _ {V S : Type 0} {g : volume.Ghosts V} {database : Ghosts S} where
   abbrev pub MayLackMemory : RequestAction → Custody V S g database → Type 0
   MayLackMemory (Do command) custody = ⊥
   MayLackMemory (Report tld) custody = 2 ^ 64 ≤ length (registry_report_text (current_records (open_custody_of custody)) tld)
+  MayLackMemory (Explain tld day rev) custody = ⊥
   MayLackMemory State custody = Unit {0}
   MayLackMemory Due custody = Unit {0}
   MayLackMemory (Digests tld) custody = Unit {0}

@@ -1,15 +1,16 @@
 //! What is told of faults, refusals, failures and replies, as responses.
 ghost use Rattle.std.specs.Prelude.{◌≡◌, Result, Ok};
 ghost use Rattle.http_api.specs.Responses.{response_view};
-ghost use Rattle.http_api.specs.Handling.{allowed_method, failure_response, fault_response, fault_row, new_record_status, refusal_response, refused_response, reading_response, response_of, reply_status};
+ghost use Rattle.http_api.specs.Handling.{IsExplanationTold, allowed_method, failure_response, fault_response, fault_row, new_record_status, refusal_response, refused_response, reading_response, response_of, reply_status};
 
 use crate::ResponseStatus;
 use crate::response::{Body, Response};
 use answer_lines::{failure_bytes, refusal_bytes};
-use custody::{Record, Refused, Reply};
+use custody::{Explanation, Record, Refused, Reply};
 use custody_machine::{Failure, HttpStatus, Refusal};
 use deposit_name::{LineBytes, append};
 use http_request::{Method, RequestFault};
+use std::alloc::Global;
 
 /// Number and text of a fault as a line, and the status.
 fn fault_row(fault: RequestFault) -> (&'static str, ResponseStatus)
@@ -134,6 +135,20 @@ pub(crate) fn reading_response(text: Result<Vec<u8>, Refused>) -> Response
             body: Body::Text(text),
         },
         Err(refused) => refused_response(&refused),
+    }
+}
+
+/// The line that tells why a revision has failed, or that there is no memory for it.
+pub(crate) fn explanation_response(alloc: Global, told: &Explanation) -> Response
+    ensures { IsExplanationTold (Ok told.now) (response_view result) }
+{
+    match format!(in alloc; "{told}\n") {
+        Ok(line) => Response {
+            status: ResponseStatus::Done,
+            allow: None,
+            body: Body::Text(line.into_bytes()),
+        },
+        Err(_) => failure_response(&Failure::NoMemory),
     }
 }
 

@@ -2,17 +2,19 @@
 ghost use Rattle.std.specs.Prelude.{◌≡◌, ◌≤◌, ◌++◌, ℕ, List, length, take, Err, Some, None, Result, IfOk, IfErr, IfSome, OnOk, OnErr};
 ghost use Rattle.std.specs.Io.KnownBytes.{Appends, Keeps};
 ghost use Rattle.desk.specs.Lines.{AppendsBeginning};
+ghost use Rattle.custody.specs.Explaining.{HasExplained};
 ghost use Rattle.custody.specs.Fetching.{HasFetched};
 ghost use Rattle.custody.specs.declared.answers.Refused as not_accepted;
+ghost use Rattle.custody.specs.declared.explanation.Explanation as explained;
 ghost use Rattle.http_request.specs.Errors.{IsRequestError, IsBodyError};
 ghost use Rattle.http_request.specs.ActionView.{action_view};
 ghost use Rattle.http_api.specs.Responses.{HttpResponse, message_view, response_view, response_bytes};
-ghost use Rattle.http_api.specs.Handling.{IsCompletedAs, ErrorLeaves, HasReceivedPart, IsRequestPerformed, IsNoCommand, IsServed, IsActionPerformed, IsRequestServed, fetch_response};
+ghost use Rattle.http_api.specs.Handling.{IsCompletedAs, ErrorLeaves, HasReceivedPart, IsExplanationTold, IsRequestPerformed, IsNoCommand, IsServed, IsActionPerformed, IsRequestServed, fetch_response};
 
 use crate::ResponseStatus;
 use crate::answering::{
-    failure_response, fault_response, reading_response, refusal_response, refused_response,
-    reply_response, response_of,
+    explanation_response, failure_response, fault_response, reading_response, refusal_response,
+    refused_response, reply_response, response_of,
 };
 use crate::reading::{digests_text, due_text, state_text};
 use crate::report::Report;
@@ -21,11 +23,12 @@ use answer_lines::WriteFailed;
 use custody::{Custody, ReceiveError};
 use custody_machine::{Failure, Refusal};
 use deposit_name::{Reference, Tld};
+use desk::Revision;
 use http_request::{
     RequestAction, RequestError, RequestFault, Route, Routes, meaning_of, read_body, read_head,
     read_plan,
 };
-use schedule::Sec;
+use schedule::{Day, Sec};
 use sqlite::Alter;
 use std::alloc::{AllocError, Global};
 use std::fmt;
@@ -99,6 +102,23 @@ fn fetch<V: Volume, S: Alter>(
     }
 }
 
+/// Explains why a revision has failed.
+fn explain<V: Volume, S: Alter>(
+    alloc: Global,
+    custody: &mut Custody<V, S>,
+    tld: &Tld,
+    day: Day,
+    rev: Revision,
+) -> Response
+    ensures { (r : Result explained.Explanation not_accepted.Refused)
+        × HasExplained custody.old tld.now day rev r custody.new × IsExplanationTold r (response_view result) }
+{
+    match custody.explain(alloc, tld, day, rev) {
+        Ok(told) => explanation_response(alloc, &told),
+        Err(refused) => refused_response(&refused),
+    }
+}
+
 /// Has the custody do what is asked, once.
 fn perform<V: Volume, S: Alter>(
     alloc: Global,
@@ -113,6 +133,9 @@ fn perform<V: Volume, S: Alter>(
             alloc, command, now,
         ))),
         RequestAction::Report(tld) => PendingResponse::Report(*tld),
+        RequestAction::Explain(tld, day, rev) => {
+            PendingResponse::Response(explain(alloc, custody, tld, *day, *rev))
+        }
         RequestAction::State => {
             PendingResponse::Response(reading_response(state_text(alloc, custody)))
         }

@@ -65,7 +65,7 @@ module _ (head : Head) (plan : Plan) where
     part_sent e = of_head head a b taken is _ (λ h at short input after known reads.
         let rest = rest_of head ++ after in
         let planned = plans h at in
-        let names = subst (λ (r : Route). NamesTarget h.target (target_of r plan.target.first.now plan.target.second.now)) e planned.0 in
+        let names = subst (λ (r : Route). NamesTarget h.target (target_of r plan.target.first.now plan.target.second.now plan.target.third.now)) e planned.0 in
         (h, rest, reads, short, (plan.target.first.now, names), planned.2 rest))
 
     -- what the head means by its plan is what the input asks

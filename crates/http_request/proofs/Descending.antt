@@ -173,6 +173,9 @@ module _ {K : Type 0} where
   abbrev pub two_parts : K → List ℕ × K
   two_parts k = (param_token ∷ slash ∷ param_token ∷ [], k)
 
+  abbrev pub three_parts : K → List ℕ × K
+  three_parts k = (param_token ∷ slash ∷ param_token ∷ slash ∷ param_token ∷ [], k)
+
   -- one route, with a parameter
   pub part_found : (k : K) (part : List ℕ) → IsSegment part → IsText part → seek 0 (one_part k ∷ []) part ≡ Some k
   part_found k [] s text = absurd (let some = s.some in omega arith)
@@ -190,6 +193,16 @@ module _ {K : Type 0} where
       let tails : RowsOf K = (slash ∷ param_token ∷ [], k) ∷ [] in
       take_segment (two_parts k ∷ []) tails tails b part rest (rw (first_small b part text) refl) refl refl (rw (cuts_slash (b ∷ part) s.some plain) refl) refl plain
       ∙ behind_slash k rest s2 text2
+
+  -- one route, with three parameters
+  pub triple_found : (k : K) (part next rest : List ℕ) → IsSegment part → IsText part → IsSegment next → IsText next → IsSegment rest → IsText rest
+      → seek 0 (three_parts k ∷ []) (part ++ slash ∷ (next ++ slash ∷ rest)) ≡ Some k
+  triple_found k [] next rest s text s2 text2 s3 text3 = absurd (let some = s.some in omega arith)
+  triple_found k (b ∷ part) next rest s text s2 text2 s3 text3 =
+      let plain = plain_segment (b ∷ part) s in
+      let tails : RowsOf K = (slash ∷ param_token ∷ slash ∷ param_token ∷ [], k) ∷ [] in
+      take_segment (three_parts k ∷ []) tails tails b part (next ++ slash ∷ rest) (rw (first_small b part text) refl) refl refl (rw (cuts_slash (b ∷ part) s.some plain) refl) refl plain
+      ∙ seek_byte tails slash (next ++ slash ∷ rest) refl ∙ pair_found k next rest s2 text2 s3 text3
 
   -- two routes, of which the second ends where the first has its second parameter
   pub first_found : (k m : K) (part rest : List ℕ) → IsSegment part → IsText part → IsSegment rest → IsText rest → seek 0 (two_parts k ∷ one_part m ∷ []) (part ++ slash ∷ rest) ≡ Some k

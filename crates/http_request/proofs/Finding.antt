@@ -85,12 +85,12 @@ one_named path bytes t u nt nu =
     ap₂ target_at route parts
 
 -- what the code takes of a match's parameters
-pub two_taken : (route : Route) (taken mid rest : List (List ℕ × List ℕ)) (a b : List ℕ) → IsNextValue taken a mid → IsNextValue mid b rest
-    → IsTargetOf route (map (λ p. p.1) taken) (target_of route a b)
-two_taken route taken mid rest a b one two s text = ap (target_at route) (by (row_of route).names (few_parameters route) taken one s text)
+pub three_taken : (route : Route) (taken mid late rest : List (List ℕ × List ℕ)) (a b c : List ℕ) → IsNextValue taken a mid → IsNextValue mid b late → IsNextValue late c rest
+    → IsTargetOf route (map (λ p. p.1) taken) (target_of route a b c)
+three_taken route taken mid late rest a b c one two three s text = ap (target_at route) (by (row_of route).names (few_parameters route) taken one s text)
   where
-    by : (names : List (List ℕ)) → length names ≤ 2 → (taken : List (List ℕ × List ℕ)) → IsNextValue taken a mid → AreSegments names (map (λ p. p.1) taken)
-        → AllByRecursion IsUtf8 (map (λ p. p.1) taken) → take (length names) (a ∷ b ∷ []) ≡ map (λ p. p.1) taken
+    by : (names : List (List ℕ)) → length names ≤ 3 → (taken : List (List ℕ × List ℕ)) → IsNextValue taken a mid → AreSegments names (map (λ p. p.1) taken)
+        → AllByRecursion IsUtf8 (map (λ p. p.1) taken) → take (length names) (a ∷ b ∷ c ∷ []) ≡ map (λ p. p.1) taken
     by [] small [] one s text = refl
     by [] small (p ∷ ps) one s text = absurd s
     by (name ∷ names) small [] one s text = absurd s
@@ -98,7 +98,13 @@ two_taken route taken mid rest a b one two s text = ap (target_at route) (by (ro
     by (name ∷ []) small (p ∷ q ∷ ps) one s text = absurd s.1
     by (name ∷ next ∷ names) small (p ∷ []) one s text = absurd s.1
     by (name ∷ next ∷ []) small (p ∷ q ∷ []) one s text =
-        let second = subst (λ (l : List (List ℕ × List ℕ)). IsNextValue l b rest) one.0 two in
+        let second = subst (λ (l : List (List ℕ × List ℕ)). IsNextValue l b late) one.0 two in
         ap₂ (λ (x y : List ℕ). x ∷ y ∷ []) (one.1 text.0) (second.1 text.1.0)
     by (name ∷ next ∷ []) small (p ∷ q ∷ r ∷ ps) one s text = absurd s.1.1
-    by (name ∷ next ∷ more ∷ names) small (p ∷ q ∷ ps) one s text = absurd (omega arith)
+    by (name ∷ next ∷ last ∷ names) small (p ∷ q ∷ []) one s text = absurd s.1.1
+    by (name ∷ next ∷ last ∷ []) small (p ∷ q ∷ r ∷ []) one s text =
+        let second = subst (λ (l : List (List ℕ × List ℕ)). IsNextValue l b late) one.0 two in
+        let third = subst (λ (l : List (List ℕ × List ℕ)). IsNextValue l c rest) second.0 three in
+        ap₂ (λ (x : List ℕ) (ys : List (List ℕ)). x ∷ ys) (one.1 text.0) (ap₂ (λ (x y : List ℕ). x ∷ y ∷ []) (second.1 text.1.0) (third.1 text.1.1.0))
+    by (name ∷ next ∷ last ∷ []) small (p ∷ q ∷ r ∷ t ∷ ps) one s text = absurd s.1.1.1
+    by (name ∷ next ∷ last ∷ more ∷ names) small (p ∷ q ∷ r ∷ ps) one s text = absurd (omega arith)

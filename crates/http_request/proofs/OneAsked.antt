@@ -5,7 +5,7 @@ use Rattle.std.proofs.lemmas.Bool.{cases_lt, eqb-true, true_from_ne_false}
 use Rattle.schedule.specs.Text.{day_text}
 use Rattle.schedule.proofs.TextLemmas.{day_text-injective}
 use Rattle.deposit_name.specs.declared.kinds.Kind.{Kind}
-use Rattle.deposit_name.proofs.NameLemmas.{kind_text-injective}
+use Rattle.deposit_name.proofs.NameLemmas.{decimal-injective, kind_text-injective}
 use Rattle.desk.specs.declared.grounds.Ground.{Ground}
 use Rattle.desk.specs.Grounds.{ground_text}
 use Rattle.custody_records.specs.Form.{ground_in}
@@ -22,7 +22,7 @@ use Rattle.http_request.specs.inside.BodyReading.{registration_text, statement_f
 use Rattle.http_request.specs.Paths.{Target, is_target_byte, limit_of, method_of}
 use Rattle.http_request.specs.declared.routes.Route.{Route}
 use Rattle.http_request.specs.declared.routes.Route.TheVariants as of
-use Rattle.http_request.specs.Action.{RequestAction, Do, IsStatement, Means, MeansAt, texts_of_statement, handover_texts, held_day_texts}
+use Rattle.http_request.specs.Action.{RequestAction, Do, Explain, IsStatement, Means, MeansAt, texts_of_statement, handover_texts, held_day_texts}
 use Rattle.http_request.proofs.BodyLemmas.{some_same, one_written, registration_back, statement_back, release_back, hold_back}
 use Rattle.http_request.proofs.Finding.{one_named}
 use Rattle.http_request.proofs.PlanLemmas.{fault_at, fault_back, same_body}
@@ -53,33 +53,35 @@ one_statement s t h k e =
     let id : s.id ≡ t.id = ap (λ (x : StatementTexts). x.id) e in
     made_same s.tld t.tld s.day t.day s.kind t.kind s.rev t.rev s.parts t.parts s.id t.id tld day kind rev parts id
 
-one_meaning : (route : Route) (first second body : List ℕ) (v w : RequestAction) → MeansAt route first second body v → MeansAt route first second body w → v ≡ w
-one_meaning of.Registry tld second body v w (in_form, (d, day, json, is)) (in_form2, (e, day2, json2, is2)) =
+one_meaning : (route : Route) (first second third body : List ℕ) (v w : RequestAction) → MeansAt route first second third body v → MeansAt route first second third body w → v ≡ w
+one_meaning of.Registry tld second third body v w (in_form, (d, day, json, is)) (in_form2, (e, day2, json2, is2)) =
     let texts = one_written registration_text registration_json registration_back (day_text d) (day_text e) (one_value body _ _ json json2) in
     is ∙ ap (λ (n : ℕ). Do (Register tld n)) (day_text-injective d e day day2 texts) ∙ sym is2
-one_meaning of.Deposit name second body v w h k = h ∙ sym k
-one_meaning of.Statements first second body v w (s, form, json, is) (t, form2, json2, is2) =
+one_meaning of.Deposit name second third body v w h k = h ∙ sym k
+one_meaning of.Statements first second third body v w (s, form, json, is) (t, form2, json2, is2) =
     let same = one_statement s t form form2 (one_written statement_fields statement_json statement_back (texts_of_statement s) (texts_of_statement t) (one_value body _ _ json json2)) in
     is ∙ ap (λ (x : statement.Statement). Do (Statement x)) same ∙ sym is2
-one_meaning of.Check tld date body v w (in_form, (d, day, text, is)) (in_form2, (e, day2, text2, is2)) =
+one_meaning of.Check tld date third body v w (in_form, (d, day, text, is)) (in_form2, (e, day2, text2, is2)) =
     is ∙ ap (λ (n : ℕ). Do (Check tld n)) (day_text-injective d e day day2 (sym text ∙ text2)) ∙ sym is2
-one_meaning of.Release reference second body v w (in_form, (tld, reason, known, json, is)) (in_form2, (tld2, reason2, known2, json2, is2)) =
+one_meaning of.Release reference second third body v w (in_form, (tld, reason, known, json, is)) (in_form2, (tld2, reason2, known2, json2, is2)) =
     let texts = one_written release_fields release_json release_back (handover_texts tld reason) (handover_texts tld2 reason2) (one_value body _ _ json json2) in
     let same_tld : tld ≡ tld2 = ap (λ (x : ReleaseTexts). x.tld) texts in
     let same_ground = ground_text-injective reason reason2 (ap (λ (x : ReleaseTexts). x.reason) texts) in
     is ∙ ap₂ (λ (t : List ℕ) (r : Ground). Do (Release reference t r)) same_tld same_ground ∙ sym is2
-one_meaning of.ReleasedPart reference name body v w h k = h.1 ∙ sym k.1
-one_meaning of.Hold reference second body v w (in_form, (tld, d, known, day, json, is)) (in_form2, (tld2, e, known2, day2, json2, is2)) =
+one_meaning of.ReleasedPart reference name third body v w h k = h.1 ∙ sym k.1
+one_meaning of.Hold reference second third body v w (in_form, (tld, d, known, day, json, is)) (in_form2, (tld2, e, known2, day2, json2, is2)) =
     let texts = one_written hold_fields hold_json hold_back (held_day_texts tld d) (held_day_texts tld2 e) (one_value body _ _ json json2) in
     let same_tld : tld ≡ tld2 = ap (λ (x : HoldTexts). x.tld) texts in
     let same_day = day_text-injective d e day day2 (ap (λ (x : HoldTexts). x.date) texts) in
     is ∙ ap₂ (λ (t : List ℕ) (n : ℕ). Do (Hold reference t n)) same_tld same_day ∙ sym is2
-one_meaning of.Lift reference second body v w h k = h.1 ∙ sym k.1
-one_meaning of.Notices tld second body v w h k = h.1 ∙ sym k.1
-one_meaning of.Digests tld second body v w h k = h.1 ∙ sym k.1
-one_meaning of.State first second body v w h k = h ∙ sym k
-one_meaning of.Due first second body v w h k = h ∙ sym k
-one_meaning of.Purges first second body v w h k = h ∙ sym k
+one_meaning of.Lift reference second third body v w h k = h.1 ∙ sym k.1
+one_meaning of.Notices tld second third body v w h k = h.1 ∙ sym k.1
+one_meaning of.Reasons tld date revision body v w (in_form, (d, m, day, rev, text, number, is)) (in_form2, (e, n, day2, rev2, text2, number2, is2)) =
+    is ∙ ap₂ (λ (x y : ℕ). Explain tld x y) (day_text-injective d e day day2 (sym text ∙ text2)) (decimal-injective m n rev rev2 (sym number ∙ number2)) ∙ sym is2
+one_meaning of.Digests tld second third body v w h k = h.1 ∙ sym k.1
+one_meaning of.State first second third body v w h k = h ∙ sym k
+one_meaning of.Due first second third body v w h k = h ∙ sym k
+one_meaning of.Purges first second third body v w h k = h ∙ sym k
 
 -- ---- a fault is told by its number, and by the method of a 405
 
@@ -98,7 +100,7 @@ module _ (h : RequestHead) (rest : List ℕ) where
       let is3 = subst (λ (x : Target). IsRequestBody (limit_of x) h rest body2) same is2 in
       let means3 = subst (λ (x : Target). Means x body2 w) same means2 in
       let bodies = same_body h rest (limit_of t) body2 body is3 is in
-      one_meaning t.route _ _ body v w means (subst (λ (b : List ℕ). Means t b w) bodies means3)
+      one_meaning t.route _ _ _ body v w means (subst (λ (b : List ℕ). Means t b w) bodies means3)
 
   one_method : (f g : RequestFault) → HasFault h rest f → HasFault h rest g → HasNoFaultBelow (fault_number f) h rest → fault_number f ≡ 4 → fault_number g ≡ 4 → f ≡ g
   one_method f g s t below p q =

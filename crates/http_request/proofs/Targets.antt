@@ -9,12 +9,12 @@ use Rattle.matchit.specs.Level.{IsText}
 use Rattle.matchit.specs.Params.{walk}
 use Rattle.matchit.proofs.OnLiterals.{matchit_on_literals}
 use Rattle.http_request.specs.declared.routes.Route.{Route}
-use Rattle.http_request.specs.declared.routes.Route.TheVariants.{Registry, Deposit, Statements, Check, Release, ReleasedPart, Hold, Lift, Notices, Digests, State, Due, Purges}
+use Rattle.http_request.specs.declared.routes.Route.TheVariants.{Registry, Deposit, Statements, Check, Release, ReleasedPart, Hold, Lift, Notices, Reasons, Digests, State, Due, Purges}
 use Rattle.http_request.specs.Paths.{Target, IsSegment, NamesTarget, path_text, row_of, target_at, with_slashes}
 use Rattle.http_request.specs.RouteTable.{entry_of, route_table}
 use Rattle.http_request.proofs.Seeking.{Fits, SomeRow, TakesByte, seek_row}
-use Rattle.http_request.proofs.Descending.{are_literal, behind, seek_bytes, part_found, pair_found, first_found, second_found, plain_segment}
-use Rattle.http_request.proofs.Walks.{one_walked, two_walked}
+use Rattle.http_request.proofs.Descending.{are_literal, behind, seek_bytes, part_found, pair_found, triple_found, first_found, second_found, plain_segment}
+use Rattle.http_request.proofs.Walks.{one_walked, two_walked, three_walked}
 
 abbrev pub AreSegments : List (List ℕ) → List (List ℕ) → Type 0
 AreSegments names parts = AllZip (λ name part. IsSegment part) names parts
@@ -42,6 +42,14 @@ module _ (P : List (List ℕ) → Type 0) where
     with_two other h (part ∷ rest ∷ []) s = h part rest s.0 s.1.0
     with_two other h (part ∷ rest ∷ more ∷ parts) s = absurd s.1.1
 
+    with_three : (other last : List ℕ) → ((part next rest : List ℕ) → IsSegment part → IsSegment next → IsSegment rest → P (part ∷ next ∷ rest ∷ [])) → (parts : List (List ℕ))
+        → AreSegments (name ∷ other ∷ last ∷ []) parts → P parts
+    with_three other last h [] s = absurd s
+    with_three other last h (part ∷ []) s = absurd s.1
+    with_three other last h (part ∷ next ∷ []) s = absurd s.1.1
+    with_three other last h (part ∷ next ∷ rest ∷ []) s = h part next rest s.0 s.1.0 s.1.1.0
+    with_three other last h (part ∷ next ∷ rest ∷ more ∷ parts) s = absurd s.1.1.1
+
 IsText-append : (a b : List ℕ) → IsText (a ++ b) → IsText a × IsText b
 IsText-append [] b h = (tt, h)
 IsText-append (x ∷ a) b h = let r = IsText-append a b h.1 in ((h.0, r.0), r.1)
@@ -61,7 +69,7 @@ module _ (front : List ℕ) (k : RouteOf Route) where
 
   -- what the router keeps of a route
   record IsKept (names : List (List ℕ)) : Type 0 where
-    few : length names ≤ 2
+    few : length names ≤ 3
     text : list_all (λ b. ltb b 256) front ≡ true
     pattern : k.pattern ≡ front ++ tokens names
     reads : (parts : List (List ℕ)) → AreSegments names parts → IsReadAt parts
@@ -91,24 +99,43 @@ module _ (front : List ℕ) (k : RouteOf Route) where
         text = small;
         pattern = pattern;
         reads = with_one IsReadAt name (λ part s. (
-          walk_same _ (place ∷ []) (front ++ part) pattern places ∙ ap values (one_walked front k.text part place small),
+          walk_same _ (place ∷ []) (front ++ part) pattern places ∙ ap values (one_walked front k.text small part place s.some),
           λ text. by_rows rs part is (finds part s (IsText-append front part text).1),
         ));
       }
 
-      module _ (other : List ℕ) (next : ℕ × ℕ) (short : length front < 100) (pattern : k.pattern ≡ front ++ param_token ∷ slash ∷ param_token ∷ []) (places : k.names ≡ place ∷ next ∷ []) where
-        two_kept : (rs : RowsOf (RouteOf Route)) → behind front route_table ≡ rs
+      module _ (other : List ℕ) (next : ℕ × ℕ) (short : length front < 100) where
+        two_kept : k.pattern ≡ front ++ param_token ∷ slash ∷ param_token ∷ [] → k.names ≡ place ∷ next ∷ [] → (rs : RowsOf (RouteOf Route)) → behind front route_table ≡ rs
             → ((part rest : List ℕ) → IsSegment part → IsText part → IsSegment rest → IsText rest → seek 0 rs (part ++ slash ∷ rest) ≡ Some k) → IsKept (name ∷ other ∷ [])
-        two_kept rs is finds = record {
+        two_kept pattern places rs is finds = record {
           few = omega arith;
           text = small;
           pattern = pattern;
           reads = with_two IsReadAt name other (λ part rest s t. (
-            walk_same _ (place ∷ next ∷ []) (front ++ (part ++ slash ∷ rest)) pattern places ∙ ap values (two_walked front k.text part rest place next small short (plain_segment part s)),
+            walk_same _ (place ∷ next ∷ []) (front ++ (part ++ slash ∷ rest)) pattern places ∙ ap values (two_walked front k.text small short part s.some (plain_segment part s) place next rest t.some),
             λ text.
                 let u = (IsText-append front (part ++ slash ∷ rest) text).1 in
                 let v = IsText-append part (slash ∷ rest) u in
                 by_rows rs (part ++ slash ∷ rest) is (finds part rest s v.0 t v.1.1),
+          ));
+        }
+
+        three_kept : (last : List ℕ) (final : ℕ × ℕ) → k.pattern ≡ front ++ param_token ∷ slash ∷ param_token ∷ slash ∷ param_token ∷ [] → k.names ≡ place ∷ next ∷ final ∷ []
+            → (rs : RowsOf (RouteOf Route)) → behind front route_table ≡ rs
+            → ((part more rest : List ℕ) → IsSegment part → IsText part → IsSegment more → IsText more → IsSegment rest → IsText rest → seek 0 rs (part ++ slash ∷ (more ++ slash ∷ rest)) ≡ Some k)
+            → IsKept (name ∷ other ∷ last ∷ [])
+        three_kept last final pattern places rs is finds = record {
+          few = omega arith;
+          text = small;
+          pattern = pattern;
+          reads = with_three IsReadAt name other last (λ part more rest s t u. (
+            walk_same _ (place ∷ next ∷ final ∷ []) (front ++ (part ++ slash ∷ (more ++ slash ∷ rest))) pattern places
+                ∙ ap values (three_walked front k.text small short part s.some (plain_segment part s) place next more rest final t.some (plain_segment more t) u.some),
+            λ text.
+                let v = (IsText-append front (part ++ slash ∷ (more ++ slash ∷ rest)) text).1 in
+                let w = IsText-append part (slash ∷ (more ++ slash ∷ rest)) v in
+                let x = IsText-append more (slash ∷ rest) w.1.1 in
+                by_rows rs (part ++ slash ∷ (more ++ slash ∷ rest)) is (finds part more rest s w.0 t x.0 u x.1.1),
           ));
         }
 
@@ -123,6 +150,7 @@ row_kept ReleasedPart = two_kept _ _ refl refl _ _ _ _ (omega arith) refl refl _
 row_kept Hold = one_kept _ _ refl refl _ _ refl refl _ refl (part_found _)
 row_kept Lift = one_kept _ _ refl refl _ _ refl refl _ refl (part_found _)
 row_kept Notices = one_kept _ _ refl refl _ _ refl refl _ refl (part_found _)
+row_kept Reasons = three_kept _ _ refl refl _ _ _ _ (omega arith) _ _ refl refl _ refl (triple_found _)
 row_kept Digests = one_kept _ _ refl refl _ _ refl refl _ refl (part_found _)
 row_kept State = none_kept _ _ refl refl refl refl _ refl refl
 row_kept Due = none_kept _ _ refl refl refl refl _ refl refl
@@ -136,7 +164,7 @@ pub target_walked : (target : Target) → AreSegments (row_of target.route).name
     → read_at (entry_of target.route) (path_text target.route target.parameters) ≡ target.parameters
 target_walked target s = ((row_kept target.route).reads target.parameters s).0
 
-pub few_parameters : (route : Route) → length (row_of route).names ≤ 2
+pub few_parameters : (route : Route) → length (row_of route).names ≤ 3
 few_parameters route = (row_kept route).few
 
 -- ---- what is found has its form
@@ -187,7 +215,7 @@ fitting_entry path found ((t, k) ∷ rest) (is, of, all) (inr h) = fitting_entry
 
 entries : AreEntries route_table
 unfolding matchit_on_literals
-entries = (refl, refl, (refl, refl, (refl, refl, (refl, refl, (refl, refl, (refl, refl, (refl, refl, (refl, refl, (refl, refl, (refl, refl, (refl, refl, (refl, refl, (refl, refl, tt)))))))))))))
+entries = (refl, refl, (refl, refl, (refl, refl, (refl, refl, (refl, refl, (refl, refl, (refl, refl, (refl, refl, (refl, refl, (refl, refl, (refl, refl, (refl, refl, (refl, refl, (refl, refl, tt))))))))))))))
 
 pub found_target : (path : List ℕ) → IsText path → (found : RouteOf Route) → first route_table path ≡ Some found → IsFoundAt path found
 found_target path text found e =

@@ -1,28 +1,32 @@
 -- What the parameters of a route take of a path that has its form.
-use Rattle.std.proofs.Common.{◌≡◌, ◌<◌, ◌≤◌, ℕ, suc, ◌+◌, ◌-◌, List, [], ◌∷◌, ◌++◌, length, take, drop, get_or, true, false, ltb, leb, ◌==◌, ◌&&◌, refl, sym, ap, ap₂, ◌∙◌, arith, append-nil, append_assoc, length-append}
+use Rattle.std.proofs.Common.{◌≡◌, ◌<◌, ◌≤◌, ℕ, ◌+◌, ◌-◌, List, [], ◌∷◌, ◌++◌, length, take, drop, get_or, true, false, ltb, leb, ◌==◌, ◌&&◌, refl, sym, ap, ap₂, ◌∙◌, arith, append-nil, length-append}
 use Rattle.std.specs.List.{list_all}
 use Rattle.std.proofs.lemmas.Bool.{and_parts, and_right, lt-ltb, le-ltb, le-leb, cond-false}
-use Rattle.std.proofs.lemmas.List.{drop_at, take_at, get_or_at}
+use Rattle.std.proofs.lemmas.List.{drop-drop, drop_at, take_at, get_or-drop, length-drop}
 use Rattle.matchit.specs.Rows.{param_token}
 use Rattle.matchit.specs.Seek.{has_slash, slash}
 use Rattle.matchit.specs.Params.{wild_from, wild_stop, part_of, after_token, walk}
 use Rattle.http_request.proofs.Descending.{segment_to}
 
--- what stands between two places
-part_at : (front part rest : List ℕ) (start end : ℕ) → start ≡ length front → end ≡ length front + length part → part_of (front ++ (part ++ rest)) start end ≡ part
-part_at front part rest start end from to =
-    let whole : List ℕ = front ++ (part ++ rest) in
-    let counted : length whole ≡ length front + (length part + length rest) = length-append front (part ++ rest) ∙ ap (λ n. length front + n) (length-append part rest) in
-    let ordered : leb start end ≡ true = le-leb start end (omega arith) in
-    let within : leb end (length whole) ≡ true = le-leb end (length whole) (omega arith) in
-    let behind : drop start whole ≡ part ++ rest = drop_at front (part ++ rest) start (sym from) in
-    let inside : take (end - start) (part ++ rest) ≡ part = take_at part rest (end - start) (omega arith) in
-    rw (ordered, within, behind) inside
+module _ (whole : List ℕ) (at : ℕ) where
+  -- what stands behind some bytes
+  further : (front rest : List ℕ) (n : ℕ) → drop at whole ≡ front ++ rest → length front ≡ n → drop (at + n) whole ≡ rest
+  further front rest n is long = sym (drop-drop n at whole) ∙ ap (drop n) is ∙ drop_at front rest n long
 
-part_rest : (front part : List ℕ) (start end : ℕ) → start ≡ length front → end ≡ length (front ++ part) → part_of (front ++ part) start end ≡ part
-part_rest front part start end from to =
-    let same : front ++ (part ++ []) ≡ front ++ part = ap (λ l. front ++ l) (append-nil part) in
-    ap (λ (l : List ℕ). part_of l start end) (sym same) ∙ part_at front part [] start end from (to ∙ length-append front part)
+  -- at least so many bytes there are
+  reaches : (front rest : List ℕ) → drop at whole ≡ front ++ rest → 0 < length front → at + (length front + length rest) ≡ length whole
+  reaches front rest is some =
+      let left : length (front ++ rest) ≡ length whole - at = sym (ap length is) ∙ length-drop at whole in
+      omega (arith, left, length-append front rest, some)
+
+  -- what stands between two places
+  part_at : (part rest : List ℕ) (end : ℕ) → drop at whole ≡ part ++ rest → 0 < length part → end ≡ at + length part → part_of whole at end ≡ part
+  part_at part rest end is some to =
+      let counted = reaches part rest is some in
+      let ordered : leb at end ≡ true = le-leb at end (omega (arith, to)) in
+      let within : leb end (length whole) ≡ true = le-leb end (length whole) (omega (arith, to, counted)) in
+      let inside : take (end - at) (part ++ rest) ≡ part = take_at part rest (end - at) (omega (arith, to)) in
+      rw (ordered, within, is) inside
 
 wild_bytes : (bytes t : List ℕ) (len token at : ℕ) → list_all (λ b. ltb b 256) bytes ≡ true → at + length bytes ≤ len
     → wild_from (bytes ++ param_token ∷ t) len token at ≡ (token + length bytes, at + length bytes)
@@ -38,66 +42,90 @@ wild_bytes (x ∷ bytes) t len token at small fits =
     let b : (at + 1) + length bytes ≡ at + length (x ∷ bytes) = omega arith in
     rw (parts.0, before) (more ∙ ap₂ (λ (x y : ℕ). (x, y)) a b)
 
--- the last parameter takes the rest
-stop_last : (front path : List ℕ) (token at : ℕ) → token ≡ length front → wild_stop (front ++ param_token ∷ []) token path at ≡ length path
-stop_last front path token at here =
-    let pattern : List ℕ = front ++ param_token ∷ [] in
-    let counted : length pattern ≡ length front + 1 = length-append front (param_token ∷ []) in
-    let last : ltb (token + 1) (length pattern) ≡ false = le-ltb (token + 1) (length pattern) (omega arith) in
-    cond-false (ltb token (length pattern) && (get_or pattern token 0 == param_token) && ltb (token + 1) (length pattern)) _ (length path)
-    (and_right (ltb token (length pattern) && (get_or pattern token 0 == param_token)) (ltb (token + 1) (length pattern)) last)
+module _ (pattern path : List ℕ) (token at : ℕ) where
+  -- the last parameter takes the rest
+  stop_last : drop token pattern ≡ param_token ∷ [] → wild_stop pattern token path at ≡ length path
+  stop_last is =
+      let counted = reaches pattern token (param_token ∷ []) [] is (omega arith) in
+      let last : ltb (token + 1) (length pattern) ≡ false = le-ltb (token + 1) (length pattern) (omega (arith, counted)) in
+      cond-false (ltb token (length pattern) && (get_or pattern token 0 == param_token) && ltb (token + 1) (length pattern)) _ (length path)
+      (and_right (ltb token (length pattern) && (get_or pattern token 0 == param_token)) (ltb (token + 1) (length pattern)) last)
 
--- a parameter before a slash takes its segment
-stop_segment : (front bytes part rest : List ℕ) (token at : ℕ) → token ≡ length front → at ≡ length bytes → has_slash part ≡ false
-    → wild_stop (front ++ param_token ∷ slash ∷ param_token ∷ []) token (bytes ++ (part ++ slash ∷ rest)) at ≡ at + length part
-stop_segment front bytes part rest token at here there plain =
-    let pattern : List ℕ = front ++ param_token ∷ slash ∷ param_token ∷ [] in
-    let counted : length pattern ≡ length front + 3 = length-append front (param_token ∷ slash ∷ param_token ∷ []) in
-    let first : ltb token (length pattern) ≡ true = lt-ltb token (length pattern) (omega arith) in
-    let second : ltb (token + 1) (length pattern) ≡ true = lt-ltb (token + 1) (length pattern) (omega arith) in
-    let wild : get_or pattern token 0 ≡ param_token = get_or_at front param_token (slash ∷ param_token ∷ []) 0 token (sym here) in
-    let same : (front ++ param_token ∷ []) ++ (slash ∷ param_token ∷ []) ≡ pattern = append_assoc front (param_token ∷ []) (slash ∷ param_token ∷ []) in
-    let suffix : drop (token + 1) pattern ≡ slash ∷ param_token ∷ [] =
-    ap (drop (token + 1)) (sym same) ∙ drop_at (front ++ param_token ∷ []) (slash ∷ param_token ∷ []) (token + 1) (omega (arith, length-append front (param_token ∷ []))) in
-    let behind : drop at (bytes ++ (part ++ slash ∷ rest)) ≡ part ++ slash ∷ rest = drop_at bytes (part ++ slash ∷ rest) at (sym there) in
-    let taken : length (part ++ slash ∷ []) ≡ length part + 1 = length-append part (slash ∷ []) in
-    rw (first, second, wild, suffix, behind, segment_to part rest plain, taken) (omega arith)
+  -- a parameter before a slash takes its segment
+  stop_segment : (more part rest : List ℕ) → drop token pattern ≡ param_token ∷ slash ∷ more → drop at path ≡ part ++ slash ∷ rest → has_slash part ≡ false
+      → wild_stop pattern token path at ≡ at + length part
+  stop_segment more part rest is behind plain =
+      let counted = reaches pattern token (param_token ∷ slash ∷ []) more is (omega arith) in
+      let first : ltb token (length pattern) ≡ true = lt-ltb token (length pattern) (omega (arith, counted)) in
+      let second : ltb (token + 1) (length pattern) ≡ true = lt-ltb (token + 1) (length pattern) (omega (arith, counted)) in
+      let here : token ≡ token + 0 = omega arith in
+      let wild : get_or pattern token 0 ≡ param_token = ap (λ n. get_or pattern n 0) here ∙ sym (get_or-drop token pattern 0 0) ∙ ap (λ l. get_or l 0 0) is in
+      let suffix : drop (token + 1) pattern ≡ slash ∷ more = further pattern token (param_token ∷ []) (slash ∷ more) 1 is refl in
+      let taken : length (part ++ slash ∷ []) ≡ length part + 1 = length-append part (slash ∷ []) in
+      rw (first, second, wild, suffix, behind, segment_to part rest plain, taken) (omega arith)
 
-pub one_walked : (bytes text part : List ℕ) (name : ℕ × ℕ) → list_all (λ b. ltb b 256) bytes ≡ true
-    → walk (bytes ++ param_token ∷ []) text (bytes ++ part) (name ∷ []) 0 0 ≡ (part_of text name.0 name.1, part) ∷ []
-one_walked bytes text part name small =
-    let path : List ℕ = bytes ++ part in
-    let from = wild_bytes bytes [] (length path) 0 0 small (omega (arith, length-append bytes part)) in
-    let zero_plus : 0 + length bytes ≡ length bytes = omega arith in
-    let stop = stop_last bytes path (0 + length bytes) (0 + length bytes) zero_plus in
-    let taken = part_rest bytes part (0 + length bytes) (length path) zero_plus refl in
-    rw (from, stop, taken) refl
+module _ (pattern text path : List ℕ) (name : ℕ × ℕ) (bytes : List ℕ) (small : list_all (λ b. ltb b 256) bytes ≡ true) (token at : ℕ) where
+  -- the next parameter is the last
+  last_walked : (part : List ℕ) → drop token pattern ≡ bytes ++ param_token ∷ [] → drop at path ≡ bytes ++ part → 0 < length part → at ≤ length path
+      → walk pattern text path (name ∷ []) token at ≡ (part_of text name.0 name.1, part) ∷ []
+  last_walked part is behind some within =
+      let there : length (bytes ++ part) ≡ length path - at = sym (ap length behind) ∙ length-drop at path in
+      let counted : at + (length bytes + length part) ≡ length path = omega (arith, there, length-append bytes part, within, some) in
+      let from = wild_bytes bytes [] (length path) token at small (omega (arith, counted)) in
+      let stop = stop_last pattern path (token + length bytes) (at + length bytes) (further pattern token bytes (param_token ∷ []) (length bytes) is refl) in
+      let rest : drop (at + length bytes) path ≡ part ++ [] = further path at bytes part (length bytes) behind refl ∙ sym (append-nil part) in
+      let taken = part_at path (at + length bytes) part [] (length path) rest some (omega (arith, counted)) in
+      rw (is, from, stop, taken) refl
 
-pub two_walked : (bytes text part rest : List ℕ) (name other : ℕ × ℕ) → list_all (λ b. ltb b 256) bytes ≡ true → length bytes < 100 → has_slash part ≡ false
-    → walk (bytes ++ param_token ∷ slash ∷ param_token ∷ []) text (bytes ++ (part ++ slash ∷ rest)) (name ∷ other ∷ []) 0 0
-    ≡ (part_of text name.0 name.1, part) ∷ (part_of text other.0 other.1, rest) ∷ []
-two_walked bytes text part rest name other small short plain =
-    let pattern : List ℕ = bytes ++ param_token ∷ slash ∷ param_token ∷ [] in
-    let path : List ℕ = bytes ++ (part ++ slash ∷ rest) in
-    let counted : length path ≡ length bytes + (length part + suc (length rest)) = length-append bytes (part ++ slash ∷ rest) ∙ ap (λ n. length bytes + n) (length-append part (slash ∷ rest)) in
-    let n : ℕ = 0 + length bytes in
-    let zero_plus : n ≡ length bytes = omega arith in
-    let from = wild_bytes bytes (slash ∷ param_token ∷ []) (length path) 0 0 small (omega arith) in
-    let stop = stop_segment bytes bytes part rest n n zero_plus zero_plus plain in
-    let taken = part_at bytes part (slash ∷ rest) n (n + length part) zero_plus (omega arith) in
-    let token : after_token n ≡ n + 1 = omega arith in
-    let fronted : (bytes ++ param_token ∷ []) ++ (slash ∷ param_token ∷ []) ≡ pattern = append_assoc bytes (param_token ∷ []) (slash ∷ param_token ∷ []) in
-    let suffix : drop (n + 1) pattern ≡ slash ∷ param_token ∷ [] =
-    ap (drop (n + 1)) (sym fronted) ∙ drop_at (bytes ++ param_token ∷ []) (slash ∷ param_token ∷ []) (n + 1) (omega (arith, length-append bytes (param_token ∷ []))) in
-    let before : ltb (n + length part) (length path) ≡ true = lt-ltb (n + length part) (length path) (omega arith) in
-    let whole_pattern : (bytes ++ param_token ∷ slash ∷ []) ++ param_token ∷ [] ≡ pattern = append_assoc bytes (param_token ∷ slash ∷ []) (param_token ∷ []) in
-    let stop2 : wild_stop pattern ((n + 1) + 1) path ((n + length part) + 1) ≡ length path =
-    ap (λ (p : List ℕ). wild_stop p ((n + 1) + 1) path ((n + length part) + 1)) (sym whole_pattern)
-    ∙ stop_last (bytes ++ param_token ∷ slash ∷ []) path ((n + 1) + 1) ((n + length part) + 1) (omega (arith, length-append bytes (param_token ∷ slash ∷ []))) in
-    let whole_path : (bytes ++ (part ++ slash ∷ [])) ++ rest ≡ path = append_assoc bytes (part ++ slash ∷ []) rest ∙ ap (λ l. bytes ++ l) (append_assoc part (slash ∷ []) rest) in
-    let here : (n + length part) + 1 ≡ length (bytes ++ (part ++ slash ∷ [])) =
-    omega (arith, length-append bytes (part ++ slash ∷ []), length-append part (slash ∷ [])) in
-    let taken2 : part_of path ((n + length part) + 1) (length path) ≡ rest =
-    ap (λ (p : List ℕ). part_of p ((n + length part) + 1) (length path)) (sym whole_path)
-    ∙ part_rest (bytes ++ (part ++ slash ∷ [])) rest ((n + length part) + 1) (length path) here (ap length (sym whole_path)) in
-    rw (from, stop, taken, token, suffix, before, stop2, taken2) refl
+  -- a slash stands behind the next parameter
+  segment_walked : (more part rest : List ℕ) (others : List (ℕ × ℕ)) → drop token pattern ≡ bytes ++ param_token ∷ slash ∷ more → drop at path ≡ bytes ++ (part ++ slash ∷ rest) → 0 < length part
+      → has_slash part ≡ false → at ≤ length path → token + length bytes < 200
+      → walk pattern text path (name ∷ others) token at ≡ (part_of text name.0 name.1, part) ∷ walk pattern text path others ((token + length bytes) + 1) ((at + length bytes) + length part)
+  segment_walked more part rest others is behind some plain within few =
+      let there : length (bytes ++ (part ++ slash ∷ rest)) ≡ length path - at = sym (ap length behind) ∙ length-drop at path in
+      let from = wild_bytes bytes (slash ∷ more) (length path) token at small (omega (arith, there, length-append bytes (part ++ slash ∷ rest), length-append part (slash ∷ rest), within, some)) in
+      let here = further path at bytes (part ++ slash ∷ rest) (length bytes) behind refl in
+      let stop = stop_segment pattern path (token + length bytes) (at + length bytes) more part rest (further pattern token bytes (param_token ∷ slash ∷ more) (length bytes) is refl) here plain in
+      let taken = part_at path (at + length bytes) part (slash ∷ rest) ((at + length bytes) + length part) here some refl in
+      let next : after_token (token + length bytes) ≡ (token + length bytes) + 1 = omega (arith, few) in
+      rw (is, from, stop, taken, next) refl
+
+module _ (bytes text : List ℕ) (small : list_all (λ b. ltb b 256) bytes ≡ true) where
+  pub one_walked : (part : List ℕ) (name : ℕ × ℕ) → 0 < length part → walk (bytes ++ param_token ∷ []) text (bytes ++ part) (name ∷ []) 0 0 ≡ (part_of text name.0 name.1, part) ∷ []
+  one_walked part name some = last_walked (bytes ++ param_token ∷ []) text (bytes ++ part) name bytes small 0 0 part refl refl some (omega arith)
+
+  module _ (short : length bytes < 100) (part : List ℕ) (some : 0 < length part) (plain : has_slash part ≡ false) (name other : ℕ × ℕ) where
+    pub two_walked : (rest : List ℕ) → 0 < length rest → walk (bytes ++ param_token ∷ slash ∷ param_token ∷ []) text (bytes ++ (part ++ slash ∷ rest)) (name ∷ other ∷ []) 0 0
+        ≡ (part_of text name.0 name.1, part) ∷ (part_of text other.0 other.1, rest) ∷ []
+    two_walked rest some2 =
+        let pattern : List ℕ = bytes ++ param_token ∷ slash ∷ param_token ∷ [] in
+        let path : List ℕ = bytes ++ (part ++ slash ∷ rest) in
+        let n : ℕ = 0 + length bytes in
+        let first = segment_walked pattern text path name bytes small 0 0 (param_token ∷ []) part rest (other ∷ []) refl refl some plain (omega arith) (omega arith) in
+        let token = further pattern n (param_token ∷ []) (slash ∷ param_token ∷ []) 1 (further pattern 0 bytes _ (length bytes) refl refl) refl in
+        let behind = further path n part (slash ∷ rest) (length part) (further path 0 bytes _ (length bytes) refl refl) refl in
+        let within = reaches path 0 bytes (part ++ slash ∷ rest) refl in
+        let second = last_walked pattern text path other (slash ∷ []) refl (n + 1) (n + length part) rest token behind some2
+        (omega (arith, length-append bytes (part ++ slash ∷ rest), length-append part (slash ∷ rest))) in
+        first ∙ ap (λ l. (part_of text name.0 name.1, part) ∷ l) second
+
+    pub three_walked : (next rest : List ℕ) (last : ℕ × ℕ) → 0 < length next → has_slash next ≡ false → 0 < length rest
+        → walk (bytes ++ param_token ∷ slash ∷ param_token ∷ slash ∷ param_token ∷ []) text (bytes ++ (part ++ slash ∷ (next ++ slash ∷ rest))) (name ∷ other ∷ last ∷ []) 0 0
+        ≡ (part_of text name.0 name.1, part) ∷ (part_of text other.0 other.1, next) ∷ (part_of text last.0 last.1, rest) ∷ []
+    three_walked next rest last some2 plain2 some3 =
+        let pattern : List ℕ = bytes ++ param_token ∷ slash ∷ param_token ∷ slash ∷ param_token ∷ [] in
+        let path : List ℕ = bytes ++ (part ++ slash ∷ (next ++ slash ∷ rest)) in
+        let counted : length path ≡ length bytes + (length part + (1 + (length next + (1 + length rest)))) =
+        omega (arith, length-append bytes (part ++ slash ∷ (next ++ slash ∷ rest)), length-append part (slash ∷ (next ++ slash ∷ rest)), length-append next (slash ∷ rest)) in
+        let n : ℕ = 0 + length bytes in
+        let m : ℕ = (n + 1) + 1 in
+        let at : ℕ = n + length part in
+        let at2 : ℕ = (at + 1) + length next in
+        let first = segment_walked pattern text path name bytes small 0 0 (param_token ∷ slash ∷ param_token ∷ []) part (next ++ slash ∷ rest) (other ∷ last ∷ []) refl refl some plain (omega arith) (omega arith) in
+        let token = further pattern n (param_token ∷ []) (slash ∷ param_token ∷ slash ∷ param_token ∷ []) 1 (further pattern 0 bytes _ (length bytes) refl refl) refl in
+        let behind = further path n part (slash ∷ (next ++ slash ∷ rest)) (length part) (further path 0 bytes _ (length bytes) refl refl) refl in
+        let second = segment_walked pattern text path other (slash ∷ []) refl (n + 1) at (param_token ∷ []) next rest (last ∷ []) token behind some2 plain2 (omega (arith, counted)) (omega arith) in
+        let token2 = further pattern m (param_token ∷ []) (slash ∷ param_token ∷ []) 1 (further pattern (n + 1) (slash ∷ []) _ 1 token refl) refl in
+        let behind2 = further path (at + 1) next (slash ∷ rest) (length next) (further path at (slash ∷ []) _ 1 behind refl) refl in
+        let third = last_walked pattern text path last (slash ∷ []) refl (m + 1) at2 rest token2 behind2 some3 (omega (arith, counted)) in
+        first ∙ ap (λ l. (part_of text name.0 name.1, part) ∷ l) (second ∙ ap (λ l. (part_of text other.0 other.1, next) ∷ l) third)

@@ -29,6 +29,7 @@ row_of of.ReleasedPart = route_row (codes "/releases/") (codes "reference" ∷ c
 row_of of.Hold = route_row (codes "/holds/") (codes "reference" ∷ []) Put (Some 4096) true
 row_of of.Lift = route_row (codes "/lifts/") (codes "reference" ∷ []) Post (Some 0) false
 row_of of.Notices = route_row (codes "/notices/") (codes "tld" ∷ []) Get None false
+row_of of.Reasons = route_row (codes "/reasons/") (codes "tld" ∷ codes "date" ∷ codes "revision" ∷ []) Get None false
 row_of of.Digests = route_row (codes "/digests/") (codes "tld" ∷ []) Get None false
 row_of of.State = route_row (codes "/state") [] Get None false
 row_of of.Due = route_row (codes "/due") [] Get None false

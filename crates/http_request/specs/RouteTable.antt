@@ -18,7 +18,7 @@ use Rattle.http_request.specs.contracts.routes.Route.{the_type}
 abbrev pub routes : List Route
 routes =
     route.Registry ∷ route.Deposit ∷ route.Statements ∷ route.Check ∷ route.Release ∷ route.ReleasedPart ∷ route.Hold
-    ∷ route.Lift ∷ route.Notices ∷ route.Digests ∷ route.State ∷ route.Due ∷ route.Purges ∷ []
+    ∷ route.Lift ∷ route.Notices ∷ route.Reasons ∷ route.Digests ∷ route.State ∷ route.Due ∷ route.Purges ∷ []
 
 -- a path of the route with the names of its parameters in braces, as a router reads it
 abbrev pub route_text : Route → List ℕ

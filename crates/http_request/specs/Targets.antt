@@ -9,12 +9,12 @@ use Rattle.http_request.specs.Paths as paths
 use Rattle.http_request.specs.declared.routes.Route.{Route}
 use Rattle.http_request.specs.declared.routes.Target.{Target}
 
--- of the two parameters of the code, as many as the route has
-abbrev pub target_of : Route → List ℕ → List ℕ → paths.Target
-target_of route first second = target_at route (take (length (row_of route).names) (first ∷ second ∷ []))
+-- of the three parameters of the code, as many as the route has
+abbrev pub target_of : Route → (first second third : List ℕ) → paths.Target
+target_of route first second third = target_at route (take (length (row_of route).names) (first ∷ second ∷ third ∷ []))
 
 abbrev pub target_view : Target → paths.Target
-target_view target = target_of target.route target.first.now target.second.now
+target_view target = target_of target.route target.first.now target.second.now target.third.now
 
 -- what the parameters of a match take of a path
 abbrev pub parameters_of : Params → List (List ℕ)

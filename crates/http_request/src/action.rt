@@ -1,6 +1,8 @@
 //! What a request asks for.
 use custody_machine::Command;
 use deposit_name::{Reference, Tld};
+use desk::Revision;
+use schedule::Day;
 
 /// What a request asks of the agent.
 #[derive(Clone, Copy)]
@@ -9,6 +11,8 @@ pub enum RequestAction<'a> {
     Do(Command<'a>),
     /// The report of a registry: its notices.
     Report(Tld),
+    /// Why a revision has failed.
+    Explain(Tld, Day, Revision),
     /// The records, and the free blocks.
     State,
     /// The days that a sweep would record as missed.

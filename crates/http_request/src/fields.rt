@@ -1,5 +1,5 @@
 //! The fields of a head.
-ghost use Rattle.std.specs.Prelude.{◌<◌, ℕ, length, map, All, IfSome, IfNone, Some};
+ghost use Rattle.std.specs.Prelude.{◌≡◌, ◌<◌, ◌≤◌, ℕ, length, map, All, IfSome, IfNone, Some, decimal};
 ghost use Rattle.httparse.specs.Spans.{IsHeaderWithin, header_bytes};
 ghost use Rattle.http_request.specs.RequestMeaning.{values_named};
 ghost use Rattle.http_request.specs.inside.Fields.{AreFieldValues, IsNumeral};
@@ -48,4 +48,17 @@ pub(crate) fn number_of(digits: &[u8]) -> Option<u64>
         number = number * 10 + u64::from(*b - b'0');
     }
     Some(number)
+}
+
+/// The number, at most 99, of which this is the one spelling.
+#[tactic(auto, using(deposit_name::proofs::NameLemmas::decimal_digits))]
+pub(crate) fn short_number_of(text: &[u8]) -> Option<u8>
+    ensures found { IfSome result (λ n. (n ≤ 99) × (text.now ≡ decimal n)) }
+    ensures only { (n : ℕ) → n ≤ 99 → text.now ≡ decimal n → result ≡ Some n }
+{
+    match text {
+        [ones @ b'0'..=b'9'] => Some(*ones - b'0'),
+        [tens @ b'1'..=b'9', ones @ b'0'..=b'9'] => Some((*tens - b'0') * 10 + (*ones - b'0')),
+        _ => None,
+    }
 }

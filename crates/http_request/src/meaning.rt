@@ -1,5 +1,5 @@
 //! What a target and a body stand for.
-ghost use Rattle.std.specs.Prelude.{◌≡◌, ◌≤◌, ℕ, List, Err, Some, IfErr, IfOk, IfSome, true};
+ghost use Rattle.std.specs.Prelude.{◌≡◌, ◌≤◌, ℕ, List, Err, Some, IfErr, IfOk, IfSome, decimal, true};
 ghost use Rattle.schedule.specs.Schedule.{IsDay};
 ghost use Rattle.schedule.specs.Text.{day_text};
 ghost use Rattle.deposit_name.specs.Identifiers.{IsReference, IsTld};
@@ -19,6 +19,7 @@ use crate::bodies::{
     HoldFields, ReleaseFields, StatementFields, hold_fields, registration_text, release_fields,
     statement_fields,
 };
+use crate::fields::short_number_of;
 use crate::{RequestAction, RequestError, RequestFault, Route, Target};
 use custody_machine::{Command, Statement};
 use deposit_name::{DepositId, Kind, Reference, Tld};
@@ -41,6 +42,14 @@ fn reference_of(text: &[u8]) -> Result<Reference, RequestFault>
     ensures form { IfErr result (λ fault. (fault ≡ RequestFault.Form) × ¬ IsReference text.now) }
 {
     Reference::parse(text).ok_or(RequestFault::Form)
+}
+
+/// The revision that a path names.
+fn revision_of(text: &[u8]) -> Option<Revision>
+    ensures found { IfSome result (λ rev. (rev ≤ 99) × (text.now ≡ decimal rev)) }
+    ensures only { (rev : ℕ) → rev ≤ 99 → text.now ≡ decimal rev → result ≡ Some rev }
+{
+    Revision::new(short_number_of(text)?)
 }
 
 /// The JSON value of a body.
@@ -236,6 +245,12 @@ pub fn meaning_of<'a>(
         }
         Route::Lift => Ok(RequestAction::Do(Command::Lift(reference_of(target.first)?))),
         Route::Notices => Ok(RequestAction::Report(tld_of(target.first)?)),
+        Route::Reasons => {
+            let tld = tld_of(target.first)?;
+            let day = read_day(target.second).ok_or(RequestFault::Form)?;
+            let rev = revision_of(target.third).ok_or(RequestFault::Form)?;
+            Ok(RequestAction::Explain(tld, day, rev))
+        }
         Route::Digests => Ok(RequestAction::Digests(tld_of(target.first)?)),
         Route::State => Ok(RequestAction::State),
         Route::Due => Ok(RequestAction::Due),

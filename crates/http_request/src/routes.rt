@@ -22,13 +22,14 @@ pub enum Route {
     Hold,
     Lift,
     Notices,
+    Reasons,
     Digests,
     State,
     Due,
     Purges,
 }
 
-const ROUTES: [Route; 13] = [
+const ROUTES: [Route; 14] = [
     Route::Registry,
     Route::Deposit,
     Route::Statements,
@@ -38,6 +39,7 @@ const ROUTES: [Route; 13] = [
     Route::Hold,
     Route::Lift,
     Route::Notices,
+    Route::Reasons,
     Route::Digests,
     Route::State,
     Route::Due,
@@ -85,6 +87,7 @@ impl Route {
             Route::Hold => row("/holds/{reference}", Method::Put, Some(4096)),
             Route::Lift => row("/lifts/{reference}", Method::Post, Some(0)),
             Route::Notices => row("/notices/{tld}", Method::Get, None),
+            Route::Reasons => row("/reasons/{tld}/{date}/{revision}", Method::Get, None),
             Route::Digests => row("/digests/{tld}", Method::Get, None),
             Route::State => row("/state", Method::Get, None),
             Route::Due => row("/due", Method::Get, None),
@@ -94,12 +97,13 @@ impl Route {
 }
 
 /// What a path names: its route, and its parameters in the order of the path.
-/// A route has none, the first, or both.
+/// A route has none, the first, the first two, or all.
 #[derive(Clone, Copy, Debug, PartialEq, Eq)]
 pub struct Target<'p> {
     pub route: Route,
     pub first: &'p [u8],
     pub second: &'p [u8],
+    pub third: &'p [u8],
 }
 
 impl<'p> Target<'p> {
@@ -157,10 +161,12 @@ fn target_of<'p>(route: Route, params: &Params<'_, 'p>) -> Target<'p>
     let mut values = params.iter();
     let first = next_value(&mut values);
     let second = next_value(&mut values);
+    let third = next_value(&mut values);
     Target {
         route,
         first,
         second,
+        third,
     }
 }
 
