@@ -28,7 +28,7 @@ use Rattle.custody.specs.Auditing.{as_refused}
 use Rattle.custody.proofs.OpenCustodyLemmas.{since_same}
 use Rattle.theorems.specs.Sessions.{IsServing, place_of}
 use Rattle.theorems.specs.Requests.{IsCustodyAt}
-use Rattle.theorems.specs.CustodyCalls.{CustodyCall, Applies, Receives, Fetches, Previews, Audits, IsReceived, IsCallEvent, IsStopWithinCall, HasCalled, CallsMove, CallsMayStop}
+use Rattle.theorems.specs.CustodyCalls.{CustodyCall, Applies, Receives, Fetches, Previews, Explains, Audits, IsReceived, IsCallEvent, IsStopWithinCall, HasCalled, CallsMove, CallsMayStop}
 use Rattle.theorems.proofs.RunMoves.{is_serving, is_shut, serves_on}
 use Rattle.theorems.proofs.SessionLemmas.{stop_at_rest}
 
@@ -66,7 +66,7 @@ stops_within (Shut records image doubt) command now rows left may = record {
 stops_within (Left before image) command now rows left may = absurd may
 
 -- a closed custody stays so
-stays_shut : (records : Records) (image : List ℕ) (doubt : Option TimedCommand) (b : Bool) → Moves (Shut records image doubt) (other_call_event b) (Shut records image doubt)
+pub stays_shut : (records : Records) (image : List ℕ) (doubt : Option TimedCommand) (b : Bool) → Moves (Shut records image doubt) (other_call_event b) (Shut records image doubt)
 stays_shut records image doubt true = refl
 stays_shut records image doubt false = refl
 
@@ -199,6 +199,8 @@ module _ {V S : Type 0} {g : volume.Ghosts V} {database : Ghosts S} (tells : g.t
   taken_by_call place (Fetches reference name answer) h honest did = other place (Fetches reference name answer) (stays_open answer)
       refl (λ pair. refl) h (λ is. (did.closed is).1) (λ is. ap is_none (did.closes is)) did.rested
   taken_by_call place (Previews stated now answer) h honest did = other place (Previews stated now answer) (stays_open answer)
+      refl (λ pair. refl) h (λ is. (did.closed is).1) (λ is. ap is_none (did.closes is)) did.rested
+  taken_by_call place (Explains tld day rev answer) h honest did = other place (Explains tld day rev answer) (stays_open answer)
       refl (λ pair. refl) h (λ is. (did.closed is).1) (λ is. ap is_none (did.closes is)) did.rested
   taken_by_call place (Audits answer) h honest did = other place (Audits answer) (stays_open (as_refused answer))
       refl (λ pair. refl) h (λ is. (did.closed is).1) (λ is. ap is_none (did.closes is)) did.rested

@@ -15,22 +15,26 @@ use Rattle.custody_machine.specs.Moves.{Place, Left}
 use Rattle.custody_machine.specs.FetchResult.{fetch_result}
 use Rattle.custody_machine.specs.Examples.{pair_of}
 use Rattle.custody_machine.specs.ExampleLife.{clock_moment, example_tld, new_reply, CustodyLives}
+use Rattle.custody_machine.specs.Explaining.{explain_refusal}
 use Rattle.custody_machine.proofs.SameValues.{text_decides}
+use Rattle.custody.specs.declared.explanation.Explanation.{Explanation}
+use Rattle.custody.specs.Explaining.{IsExplanation, IsSoundlyExplained}
 use Rattle.http_request.specs.RequestMeaning.{RequestMeans, SendsPart, asks_for, bad}
 use Rattle.http_request.specs.declared.faults.RequestFault.TheVariants as fault
-use Rattle.http_request.specs.Action.{Do, Fetch}
+use Rattle.http_request.specs.Action.{Do, Explain, Fetch}
 use Rattle.http_api.specs.declared.status.ResponseStatus.{ResponseStatus}
 use Rattle.http_api.specs.declared.status.ResponseStatus.TheVariants.{Created, Done}
 use Rattle.http_api.specs.Responses.{response_bytes}
-use Rattle.http_api.specs.Handling.{fault_response, fetch_response}
+use Rattle.http_api.specs.Handling.{explanation_response, fault_response, fetch_response}
 use Rattle.theorems.specs.Responses.{response_to}
 use Rattle.theorems.specs.Service.{Exchange, ServiceEvent, Exchanged, StoppedInRequest, OutsideRequest, IsBeginning, IsServiceHistory, ServiceMoves, ServiceMovesAlong, custody_events, delivered_exchange, delivered_exchanges, found_by_service}
 use Rattle.theorems.specs.Clients.{AreSent, AreTriesOf, ClientRequest, IsFoundOnce, IsSent}
-use Rattle.theorems.specs.ExampleService.{ServiceLives, ServicesLive, accepted_exchange, command_request, entries_once, entries_twice, example_answers, example_part, example_requests, events_behind_stop, events_until_stop, example_service, opening_in, part_answered, part_begun, part_record, part_request, part_response_lost, part_stopped, part_stopped_after, part_stopped_before, part_unanswered, read_answer, receive_hello, registration_request, state_of_part, state_of_registry, statement_after_stop, whole_exchange}
+use Rattle.theorems.specs.ExampleService.{ServiceLives, ServicesLive, accepted_exchange, command_request, entries_once, entries_twice, example_answers, example_explanation, example_part, example_requests, events_behind_stop, events_until_stop, example_service, opening_in, part_answered, part_begun, part_record, part_request, part_response_lost, part_stopped, part_stopped_after, part_stopped_before, part_unanswered, read_answer, receive_hello, registration_request, state_of_part, state_of_registry, statement_after_stop, whole_exchange}
 use Rattle.theorems.proofs.ExamplePlaces.{AreIn, AreKept, Parts, accepted_move, drop_kept, dropped_digests, dropped_on_volume, dropped_record, held_digests, held_on_volume, held_record, image, no_parts, none_digests, none_kept, none_on_volume, one_part, other_move, place_at, records_at, same_kept, state_at}
 use Rattle.theorems.proofs.ExampleStops.{IsLeft, opening_move, rest_move, part_left, part_rows, registry_left, registry_rows, stop_move}
 use Rattle.theorems.proofs.ExampleStates.{AreStates, checked_parts, dropped_parts, fetched, held_parts, is_received, left_out, lifted_parts, one_part_of, receiving, registering, released_parts, repeats_at, stated_parts, states, taken_in}
-use Rattle.theorems.proofs.ExampleRequests.{check_asks, fetch_asks, hold_asks, lift_asks, part_asks, part_sent, part_short, purge_asks, registration_asks, release_asks, statement_asks}
+use Rattle.theorems.proofs.ExampleReasons.{is_explained, is_failed, not_refused}
+use Rattle.theorems.proofs.ExampleRequests.{check_asks, fetch_asks, hold_asks, lift_asks, part_asks, part_sent, part_short, purge_asks, reasons_asks, registration_asks, release_asks, statement_asks}
 use Rattle.theorems.proofs.Told.{reply_told}
 
 -- ---- one event
@@ -63,6 +67,14 @@ module _ (state : State) (parts : Parts) (here : AreIn state parts) where
       let same = ap (λ s. fetch_result s reference name) (state_at state parts here.on_volume) ∙ is in
       let digest : (n : Name) → Rattle.custody_machine.specs.NameReading.read_name name ≡ Ok n → Rattle.custody_machine.specs.StoredState.HasDigestAt image (records_at state parts) (key_of n) = λ n read. here.digests (key_of n) in
       (tt, inl (asks_for (Fetch reference name), means, (Ok bytes, (same, digest), refl, refl)), is_whole (response_bytes (fetch_response (Ok bytes))), other_move state parts)
+
+  -- why a revision has failed is told
+  explained : (input tld : List ℕ) (day rev now : ℕ) (told : Explanation) → RequestMeans input (asks_for (Explain tld day rev)) → explain_refusal state tld day rev ≡ None → IsExplanation state tld day rev told
+      → ServiceMoves (place_at state parts) (Exchanged (whole_exchange input now (Some AnsweredOtherCall) (explanation_response (Ok told)))) (place_at state parts)
+  explained input tld day rev now told means held is =
+      let same = sym (state_at state parts here.on_volume) in
+      let sound : IsSoundlyExplained (records_at state parts) image tld day rev told = record { held = subst (λ s. explain_refusal s tld day rev ≡ None) same held; explained = subst (λ s. IsExplanation s tld day rev told) same is; sound = λ key hangs. here.digests key } in
+      (tt, inl (asks_for (Explain tld day rev), means, (Ok told, sound, refl, inl refl)), is_whole (response_bytes (explanation_response (Ok told))), other_move state parts)
 
   -- the service is stopped within a command
   stopped : (input : List ℕ) (command : Command) (now : ℕ) (rows : Rows) (new : State) (behind : Parts) → RequestMeans input (asks_for (Do command)) → IsLeft rows new behind → AreKept parts behind → history.IsFoundWithin state command now new
@@ -121,27 +133,33 @@ module _ (stated checked released on_hold lifted purged : State) (are : AreState
         place_with_hello stated,
         goes state_of_part stated part_left.here stated_in _ _ _ _ statement_asks are.stating,
         (
-          place_with_hello checked,
-          goes stated checked stated_in checked_in _ _ _ _ check_asks are.checking,
+          place_with_hello stated,
+          explained stated (one_part held_record) stated_in _ _ _ _ _ _ reasons_asks
+              (subst (λ s. explain_refusal s example_tld 20_667 0 ≡ None) (sym (is_failed stated _ are.stating)) not_refused)
+              (subst (λ s. IsExplanation s example_tld 20_667 0 example_explanation) (sym (is_failed stated _ are.stating)) is_explained),
           (
-            place_with_hello released,
-            goes checked released checked_in released_in _ _ _ _ release_asks are.releasing,
+            place_with_hello checked,
+            goes stated checked stated_in checked_in _ _ _ _ check_asks are.checking,
             (
-              place_with_hello on_hold,
-              goes released on_hold released_in on_hold_in _ _ _ _ hold_asks are.holding,
+              place_with_hello released,
+              goes checked released checked_in released_in _ _ _ _ release_asks are.releasing,
               (
                 place_with_hello on_hold,
-                goes on_hold on_hold on_hold_in on_hold_in _ _ _ _ purge_asks are.sparing,
+                goes released on_hold released_in on_hold_in _ _ _ _ hold_asks are.holding,
                 (
                   place_with_hello on_hold,
-                  handed_over on_hold (one_part held_record) on_hold_in _ _ _ _ _ fetch_asks (fetched _ _ _ _ _ _ are),
+                  goes on_hold on_hold on_hold_in on_hold_in _ _ _ _ purge_asks are.sparing,
                   (
-                    place_with_hello lifted,
-                    goes on_hold lifted on_hold_in lifted_in _ _ _ _ lift_asks are.lifting,
+                    place_with_hello on_hold,
+                    handed_over on_hold (one_part held_record) on_hold_in _ _ _ _ _ fetch_asks (fetched _ _ _ _ _ _ are),
                     (
-                      place_at purged (one_part dropped_record),
-                      served lifted (one_part held_record) lifted_in _ _ _ _ purged (one_part dropped_record) purge_asks purged_in drop_kept are.purging,
-                      refl,
+                      place_with_hello lifted,
+                      goes on_hold lifted on_hold_in lifted_in _ _ _ _ lift_asks are.lifting,
+                      (
+                        place_at purged (one_part dropped_record),
+                        served lifted (one_part held_record) lifted_in _ _ _ _ purged (one_part dropped_record) purge_asks purged_in drop_kept are.purging,
+                        refl,
+                      ),
                     ),
                   ),
                 ),
@@ -248,12 +266,15 @@ all_sent part is = (
     (
       sent_after _ (sent_once _ _ _ _ statement_asks) statement_after_stop.tries (tt, (tt, tt)),
       (
-        sent_once _ _ _ _ check_asks,
+        record { asks = reasons_asks; tries = tt; whole = refl; decided = refl },
         (
-          sent_once _ _ _ _ release_asks,
+          sent_once _ _ _ _ check_asks,
           (
-            sent_once _ _ _ _ hold_asks,
-            (sent_once _ _ _ _ purge_asks, (record { asks = fetch_asks; tries = tt; whole = refl; decided = refl }, (sent_once _ _ _ _ lift_asks, (sent_once _ _ _ _ purge_asks, tt)))),
+            sent_once _ _ _ _ release_asks,
+            (
+              sent_once _ _ _ _ hold_asks,
+              (sent_once _ _ _ _ purge_asks, (record { asks = fetch_asks; tries = tt; whole = refl; decided = refl }, (sent_once _ _ _ _ lift_asks, (sent_once _ _ _ _ purge_asks, tt)))),
+            ),
           ),
         ),
       ),

@@ -1,6 +1,7 @@
 -- What the requests of the example ask, by their bytes.
 use Rattle.std.proofs.Common.{◌≡◌, ◌<◌, ℕ, zero, suc, List, [], ◌∷◌, ◌++◌, length, codes, Option, Some, None, true, ltb, inr, refl, subst, arith}
-use Rattle.std.specs.Prelude.{All}
+use Rattle.std.specs.Prelude.{All, decimal}
+use Rattle.std.specs.Fmt.{digits}
 use Rattle.std.specs.List.{list_all}
 use Rattle.std.specs.Str.{IsUtf8}
 use Rattle.std.proofs.lemmas.Bool.{ltb-true}
@@ -24,8 +25,8 @@ use Rattle.http_request.specs.declared.routes.Route.TheVariants as route
 use Rattle.http_request.specs.Plans.{IsReached, FitsLength}
 use Rattle.http_request.specs.Body.{IsDeclaredBody}
 use Rattle.http_request.specs.Bodies.{IsJsonOf, registration_json, statement_json, release_json, hold_json}
-use Rattle.http_request.specs.Action.{RequestAction, Do, Fetch, Means, IsStatement, texts_of_statement, handover_texts, held_day_texts}
-use Rattle.theorems.specs.ExampleService.{registration_request, part_request, statement_request, check_request, release_request, hold_request, fetch_request, lift_request, purge_request}
+use Rattle.http_request.specs.Action.{RequestAction, Do, Explain, Fetch, Means, IsStatement, texts_of_statement, handover_texts, held_day_texts}
+use Rattle.theorems.specs.ExampleService.{registration_request, part_request, statement_request, reasons_request, check_request, release_request, hold_request, fetch_request, lift_request, purge_request}
 use Rattle.http_request.proofs.Finding.{target_text_utf8}
 use Rattle.http_request.proofs.PlanLemmas.{below_nine, short_asked, wanted_asked}
 
@@ -188,6 +189,27 @@ statement_plain = record {
 
 pub statement_asks : RequestMeans statement_request (asks_for (Do (Statement example_statement)))
 statement_asks = asks _ _ _ _ _ statement_plain statement_json_text (Do (Statement example_statement)) (omega arith, refl) (example_statement, in_form, statement_body, refl)
+
+reasons_day : codes "2026-08-02" ≡ day_text 20_667
+unfolding date_of
+reasons_day = refl
+
+reasons_revision : codes "0" ≡ decimal 0
+unfolding digits
+reasons_revision = refl
+
+reasons_plain : IsPlain reasons_request (head_of_request (codes "GET") (codes "/reasons/example/2026-08-02/0") []) [] (target_at route.Reasons (example_tld ∷ codes "2026-08-02" ∷ codes "0" ∷ [])) None
+unfolding httparse_on_literals
+reasons_plain = record {
+  reads = (head_in_form (codes "GET") (codes "/reasons/example/2026-08-02/0") [] (omega arith) refl (omega arith) refl refl no_fields, refl);
+  short = (omega arith, omega arith);
+  reached = record { bytes = refl; names = ((record { some = omega arith; no_slash = refl }, (record { some = omega arith; no_slash = refl }, (record { some = omega arith; no_slash = refl }, tt))), refl); method = refl };
+  uncoded = refl;
+  fits = refl;
+}
+
+pub reasons_asks : RequestMeans reasons_request (asks_for (Explain example_tld 20_667 0))
+reasons_asks = asks _ _ _ _ _ reasons_plain [] (Explain example_tld 20_667 0) refl ((is_tld-IsTld example_tld).0 refl, (20_667, 0, omega arith, omega arith, reasons_day, reasons_revision, refl))
 
 check_plain : IsPlain check_request (length_head (codes "POST") (codes "/checks/example/2026-08-03") (codes "0")) [] (target_at route.Check (example_tld ∷ codes "2026-08-03" ∷ [])) (Some 0)
 unfolding httparse_on_literals

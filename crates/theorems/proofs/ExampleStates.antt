@@ -30,7 +30,7 @@ use Rattle.theorems.specs.ExampleService.{example_part, example_failure, example
 
 module _ (s new : State) where
   -- what answers it as new is its effect
-  effect_is : (command : Command) (now : ℕ) (made : Record) → step s command now ≡ Accept (new_reply made) new → effect s command now ≡ Accept (new_reply made) new
+  pub effect_is : (command : Command) (now : ℕ) (made : Record) → step s command now ≡ Accept (new_reply made) new → effect s command now ≡ Accept (new_reply made) new
   effect_is command now made is =
       sym (ap (λ o. unless_kept s o (effect s command now)) (made_is_new s command now (new_reply made) new is refl)) ∙ (step_accepts s command now (new_reply made) new is).1
 
@@ -158,7 +158,7 @@ module _ (lives : CustodyLives) where
 
 -- ---- the parts of each
 
-nothing : {K X : Type 0} (R : K → K → Ordering) → entries (fin.empty {K = K} {X = X} {R = R}) ≡ []
+pub nothing : {K X : Type 0} (R : K → K → Ordering) → entries (fin.empty {K = K} {X = X} {R = R}) ≡ []
 nothing {X = X} R = of _ (sym (len-entries fin.empty) ∙ len-empty R X)
   where
     of : {A : Type 0} (es : List A) → length es ≡ 0 → es ≡ []

@@ -1,4 +1,4 @@
--- What a client reads of parts: no request is answered by 500, and a part is answered by the bytes that were sent.
+-- What a client reads of parts and failures: no request is answered by 500, a part is answered by the bytes that were sent, and a failure is explained as the state has it.
 use Rattle.std.proofs.Common.{◌≡◌, ◌≢◌, ◌⊎◌, inl, inr, ℕ, List, [], ◌∷◌, ◌++◌, Some, Bool, true, false, refl, sym, ◌∙◌, ap, subst, if◌then◌else◌, Result, Ok, Err}
 use Rattle.std.specs.Prelude.{Contains, is_some}
 use Rattle.std.specs.FinMap.{get}
@@ -24,22 +24,23 @@ use Rattle.custody_machine.proofs.Histories.{accepted_is_found}
 use Rattle.custody_machine.proofs.Moves.{no_damage_is_told}
 use Rattle.custody.specs.declared.answers.Refused as not_accepted
 use Rattle.custody.specs.declared.answers.Refused.TheVariants as refused
+use Rattle.custody.specs.declared.explanation.Explanation.{Explanation}
 use Rattle.answer_lines.specs.Digests.{digests_text}
 use Rattle.answer_lines.specs.State.{registry_report_text}
 use Rattle.http_request.specs.RequestMeaning.{RequestMeaning, RequestsMeanOne, asks_for, bad}
 use Rattle.http_request.specs.declared.faults.RequestFault.{RequestFault}
 use Rattle.http_request.specs.declared.faults.RequestFault.TheVariants as fault
 use Rattle.http_request.specs.Action as action
-use Rattle.http_request.specs.Action.{Do, Report, Due, Digests, Fetch}
+use Rattle.http_request.specs.Action.{Do, Report, Explain, Due, Digests, Fetch}
 use Rattle.http_api.specs.declared.status.ResponseStatus.{ResponseStatus}
 use Rattle.http_api.specs.declared.status.ResponseStatus.TheVariants.{Coded, Done}
 use Rattle.http_api.specs.Responses.{HttpResponse, text_response}
-use Rattle.http_api.specs.Handling.{failure_response, fault_response, fetch_response, no_memory_response, records_due, records_state, refusal_response, registry_digests, registry_report, registry_text}
+use Rattle.http_api.specs.Handling.{IsExplanationTold, explanation_response, failure_response, fault_response, fetch_response, no_memory_response, records_due, records_state, refusal_response, registry_digests, registry_report, registry_text}
 use Rattle.theorems.specs.Responses.{response_to, tells_accepted, tells_failure}
-use Rattle.theorems.specs.Service.{ServiceEvent, Exchange, Exchanged, FetchesPart, IsHandledIn, IsServiceHistory, Responds, TellsRecords, custody_events, found_by_service, state_by_service}
-use Rattle.theorems.specs.Reading.{IsReadAsReceived}
-use Rattle.theorems.specs.Clients.{AsksFor, AsksToFetch, MayFailAgain, NoInternalError, PartsAreFetched, PartsAreFetchedAsSent, ReleasesBytes}
-use Rattle.theorems.proofs.ReadingLemmas.{fetched_as_received, fetched_under, found_accepted, found_is_recorded}
+use Rattle.theorems.specs.Service.{ServiceEvent, Exchange, Exchanged, ExplainsRevision, FetchesPart, IsHandledIn, IsServiceHistory, Responds, TellsRecords, custody_events, found_by_service, state_by_service}
+use Rattle.theorems.specs.Reading.{IsExplainedInState, IsReadAsReceived}
+use Rattle.theorems.specs.Clients.{AsksFor, AsksToFetch, AsksWhy, MayFailAgain, NoInternalError, PartsAreFetched, PartsAreFetchedAsSent, ReleasesBytes, RevisionsAreExplained}
+use Rattle.theorems.proofs.ReadingLemmas.{explained_in_state, fetched_as_received, fetched_under, found_accepted, found_is_recorded}
 use Rattle.theorems.proofs.ServingLemmas.{Cut, custody_events-at, cut, ends_in, lived, moves_of, was_accepted}
 use Rattle.theorems.proofs.Told.{refusal_is_none, reply_told}
 
@@ -95,6 +96,15 @@ sound_fetch state (Serving records image) reference name (Err (refused.Failure f
 sound_fetch state (Shut records image doubt) reference name r here f = subst (λ a. TellsNoDamage (fetch_response a)) (sym f) (another (failure_response Closed) refl)
 sound_fetch state (Left rows image) reference name r here f = absurd f
 
+-- and so is each on which an explanation hangs
+sound_explanation : (state : State) (place : Place) (tld : List ℕ) (day rev : ℕ) (r : Result Explanation not_accepted.Refused) → IsInState state place → ExplainsRevision place tld day rev r → TellsNoDamage (explanation_response r)
+sound_explanation state (Serving records image) tld day rev (Ok told) here f = another (explanation_response (Ok told)) refl
+sound_explanation state (Serving records image) tld day rev (Err (refused.Refusal refusal)) here f = sound_refusal refusal
+sound_explanation state (Serving records image) tld day rev (Err (refused.Failure (Damaged damage))) here f = absurd (f.broken (here.1 f.place))
+sound_explanation state (Serving records image) tld day rev (Err (refused.Failure failure)) here f = sound_failure failure (λ damage is. cc)
+sound_explanation state (Shut records image doubt) tld day rev r here f = subst (λ a. TellsNoDamage (explanation_response a)) (sym f) (another (explanation_response (Err (refused.Failure Closed))) refl)
+sound_explanation state (Left rows image) tld day rev r here f = absurd f
+
 -- ---- no request is answered by 500
 
 module _ (first : State) (earlier later : List ServiceEvent) (x : Exchange) (h : IsServiceHistory first (earlier ++ Exchanged x ∷ later)) where
@@ -128,11 +138,17 @@ module _ (first : State) (earlier later : List ServiceEvent) (x : Exchange) (h :
   sound_records told each (Shut records image doubt) is = subst TellsNoDamage (sym is) (another (failure_response Closed) refl)
   sound_records told each (Left rows image) is = absurd is
 
+  -- nor an explanation, for which there may be no memory
+  sound_told : (r : Result Explanation not_accepted.Refused) → TellsNoDamage (explanation_response r) → IsExplanationTold r x.answer → TellsNoDamage x.answer
+  sound_told r sound (inl is) = subst TellsNoDamage (sym is) sound
+  sound_told r sound (inr none) = subst TellsNoDamage (sym none.1) (another no_memory_response refl)
+
   sound : (asked : RequestMeaning) → IsHandledIn asked place x → TellsNoDamage x.answer
   sound (bad fault.BodyShort) g = subst TellsNoDamage (sym g.0) (sound_fault fault.BodyShort)
   sound (bad found) g = subst TellsNoDamage (sym g.0) (sound_fault found)
   sound (asks_for (Do command)) g = subst TellsNoDamage (sym g.2) (sound_answer command g.0 g.1)
   sound (asks_for (Report tld)) g = sound_records (λ records. registry_report records tld) (λ records. sound_registry registry_report_text records tld) place g.1
+  sound (asks_for (Explain tld day rev)) g = sound_told g.0 (sound_explanation (state_by_service first earlier) place tld day rev g.0 in_state g.1) g.3
   sound (asks_for action.State) g = sound_records records_state (λ records. another (records_state records) refl) place g.1
   sound (asks_for Due) g = sound_records (λ records. records_due records x.now) (λ records. another (records_due records x.now) refl) place g.1
   sound (asks_for (Digests tld)) g = sound_records (λ records. registry_digests records tld) (λ records. sound_registry digests_text records tld) place g.1
@@ -144,6 +160,37 @@ module _ (first : State) (earlier later : List ServiceEvent) (x : Exchange) (h :
 
 pub no_internal_error : (first : State) → NoInternalError first
 no_internal_error first earlier later x h = all_sound first earlier later x h (responds first earlier later x h)
+
+-- ---- failures that are explained
+
+module _ (one_asked : RequestsMeanOne) (first : State) (earlier later : List ServiceEvent) (x : Exchange) (tld : List ℕ) (day rev : ℕ) (h : IsServiceHistory first (earlier ++ Exchanged x ∷ later)) (asks : AsksWhy x tld day rev) where
+  abbrev state_then : State
+  state_then = state_by_service first earlier
+
+  abbrev IsAnsweredWhy : Type 0
+  IsAnsweredWhy = ((told : Result Explanation not_accepted.Refused) × (x.answer ≡ explanation_response told) × IsExplainedInState state_then tld day rev told) ⊎ (x.answer ≡ failure_response Closed)
+
+  told_why : (told : Result Explanation not_accepted.Refused) → IsExplainedInState state_then tld day rev told → IsExplanationTold told x.answer → IsAnsweredWhy
+  told_why told explained (inl is) = inl (told, is, explained)
+  told_why told explained (inr none) = inl (Err (refused.Failure NoMemory), none.1, tt)
+
+  why_in : (there : Place) (r : Result Explanation not_accepted.Refused) → IsInState state_then there → ExplainsRevision there tld day rev r → IsExplanationTold r x.answer → IsAnsweredWhy
+  why_in (Serving records image) r here f is = told_why r (explained_in_state state_then records image here.0 here.1 tld day rev r f) is
+  why_in (Shut records image doubt) r here f (inl is) = inr (is ∙ ap explanation_response f)
+  why_in (Shut records image doubt) r here f (inr none) = inl (Err (refused.Failure NoMemory), none.1, tt)
+  why_in (Left rows image) r here f is = absurd f
+
+  answered_why : (there : Place) → IsInState state_then there → Responds there x → IsAnsweredWhy
+  answered_why there here (inl r) =
+      let g = subst (λ a. IsHandledIn a there x) (one_asked x.input r.0 (asks_for (Explain tld day rev)) r.1 asks) r.2 in
+      why_in there g.0 here g.1 g.3
+  answered_why there here (inr none) = inl (Err (refused.Failure NoMemory), none.1, tt)
+
+  explained : IsAnsweredWhy
+  explained = let here = cut first earlier (Exchanged x ∷ later) h in answered_why here.until.end (ends_in first earlier here.until) here.rest.1.1
+
+pub revisions_are_explained : RequestsMeanOne → (first : State) → RevisionsAreExplained first
+revisions_are_explained one_asked first earlier later x tld day rev h asks = explained one_asked first earlier later x tld day rev h asks
 
 -- ---- parts
 

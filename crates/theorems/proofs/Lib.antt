@@ -13,8 +13,17 @@ pub mod WholeLemmas
 pub mod EvidenceLemmas
 pub mod CallLemmas
 pub mod LifeLemmas
+pub mod AlikeLists
+pub mod EarlierNotices
+pub mod AlikeStates
+pub mod LaterStates
+pub mod RecalledFailures
+pub mod PartSeries
+pub mod FoundAgain
+pub mod ToldReasons
 pub mod ExamplePlaces
 pub mod ExampleStops
 pub mod ExampleStates
 pub mod ExampleRequests
+pub mod ExampleReasons
 pub mod ExampleHistory

@@ -1,5 +1,5 @@
--- What is read of a custody that was reached from a beginning: of a part its bytes as they were received, and of an audit that no part is damaged.
-use Rattle.std.proofs.Common.{◌≡◌, ◌⊎◌, inl, inr, ⊎_elim, ℕ, List, [], ◌∷◌, ◌++◌, Some, true, false, refl, sym, ◌∙◌, ap, subst, arith, Result, Ok, Err}
+-- What is read of a custody that was reached from a beginning: of a part its bytes as they were received, of a revision why it has failed, and of an audit that no part is damaged.
+use Rattle.std.proofs.Common.{◌≡◌, ◌⊎◌, inl, inr, ⊎_elim, ℕ, List, [], ◌∷◌, ◌++◌, None, Some, true, false, refl, sym, ◌∙◌, ap, subst, arith, Result, Ok, Err}
 use Rattle.std.specs.Prelude.{Contains, IfOk, IfErr}
 use Rattle.std.specs.FinMap.{get}
 use Rattle.std.proofs.lemmas.List.Elements.{Contains-append_left, Contains-append_right, Contains-push}
@@ -18,6 +18,7 @@ use Rattle.custody_machine.specs.State.{State, Part, Content, Held, Dropped}
 use Rattle.custody_machine.specs.Machine.{Command, Receive, TimedCommand, Record, state_of, state_after, after, part_at, part_under_name, is_dropped, are_bytes_dropped, bytes_held, bytes_in, content_len}
 use Rattle.custody_machine.specs.History.{Event, WasReceived, IsHistory, found, none_found}
 use Rattle.custody_machine.specs.StoredState.{HasDigests, state_in}
+use Rattle.custody_machine.specs.Explaining.{explain_refusal}
 use Rattle.custody_machine.specs.FetchResult.{fetch_result, part_named}
 use Rattle.custody_machine.proofs.NameReading.{read_is}
 use Rattle.custody_machine.proofs.Accepting.{recorded_is, recorded_of}
@@ -31,12 +32,14 @@ use Rattle.custody_machine.proofs.Retries.{AllAccepted, accepted_after}
 use Rattle.custody.specs.declared.answers.Refused.{Refused}
 use Rattle.custody.specs.declared.answers.Refused.TheVariants as refused
 use Rattle.custody.specs.declared.custody.Custody.{Custody}
+use Rattle.custody.specs.declared.explanation.Explanation.{Explanation}
 use Rattle.custody.specs.Custody.{open_custody_of}
 use Rattle.custody.specs.OpenCustody.{current_records, image_of}
+use Rattle.custody.specs.Explaining.{IsExplained, IsExplanation}
 use Rattle.custody.specs.Fetching.{IsFetched}
 use Rattle.custody.specs.Auditing.{AreDamaged}
 use Rattle.theorems.specs.Sessions.{place_of}
-use Rattle.theorems.specs.Reading.{ReceivesUnder, HasPartAtFirst, AreReceivedBytes, IsReadAsReceived, ListsNoDamage, FetchesAsReceived, AuditsListNone}
+use Rattle.theorems.specs.Reading.{ReceivesUnder, HasPartAtFirst, AreReceivedBytes, IsReadAsReceived, IsExplainedInState, ListsNoDamage, FetchesAsReceived, ExplainsState, AuditsListNone}
 use Rattle.theorems.proofs.ServingLemmas.{contains-cons}
 
 -- ---- the commands found
@@ -166,6 +169,19 @@ module _ (first : State) (entries : List TimedCommand) (all : AllAccepted first 
   fetched_as_received records image same digests reference text (Err (refused.Failure Closed)) under h = h
   fetched_as_received records image same digests reference text (Err (refused.Failure (Damaged damage))) under h = h (λ name is. digests (key_of name))
 
+-- ---- an explanation
+
+-- what is explained where records and image have the state, and each part its digest
+pub explained_in_state : (state : State) (records : Records) (image : List ℕ) → state_in records image ≡ state → HasDigests image records → (tld : List ℕ) (day rev : ℕ) (r : Result Explanation Refused)
+    → IsExplained records image tld day rev r → IsExplainedInState state tld day rev r
+explained_in_state state records image same digests tld day rev (Ok told) h = (subst (λ s. explain_refusal s tld day rev ≡ None) same h.held, subst (λ s. IsExplanation s tld day rev told) same h.explained)
+explained_in_state state records image same digests tld day rev (Err (refused.Refusal refusal)) h = subst (λ s. explain_refusal s tld day rev ≡ Some refusal) same h
+explained_in_state state records image same digests tld day rev (Err (refused.Failure NoMemory)) h = tt
+explained_in_state state records image same digests tld day rev (Err (refused.Failure VolumeFailed)) h = tt
+explained_in_state state records image same digests tld day rev (Err (refused.Failure StoreFailed)) h = h
+explained_in_state state records image same digests tld day rev (Err (refused.Failure Closed)) h = h
+explained_in_state state records image same digests tld day rev (Err (refused.Failure (Damaged damage))) h = h.broken (digests h.place)
+
 -- ---- an audit
 
 none_damaged : (records : Records) (image : List ℕ) (names : List Name) → HasDigests image records → AreDamaged records image names → names ≡ []
@@ -193,6 +209,11 @@ module _ {V S : Type 0} {g : volume.Ghosts V} {database : Ghosts S} (tells : g.t
       let all = found_accepted first events (moves_are_histories first h.start (place_of database old) events h.begun h.moves) in
       fetched_as_received first (found first events) all records image here.0 here.1 reference name answer
       (λ bytes e. fetches_held records image reference name bytes (old.order h.opened).whole.linked e) (did.bytes h.opened tells)
+
+  pub explains_state : (old new : Custody V S g database) → ExplainsState database old new
+  explains_state old new first events h tld day rev answer did =
+      let here = places_are_right first h.start (place_of database old) events h.begun h.moves in
+      explained_in_state (after first (found first events)) (current_records (open_custody_of old)) (image_of (open_custody_of old)) here.0 here.1 tld day rev answer (did.told h.opened tells)
 
   pub audits_list_none : (old new : Custody V S g database) → AuditsListNone database old new
   audits_list_none old new first events h answer did =

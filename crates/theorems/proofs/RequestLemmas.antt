@@ -33,7 +33,7 @@ use Rattle.answer_lines.specs.declared.lines.Line.TheVariants as line
 use Rattle.http_request.specs.RequestMeaning.{RequestMeaning, RequestMeans, SendsPart, asks_for, bad}
 use Rattle.http_request.specs.declared.faults.RequestFault.{RequestFault}
 use Rattle.http_request.specs.declared.faults.RequestFault.TheVariants as fault
-use Rattle.http_request.specs.Action.{RequestAction, Do, Report, State, Due, Digests, Fetch}
+use Rattle.http_request.specs.Action.{RequestAction, Do, Report, Explain, State, Due, Digests, Fetch}
 use Rattle.http_api.specs.declared.handling.Served.{Served}
 use Rattle.http_api.specs.declared.handling.ServeError.{ServeError}
 use Rattle.http_api.specs.declared.handling.ServeError.TheVariants as failed
@@ -44,7 +44,7 @@ use Rattle.http_api.specs.Handling.{IsServed, response_of, reply_status}
 use Rattle.theorems.specs.Responses.{response_to, accepted_status, record_text, status_of}
 use Rattle.theorems.specs.Service.{Exchange, Exchanged, Unread, StoppedInRequest, MovesIfAny, IsBeginning, IsNoCommandEvent, IsStopWithin, IsUp, Responds, ServiceMoves}
 use Rattle.theorems.proofs.RunMoves.{is_serving, is_shut, serves_on}
-use Rattle.theorems.proofs.CallLemmas.{IsTaken, rested, applied}
+use Rattle.theorems.proofs.CallLemmas.{IsTaken, stays_shut, rested, applied}
 use Rattle.theorems.proofs.SessionLemmas.{stop_at_rest}
 use Rattle.theorems.proofs.Beginnings.{whole_begins}
 use Rattle.theorems.specs.Requests.{ServeCall, ServeReturns, HasAnswered, HasMovedByCall, IsEventOf, IsCustodyAt, RequestsMove, RequestsMayStop, MayStopAfterwards}
@@ -200,6 +200,11 @@ module _ {V S : Type 0} {g : volume.Ghosts V} {database : Ghosts S} (tells : g.t
     }
     does_open serving h (Report tld) answer asks did = unmoved (place_of database old) h did.1 answer
         (λ written. inl (asks_for (Report tld), asks, (refl, did.0 ∙ ap (told_if (λ records. served.registry_report records tld)) serving.opened)))
+    does_open serving h (Explain tld day rev) answer asks did = record {
+      did = Some (other_call_event (stays_open did.0));
+      responds = λ written. inl (asks_for (Explain tld day rev), asks, (did.0, did.1.told serving.opened tells, refl, did.2));
+      went = went_rested old new serving honest input now (stays_open did.0) (ap is_none (did.1.closes serving.opened)) (did.1.rested serving.opened);
+    }
     does_open serving h State answer asks did = unmoved (place_of database old) h did.1 answer
         (λ written. inl (asks_for State, asks, (refl, did.0 ∙ ap (told_if served.records_state) serving.opened)))
     does_open serving h Due answer asks did = unmoved (place_of database old) h did.1 answer
@@ -222,6 +227,11 @@ module _ {V S : Type 0} {g : volume.Ghosts V} {database : Ghosts S} (tells : g.t
     }
     does_closed records image doubt closed h (Report tld) answer asks did = unmoved (Shut records image doubt) h did.1 answer
         (λ written. inl (asks_for (Report tld), asks, (refl, did.0 ∙ ap (told_if (λ records. served.registry_report records tld)) closed)))
+    does_closed records image doubt closed h (Explain tld day rev) answer asks did = let same = did.1.closed closed in record {
+      did = Some (other_call_event (stays_open did.0));
+      responds = λ written. inl (asks_for (Explain tld day rev), asks, (did.0, same.0, refl, did.2));
+      went = stays old new (Shut records image doubt) input now h same.1 (Some (other_call_event (stays_open did.0))) (stays_shut records image doubt (stays_open did.0));
+    }
     does_closed records image doubt closed h State answer asks did = unmoved (Shut records image doubt) h did.1 answer
         (λ written. inl (asks_for State, asks, (refl, did.0 ∙ ap (told_if served.records_state) closed)))
     does_closed records image doubt closed h Due answer asks did = unmoved (Shut records image doubt) h did.1 answer
@@ -231,12 +241,8 @@ module _ {V S : Type 0} {g : volume.Ghosts V} {database : Ghosts S} (tells : g.t
     does_closed records image doubt closed h (Fetch reference name) answer asks did = let same = did.1.closed closed in record {
       did = Some (other_call_event (stays_open did.0));
       responds = λ written. inl (asks_for (Fetch reference name), asks, (did.0, same.0, refl, did.2));
-      went = stays old new (Shut records image doubt) input now h same.1 (Some (other_call_event (stays_open did.0))) (stays_shut (stays_open did.0));
+      went = stays old new (Shut records image doubt) input now h same.1 (Some (other_call_event (stays_open did.0))) (stays_shut records image doubt (stays_open did.0));
     }
-      where
-        stays_shut : (b : Bool) → Moves (Shut records image doubt) (other_call_event b) (Shut records image doubt)
-        stays_shut true = refl
-        stays_shut false = refl
 
     does : (place : Place) → IsCustodyAt database old place → (wanted : RequestAction) (answer : HttpResponse) → RequestMeans input (asks_for wanted) → served.Performs wanted now old answer new → Response old new place input now answer
     does place h wanted answer asks did = by (is_open old) refl

@@ -15,7 +15,7 @@ use Rattle.custody.specs.Answers.{stays_open}
 use Rattle.http_request.specs.RequestMeaning.{RequestMeaning, RequestMeans, RequestsMeanOne, asks_for, bad}
 use Rattle.http_request.specs.declared.faults.RequestFault.TheVariants as fault
 use Rattle.http_request.specs.Action as action
-use Rattle.http_request.specs.Action.{Do, Report, Due, Digests, Fetch}
+use Rattle.http_request.specs.Action.{Do, Report, Explain, Due, Digests, Fetch}
 use Rattle.http_api.specs.declared.status.ResponseStatus.{ResponseStatus}
 use Rattle.http_api.specs.Responses.{HttpResponse, response_bytes}
 use Rattle.http_api.specs.Handling.{failure_response, no_memory_response, refusal_response}
@@ -212,6 +212,7 @@ module _ (one_asked : RequestsMeanOne) (input : List ℕ) (asked : RequestMeanin
   given (bad found) own place x at g = subst IsOfTry (sym g.1) tt
   given (asks_for (Do command)) own place x at g = subst IsOfTry (sym g.1) (own command refl, at)
   given (asks_for (Report tld)) own place x at g = subst IsOfTry (sym g.0) tt
+  given (asks_for (Explain tld day rev)) own place x at g = subst IsOfTry (sym g.2) (rests (stays_open g.0))
   given (asks_for action.State) own place x at g = subst IsOfTry (sym g.0) tt
   given (asks_for Due) own place x at g = subst IsOfTry (sym g.0) tt
   given (asks_for (Digests tld)) own place x at g = subst IsOfTry (sym g.0) tt

@@ -15,14 +15,15 @@ use Rattle.custody_machine.specs.Moves.{Place, IsInState}
 use Rattle.custody_machine.specs.FetchResult.{ReleasesName, part_named}
 use Rattle.custody_machine.specs.Retries.{AsksAgain, IsDroppedSince, IsOfCommand, StillHas, first_record, has_same_key, command_key, once}
 use Rattle.http_request.specs.RequestMeaning.{RequestMeaning, RequestMeans, asks_for}
-use Rattle.http_request.specs.Action.{Do, Fetch}
+use Rattle.http_request.specs.Action.{Do, Explain, Fetch}
 use Rattle.custody.specs.declared.answers.Refused.{Refused}
+use Rattle.custody.specs.declared.explanation.Explanation.{Explanation}
 use Rattle.http_api.specs.Responses.{HttpResponse, response_bytes, text_response}
-use Rattle.http_api.specs.Handling.{failure_response, fetch_response, refusal_response}
+use Rattle.http_api.specs.Handling.{explanation_response, failure_response, fetch_response, refusal_response}
 use Rattle.http_api.specs.declared.status.ResponseStatus.TheVariants.{Coded, Done}
 use Rattle.theorems.specs.Responses.{response_to, record_text, tells_accepted, tells_failure}
 use Rattle.theorems.specs.Service.{ServiceEvent, Exchange, Exchanged, Unread, StoppedInRequest, OutsideRequest, IsBeginning, IsServiceHistory, IsUp, Responds, delivered_exchanges, found_by_service, state_by_service}
-use Rattle.theorems.specs.Reading.{IsReadAsReceived}
+use Rattle.theorems.specs.Reading.{IsExplainedInState, IsReadAsReceived}
 
 -- a request asks for a command
 abbrev pub AsksFor : Exchange → Command → Type 0
@@ -119,6 +120,19 @@ PartsAreFetchedAsSent first = (earlier between later : List ServiceEvent) (sent 
     → AsksFor sent (Receive name bytes) → tells_accepted sent.answer.status ≡ true
     → AsksToFetch x reference name → ReleasesBytes (state_by_service first (earlier ++ Exchanged sent ∷ between)) reference name
     → (x.answer ≡ fetch_response (Ok bytes)) ⊎ ((failure : Failure) × MayFailAgain failure × (x.answer ≡ failure_response failure))
+
+-- ---- failures that are explained
+
+-- a request asks why a revision has failed
+abbrev pub AsksWhy : Exchange → (tld : List ℕ) → (day rev : ℕ) → Type 0
+AsksWhy x tld day rev = RequestMeans x.input (asks_for (Explain tld day rev))
+
+-- It is answered by the explanation of the state, by the refusal that the state decides, or by a failure; or the custody is closed.
+abbrev pub RevisionsAreExplained : State → Type 0
+RevisionsAreExplained first = (earlier later : List ServiceEvent) (x : Exchange) (tld : List ℕ) (day rev : ℕ)
+    → IsServiceHistory first (earlier ++ Exchanged x ∷ later) → AsksWhy x tld day rev
+    → ((told : Result Explanation Refused) × (x.answer ≡ explanation_response told) × IsExplainedInState (state_by_service first earlier) tld day rev told)
+    ⊎ (x.answer ≡ failure_response Closed)
 
 -- ---- a client
 

@@ -16,12 +16,14 @@ use Rattle.custody.specs.declared.answers.Refused.{Refused}
 use Rattle.custody.specs.declared.receiving.ReceiveError.{ReceiveError}
 use Rattle.custody.specs.declared.receiving.ReceiveError.TheVariants as receive_error
 use Rattle.custody.specs.declared.custody.Custody.{Custody}
+use Rattle.custody.specs.declared.explanation.Explanation.{Explanation}
 use Rattle.custody.specs.Answers.{answer_of, stays_open}
 use Rattle.custody.specs.OpenCustody.{store_state_of, MayLeaveImageSince}
 use Rattle.custody.specs.Custody.{open_custody_of, HasApplied}
 use Rattle.custody.specs.Receiving.{HasReceived, IsPartBody}
 use Rattle.custody.specs.Fetching.{HasFetched}
 use Rattle.custody.specs.Previewing.{HasPreviewed}
+use Rattle.custody.specs.Explaining.{HasExplained}
 use Rattle.custody.specs.Auditing.{HasAudited, as_refused}
 use Rattle.theorems.specs.Requests.{IsCustodyAt}
 
@@ -34,6 +36,7 @@ pub data CustodyCall : Type 0 where
   Receives : (name : List ℕ) → (len : ℕ) → (first : List ℕ) → (known : Option (List ℕ)) → (now : ℕ) → Result Reply ReceiveError → CustodyCall
   Fetches : (reference name : List ℕ) → Result (List ℕ) Refused → CustodyCall
   Previews : statement.Statement → (now : ℕ) → Result desk.Notice Refused → CustodyCall
+  Explains : (tld : List ℕ) → (day rev : ℕ) → Result Explanation Refused → CustodyCall
   Audits : Result (List Name) Failure → CustodyCall
 
 -- the command that a part makes whose bytes have all come, and its answer
@@ -49,6 +52,7 @@ IsCallEvent (Receives name len first known now (Err receive_error.Short)) event 
 IsCallEvent (Receives name len first known now (Err receive_error.ReadFailed)) event = (event ≡ AnsweredOtherCall) ⊎ (event ≡ ShutDown)
 IsCallEvent (Fetches reference name answer) event = event ≡ other_call_event (stays_open answer)
 IsCallEvent (Previews stated now answer) event = event ≡ other_call_event (stays_open answer)
+IsCallEvent (Explains tld day rev answer) event = event ≡ other_call_event (stays_open answer)
 IsCallEvent (Audits answer) event = event ≡ other_call_event (stays_open (as_refused answer))
 
 -- a stop within it: within its command, or at rest where it is none
@@ -58,6 +62,7 @@ IsStopWithinCall (Receives name len first known now answer) pair event =
     ((body : List ℕ) × IsPartBody known first len body × (event ≡ StoppedWithin (Receive name body) now pair)) ⊎ (event ≡ StoppedAtRest pair)
 IsStopWithinCall (Fetches reference name answer) pair event = event ≡ StoppedAtRest pair
 IsStopWithinCall (Previews stated now answer) pair event = event ≡ StoppedAtRest pair
+IsStopWithinCall (Explains tld day rev answer) pair event = event ≡ StoppedAtRest pair
 IsStopWithinCall (Audits answer) pair event = event ≡ StoppedAtRest pair
 
 -- ---- the contracts
@@ -69,6 +74,7 @@ module _ {V S : Type 0} {g : volume.Ghosts V} {database : Ghosts S} where
   HasCalled old (Receives name len first known now answer) new = HasReceived known old name len first now answer new
   HasCalled old (Fetches reference name answer) new = HasFetched old reference name answer new
   HasCalled old (Previews stated now answer) new = HasPreviewed old stated now answer new
+  HasCalled old (Explains tld day rev answer) new = HasExplained old tld day rev answer new
   HasCalled old (Audits answer) new = HasAudited old answer new
 
 -- ---- the law

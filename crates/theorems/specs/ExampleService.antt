@@ -1,23 +1,27 @@
--- Three histories of a service, written out by the bytes of its requests, so that the laws of clients speak of something. In each a client that is alone has all that done which is done in the life of a custody (ExampleLife), and the service is stopped while it handles the part: before the commit, after it, or while the response is written.
+-- Three histories of a service, written out by the bytes of its requests, so that the laws of clients speak of something. In each a client that is alone has all that done which is done in the life of a custody (ExampleLife), and asks why its deposit has failed; and the service is stopped while it handles the part: before the commit, after it, or while the response is written.
 use Rattle.std.specs.Prelude.{◌≡◌, ℕ, List, [], ◌∷◌, ◌++◌, map, Contains, Option, Some, None, Bool, true, false, codes, Ok}
 use Rattle.std.specs.List.{flat_map}
 use Rattle.deposit_name.specs.declared.kinds.Kind.TheVariants.{Full}
 use Rattle.desk.specs.declared.checks.Check.TheVariants.{Frame}
 use Rattle.desk.specs.declared.grounds.Ground.TheVariants.{Operator}
 use Rattle.desk.specs.declared.notices.NoticeKind.TheVariants.{Failure, Absence}
+use Rattle.envelope.specs.declared.frame.FrameError.TheVariants.{Head}
+use Rattle.deposit_verify.specs.declared.reason.Reason.TheVariants as reason
+use Rattle.custody_records.specs.Records.{Notice}
 use Rattle.custody_machine.specs.State.{State, Part, Held, empty}
 use Rattle.custody_machine.specs.Machine.{Command, Register, Receive, Statement, Check, Release, Hold, Lift, Purge, Record, OfRegistry, OfPart, OfNotice, OfRelease, OfHold, OfLifting, OfPurge, Reply, Accepted, TimedCommand, state_with_registry, state_with_part}
 use Rattle.custody_machine.specs.History as history
 use Rattle.custody_machine.specs.History.{Answered, AnsweredOtherCall, StoppedAtRest, StoppedWithin, OpenedWith, Opened}
 use Rattle.custody_machine.specs.Examples.{pair_of}
 use Rattle.custody_machine.specs.ExampleLife.{clock_moment, example_tld, example_file_name, example_part_key, example_statement, example_notice_key, new_reply}
+use Rattle.custody.specs.declared.explanation.Explanation.{Explanation}
 use Rattle.http_request.specs.declared.faults.RequestFault.TheVariants as fault
 use Rattle.http_request.specs.RequestMeaning.{asks_for}
-use Rattle.http_request.specs.Action.{Do, Fetch}
+use Rattle.http_request.specs.Action.{Do, Explain, Fetch}
 use Rattle.http_api.specs.declared.status.ResponseStatus.{ResponseStatus}
 use Rattle.http_api.specs.declared.status.ResponseStatus.TheVariants.{Created, Done}
 use Rattle.http_api.specs.Responses.{HttpResponse, response_bytes}
-use Rattle.http_api.specs.Handling.{fault_response, fetch_response}
+use Rattle.http_api.specs.Handling.{explanation_response, fault_response, fetch_response}
 use Rattle.theorems.specs.Responses.{response_to, tells_accepted}
 use Rattle.theorems.specs.Service.{Exchange, ServiceEvent, Exchanged, Unread, StoppedInRequest, OutsideRequest, IsServiceHistory, delivered_exchanges, found_by_service}
 use Rattle.theorems.specs.Clients.{AsksFor, ClientRequest, AreSent, IsFoundOnce, request_events}
@@ -35,6 +39,10 @@ part_request body = codes "PUT /deposits/example_2026-08-02_full_S1_R0.ryde HTTP
 -- that this part is all of the deposit
 abbrev pub statement_request : List ℕ
 statement_request = codes "POST /statements HTTP/1.1\r\nContent-Length: 83\r\n\r\n{\"date\":\"2026-08-02\",\"id\":\"X\",\"kind\":\"full\",\"parts\":1,\"revision\":0,\"tld\":\"example\"}"
+
+-- why it has failed
+abbrev pub reasons_request : List ℕ
+reasons_request = codes "GET /reasons/example/2026-08-02/0 HTTP/1.1\r\n\r\n"
 
 -- the deposit of the next day was not received
 abbrev pub check_request : List ℕ
@@ -67,8 +75,16 @@ abbrev pub example_part : Part
 example_part = record { kind = Full; received = clock_moment 20_667 10 0; content = Held (codes "hello") }
 
 -- the five bytes are no frame, so the deposit fails the first check
+abbrev pub example_failure_notice : Notice
+example_failure_notice = record { day = 20_667; at = clock_moment 20_667 10 5; kind = Failure 0 (codes "X") Frame }
+
+-- it is recorded
 abbrev pub example_failure : Record
-example_failure = OfNotice (example_notice_key 1) (record { day = 20_667; at = clock_moment 20_667 10 5; kind = Failure 0 (codes "X") Frame })
+example_failure = OfNotice (example_notice_key 1) example_failure_notice
+
+-- they do not begin as one
+abbrev pub example_explanation : Explanation
+example_explanation = record { check = Frame; reason = Some (reason.Frame Head); passed_on = None }
 
 -- the next day has no deposit
 abbrev pub example_absence : Record
@@ -171,10 +187,19 @@ fetching_request = record {
 abbrev pub statement_after_stop : ClientRequest
 statement_after_stop = record (command_request statement_request (Statement example_statement) (clock_moment 20_667 10 5) example_failure) { tries = OutsideRequest (StoppedAtRest (pair_of state_of_part)) ∷ opening_in state_of_part ∷ [] }
 
+-- why the deposit has failed is asked
+abbrev pub explaining_request : ClientRequest
+explaining_request = record {
+  tries = [];
+  last = whole_exchange reasons_request (clock_moment 20_667 10 6) (Some AnsweredOtherCall) (explanation_response (Ok example_explanation));
+  asked = asks_for (Explain example_tld 20_667 0);
+}
+
 -- what is sent behind it: while the day is on hold, a purge drops nothing
 abbrev pub later_requests : List ClientRequest
 later_requests =
-    command_request check_request (Check example_tld 20_668) (clock_moment 20_670 0 0) example_absence
+    explaining_request
+    ∷ command_request check_request (Check example_tld 20_668) (clock_moment 20_670 0 0) example_absence
     ∷ command_request release_request (Release (codes "R-1") example_tld Operator) (clock_moment 20_670 3 0) example_release
     ∷ command_request hold_request (Hold (codes "H-1") example_tld 20_667) (clock_moment 21_032 9 0) example_hold
     ∷ command_request purge_request Purge (clock_moment 21_033 0 0) (OfPurge 0)
@@ -215,6 +240,7 @@ example_answers status =
     (Created, codes "registered example 2026-08-02\n")
     ∷ (status, codes "received example_2026-08-02_full_S1_R0.ryde 5 2026-08-02T10:00:00Z\n")
     ∷ (Created, codes "       1 FAILURE-01 2026-08-02 R00 X             2026-08-02T10:05:00Z example\n")
+    ∷ (Done, codes "FAILURE-01 F1: it does not begin with RDE1 and a space\n")
     ∷ (Created, codes "       2 ABSENCE    2026-08-03 --- -             2026-08-05T00:00:00Z example\n")
     ∷ (Created, codes "released R-1 example operator 2026-08-05T03:00:00Z 1\nexample_2026-08-02_full_S1_R0.ryde\n")
     ∷ (Created, codes "held H-1 example 2026-08-02 2027-08-02T09:00:00Z\n")

@@ -9,4 +9,5 @@ pub mod WholeResponses
 pub mod Evidence
 pub mod CustodyCalls
 pub mod Lives
+pub mod Explained
 pub mod ExampleService

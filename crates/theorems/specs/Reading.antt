@@ -1,5 +1,5 @@
 -- What is read of a custody that was reached from its beginning, through whatever stops (Specification 2, Part B sections 4 and 6).
-use Rattle.std.specs.Prelude.{◌≡◌, ◌⊎◌, ℕ, List, [], Contains, Some, true, Result, Ok, Err}
+use Rattle.std.specs.Prelude.{◌≡◌, ◌⊎◌, ℕ, List, [], Contains, None, Some, true, Result, Ok, Err}
 use Rattle.std.specs.FinMap.{get}
 use Rattle.deposit_name.specs.Name.{Name}
 use Rattle.vault_volume.specs.declared.volume.Volume as volume
@@ -13,11 +13,14 @@ use Rattle.custody_machine.specs.Machine.{Receive, TimedCommand, after}
 use Rattle.custody_machine.specs.History.{Event, found}
 use Rattle.custody_machine.specs.Moves.{Place, MovesAlong, IsBegun}
 use Rattle.custody_machine.specs.FetchResult.{ReleasesName, fetch_result}
+use Rattle.custody_machine.specs.Explaining.{explain_refusal}
 use Rattle.custody.specs.declared.answers.Refused.{Refused}
 use Rattle.custody.specs.declared.answers.Refused.TheVariants as refused
 use Rattle.custody.specs.declared.custody.Custody.{Custody}
+use Rattle.custody.specs.declared.explanation.Explanation.{Explanation}
 use Rattle.custody.specs.Custody.{is_open}
 use Rattle.custody.specs.Fetching.{HasFetched}
+use Rattle.custody.specs.Explaining.{HasExplained, IsExplanation}
 use Rattle.custody.specs.Auditing.{HasAudited}
 use Rattle.theorems.specs.Sessions.{place_of}
 
@@ -53,6 +56,18 @@ IsReadAsReceived first entries reference name (Err (refused.Failure StoreFailed)
 IsReadAsReceived first entries reference name (Err (refused.Failure Closed)) = ⊥
 IsReadAsReceived first entries reference name (Err (refused.Failure (Damaged damage))) = ⊥
 
+-- ---- an explanation
+
+-- what an open custody in a state answers when it is asked why a revision has failed: the explanation of the state, or the refusal that the state decides, or that memory (C1) or the volume (C2) fails; never damage (C5)
+abbrev pub IsExplainedInState : State → (tld : List ℕ) → (day rev : ℕ) → Result Explanation Refused → Type 0
+IsExplainedInState state tld day rev (Ok told) = (explain_refusal state tld day rev ≡ None) × IsExplanation state tld day rev told
+IsExplainedInState state tld day rev (Err (refused.Refusal refusal)) = explain_refusal state tld day rev ≡ Some refusal
+IsExplainedInState state tld day rev (Err (refused.Failure NoMemory)) = Unit {0}
+IsExplainedInState state tld day rev (Err (refused.Failure VolumeFailed)) = Unit {0}
+IsExplainedInState state tld day rev (Err (refused.Failure StoreFailed)) = ⊥
+IsExplainedInState state tld day rev (Err (refused.Failure Closed)) = ⊥
+IsExplainedInState state tld day rev (Err (refused.Failure (Damaged damage))) = ⊥
+
 -- ---- an audit
 
 -- no part is listed; or memory (C1) or the volume (C2) fails
@@ -78,6 +93,11 @@ module _ {V S : Type 0} {g : volume.Ghosts V} where
   abbrev pub FetchesAsReceived : (database : Ghosts S) → (old new : Custody V S g database) → Type 0
   FetchesAsReceived database old new = (first : State) (events : List Event) → IsReachedBy database first events old
       → (reference name : List ℕ) (answer : Result (List ℕ) Refused) → HasFetched old reference name answer new → IsReadAsReceived first (found first events) reference name answer
+
+  -- `Custody::explain` of it
+  abbrev pub ExplainsState : (database : Ghosts S) → (old new : Custody V S g database) → Type 0
+  ExplainsState database old new = (first : State) (events : List Event) → IsReachedBy database first events old
+      → (tld : List ℕ) (day rev : ℕ) (answer : Result Explanation Refused) → HasExplained old tld day rev answer new → IsExplainedInState (after first (found first events)) tld day rev answer
 
   -- `Custody::audit` of it
   abbrev pub AuditsListNone : (database : Ghosts S) → (old new : Custody V S g database) → Type 0

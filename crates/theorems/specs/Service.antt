@@ -12,14 +12,16 @@ use Rattle.custody_machine.specs.Moves.{Place, Serving, Shut, Left, Moves, IsBeg
 use Rattle.custody_machine.specs.Custody.{other_call_event}
 use Rattle.custody.specs.declared.answers.Refused as not_accepted
 use Rattle.custody.specs.declared.answers.Refused.TheVariants as refused
+use Rattle.custody.specs.declared.explanation.Explanation.{Explanation}
 use Rattle.custody.specs.Answers.{stays_open}
+use Rattle.custody.specs.Explaining.{IsExplained}
 use Rattle.custody.specs.Fetching.{IsFetched}
 use Rattle.http_request.specs.declared.faults.RequestFault.TheVariants as fault
 use Rattle.http_request.specs.RequestMeaning.{RequestMeaning, RequestMeans, SendsPart, asks_for, bad}
 use Rattle.http_request.specs.Action as action
-use Rattle.http_request.specs.Action.{RequestAction, Do, Report, Due, Digests, Fetch}
+use Rattle.http_request.specs.Action.{RequestAction, Do, Report, Explain, Due, Digests, Fetch}
 use Rattle.http_api.specs.Responses.{HttpResponse, response_bytes}
-use Rattle.http_api.specs.Handling.{failure_response, fault_response, fetch_response, no_memory_response, records_due, records_state, registry_digests, registry_report}
+use Rattle.http_api.specs.Handling.{IsExplanationTold, failure_response, fault_response, fetch_response, no_memory_response, records_due, records_state, registry_digests, registry_report}
 use Rattle.theorems.specs.Responses.{response_to}
 
 -- ---- events
@@ -94,10 +96,19 @@ FetchesPart (Serving records image) reference name r = IsFetched records image r
 FetchesPart (Shut records image doubt) reference name r = r ≡ Err (refused.Failure Closed)
 FetchesPart (Left rows image) reference name r = ⊥
 
+-- why a revision has failed, or why it is not told
+abbrev pub ExplainsRevision : Place → (tld : List ℕ) → (day rev : ℕ) → Result Explanation not_accepted.Refused → Type 0
+ExplainsRevision (Serving records image) tld day rev r = IsExplained records image tld day rev r
+ExplainsRevision (Shut records image doubt) tld day rev r = r ≡ Err (refused.Failure Closed)
+ExplainsRevision (Left rows image) tld day rev r = ⊥
+
 -- what is wanted is done, and answered
 abbrev pub IsPerformedIn : RequestAction → Place → Exchange → Type 0
 IsPerformedIn (Do command) place x = (told : machine.Answer) × (x.did ≡ Some (Answered command x.now told)) × (x.answer ≡ response_to told)
 IsPerformedIn (Report tld) place x = (x.did ≡ None) × TellsRecords place (λ records. registry_report records tld) x.answer
+IsPerformedIn (Explain tld day rev) place x =
+    (r : Result Explanation not_accepted.Refused) × ExplainsRevision place tld day rev r
+    × (x.did ≡ Some (other_call_event (stays_open r))) × IsExplanationTold r x.answer
 IsPerformedIn action.State place x = (x.did ≡ None) × TellsRecords place records_state x.answer
 IsPerformedIn Due place x = (x.did ≡ None) × TellsRecords place (λ records. records_due records x.now) x.answer
 IsPerformedIn (Digests tld) place x = (x.did ≡ None) × TellsRecords place (λ records. registry_digests records tld) x.answer

@@ -2,7 +2,7 @@
 //! what this speaks of.
 ghost use Rattle.custody_machine.specs.State.{State};
 ghost use Rattle.theorems.specs.Sessions.{IsServing, place_of};
-ghost use Rattle.theorems.specs.Clients.{AcceptedIsFoundOnce, BodiesAreTheSame, ClientsEndAsOnce, NoInternalError, PartsAreFetched, PartsAreFetchedAsSent, ServiceAnswersRepeats};
+ghost use Rattle.theorems.specs.Clients.{AcceptedIsFoundOnce, BodiesAreTheSame, ClientsEndAsOnce, NoInternalError, PartsAreFetched, PartsAreFetchedAsSent, RevisionsAreExplained, ServiceAnswersRepeats};
 ghost use Rattle.theorems.specs.ExampleService.{ServicesLive};
 ghost use Rattle.theorems.specs.Requests.{IsCustodyAt, RequestsMove, RequestsMayStop, MayStopAfterwards};
 ghost use Rattle.theorems.specs.WholeResponses.{ClientsCanTell, NoResponseBeginsAnother};
@@ -20,6 +20,7 @@ use vault_volume::Volume;
 /// requests sent once, in that order, without a stop. A purge has no record, and is done anew each time.
 /// No request is answered by 500; and a part that a release lists and that is not dropped is answered by
 /// the bytes that were sent, or by a failure of memory or volume, or that the custody is closed (503).
+/// Why a revision has failed is answered as the state has it, or by such a failure.
 /// Three such histories are written out, by the bytes that a client sends, with the answers that it
 /// reads.
 pub fn law_clients()
@@ -29,6 +30,7 @@ pub fn law_clients()
     ensures no_internal_error { (first : State) → NoInternalError first }
     ensures fetched { (first : State) → PartsAreFetched first }
     ensures as_sent { (first : State) → PartsAreFetchedAsSent first }
+    ensures explained { (first : State) → RevisionsAreExplained first }
     ensures ends { (first : State) → ClientsEndAsOnce first }
     ensures happen { ServicesLive }
 {

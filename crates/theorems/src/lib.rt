@@ -6,6 +6,7 @@
 
 mod client_laws;
 mod custody_laws;
+mod explanation_laws;
 mod life_laws;
 mod reading_laws;
 mod serving;
@@ -16,6 +17,7 @@ pub use custody_laws::{
     law_at_rest, law_digests, law_rest, law_run, law_sessions, law_shown, law_stop,
 };
 pub use custody_machine::{law_histories, law_retries};
+pub use explanation_laws::law_explained;
 pub use life_laws::{law_begun, law_calls, law_lives, law_opened, open_custody};
 pub use reading_laws::law_reading;
 pub use serving::serve_one;

@@ -12,8 +12,8 @@ use std::alloc::Global;
 use vault_volume::Volume;
 
 /// Each call of a custody is a move, whatever it answered, and wherever the custody was, open or closed:
-/// a command, a part that is received, whole or not, a fetch, a preview, an audit. And a stop at any
-/// moment within it is one, too.
+/// a command, a part that is received, whole or not, a fetch, a preview, an explanation, an audit. And a
+/// stop at any moment within it is one, too.
 pub fn law_calls<V: Volume, S: Alter>(old: &Custody<V, S>, new: &Custody<V, S>)
     ensures moves { V.tells → CallsMove S.Store old.now new.now }
     ensures stops { V.tells → CallsMayStop S.Store old.now new.now }
