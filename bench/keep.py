@@ -193,7 +193,7 @@ def minutes(clock):
 
 
 # The minutes of the processor from which on a crate's proof is a row of its own.
-SHOWN = 3
+SHOWN = 4
 
 
 def prove(log):

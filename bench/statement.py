@@ -1,11 +1,13 @@
 #!/usr/bin/env python3
 """Times a statement through the program `escrow`: a full deposit of 8 MiB in eight parts is verified and its notice
-recorded, against `sha256sum` of the same files and one committed insert by `sqlite3`.
+recorded, against `sha256sum` of the same files and one committed insert by `sqlite3`. And `explain` of one whose last
+contact has no registrar, against `preview` of the same, with the peak memory of both.
 
     bench/statement.py [PROGRAM]
 
 It takes some ten seconds. It needs the program that `rt run` builds in crates/escrow, sha256sum and sqlite3.
 """
+import os
 import pathlib
 import shutil
 import subprocess
@@ -64,6 +66,34 @@ def statement(top, vault):
     return took
 
 
+def reading(*words):
+    """The seconds, the peak memory in MiB and the first word of what a call prints."""
+    start = time.perf_counter()
+    with subprocess.Popen(words, stdout=subprocess.PIPE) as call:
+        printed = call.stdout.read().decode()
+        _, status, used = os.wait4(call.pid, 0)
+        call.returncode = os.waitstatus_to_exitcode(status)
+    assert call.returncode == 0, (words, printed)
+    return time.perf_counter() - start, used.ru_maxrss / 1024, printed
+
+
+def explained(top, deposit):
+    """The least seconds and the most MiB of `preview` and of `explain`, over a deposit that fails at its end."""
+    vault, stated = top / "failing", top / "stated"
+    words = ["--date", "2026-08-02", "--revision", "0"]
+    told = [*words, "--kind", "full", "--parts", str(PARTS), "--id", verify.ID, "--now", "2026-08-02T10:05:00Z"]
+    filled_vault(vault, part_files(top, deposit))
+    shutil.copytree(vault, stated)
+    run(PROGRAM, "verify", stated, "example", *told)
+    previews, explanations = [], []
+    for _ in range(RUNS):
+        previews.append(reading(PROGRAM, "preview", vault, "example", *told))
+        explanations.append(reading(PROGRAM, "explain", stated, "example", *words))
+    assert " FAILURE-12 " in previews[0][2], previews[0]
+    assert explanations[0][2].startswith("FAILURE-12 contact row "), explanations[0]
+    return [(min(one[0] for one in runs), max(one[1] for one in runs)) for runs in (previews, explanations)]
+
+
 def by_commands(top, paths, i):
     """The time of sha256sum of the parts, and of one committed insert."""
     database = top / "notices.db"
@@ -90,6 +120,12 @@ def main():
         print("|---|---|---|---|")
         times = " | ".join(f"{taken * 1000:.0f} ms" for taken in (ours, digests, insert))
         print(f"| {times} | {ours / (digests + insert):.1f} |")
+        rows = verify.registry(False)
+        rows["contact"][-1] = "C19999,C19999-EX,R999,2020-01-01T00:00:00Z\n"
+        (preview, before), (explanation, then) = explained(top, verify.joined(rows))
+        print("\n| `preview` | `explain` | ratio | memory of both |")
+        print("|---|---|---|---|")
+        print(f"| {preview * 1000:.0f} ms | {explanation * 1000:.0f} ms | {explanation / preview:.2f} | {before:.0f} and {then:.0f} MiB |")
 
 
 if __name__ == "__main__":

@@ -2,7 +2,6 @@
 
     results/X   bench/results/X.txt, which bench/keep.py writes
     modules     the rows that are there, with the lines of the modules of definitions that each names
-    command     how many files of each crate name the command that came last
     edits       how many edits of each crate the gate tries, and how many others there are
 """
 import re
@@ -14,8 +13,6 @@ from lib import TOP
 
 BEGIN = re.compile(r"<!-- made: (.*) -->")
 END = "<!-- end -->"
-# The command that came last. Nothing else has its name.
-COMMAND = re.compile(r"\bLift\b")
 
 
 class BlockError(Exception):
@@ -70,12 +67,6 @@ def table(heads: Sequence[str], count: Callable[[Path], list[int]]) -> str:
     return fenced(columns([("crate", *heads), *rows, ("all", *totals)]))
 
 
-def files_of_command(crate: Path) -> list[int]:
-    """How many files of a crate name the command: of its code, its definitions and its proofs."""
-    kinds = ("src/**/*.rt", "specs/**/*.antt", "proofs/**/*.antt")
-    return [sum(bool(COMMAND.search(it.read_text())) for it in crate.glob(kind)) for kind in kinds]
-
-
 def edits_of(crate: Path) -> list[int]:
     """How many edits a crate has in must-fail, and in tests/edits."""
     return [len([*folder.glob("*.edit")]) for folder in (crate / "must-fail", TOP / "tests" / "edits" / crate.name)]
@@ -90,8 +81,6 @@ def body(name: str, text: str) -> str:
     if name == "modules":
         head, rule, *rows = text.splitlines()
         return "".join(f"{it}\n" for it in (head, rule, *map(counted, rows)))
-    if name == "command":
-        return table(("code", "definitions", "proofs"), files_of_command)
     if name == "edits":
         return table(("gate", "others"), edits_of)
     raise ValueError("nothing makes a block of this name")

@@ -38,8 +38,8 @@ from collections import Counter
 from pathlib import Path
 from typing import NamedTuple
 
-from lib import (ESCROW, FIVE, TEN, Server, Wrong, answer_of, built, deposit, difference, free_port, notice, parser,
-                 part_name, request, response, statement, tell)
+from lib import (ESCROW, EXPLAINED, FIVE, TEN, Server, Wrong, answer_of, built, deposit, difference, free_port, notice,
+                 parser, part_name, request, response, statement, tell)
 
 # How often a request is tried, the last time undisturbed; and the seconds for a server to listen, for a response to come,
 # and for a command to end.
@@ -127,6 +127,7 @@ STEPS = {
         ask("POST /checks/example/2026-08-05", 409, "Q14 not yet due"),
         part(FAILS), states("2026-08-04", "diff", 0, 1, "X", 201, NOTICES[3]), part(DIFF),
         states("2026-08-04", "diff", 1, 1, "20260804001", 201, NOTICES[4]), part(LATE, 507, "Q11 volume full"), part(OTHER),
+        ask("GET /reasons/example/2026-08-04/0", 200, EXPLAINED), ask("GET /reasons/example/2026-08-04/1", 404, "Q22 no failure"),
         release("R-1", "example", "operator", AT_3, [FULL_1, FULL_2, FAILS, DIFF]),
         ask("PUT /releases/R-1", 409, "Q17 reference used", ground="audit", tld="example"),
         ask("PUT /releases/R-2", 409, "Q16 ground does not stand", ground="sunday_failed", tld="example"),
@@ -143,7 +144,7 @@ STEPS = {
         release("R-2", "example", "operator", AT_4, [FAILS, DIFF, LATE]), *fetch("R-2", FAILS, DIFF, LATE)],
     AT_5: [
         ask("POST /purges", 200, "dropped 2"), ask("GET /notices/example", 200, "\n".join(NOTICES)),
-        ask("GET /notices/other", 200, ""), part(FAILS, *GONE), part(LATE, 200),
+        ask("GET /notices/other", 200, ""), part(FAILS, *GONE), ask("GET /reasons/example/2026-08-04/0", *GONE), part(LATE, 200),
         release("R-3", "example", "order", AT_5, [LATE]), release("R-4", "other", "termination", AT_5, [OTHER]),
         *fetch("R-3", LATE), *fetch("R-4", OTHER)]}
 EXAMPLE = [it._replace(now=now) for now, step in STEPS.items() for it in step]

@@ -4,8 +4,8 @@
     tests/hostile.py [PROGRAM] [--cases N] [--seed S] [--seconds T] [--only N]
 
 A case takes the files of a vault that the program made and changes them one to three times: bytes, the database by SQL, or
-files for those of other vaults. Then it runs `state`, `report`, `digests`, `due`, `audit`, `fetch` and `preview` twice, and
-once over a copy of the files that may only be read; a `put`, a `sweep` or `verify`, and an `init`. It checks:
+files for those of other vaults. Then it runs `state`, `report`, `explain`, `digests`, `due`, `audit`, `fetch` and `preview`
+twice, and once over a copy of the files that may only be read; a `put`, a `sweep` or `verify`, and an `init`. It checks:
 
 - Each call ends within 20 seconds, by no signal, with a status and lines of docs/CODES.md.
 - A call that reads prints the same again. It leaves `vault.vol` as it was. It may write the head of the log `custody.db-wal`
@@ -21,7 +21,7 @@ once over a copy of the files that may only be read; a `put`, a `sweep` or `veri
   that. C3 must come in its place if a row breaks its reference. It may if sqlite3 finds the file broken, or would not write
   it so, and if there is a view, a trigger, or an index with a condition or an expression; then the program may also miss a
   table (H0, H4). If nothing is damaged, `state`, `digests`, `due` and `audit` print just the lines of docs/FORMATS.md for
-  these rows and bytes.
+  these rows and bytes, and `explain` names the check of the row.
 
 A case depends on the seed and its number alone. `--only N` runs that one, and leaves its files, as the program finds
 them, in `hostile.N`. 300 cases take minutes; TMPDIR=/dev/shm, where the vaults then stand, makes it fast. It needs
@@ -74,14 +74,15 @@ put example_2026-08-04_full_S1_R1.ryde {LATER}; purge {LATER}
 put example_2026-08-05_diff_S1_R0.ryde {LATER}; put other_2026-08-04_full_S1_R0.ryde {LATER}
 release R-1 example operator {LATER}; release R-2 other order {LATER}
 hold H-1 example --date 2026-08-05 {LATER}; hold H-0 other --date 2026-08-04 {LATER}; lift H-0 {LATER}"""
-READS = ("state", "report example", "digests example", f"due {LATER}", "audit",
+EXPLAIN, EXPLAINED_DAY = "explain example --date 2026-08-04 --revision 0", 20_669
+READS = ("state", "report example", EXPLAIN, "digests example", f"due {LATER}", "audit",
          "fetch R-1 example_2026-08-05_diff_S1_R0.ryde",
          f"preview example --date 2026-08-05 --kind diff --revision 0 --parts 1 --id X {LATER}")
 PUT = "put example_2026-08-06_full_S1_R0.ryde --now 2026-08-06T12:00:00Z"
 VERIFY = f"verify example --date 2026-08-06 --kind full --revision 0 --parts 1 --id X {LATER}"
 REFUSALS = {
-    "report": "Q2", "digests": "Q2", "fetch": "Q6 Q18 Q19", "put": "Q2 Q3 Q5 Q6 Q7 Q8 Q9 Q10 Q11"} | dict.fromkeys(
-    ("verify", "preview"), "Q2 Q3 Q6 Q8 Q9 Q12 Q13")
+    "report": "Q2", "explain": "Q2 Q6 Q22", "digests": "Q2", "fetch": "Q6 Q18 Q19",
+    "put": "Q2 Q3 Q5 Q6 Q7 Q8 Q9 Q10 Q11"} | dict.fromkeys(("verify", "preview"), "Q2 Q3 Q6 Q8 Q9 Q12 Q13")
 
 
 def read(folder: str) -> Files:
@@ -458,6 +459,16 @@ def digests(rows: Rows) -> bytes:
     return b"".join(b"%s  %s\n" % (part.sha.hex().encode(), name_of(part)) for part in parts)
 
 
+def is_explained(rows: Rows, answer: Answer) -> bool:
+    """Whether the answer of EXPLAIN is a line with the check of the notice, or Q22 where there is no failure."""
+    checks = [row.kind for row in rows["notice"]
+              if (row.tld, row.day, row.rev) == (b"example", EXPLAINED_DAY, 0) and 1 <= row.kind <= 13]
+    if not checks:
+        return answer.err in (b"Q2 registry unknown\n", b"Q22 no failure\n")
+    line = rb"FAILURE-%02d [ -~]+\n" % checks[0]
+    return re.fullmatch(line, answer.out) is not None or answer.err in (b"Q6 dropped after keeping\n", b"C5 damaged H8\n")
+
+
 def due(rows: Rows) -> bytes:
     """The output of `due` at the later moment."""
     noticed = {(row.tld, row.day) for row in rows["notice"]}
@@ -494,7 +505,7 @@ def is_on_page(command: str, answer: Answer) -> bool:
         return answer.status == 3
     return (answer.status == STATUSES.get(re.sub("H[0-8]$", "Hn", line))
             and (line[0] == "C" or line.split()[0] in REFUSALS.get(command, "").split())
-            and (line != "C5 damaged H8" or command in ("fetch", "put", "verify", "preview")))
+            and (line != "C5 damaged H8" or command in ("explain", "fetch", "put", "verify", "preview")))
 
 
 def gone_over(objects: list[tuple], rows: Rows) -> tuple[list[tuple], Rows]:
@@ -557,6 +568,8 @@ def reads(files: Files, found: Look | None, wrong: list[str]) -> tuple[Answer, l
     if expected and label not in expected:
         wrong.append(f"state gives {label}, the pages {' or '.join(expected)}: {found and found.rows}")
     elif expected and label == "opens":
+        if not is_explained(found.rows, came[EXPLAIN]):
+            wrong.append(f"{EXPLAIN} gives {came[EXPLAIN]}, and the notices are {found.rows['notice']}")
         wrong += [f"{line} gives {came[line]}, the pages {text}"
                   for line, text in answers(found.rows, files["vault.vol"]).items() if came[line].out != text]
     return came["state"], expected

@@ -102,6 +102,13 @@ def stated(day: str = DAY, kind: str = "full", at: str = "", number: str = "", p
     return f"example --date {day} --kind {kind} --revision {revision} --parts {parts} --id {number} --now {at}"
 
 
+def explained(day: str = DAY, revision: int = 0, tld: str = "example") -> str:
+    """The words behind `escrow explain VAULT` that ask why a revision has failed."""
+    return f"{tld} --date {day} --revision {revision}"
+
+
+# Why a deposit has failed that is no frame.
+EXPLAINED = "FAILURE-01 F1: it does not begin with RDE1 and a space"
 # The first part of the day, a deposit of one part that passes, and the notice of its statement at FIVE.
 PART, DEPOSIT, RECEIPT = part_name(), deposit("full"), notice(1, "RECEIPT", DAY, FIVE, "20260802001")
 # The transcript that makes a vault `d` with this deposit and its receipt.

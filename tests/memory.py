@@ -69,7 +69,7 @@ def examples() -> Iterator[str]:
     """The examples of calls that are repeated, each with the files that it names."""
     script = (CRATES / "agent_script/stdin").read_text()
     files, name = {}, ""
-    for line in re.findall(r"^! (?:file|more|lettered) .*$", script, re.M):
+    for line in re.findall(r"^! (?:file|more|rows|lettered) .*$", script, re.M):
         name = name if line.startswith("! more ") else line.split(" ")[2]
         files.setdefault(name, []).append(line)
     for example in script.split("\n\n"):

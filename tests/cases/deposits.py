@@ -1,13 +1,16 @@
 """Deposits that are stated, and the verdict on each."""
 import functools
+import re
 
 from lib import (
-    DAY, DEPOSIT, FIVE, PART, PASSED, RECEIPT, TEN, Room, deposit, each, notice, part_name, state, stated, transcripts)
+    DAY, DEPOSIT, FIVE, PART, PASSED, RECEIPT, TEN, Room, deposit, each, explained, notice, part_name, state, stated,
+    transcripts)
 
 DOMAIN = {"domain": "a.example,D1-EX,,R9,2020-01-01T00:00:00Z,2030-01-01T00:00:00Z\n"}
 R1, KEY, FIRST, SECOND = "R1,Example,292,ok\n", "R1\n", "20260802001", "20260803001"
 MONDAY, TUESDAY, SUNDAY, AGAIN = "2026-08-03", "2026-08-04", "2026-08-09", part_name(revision=1)
 ABSENCES = "\n".join(notice(count, "ABSENCE", day, "2026-08-05T00:00:00Z") for count, day in ((2, MONDAY), (3, TUESDAY)))
+NO_FAILURE = "!1 Q22 no failure"
 FAILURES = [notice(revision + 1, "FAILURE-01", DAY, FIVE, "X", revision) for revision in (0, 1)]
 
 transcripts(__name__, f"""
@@ -143,7 +146,9 @@ def in_this_order(room: Room, *deposits: tuple) -> None:
             told, verdict = (notice(it, verdict, day, at, day.replace("-", "") + "001") for it in (0, len(notices) + 1))
         reported = ["$ escrow report d example", *notices]
         notices += [] if verdict.startswith("!") else [verdict]
+        failure = re.search(r"FAILURE-\d\d", verdict)
         room.plays("\n".join((*commands, f"$ escrow state d | grep {name} -> part {name} {len(content)} held {put}",
                               f"$ escrow preview d {stated(day, kind, at)} -> {told}", *reported,
                               f"$ escrow verify d {stated(day, kind, at)} -> {verdict}",
+                              f"$ escrow explain d {explained(day)} | cut -d ' ' -f 1 -> {failure[0] if failure else NO_FAILURE}",
                               "$ escrow report d example", *notices)))

@@ -11,7 +11,7 @@ from collections.abc import Callable, Iterator
 from concurrent.futures import ThreadPoolExecutor
 
 from http_sockets import LARGE_HELD, kept
-from lib import DAY, FIVE, PART, TEN, TOP, Room, Skip, case, free_port, notice, part_name, state, statement
+from lib import DAY, EXPLAINED, FIVE, PART, TEN, TOP, Room, Skip, case, free_port, notice, part_name, state, statement
 
 TOOLS = "curl nginx openssl"
 SECOND, THIRD, OTHER = part_name(part=2), part_name(part=3), part_name(tld="other")
@@ -170,6 +170,7 @@ def what_a_registry_may_not_ask_is_stopped(room: Room) -> None:
                 f"-T hello $url/deposits/example_/../{OTHER}", f"-T hello $url/deposits/./{PART}",
                 f"-T hello $url//deposits/{PART}", f"-T hello $url/deposits/{PART}?x=1",
                 f"-T hello $url/deposits/%65{PART[1:]}", f"-T hello $url/deposits/{PART.replace('_', '%5f', 1)}",
+                f"$url/reasons/other/{DAY}/0", f"-d '' $url/reasons/example/{DAY}/0",
                 "$url/notices/example?tld=other", "$url/notices/example/", "$url/state", "$url/due", "$url/digests/example",
                 "$url/vaults/archive/notices/example")),
             *((caller, 403, None, words) for caller in NOBODY for words in (
@@ -178,6 +179,29 @@ def what_a_registry_may_not_ask_is_stopped(room: Room) -> None:
             ("expired", 400, None, "$url/notices/example"),
             ("", 400, None, "$url/notices/example"),
             ("example", 200, "", "$url/notices/example")))
+
+
+@case(TOOLS)
+def a_registry_reads_why_its_own_deposit_has_failed(room: Room) -> None:
+    room.vault("d")
+    room.put("d", PART, "hello", TEN)
+    asked = f"$url/reasons/example/{DAY}/0"
+    # What is stopped does not reach the server, which is there for the other requests alone.
+    with room.serve("d", 7, FIVE) as server, gateway(room, server.port) as ask:
+        asks(room, ask, (
+            ("example", 404, "Q22 no failure", asked),
+            ("operator", 201, FAILURE, "-d @statement $url/statements"),
+            ("example", 200, EXPLAINED, asked),
+            ("operator", 200, EXPLAINED, asked),
+            ("example", 404, "Q22 no failure", f"$url/reasons/example/{DAY}/1"),
+            ("example", 400, "A10 form", f"$url/reasons/example/{DAY}/00"),
+            ("operator", 404, "Q2 registry unknown", f"$url/reasons/other/{DAY}/0"),
+            *((caller, 403, None, asked) for caller in ("other", *NOBODY)),
+            *(("example", 403, None, f"$url{path}") for path in (
+                f"/reasons/other/{DAY}/0", f"/reasons/example/{DAY}", f"/reasons/example/{DAY}/0/", f"//reasons/example/{DAY}/0",
+                f"/reasons/example/{DAY}/0?x=1", f"/reasons/example/{DAY}/%30", f"/reasons/example/{DAY}/-1",
+                f"/reasons/example/../other/{DAY}/0", f"/reasons/example/{DAY}/../../other/{DAY}/0",
+                f"/vaults/archive/reasons/example/{DAY}/0"))))
 
 
 @case(TOOLS)
@@ -281,7 +305,8 @@ def a_registry_reaches_no_other_vault(room: Room) -> None:
         for caller, own, foreign, name, other in (
                 ("example", PART, OTHER, "second", "other"), ("other", OTHER, PART, "archive", "example")):
             asks(room, ask, tuple((caller, 403, None, words) for words in (
-                f"$url/notices/{other}", f"-T hello $url/deposits/{foreign}", f"-d '' $url/checks/{other}/{DAY}",
+                f"$url/notices/{other}", f"$url/reasons/{other}/{DAY}/0", f"-T hello $url/deposits/{foreign}",
+                f"-d '' $url/checks/{other}/{DAY}", f"$url/vaults/{name}/reasons/{other}/{DAY}/0",
                 *(f"$url/vaults/{it}/notices/{caller}" for it in ("archive", "second", "third", "", "..")),
                 *(f"-T hello $url/vaults/{it}/deposits/{own}" for it in ("archive", "second", "third")),
                 f"$url/vaults/{name}/notices/{other}", f"-T hello $url/vaults/{name}/deposits/{foreign}",
@@ -299,7 +324,7 @@ def a_registry_reaches_no_other_vault(room: Room) -> None:
 @case(TOOLS)
 def the_operator_reaches_each_vault_by_its_name(room: Room) -> None:
     vaults(room)
-    with (room.serve("archive", 14, NEXT) as first, room.serve("second", 14, NEXT) as second,
+    with (room.serve("archive", 15, NEXT) as first, room.serve("second", 15, NEXT) as second,
           gateway(room, first.port, second.port) as ask):
         for (name, tld), (_, other) in (VAULTS, VAULTS[::-1]):
             url, part = f"$url/vaults/{name}", part_name(NEXT_DAY, tld=tld)
@@ -315,6 +340,7 @@ def the_operator_reaches_each_vault_by_its_name(room: Room) -> None:
                 (201, f"received {part} 5 {NEXT}", f"-T hello {url}/deposits/{part}"),
                 (201, failure, f"-d @statement {url}/statements"),
                 (200, f"{absence}\n{failure}", f"{url}/notices/{tld}"),
+                (200, EXPLAINED, f"{url}/reasons/{tld}/{NEXT_DAY}/0"),
                 (404, "Q2 registry unknown", f"{url}/notices/{other}"),
                 (200, f"{hashlib.sha256(b'hello').hexdigest()}  {part}", f"{url}/digests/{tld}"),
                 (201, f"held H-1 {tld} {NEXT_DAY} {NEXT}", f"-X PUT -d @day {url}/holds/H-1"),
@@ -350,7 +376,7 @@ def reaches(room: Room, ask: Ask, vault: str, line: str, path: str = "") -> None
 def a_path_without_a_vault_goes_to_that_of_its_domain_or_to_the_first(room: Room) -> None:
     with recorder("archive") as first, recorder("second") as second, gateway(room, first, second) as ask:
         for line in ("PUT /registries/other", f"PUT /deposits/{OTHER}", "GET /notices/other", "GET /digests/other",
-                     f"POST /checks/other/{DAY}"):
+                     f"POST /checks/other/{DAY}", f"GET /reasons/other/{DAY}/0"):
             reaches(room, ask, "second", line)
         for line in ("PUT /registries/example", f"PUT /deposits/{PART}", "GET /notices/third", "GET /digests/others",
                      f"POST /checks/an-other/{DAY}", f"PUT /deposits/other-{OTHER}", "GET /notices/", "GET /notices/%6fther",

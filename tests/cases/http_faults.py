@@ -18,6 +18,10 @@ HEADS = (
     ("GET /notices/", None, 404, "A3 no route"),
     ("GET /notices/other/", None, 404, "A3 no route"),
     ("GET //notices/other", None, 404, "A3 no route"),
+    (f"GET /reasons/example/{DAY}", None, 404, "A3 no route"),
+    (f"GET /reasons/example/{DAY}/", None, 404, "A3 no route"),
+    (f"GET /reasons/example/{DAY}/0/0", None, 404, "A3 no route"),
+    (f"GET /reasons/example/{DAY}/+1", None, 400, "A2 target"),
     (f"PUT /deposits/../deposits/{PART}", HELLO, 404, "A3 no route"))
 
 LENGTHS = (
@@ -47,6 +51,9 @@ FORMS = (
     ("PUT /releases/R-1", GROUND.replace("operator", "none"), 400, "A10 form"),
     ("PUT /releases/R_1", GROUND, 400, "A10 form"),
     ("GET /notices/Example", None, 400, "A10 form"),
+    ("GET /reasons/Example/2026-08-02/0", None, 400, "A10 form"),
+    *((f"GET /reasons/example/{it}/0", None, 400, "A10 form") for it in ("2026-02-29", "2026-8-2", "20260802", "0")),
+    *((f"GET /reasons/example/{DAY}/{it}", None, 400, "A10 form") for it in ("00", "01", "100", "-1", "R00", "0.0", "1e1")),
     ("POST /statements", statement(kind="FULL"), 400, "A10 form"),
     ("POST /statements", statement(parts=9), 400, "A10 form"),
     ("POST /statements", statement(revision=100), 400, "A10 form"))
@@ -62,6 +69,9 @@ METHODS = (
     ("DELETE /notices/example", None, "GET"),
     ("POST /state", "", "GET"),
     ("POST /due", "", "GET"),
+    (f"POST /reasons/example/{DAY}/0", "", "GET"),
+    (f"PUT /reasons/example/{DAY}/0", HELLO, "GET"),
+    ("DELETE /reasons/example/x/00", None, "GET"),
     ("PUT /digests/example", HELLO, "GET"),
     ("DELETE /purges", None, "POST"),
     ("post /purges", None, "POST"))
@@ -109,6 +119,7 @@ def a_volume_that_cannot_be_written_closes_the_vault(room: Room) -> None:
     routes(room, "$ vault d 300", TEN, (
         (PUT, LARGE, 503, "C2 volume failed"),
         (PUT, "hello", 503, "C4 closed"),
-        *((f"GET /{path}", None, 503, "C4 closed") for path in ("notices/example", "state", "due", "digests/example"))),
+        *((f"GET /{path}", None, 503, "C4 closed") for path in (
+            "notices/example", f"reasons/example/{DAY}/0", "state", "due", "digests/example"))),
         f"$ escrow state d -> {state(299, blocks=300)}", errors="C2 volume failed",
         under=("env", "--ignore-signal=XFSZ", "prlimit", "--fsize=700000"))

@@ -2,7 +2,7 @@
 import hashlib
 from pathlib import Path
 
-from lib import DAY, DEPOSIT, PART, TEN, Room, case, each, notice, part_name, state, stated, statement
+from lib import DAY, DEPOSIT, EXPLAINED, PART, TEN, Room, case, each, explained, notice, part_name, state, stated, statement
 
 EARLIER, LATER, FIFTH = part_name("2026-08-01", "diff"), part_name("2026-08-05"), "2026-08-05T00:00:00Z"
 SECOND, REVISION = part_name(part=2), part_name(revision=1)
@@ -81,11 +81,27 @@ $ echo -n hello > {PART}; escrow put d {PART} --now {TEN} -> received {PART} 5 {
         ("POST /statements", OTHER_ORDER, 201, FAILURE),
         (f"PUT /deposits/{SECOND}", "hello", 409, "Q8 already stated"),
         ("GET /notices/example", None, 200, FAILURE),
+        (f"GET /reasons/example/{DAY}/0", None, 200, EXPLAINED),
         (f"PUT /deposits/{REVISION}", LARGE, 201, f"received {REVISION} 1048576 {TEN}"),
         ("PUT /releases/R-1", GROUND, 201, f"released R-1 example operator {TEN} 2\n{PART}\n{REVISION}"),
-        (f"GET /releases/R-1/{REVISION}", None, 200, b"a" * 1_048_576)), "$ escrow state d -> " + state(
+        (f"GET /releases/R-1/{REVISION}", None, 200, b"a" * 1_048_576),
+        (f"GET /reasons/example/{DAY}/1", None, 404, "Q22 no failure")), "$ escrow state d -> " + state(
             42, f"part {PART} 5 held {TEN}", f"part {REVISION} 1048576 held {TEN}", FAILURE,
             f"release R-1 example operator {TEN} 2", blocks=300)),
+    ("a failure is explained", f"""$ vault d
+$ echo -n hello > {PART}; escrow put d {PART} --now {TEN} -> received {PART} 5 {TEN}""", "2027-08-03T00:00:00Z", (
+        (f"GET /reasons/example/{DAY}/0", None, 404, "Q22 no failure"),
+        ("POST /statements", statement(number="X"), 201, notice(1, "FAILURE-01", DAY, "2027-08-03T00:00:00Z", "X")),
+        (f"GET /reasons/example/{DAY}/0", None, 200, EXPLAINED),
+        (f"GET /reasons/example/{DAY}/1", None, 404, "Q22 no failure"),
+        (f"GET /reasons/example/{DAY}/99", None, 404, "Q22 no failure"),
+        ("GET /reasons/example/2026-08-03/0", None, 404, "Q22 no failure"),
+        (f"GET /reasons/other/{DAY}/0", None, 404, "Q2 registry unknown"),
+        ("POST /purges", "", 200, "dropped 1"),
+        (f"GET /reasons/other/{DAY}/0", None, 404, "Q2 registry unknown"),
+        (f"GET /reasons/example/{DAY}/1", None, 404, "Q22 no failure"),
+        (f"GET /reasons/example/{DAY}/0", None, 410, "Q6 dropped after keeping")),
+        f"$ escrow explain d {explained()} -> !1 Q6 dropped after keeping"),
     ("a day is on hold until the hold is lifted", "$ vault d", TEN, (
         ("PUT /holds/H-1", HOLD, 201, f"held H-1 example {DAY} {TEN}"),
         ("PUT /holds/H-1", HOLD, 200, f"held H-1 example {DAY} {TEN}"),

@@ -4,7 +4,7 @@ import datetime
 import re
 
 from deploy import ABSENCES, DEPLOY, FIRST, SECOND, SWEPT, UNPROVED
-from lib import TOP, Room, case, deposit, part_name, statement
+from lib import EXPLAINED, TOP, Room, case, deposit, part_name, statement
 from machine import TOOLS, Machine, machine
 
 PAGE = (TOP / "docs/OPERATING.md").read_text()
@@ -95,6 +95,7 @@ def watches(on: Machine) -> None:
     on.comes(f"{SWEPT} | tail -n 1", f"sweep: example {SECOND}: parts came, and no statement: no absence is recorded")
     on.equal(f"       2 FAILURE-01 {SECOND} R00 {number(SECOND)}", states(on, SECOND), "a deposit that fails")
     on.plays(f"""
+        $ {as_caller("example", f"{URL}/reasons/example/{SECOND}/0")} -> {EXPLAINED}
         $ systemctl start escrow-sweep@archive
         $ {PROBE} | cut -d ';' -f 1 -> ESCROW WARNING - no audit: {AUDITS} is missing
         !1

@@ -3,7 +3,9 @@ import random
 import threading
 
 from files import NOBODY
-from lib import DAY, PART, RECEIPT, TEN, Room, Skip, case, part_name, request, state, stated, transcripts
+from lib import (
+    DAY, EXPLAINED, FIVE, PART, RECEIPT, TEN, Room, Skip, case, explained, notice, part_name, request, state, stated,
+    transcripts)
 from older import STATE as OLDER_STATE, older_vault
 
 SECOND = part_name("2026-08-03")
@@ -27,6 +29,7 @@ READING = (
     (f"fetch d R-1 {SECOND} | sha256sum", "2cf24dba5fb0a30e26e83b2ac5b9e29e1b161e5c1fa7425e73043362938b9824  -"),
     (f"preview d {stated('2026-08-03', at='2026-08-04T10:00:00Z')}",
      "       0 FAILURE-01 2026-08-03 R00 20260803001   2026-08-04T10:00:00Z example"),
+    (f"explain d {explained()}", "!1 Q22 no failure"),
     ("report d other", "!1 Q2 registry unknown"))
 # Those that record something, or serve.
 RECORDING = (f"register d other --first {DAY}", f"put d {PART}", "sweep d", "purge d", f"hold d H-1 example --date {DAY}",
@@ -112,6 +115,13 @@ def a_vault_of_schema_1_is_read_and_stays_so(room: Room) -> None:
 
 
 transcripts(__name__, f"""
+== a failure is explained as elsewhere
+$ vault d
+$ echo -n hello > {PART}; escrow put d {PART} --now {TEN} -> received {PART} 5 {TEN}
+$ escrow verify d {stated()} -> {notice(1, "FAILURE-01", DAY, FIVE, "20260802001")}
+$ sha256sum d/* > digests; stat -c '%n %s %y' d/* > times; chmod 444 d/*
+$ {NOBODY} escrow explain d {explained()} -> {EXPLAINED}
+$ sha256sum -c --quiet digests; stat -c '%n %s %y' d/* | diff times -
 == damage is found as elsewhere
 {VAULT}
 $ sed -i s/hello/hellx/ d/vault.vol; chmod 444 d/*

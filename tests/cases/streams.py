@@ -1,7 +1,8 @@
 """Output that cannot be written, closed streams, and what is shown on a terminal."""
 import hashlib
 
-from lib import DAY, DEPOSIT, FIVE, PART, RECEIPT, TEN, notice, part_name, state, stated, transcripts
+from lib import (
+    DAY, DEPOSIT, EXPLAINED, FIVE, PART, RECEIPT, TEN, explained, notice, part_name, state, stated, transcripts)
 
 INIT, FIFTH = "--blocks 8 --number 0000000000000001", "2026-08-05T00:00:00Z"
 
@@ -40,7 +41,9 @@ LOST = "".join(f"$ escrow {words} > /dev/full -> !3 output failed\n$ escrow {wor
 WAYS = ("{} > /dev/full", "{} >&-", "exec 3> >(:); wait $!; {} >&3")
 HELP = "".join(f"$ {way.format('escrow ' + words)} -> !3 output failed\n" for way in WAYS
                for words in ("--help", "--version", "help", "help put", "put --help"))
-REFUSED = "".join(f"$ {way.format('escrow report d other')} -> !1 Q2 registry unknown\n" for way in WAYS)
+REFUSED = "".join(f"$ {way.format('escrow ' + words)} -> !1 {refusal}\n" for way in WAYS for words, refusal in (
+    ("report d other", "Q2 registry unknown"), (f"explain d {explained()}", "Q22 no failure")))
+UNEXPLAINED = "".join(f"$ {way.format('escrow explain d ' + explained())} -> !3 output failed\n" for way in WAYS)
 
 transcripts(__name__, f"""
 == a command whose output is lost says so and can be made again
@@ -60,6 +63,11 @@ $ vault d
 $ escrow report d example > /dev/full
 $ escrow due d --now {TEN} > /dev/full
 $ escrow sweep d --now {TEN} >&-
+== an explanation that is lost is a failure
+$ vault d
+$ echo -n hello > {PART}; escrow put d {PART} --now {TEN} -> received {PART} 5 {TEN}
+$ escrow verify d {stated()} -> {notice(1, "FAILURE-01", DAY, FIVE, "20260802001")}
+{UNEXPLAINED}$ escrow explain d {explained()} <&- -> {EXPLAINED}
 == damage that cannot be listed is a failure
 $ vault d
 $ echo -n hello > {PART}; escrow put d {PART} --now {TEN} -> received {PART} 5 {TEN}
