@@ -1,6 +1,9 @@
+pub mod AnyRecords
 pub mod Decided
 pub mod FieldLemmas
+pub mod FormTexts
 pub mod KeyLemmas
+pub mod KeyRows
 pub mod Records
 pub mod RepeatLemmas
 pub mod RowLemmas
@@ -8,4 +11,5 @@ pub mod SpellingLemmas
 pub mod TableReading
 pub mod Tables
 pub mod WalkLemmas
+pub mod WidthLemmas
 pub mod WritingLemmas

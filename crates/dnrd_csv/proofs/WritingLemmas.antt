@@ -6,7 +6,8 @@ use Rattle.std.proofs.lemmas.Bool.{cases_Bool, ne_eqb}
 use Rattle.std.proofs.lemmas.List.{append-nil, map-append, take_more}
 use Rattle.dnrd_csv.specs.Text.{escaped_field, field_text, row_text, table_text}
 
-doubled-append : (xs ys : List ℕ) → escaped_field (xs ++ ys) ≡ escaped_field xs ++ escaped_field ys
+-- the quotes of a part are doubled by themselves
+pub doubled-append : (xs ys : List ℕ) → escaped_field (xs ++ ys) ≡ escaped_field xs ++ escaped_field ys
 unfolding escaped_field
 doubled-append [] ys = refl
 doubled-append (byte ∷ xs) ys = elim (cases_Bool (byte == 34)) [

@@ -1,9 +1,11 @@
 //! Files of keys.
-ghost use Rattle.std.specs.Prelude.{◌≡◌, ◌<◌, ◌==◌, [], get_or, length};
+ghost use Rattle.std.specs.Prelude.{◌≡◌, ◌<◌, ◌==◌, ◌++◌, [], OnOk, get_or, length};
 ghost use Rattle.csv.specs.Records.{fields_of};
+ghost use Rattle.dnrd_csv.specs.Text.{key_rows, table_text};
 
-use crate::spelling::field_at;
+use crate::spelling::{field_at, write_row};
 use csv::ByteRecord;
+use std::alloc::AllocError;
 use std::marker::Model;
 
 /// The keys of a file, in its order.
@@ -56,5 +58,15 @@ impl Keys {
         ensures { result.now ≡ get_or self.now i [] }
     {
         field_at(&self.keys, i)
+    }
+
+    /// Writes the keys in their one spelling, each a row.
+    pub fn write(&self, out: &mut Vec<u8>) -> Result<(), AllocError>
+        ensures { OnOk result (out.new.items ≡ out.old.items ++ table_text (key_rows self.now)) }
+    {
+        for i in 0..self.len() {
+            write_row(&self.keys, i, i + 1, out)?;
+        }
+        Ok(())
     }
 }

@@ -1,6 +1,7 @@
-//! The comma-separated tables of a deposit (the CSV model of RFC 9022), each in its one spelling.
+//! The comma-separated tables of a deposit (the CSV model of RFC 9022), each in its one spelling, or read from any.
 #![tactic(auto)]
 
+mod any_spelling;
 mod errors;
 mod form;
 mod keys;
@@ -12,6 +13,7 @@ mod rows;
 mod spelling;
 mod table;
 
+pub use crate::any_spelling::{has_header, read_any_keys, read_any_table};
 pub use crate::errors::TableError;
 pub use crate::form::Form;
 pub use crate::keys::Keys;

@@ -75,8 +75,8 @@ fn next_row<'t>(
     }
 }
 
-// Adds the fields of a row.
-fn append(row: &ByteRecord, fields: &mut ByteRecord) -> Result<(), AllocError>
+/// Adds the fields of a row.
+pub fn append(row: &ByteRecord, fields: &mut ByteRecord) -> Result<(), AllocError>
     requires { partial_of fields.old ≡ [] }
     ensures fields { OnOk result (fields_of fields.new ≡ fields_of fields.old ++ fields_of row.now) }
     ensures partial { OnOk result (partial_of fields.new ≡ []) }

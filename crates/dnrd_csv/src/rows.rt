@@ -83,7 +83,7 @@ impl Rows {
     }
 
     /// Writes the rows in their one spelling.
-    pub(crate) fn write(&self, out: &mut Vec<u8>) -> Result<(), AllocError>
+    pub fn write(&self, out: &mut Vec<u8>) -> Result<(), AllocError>
         ensures { OnOk result (out.new.items ≡ out.old.items ++ table_text self.now) }
     {
         for i in 0..self.count {
