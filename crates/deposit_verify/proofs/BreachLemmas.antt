@@ -1,5 +1,6 @@
 -- The first place that breaks a rule of references.
 use Rattle.std.proofs.Common.{◌≡◌, ◌<◌, ◌↔◌, ◌⊎◌, ◌++◌, ◌∷◌, ◌∙◌, [], ℕ, true, false, All, Bool, Contains, List, Option, Some, None, ap, arith, get_or, inl, inr, length, refl, subst, sym}
+use Rattle.std.specs.Prelude.{MatchOption}
 use Rattle.std.proofs.lemmas.Bool.{cases_order}
 use Rattle.std.proofs.lemmas.List.Elements.{All-append, All-cons, All-contains, All-from_recursion, All-nil, Contains-append_cases, Contains-append_left, Contains-append_right, Contains-push_cases}
 use Rattle.deposit_name.specs.declared.table.TableName.{TableName}
@@ -7,9 +8,10 @@ use Rattle.deposit_name.specs.declared.table.TableName.TheVariants.{Domain, Doma
 use Rattle.dnrd_csv.specs.Table.{columns_of}
 use Rattle.deposit_verify.specs.declared.breaches.Breach.{Breach}
 use Rattle.deposit_verify.specs.declared.breaches.Rule.{Rule}
+use Rattle.deposit_verify.specs.declared.tables_reason.NoKey.{NoKey}
 use Rattle.deposit_verify.specs.Places.{table_place}
 use Rattle.deposit_verify.specs.References.{AreReferencesKept, IsKeyIn, column}
-use Rattle.deposit_verify.specs.TablesReasons.{AreRulesOfReferences, IsBefore, IsFirstBreach, IsKept, IsKeptAt, reference_rules, rule}
+use Rattle.deposit_verify.specs.TablesReasons.{AreRulesOfReferences, IsBefore, IsFirstBreach, IsFirstNoKey, IsKept, IsKeptAt, reference_rules, rule}
 use Rattle.deposit_verify.specs.inside.Reasons.{IsFirstFound, IsFirstRow}
 use Rattle.deposit_verify.proofs.Columns.{column_at, get_or-column, length-column}
 use Rattle.deposit_verify.proofs.HeaderDecided.{same_place}
@@ -226,6 +228,12 @@ rules_of_references tables = (there, back)
 pub broken_first : (tables : TableName → List (List (List ℕ))) (breach : Breach) → IsFirstBreach tables reference_rules breach → ¬ AreReferencesKept tables
 broken_first tables breach is kept =
     is.broken (All-contains (IsKept tables) reference_rules breach.rule ((rules_of_references tables).0 kept) is.among breach.row is.inside)
+
+-- the first key that is not there, or none, tells whether references are kept
+pub found_decides : (tables : TableName → List (List (List ℕ))) (found : Option NoKey) → MatchOption found (All (IsKept tables) reference_rules) (IsFirstNoKey tables)
+    → MatchOption found (AreReferencesKept tables) (λ missing. IsFirstNoKey tables missing × (¬ AreReferencesKept tables))
+found_decides tables None kept = (rules_of_references tables).1 kept
+found_decides tables (Some missing) first = (first, broken_first tables first.0 first.1)
 
 -- each rule is about a column that its table has
 pub rule_columns : All (λ (r : Rule). r.column < length (columns_of r.table)) reference_rules

@@ -19,8 +19,8 @@ use Rattle.deposit_verify.specs.Keys.{IsKeyAfter, IsNumberOf, keys_in}
 use Rattle.deposit_verify.specs.Known.{Known}
 use Rattle.deposit_verify.specs.Tables.{AreReadFrom, table_of}
 use Rattle.deposit_verify.specs.TablesReasons.{AreKeyNumbers, IsFirstWrong, IsTablesPlace, IsWrongCount, IsWrongKeyCount, said_counts}
-use Rattle.deposit_verify.specs.Verdict.{keys_after_files}
-use Rattle.deposit_verify.specs.inside.Reasons.{IsTablesReason, key_numbers}
+use Rattle.deposit_verify.specs.Verdict.{key_numbers, keys_after_files}
+use Rattle.deposit_verify.specs.inside.Reasons.{IsTablesReason}
 use Rattle.deposit_verify.proofs.CountsDecided.{after_is, was_read}
 use Rattle.deposit_verify.proofs.Judged.{under_names}
 use Rattle.deposit_verify.proofs.KeyCounts.{number_decides}

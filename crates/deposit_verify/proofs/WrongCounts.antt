@@ -13,8 +13,7 @@ use Rattle.deposit_verify.specs.declared.base.Base.{Base}
 use Rattle.deposit_verify.specs.declared.tables_reason.WrongCount.{WrongCount}
 use Rattle.deposit_verify.specs.Checks.{HasMenu}
 use Rattle.deposit_verify.specs.TablesReasons.{IsFirstWrong, said_counts}
-use Rattle.deposit_verify.specs.Verdict.{are_key_counts}
-use Rattle.deposit_verify.specs.inside.Reasons.{key_numbers}
+use Rattle.deposit_verify.specs.Verdict.{are_key_counts, key_numbers}
 use Rattle.deposit_verify.proofs.KeyCounts.{false_from}
 
 -- a deposit that has its menu has four counts

@@ -140,9 +140,9 @@ files_reason_text (Lengths said there) = codes "the files have " ++ (decimal sai
 files_reason_text (Digest f said found) =
     list_text f.list ++ (codes " " ++ (from_one f.place ++ (codes " " ++ (table_name_text f.name ++ (codes ": sha256 is " ++ (encode_lower found ++ (codes ", the envelope says " ++ encode_lower said)))))))
 
--- the row of a file
-abbrev pub row_place_text : FilePlace → ℕ → List ℕ
-row_place_text f row = file_place_text f ++ (codes " row " ++ from_one row)
+-- a row within its file
+abbrev pub row_text_within : ℕ → List ℕ
+row_text_within row = codes " row " ++ from_one row
 
 -- the name and the form of a column, from 0
 abbrev pub column_text : TableName → ℕ → List ℕ
@@ -159,24 +159,29 @@ width_of f = by_list f.list
     by_list list.Contents = length (columns_of f.name)
     by_list list.Deletes = 1
 
+-- what is wrong within a file, and where
+abbrev pub table_fault_text : FilePlace → TableError → List ℕ
+table_fault_text f (fault.NotUtf8 offset) = codes " offset " ++ (decimal offset ++ codes ": not UTF-8")
+table_fault_text f (fault.NotRows row) = row_text_within row ++ codes ": not a row in its one spelling"
+table_fault_text f (fault.ColumnCount row fields) = row_text_within row ++ (codes ": " ++ (decimal fields ++ (codes " fields, " ++ (decimal (width_of f) ++ codes " are wanted"))))
+table_fault_text f (fault.FieldForm row column field) =
+    row_text_within row ++ (codes " " ++ (column_text f.name column ++ (codes ": not " ++ (column_form_text f.name column ++ (codes ": " ++ field_shown field.items)))))
+table_fault_text f (fault.DuplicateKey row earlier) = row_text_within row ++ (codes ": the key of row " ++ from_one earlier)
+table_fault_text f fault.OutOfMemory = codes ": out of memory"
+
 abbrev pub no_table_text : NoTable → List ℕ
-no_table_text t = by_fault t.fault
-  where
-    by_fault : TableError → List ℕ
-    by_fault (fault.NotUtf8 offset) = file_place_text t.file ++ (codes " offset " ++ (decimal offset ++ codes ": not UTF-8"))
-    by_fault (fault.NotRows row) = row_place_text t.file row ++ codes ": not a row in its one spelling"
-    by_fault (fault.ColumnCount row fields) = row_place_text t.file row ++ (codes ": " ++ (decimal fields ++ (codes " fields, " ++ (decimal (width_of t.file) ++ codes " are wanted"))))
-    by_fault (fault.FieldForm row column field) =
-        row_place_text t.file row ++ (codes " " ++ (column_text t.file.name column ++ (codes ": not " ++ (column_form_text t.file.name column ++ (codes ": " ++ field_shown field.items)))))
-    by_fault (fault.DuplicateKey row earlier) = row_place_text t.file row ++ (codes ": the key of row " ++ from_one earlier)
-    by_fault fault.OutOfMemory = file_place_text t.file ++ codes ": out of memory"
+no_table_text t = file_place_text t.file ++ table_fault_text t.file t.fault
 
 abbrev pub wrong_count_text : WrongCount → List ℕ
 wrong_count_text c = or_nothing (λ uri. uri) (slice_get counted_uris c.place) ++ (codes " counts " ++ (decimal c.said ++ (codes ", " ++ (decimal c.there ++ codes " are there"))))
 
+-- a key that is not there, within the file that names it
+abbrev pub missing_key_text : NoKey → List ℕ
+missing_key_text r =
+    row_text_within r.row ++ (codes " " ++ (column_text r.table r.column ++ (codes ": no " ++ (table_name_text r.of ++ (codes ": " ++ field_shown r.key.items)))))
+
 abbrev pub no_key_text : NoKey → List ℕ
-no_key_text r =
-    table_name_text r.table ++ (codes " row " ++ (from_one r.row ++ (codes " " ++ (column_text r.table r.column ++ (codes ": no " ++ (table_name_text r.of ++ (codes ": " ++ field_shown r.key.items)))))))
+no_key_text r = table_name_text r.table ++ missing_key_text r
 
 abbrev pub read_fault_text : ReadFault → List ℕ
 read_fault_text (read.Files reason) = files_reason_text reason

@@ -1,4 +1,4 @@
--- Tables as they were read, for private clauses.
+-- Tables as they were read.
 use Rattle.std.specs.Prelude.{◌≡◌, ◌≢◌, ◌<◌, ℕ, List, [], All, AllPairs, IsTrue, Option, Some, None, length, slice_index_or}
 use Rattle.std.specs.List.{AllZip}
 use Rattle.deposit_name.specs.declared.table.TableName.{TableName}

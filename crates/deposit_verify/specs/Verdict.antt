@@ -128,6 +128,10 @@ abbrev pub are_key_counts : Env → Base → List (List (List (List ℕ))) → L
 are_key_counts v base tables deleted =
     pointwise (λ count name. count.count == distinct_count bytes_eq (keys_after_files v (keys_in base name) tables deleted name)) v.count counted_tables
 
+-- how many keys the counted tables have after a deposit, of these tables and deleted keys
+abbrev pub key_numbers : Env → Base → List (List (List (List ℕ))) → List (List (List (List ℕ))) → List ℕ
+key_numbers v base tables deleted = map (λ name. distinct_count bytes_eq (keys_after_files v (keys_in base name) tables deleted name)) counted_tables
+
 abbrev pub are_row_counts : List Count → (TableName → List (List (List ℕ))) → Bool
 are_row_counts counts tables = bytes_eq (map (λ c. c.count) counts) (map (λ name. length (tables name)) counted_tables)
 

@@ -9,9 +9,8 @@ ghost use Rattle.deposit_verify.specs.Bases.{base_after, base_at, base_of_first,
 ghost use Rattle.deposit_verify.specs.Chain.{IsBase, IsFirstOfChain, IsLaterOfChain};
 ghost use Rattle.deposit_verify.specs.Rows.{keys_after};
 ghost use Rattle.deposit_verify.specs.Tables.{AreCountable};
-ghost use Rattle.deposit_verify.specs.Verdict.{are_key_counts, is_full, keys_after_files};
+ghost use Rattle.deposit_verify.specs.Verdict.{are_key_counts, is_full, key_numbers, keys_after_files};
 ghost use Rattle.deposit_verify.specs.TablesReasons.{IsFirstWrong, said_counts};
-ghost use Rattle.deposit_verify.specs.inside.Reasons.{key_numbers};
 ghost use Rattle.deposit_verify.specs.inside.SortedKeys.{AreNamedKeys};
 ghost use Rattle.dnrd_csv.specs.inside.RowKeys.{borrowed_texts};
 
@@ -249,6 +248,25 @@ impl Base {
             (key_numbers (env_of envelope.now) self.now files.now.tables.items (map key_rows files.now.deleted.items))
             (said_counts (env_of envelope.now).count))) }
     {
+        let there = self.counts_after(alloc, envelope, files)?;
+        Ok(WrongCount::first(&envelope.header.count, there))
+    }
+
+    /// How many contacts, domains, hosts and registrars there are after a deposit.
+    ///
+    /// # Errors
+    ///
+    /// Want of memory, and nothing else.
+    pub fn counts_after(
+        &self,
+        alloc: Global,
+        envelope: &Envelope,
+        files: &FilesRead,
+    ) -> Result<[usize; 4], AllocError>
+        requires { AreCountable (env_of envelope.now) files.now.tables.items files.now.deleted.items }
+        ensures { IfOk result (λ counts. counts ≡ key_numbers (env_of envelope.now) self.now
+            files.now.tables.items (map key_rows files.now.deleted.items)) }
+    {
         let contacts = count_after(alloc, &self.contacts, envelope, files, TableName::Contact)?;
         let domains = count_after(alloc, &self.domains, envelope, files, TableName::Domain)?;
         let hosts = count_after(alloc, &self.hosts, envelope, files, TableName::Host)?;
@@ -259,7 +277,6 @@ impl Base {
             files,
             TableName::Registrar,
         )?;
-        let there = [contacts, domains, hosts, registrars];
-        Ok(WrongCount::first(&envelope.header.count, there))
+        Ok([contacts, domains, hosts, registrars])
     }
 }

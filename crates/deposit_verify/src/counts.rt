@@ -6,15 +6,16 @@ ghost use Rattle.deposit_name.specs.declared.kinds.Kind.TheVariants.{Full};
 ghost use Rattle.dnrd_csv.specs.Text.{key_rows};
 ghost use Rattle.deposit_verify.specs.Checks.{AreRowCounts};
 ghost use Rattle.deposit_verify.specs.Tables.{AreAllTables, AreCountable, FullSays, TablesSay, table_of};
-ghost use Rattle.deposit_verify.specs.TablesReasons.{IsFirstWrong, row_numbers, said_counts, tables_check};
-ghost use Rattle.deposit_verify.specs.Verdict.{chain_counts, is_full};
-ghost use Rattle.deposit_verify.specs.inside.Reasons.{IsTablesReason, key_numbers};
+ghost use Rattle.deposit_verify.specs.TablesReasons.{IsFirstNoKey, IsFirstWrong, row_numbers, said_counts, tables_check};
+ghost use Rattle.deposit_verify.specs.References.{AreReferencesKept};
+ghost use Rattle.deposit_verify.specs.Verdict.{chain_counts, is_full, key_numbers};
+ghost use Rattle.deposit_verify.specs.inside.Reasons.{IsTablesReason};
 
 use crate::base::Base;
 use crate::breaches::first_no_key;
 use crate::files_read::FilesRead;
 use crate::references::are_references_kept;
-use crate::tables_reason::{TablesReason, WrongCount};
+use crate::tables_reason::{NoKey, TablesReason, WrongCount};
 use deposit_name::Kind;
 use dnrd_csv::Rows;
 use envelope::{Count, Envelope};
@@ -34,6 +35,22 @@ fn wrong_row_count(counts: &[Count], tables: &[Rows]) -> Option<WrongCount>
     WrongCount::first(counts, [contacts, domains, hosts, registrars])
 }
 
+/// The first field of all eight tables, in their order, then by row and column, that names a key which is not there.
+///
+/// # Errors
+///
+/// Want of memory, and nothing else.
+pub fn missing_key(alloc: Global, tables: &[Rows]) -> Result<Option<NoKey>, AllocError>
+    requires { AreAllTables tables.now }
+    ensures { IfOk result (λ found. MatchOption found (AreReferencesKept (table_of tables.now))
+        (λ missing. IsFirstNoKey (table_of tables.now) missing × ¬ AreReferencesKept (table_of tables.now))) }
+{
+    if are_references_kept(alloc, tables)? {
+        return Ok(None);
+    }
+    first_no_key(alloc, tables)
+}
+
 // Why a full deposit with these counts and tables fails the first of the checks of counts and references that it fails.
 fn full_fault(
     alloc: Global,
@@ -48,10 +65,7 @@ fn full_fault(
     if let Some(wrong) = wrong_row_count(counts, tables) {
         return Ok(Some(TablesReason::Count(wrong)));
     }
-    if are_references_kept(alloc, tables)? {
-        return Ok(None);
-    }
-    match first_no_key(alloc, tables)? {
+    match missing_key(alloc, tables)? {
         Some(missing) => Ok(Some(TablesReason::Reference(missing))),
         None => Ok(None),
     }

@@ -1,5 +1,5 @@
 //! What is read behind an envelope.
-ghost use Rattle.std.specs.Prelude.{◌≡◌, ◌≤◌, ℕ, List, IfErr, IfOk, MatchResult, length, slice_get};
+ghost use Rattle.std.specs.Prelude.{◌≡◌, ◌≤◌, ℕ, List, IfErr, IfOk, MatchResult, length, map, slice_get};
 ghost use Rattle.dnrd_csv.specs.inside.RowKeys.{borrowed_texts};
 ghost use Rattle.envelope.specs.Envelope.{IsEnvelope, env_of};
 ghost use Rattle.deposit_verify.specs.Checks.{HasMenu};
@@ -50,15 +50,19 @@ fn file_place(envelope: &Envelope, place: usize, name: TableName) -> FilePlace
     FilePlace { list, place, name }
 }
 
-// Cuts bytes into the files of an envelope, or tells why they are not its files.
-fn envelope_files<'d>(
+/// Cuts the bytes behind an envelope into its files, or tells why they are not its files.
+///
+/// # Errors
+///
+/// Want of memory, and nothing else.
+pub fn envelope_files<'d>(
     alloc: Global,
     envelope: &Envelope,
     rest: &'d [u8],
 ) -> Result<Result<Vec<&'d [u8]>, FilesReason>, AllocError>
     requires { IsEnvelope (env_of envelope.now) }
     ensures cut { IfOk result (λ cut. MatchResult cut
-        (λ files. AreFiles (all_entries (env_of envelope.now)) rest.now (borrowed_texts files.items))
+        (λ files. AreFiles (all_entries (env_of envelope.now)) rest.now (map (λ file. file.now) files.items))
         (λ _. (files : List (List ℕ)) → ¬ AreFiles (all_entries (env_of envelope.now)) rest.now files)) }
     ensures reason { IfOk result (λ cut. IfErr cut (IsFilesReason (env_of envelope.now) rest.now)) }
 {

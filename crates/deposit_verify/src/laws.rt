@@ -1,6 +1,7 @@
 //! What holds of every verdict.
-ghost use Rattle.std.specs.Prelude.{◌≡◌, ℕ, List};
-ghost use Rattle.deposit_verify.specs.Checks.{IsVerdict};
+ghost use Rattle.std.specs.Prelude.{◌≡◌, ◌↔◌, ℕ, List};
+ghost use Rattle.desk.specs.declared.checks.Check.{Check};
+ghost use Rattle.deposit_verify.specs.Checks.{IsVerdict, PassesCheck};
 ghost use Rattle.deposit_verify.specs.Known.{Known};
 ghost use Rattle.deposit_verify.specs.Bases.{AreBases};
 ghost use Rattle.deposit_verify.specs.Chain.{AreChainKeys};
@@ -13,7 +14,7 @@ ghost use Rattle.deposit_verify.specs.inside.Reading.{OneReading};
 ghost use Rattle.dnrd_csv.specs.Readers.{IsTableReader};
 ghost use Rattle.envelope.specs.Readers.{AreReaders};
 ghost use Rattle.deposit_verify.specs.declared.verdict.Verdict.{Verdict};
-ghost use Rattle.deposit_verify.specs.declared.verdict.Verdict.TheVariants.{Fail};
+ghost use Rattle.deposit_verify.specs.declared.verdict.Verdict.TheVariants.{Pass, Fail};
 
 use dnrd_csv::{law_one_text, law_table_reader};
 use envelope::{law_one_reading, law_readers};
@@ -41,6 +42,13 @@ pub fn law_verdict()
 {
     law_reading();
     law_one_text();
+}
+
+/// A deposit has the verdict of a pass exactly if it passes each check.
+pub fn law_pass()
+    ensures { (joined : List ℕ) (known : Known) → (verdict joined known ≡ Pass) ↔ ((c : Check) → PassesCheck joined known c) }
+{
+    law_verdict();
 }
 
 /// Why a deposit fails: one that has a reason has that verdict.

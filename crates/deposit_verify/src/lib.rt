@@ -26,13 +26,17 @@ mod verification;
 
 pub use about::About;
 pub use base::Base;
+pub use counts::missing_key;
+pub use files_read::{FilesRead, envelope_files};
 pub use files_reason::{FileList, FilePlace, FilesReason, NoTable, ReadFault};
 pub use header_reason::{HeaderReason, MenuReason, OtherName};
 pub use laws::{
-    law_bases, law_chain_numbers, law_chains, law_one_verdict, law_reasons, law_reference_rules,
-    law_verdict,
+    law_bases, law_chain_numbers, law_chains, law_one_verdict, law_pass, law_reasons,
+    law_reference_rules, law_verdict,
 };
+pub use menu::{menu_reason, wanted_uri};
 pub use reason::Reason;
+pub use reason_text::{MissingKeyText, TableFaultText};
 pub use tables_reason::{NoKey, TablesReason, WrongCount};
 pub use verdict::Verdict;
 pub use verification::{explain, verify};

@@ -13,7 +13,7 @@ use crate::places::table_place;
 use deposit_name::{Kind, TableName};
 use envelope::{Count, Envelope, FileEntry, Uri};
 
-/// The URI that stands at a place of the menu, from 0: none behind the last.
+/// The URI of the object that stands at a place of the menu (RFC 9022), from 0: none behind the last.
 pub fn wanted_uri(place: usize) -> Option<&'static [u8]>
     ensures { option_map (λ uri. uri.now) result ≡ slice_get object_uris place }
 {

@@ -3,7 +3,7 @@ ghost use Rattle.std.specs.Prelude.{◌≡◌, ◌+◌, ◌-◌, ◌^◌, Some, 
 ghost use Rattle.std.specs.Fmt.{DisplaysOnOk, WritesOnOk};
 ghost use Rattle.hex.specs.Hex.{encode_lower};
 ghost use Rattle.dnrd_csv.specs.ErrorText.{form_text};
-ghost use Rattle.deposit_verify.specs.ReasonText.{byte_shown, column_form_text, column_text, envelope_reason_text, field_shown, file_place_text, files_reason_text, frame_reason_text, header_reason_text, list_text, menu_reason_text, no_key_text, no_table_text, or_nothing, or_nothing_output, other_name_text, read_fault_text, reason_text, row_place_text, tables_reason_text, wanted_byte_text, wanted_id_text, width_of, wrong_count_text};
+ghost use Rattle.deposit_verify.specs.ReasonText.{byte_shown, column_form_text, column_text, envelope_reason_text, field_shown, file_place_text, files_reason_text, frame_reason_text, header_reason_text, list_text, menu_reason_text, missing_key_text, no_key_text, no_table_text, or_nothing, or_nothing_output, other_name_text, read_fault_text, reason_text, row_text_within, table_fault_text, tables_reason_text, wanted_byte_text, wanted_id_text, width_of, wrong_count_text};
 
 use crate::files_reason::{FileList, FilePlace, FilesReason, NoTable, ReadFault};
 use crate::header_reason::{HeaderReason, MenuReason, OtherName};
@@ -333,18 +333,15 @@ impl fmt::Display for FilesReason {
     }
 }
 
-/// A row of a file.
+/// A row, from 0, within its file.
 #[derive(Clone, Copy)]
-struct RowOf {
-    file: FilePlace,
-    row: usize,
-}
+struct Row(usize);
 
-impl fmt::Display for RowOf {
-    ghost output = { λ r. Some (row_place_text r.file r.row) };
+impl fmt::Display for Row {
+    ghost output = { λ r. Some (row_text_within r.0) };
 
     fn fmt<W: fmt::Write>(&self, f: &mut fmt::Formatter<W>) -> fmt::Result {
-        write!(f, "{} row {}", self.file, from_one(self.row))
+        write!(f, " row {}", from_one(self.0))
     }
 }
 
@@ -376,40 +373,47 @@ fn width_of(file: &FilePlace) -> usize
     }
 }
 
-impl fmt::Display for NoTable {
-    ghost output = { λ t. Some (no_table_text t) };
+/// What is wrong with a file, and where in it: the line of a [`NoTable`] behind the name of its file.
+#[derive(Clone, Copy)]
+pub struct TableFaultText<'t>(pub &'t NoTable);
+
+impl fmt::Display for TableFaultText<'_> {
+    ghost output = { λ t. Some (table_fault_text t.0.now.file t.0.now.fault) };
 
     fn fmt<W: fmt::Write>(&self, f: &mut fmt::Formatter<W>) -> fmt::Result {
-        let file = self.file;
-        match &self.fault {
-            TableError::NotUtf8 { offset } => { write!(f, "{file} offset {offset}: not UTF-8") }
-            TableError::NotRows { row } => write!(
-                f,
-                "{}: not a row in its one spelling",
-                RowOf { file, row: *row }
-            ),
+        let file = self.0.file;
+        match &self.0.fault {
+            TableError::NotUtf8 { offset } => { write!(f, " offset {offset}: not UTF-8") }
+            TableError::NotRows { row } => {
+                write!(f, "{}: not a row in its one spelling", Row(*row))
+            }
             TableError::ColumnCount { row, fields } => write!(
                 f,
                 "{}: {fields} fields, {} are wanted",
-                RowOf { file, row: *row },
+                Row(*row),
                 width_of(&file)
             ),
             TableError::FieldForm { row, column, field } => write!(
                 f,
                 "{} {}: not {}: {}",
-                RowOf { file, row: *row },
+                Row(*row),
                 column_name(file.name, *column),
                 column_form(file.name, *column),
                 Shown(field),
             ),
-            TableError::DuplicateKey { row, earlier } => write!(
-                f,
-                "{}: the key of row {}",
-                RowOf { file, row: *row },
-                from_one(*earlier)
-            ),
-            TableError::OutOfMemory => write!(f, "{file}: out of memory"),
+            TableError::DuplicateKey { row, earlier } => {
+                write!(f, "{}: the key of row {}", Row(*row), from_one(*earlier))
+            }
+            TableError::OutOfMemory => f.write_str(": out of memory"),
         }
+    }
+}
+
+impl fmt::Display for NoTable {
+    ghost output = { λ t. Some (no_table_text t) };
+
+    fn fmt<W: fmt::Write>(&self, f: &mut fmt::Formatter<W>) -> fmt::Result {
+        write!(f, "{}{}", self.file, TableFaultText(self))
     }
 }
 
@@ -438,19 +442,31 @@ impl fmt::Display for WrongCount {
     }
 }
 
+/// Which key is not there, and where in its file: the line of a [`NoKey`] behind the name of its table.
+#[derive(Clone, Copy)]
+pub struct MissingKeyText<'k>(pub &'k NoKey);
+
+impl fmt::Display for MissingKeyText<'_> {
+    ghost output = { λ t. Some (missing_key_text t.0.now) };
+
+    fn fmt<W: fmt::Write>(&self, f: &mut fmt::Formatter<W>) -> fmt::Result {
+        let missing = self.0;
+        write!(
+            f,
+            "{} {}: no {}: {}",
+            Row(missing.row),
+            column_name(missing.table, missing.column),
+            missing.of,
+            Shown(&missing.key),
+        )
+    }
+}
+
 impl fmt::Display for NoKey {
     ghost output = { λ r. Some (no_key_text r) };
 
     fn fmt<W: fmt::Write>(&self, f: &mut fmt::Formatter<W>) -> fmt::Result {
-        write!(
-            f,
-            "{} row {} {}: no {}: {}",
-            self.table,
-            from_one(self.row),
-            column_name(self.table, self.column),
-            self.of,
-            Shown(&self.key),
-        )
+        write!(f, "{}{}", self.table, MissingKeyText(self))
     }
 }
 
