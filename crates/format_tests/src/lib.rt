@@ -20,6 +20,8 @@ mod memory;
 #[cfg(test)]
 mod names;
 #[cfg(test)]
+mod packing;
+#[cfg(test)]
 mod tables;
 #[cfg(test)]
 mod verdicts;

@@ -1,0 +1,109 @@
+//! Checking a deposit as an agent does.
+use crate::deposits::{JoinedDeposit, read_chain, read_deposit};
+use crate::errors::ProgramError;
+use deposit_name::{DepositId, Kind};
+use deposit_pack::{Chain, TableFile, Unpacked, check, unpack};
+use deposit_verify::Reason;
+use dnrd_csv::{read_keys, read_table};
+use envelope::{read_envelope, split_frame};
+use std::alloc::Global;
+use std::io;
+
+// What is left out without the deposits before it.
+fn left_out(kind: Kind, has_chain: bool) -> &'static str {
+    match (kind, has_chain) {
+        (_, true) => "",
+        (Kind::Full, false) => ", without check 7",
+        (_, false) => ", without checks 6, 7 and 11",
+    }
+}
+
+fn type_text(kind: Kind) -> &'static str {
+    match kind {
+        Kind::Full => "FULL",
+        Kind::Diff => "DIFF",
+        Kind::Incr => "INCR",
+    }
+}
+
+// The id of a deposit that has passed.
+fn id_of(alloc: Global, deposit: &JoinedDeposit) -> Option<DepositId> {
+    let frame = split_frame(&deposit.bytes).ok()?;
+    Some(read_envelope(alloc, frame.envelope).ok()?.id)
+}
+
+fn output(printed: io::Result<()>) -> Result<(), ProgramError> {
+    match printed {
+        Ok(()) => Ok(()),
+        Err(_) => Err(ProgramError::Output),
+    }
+}
+
+// Prints each table with the number of its rows.
+fn print_tables(rt: &HostRuntime, files: &[TableFile<'_>]) -> Result<(), ProgramError> {
+    for TableFile { name, text } in files {
+        if let Ok(table) = read_table(rt.alloc(), *name, text) {
+            output(println!(rt; "{name} {}", table.rows.len()))?;
+        }
+    }
+    Ok(())
+}
+
+fn print_deletes(rt: &HostRuntime, files: &[TableFile<'_>]) -> Result<(), ProgramError> {
+    for TableFile { name, text } in files {
+        if !name.has_deletes() {
+            continue;
+        }
+        if let Ok(keys) = read_keys(rt.alloc(), *name, text) {
+            output(println!(rt; "deletes/{name} {}", keys.len()))?;
+        }
+    }
+    Ok(())
+}
+
+// Prints that a deposit passes, and how many rows each of its tables has.
+fn print_pass(
+    rt: &HostRuntime,
+    deposit: &JoinedDeposit,
+    has_chain: bool,
+) -> Result<(), ProgramError> {
+    let alloc = rt.alloc();
+    let (Some(id), Ok(files)) = (id_of(alloc, deposit), unpack(alloc, &deposit.bytes)?) else {
+        return Err(ProgramError::Memory);
+    };
+    let kind = deposit.name.kind;
+    let day = deposit.name.day;
+    output(println!(rt;
+        "PASS {} {id} {day}{}",
+        type_text(kind),
+        left_out(kind, has_chain)
+    ))?;
+    print_tables(rt, &files.contents)?;
+    print_deletes(rt, &files.deletes)
+}
+
+/// Prints what an agent would say of a deposit, and answers whether it passes.
+pub fn print_check(
+    rt: &HostRuntime,
+    deposit: &JoinedDeposit,
+    chain: Option<Chain>,
+) -> Result<bool, ProgramError> {
+    let has_chain = chain.is_some();
+    match check(rt.alloc(), &deposit.name, &deposit.bytes, chain)? {
+        None => {
+            print_pass(rt, deposit, has_chain)?;
+            Ok(true)
+        }
+        Some(reason) => {
+            output(println!(rt; "FAILURE-{:02} {reason}", reason.check().number()))?;
+            Ok(false)
+        }
+    }
+}
+
+/// Checks the deposit whose parts these are, after the deposits whose parts those are. It answers whether it passes.
+pub fn check_files(rt: &HostRuntime, files: &[&str], after: &[&str]) -> Result<bool, ProgramError> {
+    let deposit = read_deposit(rt, files)?;
+    let chain = read_chain(rt, after)?;
+    print_check(rt, &deposit, chain)
+}

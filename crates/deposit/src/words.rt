@@ -1,0 +1,209 @@
+//! The words of a call, read by `clap`.
+use crate::errors::ProgramError;
+use clap::builder::ValueParser;
+use clap::error::ErrorKind;
+use clap::{Arg, ArgAction, ArgMatches, Command};
+use deposit_name::{DepositId, DepositName, Kind, Tld};
+use deposit_pack::Attributes;
+use schedule::read_day;
+use std::alloc::{AllocError, Global};
+
+/// A deposit that is to be packed.
+#[derive(Clone, Copy)]
+pub struct PackOrder<'w> {
+    /// The folder of the tables.
+    pub tables: &'w str,
+    pub attributes: Attributes,
+    pub has_headers: bool,
+    /// The folder for its parts.
+    pub folder: &'w str,
+}
+
+fn required<'w>(alloc: Global, id: &'w str, value: &'w str, help: &'w str) -> Arg<'w> {
+    Arg::new(alloc, id)
+        .long(id)
+        .value_name(value)
+        .required(true)
+        .help(help)
+}
+
+fn files<'w>(alloc: Global, help: &'w str) -> Arg<'w> {
+    Arg::new(alloc, "FILE")
+        .required(true)
+        .num_args(1..)
+        .action(ArgAction::Append)
+        .help(help)
+}
+
+fn after<'w>(alloc: Global) -> Arg<'w> {
+    Arg::new(alloc, "after")
+        .long("after")
+        .value_name("FILE")
+        .num_args(1..)
+        .action(ArgAction::Append)
+        .help("Parts of the deposits that it follows: a full one, and those since")
+}
+
+fn out<'w>(alloc: Global, help: &'w str) -> Arg<'w> {
+    required(alloc, "out", "FOLDER", help)
+}
+
+fn pack_command<'w>(alloc: Global) -> Result<Command<'w>, AllocError> {
+    let revision = required(alloc, "revision", "N", "Resend number, 0 to 99").value_parser(
+        ValueParser::signed(0, 99),
+    );
+    let previous = Arg::new(alloc, "previous")
+        .long("previous")
+        .value_name("ID")
+        .help("Id of the deposit that it follows: of a diff, the latest that passed");
+    let header = Arg::new(alloc, "header")
+        .long("header")
+        .action(ArgAction::SetTrue)
+        .help("The first row of each file is the names of its columns");
+    Command::new(alloc, "pack")
+        .about("Packs the tables of a folder as a deposit")
+        .after_help(
+            "TABLES has domain.csv, domainContacts.csv, domainStatuses.csv, domainNameServers.csv, host.csv,\n\
+             hostAddresses.csv, contact.csv and registrar.csv: all eight for a full deposit, those with changes\n\
+             for any other. Deleted keys are in deletes/domain.csv, deletes/host.csv, deletes/contact.csv and\n\
+             deletes/registrar.csv.\n\
+             Prints: each part and its length, then how to state the deposit\n\
+             Example: deposit pack tables --tld example --date 2026-08-02 --kind full --revision 0 \
+             --id 20260802001 --out parts",
+        )
+        .arg(
+            Arg::new(alloc, "TABLES")
+                .required(true)
+                .help("Folder of the tables"),
+        )?
+        .arg(required(alloc, "tld", "TLD", "Top-level domain of the registry"))?
+        .arg(required(
+            alloc,
+            "date",
+            "DATE",
+            "Day of the deposit, such as 2026-08-02",
+        ))?
+        .arg(required(alloc, "kind", "KIND", "full, diff or incr"))?
+        .arg(revision)?
+        .arg(required(
+            alloc,
+            "id",
+            "ID",
+            "Id of the deposit, 1 to 13 letters and digits",
+        ))?
+        .arg(previous)?
+        .arg(after(alloc))?
+        .arg(header)?
+        .arg(out(alloc, "Folder for the parts; it is made if it is not there"))
+}
+
+fn check_command<'w>(alloc: Global) -> Result<Command<'w>, AllocError> {
+    Command::new(alloc, "check")
+        .about("Says what an agent will say of a deposit")
+        .after_help(
+            "Prints: PASS TYPE ID DATE and the rows of each table, or FAILURE-nn and why, with status 1\n\
+             Example: deposit check parts/example_2026-08-02_full_S1_R0.ryde",
+        )
+        .arg(files(alloc, "Parts of one deposit"))?
+        .arg(after(alloc))
+}
+
+fn unpack_command<'w>(alloc: Global) -> Result<Command<'w>, AllocError> {
+    Command::new(alloc, "unpack")
+        .about("Writes the tables of a deposit into a folder")
+        .after_help(
+            "Prints: what `check` prints, then each file and its length\n\
+             Example: deposit unpack example_2026-08-02_full_S1_R0.ryde --out tables",
+        )
+        .arg(files(alloc, "Parts of one deposit"))?
+        .arg(out(alloc, "Folder for the files; it is made if it is not there"))
+}
+
+fn deposit_command<'w>(alloc: Global) -> Result<Command<'w>, AllocError> {
+    Command::new(alloc, "deposit")
+        .about("Packs, checks and unpacks escrow deposits of registries")
+        .after_help("Exit status: 0 done, 1 refused, 2 bad arguments, 3 failed")
+        .version("0.1.0")
+        .subcommand_required(true)
+        .subcommand(pack_command(alloc)?)?
+        .subcommand(check_command(alloc)?)?
+        .subcommand(unpack_command(alloc)?)
+}
+
+/// The texts of an argument that may stand several times, or not at all.
+pub fn texts_in<'m, 'w>(matches: &'m ArgMatches<'w>, id: &str) -> &'m [&'w str] {
+    matches.get_strs(id).unwrap_or_default()
+}
+
+/// The text of an argument that stands once.
+pub fn text_in<'w>(matches: &ArgMatches<'w>, id: &str) -> &'w str {
+    matches.get_str(id).unwrap_or("")
+}
+
+// The same, as bytes.
+fn bytes_in<'w>(matches: &ArgMatches<'w>, id: &str) -> &'w [u8] {
+    text_in(matches, id).as_bytes()
+}
+
+fn bad_value(alloc: Global, id: &str) -> ProgramError {
+    match format!(in alloc; "bad value for --{id}") {
+        Ok(line) => ProgramError::Misused(line),
+        Err(_) => ProgramError::Memory,
+    }
+}
+
+fn id_in(alloc: Global, matches: &ArgMatches<'_>, id: &str) -> Result<DepositId, ProgramError> {
+    match DepositId::parse(bytes_in(matches, id)) {
+        Some(found) => Ok(found),
+        None => Err(bad_value(alloc, id)),
+    }
+}
+
+fn name_in(alloc: Global, matches: &ArgMatches<'_>) -> Result<DepositName, ProgramError> {
+    let Some(tld) = Tld::parse(bytes_in(matches, "tld")) else {
+        return Err(bad_value(alloc, "tld"));
+    };
+    let Some(day) = read_day(bytes_in(matches, "date")) else {
+        return Err(bad_value(alloc, "date"));
+    };
+    let Some(kind) = Kind::parse(bytes_in(matches, "kind")) else {
+        return Err(bad_value(alloc, "kind"));
+    };
+    let rev = matches.get_one::<u8>("revision").unwrap_or(0);
+    match DepositName::new(tld, day, kind, 1, rev) {
+        Some(name) => Ok(name),
+        None => Err(bad_value(alloc, "date")),
+    }
+}
+
+fn attributes_in(alloc: Global, matches: &ArgMatches<'_>) -> Result<Attributes, ProgramError> {
+    let name = name_in(alloc, matches)?;
+    let id = id_in(alloc, matches, "id")?;
+    let prev_id = match matches.get_str("previous") {
+        Some(_) => Some(id_in(alloc, matches, "previous")?),
+        None => None,
+    };
+    Ok(Attributes { name, id, prev_id })
+}
+
+/// The deposit that the words of `pack` describe.
+pub fn pack_order<'w>(
+    alloc: Global,
+    matches: &ArgMatches<'w>,
+) -> Result<PackOrder<'w>, ProgramError> {
+    Ok(PackOrder {
+        tables: text_in(matches, "TABLES"),
+        attributes: attributes_in(alloc, matches)?,
+        has_headers: matches.get_flag("header"),
+        folder: text_in(matches, "out"),
+    })
+}
+
+/// The words of a call as `clap` finds them. The first of them is the program's name.
+pub fn matches_of<'w>(alloc: Global, words: &'w [String]) -> Result<ArgMatches<'w>, ProgramError> {
+    match deposit_command(alloc)?.try_get_matches_from(words) {
+        Ok(matches) => Ok(matches),
+        Err(error) if error.kind() == ErrorKind::OutOfMemory => Err(ProgramError::Memory),
+        Err(error) => Err(ProgramError::Words(error)),
+    }
+}

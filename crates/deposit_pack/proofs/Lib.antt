@@ -1,0 +1,15 @@
+pub mod PackedForm
+pub mod PackedFiles
+pub mod PackedPasses
+pub mod OnlyPackedFiles
+pub mod OnlyPackedNumbers
+pub mod OnlyPacked
+pub mod Refusals
+pub mod EnvelopeLemmas
+pub mod PackLemmas
+pub mod ChainSteps
+pub mod PartLemmas
+pub mod PackedMenu
+pub mod UnpackingLaw
+pub mod SourceLemmas
+pub mod WrittenLemmas
