@@ -29,6 +29,7 @@ from pathlib import Path
 
 TOP = Path(__file__).resolve().parent.parent
 ESCROW = TOP / "crates/escrow/out/escrow"
+PACKER = TOP / "crates/deposit/out/deposit"
 # Seconds for a command to end, or a server to listen.
 LIMIT = 120
 # The tools that some tests need, each with its Debian package.
@@ -331,7 +332,7 @@ registered example ${3-2026-08-02}"
 
 
 class Room:
-    """The folder of a case, in which `escrow` is the program. It counts what the case checks.
+    """The folder of a case, in which `escrow` and `deposit` are the programs. It counts what the case checks.
 
     The folder above it has the file `full`, which is DEPOSIT.
     """
@@ -449,6 +450,7 @@ class Case:
                 Path(top, name).mkdir()
             os.chmod(top, 0o755)
             Path(top, "bin/escrow").symlink_to(program)
+            Path(top, "bin/deposit").symlink_to(PACKER)
             Path(top, "full").write_bytes(DEPOSIT)
             room = Room(program, Path(top, "work"))
             try:

@@ -21,7 +21,7 @@ ready 600 0000000000000001
 """
 PAGES = [str(it.relative_to(TOP)) for form in ("*.md", "*/*.md", "*/*/*.md") for it in sorted(TOP.glob(form))]
 # The pages whose commands are played, and the tools that these call.
-PLAYED = {"README.md": "", "docs/HTTP.md": "curl", "docs/OPERATING.md": "curl flock sqlite3"}
+PLAYED = {"README.md": "", "docs/HTTP.md": "curl", "docs/OPERATING.md": "curl flock sqlite3", "docs/REGISTRY.md": ""}
 
 
 def blocks(page: str, languages: str) -> list[str]:

@@ -1,4 +1,4 @@
-"""A console: commands as a person types them in a folder that has `escrow` and the part files of the examples."""
+"""A console: commands as a person types them in a folder that has the programs and the part files of the examples."""
 import os
 import random
 import shlex
@@ -8,7 +8,7 @@ import tempfile
 import time
 from pathlib import Path
 
-from lib import LIMIT, deposit, part_name
+from lib import LIMIT, PACKER, deposit, part_name
 
 CREATED = "2020-01-01T00:00:00Z"
 TABLES = {
@@ -37,12 +37,13 @@ def write_parts(folder: Path) -> None:
 
 
 class Console:
-    """A folder in which `escrow` is a program, and the servers that were begun there."""
+    """A folder in which `escrow` and `deposit` are programs, and the servers that were begun there."""
 
     def __init__(self, program: Path, folder: Path):
         self.folder = folder
         self.servers: list[subprocess.Popen[str]] = []
         (folder / "escrow").symlink_to(os.path.relpath(program.resolve(), folder))
+        (folder / "deposit").symlink_to(PACKER)
         self.environment = {**os.environ, "PATH": f"{folder}:{os.environ['PATH']}"}
         write_parts(folder)
 

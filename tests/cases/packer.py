@@ -1,0 +1,99 @@
+"""What a registry packs with `deposit`: which tables, and which files."""
+from lib import DAY, DEPOSIT, PART, RECEIPT, TEN, part_name, stated, transcripts
+
+MONDAY, ID, NEXT = "2026-08-03", "20260802001", "20260803001"
+MADE = "for t in domain domainContacts domainStatuses domainNameServers host hostAddresses contact registrar; do : > $t.csv; done"
+# A folder `tables` of eight tables without a row, and the words that pack it.
+TABLES = f"$ mkdir tables; cd tables; {MADE}"
+FULL = f"--tld example --date {DAY} --kind full --revision 0 --id {ID}"
+DIFF = f"--tld example --date {MONDAY} --kind diff --revision 0 --id {NEXT} --previous {ID}"
+BODY = f'{{"date":"{DAY}","id":"{ID}","kind":"full","parts":1,"revision":0,"tld":"example"}}'
+VERIFY = f"escrow verify VAULT example --date {DAY} --kind full --revision 0 --parts 1 --id {ID}"
+PACKED = f"{PART} {len(DEPOSIT)}\n{VERIFY}\n{BODY}"
+EMPTY = "\n".join(f"{name} 0" for name in ("domain", "domainContacts", "domainStatuses", "domainNameServers", "host",
+                                           "hostAddresses", "contact", "registrar"))
+
+transcripts(__name__, f"""
+== a full deposit is packed, received and unpacked
+{TABLES}
+$ deposit pack tables {FULL} --out parts -> {PACKED}
+$ cmp parts/{PART} ../full
+$ vault d
+$ escrow put d parts/{PART} --now {TEN} -> received {PART} {len(DEPOSIT)} {TEN}
+$ escrow verify d {stated()} -> {RECEIPT}
+$ deposit check parts/{PART} -> PASS FULL {ID} {DAY}, without check 7
+{EMPTY}
+$ deposit unpack parts/{PART} --out out | tail -n 1 | cut -d ' ' -f 1 -> out/envelope.json
+$ diff -r tables out -> Only in out: envelope.json
+!1
+$ ls parts -> {PART}
+== a file that is there already is not overwritten
+{TABLES}
+$ mkdir parts; echo other > parts/{PART}
+$ deposit pack tables {FULL} --out parts -> !3 file failed: parts/{PART}: file is there already
+$ cat parts/{PART} -> other
+$ ls parts -> {PART}
+$ mkdir out; echo other > out/host.csv; deposit unpack ../full --out out -> !2 error: ../full: N1 is no name of a part
+$ cp ../full {PART}; deposit unpack {PART} --out out > printed 2>> errors -> !3
+$ head -n 1 printed -> PASS FULL {ID} {DAY}, without check 7
+$ cat errors; cat out/host.csv; ls out -> file failed: out/host.csv: file is there already
+other
+host.csv
+== rows that cannot stand in a deposit are refused with their places
+{TABLES}
+$ printf '"R1",Example,,ok\\r\\nR2,Example,,ok' > tables/registrar.csv
+$ printf 'a.example,D1-EX,,R1,2020-01-01T00:00:00Z,2020-13-01T00:00:00Z\\n' > tables/domain.csv
+$ deposit pack tables {FULL} --out parts -> !1 U5 domain.csv row 1 fExDate: not a moment: 2020-13-01T00:00:00Z
+$ printf 'a.example,D1-EX,,R9,2020-01-01T00:00:00Z,2030-01-01T00:00:00Z\\n' > tables/domain.csv
+$ deposit pack tables {FULL} --out parts -> !1 U7 domain.csv row 1 fClID: no registrar: R9
+$ printf 'R1,Example,,ok\\nR1,Example,,ok\\n' > tables/registrar.csv
+$ deposit pack tables {FULL} --out parts -> !1 U5 registrar.csv row 2: the key of row 1
+$ deposit pack tables {FULL} --out parts --header -> !1 U4 domain.csv: the first row is not the names of its columns
+$ mkdir tables/deletes; printf 'a.example\\n' > tables/deletes/domain.csv
+$ deposit pack tables {FULL} --out parts -> !1 U3 deletes/domain.csv: a full deposit deletes nothing
+$ rm -r tables/deletes tables/host.csv
+$ deposit pack tables {FULL} --out parts -> !3 file failed: tables/host.csv: file missing
+$ ls -> tables
+== a differential deposit is packed after those it follows
+{TABLES}
+$ printf 'R1,Example,,ok\\n' > tables/registrar.csv; deposit pack tables {FULL} --out parts > printed
+$ mkdir -p changes/deletes; printf 'R2,"Second, Inc.",,ok' > changes/registrar.csv; printf 'R1\\n' > changes/deletes/registrar.csv
+$ deposit pack changes {DIFF} --out parts -> !1 U8 the deposits that it follows are wanted
+$ deposit pack changes {DIFF} --after parts/{PART} --out parts > printed
+$ deposit check parts/{part_name(MONDAY, 'diff')} -> PASS DIFF {NEXT} {MONDAY}, without checks 6, 7 and 11
+registrar 1
+deletes/registrar 1
+$ deposit check parts/{part_name(MONDAY, 'diff')} --after parts/{PART} -> PASS DIFF {NEXT} {MONDAY}
+registrar 1
+deletes/registrar 1
+$ deposit check parts/{PART} --after parts/{PART} -> FAILURE-07 id {ID} has passed before
+!1
+$ deposit pack changes {DIFF.replace(f" --previous {ID}", "")} --after parts/{PART} --out other -> !1 U2 a differential deposit follows the latest that passed
+$ deposit pack tables {FULL} --previous X1 --out other -> !1 U2 a full deposit follows none
+$ deposit pack changes {DIFF.replace(MONDAY, "2026-08-09")} --after parts/{PART} --out other -> !1 U1 2026-08-09 is a Sunday, and the deposit is not full
+$ deposit pack changes {DIFF} --after parts/{part_name(MONDAY, 'diff')} --out other -> !1 {part_name(MONDAY, 'diff')}: it does not continue a full deposit and those since
+$ test -e other -> !1
+== what is broken is not unpacked
+$ cp ../full {PART}; printf x >> {PART}
+$ deposit unpack {PART} --out out -> FAILURE-09 the files have 0 bytes, says the envelope, and 1 are there
+!1
+$ ls -> {PART}
+== a disk that takes no more leaves no part
+{TABLES}
+$ mkdir parts; trap '' XFSZ; ulimit -f 1; deposit pack tables {FULL} --out parts
+!3 file failed: parts/{PART}.tmp: File too large (os error 27)
+$ ls parts
+== a file of another name is refused
+{TABLES}
+$ touch tables/domains.csv
+$ deposit pack tables {FULL} --out parts -> !2 error: tables/domains.csv: no table has this name
+== the words of deposit
+$ deposit pack tables {FULL.replace("example", "Example")} --out parts -> !2 bad value for --tld
+$ deposit pack tables {FULL.replace(DAY, "2026-02-29")} --out parts -> !2 bad value for --date
+$ deposit pack tables {FULL.replace("full", "whole")} --out parts -> !2 bad value for --kind
+$ deposit check {part_name(part=2)} -> !2 error: {part_name(part=2)}: part 1 is wanted
+$ deposit check {PART} {part_name(MONDAY)} -> !3 file failed: {PART}: file missing
+$ deposit check nothing -> !2 error: nothing: N1 is no name of a part
+$ deposit help > help; deposit > help 2>> errors -> !2
+""")
+
