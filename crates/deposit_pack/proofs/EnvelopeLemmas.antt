@@ -2,13 +2,13 @@
 use Rattle.std.proofs.Common.{◌≡◌, ◌≢◌, ◌<◌, ◌==◌, ◌∷◌, ◌∙◌, [], ℕ, zero, suc, All, AllPairs, Bool, true, false, IsTrue, List, ap, arith, cond, get_or, length, map, refl, subst, sym, take}
 use Rattle.std.specs.Prelude.{unwrap_or}
 use Rattle.std.proofs.lemmas.Bool.Decides.{Decides-eqb}
-use Rattle.std.proofs.lemmas.List.{get_or-map, get_or_default, length-map}
+use Rattle.std.proofs.lemmas.List.{get_or-map, length-map}
 use Rattle.std.proofs.lemmas.List.Elements.{All-head, All-tail}
 use Rattle.deposit_name.specs.Tables.{has_deletes}
 use Rattle.deposit_name.specs.declared.kinds.Kind.{Kind}
 use Rattle.deposit_name.specs.declared.kinds.Kind.TheVariants.{Full}
 use Rattle.deposit_name.specs.declared.table.TableName.{TableName}
-use Rattle.deposit_name.specs.declared.table.TableName.TheVariants.{Contact, Domain, Host, Registrar}
+use Rattle.deposit_name.specs.declared.table.TableName.TheVariants.{Domain}
 use Rattle.dnrd_csv.specs.Table.{HaveWidth, IsTable, columns_of, key_columns_of}
 use Rattle.dnrd_csv.specs.Text.{key_rows}
 use Rattle.dnrd_csv.specs.declared.form.Form.{Form}
@@ -20,6 +20,7 @@ use Rattle.deposit_verify.specs.Places.{all_tables, table_place}
 use Rattle.deposit_verify.specs.References.{column}
 use Rattle.deposit_verify.specs.Rows.{rows_under}
 use Rattle.deposit_verify.specs.Tables.{AreAllTables, AreCountable, table_of}
+use Rattle.deposit_verify.specs.TablesReasons.{row_numbers}
 use Rattle.deposit_verify.specs.declared.base.Base.{Base}
 use Rattle.deposit_verify.specs.declared.files_read.FilesRead.{FilesRead}
 use Rattle.deposit_verify.proofs.Columns.{get_or-column, length-column}
@@ -164,23 +165,7 @@ contents_read o files read same = λ i name. (under_all o.contents same name ∙
 
 -- ---- the numbers of the rows of a full deposit
 
-row_number : (o : Objects) (files : FilesRead) → AreRead o files → table_names o.contents ≡ all_tables → (name : TableName) (rows : List (List (List ℕ))) (n : ℕ)
-    → rows ≡ get_or files.tables.items (table_place name) rows → n ≡ length rows → n ≡ length (contents_rows o name)
-row_number o files read same name rows n at count =
-    let eight = all_eight o.contents same read.tables_right in
-    let inside : table_place name < length (rows_of o.contents) = omega (arith, eight.eight, (all_tables_right name Domain).0) in
-    count ∙ ap length at ∙ ap (λ (tables : List (List (List (List ℕ)))). length (get_or tables (table_place name) rows)) read.tables
-    ∙ ap length (sym (get_or_default (rows_of o.contents) (table_place name) [] rows inside)) ∙ ap length (sym (under_all o.contents same name))
-
-module _ (a : Attributes) (o : Objects) (before : Base) (files : FilesRead) (read : AreRead o files) (full : a.name.kind ≡ Full) (same : table_names o.contents ≡ all_tables) where
-  pub full_numbers : (p q r s : List (List (List ℕ))) (contacts domains hosts registrars : ℕ)
-      → p ≡ get_or files.tables.items 6 p → q ≡ get_or files.tables.items 0 q → r ≡ get_or files.tables.items 4 r → s ≡ get_or files.tables.items 7 s
-      → contacts ≡ length p → domains ≡ length q → hosts ≡ length r → registrars ≡ length s
-      → contacts ∷ domains ∷ hosts ∷ registrars ∷ [] ≡ numbers_of a.name.kind a o before
-  full_numbers p q r s contacts domains hosts registrars at_p at_q at_r at_s of_p of_q of_r of_s =
-      let w = row_number o files read same Contact p contacts at_p of_p in
-      let x = row_number o files read same Domain q domains at_q of_q in
-      let y = row_number o files read same Host r hosts at_r of_r in
-      let z = row_number o files read same Registrar s registrars at_s of_s in
-      let rows : contacts ∷ domains ∷ hosts ∷ registrars ∷ [] ≡ numbers_of Full a o before = λ i. w i ∷ x i ∷ y i ∷ z i ∷ [] in
-      rows ∙ ap (λ (kind : Kind). numbers_of kind a o before) (sym full)
+pub full_numbers : (a : Attributes) (o : Objects) (before : Base) (files : FilesRead) → AreRead o files → a.name.kind ≡ Full → table_names o.contents ≡ all_tables
+    → row_numbers (table_of files.tables.items) ≡ numbers_of a.name.kind a o before
+full_numbers a o before files read full same =
+    ap row_numbers (sym (contents_read o files read same)) ∙ ap (λ (kind : Kind). numbers_of kind a o before) (sym full)

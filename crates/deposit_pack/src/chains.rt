@@ -1,16 +1,16 @@
 //! The deposits that one follows, and what the agent says of it.
-ghost use Rattle.std.specs.Prelude.{◌≡◌, ◌∷◌, ℕ, List, None, IfErr, IfOk, IfSome, MatchOption, MatchResult, map};
+ghost use Rattle.std.specs.Prelude.{◌≡◌, ◌∷◌, None, IfOk, IfSome, MatchOption, MatchResult, map};
 ghost use Rattle.deposit_verify.specs.Bases.{reading_at};
 ghost use Rattle.deposit_verify.specs.Checks.{IsVerdict};
-ghost use Rattle.deposit_verify.specs.Deposit.{HasEnvelope, IsDeposit};
+ghost use Rattle.deposit_verify.specs.Deposit.{HasEnvelope};
 ghost use Rattle.deposit_verify.specs.Known.{Known, known_in};
 ghost use Rattle.deposit_verify.specs.Reasons.{IsReason, verdict_for};
-ghost use Rattle.envelope.specs.Envelope.{Env, env_of};
+ghost use Rattle.envelope.specs.Envelope.{env_of};
 ghost use Rattle.deposit_pack.specs.Chains.{BreaksAt, IsChainOf, IsKnownOf, known_by_chain};
 
 use deposit_name::{DepositId, DepositName};
-use deposit_verify::{About, Base, Reason, explain};
-use envelope::{EnvError, Envelope, read_envelope, split_frame};
+use deposit_verify::{About, Base, FoundEnvelope, Reason, explain, find_envelope};
+use envelope::Envelope;
 use std::alloc::{AllocError, Global};
 
 /// Deposits that have passed: a full one, and later ones that are not full.
@@ -57,33 +57,13 @@ impl Chain {
     }
 }
 
-// The envelope of a deposit, or why it has none.
-fn envelope_of(alloc: Global, joined: &[u8]) -> Result<Result<Envelope, Reason>, AllocError>
-    ensures envelope { IfOk result (λ read. IfOk read
-        (λ envelope. HasEnvelope joined.now (λ v rest. v ≡ env_of envelope))) }
-    ensures none { IfOk result (λ read. IfErr read
-        (λ reason. (v : Env) (rest : List ℕ) → ¬ IsDeposit joined.now v rest)) }
-    ensures reason { IfOk result (λ read. IfErr read
-        (λ reason. (known : Known) → IsReason joined.now known reason)) }
-{
-    let frame = match split_frame(joined) {
-        Ok(frame) => frame,
-        Err(fault) => return Ok(Err(Reason::Frame(fault))),
-    };
-    match read_envelope(alloc, frame.envelope) {
-        Ok(envelope) => Ok(Ok(envelope)),
-        Err(EnvError::Spelling(fault)) => Ok(Err(Reason::Envelope(fault))),
-        Err(EnvError::Memory) => Err(AllocError),
-    }
-}
-
 // The id of a deposit, where it has an envelope.
 fn id_of(alloc: Global, joined: &[u8]) -> Result<Option<DepositId>, AllocError>
     ensures { IfOk result (λ found. MatchOption found (reading_at joined.now ≡ None)
         (λ id. HasEnvelope joined.now (λ v rest. v.id ≡ id))) }
 {
-    match envelope_of(alloc, joined)? {
-        Ok(envelope) => Ok(Some(envelope.id)),
+    match find_envelope(alloc, joined)? {
+        Ok(FoundEnvelope { envelope, .. }) => Ok(Some(envelope.id)),
         Err(_) => Ok(None),
     }
 }
@@ -128,8 +108,11 @@ pub fn check(
     ensures { IfOk result (λ found. (known : Known) → IsKnownOf name.now chain joined.now known
         → IsVerdict joined.now known (verdict_for found) × IfSome found (IsReason joined.now known)) }
 {
-    match envelope_of(alloc, joined)? {
-        Ok(envelope) => explain(alloc, joined, &about_of(alloc, name, &envelope, chain)),
+    match find_envelope(alloc, joined)? {
+        Ok(found) => {
+            let about = about_of(alloc, name, &found.envelope, chain);
+            explain(alloc, joined, &about)
+        }
         Err(reason) => Ok(Some(reason)),
     }
 }

@@ -13,7 +13,7 @@ ghost use Rattle.deposit_pack.specs.inside.Steps.{AreRead};
 use crate::pack_error::PackError;
 use crate::source::Attributes;
 use deposit_name::{Kind, TableName};
-use deposit_verify::{Base, FilesRead, wanted_uri};
+use deposit_verify::{Base, FilesRead, row_counts, wanted_uri};
 use envelope::{Count, Envelope, FileEntry, Header, Menu, Uri};
 use std::alloc::{AllocError, Global};
 
@@ -97,15 +97,7 @@ fn numbers_of(
         → IfErr result (IsPackError a source (option_map (λ b. b.now) base.entry)) }
 {
     match (envelope.kind, base) {
-        (Kind::Full, _) => {
-            let tables = &files.tables;
-            Ok([
-                tables[6].len(),
-                tables[0].len(),
-                tables[4].len(),
-                tables[7].len(),
-            ])
-        }
+        (Kind::Full, _) => Ok(row_counts(&files.tables)),
         (_, Some(base)) => Ok(base.counts_after(alloc, envelope, files)?),
         (_, None) => Err(PackError::NoBase),
     }

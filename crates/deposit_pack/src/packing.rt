@@ -17,15 +17,13 @@ use crate::envelopes::{counted, uncounted_envelope};
 use crate::pack_error::PackError;
 use crate::source::{Attributes, Source};
 use crate::source_reading::read_source;
+use crate::splitting::DEPOSIT_LENGTH_MAX;
 use crate::writing::write_files;
 use deposit_name::{Kind, TableName};
 use deposit_verify::{Base, FilesRead, menu_reason, missing_key};
 use envelope::{Envelope, write_envelope, write_frame};
 use schedule::is_sunday;
 use std::alloc::Global;
-
-/// In bytes: eight parts of 1 MiB.
-pub(crate) const DEPOSIT_LENGTH_MAX: usize = 8_388_608;
 
 // What the attributes say, and which keys may be deleted.
 fn find_fault(attributes: &Attributes, source: &Source<'_>) -> Result<(), PackError>

@@ -10,6 +10,9 @@ const PART_LENGTH_MAX: usize = 1_048_576;
 
 const PARTS_MAX: usize = 8;
 
+/// In bytes.
+pub(crate) const DEPOSIT_LENGTH_MAX: usize = PARTS_MAX * PART_LENGTH_MAX;
+
 /// A part of a deposit.
 #[derive(Clone, Copy, Debug)]
 pub struct Part<'d> {

@@ -6,8 +6,10 @@ ghost use Rattle.deposit_verify.specs.Deposit.{all_entries, deletes_of};
 ghost use Rattle.deposit_pack.specs.Unpacking.{IsUnpacked, IsUnpackReason, MayUnpack, file_names, file_texts};
 
 use crate::source::TableFile;
-use deposit_verify::{HeaderReason, ReadFault, Reason, envelope_files, menu_reason};
-use envelope::{EnvError, Envelope, FileEntry, read_envelope, split_frame};
+use deposit_verify::{
+    FoundEnvelope, HeaderReason, ReadFault, Reason, envelope_files, find_envelope, menu_reason,
+};
+use envelope::{Envelope, FileEntry, law_one_reading};
 use std::alloc::{AllocError, Global};
 
 /// The files of a deposit, as its envelope lists them.
@@ -73,20 +75,20 @@ pub fn unpack(alloc: Global, joined: &[u8]) -> Result<Result<Unpacked<'_>, Reaso
     ensures unpacked { IfOk result (λ r. MatchResult r (IsUnpacked joined.now) (λ _. ¬ MayUnpack joined.now)) }
     ensures reason { IfOk result (λ r. MatchResult r (λ _. MayUnpack joined.now) (IsUnpackReason joined.now)) }
 {
-    let frame = match split_frame(joined) {
-        Ok(frame) => frame,
-        Err(fault) => return Ok(Err(Reason::Frame(fault))),
-    };
-    let envelope = match read_envelope(alloc, frame.envelope) {
-        Ok(envelope) => envelope,
-        Err(EnvError::Spelling(fault)) => return Ok(Err(Reason::Envelope(fault))),
-        Err(EnvError::Memory) => return Err(AllocError),
+    law_one_reading();
+    let FoundEnvelope {
+        text,
+        envelope,
+        rest,
+    } = match find_envelope(alloc, joined)? {
+        Ok(found) => found,
+        Err(reason) => return Ok(Err(reason)),
     };
     if let Some(reason) = menu_reason(&envelope) {
         return Ok(Err(Reason::Header(HeaderReason::Menu(reason))));
     }
-    match envelope_files(alloc, &envelope, frame.rest)? {
-        Ok(files) => Ok(Ok(files_of(alloc, frame.envelope, &envelope, &files)?)),
+    match envelope_files(alloc, &envelope, rest)? {
+        Ok(files) => Ok(Ok(files_of(alloc, text, &envelope, &files)?)),
         Err(reason) => Ok(Err(Reason::Read(ReadFault::Files(reason)))),
     }
 }

@@ -13,8 +13,8 @@ ghost use Rattle.deposit_pack.specs.inside.Steps.{AreRead, AreWritten};
 ghost use Rattle.deposit_pack.specs.inside.Writing.{AreAppended, IsWriteError};
 
 use crate::pack_error::PackError;
-use crate::packing::DEPOSIT_LENGTH_MAX;
 use crate::source::{Source, TableFile};
+use crate::splitting::DEPOSIT_LENGTH_MAX;
 use deposit_name::TableName;
 use deposit_verify::FilesRead;
 use dnrd_csv::{Keys, Rows};

@@ -15,6 +15,7 @@ ghost use Rattle.deposit_verify.specs.inside.SortedKeys.{AreNamedKeys};
 ghost use Rattle.dnrd_csv.specs.inside.RowKeys.{borrowed_texts};
 
 use crate::files_read::{FilesRead, deletes_of, read_files};
+use crate::found_envelope::find_envelope;
 use crate::key_set::KeySet;
 use crate::keys::sorted_texts;
 use crate::laws::law_reading;
@@ -22,7 +23,7 @@ use crate::menu::has_menu;
 use crate::named_keys::{contained_keys, deleted_keys};
 use crate::tables_reason::WrongCount;
 use deposit_name::{Kind, TableName};
-use envelope::{EnvError, Envelope, read_envelope, split_frame};
+use envelope::Envelope;
 use std::alloc::{AllocError, Global};
 
 /// The keys that there are after the deposits of a chain, a full one and later ones that are not full: those of
@@ -60,18 +61,14 @@ fn read_whole(alloc: Global, joined: &[u8]) -> Result<Option<WholeDeposit>, Allo
         (λ whole. AreCountable (env_of whole.envelope) whole.files.tables.items whole.files.deleted.items)) }
 {
     law_reading();
-    let Ok(frame) = split_frame(joined) else {
+    let Ok(found) = find_envelope(alloc, joined)? else {
         return Ok(None);
     };
-    let envelope = match read_envelope(alloc, frame.envelope) {
-        Ok(envelope) => envelope,
-        Err(EnvError::Spelling(_)) => return Ok(None),
-        Err(EnvError::Memory) => return Err(AllocError),
-    };
+    let envelope = found.envelope;
     if !has_menu(&envelope) {
         return Ok(None);
     }
-    match read_files(alloc, &envelope, frame.rest)? {
+    match read_files(alloc, &envelope, found.rest)? {
         Ok(files) => Ok(Some(WholeDeposit { envelope, files })),
         Err(_) => Ok(None),
     }

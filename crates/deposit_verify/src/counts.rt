@@ -21,6 +21,20 @@ use dnrd_csv::Rows;
 use envelope::{Count, Envelope};
 use std::alloc::{AllocError, Global};
 
+/// How many rows each counted table has, in the order of the counts: contacts, domains, hosts, registrars. The tables are
+/// all eight, in the order of a deposit.
+pub fn row_counts(tables: &[Rows]) -> [usize; 4]
+    requires { length tables.now ≡ 8 }
+    ensures { result ≡ row_numbers (table_of tables.now) }
+{
+    [
+        tables[6].len(),
+        tables[0].len(),
+        tables[4].len(),
+        tables[7].len(),
+    ]
+}
+
 // The first count that is not the number of the rows of its table.
 fn wrong_row_count(counts: &[Count], tables: &[Rows]) -> Option<WrongCount>
     requires counts { length counts.now ≡ 4 }
@@ -28,11 +42,7 @@ fn wrong_row_count(counts: &[Count], tables: &[Rows]) -> Option<WrongCount>
     ensures { MatchOption result (AreRowCounts counts.now (table_of tables.now))
         (IsFirstWrong (row_numbers (table_of tables.now)) (said_counts counts.now)) }
 {
-    let contacts = tables[6].len();
-    let domains = tables[0].len();
-    let hosts = tables[4].len();
-    let registrars = tables[7].len();
-    WrongCount::first(counts, [contacts, domains, hosts, registrars])
+    WrongCount::first(counts, row_counts(tables))
 }
 
 /// The first field of all eight tables, in their order, then by row and column, that names a key which is not there.

@@ -8,6 +8,7 @@ mod counts;
 mod files;
 mod files_read;
 mod files_reason;
+mod found_envelope;
 mod header;
 mod header_reason;
 mod key_set;
@@ -26,15 +27,16 @@ mod verification;
 
 pub use about::About;
 pub use base::Base;
-pub use counts::missing_key;
+pub use counts::{missing_key, row_counts};
 pub use files_read::{FilesRead, envelope_files};
 pub use files_reason::{FileList, FilePlace, FilesReason, NoTable, ReadFault};
+pub use found_envelope::{FoundEnvelope, find_envelope};
 pub use header_reason::{HeaderReason, MenuReason, OtherName};
 pub use laws::{
     law_bases, law_chain_numbers, law_chains, law_one_verdict, law_pass, law_reasons,
     law_reference_rules, law_verdict,
 };
-pub use menu::{menu_reason, wanted_uri};
+pub use menu::{menu_reason, wanted_table, wanted_uri};
 pub use reason::Reason;
 pub use reason_text::{MissingKeyText, TableFaultText};
 pub use tables_reason::{NoKey, TablesReason, WrongCount};

@@ -10,13 +10,14 @@ use crate::about::About;
 use crate::base::Base;
 use crate::counts::{tables_fault, wrong_chain_count};
 use crate::files_read::read_files;
+use crate::found_envelope::find_envelope;
 use crate::header::header_reason;
 use crate::laws::{law_reading, law_verdict};
 use crate::reason::Reason;
 use crate::tables_reason::TablesReason;
 use crate::verdict::Verdict;
 use dnrd_csv::{law_one_text, law_table_reader};
-use envelope::{EnvError, Envelope, read_envelope, split_frame};
+use envelope::Envelope;
 use std::alloc::{AllocError, Global};
 
 // Why a deposit that passes the checks up to that of the menu fails, from the bytes behind its envelope.
@@ -59,19 +60,14 @@ pub fn explain(alloc: Global, joined: &[u8], about: &About) -> Result<Option<Rea
     ensures reason { IfOk result (λ found. IfSome found (IsReason joined.now (known_in about.now))) }
 {
     law_reading();
-    let frame = match split_frame(joined) {
-        Ok(frame) => frame,
-        Err(fault) => return Ok(Some(Reason::Frame(fault))),
+    let found = match find_envelope(alloc, joined)? {
+        Ok(found) => found,
+        Err(reason) => return Ok(Some(reason)),
     };
-    let envelope = match read_envelope(alloc, frame.envelope) {
-        Ok(envelope) => envelope,
-        Err(EnvError::Spelling(fault)) => return Ok(Some(Reason::Envelope(fault))),
-        Err(EnvError::Memory) => return Err(AllocError),
-    };
-    if let Some(reason) = header_reason(&envelope, about) {
+    if let Some(reason) = header_reason(&found.envelope, about) {
         return Ok(Some(Reason::Header(reason)));
     }
-    files_reason(alloc, &envelope, frame.rest, &about.base)
+    files_reason(alloc, &found.envelope, found.rest, &about.base)
 }
 
 /// Verifies a deposit: its parts, joined in order, against what is known of it.

@@ -124,7 +124,8 @@ fn put_watermark(out: &mut Vec<u8>, day: Day) -> Result<(), AllocError>
     Ok(())
 }
 
-fn type_text(kind: Kind) -> &'static str
+/// The type of a deposit of this kind, as an envelope shows it.
+pub fn type_text(kind: Kind) -> &'static str
     ensures { result.now ≡ type_text kind }
 {
     match kind {
