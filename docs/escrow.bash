@@ -1,27 +1,24 @@
-# Completions of bash for escrow. The tables are made by tests/made.py from the table of the words.
+# Completions of bash for escrow. The tables are made by tests/made.py from the words of its commands.
 # Source this file, or copy it to /usr/share/bash-completion/completions/escrow
 declare -gA _escrow_options=(
-    [init]='--blocks --number'
-    [register]='--first'
-    [put]='--now'
-    [preview]='--date --kind --revision --parts --id --now'
-    [verify]='--date --kind --revision --parts --id --now'
-    [due]='--now'
-    [sweep]='--at-most --now'
-    [purge]='--now'
-    [hold]='--date --now'
-    [lift]='--now'
-    [release]='--now'
+    [init]='--blocks=N --number=HEX16'
+    [register]='--first=DATE'
+    [put]='--now=MOMENT'
+    [preview]='--date=DATE --kind=KIND --revision=N --parts=N --id=ID --now=MOMENT'
+    [verify]='--date=DATE --kind=KIND --revision=N --parts=N --id=ID --now=MOMENT'
+    [due]='--now=MOMENT'
+    [sweep]='--at-most=N --now=MOMENT'
+    [purge]='--now=MOMENT'
+    [hold]='--date=DATE --now=MOMENT'
+    [lift]='--now=MOMENT'
+    [release]='--now=MOMENT'
     [fetch]=''
     [report]=''
-    [explain]='--date --revision'
+    [explain]='--date=DATE --revision=N'
     [digests]=''
     [state]=''
     [audit]=''
-    [serve]='--port --requests --until-closed --now'
-)
-declare -gA _escrow_flags=(
-    [serve]='--until-closed'
+    [serve]='--port=N --requests=N --until-closed --now=MOMENT'
 )
 declare -gA _escrow_places=(
     [init]='DIR'
@@ -44,42 +41,51 @@ declare -gA _escrow_places=(
     [serve]='DIR'
 )
 declare -gA _escrow_values=(
-    [preview --kind]='full diff incr'
-    [verify --kind]='full diff incr'
+    [preview KIND]='full diff incr'
+    [verify KIND]='full diff incr'
     [release GROUND]='operator termination no_notices sunday_failed five_failed insolvency critical order audit'
 )
 
-# What is offered for the word at the cursor.
+# What is offered for the word at the cursor: what compgen finds.
 _escrow_offer() { mapfile -t COMPREPLY < <(compgen "$@" -- "${COMP_WORDS[COMP_CWORD]}"); }
 
-# Whether an option of the command has a value.
-_escrow_takes_value() {
-    [[ " ${_escrow_options[$1]} " == *" $2 "* && " ${_escrow_flags[$1]} " != *" $2 "* ]]
+# The name of the value of an option of a command; nothing of a flag.
+_escrow_value() {
+    local rest=" ${_escrow_options[$1]} "
+    if [[ $rest == *" $2="* ]]; then
+        rest=${rest#*" $2="}
+        echo "${rest%% *}"
+    fi
+}
+
+# What is wanted at the cursor: the value of the option before it, else the next place of the command.
+_escrow_wanted() {
+    local places=() place=0 value="" at
+    read -ra places <<< "${_escrow_places[$1]}"
+    for ((at = 2; at < COMP_CWORD; at++)); do
+        if [[ ${COMP_WORDS[at]} == -* ]]; then value=$(_escrow_value "$1" "${COMP_WORDS[at]}")
+        elif [[ ! $value ]]; then [[ ${places[place]} == *... ]] || ((place++))
+        elif [[ $value != *... ]]; then value=""; fi
+    done
+    echo "${value:-${places[place]}}"
 }
 
 _escrow() {
-    local command=${COMP_WORDS[1]} before=${COMP_WORDS[COMP_CWORD - 1]} places=() place=0 at
+    local command=${COMP_WORDS[1]} wanted options=()
     COMPREPLY=()
     if ((COMP_CWORD == 1)); then
         _escrow_offer -W "${!_escrow_places[*]} help --help --version"
     elif [[ $command == help ]]; then
         ((COMP_CWORD == 2)) && _escrow_offer -W "${!_escrow_places[*]}"
-    elif _escrow_takes_value "$command" "$before"; then
-        _escrow_offer -W "${_escrow_values[$command $before]}"
-    elif [[ ${COMP_WORDS[COMP_CWORD]} == -* ]]; then
-        _escrow_offer -W "${_escrow_options[$command]} --help"
     else
-        # the place of the word among those that are no option and no value of one
-        for ((at = 2; at < COMP_CWORD; at++)); do
-            if _escrow_takes_value "$command" "${COMP_WORDS[at]}"; then ((at++))
-            elif [[ ${COMP_WORDS[at]} != --* ]]; then ((place++)); fi
-        done
-        read -ra places <<< "${_escrow_places[$command]}"
-        case ${places[place]} in
-            DIR) _escrow_offer -d ;;
-            FILE) _escrow_offer -f ;;
-            "") _escrow_offer -W "${_escrow_options[$command]} --help" ;;
-            *) _escrow_offer -W "${_escrow_values[$command ${places[place]}]}" ;;
+        read -ra options <<< "${_escrow_options[$command]}"
+        wanted=$(_escrow_wanted "$command")
+        [[ ${COMP_WORDS[COMP_CWORD]} == -* ]] && wanted=""
+        case ${wanted%...} in
+            DIR | FOLDER | TABLES) _escrow_offer -d ;;
+            FILE) _escrow_offer -f -X '!*.ryde' -o plusdirs ;;
+            "") _escrow_offer -W "${options[*]%%=*} --help" ;;
+            *) _escrow_offer -W "${_escrow_values[$command ${wanted%...}]}" ;;
         esac
     fi
 }

@@ -86,12 +86,12 @@ class Program:
 
 
 class Run:
-    """One run of a program, with a count for each of its calls; it stands at its first instruction."""
+    """One run of a program in a folder, with a count for each of its calls; it stands at its first instruction."""
 
-    def __init__(self, program: Program, given: IO, output: IO, counts: dict[str, int]):
+    def __init__(self, program: Program, given: IO, output: IO, counts: dict[str, int], folder: str | None = None):
         self.program = program
         self.process = subprocess.Popen(
-            [program.path, *program.words], stdin=given, stdout=output, stderr=subprocess.DEVNULL,
+            [program.path, *program.words], stdin=given, stdout=output, stderr=subprocess.DEVNULL, cwd=folder,
             env={**os.environ, "LD_BIND_NOW": "1"}, preexec_fn=lambda: ptrace(TRACEME, 0))
         self.pid = self.process.pid
         self.memory = open(f"/proc/{self.pid}/mem", "r+b", buffering=0)

@@ -5,11 +5,13 @@
     tests/made.py --check    compares them, and looks up in the code what docs/GLOSSARY.md decides. The last line is
                              `N passed, M failed, K skipped`
 
-    docs/escrow.1, docs/escrow.bash   blocks of the manual page, and the tables of bash's completions, from the table of the
-                                      words (crates/agent_cli/src/subcommands.rt, and the texts of src/grammar.rt beside it)
-    docs/crates.svg                   the crates with the ways of a command and of a request, from crates.txt
-    each page with a block            the lines between `<!-- made: NAME -->` and `<!-- end -->`: counts, and results of
-                                      benches (tests/blocks.py lists the names)
+    docs/escrow.1, docs/escrow.bash     blocks of the manual page, and the tables of bash's completions, from the table of the
+                                        words (crates/agent_cli/src/subcommands.rt, and the texts of src/grammar.rt beside it)
+    docs/deposit.1, docs/deposit.bash   the same from the words of crates/deposit/src/words.rt; the completions have the code
+                                        of docs/escrow.bash
+    docs/crates.svg                     the crates with the ways of a command and of a request, from crates.txt
+    each page with a block              the lines between `<!-- made: NAME -->` and `<!-- end -->`: counts, and results of
+                                        benches (tests/blocks.py lists the names)
 
 It takes a second, and needs `git`.
 """
@@ -25,23 +27,35 @@ import words
 from lib import TOP, parser, tell
 
 CLI = TOP / "crates" / "agent_cli" / "src"
+DEPOSIT = TOP / "crates" / "deposit" / "src" / "words.rt"
 
 
-# ---- the table of the words
+# ---- the words of the programs
 
 
 @dataclass
 class Word:
-    """An argument: its id, the name of its value where it is an option (of a flag it is empty), and what help says of
-    it."""
+    """An argument: its id, the name of its value where it is an option (of a flag it is empty), what help says of it, and
+    whether it may have several values."""
     id: str
     value: str | None
     required: bool
     help: str
+    several: bool = False
 
     @property
     def name(self) -> str:
         return self.id if self.value is None else f"--{self.id}"
+
+    @property
+    def wanted(self) -> str:
+        """The name of what is to be given: of its value, or of itself if it has its place."""
+        return self.id if self.value is None else self.value
+
+    @property
+    def dots(self) -> str:
+        """What stands behind a word of several values."""
+        return "..." if self.several else ""
 
 
 @dataclass
@@ -51,6 +65,16 @@ class Row:
     about: str
     after: str
     words: list[Word]
+
+
+@dataclass
+class Program:
+    """A program: its name, what help prints before its subcommands and after them, its version, and these."""
+    name: str
+    about: str
+    after: str
+    version: str
+    rows: list[Row]
 
 
 def text(literal: str) -> str:
@@ -92,12 +116,43 @@ def table() -> list[Row]:
     return rows
 
 
-def texts() -> tuple[str, str, str]:
-    """What help prints before the subcommands and after them, and the version."""
+def agent() -> Program:
     source = (CLI / "grammar.rt").read_text()
     found = re.finditer(rf"(about|after|VERSION)(?:: &str)? =\s*{STRING};", source, re.DOTALL)
     named = {it[1]: text(it[2]) for it in found}
-    return named["about"], named["after"], named["VERSION"]
+    return Program("escrow", named["about"], named["after"], named["VERSION"], table())
+
+
+# A call that makes an argument: of one value or several, by its form, with its texts.
+ARGUMENT = re.compile(rf"(several\(\s*)?\b(place|optional|required|flag)\(\s*alloc,((?:\s*{STRING},?)+)\s*\)")
+# The same, or a call of a function that does.
+LISTED = re.compile(rf"{ARGUMENT.pattern}|\.arg\((?P<named>\w+)\(alloc\)\)")
+
+
+def argument(call: re.Match) -> Word:
+    several, form, listed = call[1], call[2], call[3]
+    id, *value, help = [text(it) for it in re.findall(STRING, listed)]
+    return Word(id, value[0] if value else "" if form == "flag" else None, form in ("place", "required"), help, bool(several))
+
+
+def setting(name: str, body: str) -> str:
+    """The text that a command of clap is given by a method."""
+    return text(re.search(rf"\.{name}\(\s*{STRING}", body)[1])
+
+
+def row_of(body: str, shared: dict[str, Word]) -> Row:
+    """The row of a function that makes a command. Some of its words are those of other functions."""
+    words = [shared[it["named"]] if it["named"] else argument(it) for it in LISTED.finditer(body)]
+    return Row(re.search(rf"Command::new\(alloc, {STRING}", body)[1], setting("about", body), setting("after_help", body), words)
+
+
+def packer() -> Program:
+    source = DEPOSIT.read_text()
+    bodies = {it[1]: it[2] for it in re.finditer(r"^fn (\w+)<'w>\(alloc: Global\).*?\{\n(.*?)^\}", source, re.M | re.S)}
+    whole = bodies["deposit_command"]
+    shared = {name: argument(it) for name, body in bodies.items() if (it := ARGUMENT.match(body.strip()))}
+    rows = [row_of(bodies[name], shared) for name in re.findall(r"\.subcommand\((\w+)\(alloc\)", whole)]
+    return Program("deposit", setting("about", whole), setting("after_help", whole), setting("version", whole), rows)
 
 
 # ---- the manual page
@@ -108,12 +163,17 @@ def roff(line: str) -> str:
     return "\\&" + escaped if escaped[:1] in (".", "'") else escaped
 
 
+def call_word(word: Word) -> str:
+    """A word of a call: an option in bold, a value in italics. An option keeps its value beside it."""
+    option = f"\\fB{roff(word.name)}\\fR" if word.value is not None else ""
+    value = f"\\fI{word.wanted}\\fR" if word.wanted else ""
+    whole = "\\ ".join(filter(None, (option, value, word.dots and f"{word.dots}\\&")))
+    return whole if word.required else f"[{whole}]"
+
+
 def call_words(row: Row) -> list[str]:
-    """The words of a call behind the command, options in bold and values in italics. An option keeps its value beside it."""
-    places = [f"\\fI{it.id}\\fR" for it in row.words if it.value is None]
-    options = [(f"\\fB{roff(it.name)}\\fR" + (f"\\ \\fI{it.value}\\fR" if it.value else ""), it.required)
-               for it in row.words if it.value is not None]
-    return [*places, *(option if required else f"[{option}]" for option, required in options)]
+    """The words of a call behind the command, those with a place first."""
+    return [call_word(it) for it in sorted(row.words, key=lambda it: it.value is not None)]
 
 
 def shell(command: str) -> list[str]:
@@ -124,7 +184,7 @@ def shell(command: str) -> list[str]:
 
 
 def explained(words: Iterable[Word]) -> list[str]:
-    named = [(f"{it.name} {it.value or ''}".rstrip(), it.help) for it in words]
+    named = [(" ".join(filter(None, (it.name, it.value, it.dots))), it.help) for it in words]
     return [line for name, help in named for line in (".TP", f"\\fI{roff(name)}\\fR", f"{roff(help)}.")]
 
 
@@ -147,27 +207,27 @@ def behind(row: Row) -> list[str]:
 BEGINS, ENDS = re.compile(r'\.\\" made: (.*)'), '.\\" end'
 
 
-def manual(rows: list[Row]) -> str:
+def manual(program: Program) -> str:
     """The page with its blocks made anew. A word that all commands share is explained once."""
-    about, after, version = texts()
+    name, about, rows = program.name, program.about, program.rows
     shared = [it for it in rows[0].words if all(it in row.words for row in rows)]
     synopsis, commands = [], explained(shared)
     for row in rows:
         words = call_words(row)
-        synopsis += [f'.SY "escrow {row.name}"', *words]
-        commands += [".TP", " ".join([f"\\fBescrow {row.name}\\fR", *words]), f"{roff(row.about)}.", ".RS",
+        synopsis += [f'.SY "{name} {row.name}"', *words]
+        commands += [".TP", " ".join([f"\\fB{name} {row.name}\\fR", *words]), f"{roff(row.about)}.", ".RS",
                      *explained(it for it in row.words if it not in shared), *behind(row), ".RE"]
-    steps = [line for it in after.split("\n\n")[0].split("\n")[1:] for line in shell(it.strip())]
+    steps = [line for it in program.after.split("\n\n")[0].split("\n")[1:] for line in shell(it.strip())]
     parts = {
-        "title": [f'.TH ESCROW 1 "" "escrow {version}"'], "synopsis": synopsis, "commands": commands,
+        "title": [f'.TH {name.upper()} 1 "" "{name} {program.version}"'], "synopsis": synopsis, "commands": commands,
         "about": [f"{roff(about[:1].lower() + about[1:])}."], "first steps": [".EX", *steps, ".EE"]}
 
-    def body(name: str, _: str) -> str:
-        if name not in parts:
+    def body(block: str, _: str) -> str:
+        if block not in parts:
             raise ValueError("nothing makes a block of this name")
-        return "\n".join(parts[name])
+        return "\n".join(parts[block])
 
-    page = "docs/escrow.1"
+    page = f"docs/{name}.1"
     return blocks.filled(page, (TOP / page).read_text(), body, BEGINS, ENDS)
 
 
@@ -182,22 +242,29 @@ def choices(row: Row, word: Word) -> list[str]:
     return next((re.split(", | or ", it[1]) for it in found if it), [])
 
 
-# The first line of the code in docs/escrow.bash. The tables above it are made; the code is kept.
-CODE = "# What is offered for the word at the cursor.\n"
+# The first line of the code in docs/escrow.bash. The tables above it are made; the code is kept, and stands in the
+# completions of each program with that program's name.
+CODE = "# What is offered for the word at the cursor: what compgen finds.\n"
 
 
-def completions(rows: list[Row]) -> str:
-    options = {row.name: [it.name for it in row.words if it.value is not None] for row in rows}
-    flags = {row.name: found for row in rows if (found := [it.name for it in row.words if it.value == ""])}
-    places = {row.name: [it.id for it in row.words if it.value is None] for row in rows}
-    values = {f"{row.name} {it.name}": found for row in rows for it in row.words if (found := choices(row, it))}
-    lines = ["# Completions of bash for escrow. The tables are made by tests/made.py from the table of the words.",
-             "# Source this file, or copy it to /usr/share/bash-completion/completions/escrow"]
-    for name, table in (("options", options), ("flags", flags), ("places", places), ("values", values)):
+def offered(word: Word) -> str:
+    """A word in the tables: `--NAME=VALUE`, `--NAME` of a flag, or the name of a place; with dots if it has several values."""
+    return "=".join(filter(None, (word.name, word.value))) + word.dots
+
+
+def completions(program: Program) -> str:
+    name, rows = program.name, program.rows
+    tables = {
+        "options": {row.name: [offered(it) for it in row.words if it.value is not None] for row in rows},
+        "places": {row.name: [offered(it) for it in row.words if it.value is None] for row in rows},
+        "values": {f"{row.name} {it.wanted}": found for row in rows for it in row.words if (found := choices(row, it))}}
+    lines = [f"# Completions of bash for {name}. The tables are made by tests/made.py from the words of its commands.",
+             f"# Source this file, or copy it to /usr/share/bash-completion/completions/{name}"]
+    for title, table in tables.items():
         entries = (f"    [{key}]='{' '.join(words)}'" for key, words in table.items())
-        lines += [f"declare -gA _escrow_{name}=(", *entries, ")"]
+        lines += [f"declare -gA _{name}_{title}=(", *entries, ")"]
     kept = (TOP / "docs" / "escrow.bash").read_text()
-    return "\n".join(lines) + "\n\n" + kept[kept.index(CODE):]
+    return "\n".join(lines) + "\n\n" + kept[kept.index(CODE):].replace("escrow", name)
 
 
 # ---- the picture of the crates
@@ -317,10 +384,10 @@ def picture() -> str:
 
 def made() -> tuple[dict[str, str], list[str]]:
     """The text of each file that is made, and why others cannot be."""
-    rows, faults = table(), []
-    ways = {"docs/escrow.1": lambda: manual(rows), "docs/escrow.bash": lambda: completions(rows), "docs/crates.svg": picture,
+    programs, texts, faults = (agent(), packer()), {}, []
+    ways = {**{f"docs/{it.name}.1": partial(manual, it) for it in programs},
+            **{f"docs/{it.name}.bash": partial(completions, it) for it in programs}, "docs/crates.svg": picture,
             **{name: partial(blocks.filled, name, text) for name, text in blocks.pages().items()}}
-    texts = {}
     for name, make in ways.items():
         try:
             texts[name] = make()

@@ -1,29 +1,35 @@
-"""The manual page: its sections, the lines that its DIAGNOSTICS name, its routes, signals, and its form."""
+"""The manual pages: their sections, words and examples, the lines that their DIAGNOSTICS name, routes, signals, and form."""
 import re
 import signal
 import socket
 
-from lib import DAY, PART, TEN, TOP, Room, answer_of, case, each, free_port, lines_of, request, response, state
+from lib import (
+    DAY, PART, TABLES, TEN, TOP, Room, answer_of, case, each, free_port, lines_of, part_name, request, response, state)
 
-PAGE, CODES, FORMATS, HTTP = ((TOP / "docs" / it).read_text() for it in ("escrow.1", "CODES.md", "FORMATS.md", "HTTP.md"))
-SECTIONS = ("NAME", "SYNOPSIS", "DESCRIPTION", "COMMANDS", "HTTP", "EXIT STATUS", "DIAGNOSTICS", "SIGNALS", "ENVIRONMENT",
-            "FILES", "EXAMPLES", "SEE ALSO")
+CODES, FORMATS, HTTP = ((TOP / "docs" / it).read_text() for it in ("CODES.md", "FORMATS.md", "HTTP.md"))
+# The sections of the page of each program.
+SECTIONS = {
+    "escrow": ("NAME", "SYNOPSIS", "DESCRIPTION", "COMMANDS", "HTTP", "EXIT STATUS", "DIAGNOSTICS", "SIGNALS", "ENVIRONMENT",
+               "FILES", "EXAMPLES", "SEE ALSO"),
+    "deposit": ("NAME", "SYNOPSIS", "DESCRIPTION", "COMMANDS", "EXIT STATUS", "DIAGNOSTICS", "FILES", "EXAMPLES", "SEE ALSO")}
+PAGES = {program: (TOP / f"docs/{program}.1").read_text() for program in SECTIONS}
 
 
-def section(title: str) -> str:
+def section(title: str, program: str = "escrow") -> str:
     """The source of a section."""
-    return re.search(rf"^\.SH {title}\n(.*?)(?=^\.SH |\Z)", PAGE, re.MULTILINE | re.DOTALL)[1]
+    return re.search(rf"^\.SH {title}\n(.*?)(?=^\.SH |\Z)", PAGES[program], re.MULTILINE | re.DOTALL)[1]
 
 
 def plain(text: str) -> str:
     """A source without its fonts and escapes."""
-    return re.sub(r"\\f[BIR]|^\.[BI]R? ", "", text).replace("\\-", "-")
+    bare = re.sub(r"\\f[BIR]|\\&|^\.[BI]R? ", "", text)
+    return bare.replace("\\-", "-").replace("\\ ", " ").replace("\\e", "\\")
 
 
-def lines_named() -> dict[str, tuple[str, str]]:
+def lines_named(program: str) -> dict[str, tuple[str, str]]:
     """The printed lines that DIAGNOSTICS name, each with the heading above it and its pattern."""
     found, heading = {}, ""
-    for above, line in re.findall(r"^\.(SS|TP|TQ)\b *\n?(.*)", section("DIAGNOSTICS"), re.MULTILINE):
+    for above, line in re.findall(r"^\.(SS|TP|TQ)\b *\n?(.*)", section("DIAGNOSTICS", program), re.MULTILINE):
         if above == "SS":
             heading = line.strip('"')
         else:
@@ -32,47 +38,90 @@ def lines_named() -> dict[str, tuple[str, str]]:
     return found
 
 
-NAMED = lines_named()
+NAMED = {program: lines_named(program) for program in PAGES}
 
 
-@case()
-def it_has_its_sections_and_no_other(room: Room) -> None:
-    room.equal(list(SECTIONS), re.findall(r"^\.SH (.*)$", PAGE, re.MULTILINE), "the sections")
-    for title in SECTIONS:
-        room.true(len(section(title).splitlines()) > 0, f"the section {title} is empty")
+@each((f"{program} has its sections and no other", program) for program in PAGES)
+def has_its_sections(room: Room, program: str) -> None:
+    room.equal(list(SECTIONS[program]), re.findall(r"^\.SH (.*)$", PAGES[program], re.MULTILINE), "the sections")
+    for title in SECTIONS[program]:
+        room.true(len(section(title, program).splitlines()) > 0, f"the section {title} is empty")
+
+
+def words_of_help(text: str) -> list[str]:
+    """The words of a command as its synopsis has them, from what its help prints."""
+    usage = re.search(r"^Usage: .*$", text, re.MULTILINE)[0]
+    named = re.findall(r"^ +(--[a-z-]+)?(?: ?<(\w+)>(\.\.\.)?)?  ", text, re.MULTILINE)
+    words = [(option or f"<{value}>", " ".join(filter(None, (option, value, dots)))) for option, value, dots in named]
+    return [word if f"{shown} " in f"{usage} ".replace(">...", "> ") else f"[{word}]" for shown, word in words if word]
+
+
+@each((f"the synopsis of {program} is that of its help", program) for program in PAGES)
+def has_the_words_of_help(room: Room, program: str) -> None:
+    listed = re.findall(r'^\.SY "\w+ (\w+)"\n((?:[^.].*\n)*)', section("SYNOPSIS", program), re.MULTILINE)
+    commands = re.findall(r"^  (\w+)  ", room.run(f"{program} help").out.decode(), re.MULTILINE)
+    room.equal(commands, [command for command, _ in listed], "the commands")
+    for command, words in listed[:-1]:
+        told = words_of_help(room.run(f"{program} help {command}").out.decode())
+        room.equal(told, plain(words).splitlines(), f"the words of {program} {command}")
 
 
 # ---- the lines that it names
 
 SPOILED = f"echo hello > {PART}; escrow put d {PART} --now {TEN}; sed -i s/hello/hellx/ d/vault.vol; "
-# Words that make the program print a line.
+FULL = f"deposit pack tables --tld example --date {DAY} --kind full --revision 0 --id 20260802001 --out parts"
+AGAIN = part_name(revision=1)
+# What is there before them: a vault, or tables without a row and a deposit that passes.
+BEFORE = {"escrow": "$ vault d", "deposit": f"$ cp ../full {PART}; mkdir tables; cd tables; touch {'.csv '.join(TABLES)}.csv"}
+# Words that make a program print a line.
 PRINTED = {
-    "I1 already initialised": "escrow init d --blocks 8 --number 0000000000000001",
-    "Q1 Nn name refused": "touch a; escrow put d a",
-    "Q11 volume full": f"truncate -s 40000 {PART}; escrow put d {PART} --now {TEN}",
-    "Q23 too many absences: N": "escrow sweep d --at-most 1 --now 2026-08-05T00:00:00Z",
-    "Qn TEXT": "escrow report d other",
-    "damaged NAME": f"{SPOILED}escrow audit d",
-    "bad value for X": "escrow lift d H_1",
-    "error: TEXT": "escrow state",
-    "C2 volume failed": f"vault e 300; truncate -s 1M {PART}; trap '' XFSZ; ulimit -f 700; escrow put e {PART} --now {TEN}",
-    "C3 store failed": "mkdir e; trap '' XFSZ; ulimit -f 8; escrow init e --blocks 8 --number 0000000000000001",
-    "C5 damaged Hn": f"{SPOILED}escrow put d {PART} --now {TEN}",
-    "file failed: PATH: folder missing": "escrow state nowhere",
-    "file failed: PATH: file missing": "mkdir e; escrow state e",
-    "file failed: PATH: file in use": "exec 3< d/vault.vol; flock 3; escrow state d",
-    "file failed: PATH: N bytes are no whole number of blocks": "truncate -s 5000 d/vault.vol; escrow state d",
-    "file failed: PATH: unable to open database file": "echo x > d/custody.db-journal; escrow state d",
-    "file failed: PATH: TEXT (os error N)": "mkdir in; escrow put d in",
-    "output failed": "escrow state d > /dev/full"}
+    "escrow": {
+        "I1 already initialised": "escrow init d --blocks 8 --number 0000000000000001",
+        "Q1 Nn name refused": "touch a; escrow put d a",
+        "Q11 volume full": f"truncate -s 40000 {PART}; escrow put d {PART} --now {TEN}",
+        "Q23 too many absences: N": "escrow sweep d --at-most 1 --now 2026-08-05T00:00:00Z",
+        "Qn TEXT": "escrow report d other",
+        "damaged NAME": f"{SPOILED}escrow audit d",
+        "bad value for X": "escrow lift d H_1",
+        "error: TEXT": "escrow state",
+        "C2 volume failed":
+            f"vault e 300; truncate -s 1M {PART}; trap '' XFSZ; ulimit -f 700; escrow put e {PART} --now {TEN}",
+        "C3 store failed": "mkdir e; trap '' XFSZ; ulimit -f 8; escrow init e --blocks 8 --number 0000000000000001",
+        "C5 damaged Hn": f"{SPOILED}escrow put d {PART} --now {TEN}",
+        "file failed: PATH: folder missing": "escrow state nowhere",
+        "file failed: PATH: file missing": "mkdir e; escrow state e",
+        "file failed: PATH: file in use": "exec 3< d/vault.vol; flock 3; escrow state d",
+        "file failed: PATH: N bytes are no whole number of blocks": "truncate -s 5000 d/vault.vol; escrow state d",
+        "file failed: PATH: unable to open database file": "echo x > d/custody.db-journal; escrow state d",
+        "file failed: PATH: TEXT (os error N)": "mkdir in; escrow put d in",
+        "output failed": "escrow state d > /dev/full"},
+    "deposit": {
+        "Un TEXT": f"{FULL} --previous X1",
+        "FAILURE-nn TEXT": f"printf x >> {PART}; deposit check {PART}",
+        "NAME: it does not continue a full deposit and those since":
+            f"cp {PART} {AGAIN}; deposit check {PART} --after {PART} {AGAIN}",
+        "bad value for --X": f"{FULL} --previous X_1",
+        "error: PATH: Nn is no name of a part": "deposit check tables/host.csv",
+        "error: PATH: part N is wanted": f"deposit check {part_name(part=2)}",
+        "error: these are parts of several deposits": f"cp {PART} {AGAIN}; deposit check {PART} {AGAIN}",
+        "error: PATH: no table has this name": f"touch tables/hosts.csv; {FULL}",
+        "error: TEXT": "deposit check",
+        "file failed: PATH: file is there already": f"{FULL}; {FULL}",
+        "file failed: PATH: file missing": f"rm tables/host.csv; {FULL}",
+        "file failed: PATH: folder missing": FULL.replace("tables", "nowhere"),
+        "file failed: PATH: TEXT (os error N)": f"mkdir parts; touch parts/{PART}.tmp; {FULL}",
+        "output failed": f"{FULL} > /dev/full"}}
 # Those that a server prints or answers.
-SERVED = {"C4 closed", "socket failed: 127.0.0.1:PORT: TEXT (os error N)", "read failed", "An TEXT"}
+SERVED = {
+    "escrow": {"C4 closed", "socket failed: 127.0.0.1:PORT: TEXT (os error N)", "read failed", "An TEXT"},
+    "deposit": set()}
 
 
-@each(((f"prints {title}", title, words) for title, words in PRINTED.items()), needs="flock")
-def is_printed(room: Room, title: str, words: str) -> None:
-    room.vault("d")
-    heading, pattern = NAMED[title]
+@each(((f"{program} prints {title}", program, title, words)
+       for program, printed in PRINTED.items() for title, words in printed.items()), needs="flock")
+def is_printed(room: Room, program: str, title: str, words: str) -> None:
+    room.plays(BEFORE[program])
+    heading, pattern = NAMED[program][title]
     came = room.run(words)
     found = [line for line in lines_of(came.out + came.err) if re.fullmatch(pattern, line)]
     room.true(found and f"Status {came.status}:" in heading, f"{heading}, {title}: {came}")
@@ -83,11 +132,11 @@ def a_server_prints_the_others(room: Room) -> None:
     room.vault("d")
     room.put("d", PART, "hello", TEN)
     room.plays(f"$ escrow release d R-1 example operator --now {TEN} -> released R-1 example operator {TEN} 1\n{PART}")
-    fetch, errors = request(f"GET /releases/R-1/{PART}"), f"{NAMED['read failed'][1]}\nC2 volume failed"
+    fetch, errors = request(f"GET /releases/R-1/{PART}"), f"{NAMED['escrow']['read failed'][1]}\nC2 volume failed"
     with room.serve("d", 4, errors=errors) as server:
         room.equal(b"", server.ask(b"GET", end="reset"), "the response to a client that leaves")
         fault = server.ask(request("GET /x")).decode().splitlines()[-1]
-        room.true(re.fullmatch(NAMED["An TEXT"][1], fault), fault)
+        room.true(re.fullmatch(NAMED["escrow"]["An TEXT"][1], fault), fault)
         room.plays("$ truncate -s 4096 d/vault.vol")
         room.equal(response(503, "C2 volume failed"), server.ask(fetch), "the request that fails")
         room.equal(response(503, "C4 closed"), server.ask(fetch), "a later request")
@@ -96,16 +145,17 @@ def a_server_prints_the_others(room: Room) -> None:
 @case()
 def a_port_that_is_taken_is_a_failed_socket(room: Room) -> None:
     room.vault("d")
-    heading, pattern = NAMED["socket failed: 127.0.0.1:PORT: TEXT (os error N)"]
+    heading, pattern = NAMED["escrow"]["socket failed: 127.0.0.1:PORT: TEXT (os error N)"]
     with socket.create_server(("127.0.0.1", port := free_port())):
         came = room.run(f"escrow serve d --port {port} --requests 1")
     room.true(re.fullmatch(pattern, came.err.decode().strip()) and f"Status {came.status}:" in heading, f"{came}")
 
 
-@case()
-def the_lines_that_are_not_tried_here_are_those_of_other_pages(room: Room) -> None:
-    others = set(NAMED) - set(PRINTED) - SERVED
-    room.equal(len(NAMED), len(others) + len(PRINTED) + len(SERVED), "how many lines are named")
+@each((f"the other lines of {program} are those of other pages", program) for program in PAGES)
+def is_named_elsewhere(room: Room, program: str) -> None:
+    named, printed, served = NAMED[program], PRINTED[program], SERVED[program]
+    others = set(named) - set(printed) - served
+    room.equal(len(named), len(others) + len(printed) + len(served), "how many lines are named")
     for title in others:
         room.true(f"`{re.sub('^C1 ', '', title)}`" in CODES + FORMATS, f"neither docs/CODES.md nor docs/FORMATS.md has {title}")
 
@@ -140,11 +190,22 @@ def no_variable_of_the_environment_matters(room: Room) -> None:
         $ env -i TZ=Pacific/Kiritimati TMPDIR=/nowhere "$(command -v escrow)" due d --now 2026-08-04T00:00:00Z | cmp - out""")
 
 
+@case()
+def the_examples_of_deposit_are_carried_out(room: Room) -> None:
+    """They are those of EXAMPLES, from tables without a row, and a day later from no changes."""
+    shown = re.findall(r"^\.EX\n(.*?)^\.EE$", section("EXAMPLES", "deposit"), re.MULTILINE | re.DOTALL)
+    room.plays(f"{BEFORE['deposit']}\n$ mkdir changes")
+    came = room.run(f"set -e; {plain(''.join(shown))}")
+    room.equal((0, b""), (came.status, came.err), "the status and the errors of the examples")
+    room.equal(3, came.out.count(b"PASS "), "how many deposits pass")
+
+
 # ---- its form
 
-@each(((f"it is set without a warning in {columns} columns", columns) for columns in (78, 98)), needs="groff")
-def is_set(room: Room, columns: int) -> None:
+@each(((f"{program} is set without a warning in {columns} columns", program, columns)
+       for program in PAGES for columns in (78, 98)), needs="groff")
+def is_set(room: Room, program: str, columns: int) -> None:
     """The program man leaves two columns free."""
-    done = answer_of(["groff", "-man", "-Tutf8", "-ww", f"-rLL={columns}n", "-P-cbou", TOP / "docs/escrow.1"])
+    done = answer_of(["groff", "-man", "-Tutf8", "-ww", f"-rLL={columns}n", "-P-cbou", TOP / f"docs/{program}.1"])
     room.equal((0, ""), (done.status, done.err.decode()), "the warnings of groff")
     room.equal([], [line for line in lines_of(done.out) if len(line) > columns], "the lines that are too long")

@@ -1,15 +1,17 @@
 """What a registry packs with `deposit`: which tables, and which files."""
-from lib import DAY, DEPOSIT, PART, RECEIPT, TEN, part_name, stated, transcripts
+from lib import DAY, DIGEST, PART, RECEIPT, TEN, notice, number_of, part_name, stated, transcripts
 
-MONDAY, ID, NEXT = "2026-08-03", "20260802001", "20260803001"
+MONDAY, TUESDAY = "2026-08-03", "2026-08-04"
+ID, NEXT, LAST = map(number_of, (DAY, MONDAY, TUESDAY))
 MADE = "for t in domain domainContacts domainStatuses domainNameServers host hostAddresses contact registrar; do : > $t.csv; done"
 # A folder `tables` of eight tables without a row, and the words that pack it.
 TABLES = f"$ mkdir tables; cd tables; {MADE}"
 FULL = f"--tld example --date {DAY} --kind full --revision 0 --id {ID}"
 DIFF = f"--tld example --date {MONDAY} --kind diff --revision 0 --id {NEXT} --previous {ID}"
+INCR = f"--tld example --date {TUESDAY} --kind incr --revision 0 --id {LAST}"
 BODY = f'{{"date":"{DAY}","id":"{ID}","kind":"full","parts":1,"revision":0,"tld":"example"}}'
 VERIFY = f"escrow verify VAULT example --date {DAY} --kind full --revision 0 --parts 1 --id {ID}"
-PACKED = f"{PART} {len(DEPOSIT)}\n{VERIFY}\n{BODY}"
+PACKED = f"{PART} 1422\n{VERIFY}\n{BODY}"
 EMPTY = "\n".join(f"{name} 0" for name in ("domain", "domainContacts", "domainStatuses", "domainNameServers", "host",
                                            "hostAddresses", "contact", "registrar"))
 
@@ -17,9 +19,9 @@ transcripts(__name__, f"""
 == a full deposit is packed, received and unpacked
 {TABLES}
 $ deposit pack tables {FULL} --out parts -> {PACKED}
-$ cmp parts/{PART} ../full
+$ sha256sum < parts/{PART} -> {DIGEST}  -
 $ vault d
-$ escrow put d parts/{PART} --now {TEN} -> received {PART} {len(DEPOSIT)} {TEN}
+$ escrow put d parts/{PART} --now {TEN} -> received {PART} 1422 {TEN}
 $ escrow verify d {stated()} -> {RECEIPT}
 $ deposit check parts/{PART} -> PASS FULL {ID} {DAY}, without check 7
 {EMPTY}
@@ -59,6 +61,7 @@ $ ls -> tables
 $ printf 'R1,Example,,ok\\n' > tables/registrar.csv; deposit pack tables {FULL} --out parts > printed
 $ mkdir -p changes/deletes; printf 'R2,"Second, Inc.",,ok' > changes/registrar.csv; printf 'R1\\n' > changes/deletes/registrar.csv
 $ deposit pack changes {DIFF} --out parts -> !1 U8 the deposits that it follows are wanted
+$ deposit pack nowhere {DIFF} --after parts/{PART} --out parts -> !3 file failed: nowhere: folder missing
 $ deposit pack changes {DIFF} --after parts/{PART} --out parts > printed
 $ deposit check parts/{part_name(MONDAY, 'diff')} -> PASS DIFF {NEXT} {MONDAY}, without checks 6, 7 and 11
 registrar 1
@@ -83,6 +86,17 @@ $ ls -> {PART}
 $ mkdir parts; trap '' XFSZ; ulimit -f 1; deposit pack tables {FULL} --out parts
 !3 file failed: parts/{PART}.tmp: File too large (os error 27)
 $ ls parts
+== an incremental deposit adds to the keys of the full one alone
+{TABLES}
+$ printf 'R1,Example,,ok\\n' > tables/registrar.csv; deposit pack tables {FULL} --out parts > printed
+$ mkdir changes; printf 'R2,Second,,ok\\n' > changes/registrar.csv; deposit pack changes {DIFF} --after parts/{PART} --out parts > printed
+$ printf 'R3,Third,,ok\\n' > changes/registrar.csv; deposit pack changes {INCR} --after parts/* --out parts > printed
+$ deposit check parts/{part_name(TUESDAY, 'incr')} --after parts/*full* parts/*diff* -> PASS INCR {LAST} {TUESDAY}
+registrar 1
+$ vault d; for it in parts/*; do escrow put d $it --now {TUESDAY}T10:00:00Z; done > printed
+$ escrow verify d {stated()} -> {RECEIPT}
+$ escrow verify d {stated(MONDAY, 'diff')} -> {notice(2, "RECEIPT", MONDAY, f"{MONDAY}T10:05:00Z", NEXT)}
+$ escrow verify d {stated(TUESDAY, 'incr')} -> {notice(3, "RECEIPT", TUESDAY, f"{TUESDAY}T10:05:00Z", LAST)}
 == a file of another name is refused
 {TABLES}
 $ touch tables/domains.csv
@@ -97,3 +111,11 @@ $ deposit check nothing -> !2 error: nothing: N1 is no name of a part
 $ deposit help > help; deposit > help 2>> errors -> !2
 """)
 
+transcripts(__name__, f"""
+== a terminal shows what deposit is at
+{TABLES}
+$ script -qec 'deposit pack tables {FULL} --out parts > printed' /dev/null | tr -d '\\r' | sed 's/\\x1b\\[K/|/g'; echo -> |packing|writing {PART} (1 of 1)|
+$ script -qec 'deposit check parts/{PART} > printed' /dev/null | tr -d '\\r' | sed 's/\\x1b\\[K/|/g'; echo -> |reading {PART} (1 of 1)|checking|
+$ script -qec 'deposit check nothing' /dev/null | tr -d '\\r' | sed 's/\\x1b\\[K/|/g' -> |error: nothing: N1 is no name of a part
+!2
+""", "script")

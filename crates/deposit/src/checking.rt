@@ -1,11 +1,12 @@
 //! Checking a deposit as an agent does.
 use crate::deposits::{JoinedDeposit, read_chain, read_deposit};
 use crate::errors::ProgramError;
+use crate::steps::{clear_step, show_step};
 use deposit_name::{DepositId, Kind};
 use deposit_pack::{Chain, TableFile, Unpacked, check, unpack};
-use deposit_verify::Reason;
+use deposit_verify::{FoundEnvelope, Reason, find_envelope};
 use dnrd_csv::{read_keys, read_table};
-use envelope::{read_envelope, split_frame};
+use envelope::type_text;
 use std::alloc::Global;
 use std::io;
 
@@ -18,18 +19,10 @@ fn left_out(kind: Kind, has_chain: bool) -> &'static str {
     }
 }
 
-fn type_text(kind: Kind) -> &'static str {
-    match kind {
-        Kind::Full => "FULL",
-        Kind::Diff => "DIFF",
-        Kind::Incr => "INCR",
-    }
-}
-
 // The id of a deposit that has passed.
 fn id_of(alloc: Global, deposit: &JoinedDeposit) -> Option<DepositId> {
-    let frame = split_frame(&deposit.bytes).ok()?;
-    Some(read_envelope(alloc, frame.envelope).ok()?.id)
+    let FoundEnvelope { envelope, .. } = find_envelope(alloc, &deposit.bytes).ok()?.ok()?;
+    Some(envelope.id)
 }
 
 fn output(printed: io::Result<()>) -> Result<(), ProgramError> {
@@ -39,12 +32,13 @@ fn output(printed: io::Result<()>) -> Result<(), ProgramError> {
     }
 }
 
-// Prints each table with the number of its rows.
+// Prints each table of a deposit that passes with the number of its rows.
 fn print_tables(rt: &HostRuntime, files: &[TableFile<'_>]) -> Result<(), ProgramError> {
     for TableFile { name, text } in files {
-        if let Ok(table) = read_table(rt.alloc(), *name, text) {
-            output(println!(rt; "{name} {}", table.rows.len()))?;
-        }
+        let Ok(table) = read_table(rt.alloc(), *name, text) else {
+            return Err(ProgramError::Memory);
+        };
+        output(println!(rt; "{name} {}", table.rows.len()))?;
     }
     Ok(())
 }
@@ -54,9 +48,10 @@ fn print_deletes(rt: &HostRuntime, files: &[TableFile<'_>]) -> Result<(), Progra
         if !name.has_deletes() {
             continue;
         }
-        if let Ok(keys) = read_keys(rt.alloc(), *name, text) {
-            output(println!(rt; "deletes/{name} {}", keys.len()))?;
-        }
+        let Ok(keys) = read_keys(rt.alloc(), *name, text) else {
+            return Err(ProgramError::Memory);
+        };
+        output(println!(rt; "deletes/{name} {}", keys.len()))?;
     }
     Ok(())
 }
@@ -89,7 +84,10 @@ pub fn print_check(
     chain: Option<Chain>,
 ) -> Result<bool, ProgramError> {
     let has_chain = chain.is_some();
-    match check(rt.alloc(), &deposit.name, &deposit.bytes, chain)? {
+    show_step(rt, "checking");
+    let found = check(rt.alloc(), &deposit.name, &deposit.bytes, chain)?;
+    clear_step(rt);
+    match found {
         None => {
             print_pass(rt, deposit, has_chain)?;
             Ok(true)
@@ -104,6 +102,6 @@ pub fn print_check(
 /// Checks the deposit whose parts these are, after the deposits whose parts those are. It answers whether it passes.
 pub fn check_files(rt: &HostRuntime, files: &[&str], after: &[&str]) -> Result<bool, ProgramError> {
     let deposit = read_deposit(rt, files)?;
-    let chain = read_chain(rt, after)?;
+    let chain = read_chain(rt, after, deposit.name.kind)?;
     print_check(rt, &deposit, chain)
 }

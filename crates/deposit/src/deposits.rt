@@ -1,8 +1,10 @@
 //! Deposits in files.
 use crate::errors::ProgramError;
 use crate::files::{file_name, read_file};
+use crate::steps::{show_file, show_step};
 use deposit_name::{DepositName, Kind};
 use deposit_pack::Chain;
+use deposit_verify::Base;
 use schedule::Day;
 use std::alloc::Global;
 use std::fmt;
@@ -83,8 +85,9 @@ fn add_part(
 pub fn read_deposits(rt: &HostRuntime, paths: &[&str]) -> Result<Vec<JoinedDeposit>, ProgramError> {
     let alloc = rt.alloc();
     let mut deposits = Vec::new(alloc);
-    for PartFile { name, place } in &part_files(alloc, paths)? {
+    for (i, PartFile { name, place }) in part_files(alloc, paths)?.iter().enumerate() {
         if let Some(path) = paths.get(*place) {
+            show_file(rt, "reading", path, i, paths.len());
             add_part(rt, *name, path, &mut deposits)?;
         }
     }
@@ -127,8 +130,24 @@ impl fmt::Display for Broken {
     }
 }
 
-/// The chain of the deposits whose parts these paths name: none where there are none.
-pub fn read_chain(rt: &HostRuntime, paths: &[&str]) -> Result<Option<Chain>, ProgramError> {
+// The chain as a deposit of a kind follows it: an incremental one adds to the keys of the full one alone.
+fn chain_for(alloc: Global, kind: Kind, full: &[u8], chain: Chain) -> Result<Chain, ProgramError> {
+    if kind != Kind::Incr || chain.ids.len() < 2 {
+        return Ok(chain);
+    }
+    let Some(base) = Base::of_full(alloc, full)? else {
+        return Err(ProgramError::Memory);
+    };
+    let ids = chain.ids;
+    Ok(Chain { ids, base })
+}
+
+/// The chain of the deposits whose parts these paths name, as one of this kind follows it: none where there are none.
+pub fn read_chain(
+    rt: &HostRuntime,
+    paths: &[&str],
+    kind: Kind,
+) -> Result<Option<Chain>, ProgramError> {
     let alloc = rt.alloc();
     let deposits = read_deposits(rt, paths)?;
     let mut joined: Vec<&[u8]> = Vec::with_capacity(alloc, deposits.len())?;
@@ -138,8 +157,9 @@ pub fn read_chain(rt: &HostRuntime, paths: &[&str]) -> Result<Option<Chain>, Pro
     let Some((first, later)) = joined.split_first() else {
         return Ok(None);
     };
+    show_step(rt, "reading the keys");
     match Chain::of(alloc, first, later)? {
-        Ok(chain) => Ok(Some(chain)),
+        Ok(chain) => Ok(Some(chain_for(alloc, kind, first, chain)?)),
         Err(place) => Err(broken_at(alloc, deposits.get(place))),
     }
 }

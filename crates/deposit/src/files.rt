@@ -1,5 +1,6 @@
 //! Reading files, and making new ones.
 use crate::errors::ProgramError;
+use crate::steps::show_file;
 use std::alloc::Global;
 use std::fs::{self, DirEntry, OpenOptions};
 use std::io::{self, ErrorKind, Write};
@@ -32,12 +33,14 @@ fn entry_name(rt: &HostRuntime, entry: io::Result<DirEntry>) -> io::Result<Strin
     Ok(String::from_str(rt.alloc(), entry?.file_name())?)
 }
 
-/// The names of the files in a folder: none where it is not there.
+/// The names of the files in a folder.
 pub fn list_files(rt: &HostRuntime, folder: &str) -> Result<Vec<String>, ProgramError> {
     let mut names = Vec::new(rt.alloc());
     let entries = match fs::read_dir(rt, folder) {
         Ok(entries) => entries,
-        Err(error) if error.kind() == ErrorKind::NotFound => return Ok(names),
+        Err(error) if error.kind() == ErrorKind::NotFound => {
+            return Err(ProgramError::of_file(rt.alloc(), folder, "folder missing"));
+        }
         Err(error) => return Err(ProgramError::by_file(rt.alloc(), folder, error)),
     };
     for entry in entries {
@@ -57,11 +60,14 @@ pub fn file_name(path: &str) -> &str {
     }
 }
 
-pub fn make_folder(rt: &HostRuntime, path: &str) -> Result<(), ProgramError> {
-    match fs::create_dir_all(rt, path) {
-        Ok(()) => Ok(()),
-        Err(error) => Err(ProgramError::by_file(rt.alloc(), path, error)),
+// Makes the folders that are not there.
+fn make_folders(rt: &HostRuntime, folders: &[&str]) -> Result<(), ProgramError> {
+    for folder in folders {
+        if let Err(error) = fs::create_dir_all(rt, folder) {
+            return Err(ProgramError::by_file(rt.alloc(), folder, error));
+        }
     }
+    Ok(())
 }
 
 // The name under which a file is written before it has its own.
@@ -69,7 +75,8 @@ fn draft_path(alloc: Global, path: &str) -> Result<String, ProgramError> {
     Ok(format!(in alloc; "{path}.tmp")?)
 }
 
-fn is_there(rt: &HostRuntime, path: &str) -> bool {
+/// Whether there is a file or a folder at a path.
+pub fn is_there(rt: &HostRuntime, path: &str) -> bool {
     fs::symlink_metadata(rt, path).is_ok()
 }
 
@@ -83,20 +90,22 @@ fn find_none(rt: &HostRuntime, files: &[NewFile<'_>]) -> Result<(), ProgramError
     Ok(())
 }
 
-fn write_draft(rt: &HostRuntime, path: &str, bytes: &[u8]) -> Result<(), ProgramError> {
+// Writes a file under another name, or removes it.
+fn write_draft(rt: &HostRuntime, file: &NewFile<'_>) -> Result<(), ProgramError> {
+    let path = draft_path(rt.alloc(), &file.path)?;
     let opened = OpenOptions::new()
         .write(true)
         .create_new(true)
-        .open(rt, path);
+        .open(rt, &path);
     let written = match opened {
-        Ok(mut file) => file.write_all(bytes).and_then(|()| file.sync_all()),
-        Err(error) => return Err(ProgramError::by_file(rt.alloc(), path, error)),
+        Ok(mut draft) => draft.write_all(file.bytes).and_then(|()| draft.sync_all()),
+        Err(error) => return Err(ProgramError::by_file(rt.alloc(), &path, error)),
     };
     match written {
         Ok(()) => Ok(()),
         Err(error) => {
-            let _ = fs::remove_file(rt, path);
-            Err(ProgramError::by_file(rt.alloc(), path, error))
+            let _ = fs::remove_file(rt, &path);
+            Err(ProgramError::by_file(rt.alloc(), &path, error))
         }
     }
 }
@@ -104,8 +113,8 @@ fn write_draft(rt: &HostRuntime, path: &str, bytes: &[u8]) -> Result<(), Program
 // Writes all files under other names, or none.
 fn write_drafts(rt: &HostRuntime, files: &[NewFile<'_>]) -> Result<(), ProgramError> {
     for (i, file) in files.iter().enumerate() {
-        let draft = draft_path(rt.alloc(), &file.path)?;
-        if let Err(error) = write_draft(rt, &draft, file.bytes) {
+        show_file(rt, "writing", &file.path, i, files.len());
+        if let Err(error) = write_draft(rt, file) {
             remove_drafts(rt, &files[..i]);
             return Err(error);
         }
@@ -130,25 +139,44 @@ fn name_draft(rt: &HostRuntime, path: &str) -> Result<(), ProgramError> {
     }
 }
 
-/// Makes files in a folder, of which none may be there: each is written and synced under another name, and gets its own
-/// when all are.
+fn remove_files(rt: &HostRuntime, files: &[NewFile<'_>]) {
+    for file in files {
+        let _ = fs::remove_file(rt, &file.path);
+    }
+}
+
+// Gives all files their names, or removes them.
+fn name_drafts(rt: &HostRuntime, files: &[NewFile<'_>]) -> Result<(), ProgramError> {
+    for (i, file) in files.iter().enumerate() {
+        if let Err(error) = name_draft(rt, &file.path) {
+            remove_files(rt, &files[..i]);
+            remove_drafts(rt, &files[i..]);
+            return Err(error);
+        }
+    }
+    Ok(())
+}
+
+// Settles the names of the files in folders.
+fn sync_folders(rt: &HostRuntime, folders: &[&str]) -> Result<(), ProgramError> {
+    for folder in folders {
+        if let Err(error) = fs::File::open(rt, folder).and_then(|opened| opened.sync_all()) {
+            return Err(ProgramError::by_file(rt.alloc(), folder, error));
+        }
+    }
+    Ok(())
+}
+
+/// Makes files in folders, and those of the folders that are not there; of the files none may be there. Each is written
+/// and synced under another name, and gets its own when all are. It makes all files, or none.
 pub fn make_files(
     rt: &HostRuntime,
-    folder: &str,
+    folders: &[&str],
     files: &[NewFile<'_>],
 ) -> Result<(), ProgramError> {
     find_none(rt, files)?;
+    make_folders(rt, folders)?;
     write_drafts(rt, files)?;
-    for file in files {
-        name_draft(rt, &file.path)?;
-    }
-    sync_folder(rt, folder)
-}
-
-// Settles the names of the files in a folder.
-fn sync_folder(rt: &HostRuntime, folder: &str) -> Result<(), ProgramError> {
-    match fs::File::open(rt, folder).and_then(|opened| opened.sync_all()) {
-        Ok(()) => Ok(()),
-        Err(error) => Err(ProgramError::by_file(rt.alloc(), folder, error)),
-    }
+    name_drafts(rt, files)?;
+    sync_folders(rt, folders)
 }

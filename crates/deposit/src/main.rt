@@ -6,6 +6,7 @@ mod deposits;
 mod errors;
 mod files;
 mod packing;
+mod steps;
 mod unpacking;
 mod words;
 
@@ -14,7 +15,9 @@ use clap::ArgMatches;
 use errors::ProgramError;
 use packing::pack_tables;
 use std::env;
+use std::io::ErrorKind;
 use std::process::ExitCode;
+use steps::clear_step;
 use unpacking::unpack_files;
 use words::{matches_of, pack_order, text_in, texts_in};
 
@@ -44,6 +47,7 @@ fn run(rt: &HostRuntime) -> Result<bool, ProgramError> {
     let alloc = rt.alloc();
     let words = match env::args(rt) {
         Ok(words) => words.collect::<Vec<String>>(alloc)?,
+        Err(error) if error.kind() == ErrorKind::OutOfMemory => return Err(ProgramError::Memory),
         Err(error) => return Err(ProgramError::misused(alloc, error)),
     };
     call(rt, words.as_slice())
@@ -51,6 +55,7 @@ fn run(rt: &HostRuntime) -> Result<bool, ProgramError> {
 
 // Prints the line of an error, and answers the status.
 fn tell(rt: &HostRuntime, error: &ProgramError) -> u8 {
+    clear_step(rt);
     let printed = match error {
         ProgramError::Words(error) => error.print(rt),
         ProgramError::Misused(line) | ProgramError::Refused(line) | ProgramError::File(line) => {

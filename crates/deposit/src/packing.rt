@@ -1,22 +1,13 @@
 //! Packing the tables of a folder.
 use crate::deposits::read_chain;
 use crate::errors::ProgramError;
-use crate::files::{NewFile, list_files, make_files, make_folder, read_file, read_if_there};
+use crate::files::{NewFile, is_there, list_files, make_files, read_file, read_if_there};
+use crate::steps::{clear_step, show_step};
 use crate::words::PackOrder;
 use deposit_name::{Kind, TableName};
 use deposit_pack::{Attributes, PackError, Part, Source, TableFile, pack, split};
+use deposit_verify::wanted_table;
 use std::alloc::Global;
-
-const TABLES: [TableName; 8] = [
-    TableName::Domain,
-    TableName::DomainContacts,
-    TableName::DomainStatuses,
-    TableName::DomainNameServers,
-    TableName::Host,
-    TableName::HostAddresses,
-    TableName::Contact,
-    TableName::Registrar,
-];
 
 // A table's name, and the text of its file.
 #[derive(Drop)]
@@ -44,8 +35,11 @@ fn find_no_other(rt: &HostRuntime, folder: &str) -> Result<(), ProgramError> {
 fn read_tables(rt: &HostRuntime, folder: &str, all: bool) -> Result<Vec<TableText>, ProgramError> {
     let alloc = rt.alloc();
     find_no_other(rt, folder)?;
-    let mut tables = Vec::with_capacity(alloc, TABLES.len())?;
-    for name in TABLES {
+    let mut tables = Vec::new(alloc);
+    for place in 0..8 {
+        let Some(name) = wanted_table(place) else {
+            break;
+        };
         let path = format!(in alloc; "{folder}/{name}.csv")?;
         if all {
             let text = read_file(rt, &path)?;
@@ -55,6 +49,17 @@ fn read_tables(rt: &HostRuntime, folder: &str, all: bool) -> Result<Vec<TableTex
         }
     }
     Ok(tables)
+}
+
+// The deleted keys of a folder, in the folder `deletes` in it.
+fn read_deletes(rt: &HostRuntime, folder: &str) -> Result<Vec<TableText>, ProgramError> {
+    let alloc = rt.alloc();
+    let deletes = format!(in alloc; "{folder}/deletes")?;
+    if is_there(rt, &deletes) {
+        read_tables(rt, &deletes, false)
+    } else {
+        Ok(Vec::new(alloc))
+    }
 }
 
 fn table_files<'t>(
@@ -77,10 +82,10 @@ fn packed(
     after: &[&str],
 ) -> Result<Vec<u8>, ProgramError> {
     let alloc = rt.alloc();
-    let is_full = order.attributes.name.kind == Kind::Full;
-    let chain = read_chain(rt, after)?;
-    let tables = read_tables(rt, order.tables, is_full)?;
-    let keys = read_tables(rt, &format!(in alloc; "{}/deletes", order.tables)?, false)?;
+    let kind = order.attributes.name.kind;
+    let chain = read_chain(rt, after, kind)?;
+    let tables = read_tables(rt, order.tables, kind == Kind::Full)?;
+    let keys = read_deletes(rt, order.tables)?;
     let contents = table_files(alloc, &tables)?;
     let deletes = table_files(alloc, &keys)?;
     let source = Source {
@@ -88,6 +93,7 @@ fn packed(
         deletes: &deletes,
         has_headers: order.has_headers,
     };
+    show_step(rt, "packing");
     let base = chain.as_ref().map(|chain| &chain.base);
     match pack(alloc, &order.attributes, &source, base) {
         Ok(bytes) => Ok(bytes),
@@ -141,8 +147,9 @@ pub fn pack_tables(
     let Some(parts) = split(alloc, &order.attributes.name, &bytes)? else {
         return Err(ProgramError::refused(alloc, PackError::Length));
     };
-    make_folder(rt, order.folder)?;
-    make_files(rt, order.folder, &new_files(alloc, order.folder, &parts)?)?;
+    let files = new_files(alloc, order.folder, &parts)?;
+    make_files(rt, &[order.folder], &files)?;
+    clear_step(rt);
     match print_parts(rt, &order.attributes, &parts) {
         Ok(()) => Ok(()),
         Err(_) => Err(ProgramError::Output),

@@ -2,7 +2,8 @@
 use crate::checking::print_check;
 use crate::deposits::read_deposit;
 use crate::errors::ProgramError;
-use crate::files::{NewFile, make_files, make_folder};
+use crate::files::{NewFile, make_files};
+use crate::steps::clear_step;
 use deposit_pack::{TableFile, Unpacked, unpack};
 use std::alloc::Global;
 
@@ -54,13 +55,12 @@ pub fn unpack_files(rt: &HostRuntime, paths: &[&str], folder: &str) -> Result<bo
     let Ok(unpacked) = unpack(alloc, &deposit.bytes)? else {
         return Ok(false);
     };
-    make_folder(rt, folder)?;
     let deletes = format!(in alloc; "{folder}/deletes")?;
-    if !unpacked.deletes.is_empty() {
-        make_folder(rt, &deletes)?;
-    }
     let files = new_files(alloc, folder, &deletes, &unpacked)?;
-    make_files(rt, folder, &files)?;
+    let folders = [folder, deletes.as_str()];
+    let count = if unpacked.deletes.is_empty() { 1 } else { 2 };
+    make_files(rt, &folders[..count], &files)?;
+    clear_step(rt);
     print_files(rt, &files)?;
     Ok(passes)
 }

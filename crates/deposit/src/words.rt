@@ -19,63 +19,88 @@ pub struct PackOrder<'w> {
     pub folder: &'w str,
 }
 
+// An argument that is given by its place. It has to be there.
+fn place<'w>(alloc: Global, id: &'w str, help: &'w str) -> Arg<'w> {
+    Arg::new(alloc, id).required(true).help(help)
+}
+
+// An argument that is given as `--id VALUE`.
+fn optional<'w>(alloc: Global, id: &'w str, value: &'w str, help: &'w str) -> Arg<'w> {
+    Arg::new(alloc, id).long(id).value_name(value).help(help)
+}
+
+// The same, if it has to be there.
 fn required<'w>(alloc: Global, id: &'w str, value: &'w str, help: &'w str) -> Arg<'w> {
+    optional(alloc, id, value, help).required(true)
+}
+
+// An argument that is given as `--id`, without a value.
+fn flag<'w>(alloc: Global, id: &'w str, help: &'w str) -> Arg<'w> {
     Arg::new(alloc, id)
         .long(id)
-        .value_name(value)
-        .required(true)
+        .action(ArgAction::SetTrue)
         .help(help)
 }
 
-fn files<'w>(alloc: Global, help: &'w str) -> Arg<'w> {
-    Arg::new(alloc, "FILE")
-        .required(true)
-        .num_args(1..)
-        .action(ArgAction::Append)
-        .help(help)
+// The same argument, with one value or more.
+fn several<'w>(argument: Arg<'w>) -> Arg<'w> {
+    argument.num_args(1..).action(ArgAction::Append)
+}
+
+fn files<'w>(alloc: Global) -> Arg<'w> {
+    several(place(alloc, "FILE", "Parts of one deposit"))
+}
+
+fn previous<'w>(alloc: Global) -> Arg<'w> {
+    optional(
+        alloc,
+        "previous",
+        "ID",
+        "Id of the latest deposit that passed; for an incr that of the latest full one",
+    )
 }
 
 fn after<'w>(alloc: Global) -> Arg<'w> {
-    Arg::new(alloc, "after")
-        .long("after")
-        .value_name("FILE")
-        .num_args(1..)
-        .action(ArgAction::Append)
-        .help("Parts of the deposits that it follows: a full one, and those since")
+    several(optional(
+        alloc,
+        "after",
+        "FILE",
+        "Parts of the latest full deposit that passed; for a diff also of those since",
+    ))
 }
 
-fn out<'w>(alloc: Global, help: &'w str) -> Arg<'w> {
-    required(alloc, "out", "FOLDER", help)
+fn revision<'w>(alloc: Global) -> Arg<'w> {
+    required(
+        alloc,
+        "revision",
+        "N",
+        "Resend number of the deposit, 0 to 99",
+    )
+    .value_parser(ValueParser::signed(0, 99))
+}
+
+fn out<'w>(alloc: Global) -> Arg<'w> {
+    required(
+        alloc,
+        "out",
+        "FOLDER",
+        "Folder for the new files; it is made if it is not there",
+    )
 }
 
 fn pack_command<'w>(alloc: Global) -> Result<Command<'w>, AllocError> {
-    let revision = required(alloc, "revision", "N", "Resend number, 0 to 99").value_parser(
-        ValueParser::signed(0, 99),
-    );
-    let previous = Arg::new(alloc, "previous")
-        .long("previous")
-        .value_name("ID")
-        .help("Id of the deposit that it follows: of a diff, the latest that passed");
-    let header = Arg::new(alloc, "header")
-        .long("header")
-        .action(ArgAction::SetTrue)
-        .help("The first row of each file is the names of its columns");
     Command::new(alloc, "pack")
         .about("Packs the tables of a folder as a deposit")
         .after_help(
-            "TABLES has domain.csv, domainContacts.csv, domainStatuses.csv, domainNameServers.csv, host.csv,\n\
-             hostAddresses.csv, contact.csv and registrar.csv: all eight for a full deposit, those with changes\n\
-             for any other. Deleted keys are in deletes/domain.csv, deletes/host.csv, deletes/contact.csv and\n\
-             deletes/registrar.csv.\n\
+            "Tables: domain.csv, domainContacts.csv, domainStatuses.csv, domainNameServers.csv, host.csv,\n        \
+             hostAddresses.csv, contact.csv and registrar.csv\n\
+             Deletes: the keys that are gone, in deletes/TABLE.csv, TABLE domain, host, contact or registrar\n\
+             A full deposit has all eight tables and no deletes, any other has those with changes\n\
              Prints: each part and its length, then how to state the deposit\n\
              Example: deposit pack tables --tld example --date 2026-08-02 --kind full --revision 0 \
              --id 20260802001 --out parts",
         )
-        .arg(
-            Arg::new(alloc, "TABLES")
-                .required(true)
-                .help("Folder of the tables"),
-        )?
+        .arg(place(alloc, "TABLES", "Folder of the tables"))?
         .arg(required(alloc, "tld", "TLD", "Top-level domain of the registry"))?
         .arg(required(
             alloc,
@@ -83,28 +108,39 @@ fn pack_command<'w>(alloc: Global) -> Result<Command<'w>, AllocError> {
             "DATE",
             "Day of the deposit, such as 2026-08-02",
         ))?
-        .arg(required(alloc, "kind", "KIND", "full, diff or incr"))?
-        .arg(revision)?
+        .arg(required(
+            alloc,
+            "kind",
+            "KIND",
+            "Kind of the deposit: full, diff or incr",
+        ))?
+        .arg(revision(alloc))?
         .arg(required(
             alloc,
             "id",
             "ID",
             "Id of the deposit, 1 to 13 letters and digits",
         ))?
-        .arg(previous)?
+        .arg(previous(alloc))?
         .arg(after(alloc))?
-        .arg(header)?
-        .arg(out(alloc, "Folder for the parts; it is made if it is not there"))
+        .arg(flag(
+            alloc,
+            "header",
+            "The first row of each file is the names of its columns",
+        ))?
+        .arg(out(alloc))
 }
 
 fn check_command<'w>(alloc: Global) -> Result<Command<'w>, AllocError> {
     Command::new(alloc, "check")
         .about("Says what an agent will say of a deposit")
         .after_help(
-            "Prints: PASS TYPE ID DATE and the rows of each table, or FAILURE-nn and why, with status 1\n\
+            "Without --after it leaves out check 7, and for a diff or an incr also 6 and 11\n\
+             Prints: PASS TYPE ID DATE, then each table and the number of its rows,\n        \
+             or FAILURE-NN and why, with status 1\n\
              Example: deposit check parts/example_2026-08-02_full_S1_R0.ryde",
         )
-        .arg(files(alloc, "Parts of one deposit"))?
+        .arg(files(alloc))?
         .arg(after(alloc))
 }
 
@@ -112,17 +148,25 @@ fn unpack_command<'w>(alloc: Global) -> Result<Command<'w>, AllocError> {
     Command::new(alloc, "unpack")
         .about("Writes the tables of a deposit into a folder")
         .after_help(
-            "Prints: what `check` prints, then each file and its length\n\
+            "Writes nothing if frame, envelope, menu or a digest is wrong\n\
+             Prints: what check prints, then each file and its length\n\
              Example: deposit unpack example_2026-08-02_full_S1_R0.ryde --out tables",
         )
-        .arg(files(alloc, "Parts of one deposit"))?
-        .arg(out(alloc, "Folder for the files; it is made if it is not there"))
+        .arg(files(alloc))?
+        .arg(out(alloc))
 }
 
 fn deposit_command<'w>(alloc: Global) -> Result<Command<'w>, AllocError> {
     Command::new(alloc, "deposit")
         .about("Packs, checks and unpacks escrow deposits of registries")
-        .after_help("Exit status: 0 done, 1 refused, 2 bad arguments, 3 failed")
+        .after_help(
+            "First steps:\n  \
+             deposit pack tables --tld example --date 2026-08-02 --kind full --revision 0 \
+             --id 20260802001 --out parts\n  \
+             deposit check parts/example_2026-08-02_full_S1_R0.ryde\n  \
+             deposit unpack parts/example_2026-08-02_full_S1_R0.ryde --out unpacked\n\n\
+             Exit status: 0 done, 1 refused, 2 bad arguments, 3 failed",
+        )
         .version("0.1.0")
         .subcommand_required(true)
         .subcommand(pack_command(alloc)?)?
