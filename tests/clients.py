@@ -18,9 +18,10 @@ its response is whole, by its bytes alone, and reports no failure (500 or 503). 
 
 It ends after N rounds (40), or with the round that is on after S seconds (60). What befalls a try depends on the seed, the
 numbers of round, request and try, and the time that the request takes without kills. PROGRAM is crates/escrow/out/escrow
-unless named; it needs `rt run` in crates/escrow before.
+unless named; it needs `rt run` in crates/escrow and crates/deposit before.
 """
 import contextlib
+import functools
 import itertools
 import json
 import math
@@ -38,8 +39,8 @@ from collections import Counter
 from pathlib import Path
 from typing import NamedTuple
 
-from lib import (ESCROW, EXPLAINED, FIVE, TEN, Server, Wrong, answer_of, built, deposit, difference, free_port, notice,
-                 parser, part_name, request, response, statement, tell)
+from lib import (ESCROW, EXPLAINED, FIVE, TEN, Server, Wrong, answer_of, built, difference, free_port, notice, packed, parser,
+                 part_name, parts_of, request, response, statement, tell)
 
 # How often a request is tried, the last time undisturbed; and the seconds for a server to listen, for a response to come,
 # and for a command to end.
@@ -61,15 +62,18 @@ def domains(first: int, last: int) -> str:
     return "".join(f"d{n:05}.example,D{n}-EX,,R1,2020-01-01T00:00:00Z,2030-01-01T00:00:00Z\n" for n in range(first, last))
 
 
-# A full deposit of more than a part of the greatest size, and a differential one behind it, of revision 1. Both pass.
-WHOLE = deposit("full", tables={"domain": domains(0, 16_000), "registrar": "R1,Example,292,ok\n"}, counts=(0, 16_000, 0, 1))
-NEXT = deposit("diff", "2026-08-04", tables={"domain": domains(16_000, 16_003)}, counts=(0, 16_003, 0, 1),
-               previous="20260802001", resend=1)
-NOISE = random.Random(1)
-PARTS = {FULL_1: WHOLE[:1_048_576], FULL_2: WHOLE[1_048_576:], FAILS: NOISE.randbytes(300_000), DIFF: NEXT,
-         LATE: NOISE.randbytes(1_048_576), OTHER: NOISE.randbytes(40_000)}
-RECEIVED = {name: f"received {name} {len(PARTS[name])} {now}" for name, now in (
-    (FULL_1, AT_1), (FULL_2, AT_1), (FAILS, AT_3), (DIFF, AT_3), (OTHER, AT_3), (LATE, AT_4))}
+@functools.cache
+def parts() -> dict[str, bytes]:
+    """The parts that are sent. The full deposit has more than a part of the greatest size, and the differential one of
+    revision 1 follows it; both pass. The others are noise."""
+    whole = packed(tables={"domain": domains(0, 16_000), "registrar": "R1,Example,292,ok\n"})
+    following = packed("diff", "2026-08-04", tables={"domain": domains(16_000, 16_003)}, after=[whole], previous="20260802001",
+                       revision=1)
+    noise = random.Random(1)
+    return parts_of(whole) | parts_of(following) | {
+        name: noise.randbytes(length) for name, length in ((FAILS, 300_000), (LATE, 1_048_576), (OTHER, 40_000))}
+
+
 GONE = (410, "Q6 dropped after keeping")
 
 
@@ -87,8 +91,15 @@ def ask(line: str, status: int, answer: str | bytes, body: bytes | str | None = 
     return Request(line, request(line, sent), response(status, answer, *fields))
 
 
-def part(name: str, status: int = 201, answer: str = "", content: bytes = b"") -> Request:
-    return ask(f"PUT /deposits/{name}", status, answer or RECEIVED[name], content or PARTS[name])
+def part(name: str, now: str, status: int = 201) -> Request:
+    """A part that is received, or was, at this moment."""
+    sent = parts()[name]
+    return ask(f"PUT /deposits/{name}", status, f"received {name} {len(sent)} {now}", sent)
+
+
+def refused(name: str, status: int, answer: str, sent: bytes) -> Request:
+    """A part that is not received."""
+    return ask(f"PUT /deposits/{name}", status, answer, sent)
 
 
 def states(day: str, kind: str, revision: int, parts: int, number: str, status: int, answer: str) -> Request:
@@ -101,33 +112,33 @@ def release(reference: str, tld: str, ground: str, now: str, names: list[str]) -
 
 
 def fetch(reference: str, *names: str) -> list[Request]:
-    return [ask(f"GET /releases/{reference}/{name}", 200, PARTS[name]) for name in names]
+    return [ask(f"GET /releases/{reference}/{name}", 200, parts()[name]) for name in names]
 
 
-STEPS = {
-    AT_1: [
-        ask("GET /notices/example", 404, "Q2 registry unknown"),
-        ask("PUT /registries/example", 201, "registered example 2026-08-01", first="2026-08-01"),
-        ask("PUT /registries/example", 200, "registered example 2026-08-01", first="2026-09-01"),
-        ask("PUT /registries/other", 201, "registered other 2026-08-02", first="2026-08-02"),
-        part(FULL_1), part(FULL_4, 409, "Q10 part out of order", b"4"), part(FULL_2), part(FULL_1, 200),
-        part(FULL_2, 409, "Q5 other bytes under this name", PARTS[FULL_1]),
-        part(part_name(tld="unknown"), 404, "Q2 registry unknown", b"hello"),
-        ask("GET /x", 404, "A3 no route"), ask("DELETE /purges", 405, "A4 method", None, "Allow: POST"),
-        ask("PUT /registries/third", 400, "A10 form", first="2026-8-2")],
-    AT_2: [
-        states("2026-08-02", "full", 0, 3, "20260802001", 409, "Q12 parts differ"),
-        states("2026-08-02", "full", 0, 9, "20260802001", 400, "A10 form"),
-        states("2026-08-02", "full", 0, 2, "20260802001", 201, NOTICES[0]),
-        states("2026-08-02", "full", 0, 2, "20260802001", 200, NOTICES[0]),
-        part(FULL_3, 409, "Q7 revision not due", b"3"), ask("GET /notices/example", 200, NOTICES[0])],
-    AT_3: [
-        ask("POST /checks/example/2026-08-01", 201, NOTICES[1]), ask("POST /checks/example/2026-08-03", 201, NOTICES[2]),
-        ask("POST /checks/example/2026-08-02", 409, "Q15 day has a verdict"),
-        ask("POST /checks/example/2026-08-05", 409, "Q14 not yet due"),
-        part(FAILS), states("2026-08-04", "diff", 0, 1, "X", 201, NOTICES[3]), part(DIFF),
-        states("2026-08-04", "diff", 1, 1, "20260804001", 201, NOTICES[4]), part(LATE, 507, "Q11 volume full"), part(OTHER),
-        ask("GET /reasons/example/2026-08-04/0", 200, EXPLAINED), ask("GET /reasons/example/2026-08-04/1", 404, "Q22 no failure"),
+def first_steps() -> dict[str, list[Request]]:
+    """The requests up to the receipt of the full deposit, by their moments."""
+    return {
+        AT_1: [
+            ask("GET /notices/example", 404, "Q2 registry unknown"),
+            ask("PUT /registries/example", 201, "registered example 2026-08-01", first="2026-08-01"),
+            ask("PUT /registries/example", 200, "registered example 2026-08-01", first="2026-09-01"),
+            ask("PUT /registries/other", 201, "registered other 2026-08-02", first="2026-08-02"),
+            part(FULL_1, AT_1), refused(FULL_4, 409, "Q10 part out of order", b"4"), part(FULL_2, AT_1), part(FULL_1, AT_1, 200),
+            refused(FULL_2, 409, "Q5 other bytes under this name", parts()[FULL_1]),
+            refused(part_name(tld="unknown"), 404, "Q2 registry unknown", b"hello"),
+            ask("GET /x", 404, "A3 no route"), ask("DELETE /purges", 405, "A4 method", None, "Allow: POST"),
+            ask("PUT /registries/third", 400, "A10 form", first="2026-8-2")],
+        AT_2: [
+            states("2026-08-02", "full", 0, 3, "20260802001", 409, "Q12 parts differ"),
+            states("2026-08-02", "full", 0, 9, "20260802001", 400, "A10 form"),
+            states("2026-08-02", "full", 0, 2, "20260802001", 201, NOTICES[0]),
+            states("2026-08-02", "full", 0, 2, "20260802001", 200, NOTICES[0]),
+            refused(FULL_3, 409, "Q7 revision not due", b"3"), ask("GET /notices/example", 200, NOTICES[0])]}
+
+
+def releasing() -> list[Request]:
+    """The releases and holds of the third step."""
+    return [
         release("R-1", "example", "operator", AT_3, [FULL_1, FULL_2, FAILS, DIFF]),
         ask("PUT /releases/R-1", 409, "Q17 reference used", ground="audit", tld="example"),
         ask("PUT /releases/R-2", 409, "Q16 ground does not stand", ground="sunday_failed", tld="example"),
@@ -136,18 +147,38 @@ STEPS = {
         ask("PUT /holds/H-1", 201, f"held H-1 example 2026-08-02 {AT_3}", date="2026-08-02", tld="example"),
         ask("PUT /holds/H-1", 409, "Q20 hold reference used", date="2026-08-03", tld="example"),
         ask("PUT /holds/H-2", 201, f"held H-2 other 2026-08-02 {AT_3}", date="2026-08-02", tld="other"),
-        ask("POST /lifts/H-9", 404, "Q21 hold unknown")],
-    AT_4: [
-        ask("POST /purges", 200, "dropped 0"), ask("POST /lifts/H-1", 201, f"lifted H-1 {AT_4}"),
-        ask("POST /lifts/H-1", 200, f"lifted H-1 {AT_4}"), ask("POST /purges", 200, "dropped 2"),
-        part(FULL_1, *GONE), ask(f"GET /releases/R-1/{FULL_1}", *GONE), part(LATE),
-        release("R-2", "example", "operator", AT_4, [FAILS, DIFF, LATE]), *fetch("R-2", FAILS, DIFF, LATE)],
-    AT_5: [
-        ask("POST /purges", 200, "dropped 2"), ask("GET /notices/example", 200, "\n".join(NOTICES)),
-        ask("GET /notices/other", 200, ""), part(FAILS, *GONE), ask("GET /reasons/example/2026-08-04/0", *GONE), part(LATE, 200),
-        release("R-3", "example", "order", AT_5, [LATE]), release("R-4", "other", "termination", AT_5, [OTHER]),
-        *fetch("R-3", LATE), *fetch("R-4", OTHER)]}
-EXAMPLE = [it._replace(now=now) for now, step in STEPS.items() for it in step]
+        ask("POST /lifts/H-9", 404, "Q21 hold unknown")]
+
+
+def later_steps() -> dict[str, list[Request]]:
+    """The requests from then on."""
+    return {
+        AT_3: [
+            ask("POST /checks/example/2026-08-01", 201, NOTICES[1]), ask("POST /checks/example/2026-08-03", 201, NOTICES[2]),
+            ask("POST /checks/example/2026-08-02", 409, "Q15 day has a verdict"),
+            ask("POST /checks/example/2026-08-05", 409, "Q14 not yet due"),
+            part(FAILS, AT_3), states("2026-08-04", "diff", 0, 1, "X", 201, NOTICES[3]), part(DIFF, AT_3),
+            states("2026-08-04", "diff", 1, 1, "20260804001", 201, NOTICES[4]),
+            refused(LATE, 507, "Q11 volume full", parts()[LATE]), part(OTHER, AT_3),
+            ask("GET /reasons/example/2026-08-04/0", 200, EXPLAINED),
+            ask("GET /reasons/example/2026-08-04/1", 404, "Q22 no failure"), *releasing()],
+        AT_4: [
+            ask("POST /purges", 200, "dropped 0"), ask("POST /lifts/H-1", 201, f"lifted H-1 {AT_4}"),
+            ask("POST /lifts/H-1", 200, f"lifted H-1 {AT_4}"), ask("POST /purges", 200, "dropped 2"),
+            refused(FULL_1, *GONE, parts()[FULL_1]), ask(f"GET /releases/R-1/{FULL_1}", *GONE), part(LATE, AT_4),
+            release("R-2", "example", "operator", AT_4, [FAILS, DIFF, LATE]), *fetch("R-2", FAILS, DIFF, LATE)],
+        AT_5: [
+            ask("POST /purges", 200, "dropped 2"), ask("GET /notices/example", 200, "\n".join(NOTICES)),
+            ask("GET /notices/other", 200, ""), refused(FAILS, *GONE, parts()[FAILS]),
+            ask("GET /reasons/example/2026-08-04/0", *GONE), part(LATE, AT_4, 200),
+            release("R-3", "example", "order", AT_5, [LATE]), release("R-4", "other", "termination", AT_5, [OTHER]),
+            *fetch("R-3", LATE), *fetch("R-4", OTHER)]}
+
+
+@functools.cache
+def example() -> list[Request]:
+    """The requests in their order, each with the moment of its step."""
+    return [it._replace(now=now) for now, step in (first_steps() | later_steps()).items() for it in step]
 
 
 def call(program: Path, *words: str | Path) -> bytes:
@@ -181,8 +212,10 @@ def log_moment(server: Server) -> int:
 
 
 def check_end(end: tuple[int | None, str], status: int, *lines: str) -> None:
-    """Checks that a server has ended with this status, and has printed no other lines than these."""
-    if end[0] != status or not set(end[1].splitlines()) <= set(lines):
+    """Checks that a server has ended with this status, and has printed no other lines than these. A kill may cut the last."""
+    *whole, rest = end[1].split("\n")
+    is_cut = status == -signal.SIGKILL and any(line.startswith(rest) for line in lines)
+    if end[0] != status or not set(whole) <= set(lines) or rest and not is_cut:
         raise Wrong(f"serve ends with {end}")
 
 
@@ -337,9 +370,9 @@ def undisturbed(program: Path, groups: list[list[Request]]) -> Plain:
 
 def run_plainly(program: Path) -> Plain:
     """The run without kills, with a server for each request, and with one for each step."""
-    steps = [list(group) for _, group in itertools.groupby(EXAMPLE, lambda it: it.now)]
-    plain, again = undisturbed(program, [[it] for it in EXAMPLE]), undisturbed(program, steps)
-    for wanted, came in zip(EXAMPLE * 2, plain.responses + again.responses):
+    steps = [list(group) for _, group in itertools.groupby(example(), lambda it: it.now)]
+    plain, again = undisturbed(program, [[it] for it in example()]), undisturbed(program, steps)
+    for wanted, came in zip(example() * 2, plain.responses + again.responses):
         if came != wanted.response:
             raise Wrong(f"{wanted.line}: {shown(came)} in place of {shown(wanted.response)}")
     if again.states != [plain.states[end] for end in itertools.accumulate(map(len, steps), initial=0)]:
@@ -398,11 +431,11 @@ class Round:
 
     def go(self) -> None:
         try:
-            for index, it in enumerate(EXAMPLE):
+            for index, it in enumerate(example()):
                 if self.server and self.server.now != it.now:
                     self.end_step(index)
                 self.ask(index, it)
-            self.end_step(len(EXAMPLE))
+            self.end_step(len(example()))
         finally:
             if self.server:
                 self.server.close()
@@ -519,7 +552,7 @@ def main() -> int:
     except Wrong as wrong:
         print(f"FAILED: without kills: {wrong}")
         return tell(0, 1)
-    print(f"{len(EXAMPLE)} requests, {sum(plain.took):.2f} seconds without kills", flush=True)
+    print(f"{len(example())} requests, {sum(plain.took):.2f} seconds without kills", flush=True)
     run_rounds(program, plain, asked.rounds, asked.seconds, asked.seed, counts)
     return tell(counts["passed"] + 1, counts["failed"])
 

@@ -25,7 +25,8 @@ twice, and once over a copy of the files that may only be read; a `put`, a `swee
 
 A case depends on the seed and its number alone. `--only N` runs that one, and leaves its files, as the program finds
 them, in `hostile.N`. 300 cases take minutes; TMPDIR=/dev/shm, where the vaults then stand, makes it fast. It needs
-PROGRAM, which is crates/escrow/out/escrow unless named (`rt run` builds it), and setpriv if root runs it.
+PROGRAM, which is crates/escrow/out/escrow unless named, that of crates/deposit (`rt run` builds them), and setpriv if root
+runs it.
 """
 import datetime
 import hashlib
@@ -42,7 +43,7 @@ from collections import Counter, namedtuple
 from collections.abc import Iterator, Sequence
 from pathlib import Path
 
-from lib import DEPOSIT, ESCROW, TOP, Answer, answer_of, built, notice, parser, part_name, tell
+from lib import ESCROW, TOP, Answer, answer_of, built, notice, packed, parser, part_name, tell
 
 Files = dict[str, bytes]
 Rows = dict[str, list[tuple]]
@@ -121,7 +122,7 @@ def make_vaults() -> dict[str, Files]:
     """The vaults that are changed. The last two are the rich one with a log that sqlite3 wrote, and one of schema 1."""
     noise, made = random.Random(1).randbytes(50_000), {}
     for name, content in (
-            (part_name(), DEPOSIT[:700]), (part_name(part=2), DEPOSIT[700:]),
+            (part_name(), packed()[:700]), (part_name(part=2), packed()[700:]),
             (part_name("2026-08-03", "diff"), noise[:12_288]), (part_name("2026-08-05", "diff"), noise),
             (part_name("2026-08-04"), b"none"), (part_name("2026-08-04", revision=1), b"none"),
             (part_name("2026-08-04", tld="other"), b"5"), (part_name("2026-08-06"), b"hello")):

@@ -8,6 +8,7 @@ from __future__ import annotations
 import argparse
 import contextlib
 import difflib
+import functools
 import hashlib
 import json
 import os
@@ -69,37 +70,91 @@ def state(free: int, *lines: str, first: str = DAY, blocks: int = 8) -> str:
 
 
 TABLES = ("domain", "domainContacts", "domainStatuses", "domainNameServers", "host", "hostAddresses", "contact", "registrar")
-OBJECTS = ("csvContact", "csvDomain", "csvHost", "csvRegistrar", "rdeHeader")
+# The most bytes of a part.
+PART_LENGTH = 1 << 20
 
 
-def deposit(kind: str, day: str = DAY, *, tables: Mapping[str, str] = {}, deletes: Mapping[str, str] = {},
-            counts: Iterable[int] = (0, 0, 0, 0), previous: str = "", number: str = "", resend: int = 0) -> bytes:
-    """The bytes of a deposit of the registry `example`: its frame, envelope and tables.
+def number_of(day: str) -> str:
+    """The number (the id) of the deposit of a day: its digits and 001."""
+    return day.replace("-", "") + "001"
 
-    A `full` one has all eight tables, empty but for those that are given; a `diff` or `incr` one has just those, and tables
-    of the keys that it deletes. `counts` are those of contacts, domains, hosts and registrars. Where no number (the id) is
-    given, it is the day's digits and 001.
+
+def framed(text: bytes, files: bytes) -> bytes:
+    """The deposit with this text of its envelope and these files, one behind the other."""
+    return b"RDE1 %08d\n" % len(text) + text + files
+
+
+def envelope_text(members: Mapping[str, object]) -> bytes:
+    """The one spelling of an envelope."""
+    return json.dumps(members, separators=(",", ":"), sort_keys=True).encode()
+
+
+def taken_apart(deposit: bytes) -> tuple[dict, bytes]:
+    """The envelope of a deposit, and its files."""
+    end = 14 + int(deposit[5:13])
+    return json.loads(deposit[14:end]), deposit[end:]
+
+
+def changed(deposit: bytes, *, counts: Iterable[int] = (), tables: Mapping[str, bytes] = {}, **members: object) -> bytes:
+    """A deposit with other members in its envelope, other counts (of contacts, domains, hosts and registrars), or other texts
+    of tables, whose lengths and digests it then has."""
+    envelope, rest = taken_apart(deposit)
+    envelope |= members
+    envelope["header"]["count"] |= zip(sorted(envelope["header"]["count"]), counts)
+    files = []
+    for entry in envelope["contents"] + envelope.get("deletes", []):
+        text, rest = tables.get(entry["name"], rest[:entry["length"]]), rest[entry["length"]:]
+        entry |= {"length": len(text), "sha256": hashlib.sha256(text).hexdigest()}
+        files.append(text)
+    return framed(envelope_text(envelope), b"".join(files))
+
+
+def parts_of(deposit: bytes) -> dict[str, bytes]:
+    """The parts of a deposit by their names, each as long as it may be."""
+    envelope, _ = taken_apart(deposit)
+    day, kind, revision = envelope["watermark"][:10], envelope["type"].lower(), envelope["resend"]
+    return {part_name(day, kind, place + 1, revision): deposit[at:at + PART_LENGTH]
+            for place, at in enumerate(range(0, len(deposit), PART_LENGTH))}
+
+
+def packed(kind: str = "full", day: str = DAY, *, tables: Mapping[str, str] = {}, deletes: Mapping[str, str] = {},
+           after: Iterable[bytes] = (), previous: str = "", number: str = "", revision: int = 0) -> bytes:
+    """The bytes of a deposit of the registry `example`, packed by `deposit`.
+
+    A `full` one has all eight tables, empty but for those that are given. A `diff` or `incr` one has just those, and the keys
+    that it deletes; its counts are those behind the deposits that it follows, which come `after`. The number is that of the
+    day, unless another one is given.
     """
-    def entries(texts: Mapping[str, str]) -> list[dict]:
-        return [{"length": len(text), "name": name, "sha256": hashlib.sha256(text.encode()).hexdigest()}
-                for name, text in texts.items()]
-
-    uris = [f"urn:ietf:params:xml:ns:{it}-1.0" for it in OBJECTS]
     if kind == "full":
         tables = dict.fromkeys(TABLES, "") | dict(tables)
-    envelope = {
-        "contents": entries(tables), "header": {"count": dict(zip(uris, counts)), "tld": "example"},
-        "id": number or day.replace("-", "") + "001", "rdeMenu": {"objURI": uris, "version": "1.0"}, "resend": resend,
-        "type": kind.upper(), "watermark": f"{day}T00:00:00Z",
-        **({} if kind == "full" else {"deletes": entries(deletes)}), **({"prevId": previous} if previous else {})}
-    head = json.dumps(envelope, separators=(",", ":"), sort_keys=True)
-    return f"RDE1 {len(head):08}\n{head}{''.join(tables.values())}{''.join(deletes.values())}".encode()
+    files = {f"{table}.csv": text for table, text in tables.items()}
+    files |= {f"deletes/{table}.csv": text for table, text in deletes.items()}
+    words = ["--tld", "example", "--date", day, "--kind", kind, "--revision", str(revision), "--id", number or number_of(day)]
+    return _packed((*words, *(["--previous", previous] if previous else [])), tuple(files.items()), tuple(after))
+
+
+@functools.cache
+def _packed(words: tuple[str, ...], files: tuple[tuple[str, str], ...], after: tuple[bytes, ...]) -> bytes:
+    """The deposit that `deposit pack` makes by these words of these files."""
+    with tempfile.TemporaryDirectory() as room:
+        tables, sent, out = (Path(room, name) for name in ("tables", "sent", "out"))
+        for folder in tables / "deletes", sent:
+            folder.mkdir(parents=True)
+        for name, text in files:
+            (tables / name).write_text(text, newline="")
+        for name, content in (it for deposit in after for it in parts_of(deposit).items()):
+            (sent / name).write_bytes(content)
+        behind = ["--after", *sent.iterdir()] if after else []
+        done = answer_of([built(PACKER), "pack", tables, *words, *behind, "--out", out])
+        if done.status != 0:
+            raise Wrong(f"deposit pack {' '.join(words)}: {' '.join(done.lines())}")
+        return b"".join(it.read_bytes() for it in sorted(out.iterdir()))
 
 
 def stated(day: str = DAY, kind: str = "full", at: str = "", number: str = "", parts: int = 1, revision: int = 0) -> str:
     """The words behind `escrow verify VAULT` that state a deposit, at five past ten unless another moment is given, with
-    the number of `deposit`."""
-    number, at = number or day.replace("-", "") + "001", at or f"{day}T10:05:00Z"
+    the number of its day unless another one is given."""
+    number, at = number or number_of(day), at or f"{day}T10:05:00Z"
     return f"example --date {day} --kind {kind} --revision {revision} --parts {parts} --id {number} --now {at}"
 
 
@@ -110,8 +165,9 @@ def explained(day: str = DAY, revision: int = 0, tld: str = "example") -> str:
 
 # Why a deposit has failed that is no frame.
 EXPLAINED = "FAILURE-01 F1: it does not begin with RDE1 and a space"
-# The first part of the day, a deposit of one part that passes, and the notice of its statement at FIVE.
-PART, DEPOSIT, RECEIPT = part_name(), deposit("full"), notice(1, "RECEIPT", DAY, FIVE, "20260802001")
+# The first part of the day, the digest of the deposit `packed()` of that one part, and the notice of its statement at FIVE.
+PART, RECEIPT = part_name(), notice(1, "RECEIPT", DAY, FIVE, number_of(DAY))
+DIGEST = "34dd1dbe11d7bee7852604c3368fb3f29c1e0a05f81f330d28e32036cf208002"
 # The transcript that makes a vault `d` with this deposit and its receipt.
 PASSED = f"""$ vault d
 $ cp ../full {PART}; escrow put d {PART} --now {TEN} -> received {PART} 1422 {TEN}
@@ -334,7 +390,7 @@ registered example ${3-2026-08-02}"
 class Room:
     """The folder of a case, in which `escrow` and `deposit` are the programs. It counts what the case checks.
 
-    The folder above it has the file `full`, which is DEPOSIT.
+    The folder above it has the file `full`, which is `packed()`.
     """
 
     def __init__(self, program: Path, folder: Path):
@@ -419,10 +475,12 @@ class Room:
     def asks(self, vault: str, rows: Sequence[tuple], now: str = TEN, **how) -> None:
         """Serves a vault for as many requests as there are rows, and has curl make them: each response is as its row says.
 
-        A row is a method and path, what is sent, the status, the answer, and then what other words curl has.
+        A row is a method and path, what is sent, the status, the answer (a path is that of a file with it), and then what other
+        words curl has.
         """
         with self.serve(vault, len(rows), now, **how) as server:
             for line, body, status, answer, *words in rows:
+                answer = (self.folder / answer).read_bytes() if isinstance(answer, Path) else answer
                 self.equal(response(status, answer), self.curl(server, *line.split(), body, *words), line)
 
 
@@ -451,9 +509,9 @@ class Case:
             os.chmod(top, 0o755)
             Path(top, "bin/escrow").symlink_to(program)
             Path(top, "bin/deposit").symlink_to(PACKER)
-            Path(top, "full").write_bytes(DEPOSIT)
             room = Room(program, Path(top, "work"))
             try:
+                Path(top, "full").write_bytes(packed())
                 self.run(room)
                 return room.checks, "", ""
             except Skip as why:

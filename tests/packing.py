@@ -22,11 +22,10 @@ import tempfile
 from dataclasses import dataclass, field
 from pathlib import Path
 
-from lib import TABLES, TOP, Wrong, built, parser, part_name, tell
+from lib import PACKER, TABLES, Wrong, built, parser, parts_of, tell
 from reasons import COLUMNS, COUNTED, DELETED, KEYS, Deposit, Rows, registry, spelled
 
-PROGRAM = TOP / "crates/deposit/out/deposit"
-PART_LENGTH = 1 << 20
+PROGRAM = PACKER
 
 
 def any_spelling(dice: random.Random, rows: Rows, header: list[str] | None) -> bytes:
@@ -91,7 +90,7 @@ class Registry:
         previous = {"full": [], "diff": self.ids[-1:], "incr": self.dice.choice([[], self.ids[:1]])}[kind]
         wanted = self.made(kind, contents, deletes, counts, day, number, previous)
         tables, out = self.write(contents, deletes, headers), self.folder / f"parts{self.day}"
-        after = {"full": [], "diff": self.full_parts + self.later_parts, "incr": self.full_parts}[kind]
+        after = {"full": [], "diff": self.full_parts + self.later_parts, "incr": self.full_parts + self.dice.choice([[], self.later_parts])}[kind]
         words = ["--tld", "example", "--date", day, "--kind", kind, "--revision", "0", "--id", number,
                  *(["--previous", *previous] if previous else []), *(["--header"] if headers else []),
                  *(["--after", *self.dice.sample(after, len(after))] if after else [])]
@@ -122,12 +121,11 @@ class Registry:
         return made.joined
 
     def compare(self, kind: str, wanted: bytes, out: Path, day: str, number: str, printed: str) -> None:
-        pieces = [wanted[at:at + PART_LENGTH] for at in range(0, len(wanted), PART_LENGTH)]
-        names = [part_name(day, kind, place + 1) for place in range(len(pieces))]
-        same(dict(zip(names, pieces)), {it.name: it.read_bytes() for it in out.iterdir()}, f"parts of {day}")
-        lines = [f"{name} {len(piece)}" for name, piece in zip(names, pieces)]
-        stated = f"example --date {day} --kind {kind} --revision 0 --parts {len(pieces)} --id {number}"
-        body = f'{{"date":"{day}","id":"{number}","kind":"{kind}","parts":{len(pieces)},"revision":0,"tld":"example"}}'
+        parts = parts_of(wanted)
+        same(parts, {it.name: it.read_bytes() for it in out.iterdir()}, f"parts of {day}")
+        lines = [f"{name} {len(part)}" for name, part in parts.items()]
+        stated = f"example --date {day} --kind {kind} --revision 0 --parts {len(parts)} --id {number}"
+        body = f'{{"date":"{day}","id":"{number}","kind":"{kind}","parts":{len(parts)},"revision":0,"tld":"example"}}'
         same([*lines, f"escrow verify VAULT {stated}", body], printed.splitlines(), "what pack prints")
 
     def checks(self, kind: str, contents: dict[str, Rows], deletes: dict[str, Rows], parts: list[Path], after: list[Path], line: str) -> None:

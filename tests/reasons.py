@@ -13,7 +13,6 @@ prints its line, and leaves its deposit in `reasons.K`.
 from __future__ import annotations
 
 import hashlib
-import json
 import random
 import subprocess
 import sys
@@ -22,10 +21,10 @@ from collections.abc import Callable
 from dataclasses import dataclass, field
 from pathlib import Path
 
-from lib import OBJECTS, TABLES, TOP, built, parser, part_name, tell
+from lib import TABLES, TOP, built, envelope_text, framed, parser, part_name, tell
 
 PROGRAM = TOP / "crates/bench_tools/out/bench_tools"
-URIS = [f"urn:ietf:params:xml:ns:{name}-1.0" for name in OBJECTS]
+URIS = [f"urn:ietf:params:xml:ns:{name}-1.0" for name in ("csvContact", "csvDomain", "csvHost", "csvRegistrar", "rdeHeader")]
 COUNTED = dict(zip(URIS, ("contact", "domain", "host", "registrar")))
 DELETED = ("domain", "host", "contact", "registrar")
 COLUMNS = {"domain": "fName fRoid fRegistrant fClID fCrDate fExDate", "domainContacts": "fName fContactType fId",
@@ -111,10 +110,10 @@ class Deposit:
 
     def write(self) -> None:
         """Makes its envelope's text of its members."""
-        self.text = json.dumps(self.members, separators=(",", ":"), sort_keys=True).encode()
+        self.text = envelope_text(self.members)
 
     def join(self) -> None:
-        self.joined = b"RDE1 %08d\n" % len(self.text) + self.text + b"".join(self.files.values())
+        self.joined = framed(self.text, b"".join(self.files.values()))
 
 
 def registry(dice: random.Random) -> dict[str, Rows]:

@@ -6,8 +6,8 @@
     tests/run --install ..      first installs the Debian packages of missing tools, where it is run by root
     OLDER=PROGRAM tests/run     with the cases of `older` that need a program of before there were holds
 
-It needs the program that `rt run` builds in crates/escrow (./demo --proved does it), and for `stops` that of
-crates/agent_script. It skips a case if this machine lacks a tool that the case needs (curl, nginx, sqlite3 ..), and prints a
+It needs the programs that `rt run` builds in crates/escrow and crates/deposit (./demo --proved does it), and for `stops`
+that of crates/agent_script. It skips a case if this machine lacks a tool that the case needs (curl, nginx, sqlite3 ..), and prints a
 line that says so. For a case that fails it prints the words that run it alone, and what is wrong: with `-` what was wanted,
 with `+` what came. The last line is `N passed, M failed, K skipped`, of cases. The status is 0 if none failed; with NO_SKIPS
 in the environment, if none was skipped either. TMPDIR=/dev/shm makes it faster.
@@ -84,6 +84,7 @@ def main() -> int:
         return 0
     if asked.install:
         install()
+    lib.built(lib.PACKER)
     program, began, checks, failed, skipped = lib.built(asked.program), time.monotonic(), 0, 0, 0
     with concurrent.futures.ThreadPoolExecutor(asked.lanes) as pool:
         tried = {pool.submit(it.try_once, program): it for it in sorted(cases, key=lambda it: -it.seconds)}

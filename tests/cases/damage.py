@@ -1,7 +1,7 @@
 """Vaults whose database somebody else has edited: what is reported, what docs/damage.sql lists, and that nothing changes."""
 import hashlib
 
-from lib import DAY, DEPOSIT, PART, PASSED, RECEIPT, TEN, TOP, Room, each, state
+from lib import DAY, PART, PASSED, RECEIPT, TEN, TOP, Room, each, state
 
 STATE = f"$ escrow state d -> {state(6, f'part {PART} 1422 held {TEN}', RECEIPT)}"
 # What the page's questions to the records list. Of a table that is missing sqlite3 reports an error, and goes on.
@@ -71,7 +71,7 @@ DAMAGED = (
     ("H5 of block 0 in a part", extents("0000000000000001")),
     ("H5 of a block behind the last", extents("0000000800000001")),
     ("H5 of two blocks of a part of one", extents("0000000100000002")),
-    ("H6 of a block of two parts", one_more(0, 2, 1, DEPOSIT[:10])),
+    ("H6 of a block of two parts", one_more(0, 2, 1, b"RDE1 00001")),
     ("H7 without a first part", "UPDATE part SET part = 2"),
     ("H7 without a first notice", "UPDATE notice SET number = 2"),
     ("H7 without a first notice in schema 1", f"{BACK}; UPDATE notice SET number = 2"),

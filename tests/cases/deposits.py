@@ -3,12 +3,13 @@ import functools
 import re
 
 from lib import (
-    DAY, DEPOSIT, FIVE, PART, PASSED, RECEIPT, TEN, Room, deposit, each, explained, notice, part_name, state, stated,
+    DAY, FIVE, PART, PASSED, RECEIPT, TEN, Room, changed, each, explained, notice, number_of, packed, part_name, state, stated,
     transcripts)
 
-DOMAIN = {"domain": "a.example,D1-EX,,R9,2020-01-01T00:00:00Z,2030-01-01T00:00:00Z\n"}
-R1, KEY, FIRST, SECOND = "R1,Example,292,ok\n", "R1\n", "20260802001", "20260803001"
+R1, KEY = "R1,Example,292,ok\n", "R1\n"
+DOMAIN = {"domain": "a.example,D1-EX,,R1,2020-01-01T00:00:00Z,2030-01-01T00:00:00Z\n", "registrar": R1}
 MONDAY, TUESDAY, SUNDAY, AGAIN = "2026-08-03", "2026-08-04", "2026-08-09", part_name(revision=1)
+FIRST, SECOND = map(number_of, (DAY, MONDAY))
 ABSENCES = "\n".join(notice(count, "ABSENCE", day, "2026-08-05T00:00:00Z") for count, day in ((2, MONDAY), (3, TUESDAY)))
 NO_FAILURE = "!1 Q22 no failure"
 FAILURES = [notice(revision + 1, "FAILURE-01", DAY, FIVE, "X", revision) for revision in (0, 1)]
@@ -92,58 +93,78 @@ $ escrow sweep d --at-most 2 --now 2026-08-05T00:00:00Z -> {ABSENCES}
 $ escrow sweep d --at-most 0 --now 2026-08-05T00:00:00Z""")
 
 
-def sent(kind: str, verdict: str, day: str, previous: str = "", count: int = 0, rows: str = "", keys: str = "") -> tuple:
-    """A deposit of `in_this_order` that counts so many registrars, with these rows and deleted keys."""
-    return kind, verdict, day, deposit(kind, day, tables={"registrar": rows} if rows else {}, counts=(0, 0, 0, count),
-                                       deletes={"registrar": keys} if keys else {}, previous=previous)
+def sent(kind: str, verdict: str, day: str, previous: str = "", rows: str = "", keys: str = "", **others) -> tuple:
+    """A deposit of `in_this_order` with these registrars and deleted keys, packed behind those that passed; where none did,
+    behind one without rows. Then it has `others` (see `changed`)."""
+    def make(passed: list[bytes]) -> bytes:
+        after = {"full": [], "incr": passed[:1] or [packed()], "diff": passed or [packed()]}[kind]
+        made = packed(kind, day, tables={"registrar": rows} if rows else {}, deletes={"registrar": keys} if keys else {},
+                      after=after, previous=previous)
+        return changed(made, **others) if others else made
+    return kind, verdict, day, make
+
+
+def on_a_sunday(kind: str) -> tuple:
+    """One of `in_this_order` that was packed for a Monday."""
+    return kind, "FAILURE-05", SUNDAY, lambda passed: changed(
+        packed(kind, MONDAY, after=passed, previous=FIRST), watermark=f"{SUNDAY}T00:00:00Z", id=number_of(SUNDAY))
+
+
+def of_a_domain(verdict: str, **others) -> tuple:
+    """A full one with a domain and its registrar, and then with `others`."""
+    return "full", verdict, DAY, lambda passed: changed(packed(tables=DOMAIN), **others)
 
 
 full, diff, incr = (functools.partial(sent, kind) for kind in ("full", "diff", "incr"))
-FULL, INCR, DIFF_R1 = full("RECEIPT", DAY), incr("RECEIPT", MONDAY), diff("RECEIPT", MONDAY, FIRST, 1, R1)
-LOST = diff("!3 C5 damaged H8", TUESDAY, SECOND, 1)
+FULL, INCR, DIFF_R1 = full("RECEIPT", DAY), incr("RECEIPT", MONDAY), diff("RECEIPT", MONDAY, FIRST, R1)
+LOST = diff("!3 C5 damaged H8", TUESDAY, SECOND)
 SPOIL_FULL, SPOIL_DIFF = (f"$ printf x | dd of=d/vault.vol bs=4096 seek={it} conv=notrunc status=none" for it in (1, 2))
+NONE, ONE = (0, 0, 0, 0), (0, 0, 0, 1)
 
 
 @each((
-    ("a deposit that is cut short fails", ("full", "FAILURE-01", DAY, DEPOSIT[:1000])),
-    ("an envelope with a space fails", ("full", "FAILURE-02", DAY, DEPOSIT.replace(b"1408\n{", b"1409\n{ "))),
-    ("a deposit with a row without a line feed fails", full("FAILURE-10", DAY, rows="R1,Example,,ok")),
-    ("a deposit with a wrong count fails", ("full", "FAILURE-11", DAY, deposit("full", tables=DOMAIN, counts=(0, 2, 0, 0)))),
-    ("a deposit without registrars fails", ("full", "FAILURE-12", DAY, deposit("full", tables=DOMAIN, counts=(0, 1, 0, 0)))),
+    ("a deposit that is cut short fails", ("full", "FAILURE-01", DAY, lambda passed: packed()[:1000])),
+    ("an envelope with a space fails", (
+        "full", "FAILURE-02", DAY, lambda passed: packed().replace(b"1408\n{", b"1409\n{ "))),
+    ("a deposit with a row without a line feed fails", of_a_domain("FAILURE-10", tables={"registrar": R1[:-1].encode()})),
+    ("a deposit with a wrong count fails", of_a_domain("FAILURE-11", counts=(0, 2, 0, 1))),
+    ("a deposit without registrars fails", of_a_domain("FAILURE-12", counts=(0, 1, 0, 0), tables={"registrar": b""})),
     ("a differential deposit names the one before it", FULL, diff("RECEIPT", MONDAY, FIRST)),
     ("a differential deposit that names another one fails", FULL, diff("FAILURE-06", MONDAY, "X")),
-    ("a differential deposit on a Sunday fails", FULL, diff("FAILURE-05", SUNDAY, "X")),
+    ("a differential deposit on a Sunday fails", FULL, on_a_sunday("diff")),
     ("a differential deposit counts its rows", FULL, DIFF_R1),
-    ("a differential deposit that does not count its rows fails", FULL, diff("FAILURE-11", MONDAY, FIRST, 0, R1)),
+    ("a differential deposit that does not count its rows fails", FULL, diff("FAILURE-11", MONDAY, FIRST, R1, counts=NONE)),
     ("an incremental deposit names the full one", FULL, incr("RECEIPT", MONDAY, FIRST)),
     ("an incremental deposit need not name the full one", FULL, INCR),
     ("an incremental deposit that names another one fails", FULL, incr("FAILURE-06", MONDAY, "X")),
-    ("an incremental deposit on a Sunday fails", FULL, incr("FAILURE-05", SUNDAY, FIRST)),
+    ("an incremental deposit on a Sunday fails", FULL, on_a_sunday("incr")),
     ("nothing follows where no full deposit passed", diff("FAILURE-06", MONDAY, "X"), incr("FAILURE-06", TUESDAY)),
     ("an incremental deposit does not follow another one", FULL, INCR, incr("FAILURE-06", TUESDAY, SECOND)),
     ("a differential deposit follows an incremental one", FULL, INCR,
      diff("RECEIPT", TUESDAY, SECOND), incr("RECEIPT", "2026-08-05", FIRST)),
-    ("a differential deposit counts the keys before it", FULL, DIFF_R1, diff("RECEIPT", TUESDAY, SECOND, 1)),
-    ("a differential deposit that does not count them fails", FULL, DIFF_R1, diff("FAILURE-11", TUESDAY, SECOND, 0)),
-    ("a differential deposit counts no deleted key", FULL, DIFF_R1, diff("RECEIPT", TUESDAY, SECOND, 0, "", KEY)),
-    ("a differential deposit that counts one fails", FULL, DIFF_R1, diff("FAILURE-11", TUESDAY, SECOND, 1, "", KEY)),
-    ("a differential deposit counts a deleted key with a row", FULL, DIFF_R1, diff("RECEIPT", TUESDAY, SECOND, 1, R1, KEY)),
+    ("a differential deposit counts the keys before it", FULL, DIFF_R1, diff("RECEIPT", TUESDAY, SECOND)),
+    ("a differential deposit that does not count them fails", FULL, DIFF_R1, diff("FAILURE-11", TUESDAY, SECOND, counts=NONE)),
+    ("a differential deposit counts no deleted key", FULL, DIFF_R1, diff("RECEIPT", TUESDAY, SECOND, "", KEY)),
+    ("a differential deposit that counts one fails", FULL, DIFF_R1, diff("FAILURE-11", TUESDAY, SECOND, "", KEY, counts=ONE)),
+    ("a differential deposit counts a deleted key with a row", FULL, DIFF_R1, diff("RECEIPT", TUESDAY, SECOND, R1, KEY)),
     ("an incremental deposit counts no key of a differential one", FULL, DIFF_R1, incr("RECEIPT", TUESDAY, FIRST)),
-    ("an incremental deposit that counts such a key fails", FULL, DIFF_R1, incr("FAILURE-11", TUESDAY, FIRST, 1)),
+    ("an incremental deposit that counts such a key fails", FULL, DIFF_R1, incr("FAILURE-11", TUESDAY, FIRST, counts=ONE)),
     ("a differential deposit behind a spoiled full one has no verdict", FULL, DIFF_R1, (*LOST, SPOIL_FULL)),
     ("a differential deposit behind a spoiled differential one has no verdict", FULL, DIFF_R1, (*LOST, SPOIL_DIFF)),
     ("an incremental deposit reads no differential one", FULL, DIFF_R1, (*incr("RECEIPT", TUESDAY, FIRST), SPOIL_DIFF)),
-    ("no day before one that passed is verified", full("RECEIPT", MONDAY), ("full", "!1 Q13 later day passed", DAY, b"x"))))
+    ("no day before one that passed is verified", full("RECEIPT", MONDAY), (
+        "full", "!1 Q13 later day passed", DAY, lambda passed: b"x"))))
 def in_this_order(room: Room, *deposits: tuple) -> None:
-    """Puts and states deposits: the kind, verdict or error, day and bytes of each, and commands between."""
+    """Puts and states deposits: the kind, verdict or error and day of each, what makes its bytes, and commands between."""
     room.plays("$ vault d")
-    notices = []
-    for kind, verdict, day, content, *commands in deposits:
-        name, put, at = part_name(day, kind), f"{day}T10:00:00Z", f"{day}T10:05:00Z"
+    notices, passed = [], []
+    for kind, verdict, day, make, *commands in deposits:
+        name, put, at, content = part_name(day, kind), f"{day}T10:00:00Z", f"{day}T10:05:00Z", make(passed)
         room.put("d", name, content, put)
         told = verdict
         if not verdict.startswith("!"):
-            told, verdict = (notice(it, verdict, day, at, day.replace("-", "") + "001") for it in (0, len(notices) + 1))
+            passed += [content] * (verdict == "RECEIPT")
+            told, verdict = (notice(it, verdict, day, at, number_of(day)) for it in (0, len(notices) + 1))
         reported = ["$ escrow report d example", *notices]
         notices += [] if verdict.startswith("!") else [verdict]
         failure = re.search(r"FAILURE-\d\d", verdict)

@@ -1,10 +1,10 @@
 """Why a deposit has failed, as `explain` prints it: by its bytes, and by what was known when it was stated."""
 import reasons
 from lib import (
-    DAY, EXPLAINED, FIVE, PART, PASSED, TEN, Room, case, deposit, explained, notice, part_name, request, response, stated,
-    transcripts)
+    DAY, EXPLAINED, FIVE, PART, PASSED, TEN, Room, case, changed, explained, notice, number_of, packed, part_name, request,
+    response, stated, transcripts)
 
-MONDAY, TUESDAY, YEAR_AFTER, FIRST = "2026-08-03", "2026-08-04", "2027-08-03T00:00:00Z", "20260802001"
+MONDAY, TUESDAY, YEAR_AFTER, FIRST = "2026-08-03", "2026-08-04", "2027-08-03T00:00:00Z", number_of(DAY)
 FAILURE, ABSENCE = notice(1, "FAILURE-01", DAY, FIVE, "X"), notice(2, "ABSENCE", MONDAY, f"{TUESDAY}T00:00:00Z")
 # Makes a vault whose first deposit has failed.
 FAILED = f"""$ vault d
@@ -61,7 +61,13 @@ def sends(room: Room, number: int, verdict: str, day: str, content: bytes, *, re
     at = f"{day}T10:05:00Z"
     name, statement = part_name(day, revision=revision, **words), stated(day, at=at, revision=revision, **words)
     room.put("d", name, content, f"{day}T10:00:00Z")
-    room.plays(f"$ escrow verify d {statement} -> {notice(number, verdict, day, at, day.replace('-', '') + '001', revision)}")
+    room.plays(f"$ escrow verify d {statement} -> {notice(number, verdict, day, at, number_of(day), revision)}")
+
+
+def differential(day: str, previous: str, rows: str = "", revision: int = 0) -> bytes:
+    """A deposit with these registrars, packed behind `packed()`."""
+    tables = {"registrar": rows} if rows else {}
+    return packed("diff", day, tables=tables, after=[packed()], previous=previous, revision=revision)
 
 
 def explains(room: Room, line: str, *words: str | int) -> None:
@@ -72,11 +78,11 @@ def explains(room: Room, line: str, *words: str | int) -> None:
 def later_notices_do_not_change_an_explanation(room: Room) -> None:
     line = f"FAILURE-06 prevId is {FIRST}, no deposit has passed"
     room.vault("d")
-    sends(room, 1, "FAILURE-06", MONDAY, deposit("diff", MONDAY, previous=FIRST), kind="diff")
+    sends(room, 1, "FAILURE-06", MONDAY, differential(MONDAY, FIRST), kind="diff")
     explains(room, line, MONDAY)
-    sends(room, 2, "RECEIPT", DAY, deposit("full"))
+    sends(room, 2, "RECEIPT", DAY, packed())
     explains(room, line, MONDAY)
-    sends(room, 3, "RECEIPT", MONDAY, deposit("diff", MONDAY, previous=FIRST, resend=1), kind="diff", revision=1)
+    sends(room, 3, "RECEIPT", MONDAY, differential(MONDAY, FIRST, revision=1), kind="diff", revision=1)
     explains(room, line, MONDAY)
     explains(room, "!1 Q22 no failure", MONDAY, 1)
 
@@ -84,7 +90,7 @@ def later_notices_do_not_change_an_explanation(room: Room) -> None:
 @case()
 def an_id_that_was_used_is_explained_with_its_day(room: Room) -> None:
     room.plays(PASSED)
-    room.put("d", part_name(MONDAY), deposit("full", MONDAY, number=FIRST), f"{MONDAY}T10:00:00Z")
+    room.put("d", part_name(MONDAY), packed("full", MONDAY, number=FIRST), f"{MONDAY}T10:00:00Z")
     room.plays(f"""
         $ escrow verify d {stated(MONDAY, number=FIRST)} -> {notice(2, "FAILURE-07", MONDAY, f"{MONDAY}T10:05:00Z", FIRST)}
         $ escrow explain d {explained(MONDAY)} -> FAILURE-07 id {FIRST} has passed before, on {DAY}""")
@@ -93,10 +99,10 @@ def an_id_that_was_used_is_explained_with_its_day(room: Room) -> None:
 @case()
 def where_a_deposit_of_the_chain_is_dropped_a_count_is_not_known(room: Room) -> None:
     """Each reason that needs no key of that deposit is found as before."""
-    rows, count = {"registrar": "R1,Example,292,ok\n"}, "urn:ietf:params:xml:ns:csvRegistrar-1.0 counts 0, 1 are there"
+    rows, count = "R1,Example,292,ok\n", "urn:ietf:params:xml:ns:csvRegistrar-1.0 counts 0, 1 are there"
     room.plays(PASSED)
-    sends(room, 2, "FAILURE-11", MONDAY, deposit("diff", MONDAY, previous=FIRST, tables=rows), kind="diff")
-    sends(room, 3, "FAILURE-06", TUESDAY, deposit("diff", TUESDAY, previous="X", tables=rows), kind="diff")
+    sends(room, 2, "FAILURE-11", MONDAY, changed(differential(MONDAY, FIRST, rows), counts=(0, 0, 0, 0)), kind="diff")
+    sends(room, 3, "FAILURE-06", TUESDAY, differential(TUESDAY, "X", rows), kind="diff")
     for dropped, line in ((0, f"FAILURE-11 {count}"), (1, "FAILURE-11 no longer known: a deposit that it follows was dropped")):
         if dropped:
             room.plays(f"$ escrow purge d --now {YEAR_AFTER} -> dropped 1")
@@ -119,7 +125,7 @@ def a_broken_deposit_is_explained_by_its_place(room: Room) -> None:
         passed = "" if made.latest == "-" or kind == "incr" else made.latest
         room.plays("$ rm -rf d; vault d 20")
         if passed:
-            room.put("d", PART, deposit("full", number=passed), TEN)
+            room.put("d", PART, packed(number=passed), TEN)
             room.plays(f"$ escrow verify d {stated(number=passed)} -> {notice(1, 'RECEIPT', DAY, FIVE, passed)}")
         room.put("d", made.name, made.joined, f"{day}T10:00:00Z")
         verdict, _, _ = line.partition(" ")

@@ -1,12 +1,14 @@
 """Deposits over HTTP: a part that comes short, and the verdicts of deposits that follow a full one."""
-from lib import PART, PASSED, TEN, Room, case, deposit, each, notice, part_name, request, response, state, statement
+from lib import (
+    PART, PASSED, TEN, Room, case, each, notice, number_of, packed, part_name, request, response, state, statement)
 
 LATER, THIRD, FOURTH = "2026-08-04T10:05:00Z", "2026-08-03", "2026-08-04"
 ON_SECOND, ON_THIRD = {"previous": "20260802001"}, {"previous": "20260803001"}
-ADDS = {**ON_SECOND, "tables": {"registrar": "R1,Example,292,ok\n"}, "counts": (0, 0, 0, 1)}
+ADDS = {**ON_SECOND, "tables": {"registrar": "R1,Example,292,ok\n"}}
 DELETES = {**ON_THIRD, "deletes": {"registrar": "R1\n"}}
 
-# Deposits behind a full one of the second: the kind and day of each, what it holds, and its verdict.
+# Deposits behind a full one of the second: the kind and day of each, what it holds, and its verdict. A differential one that
+# fails is packed behind the full one alone.
 FOLLOWING = (
     ("an incremental deposit need not name the full one", ("incr", THIRD, {}, "RECEIPT")),
     ("an incremental deposit may name the full one", ("incr", THIRD, ON_SECOND, "RECEIPT")),
@@ -17,28 +19,33 @@ FOLLOWING = (
     ("a deleted registrar is not counted", ("diff", THIRD, ADDS, "RECEIPT"), ("diff", FOURTH, DELETES, "RECEIPT")))
 
 
-def rows(number: int, kind: str, day: str, words: dict, verdict: str) -> tuple[tuple, tuple]:
+def rows(number: int, kind: str, day: str, content: bytes, verdict: str) -> tuple[tuple, tuple]:
     """Two requests of curl: a deposit of one part, and its statement."""
-    name, deposit_id, content = part_name(day, kind), f"{day.replace('-', '')}001", deposit(kind, day, **words)
+    name, deposit_id = part_name(day, kind), number_of(day)
     return ((f"PUT /deposits/{name}", content.decode(), 201, f"received {name} {len(content)} {LATER}"),
             ("POST /statements", statement(day, deposit_id, kind), 201, notice(number, verdict, day, LATER, deposit_id)))
 
 
 @each(FOLLOWING, "curl")
 def deposits_that_follow(room: Room, *deposits: tuple) -> None:
+    before, asked = [packed()], []
+    for number, (kind, day, words, verdict) in enumerate(deposits, 2):
+        content = packed(kind, day, after=before if kind == "diff" and verdict == "RECEIPT" else before[:1], **words)
+        asked += rows(number, kind, day, content, verdict)
+        before.append(content)
     room.plays(PASSED)
-    room.asks("d", [row for number, it in enumerate(deposits, 2) for row in rows(number, *it)], LATER)
+    room.asks("d", asked, LATER)
 
 
 @case("curl")
 def without_a_full_deposit_an_incremental_one_fails(room: Room) -> None:
     room.vault("d")
-    room.asks("d", rows(1, "incr", THIRD, {}, "FAILURE-06"), LATER)
+    room.asks("d", rows(1, "incr", THIRD, packed("incr", THIRD, after=[packed()]), "FAILURE-06"), LATER)
 
 
 @case("curl")
 def an_incremental_deposit_is_stated_as_one(room: Room) -> None:
-    part, (line, body, status, receipt) = rows(2, "incr", THIRD, {}, "RECEIPT")
+    part, (line, body, status, receipt) = rows(2, "incr", THIRD, packed("incr", THIRD, after=[packed()]), "RECEIPT")
     room.plays(PASSED)
     room.asks("d", (part, (line, body.replace("incr", "diff"), 409, "Q9 type differs"),
                     (line, body.replace("incr", "INCR"), 400, "A10 form"),

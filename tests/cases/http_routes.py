@@ -2,11 +2,11 @@
 import hashlib
 from pathlib import Path
 
-from lib import DAY, DEPOSIT, EXPLAINED, PART, TEN, Room, case, each, explained, notice, part_name, state, stated, statement
+from lib import DAY, DIGEST, EXPLAINED, PART, TEN, Room, case, each, explained, notice, part_name, state, stated, statement
 
 EARLIER, LATER, FIFTH = part_name("2026-08-01", "diff"), part_name("2026-08-05"), "2026-08-05T00:00:00Z"
 SECOND, REVISION = part_name(part=2), part_name(revision=1)
-# Files that requests send: `routes` makes them.
+# Files that requests send and fetch: `routes` makes them.
 HELLO, FULL, LARGE, LONGER = Path("hello"), Path("../full"), Path("large"), Path("longer")
 GROUND, HOLD = '{"ground":"operator","tld":"example"}', f'{{"date":"{DAY}","tld":"example"}}'
 OTHER_ORDER = f'{{"tld":"example","revision":0,"parts":1,"kind":"full","id":"X","date":"{DAY}"}}'
@@ -16,7 +16,7 @@ KEPT = [f"part {EARLIER} 5 held {TEN}", f"part {PART} 1422 held {TEN}"]
 ABSENCES = [notice(number, "ABSENCE", f"2026-08-0{day}", FIFTH) for number, day in ((2, 3), (3, 4), (4, 1))]
 REPORT = "\n".join([RECEIPT, *ABSENCES])
 DUE = "due example 2026-08-01\nparts example 2026-08-01 0 1\ndue example 2026-08-03\ndue example 2026-08-04"
-DIGESTS = "\n".join(f"{hashlib.sha256(sent).hexdigest()}  {name}" for sent, name in ((b"hello", EARLIER), (DEPOSIT, PART)))
+DIGESTS = f"{hashlib.sha256(b'hello').hexdigest()}  {EARLIER}\n{DIGEST}  {PART}"
 
 # A vault of a registry with a part of its first day and a deposit of the next; that nothing has changed in it; its receipt.
 BEGUN = f"""$ vault d 8 2026-08-01
@@ -74,7 +74,7 @@ ROUTES = (
         ("PUT /releases/R-1", GROUND, 200, RELEASED),
         ("PUT /releases/R-1", GROUND.replace("operator", "audit"), 409, "Q17 reference used"),
         ("GET /releases/R-1/x", None, 404, "Q18 not in release"),
-        (f"GET /releases/R-1/{PART}", None, 200, DEPOSIT),
+        (f"GET /releases/R-1/{PART}", None, 200, FULL),
         (f"GET /releases/R-1/{EARLIER}", None, 200, b"hello")), ""),
     ("a revision follows a failure", f"""$ vault d 300
 $ echo -n hello > {PART}; escrow put d {PART} --now {TEN} -> received {PART} 5 {TEN}""", TEN, (

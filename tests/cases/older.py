@@ -7,14 +7,10 @@ that went the way back.
 import os
 from pathlib import Path
 
-from lib import DAY, DEPOSIT, PART, RECEIPT, TEN, Room, deposit, notice, part_name, state, stated, transcripts
+from lib import DAY, DIGEST, PART, RECEIPT, TEN, Room, notice, number_of, packed, part_name, state, stated, transcripts
 
 DIFF, NOISE = part_name("2026-08-03", "diff"), part_name("2026-08-04", "diff")
-PARTS = {PART: DEPOSIT, DIFF: deposit("diff", "2026-08-03", previous="20260802001"), NOISE: b"hello"}
-
-# The dropped part is still in its block.
-BLOCKS = [b"RDEVAULT1\n0000000000000001\n", *PARTS.values(), *[b""] * 4]
-VOLUME = b"".join(it.ljust(4096, b"\0") for it in BLOCKS)
+PARTS = (PART, DIFF, NOISE)
 
 # A table is one line: the database keeps the text.
 ROWS = f"""
@@ -32,7 +28,7 @@ INSERT INTO meta VALUES (1, 1, '0000000000000001', 8);
 INSERT INTO registry VALUES ('example', 20667);
 INSERT INTO part VALUES
  ('example', 20667, 0, 1, 'full', 1785664800, 21032, 1422,
- x'34dd1dbe11d7bee7852604c3368fb3f29c1e0a05f81f330d28e32036cf208002', NULL),
+ x'{DIGEST}', NULL),
  ('example', 20668, 0, 1, 'diff', 1785751200, 21033, 583,
  x'1b1149711d9ede474b82902ecfa322580a4890e321c472e422d23132a92ede61', x'0000000200000001'),
  ('example', 20669, 0, 1, 'diff', 1785837600, 21034, 5,
@@ -56,9 +52,12 @@ SCHEMA = "sqlite3 -readonly d/custody.db 'SELECT schema_no FROM meta'"
 
 def older_vault(room: Room, name: str = "d", rows: str = ROWS) -> None:
     """Makes a vault from its volume and these rows, and the files of its parts in the folder `in`."""
-    for part, content in PARTS.items():
+    contents = packed(), packed("diff", "2026-08-03", after=[packed()], previous=number_of(DAY)), b"hello"
+    for part, content in zip(PARTS, contents):
         room.file(f"in/{part}", content)
-    room.file(f"{name}/vault.vol", VOLUME)
+    # The dropped part is still in its block.
+    blocks = [b"RDEVAULT1\n0000000000000001\n", *contents, *[b""] * 4]
+    room.file(f"{name}/vault.vol", b"".join(it.ljust(4096, b"\0") for it in blocks))
     room.sql(name, f"PRAGMA journal_mode = wal; {rows}")
 
 
@@ -66,11 +65,11 @@ def going_on(room: Room) -> None:
     """This vault, and further deposits: behind the full one, whose bytes are dropped, and behind the incremental one."""
     older_vault(room)
     for day, kind, previous in NEXT:
-        room.file(f"in/{part_name(day, kind)}", deposit(kind, day, previous=previous))
+        room.file(f"in/{part_name(day, kind)}", packed(kind, day, after=[packed()], previous=previous))
 
 
 NEXT = [("2027-08-03", "incr", "20260803001"), ("2027-08-04", "incr", "20260802001"), ("2027-08-05", "diff", "20270804001")]
-VERDICTS = [notice(5 + at, "RECEIPT" if at else "FAILURE-06", day, f"{day}T10:05:00Z", day.replace("-", "") + "001")
+VERDICTS = [notice(5 + at, "RECEIPT" if at else "FAILURE-06", day, f"{day}T10:05:00Z", number_of(day))
             for at, (day, _, _) in enumerate(NEXT)]
 RECEIVED = [f"{part_name(day, kind)} 583 held {day}T10:00:00Z" for day, kind, _ in NEXT]
 

@@ -4,7 +4,7 @@ import datetime
 import re
 
 from deploy import ABSENCES, DEPLOY, FIRST, SECOND, SWEPT, UNPROVED
-from lib import EXPLAINED, TOP, Room, case, deposit, part_name, statement
+from lib import EXPLAINED, TOP, Room, case, number_of, packed, part_name, statement
 from machine import TOOLS, Machine, machine
 
 PAGE = (TOP / "docs/OPERATING.md").read_text()
@@ -73,17 +73,13 @@ def takes_deposits(on: Machine) -> None:
             part = part_name(day, tld=name)
             put = as_caller(name, f"-T {on.folder}/{day} {URL}/deposits/{part}")
             on.plays(f"$ {put} | cut -d ' ' -f -2 -> received {part}")
-    on.equal(f"       1 RECEIPT    {FIRST} R00 {number(FIRST)}", states(on, FIRST), "a deposit that passes")
+    on.equal(f"       1 RECEIPT    {FIRST} R00 {number_of(FIRST)}", states(on, FIRST), "a deposit that passes")
     on.plays(f"$ {as_caller('other', f'{URL}/notices/example')} | grep -c '403 Forbidden' -> 2")
-
-
-def number(day: str) -> str:
-    return day.replace("-", "") + "001"
 
 
 def states(on: Machine, day: str) -> str:
     """States a deposit of `example`, and gives the beginning of its notice."""
-    return on.run(as_caller("OPERATOR", f"-d '{statement(day, number(day))}' {URL}/statements")).out.decode()[:46]
+    return on.run(as_caller("OPERATOR", f"-d '{statement(day, number_of(day))}' {URL}/statements")).out.decode()[:46]
 
 
 def watches(on: Machine) -> None:
@@ -93,7 +89,7 @@ def watches(on: Machine) -> None:
     on.comes("journalctl -qo cat -t curl", "dropped 0")
     on.plays("$ systemctl start escrow-sweep@archive 2> said -> !1")
     on.comes(f"{SWEPT} | tail -n 1", f"sweep: example {SECOND}: parts came, and no statement: no absence is recorded")
-    on.equal(f"       2 FAILURE-01 {SECOND} R00 {number(SECOND)}", states(on, SECOND), "a deposit that fails")
+    on.equal(f"       2 FAILURE-01 {SECOND} R00 {number_of(SECOND)}", states(on, SECOND), "a deposit that fails")
     on.plays(f"""
         $ {as_caller("example", f"{URL}/reasons/example/{SECOND}/0")} -> {EXPLAINED}
         $ systemctl start escrow-sweep@archive
@@ -130,7 +126,7 @@ systemctl start escrow@archive"""
 
 @case(f"{TOOLS} curl fallocate nginx openssl", seconds=20)
 def the_page_leads_from_a_bare_machine_to_two_vaults_behind_a_gateway(room: Room) -> None:
-    for day, content in {FIRST: deposit("full", FIRST), SECOND: "hello", TODAY: "hello"}.items():
+    for day, content in {FIRST: packed("full", FIRST), SECOND: "hello", TODAY: "hello"}.items():
         room.file(day, content)
     with machine(room) as on:
         installed = types(on, "Install", ("deploy/install", f"{DEPLOY}/install --program {room.program} 2> said"))

@@ -1,7 +1,7 @@
 """The examples of pages, the transcript of ./demo, and the help of scripts.
 
-- `console`: the examples of a page share a folder that has an empty vault `vault` and the part files of ./demo. A command
-  has to print the lines below it. A free port takes the place of 8080.
+- `console`: the examples of a page share a folder that has an empty vault `vault` and part files. A command has to print the
+  lines below it. A free port takes the place of 8080.
 - `rust`, `antt`: the first line is a comment that names a file of the repository. The lines below it have to be lines of
   that file, one after the other, whatever their indentation.
 """
@@ -9,10 +9,11 @@ import contextlib
 import os
 import re
 import subprocess
+from collections.abc import Callable
 from pathlib import Path
 
-from demo.console import Console
-from lib import CASES, TOP, Room, case, each, free_port, steps
+from demo.console import Console, write_deposits, write_tables
+from lib import CASES, PACKER, TOP, Room, case, each, free_port, steps
 
 SETUP = """\
 $ mkdir vault
@@ -29,15 +30,16 @@ def blocks(page: str, languages: str) -> list[str]:
     return re.findall(rf"^```(?:{languages})\n(.*?)^```$", (TOP / page).read_text(), re.MULTILINE | re.DOTALL)
 
 
-def plays(room: Room, transcript: str) -> None:
-    """Plays a transcript as a person types it."""
-    with contextlib.closing(Console(room.program, room.folder)) as console:
+def plays(room: Room, transcript: str, write: Callable[[Path], None]) -> None:
+    """Plays a transcript as a person types it, in a folder with the files that this writes."""
+    write(room.folder)
+    with contextlib.closing(Console(room.program, PACKER, room.folder)) as console:
         for step in steps(transcript.replace("8080", str(free_port())).splitlines()):
             room.equal(step.wanted, console.answer(step.command), f"$ {step.command}")
 
 
 def examples_play(room: Room, page: str) -> None:
-    plays(room, SETUP + "".join(blocks(page, "console")))
+    plays(room, SETUP + "".join(blocks(page, "console")), write_deposits)
 
 
 for page, tools in PLAYED.items():
@@ -51,7 +53,7 @@ def each_page_with_commands_is_played(room: Room) -> None:
 
 @case(needs="curl")
 def the_transcript_of_the_demo_plays(room: Room) -> None:
-    plays(room, (TOP / "tests/demo/transcript").read_text())
+    plays(room, (TOP / "tests/demo/transcript").read_text(), write_tables)
 
 
 @case()

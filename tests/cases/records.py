@@ -2,7 +2,7 @@
 import hashlib
 import re
 
-from lib import DAY, FIVE, PART, RECEIPT, TEN, TOP, Room, deposit, each, notice, part_name, state, stated, transcripts
+from lib import DAY, FIVE, PART, RECEIPT, TEN, TOP, Room, each, notice, packed, part_name, state, stated, transcripts
 from older import DIFF, KEPT, NOISE, NOTICES, ROWS, STATE, older_vault
 
 INTEGRITY = "sqlite3 d/custody.db 'PRAGMA integrity_check' -> ok"
@@ -64,7 +64,7 @@ MORE = """CREATE TABLE more (one TEXT PRIMARY KEY NOT NULL, many INTEGER) STRICT
     INSERT INTO more VALUES ('b', 1), ('a', 2);"""
 BESIDES = "CREATE INDEX least ON part (keep_day); CREATE VIEW every AS SELECT * FROM more, registry; ANALYZE;"
 
-FIFTH_PART, FIFTH_DEPOSIT = part_name("2026-08-06", "diff"), deposit("diff", "2026-08-06", previous="20260803001")
+FIFTH_PART, FIFTH_DIGEST = part_name("2026-08-06", "diff"), "b7fee57f1c3b81e99bbdd8d0ff7d905e83a00be0c1566f1008f8cc4baf4ea38e"
 FIFTH = notice(5, "RECEIPT", "2026-08-06", "2026-08-06T10:05:00Z", "20260806001")
 HELD = f"{DIFF}\n{NOISE}\n{FIFTH_PART}"
 HOLDS = {day: f"H-{day} example 2026-08-0{day} 2027-08-01T00:00:00Z" for day in (3, 4)}
@@ -75,7 +75,7 @@ STEPS = (
      "INSERT INTO registry VALUES ('later', 20819)", {NOTICES[-1]: f"{NOTICES[-1]}\nregistry later 2027-01-01"}),
     (f"put d in/{FIFTH_PART} --now 2026-08-06T10:00:00Z", f"received {FIFTH_PART} 583 2026-08-06T10:00:00Z",
      f"""INSERT INTO part VALUES ('example', 20671, 0, 1, 'diff', 1786010400, 21036, 583,
-     x'{hashlib.sha256(FIFTH_DEPOSIT).hexdigest()}', x'0000000100000001')""",
+     x'{FIFTH_DIGEST}', x'0000000100000001')""",
      {KEPT[-1]: f"{KEPT[-1]}\npart {FIFTH_PART} 583 held 2026-08-06T10:00:00Z", "free 5": "free 4"}),
     (f"verify d {stated('2026-08-06', 'diff')}", FIFTH,
      "INSERT INTO notice VALUES ('example', 5, 0, 20671, 0, '20260806001', 1786010700)",
@@ -100,7 +100,7 @@ STEPS = (
 def commands_change_their_own_rows_alone(room: Room, rows: str, then: str) -> None:
     older_vault(room, "d", rows)
     older_vault(room, "twin", rows + then)
-    room.file(f"in/{FIFTH_PART}", FIFTH_DEPOSIT)
+    room.file(f"in/{FIFTH_PART}", packed("diff", "2026-08-06", after=[packed()], previous="20260803001"))
     kept = STATE
     for command, lines, sql, changes in STEPS:
         for old, new in changes.items():

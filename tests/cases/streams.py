@@ -1,8 +1,6 @@
 """Output that cannot be written, closed streams, and what is shown on a terminal."""
-import hashlib
-
 from lib import (
-    DAY, DEPOSIT, EXPLAINED, FIVE, PART, RECEIPT, TEN, explained, notice, part_name, state, stated, transcripts)
+    DAY, DIGEST, EXPLAINED, FIVE, PART, RECEIPT, TEN, explained, notice, part_name, state, stated, transcripts)
 
 INIT, FIFTH = "--blocks 8 --number 0000000000000001", "2026-08-05T00:00:00Z"
 
@@ -33,7 +31,7 @@ AGAIN = {
     f"due d --now {FIFTH}": "due example 2026-08-03\ndue example 2026-08-04", f"sweep d --now {FIFTH}": ABSENCES[1],
     f"release d R-1 example operator --now {FIFTH}": f"released {RELEASED}\n{PART}",
     "report d example": "\n".join([RECEIPT, *ABSENCES]), "state d": state(6, *RECORDED), "audit d": "sound 1",
-    "digests d example": f"{hashlib.sha256(DEPOSIT).hexdigest()}  {PART}", f"purge d --now {FIFTH}": "dropped 0"}
+    "digests d example": f"{DIGEST}  {PART}", f"purge d --now {FIFTH}": "dropped 0"}
 LOST = "".join(f"$ escrow {words} > /dev/full -> !3 output failed\n$ escrow {words} -> {line}\n"
                for words, line in AGAIN.items())
 

@@ -1,9 +1,10 @@
 #!/usr/bin/env python3
-"""Builds the program `escrow` from its sources, unproved, as out/escrow-unproved, and prints its path.
+"""Builds a program from its sources, unproved, as out/NAME-unproved, and prints its path.
 
-    tests/demo/build.py
+    tests/demo/build.py NAME      (escrow or deposit)
 
-It takes three to five minutes, and no time if the program is newer than its sources. It needs `rt`.
+It takes three to five minutes for escrow and one for deposit; no time if the program is newer than its sources. It needs
+`rt`.
 
 `rt try` compiles a program with checks at run time, starts it in a folder of its own, and deletes it when it ends. So this
 script has it read a named pipe into which nobody writes. While the program waits for the pipe, its file can be copied.
@@ -21,15 +22,16 @@ from collections.abc import Iterator
 from pathlib import Path
 
 sys.path.insert(0, str(Path(__file__).resolve().parents[1]))
-from lib import TOP, parser
+from lib import PART, TOP, parser
 
-PROGRAM = TOP / "out" / "escrow-unproved"
+# The words with which each program reads the file that they name last.
+WORDS = {"escrow": ("put", "."), "deposit": ("check",)}
 
 
-def is_new() -> bool:
-    """Whether the program is there, and newer than the sources of all crates."""
+def is_new(program: Path) -> bool:
+    """Whether a program is there, and newer than the sources of all crates."""
     sources = [TOP / "crates.txt", *TOP.glob("crates/*/src/**/*.rt")]
-    return PROGRAM.is_file() and PROGRAM.stat().st_mtime > max(it.stat().st_mtime for it in sources)
+    return program.is_file() and program.stat().st_mtime > max(it.stat().st_mtime for it in sources)
 
 
 @contextlib.contextmanager
@@ -100,14 +102,14 @@ def release(pipe: Path) -> None:
         time.sleep(0.1)
 
 
-def build(room: Path) -> None:
-    """Compiles the program, and copies it while it waits for a named pipe."""
-    pipe, since = room / "part", time.time()
+def build(name: str, program: Path, room: Path) -> None:
+    """Compiles a crate's program, and copies it while it waits for a named pipe."""
+    pipe, since = room / PART, time.time()
     os.mkfifo(pipe)
     with open(room / "log", "w+", encoding="utf-8") as log:
         builder = subprocess.Popen(
-            ["rt", "try", "--seconds", "900", "--steps", "1", "--", "put", room, pipe],
-            cwd=TOP / "crates" / "escrow",
+            ["rt", "try", "--seconds", "900", "--steps", "1", "--", *WORDS[name], pipe],
+            cwd=TOP / "crates" / name,
             env={**os.environ, "TMPDIR": str(room)},
             stdin=subprocess.DEVNULL,
             stdout=log,
@@ -118,12 +120,12 @@ def build(room: Path) -> None:
             found = wait_for_program(builder, room, pipe)
             if not found:
                 log.seek(0)
-                sys.exit(f"escrow is not built:\n{log.read()}")
-            copy = PROGRAM.with_suffix(".new")
+                sys.exit(f"{name} is not built:\n{log.read()}")
+            copy = program.with_suffix(".new")
             shutil.copyfile(found, copy)
             copy.chmod(0o755)
             os.utime(copy, (since, since))
-            copy.rename(PROGRAM)
+            copy.rename(program)
             release(pipe)
             with contextlib.suppress(subprocess.TimeoutExpired):
                 builder.wait(30)
@@ -135,15 +137,18 @@ def build(room: Path) -> None:
 
 
 def main() -> None:
-    parser(__doc__).parse_args()
+    words = parser(__doc__)
+    words.add_argument("name", choices=WORDS, metavar="NAME")
+    name = words.parse_args().name
+    program = TOP / "out" / f"{name}-unproved"
     for it in (signal.SIGHUP, signal.SIGTERM):
         signal.signal(it, lambda *_: sys.exit(130))
-    if not is_new():
-        PROGRAM.parent.mkdir(exist_ok=True)
-        with tempfile.TemporaryDirectory(prefix="escrow-build-") as room:
-            with shown("Building escrow from its sources"):
-                build(Path(room).resolve())
-    print(PROGRAM)
+    if not is_new(program):
+        program.parent.mkdir(exist_ok=True)
+        with tempfile.TemporaryDirectory(prefix=f"{name}-build-") as room:
+            with shown(f"Building {name} from its sources"):
+                build(name, program, Path(room).resolve())
+    print(program)
 
 
 if __name__ == "__main__":

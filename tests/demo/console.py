@@ -1,4 +1,4 @@
-"""A console: commands as a person types them in a folder that has the programs and the part files of the examples."""
+"""A console: commands as a person types them in a folder that has the programs and the files of the examples."""
 import os
 import random
 import shlex
@@ -8,10 +8,10 @@ import tempfile
 import time
 from pathlib import Path
 
-from lib import LIMIT, PACKER, deposit, part_name
+from lib import LIMIT, packed, part_name
 
 CREATED = "2020-01-01T00:00:00Z"
-TABLES = {
+REGISTRY = {
     "domain": f"one.example,D1-EX,C1,R1,{CREATED},2030-01-01T00:00:00Z\n",
     "domainContacts": "one.example,admin,C1\none.example,tech,C1\n",
     "domainStatuses": "one.example,ok\n",
@@ -23,29 +23,31 @@ TABLES = {
 }
 
 
-def write_parts(folder: Path) -> None:
-    """Writes a deposit of 2 August in two parts, 1 MiB of noise for 4 August, and a deposit of 5 August in one part."""
-    second, fifth = (deposit("full", day, tables=TABLES, counts=(1, 1, 1, 1)) for day in ("2026-08-02", "2026-08-05"))
-    parts = {
-        part_name("2026-08-02", part=1): second[:-245],
-        part_name("2026-08-02", part=2): second[-245:],
-        part_name("2026-08-04"): random.Random(4).randbytes(1 << 20),
-        part_name("2026-08-05"): fifth,
-    }
-    for name, content in parts.items():
-        (folder / name).write_bytes(content)
+def write_tables(folder: Path) -> None:
+    """Writes the tables of a registry into the folder `tables`."""
+    (folder / "tables").mkdir()
+    for table, text in REGISTRY.items():
+        (folder / "tables" / f"{table}.csv").write_text(text)
+
+
+def write_deposits(folder: Path) -> None:
+    """Writes the tables of a registry, and deposits of them of 2 and 5 August."""
+    write_tables(folder)
+    for day in ("2026-08-02", "2026-08-05"):
+        (folder / part_name(day)).write_bytes(packed("full", day, tables=REGISTRY))
 
 
 class Console:
-    """A folder in which `escrow` and `deposit` are programs, and the servers that were begun there."""
+    """A folder in which `escrow` and `deposit` are programs, with 1 MiB of noise as a part of 4 August, and the servers that
+    were begun there."""
 
-    def __init__(self, program: Path, folder: Path):
+    def __init__(self, escrow: Path, deposit: Path, folder: Path):
         self.folder = folder
         self.servers: list[subprocess.Popen[str]] = []
-        (folder / "escrow").symlink_to(os.path.relpath(program.resolve(), folder))
-        (folder / "deposit").symlink_to(PACKER)
+        for name, program in ("escrow", escrow), ("deposit", deposit):
+            (folder / name).symlink_to(os.path.relpath(program.resolve(), folder))
+        (folder / part_name("2026-08-04")).write_bytes(random.Random(4).randbytes(1 << 20))
         self.environment = {**os.environ, "PATH": f"{folder}:{os.environ['PATH']}"}
-        write_parts(folder)
 
     def begin(self, command: str) -> subprocess.Popen[str]:
         """Begins a command of bash, whose output and errors come as one text."""

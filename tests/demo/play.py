@@ -1,10 +1,10 @@
 #!/usr/bin/env python3
-"""Plays tests/demo/transcript with a program, on real files in a folder that stays.
+"""Plays tests/demo/transcript with two programs, on real files in a folder that stays.
 
-    tests/demo/play.py PROGRAM FOLDER      (it makes the folder)
+    tests/demo/play.py ESCROW DEPOSIT FOLDER      (it makes the folder)
 
 It prints each command and what comes of it. The first command that prints something else than the transcript says ends the
-run with status 1. It takes a few seconds with a proved program, and a minute or two with an unproved one. It needs curl.
+run with status 1. It takes a few seconds with proved programs, and a minute or two with unproved ones. It needs curl.
 """
 import contextlib
 import shutil
@@ -12,7 +12,7 @@ import sys
 from pathlib import Path
 
 sys.path.insert(0, str(Path(__file__).resolve().parents[1]))
-from console import Console
+from console import Console, write_tables
 from lib import difference, free_port, parser, steps
 
 TRANSCRIPT = Path(__file__).with_name("transcript")
@@ -32,8 +32,8 @@ def plays(console: Console, lines: list[str]) -> bool:
 
 def main() -> int:
     words = parser(__doc__)
-    words.add_argument("program", type=Path, metavar="PROGRAM")
-    words.add_argument("folder", type=Path, metavar="FOLDER")
+    for name in ("escrow", "deposit", "folder"):
+        words.add_argument(name, type=Path, metavar=name.upper())
     asked = words.parse_args()
     if not shutil.which("curl"):
         words.error("there is no curl")
@@ -41,7 +41,8 @@ def main() -> int:
         words.error(f"{asked.folder} is there")
     asked.folder.mkdir(parents=True)
     lines = TRANSCRIPT.read_text().replace("8080", str(free_port())).splitlines()
-    with contextlib.closing(Console(asked.program, asked.folder.resolve())) as console:
+    with contextlib.closing(Console(asked.escrow, asked.deposit, asked.folder.resolve())) as console:
+        write_tables(console.folder)
         try:
             return 0 if plays(console, lines) else 1
         except KeyboardInterrupt:
