@@ -5,8 +5,9 @@ measures the peak memory of both.
 
     bench/chain.py [PROGRAM]
 
-It takes about half a minute. It needs the program that `rt run` builds in crates/escrow.
+It takes about half a minute. It needs the programs that `rt run` builds in crates/escrow and crates/deposit.
 """
+import dataclasses
 import datetime
 import hashlib
 import json
@@ -20,59 +21,49 @@ import time
 import vaults
 import verify
 
-PART = 1024 * 1024
-FULL_DAY = datetime.date(2026, 8, 2)
 LATER = 30
 RUNS = 5
 
 
 def days():
     """The days of the differential deposits: none is a Sunday."""
-    all_days = (FULL_DAY + datetime.timedelta(i) for i in range(1, 100))
+    all_days = (verify.DAY + datetime.timedelta(i) for i in range(1, 100))
     return [day for day in all_days if day.isoweekday() != 7][: LATER + 1]
 
 
-def identifier(day):
-    return day.strftime("%Y%m%d") + "001"
+@dataclasses.dataclass
+class Deposit:
+    """A deposit: its day and tables, the words that pack it, the last of them `after`, its parts, and what states it."""
+    day: datetime.date
+    tables: pathlib.Path
+    packing: list
+    after: list
+    parts: list[pathlib.Path]
+    stated: list[str]
 
 
-def entry(table, data):
-    return {"length": len(data), "name": table, "sha256": hashlib.sha256(data).hexdigest()}
-
-
-def differential(day, before, counts, rows, gone):
-    """A deposit of these rows of domains, and of these that are deleted."""
-    contents, deletes = "".join(rows).encode(), "".join(name + "\n" for name in gone).encode()
-    text = {
-        "contents": [entry("domain", contents)],
-        "deletes": [entry("domain", deletes)],
-        "header": {"count": dict(zip(verify.URIS, counts)), "tld": "example"},
-        "id": identifier(day),
-        "prevId": before,
-        "rdeMenu": {"objURI": verify.URIS, "version": "1.0"},
-        "resend": 0,
-        "type": "DIFF",
-        "watermark": f"{day}T00:00:00Z",
-    }
-    envelope = json.dumps(text, separators=(",", ":"), sort_keys=True).encode()
-    return b"RDE1 %08d\n" % len(envelope) + envelope + contents + deletes
-
-
-def deposits():
-    """Each deposit of the chain: its day, its kind and its bytes."""
-    rows = verify.registry(False)
-    yield FULL_DAY, "full", verify.joined(rows)
-    domains = {row.split(",", 1)[0] for row in rows["domain"]}
-    before = verify.ID
+def tables():
+    """The tables of each deposit of the chain: its day and kind, and its rows and deleted keys as lists of lines."""
+    yield verify.DAY, "full", verify.registry(False), {}
     for turn, day in enumerate(days()):
         new = [f"new-{turn:02}-{i:04}.example" for i in range(1020)]
         changed = [f"name-{turn * 500 + i:06}.example" for i in range(200)]
-        gone = [f"name-{turn * 500 + 200 + i:06}.example" for i in range(200)]
-        lines = [f"{name},D-EX,C00001,R001,2020-01-01T00:00:00Z,2028-01-01T00:00:00Z\n" for name in sorted(new + changed)]
-        domains = (domains - set(gone)) | set(new) | set(changed)
-        counts = [len(rows["contact"]), len(domains), len(rows["host"]), len(rows["registrar"])]
-        yield day, "diff", differential(day, before, counts, lines, gone)
-        before = identifier(day)
+        gone = [f"name-{turn * 500 + 200 + i:06}.example\n" for i in range(200)]
+        rows = [f"{name},D-EX,C00001,R001,2020-01-01T00:00:00Z,2028-01-01T00:00:00Z\n" for name in sorted(new + changed)]
+        yield day, "diff", {"domain": rows}, {"domain": gone}
+
+
+def packed(top):
+    """The deposits of the chain, as `deposit pack` makes them: the parts of each in a folder, with their digests."""
+    earlier, previous, behind = [], [], []
+    for day, kind, contents, deletes in tables():
+        folder, words = top / "tables" / str(day), vaults.packing(day, kind, *previous, *behind)
+        vaults.write_tables(folder, contents, deletes)
+        parts, stated = vaults.packed(folder, words, top / "parts" / str(day))
+        (parts[0].parent / "digests").write_text(" ".join(hashlib.sha256(part.read_bytes()).hexdigest() for part in parts))
+        yield Deposit(day, folder, words, behind, parts, stated)
+        earlier += parts
+        previous, behind = ["--previous", vaults.identifier(day)], ["--after", *earlier]
 
 
 def after(keys, data):
@@ -108,17 +99,17 @@ def counts_of(folder):
     return list(said["header"]["count"].values()) == [len(keys[table]) for table in verify.COUNTED]
 
 
-def write_files(folder):
-    """The parts of each deposit with their digests, a folder each, and the calls that send and state it."""
-    for day, kind, data in deposits():
-        place = folder / str(day)
-        place.mkdir()
-        parts = [data[i : i + PART] for i in range(0, len(data), PART)]
-        for i, part in enumerate(parts):
-            (place / f"example_{day}_{kind}_S{i + 1}_R0.ryde").write_bytes(part)
-        (place / "digests").write_text(" ".join(hashlib.sha256(part).hexdigest() for part in parts))
-        words = ["--date", day, "--kind", kind, "--revision", 0, "--parts", len(parts), "--id", identifier(day), "--now", f"{day}T11:00:00Z"]
-        yield day, sorted(place.glob("*.ryde")), [str(word) for word in words], len(data)
+def fill(program, vault, deposits):
+    """Makes a vault that has received these deposits, and has stated all but the last: the words that state that."""
+    vaults.seconds(program, "init", vault, "--blocks", "4096", "--number", "0000000000000001")
+    vaults.seconds(program, "register", vault, "example", "--first", str(verify.DAY))
+    for deposit in deposits:
+        for part in deposit.parts:
+            vaults.seconds(program, "put", vault, part, "--now", f"{deposit.day}T10:00:00Z")
+        words = [*deposit.stated, "--now", f"{deposit.day}T11:00:00Z"]
+        if deposit is deposits[-1]:
+            return words
+        assert b" RECEIPT " in vaults.seconds(program, "verify", vault, *words)[1], deposit.day
 
 
 def peak(*words):
@@ -138,32 +129,24 @@ def main():
     program = vaults.program(__doc__)
     with tempfile.TemporaryDirectory() as folder:
         top = pathlib.Path(folder)
-        vault, files = top / "vault", top / "files"
+        deposits, vault = list(packed(top)), top / "vault"
         vault.mkdir()
-        files.mkdir()
-        vaults.seconds(program, "init", vault, "--blocks", "4096", "--number", "0000000000000001")
-        vaults.seconds(program, "register", vault, "example", "--first", str(FULL_DAY))
-        calls, sizes = list(write_files(files)), []
-        for turn, (day, parts, words, size) in enumerate(calls):
-            sizes.append(size)
-            for part in parts:
-                vaults.seconds(program, "put", vault, part, "--now", f"{day}T10:00:00Z")
-            if turn <= LATER:
-                assert b" RECEIPT " in vaults.seconds(program, "verify", vault, "example", *words)[1], day
+        words = fill(program, vault, deposits)
         ours, theirs = [], []
         for _ in range(RUNS):
-            took, printed = vaults.seconds(program, "verify", copied(vault), "example", *words)
+            took, printed = vaults.seconds(program, "verify", copied(vault), *words)
             assert b" RECEIPT " in printed, printed
             ours.append(took)
             start = time.perf_counter()
-            assert counts_of(files)
+            assert counts_of(top / "parts")
             theirs.append(time.perf_counter() - start)
-        memory = peak(program, "verify", copied(vault), "example", *words)
-        other = peak(sys.executable, __file__, "--counts", files)
+        memory = peak(program, "verify", copied(vault), *words)
+        other = peak(sys.executable, __file__, "--counts", top / "parts")
+        size = sum(part.stat().st_size for part in deposits[0].parts)
         print("| program | time | memory | / full deposit |")
         print("|---|---|---|---|")
         for name, taken, mib in (("`verify`", min(ours), memory), ("Python", min(theirs), other)):
-            print(f"| {name} | {taken * 1000:,.0f} ms | {mib:.0f} MiB | {mib * 1024 * 1024 / sizes[0]:.1f} |")
+            print(f"| {name} | {taken * 1000:,.0f} ms | {mib:.0f} MiB | {mib * 1024 * 1024 / size:.1f} |")
 
 
 if __name__ == "__main__":

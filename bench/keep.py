@@ -7,8 +7,8 @@ A NAME is a script of this folder (`agent`, `audit`, ..) or `runs`, which times 
 tests/memory.py; `all` makes them all, in about half an hour. `--prove LOG` reads the output of `./prove` and keeps
 `prove`. `--gate LOG` reads that of `.ci/run` and keeps `gate`. Both must have begun with nothing proved.
 
-It needs the programs that `rt run` builds in crates/escrow, crates/bench_tools and crates/agent_script, and GNU time,
-nginx, sqlite3 and strace. If one measurement fails, its result stays as it was, the others go on, and the status is 1.
+It needs the programs that `rt run` builds in crates/escrow, deposit, bench_tools and agent_script, and GNU time, nginx,
+sqlite3 and strace. If one measurement fails, its result stays as it was, the others go on, and the status is 1.
 Run tests/made.py afterwards.
 """
 import datetime
@@ -28,7 +28,7 @@ from lib import parser
 
 RESULTS = TOP / "bench" / "results"
 # Where the scripts run: a folder on the disk of the repository, ignored by git. Most make their vaults here; `chain`,
-# `statement` and the tests make theirs in the folder for temporary files.
+# `pack`, `statement` and the tests make theirs in the folder for temporary files.
 WORK = TOP / "bench" / "out"
 # The most seconds that one script may take.
 PATIENCE = 1800
@@ -37,15 +37,16 @@ PATIENCE = 1800
 NEEDS = {
     "agent": (("escrow",), ("cp", "sync", "sqlite3")),
     "audit": (("escrow",), ("sha256sum", "/usr/bin/time")),
-    "chain": (("escrow",), ()),
+    "chain": (("escrow", "deposit"), ()),
     "map": (("bench_tools",), ()),
+    "pack": (("escrow", "deposit"), ()),
     "purge": (("escrow",), ()),
     "release": (("escrow",), ("/usr/bin/time",)),
     "serve": (("escrow",), ("strace", "nginx")),
-    "statement": (("escrow",), ("sha256sum", "sqlite3")),
+    "statement": (("escrow", "deposit"), ("sha256sum", "sqlite3")),
     "sweep": (("escrow",), ()),
     "tables": (("bench_tools",), ()),
-    "verify": (("bench_tools",), ()),
+    "verify": (("bench_tools", "deposit"), ()),
     "runs": (("escrow", "bench_tools", "agent_script"), ("strace",)),
 }
 

@@ -5,7 +5,7 @@ contact has no registrar, against `preview` of the same, with the peak memory of
 
     bench/statement.py [PROGRAM]
 
-It takes some ten seconds. It needs the program that `rt run` builds in crates/escrow, sha256sum and sqlite3.
+It takes some ten seconds. It needs the programs that `rt run` builds in crates/escrow and crates/deposit, sha256sum and sqlite3.
 """
 import os
 import pathlib
@@ -105,7 +105,8 @@ def by_commands(top, paths, i):
 
 
 def main():
-    deposit = verify.joined(verify.registry(False))
+    rows = verify.registry(False)
+    deposit = verify.packed(rows)
     assert 7 * PART < len(deposit) <= PARTS * PART, len(deposit)
     with tempfile.TemporaryDirectory() as folder:
         top = pathlib.Path(folder)
@@ -120,9 +121,8 @@ def main():
         print("|---|---|---|---|")
         times = " | ".join(f"{taken * 1000:.0f} ms" for taken in (ours, digests, insert))
         print(f"| {times} | {ours / (digests + insert):.1f} |")
-        rows = verify.registry(False)
         rows["contact"][-1] = "C19999,C19999-EX,R999,2020-01-01T00:00:00Z\n"
-        (preview, before), (explanation, then) = explained(top, verify.joined(rows))
+        (preview, before), (explanation, then) = explained(top, verify.changed(deposit, verify.files_of(rows)))
         print("\n| `preview` | `explain` | ratio | memory of both |")
         print("|---|---|---|---|")
         print(f"| {preview * 1000:.0f} ms | {explanation * 1000:.0f} ms | {explanation / preview:.2f} | {before:.0f} and {then:.0f} MiB |")

@@ -1,11 +1,12 @@
-"""What the benches share: the words of a call, days as numbers, and a call with its time."""
+"""What the benches share: the words of a call, days as numbers, a call with its time, and tables that are packed."""
 import argparse
 import datetime
 import pathlib
 import subprocess
 import time
 
-ESCROW = pathlib.Path(__file__).resolve().parent.parent / "crates/escrow/out/escrow"
+CRATES = pathlib.Path(__file__).resolve().parent.parent / "crates"
+ESCROW, DEPOSIT = CRATES / "escrow/out/escrow", CRATES / "deposit/out/deposit"
 EPOCH = datetime.date(1970, 1, 1)
 
 
@@ -37,3 +38,26 @@ def seconds(*words):
     taken = time.perf_counter() - start
     assert done.returncode == 0, (words, done.stderr)
     return taken, done.stdout
+
+
+def write_tables(folder, contents, deletes={}):
+    """Writes the files of tables, and those of deleted keys: each is a list of lines."""
+    (folder / "deletes").mkdir(parents=True)
+    for place, tables in ((folder, contents), (folder / "deletes", deletes)):
+        for table, lines in tables.items():
+            (place / f"{table}.csv").write_text("".join(lines))
+
+
+def identifier(day):
+    return f"{day:%Y%m%d}001"
+
+
+def packing(day, kind, *rest):
+    """The words that describe a deposit of `example` to `deposit pack`."""
+    return ["--tld", "example", "--date", str(day), "--kind", kind, "--revision", "0", "--id", identifier(day), *rest]
+
+
+def packed(tables, words, out):
+    """Packs the tables of a folder: the paths of the parts, and the words that state the deposit."""
+    *lines, call, _ = seconds(DEPOSIT, "pack", tables, *words, "--out", out)[1].decode().splitlines()
+    return [out / line.split()[0] for line in lines], call.split()[3:]

@@ -4,7 +4,7 @@ somebody sends to harm. For one whose first file is not UTF-8, only the frame, t
 
     bench/verify.py
 
-It takes about five minutes. It needs the program that `rt run` builds in crates/bench_tools.
+It takes about five minutes. It needs the programs that `rt run` builds in crates/bench_tools and crates/deposit.
 """
 import csv
 import datetime
@@ -20,9 +20,9 @@ import sys
 import tempfile
 import time
 
-from vaults import parser
+import vaults
 
-PROGRAM = pathlib.Path(__file__).resolve().parent.parent / "crates/bench_tools/out/bench_tools"
+PROGRAM = vaults.CRATES / "bench_tools/out/bench_tools"
 SIZE = 8 * 1024 * 1024
 TIMES = 5
 RUNS = 5
@@ -30,8 +30,8 @@ SPACE = "urn:ietf:params:xml:ns:"
 URIS = [SPACE + name for name in ("csvContact-1.0", "csvDomain-1.0", "csvHost-1.0", "csvRegistrar-1.0", "rdeHeader-1.0")]
 TABLES = ["domain", "domainContacts", "domainStatuses", "domainNameServers", "host", "hostAddresses", "contact", "registrar"]
 COUNTED = ["contact", "domain", "host", "registrar"]
-NAME = "example_2026-08-02_full_S1_R0.ryde"
-ID = "20260802001"
+DAY = datetime.date(2026, 8, 2)
+NAME, ID = f"example_{DAY}_full_S1_R0.ryde", vaults.identifier(DAY)
 
 MOMENT = r"\d{4}-\d{2}-\d{2}T\d{2}:\d{2}:\d{2}Z"
 HOST = r"[a-z0-9.-]{1,253}"
@@ -171,47 +171,61 @@ def short_rows(shuffled):
     return ordered(rows, shuffled)
 
 
-def joined(rows, said=None, files=None, head=None):
-    """The deposit of these rows. Members of its envelope, its files and its head may be others than its own."""
-    own = {table: "".join(rows.get(table, ())).encode("latin-1") for table in TABLES}
-    text = {
-        "contents": [{"length": len(own[t]), "name": t, "sha256": hashlib.sha256(own[t]).hexdigest()} for t in TABLES],
-        "header": {"count": {uri: len(rows.get(table, ())) for uri, table in zip(URIS, COUNTED)}, "tld": "example"},
-        "id": ID,
-        "rdeMenu": {"objURI": URIS, "version": "1.0"},
-        "resend": 0,
-        "type": "FULL",
-        "watermark": "2026-08-02T00:00:00Z",
-    }
-    text.update(said or {})
-    envelope = json.dumps(text, separators=(",", ":"), sort_keys=True).encode()
-    return (head or b"RDE1 %08d\n" % len(envelope)) + envelope + (files or b"".join(own[t] for t in TABLES))
+def files_of(rows):
+    """The files of a full deposit of these rows."""
+    return {table: "".join(rows.get(table, ())).encode() for table in TABLES}
+
+
+def packed(rows):
+    """The deposit of these rows, as `deposit pack` makes it."""
+    with tempfile.TemporaryDirectory() as folder:
+        tables = pathlib.Path(folder, "tables")
+        vaults.write_tables(tables, {table: rows.get(table, ()) for table in TABLES})
+        parts, _ = vaults.packed(tables, vaults.packing(DAY, "full"), pathlib.Path(folder, "parts"))
+        return b"".join(part.read_bytes() for part in parts)
+
+
+def changed(deposit, files, **members):
+    """The deposit with these files instead of its own, and with these members of its envelope."""
+    said = json.loads(deposit[14 : 14 + int(deposit[5:13])])
+    said["contents"] = [{"length": len(files[t]), "name": t, "sha256": hashlib.sha256(files[t]).hexdigest()} for t in TABLES]
+    said["header"]["count"] = {uri: files[table].count(b"\n") for uri, table in zip(URIS, COUNTED)}
+    envelope = json.dumps({**said, **members}, separators=(",", ":"), sort_keys=True).encode()
+    return b"RDE1 %08d\n" % len(envelope) + envelope + b"".join(files[t] for t in TABLES)
 
 
 def hostile():
     """Deposits of about 8 MiB that are sent to harm, each with its verdict."""
-    rows = registry(False)
-    files = {table: "".join(rows[table]).encode() for table in TABLES}
-    entries = json.loads(joined(rows)[14:].split(b'],"header"')[0][12:] + b"]")
+    rows, short = registry(False), short_rows(True)
+    deposit, files, empty = packed(rows), files_of(rows), files_of({})
+    length = int(deposit[5:13])
+    entries = json.loads(deposit[14 : 14 + length])["contents"]
     alike = [f"{'a' * 200}{i:06},D-EX,,R000,2020-01-01T00:00:00Z,2027-01-01T00:00:00Z\n" for i in range(30000)]
     random.Random(7).shuffle(alike)
-    short = short_rows(True)
-    yield "a frame that promises 99,999,999 bytes", "FAILURE-01", joined(rows, head=b"RDE1 99999999\n")
-    yield "an envelope of one byte more", "FAILURE-02", joined(rows, head=b"RDE1 %08d\n" % (len(joined(rows)) - len(b"".join(files.values())) - 13))
-    yield "an envelope of 8 MiB", "FAILURE-02", joined({}, said={"id": "a" * SIZE})
-    yield "lengths whose sum overflows", "FAILURE-02", joined(rows, said={"contents": [{**e, "length": 2**63} for e in entries]})
-    yield "lengths of 64 MiB", "FAILURE-09", joined(rows, said={"contents": [{**e, "length": SIZE} for e in entries]})
-    yield "a digest of the wrong file", "FAILURE-09", joined(rows, said={"contents": [{**e, "sha256": entries[0]["sha256"]} for e in entries]})
-    yield "files in another order", "FAILURE-09", joined(rows, files=b"".join(files[t] for t in reversed(TABLES)))
-    yield "a first file that is no UTF-8", "FAILURE-10", joined({**rows, "domain": ["\xff", *rows["domain"]]})
-    yield "commas", "FAILURE-10", joined({"domain": ["," * (SIZE - 1) + "\n"]})
-    yield "quotes", "FAILURE-10", joined({"domain": ['"' * SIZE]})
-    yield "rows of empty fields", "FAILURE-10", joined({"domain": [",,,,,\n"] * (SIZE // 6)})
-    yield "one row of empty fields", "FAILURE-10", joined({**rows, "registrar": [",,,\n"]})
-    yield "line feeds", "FAILURE-10", joined({"domain": ["\n"] * SIZE})
-    yield "one key in all rows", "FAILURE-10", joined({"domainStatuses": ["a,b\n"] * (SIZE // 4)})
-    yield "the last key twice", "FAILURE-10", joined({**short, "domainStatuses": [*short["domainStatuses"], short["domainStatuses"][0]]})
-    yield "keys with one beginning", "FAILURE-12", joined({"domain": alike})
+
+    def with_entries(**members):
+        return changed(deposit, files, contents=[{**entry, **members} for entry in entries])
+
+    def with_domains(text):
+        return changed(deposit, {**empty, "domain": text})
+
+    yield "a frame that promises 99,999,999 bytes", "FAILURE-01", b"RDE1 99999999\n" + deposit[14:]
+    yield "an envelope of one byte more", "FAILURE-02", b"RDE1 %08d\n" % (length + 1) + deposit[14:]
+    yield "an envelope of 8 MiB", "FAILURE-02", changed(deposit, empty, id="a" * SIZE)
+    yield "lengths whose sum overflows", "FAILURE-02", with_entries(length=2**63)
+    yield "lengths of 64 MiB", "FAILURE-09", with_entries(length=SIZE)
+    yield "a digest of the wrong file", "FAILURE-09", with_entries(sha256=entries[0]["sha256"])
+    yield "files in another order", "FAILURE-09", deposit[: 14 + length] + b"".join(reversed(files.values()))
+    yield "a first file that is no UTF-8", "FAILURE-10", changed(deposit, {**files, "domain": b"\xff" + files["domain"]})
+    yield "commas", "FAILURE-10", with_domains(b"," * (SIZE - 1) + b"\n")
+    yield "quotes", "FAILURE-10", with_domains(b'"' * SIZE)
+    yield "rows of empty fields", "FAILURE-10", with_domains(b",,,,,\n" * (SIZE // 6))
+    yield "one row of empty fields", "FAILURE-10", changed(deposit, {**files, "registrar": b",,,\n"})
+    yield "line feeds", "FAILURE-10", with_domains(b"\n" * SIZE)
+    yield "one key in all rows", "FAILURE-10", changed(deposit, {**empty, "domainStatuses": b"a,b\n" * (SIZE // 4)})
+    twice = {**short, "domainStatuses": [*short["domainStatuses"], short["domainStatuses"][0]]}
+    yield "the last key twice", "FAILURE-10", changed(deposit, files_of(twice))
+    yield "keys with one beginning", "FAILURE-12", with_domains("".join(alike).encode())
 
 
 def run(path, times):
@@ -258,12 +272,12 @@ def row(name, ours, theirs, memory):
 
 
 def main():
-    parser(__doc__).parse_args()
+    vaults.parser(__doc__).parse_args()
     print("| deposit | time | Python | ratio | memory / deposit |")
     print("|---|---|---|---|---|")
     with tempfile.TemporaryDirectory() as folder:
         for make, shuffled in itertools.product((registry, short_rows), (False, True)):
-            deposit = joined(make(shuffled))
+            deposit = packed(make(shuffled))
             kind = ("short rows, " if make is short_rows else "") + ("shuffled" if shuffled else "in order")
             answer, ours, memory = timed(folder, deposit)
             verdict, theirs = python_time(deposit)
