@@ -237,6 +237,18 @@ def exchange(port: int, data: bytes, *, piece: int = 1 << 30, pause: float = 0, 
     return bytes(answer)
 
 
+# ---- processes
+
+_beginning = threading.Lock()
+
+
+def begin(words: Sequence[str | Path], **how) -> subprocess.Popen:
+    """Begins a program, while no other thread writes a script: a process holds the files that are open until its program
+    begins, and a script that is open to be written cannot be executed."""
+    with _beginning:
+        return subprocess.Popen(words, **how)
+
+
 # ---- servers
 
 _ports: set[int] = set()
@@ -265,8 +277,7 @@ class Server:
         words = ["serve", vault, "--port", str(self.port), "--requests", str(requests), *(["--now", now] if now else []),
                  *(["--until-closed"] if until_closed else [])]
         self.errors = tempfile.TemporaryFile()
-        self.process = subprocess.Popen([*under, program, *words], stdin=subprocess.DEVNULL, stdout=subprocess.PIPE,
-                                        stderr=self.errors)
+        self.process = begin([*under, program, *words], stdin=subprocess.DEVNULL, stdout=subprocess.PIPE, stderr=self.errors)
 
     def listens(self, seconds: float) -> bool:
         """Whether it says so in this time, and prints nothing else."""
@@ -369,12 +380,14 @@ class Answer:
 def answer_of(words: Sequence[str | Path], folder: Path | None = None, seconds: float = LIMIT,
               environment: Mapping[str, str] | None = None) -> Answer:
     """Runs a program in a folder, for so many seconds at most."""
-    try:
-        done = subprocess.run(words, cwd=folder, env=environment, timeout=seconds, stdin=subprocess.DEVNULL,
-                              capture_output=True)
-    except subprocess.TimeoutExpired:
-        return Answer(None, b"", b"")
-    return Answer(done.returncode, done.stdout, done.stderr)
+    with begin(words, cwd=folder, env=environment, stdin=subprocess.DEVNULL, stdout=subprocess.PIPE,
+               stderr=subprocess.PIPE) as process:
+        try:
+            out, err = process.communicate(timeout=seconds)
+        except subprocess.TimeoutExpired:
+            process.kill()
+            return Answer(None, b"", b"")
+    return Answer(process.returncode, out, err)
 
 
 # A pipe fails if one of its commands fails. `vault NAME [BLOCKS [FIRST]]` makes a vault with the registry `example`.
@@ -401,7 +414,8 @@ class Room:
         """Writes a file, and makes the folders that it is in."""
         path = self.folder / name
         path.parent.mkdir(parents=True, exist_ok=True)
-        path.write_bytes(content.encode() if isinstance(content, str) else content)
+        with _beginning:
+            path.write_bytes(content.encode() if isinstance(content, str) else content)
         return path
 
     def run(self, command: str) -> Answer:

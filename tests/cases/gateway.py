@@ -11,7 +11,8 @@ from collections.abc import Callable, Iterator
 from concurrent.futures import ThreadPoolExecutor
 
 from http_sockets import LARGE_HELD, kept
-from lib import DAY, EXPLAINED, FIVE, PART, TEN, TOP, Room, Skip, case, free_port, notice, part_name, state, statement
+from lib import (
+    DAY, EXPLAINED, FIVE, PART, TEN, TOP, Room, Skip, answer_of, begin, case, free_port, notice, part_name, state, statement)
 
 TOOLS = "curl nginx openssl"
 SECOND, THIRD, OTHER = part_name(part=2), part_name(part=3), part_name(tld="other")
@@ -108,7 +109,7 @@ def gateway(room: Room, port: int, second: int = 0) -> Iterator[Ask]:
         return room.run(f"url=https://127.0.0.1:{tls}; curl -s -m 60 --path-as-is --cacert pki/server.pem {known} "
                         f"-w '%{{http_code}} %{{content_type}}' {words}").out
 
-    with subprocess.Popen(nginx(room), stderr=subprocess.DEVNULL) as process:
+    with begin(nginx(room), stderr=subprocess.DEVNULL) as process:
         try:
             started, end = room.folder / "nginx.pid", time.monotonic() + 30
             while not started.exists() and process.poll() is None and time.monotonic() < end:
@@ -135,8 +136,8 @@ def nginx_accepts_the_file_as_it_is(room: Room) -> None:
         raise Skip("only root may listen on port 443")
     certificates(room)
     configuration(room)
-    tested = subprocess.run([*nginx(room), "-t"], capture_output=True, text=True, timeout=30)
-    room.equal((0, []), (tested.returncode, re.findall(r".*\[\w+\].*", tested.stderr)), "nginx -t")
+    tested = answer_of([*nginx(room), "-t"])
+    room.equal((0, []), (tested.status, re.findall(r".*\[\w+\].*", tested.err.decode())), "nginx -t")
 
 
 @case(TOOLS)

@@ -10,7 +10,7 @@ import time
 from collections.abc import Iterator, Sequence
 from pathlib import Path
 
-from lib import LIMIT, PRELUDE, TOP, Answer, Room, Skip, answer_of
+from lib import LIMIT, PRELUDE, TOP, Answer, Room, Skip, answer_of, begin
 
 TOOLS = "nsenter setpriv systemctl unshare"
 PATHS = "/usr/local/sbin:/usr/local/bin:/usr/sbin:/usr/bin:/sbin:/bin"
@@ -118,7 +118,7 @@ def machine(room: Room) -> Iterator[Machine]:
     root.mkdir()
     with control_group(f"escrow-{above.name}") as group, tempfile.TemporaryFile("w+") as log:
         words = ["bash", "-c", START, group, INIT, root, TOP, room.program.parent, above]
-        process = subprocess.Popen(words, stdin=subprocess.DEVNULL, stdout=log, stderr=log)
+        process = begin(words, stdin=subprocess.DEVNULL, stdout=log, stderr=log)
         try:
             inside = words_for(process)
             if not inside:

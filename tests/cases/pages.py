@@ -8,12 +8,11 @@
 import contextlib
 import os
 import re
-import subprocess
 from collections.abc import Callable
 from pathlib import Path
 
 from demo.console import Console, write_deposits, write_tables
-from lib import CASES, PACKER, TOP, Room, case, each, free_port, steps
+from lib import CASES, PACKER, TOP, Room, answer_of, case, each, free_port, steps
 
 SETUP = """\
 $ mkdir vault
@@ -96,7 +95,7 @@ def a_file_is_executable_where_it_is_a_script(room: Room) -> None:
 
 @each((f"{it.relative_to(TOP)} has help", it) for it in SCRIPTS)
 def help_says_how_long_and_what_is_needed(room: Room, script: Path) -> None:
-    done = subprocess.run([script, "--help"], capture_output=True, text=True, stdin=subprocess.DEVNULL, timeout=5)
-    room.equal((0, ""), (done.returncode, done.stderr), f"{script} --help")
+    done = answer_of([script, "--help"], seconds=5)
+    room.equal((0, b""), (done.status, done.err), f"{script} --help")
     for form in ("second|minute|hour", "need"):
-        room.true(re.search(form, done.stdout), f"the help of {script} has no {form}")
+        room.true(re.search(form, done.out.decode()), f"the help of {script} has no {form}")

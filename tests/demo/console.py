@@ -8,7 +8,7 @@ import tempfile
 import time
 from pathlib import Path
 
-from lib import LIMIT, packed, part_name
+from lib import LIMIT, begin, packed, part_name
 
 CREATED = "2020-01-01T00:00:00Z"
 REGISTRY = {
@@ -51,8 +51,8 @@ class Console:
 
     def begin(self, command: str) -> subprocess.Popen[str]:
         """Begins a command of bash, whose output and errors come as one text."""
-        return subprocess.Popen(["bash", "-c", command], cwd=self.folder, env=self.environment, text=True,
-                                stdin=subprocess.DEVNULL, stdout=subprocess.PIPE, stderr=subprocess.STDOUT)
+        return begin(["bash", "-c", command], cwd=self.folder, env=self.environment, text=True, stdin=subprocess.DEVNULL,
+                     stdout=subprocess.PIPE, stderr=subprocess.STDOUT)
 
     def answer(self, command: str) -> list[str]:
         """The lines that a command prints. A server prints one line, and stays until `wait`."""
