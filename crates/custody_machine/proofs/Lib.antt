@@ -27,6 +27,7 @@ pub mod Noticed
 pub mod HandedOver
 pub mod HeldDays
 pub mod Purged
+pub mod DueKeys
 pub mod Compared
 pub mod Room
 pub mod Examples

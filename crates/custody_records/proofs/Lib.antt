@@ -1,4 +1,3 @@
-pub mod EachChanged
 pub mod FieldLemmas
 pub mod Gathered
 pub mod FormLemmas
@@ -9,3 +8,4 @@ pub mod MetaLemmas
 pub mod GroupLemmas
 pub mod LineLemmas
 pub mod Elements
+pub mod DropLemmas

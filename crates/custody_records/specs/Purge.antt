@@ -1,10 +1,11 @@
--- The records of parts after the bytes were dropped whose keeping year is over.
-use Rattle.std.specs.Prelude.{ℕ, nat_lt, ◌==◌, Bool, not, ◌&&◌, if◌then◌else◌, List, map, None, is_some, is_none}
+-- The records of parts after bytes were dropped: those whose keeping year is over, or those of some parts.
+use Rattle.std.specs.Prelude.{ℕ, nat_lt, ◌==◌, Bool, not, ◌&&◌, if◌then◌else◌, List, None, is_some, is_none}
 use Rattle.std.specs.FinMap.{FinMap, entries}
 use Rattle.std.specs.List.{list_any}
+use Rattle.std.specs.Ordering.{eq_by_cmp}
 use Rattle.std.specs.Str.{bytes_eq}
 use Rattle.schedule.specs.Schedule.{day_of, year_after}
-use Rattle.custody_records.specs.Keys.{text_cmp, PartKey}
+use Rattle.custody_records.specs.Keys.{text_cmp, part_cmp, PartKey}
 use Rattle.custody_records.specs.Records.{Hold, PartRecord}
 
 -- a hold of the part's registry and day that is not lifted
@@ -20,9 +21,15 @@ abbrev pub is_due : FinMap text_cmp Hold → ℕ → PartKey → PartRecord → 
 is_due holds today key part = is_some part.extents && (nat_lt (year_after (day_of part.received)) today && not (is_on_hold holds key))
 
 -- the record stays, without its bytes
-abbrev pub dropped_if_due : FinMap text_cmp Hold → ℕ → PartKey → PartRecord → PartRecord
-dropped_if_due holds today key part = if is_due holds today key part then record part { extents = None } else part
+abbrev pub dropped : PartRecord → PartRecord
+dropped part = record part { extents = None }
 
--- each part with its key
-abbrev pub entries_without_due : FinMap text_cmp Hold → ℕ → List (PartKey × PartRecord) → List (PartKey × PartRecord)
-entries_without_due holds today = map (λ (e : PartKey × PartRecord). (e.0, dropped_if_due holds today e.0 e.1))
+abbrev pub dropped_if_due : FinMap text_cmp Hold → ℕ → PartKey → PartRecord → PartRecord
+dropped_if_due holds today key part = if is_due holds today key part then dropped part else part
+
+-- the key is one of these
+abbrev pub is_among : List PartKey → PartKey → Bool
+is_among keys key = list_any (eq_by_cmp part_cmp key) keys
+
+abbrev pub dropped_if_among : List PartKey → PartKey → PartRecord → PartRecord
+dropped_if_among keys key part = if is_among keys key then dropped part else part

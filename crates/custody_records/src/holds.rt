@@ -4,12 +4,9 @@ ghost use Rattle.custody_records.specs.Form.{hold_in};
 ghost use Rattle.custody_records.specs.Keys.{text_cmp};
 ghost use Rattle.custody_records.specs.inside.Orders.{text_exact, text_total};
 ghost use Rattle.custody_records.specs.Records as records;
-ghost use Rattle.custody_records.specs.Purge.{is_hold_of_part, is_on_hold};
-ghost use Rattle.custody_records.specs.Tables.{table_map};
-ghost use Rattle.custody_records.specs.TypedRecords.{hold_entry, hold_key, hold_row, hold_value, key_of_part};
+ghost use Rattle.custody_records.specs.TypedRecords.{hold_entry, hold_key, hold_row, hold_value};
 
-use crate::Part;
-use crate::tables::{Keyed, SortedRows};
+use crate::tables::Keyed;
 use deposit_name::{Reference, Tld};
 use schedule::{Day, Sec};
 use std::cmp::Ordering;
@@ -55,24 +52,6 @@ impl HoldColumns<'_> {
             at,
             lifted,
         })
-    }
-}
-
-impl Hold {
-    /// Whether the hold is of the part's registry and day, and not lifted.
-    fn holds(&self, part: &Part) -> bool
-        ensures { result ≡ is_hold_of_part (key_of_part part.now) (hold_entry self.now) }
-    {
-        self.lifted.is_none() && self.tld == part.name.tld && self.day == part.name.day
-    }
-}
-
-impl SortedRows<Hold> {
-    /// Whether the part's day is on hold.
-    pub(crate) fn hold(&self, part: &Part) -> bool
-        ensures { result ≡ is_on_hold (table_map text_cmp hold_key hold_value self.now.rows.items) (key_of_part part.now) }
-    {
-        self.rows.iter().any(|hold| hold.holds(part))
     }
 }
 

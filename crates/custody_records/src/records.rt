@@ -1,13 +1,14 @@
 //! The records of a custody in memory.
 ghost use Rattle.std.specs.Prelude.{◌≡◌, true, None, IsSome, IfSome, OnOk, OnErr, IsErrOf, option_map, option_copied};
-ghost use Rattle.std.specs.FinMap.{get, entries};
-ghost use Rattle.custody_records.specs.Purge.{entries_without_due, is_due};
+ghost use Rattle.std.specs.FinMap.{get};
+ghost use Rattle.custody_records.specs.Keys as by;
+ghost use Rattle.custody_records.specs.Purge.{dropped_if_among};
 ghost use Rattle.custody_records.specs.Keys.{text_cmp, part_cmp, notice_cmp};
 ghost use Rattle.custody_records.specs.Tables.{row_entries, is_rising, table_map};
 ghost use Rattle.custody_records.specs.TypedRecords.{registry_key, registry_value, key_of_part, part_value, notice_key, notice_value, release_key, release_value, hold_key, hold_value};
 
 use crate::tables::SortedRows;
-use crate::{Hold, NoticeKey, Part, PartKey, Registry, Release, RowError, purging};
+use crate::{Hold, NoticeKey, Part, PartKey, Registry, Release, RowError};
 use deposit_name::{DepositName, Reference, Tld};
 use desk::{Notice, NoticeKind};
 use schedule::{Day, Sec};
@@ -205,20 +206,12 @@ impl Records {
         self.parts.add(part);
     }
 
-    /// Whether the bytes of a part are held, the last day of their keeping is before today, and its day
-    /// is not on hold.
-    pub fn is_due(&self, part: &Part, today: Day) -> bool
-        ensures { result ≡ is_due (records_of self.now).holds today (key_of_part part.now) (part_value part.now) }
-    {
-        purging::is_due(part, &self.holds, today)
-    }
-
-    /// Drops the bytes of the parts that are due, without taking memory.
-    pub fn drop_due(&mut self, today: Day)
-        ensures parts { entries (records_of self.new).parts ≡ entries_without_due (records_of self.old).holds today (entries (records_of self.old).parts) }
+    /// Drops the bytes of the parts with these keys, without taking memory. Their records stay.
+    pub fn drop_bytes(&mut self, keys: &[PartKey])
+        ensures parts { (key : by.PartKey) → get (records_of self.new).parts key ≡ option_map (dropped_if_among keys.now key) (get (records_of self.old).parts key) }
         ensures others { records_of self.new ≡ record (records_of self.old) { parts = (records_of self.new).parts } }
     {
-        self.parts.drop_due(&self.holds, today);
+        self.parts.drop_bytes(keys);
     }
 
     /// Adds a part, or refuses one that is there.
