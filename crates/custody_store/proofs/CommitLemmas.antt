@@ -148,9 +148,9 @@ module _ (sql : List ℕ) (params : Row) (command : Command) (means : IsMeaning 
         | inr wrote ↦ (wrote.1, wrote.2, wrote.3, wrote.4, wrote.5)
       ]
 
-  pub written : (old new : State) (count : ℕ) → Executes sql params old new (Ok count) → IsReady old → Writes old new None command (statement_of sql (understood old.now.schema sql)) params count
-  written old new count h ready =
-      let over = means_in old.now.schema ready.tables.begins in
+  pub written : (old new : State) (count : ℕ) → Executes sql params old new (Ok count) → SchemaBeginsWith record_schema.tables old.now.schema → Writes old new None command (statement_of sql (understood old.now.schema sql)) params count
+  written old new count h begins =
+      let over = means_in old.now.schema begins in
       writes.runs old new _ params count (runs_as sql params old new old.now.schema refl command over.is over.plain count h)
 
   module _ (old new : State) (change : Rows → Rows) (effect : IsReady old → Changes old sql params command change) (settled : LeavesCommitted new) (survives : Survives old new (CommitsBy sql params old)) where
@@ -162,7 +162,7 @@ module _ (sql : List ℕ) (params : Row) (command : Command) (means : IsMeaning 
 
     wrote : {A E : Type 0} (x : A) (count : ℕ) → Executes sql params old new (Ok count) → HasCleanDisk new → IsReady old → IsOneCommit {E = E} (as_store_state old) (as_store_state new) (change (rows_in old.now.trees)) (Ok x)
     wrote x count h clean ready =
-        let w = written old new count h ready in
+        let w = written old new count h ready.tables.begins in
         let made = effect ready w.tally new.now w.changed w.sound in
         let committed : new.committed ≡ new.now = rw ready.rest.autocommit at w.shown.committed_is in
         let autocommit = w.shown.mode ∙ ready.rest.autocommit in

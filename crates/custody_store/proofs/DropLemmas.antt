@@ -1,49 +1,50 @@
--- The UPDATE that drops the bytes of the parts whose keeping is over, and whose day is not on hold, changes just their rows.
-use Rattle.std.proofs.Common.{◌≡◌, inl, inr, ℕ, pos, ◌&&◌, Bool, true, false, cond, min, not, List, [], ◌∷◌, map, None, Ok, Err, Result, IfOk, refl, sym, ap, ap₂, ◌∙◌}
-use Rattle.std.specs.Prelude.{length, unwrap_or, int_lt}
-use Rattle.std.specs.List.{list_all}
+-- The UPDATE that drops the bytes of a part changes just the row of its key, and several in turn just the rows of theirs.
+use Rattle.std.proofs.Common.{◌≡◌, inl, inr, ℕ, pos, ◌&&◌, Bool, true, false, cond, List, [], ◌∷◌, map, Option, Some, None, Ok, refl, sym, ap, ap₂, subst, ◌∙◌}
+use Rattle.std.specs.Prelude.{option_map}
+use Rattle.std.specs.List.{list_any}
 use Rattle.std.specs.Str.{bytes_eq}
 use Rattle.std.proofs.lemmas.Bool.{cases_Bool, and_parts}
-use Rattle.sqlite.specs.declared.types.Value.{Value}
-use Rattle.sqlite.specs.declared.types.Value.TheVariants.{Null, Int, Text}
+use Rattle.std.proofs.lemmas.List.{map-id}
+use Rattle.sqlite.specs.declared.types.Value.TheVariants.{Int, Text}
 use Rattle.sqlite.specs.Order.{Row, column, bytes}
-use Rattle.sqlite.specs.Ops.{unary, binary, is_true}
-use Rattle.sqlite_sql.specs.declared.ops.UnaryOp.TheVariants.{Not}
-use Rattle.sqlite_sql.specs.declared.ops.BinaryOp.TheVariants.{Is, Compare}
-use Rattle.sqlite_sql.specs.declared.ops.CompareOp.TheVariants.{Eq, Lt}
+use Rattle.sqlite.specs.Ops.{binary, is_true}
+use Rattle.sqlite_sql.specs.declared.ops.BinaryOp.TheVariants.{Compare}
+use Rattle.sqlite_sql.specs.declared.ops.CompareOp.TheVariants.{Eq}
 use Rattle.sqlite.specs.Collation.TheVariants.{Binary}
-use Rattle.sqlite.specs.Term.{Env, holds}
-use Rattle.sqlite.specs.Query.{inner, end, matches}
 use Rattle.sqlite.specs.Cast.{cast}
 use Rattle.sqlite.specs.Kind.TheVariants as kinds
 use Rattle.sqlite_schema.specs.declared.schema.Constraint.TheVariants.{Datatype, NotNull}
+use Rattle.sqlite.specs.Schema.{Schema}
 use Rattle.sqlite.specs.Table.{Table}
 use Rattle.sqlite.specs.Tree.{Trees}
 use Rattle.sqlite.specs.Command.TheVariants.{Update}
 use Rattle.sqlite.specs.Edit.{id_in}
-use Rattle.sqlite.specs.Effect.{Database}
-use Rattle.sqlite.specs.Does.{Tally, Does}
-use Rattle.sqlite.specs.State.{State, HasCleanDisk, Executes, mode_of}
+use Rattle.sqlite.specs.State.{State, ExecutesInside}
+use Rattle.sqlite.specs.Store.{Ghosts}
+use Rattle.sqlite.specs.Held.{Held, state}
+use Rattle.sqlite_catalog.specs.Listing.{IsSound}
 use Rattle.sqlite_rules.specs.Lists.{Has}
 use Rattle.sqlite_rules.proofs.ListLemmas.{all_has, has_front}
-use Rattle.custody_store.proofs.AmongLemmas.{record_quiet}
 use Rattle.sqlite_keyed.proofs.ListLemmas.{map-map}
 use Rattle.sqlite.specs.Listing.{understood}
 use Rattle.sqlite.proofs.Callers.{statement_of}
+use Rattle.custody_records.specs.Keys.{PartKey}
+use Rattle.custody_records.specs.Rows.{PartRow, Rows}
+use Rattle.custody_store.specs.Calls.{AreRun}
+use Rattle.custody_store.specs.Dropping.{is_row_of, is_same_number, dropped_row, row_dropped_if_among, rows_without_bytes}
+use Rattle.custody_store.specs.Reading.{stored_part_row}
 use Rattle.custody_store.specs.Schema.{record_schema, part_table}
-use Rattle.custody_store.specs.Reading.{rows_in, stored_part_row, stored_hold_row}
-use Rattle.custody_store.specs.Dropping.{is_hold_of_row, is_due_row, dropped_row, row_dropped_if_due, rows_without_due, count_due_rows, is_same_number}
-use Rattle.custody_store.specs.StoreState.{HasTablesAmongOthers, IsReady}
-use Rattle.custody_store.specs.Statements.{drop_due_text, drop_due_values}
-use Rattle.custody_store.proofs.StatementLemmas.{hold_tests, parts_and_holds, due_tests, dropped_places, drop_due_program, drop_due_is}
-use Rattle.custody_store.proofs.TableLemmas.{rows_among}
-use Rattle.custody_store.proofs.HoldLemmas.{IsHoldRow, hold_rows, hold_at}
-use Rattle.custody_store.proofs.EditLemmas.{changed_where}
-use Rattle.custody_store.proofs.UpdateLemmas.{Rewrites, rewrites, passes, heir}
+use Rattle.custody_store.specs.Statements.{drop_bytes_text, drop_bytes_values, drop_bytes_statements}
+use Rattle.custody_store.specs.StoreState.{HasTablesAmongOthers}
+use Rattle.custody_store.specs.inside.Making.{HasRows}
+use Rattle.custody_store.proofs.AmongLemmas.{record_quiet}
 use Rattle.custody_store.proofs.ColumnLemmas.{cast_at, int_at, text_at}
-use Rattle.custody_store.proofs.TestLemmas.{is_held, is_unset, is_over, is_number, is_text, none_counted, any_same, map_has, count_same}
 use Rattle.custody_store.proofs.CommitLemmas.{Changes, one_table, written, update_writes}
-use Rattle.custody_store.proofs.RowLemmas.{at_tree}
+use Rattle.custody_store.proofs.EditLemmas.{changed_where}
+use Rattle.custody_store.proofs.RowLemmas.{at_tree, either}
+use Rattle.custody_store.proofs.StatementLemmas.{drop_bytes_tests, dropped_places, drop_bytes_program, drop_bytes_is}
+use Rattle.custody_store.proofs.TestLemmas.{is_number, is_text, map_has}
+use Rattle.custody_store.proofs.UpdateLemmas.{rewrites, passes, heir}
 
 abbrev part_at : Table
 part_at = at_tree 3 part_table
@@ -55,139 +56,126 @@ record IsPartRow (r : Row) : Type 0 where
   day : cast kinds.Integer (column r 2) ≡ column r 2
   day_int : column r 2 ≡ Int (id_in (column r 2))
   rev : cast kinds.Integer (column r 3) ≡ column r 3
+  rev_int : column r 3 ≡ Int (id_in (column r 3))
   part : cast kinds.Integer (column r 4) ≡ column r 4
+  part_int : column r 4 ≡ Int (id_in (column r 4))
   kind : cast kinds.Text (column r 5) ≡ column r 5
   received : cast kinds.Integer (column r 6) ≡ column r 6
   keep_day : cast kinds.Integer (column r 7) ≡ column r 7
-  keep_int : column r 7 ≡ Int (id_in (column r 7))
   len : cast kinds.Integer (column r 8) ≡ column r 8
 
--- ---- one row
-
--- 1 where the part's day is on hold, and else 0
-abbrev counted_beside : ℕ → Trees → Row → Value
-counted_beside today trees r = Int (pos (min 1 (length (matches trees hold_tests (inner 9 end) (drop_due_values today ∷ r ∷ [])))))
-
-abbrev among : ℕ → Trees → Row → Env
-among today trees r = drop_due_values today ∷ r ∷ (counted_beside today trees r ∷ []) ∷ []
-
-abbrev due : ℕ → Trees → Row → Bool
-due today trees = passes due_tests (among today trees)
-
--- the row that comes in the place of a row
-abbrev dropped : ℕ → Trees → Row → Row
-dropped today trees = heir part_at dropped_places (among today trees)
-
-turned : (a b c : Bool) → (a && (b && (c && true))) ≡ (c && (a && b))
-turned true true true = refl
-turned true true false = refl
-turned true false true = refl
-turned true false false = refl
-turned false b true = refl
-turned false b false = refl
-
-in_turn : (a b c : Bool) → (a && (b && (c && true))) ≡ (a && (b && c))
-in_turn true true true = refl
-in_turn true true false = refl
-in_turn true false c = refl
-in_turn false b c = refl
+part_rows : (schema : Schema) (trees : Trees) → IsSound schema trees → Has schema.tables part_at → (r : Row) → Has (trees 3) r → IsPartRow r
+part_rows schema trees sound listed r has =
+    let typed = (and_parts _ _ (all_has _ (trees 3) r (all_has _ schema.tables part_at (sound.obeys.rules Datatype) listed) has)).0 in
+    let present = all_has _ (trees 3) r (all_has _ schema.tables part_at (sound.obeys.rules NotNull) listed) has in
+    record {
+      tld = cast_at part_at r typed 0 _ refl refl refl refl;
+      tld_text = text_at part_at r typed present 0 _ refl refl refl refl refl;
+      day = cast_at part_at r typed 1 _ refl refl refl refl;
+      day_int = int_at part_at r typed present 1 _ refl refl refl refl refl;
+      rev = cast_at part_at r typed 2 _ refl refl refl refl;
+      rev_int = int_at part_at r typed present 2 _ refl refl refl refl refl;
+      part = cast_at part_at r typed 3 _ refl refl refl refl;
+      part_int = int_at part_at r typed present 3 _ refl refl refl refl refl;
+      kind = cast_at part_at r typed 4 _ refl refl refl refl;
+      received = cast_at part_at r typed 5 _ refl refl refl refl;
+      keep_day = cast_at part_at r typed 6 _ refl refl refl refl;
+      len = cast_at part_at r typed 7 _ refl refl refl refl;
+    }
 
 abbrev both : Bool → Bool → Bool
 both a b = a && b
 
--- a hold of the part's day passes the tests of the statement
-hold_passes : (today : ℕ) (r h : Row) → IsPartRow r → IsHoldRow h → list_all (holds (drop_due_values today ∷ r ∷ h ∷ [])) hold_tests ≡ is_hold_of_row (stored_part_row r) (stored_hold_row h)
-hold_passes today r h part hold =
-    let tld : is_true (binary (Compare Eq Binary) (column h 2) (column r 1)) ≡ bytes_eq (bytes (column h 2)) (bytes (column r 1)) =
-    ap₂ (λ a b. is_true (binary (Compare Eq Binary) a b)) hold.tld_text part.tld_text ∙ is_text (bytes (column h 2)) (bytes (column r 1)) in
-    let day : is_true (binary (Compare Eq Binary) (column h 3) (column r 2)) ≡ is_same_number (id_in (column h 3)) (id_in (column r 2)) =
-    ap₂ (λ a b. is_true (binary (Compare Eq Binary) a b)) hold.day_int part.day_int ∙ is_number (id_in (column h 3)) (id_in (column r 2)) in
-    turned (is_true (binary (Compare Eq Binary) (column h 2) (column r 1))) (is_true (binary (Compare Eq Binary) (column h 3) (column r 2))) (is_true (binary (Is Binary) (column h 5) Null))
-    ∙ ap₂ both (is_unset (column h 5)) (ap₂ both tld day)
+in_turn : (a b c d : Bool) → (a && (b && (c && (d && true)))) ≡ (a && (b && (c && d)))
+in_turn true true true true = refl
+in_turn true true true false = refl
+in_turn true true false d = refl
+in_turn true false c d = refl
+in_turn false b c d = refl
 
-module _ (today : ℕ) (trees : Trees) (held : (h : Row) → Has (trees 9) h → IsHoldRow h) (r : Row) (is : IsPartRow r) where
-  abbrev counted_at : Value
-  counted_at = counted_beside today trees r
+-- ---- the rows, key after key
 
-  due_is : due today trees r ≡ is_due_row (map stored_hold_row (trees 9)) today (stored_part_row r)
-  due_is =
-      let over : is_true (binary (Compare Lt Binary) (column r 7) (Int (pos today))) ≡ int_lt (id_in (column r 7)) (pos today) =
-      ap (λ v. is_true (binary (Compare Lt Binary) v (Int (pos today)))) is.keep_int ∙ is_over (id_in (column r 7)) (pos today) in
-      let on_hold = none_counted (λ h. list_all (holds (drop_due_values today ∷ r ∷ h ∷ [])) hold_tests) (λ h. drop_due_values today ∷ r ∷ h ∷ []) (trees 9)
-      ∙ ap not (any_same _ (is_hold_of_row (stored_part_row r)) stored_hold_row (trees 9) (λ h k. hold_passes today r h is (held h k))) in
-      in_turn (is_true (unary Not (binary (Is Binary) (column r 10) Null))) (is_true (binary (Compare Lt Binary) (column r 7) (Int (pos today)))) (is_true (unary Not counted_at))
-      ∙ ap₂ both (is_held (column r 10)) (ap₂ both over on_hold)
+-- the row of this part is without its bytes
+abbrev row_dropped_if_of : PartKey → PartRow → PartRow
+row_dropped_if_of key row = cond (is_row_of row key) (dropped_row row) row
 
-  dropped_is : stored_part_row (dropped today trees r) ≡ dropped_row (stored_part_row r)
-  dropped_is = rw (is.tld, is.day, is.rev, is.part, is.kind, is.received, is.keep_day, is.len) refl
+abbrev rows_without_bytes_of : PartKey → Rows → Rows
+rows_without_bytes_of key rows = record rows { parts = option_map (map (row_dropped_if_of key)) rows.parts }
 
-  part_row_is : stored_part_row (cond (due today trees r) (dropped today trees r) r) ≡ row_dropped_if_due (map stored_hold_row (trees 9)) today (stored_part_row r)
-  part_row_is = elim (cases_Bool (due today trees r)) [
-    | inl yes_due ↦ let also = sym due_is ∙ yes_due in rw (yes_due, also) dropped_is
-    | inr not_due ↦ let also = sym due_is ∙ not_due in rw (not_due, also) refl
+-- a row without its bytes has the key that it had
+then_among : (key : PartKey) (keys : List PartKey) (row : PartRow) → row_dropped_if_among keys (row_dropped_if_of key row) ≡ row_dropped_if_among (key ∷ keys) row
+then_among key keys row = elim (cases_Bool (is_row_of row key)) [
+  | inl is ↦ rw is (either (list_any (is_row_of row) keys) (dropped_row row))
+  | inr other ↦ rw other refl
+]
+
+maps_then : {X : Type 0} (f g h : X → X) (o : Option (List X)) → ((x : X) → g (f x) ≡ h x) → option_map (map g) (option_map (map f) o) ≡ option_map (map h) o
+maps_then f g h None same = refl
+maps_then f g h (Some xs) same = ap Some (map-map g f xs ∙ map_has _ _ xs (λ x _. same x))
+
+maps_none : {X : Type 0} (o : Option (List X)) → o ≡ option_map (map (λ x. x)) o
+maps_none None = refl
+maps_none (Some xs) = ap Some (sym (map-id xs))
+
+without_none : (rows : Rows) → rows ≡ rows_without_bytes [] rows
+without_none rows = ap (λ parts. record rows { parts = parts }) (maps_none rows.parts)
+
+without_next : (key : PartKey) (keys : List PartKey) (rows : Rows) → rows_without_bytes keys (rows_without_bytes_of key rows) ≡ rows_without_bytes (key ∷ keys) rows
+without_next key keys rows = ap (λ parts. record rows { parts = parts }) (maps_then (row_dropped_if_of key) (row_dropped_if_among keys) (row_dropped_if_among (key ∷ keys)) rows.parts (then_among key keys))
+
+module _ (key : PartKey) where
+  abbrev sought : Row → Bool
+  sought = passes drop_bytes_tests (drop_bytes_values key)
+
+  -- the row that comes in the place of a row
+  abbrev dropped : Row → Row
+  dropped = heir part_at dropped_places (drop_bytes_values key)
+
+  -- ---- one row
+
+  sought_is : (r : Row) → IsPartRow r → sought r ≡ is_row_of (stored_part_row r) key
+  sought_is r is =
+      let tld : is_true (binary (Compare Eq Binary) (column r 1) (Text key.tld)) ≡ bytes_eq (bytes (column r 1)) key.tld =
+      ap (λ v. is_true (binary (Compare Eq Binary) v (Text key.tld))) is.tld_text ∙ is_text (bytes (column r 1)) key.tld in
+      let day : is_true (binary (Compare Eq Binary) (column r 2) (Int (pos key.day))) ≡ is_same_number (id_in (column r 2)) (pos key.day) =
+      ap (λ v. is_true (binary (Compare Eq Binary) v (Int (pos key.day)))) is.day_int ∙ is_number (id_in (column r 2)) (pos key.day) in
+      let rev : is_true (binary (Compare Eq Binary) (column r 3) (Int (pos key.rev))) ≡ is_same_number (id_in (column r 3)) (pos key.rev) =
+      ap (λ v. is_true (binary (Compare Eq Binary) v (Int (pos key.rev)))) is.rev_int ∙ is_number (id_in (column r 3)) (pos key.rev) in
+      let part : is_true (binary (Compare Eq Binary) (column r 4) (Int (pos key.part))) ≡ is_same_number (id_in (column r 4)) (pos key.part) =
+      ap (λ v. is_true (binary (Compare Eq Binary) v (Int (pos key.part)))) is.part_int ∙ is_number (id_in (column r 4)) (pos key.part) in
+      in_turn (is_true (binary (Compare Eq Binary) (column r 1) (Text key.tld))) (is_true (binary (Compare Eq Binary) (column r 2) (Int (pos key.day))))
+      (is_true (binary (Compare Eq Binary) (column r 3) (Int (pos key.rev)))) (is_true (binary (Compare Eq Binary) (column r 4) (Int (pos key.part))))
+      ∙ ap₂ both tld (ap₂ both day (ap₂ both rev part))
+
+  part_row_is : (r : Row) → IsPartRow r → stored_part_row (cond (sought r) (dropped r) r) ≡ row_dropped_if_of key (stored_part_row r)
+  part_row_is r is = elim (cases_Bool (sought r)) [
+    | inl found ↦ let also = sym (sought_is r is) ∙ found in rw (found, also, is.tld, is.day, is.rev, is.part, is.kind, is.received, is.keep_day, is.len) refl
+    | inr other ↦ let also = sym (sought_is r is) ∙ other in rw (other, also) refl
   ]
 
--- ---- the whole table
-
-module _ (today : ℕ) (s : State) (tables : HasTablesAmongOthers record_schema.tables s.now) where
-  abbrev parts : List Row
-  parts = s.now.trees 3
-
-  holds_are : (h : Row) → Has (s.now.trees 9) h → IsHoldRow h
-  holds_are = hold_rows s.now.schema s.now.trees tables.sound (has_front s.now.schema.tables record_schema.tables tables.begins.0 hold_at tables.begins.1 (inr (inr (inr (inr (inr (inl refl)))))))
-
-  part_listed : Has s.now.schema.tables part_at
-  part_listed = has_front s.now.schema.tables record_schema.tables tables.begins.0 part_at tables.begins.1 (inr (inr (inl refl)))
-
-  part_rows : (r : Row) → Has parts r → IsPartRow r
-  part_rows r h =
-      let typed = (and_parts _ _ (all_has _ parts r (all_has _ s.now.schema.tables part_at (tables.sound.obeys.rules Datatype) part_listed) h)).0 in
-      let present = all_has _ parts r (all_has _ s.now.schema.tables part_at (tables.sound.obeys.rules NotNull) part_listed) h in
-      record {
-        tld = cast_at part_at r typed 0 _ refl refl refl refl;
-        tld_text = text_at part_at r typed present 0 _ refl refl refl refl refl;
-        day = cast_at part_at r typed 1 _ refl refl refl refl;
-        day_int = int_at part_at r typed present 1 _ refl refl refl refl refl;
-        rev = cast_at part_at r typed 2 _ refl refl refl refl;
-        part = cast_at part_at r typed 3 _ refl refl refl refl;
-        kind = cast_at part_at r typed 4 _ refl refl refl refl;
-        received = cast_at part_at r typed 5 _ refl refl refl refl;
-        keep_day = cast_at part_at r typed 6 _ refl refl refl refl;
-        keep_int = int_at part_at r typed present 6 _ refl refl refl refl refl;
-        len = cast_at part_at r typed 7 _ refl refl refl refl;
-      }
-
-  drops : (tally : Tally) (after : Database)
-      → Does s.step_limit (mode_of s) (drop_due_values today) s.now (statement_of drop_due_text (understood s.now.schema drop_due_text)) None (Update 2 drop_due_program) (Ok (tally, after))
-      → Rewrites record_schema.tables 3 (due today s.now.trees) (dropped today s.now.trees) s.now tally after
-  drops tally after does =
-      rewrites record_schema.tables record_quiet s 2 part_at parts_and_holds due_tests dropped_places (drop_due_values today) (among today s.now.trees) (statement_of drop_due_text (understood s.now.schema drop_due_text)) tables.begins tables.apart (inr (inr (inl refl))) (λ others. refl) refl tables.ordered.1.1.0 (λ r. refl) (λ r. refl) tally after does
+  -- ---- the whole table
 
   -- the rows after it, and the tables stay as they are made
-  pub changes_due : Changes s drop_due_text (drop_due_values today) (Update 2 drop_due_program) (rows_without_due today)
-  changes_due tally after does sound =
-      let it = drops tally after does in
+  changes_dropped : (s : State) → HasTablesAmongOthers record_schema.tables s.now → Changes s drop_bytes_text (drop_bytes_values key) (Update 2 drop_bytes_program) (rows_without_bytes_of key)
+  changes_dropped s tables tally after does sound =
       let trees = s.now.trees in
-      let drop = row_dropped_if_due (map stored_hold_row (trees 9)) today in
-      let read : map stored_part_row (changed_where (due today trees) (dropped today trees) parts) ≡ map drop (map stored_part_row parts) =
-      map-map stored_part_row (λ r. cond (due today trees r) (dropped today trees r) r) parts ∙ map_has _ _ parts (λ r h. part_row_is today trees holds_are r (part_rows r h)) ∙ sym (map-map drop stored_part_row parts) in
-      one_table s tables after 3 (rows_without_due today) it.schema sound it.shaped it.others (rw (it.here, read) refl)
+      let listed = has_front s.now.schema.tables record_schema.tables tables.begins.0 part_at tables.begins.1 (inr (inr (inl refl))) in
+      let it = rewrites record_schema.tables record_quiet s 2 part_at drop_bytes_tests dropped_places (drop_bytes_values key) (statement_of drop_bytes_text (understood s.now.schema drop_bytes_text)) tables.begins tables.apart (inr (inr (inl refl))) (λ others. refl) tables.ordered.1.1.0 (λ r. refl) (λ r. refl) tally after does in
+      let read : map stored_part_row (changed_where sought dropped (trees 3)) ≡ map (row_dropped_if_of key) (map stored_part_row (trees 3)) =
+      map-map stored_part_row (λ r. cond (sought r) (dropped r) r) (trees 3) ∙ map_has _ _ (trees 3) (λ r h. part_row_is r (part_rows s.now.schema trees tables.sound listed r h)) ∙ sym (map-map (row_dropped_if_of key) stored_part_row (trees 3)) in
+      one_table s tables after 3 (rows_without_bytes_of key) it.schema sound it.shaped it.others (rw (it.here, read) refl)
 
-  -- how many rows it changed
-  counts_due : (tally : Tally) (after : Database)
-      → Does s.step_limit (mode_of s) (drop_due_values today) s.now (statement_of drop_due_text (understood s.now.schema drop_due_text)) None (Update 2 drop_due_program) (Ok (tally, after))
-      → unwrap_or tally.rows 0 ≡ count_due_rows today (rows_in s.now.trees)
-  counts_due tally after does =
-      let it = drops tally after does in
-      ap (λ o. unwrap_or o 0) it.counted
-      ∙ count_same (due today s.now.trees) (is_due_row (map stored_hold_row (s.now.trees 9)) today) stored_part_row parts (λ r h. due_is today s.now.trees holds_are r (part_rows r h))
-      ∙ sym (ap (count_due_rows today) (rows_among s.now.trees s.now.schema tables.begins tables.sound))
+  -- ---- in a transaction
 
--- the count that the statement answers
-pub drops_count : {E : Type 0} (today : ℕ) (old new : State) (r : Result ℕ E)
-    → (HasCleanDisk new → IfOk r (λ count. Executes drop_due_text (drop_due_values today) old new (Ok count)))
-    → HasCleanDisk new → IsReady old → IfOk r (λ count. count ≡ count_due_rows today (rows_in old.now.trees))
-drops_count today old new (Err e) h clean ready = tt
-drops_count today old new (Ok count) h clean ready =
-    let w = written drop_due_text (drop_due_values today) (Update 2 drop_due_program) drop_due_is (update_writes 2 drop_due_program) old new count (h clean) ready in
-    w.counted ∙ counts_due today old ready.tables w.tally new.now w.changed
+  drops_one : (schema : Schema) (rows : Rows) (old new : State) (count : ℕ) → HasRows schema rows old → ExecutesInside 0 drop_bytes_text (drop_bytes_values key) old new (Ok count) → HasRows schema (rows_without_bytes_of key rows) new
+  drops_one schema rows old new count has h =
+      let w = written drop_bytes_text (drop_bytes_values key) (Update 2 drop_bytes_program) drop_bytes_is (update_writes 2 drop_bytes_program) old new count h.0 has.tables.begins in
+      let made = changes_dropped old has.tables w.tally new.now w.changed w.sound in
+      record { schema_is = made.0 ∙ has.schema_is; tables = made.1; rows_are = made.2 ∙ ap (rows_without_bytes_of key) has.rows_are }
+
+-- the statements of these keys, in turn
+pub drops_each : {S : Type 0} (g : Ghosts S) (keys : List PartKey) (schema : Schema) (rows : Rows) (old new : Held S) → HasRows schema rows (state g old) → AreRun g (drop_bytes_statements keys) old new → HasRows schema (rows_without_bytes keys rows) (state g new)
+drops_each g [] schema rows old new has same = subst (λ h. HasRows schema (rows_without_bytes [] rows) (state g h)) same (subst (λ r. HasRows schema r (state g old)) (without_none rows) has)
+drops_each g (key ∷ keys) schema rows old new has ran =
+    subst (λ r. HasRows schema r (state g new)) (without_next key keys rows)
+    (drops_each g keys schema (rows_without_bytes_of key rows) ran.1 new (drops_one key schema rows (state g old) (state g ran.1) ran.0 has ran.2) ran.3)

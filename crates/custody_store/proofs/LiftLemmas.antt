@@ -1,5 +1,5 @@
 -- The UPDATE that lifts a hold changes just the row of its reference.
-use Rattle.std.proofs.Common.{◌≡◌, inl, inr, ℕ, pos, ◌&&◌, Bool, true, false, cond, List, [], ◌∷◌, map, Result, refl, sym, ap, ◌∙◌}
+use Rattle.std.proofs.Common.{◌≡◌, inl, inr, ℕ, pos, ◌&&◌, Bool, true, false, cond, List, map, Result, refl, sym, ap, ◌∙◌}
 use Rattle.std.specs.Str.{bytes_eq}
 use Rattle.std.proofs.lemmas.Bool.{cases_Bool}
 use Rattle.sqlite.specs.declared.types.Value.TheVariants.{Text}
@@ -8,8 +8,6 @@ use Rattle.sqlite.specs.Ops.{binary, is_true}
 use Rattle.sqlite_sql.specs.declared.ops.BinaryOp.TheVariants.{Compare}
 use Rattle.sqlite_sql.specs.declared.ops.CompareOp.TheVariants.{Eq}
 use Rattle.sqlite.specs.Collation.TheVariants.{Binary}
-use Rattle.sqlite.specs.Term.{Env}
-use Rattle.sqlite.specs.Query.{inner, end}
 use Rattle.sqlite.specs.Command.TheVariants.{Update}
 use Rattle.sqlite.specs.State.{State}
 use Rattle.sqlite_keyed.proofs.ListLemmas.{map-map}
@@ -32,15 +30,12 @@ use Rattle.custody_store.proofs.AmongLemmas.{record_quiet}
 use Rattle.custody_store.proofs.RowLemmas.{cast_int}
 
 module _ (reference : List ℕ) (at : ℕ) where
-  abbrev among : Row → Env
-  among r = lift_values reference at ∷ r ∷ []
-
   abbrev sought : Row → Bool
-  sought = passes lift_tests among
+  sought = passes lift_tests (lift_values reference at)
 
   -- the row that comes in the place of a row
   abbrev lifted : Row → Row
-  lifted = heir hold_at lifted_places among
+  lifted = heir hold_at lifted_places (lift_values reference at)
 
   -- ---- one row
 
@@ -65,7 +60,7 @@ module _ (reference : List ℕ) (at : ℕ) where
   changes_lifted : (s : State) → HasTablesAmongOthers record_schema.tables s.now → Changes s lift_text (lift_values reference at) (Update 5 lift_program) (with_lifting reference at)
   changes_lifted s tables tally after does sound =
       let trees = s.now.trees in
-      let it = rewrites record_schema.tables record_quiet s 5 hold_at (inner 9 end) lift_tests lifted_places (lift_values reference at) among (statement_of lift_text (understood s.now.schema lift_text)) tables.begins tables.apart (inr (inr (inr (inr (inr (inl refl)))))) (λ others. refl) refl tables.ordered.1.1.1.1.1.0 (λ r. refl) (λ r. refl) tally after does in
+      let it = rewrites record_schema.tables record_quiet s 5 hold_at lift_tests lifted_places (lift_values reference at) (statement_of lift_text (understood s.now.schema lift_text)) tables.begins tables.apart (inr (inr (inr (inr (inr (inl refl)))))) (λ others. refl) tables.ordered.1.1.1.1.1.0 (λ r. refl) (λ r. refl) tally after does in
       let read : map stored_hold_row (changed_where sought lifted (trees 9)) ≡ map (row_with_lifting reference at) (map stored_hold_row (trees 9)) =
       map-map stored_hold_row (λ r. cond (sought r) (lifted r) r) (trees 9) ∙ map_has _ _ (trees 9) (λ r h. hold_row_is r (hold_rows s.now.schema trees tables.sound (has_front s.now.schema.tables record_schema.tables tables.begins.0 hold_at tables.begins.1 (inr (inr (inr (inr (inr (inl refl))))))) r h)) ∙ sym (map-map (row_with_lifting reference at) stored_hold_row (trees 9)) in
       one_table s tables after 9 (with_lifting reference at) it.schema sound it.shaped it.others (rw (it.here, read) refl)

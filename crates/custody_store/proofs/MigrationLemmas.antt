@@ -1,9 +1,7 @@
 -- The UPDATE that writes the number of schema 2 into meta, in the transaction that has made the table of holds.
-use Rattle.std.proofs.Common.{◌≡◌, inl, ℕ, pos, [], ◌∷◌, map, codes, None, Ok, refl, sym, ap, subst, ◌∙◌}
+use Rattle.std.proofs.Common.{◌≡◌, inl, ℕ, pos, [], map, codes, None, Ok, refl, sym, ap, subst, ◌∙◌}
 use Rattle.std.proofs.lemmas.Bool.{and_parts}
 use Rattle.sqlite.specs.Order.{Row}
-use Rattle.sqlite.specs.Term.{Env}
-use Rattle.sqlite.specs.Query.{inner, end}
 use Rattle.sqlite.specs.Table.{Table}
 use Rattle.sqlite.specs.Tree.{Trees, rowid, with_tree}
 use Rattle.sqlite.specs.Change.{next_tree}
@@ -43,12 +41,9 @@ without_holds trees = with_tree trees (next_tree first_schema) []
 abbrev meta_at : Table
 meta_at = at_tree 0 meta_table
 
-abbrev alone : Row → Env
-alone r = [] ∷ r ∷ []
-
 -- the row that comes in the place of a row
 abbrev set : Row → Row
-set = heir meta_at set_schema_places alone
+set = heir meta_at set_schema_places []
 
 abbrev in_schema_2 : MetaRow → MetaRow
 in_schema_2 row = record row { schema_no = pos 2 }
@@ -57,7 +52,7 @@ module _ (trees : Trees) (sound : IsSound record_schema trees) (shaped : IsShape
   set_is : stored_meta_row (set r) ≡ in_schema_2 (stored_meta_row r)
   set_is =
       let typed = (and_parts _ _ (all_has _ (trees 0) r (sound.obeys.rules Datatype).0 has)).0 in
-      let same_rowid : rowid (set r) ≡ rowid r = heir_rowid meta_at set_schema_places alone (trees 0) shaped (λ r. refl) r has in
+      let same_rowid : rowid (set r) ≡ rowid r = heir_rowid meta_at set_schema_places [] (trees 0) shaped (λ r. refl) r has in
       rw (same_rowid, cast_int (pos 2), cast_at meta_at r typed 2 _ refl refl refl refl, cast_at meta_at r typed 3 _ refl refl refl refl) refl
 
 -- schema 1 has no rows of holds
@@ -81,7 +76,7 @@ sets_schema first old new count tables making h =
     let shaped : IsShaped shape.Table (trees 0) = subst (IsShaped shape.Table) (sym was.0) up.0 in
     let begins : SchemaBeginsWith record_schema.tables old.now.schema = ([], ap (λ (t : Schema). t.tables) making.schema_is) in
     let apart = subst (λ (t : Schema). HaveOwnTrees t.tables) (sym making.schema_is) record_apart in
-    let it = rewrites record_schema.tables record_quiet old 0 meta_at (inner 0 end) [] set_schema_places [] alone text begins apart (inl refl) (λ others. refl) refl shaped (λ r. refl) (λ r. refl) w.tally new.now w.changed in
+    let it = rewrites record_schema.tables record_quiet old 0 meta_at [] set_schema_places [] text begins apart (inl refl) (λ others. refl) shaped (λ r. refl) (λ r. refl) w.tally new.now w.changed in
     let schema : new.now.schema ≡ record_schema = it.schema ∙ making.schema_is in
     let all = with_tree (without_holds first.trees) 0 (after 0) in
     let have = rows_after record_schema.tables 0 trees after (without_holds first.trees) (after 0) it.others refl was in

@@ -1,7 +1,6 @@
 -- Each INSERT adds one row at the end of its table.
 use Rattle.std.proofs.Common.{◌≡◌, ℕ, ℤ, List, [], ◌∷◌, ◌++◌, Bool, true, false, cond, Option, Some, None, Ok, Result, slice_get, refl, ap, subst, ◌∙◌}
 use Rattle.std.proofs.lemmas.List.{map-append}
-use Rattle.sqlite.specs.declared.types.Value.{Value}
 use Rattle.sqlite.specs.declared.types.Value.TheVariants.{Null, Int}
 use Rattle.sqlite.specs.Order.{Row}
 use Rattle.sqlite.specs.Tree.{Trees, with_tree}
@@ -31,7 +30,8 @@ use Rattle.custody_store.proofs.TableLemmas.{held_rows}
 use Rattle.custody_store.proofs.InsertLemmas.{puts, put_one, plain_table}
 use Rattle.custody_store.proofs.CommitLemmas.{Changes, one_table, commits_change, insert_writes}
 
-either : (b : Bool) (x : Value) → cond b x x ≡ x
+-- either way it is the same
+pub either : {X : Type 0} (b : Bool) (x : X) → cond b x x ≡ x
 either true x = refl
 either false x = refl
 

@@ -1,16 +1,15 @@
 -- What the texts of the statements mean, over each schema whose first tables are these.
 use Rattle.std.proofs.Common.{◌≡◌, List, [], ◌∷◌, ◌++◌, map, ℕ, zero, suc, pos, negsuc, codes, true, false, None, refl}
 use Rattle.sqlite.specs.declared.types.Value.TheVariants.{Null, Int}
-use Rattle.sqlite.specs.Term.{Term, lit, col, op1, op2}
-use Rattle.sqlite.specs.Query.{Query, Join, inner, counted, end}
+use Rattle.sqlite.specs.Term.{Term, lit, col, op2}
+use Rattle.sqlite.specs.Query.{Query, inner, end}
 use Rattle.sqlite.specs.Source.{Source}
 use Rattle.sqlite.specs.Source.TheVariants.{Values}
 use Rattle.sqlite.specs.Command.{Command}
 use Rattle.sqlite.specs.Command.TheVariants.{Insert, Select, Update}
 use Rattle.sqlite_schema.specs.declared.program.Program.{Program}
-use Rattle.sqlite_sql.specs.declared.ops.UnaryOp.TheVariants.{Not}
-use Rattle.sqlite_sql.specs.declared.ops.BinaryOp.TheVariants.{Is, Compare}
-use Rattle.sqlite_sql.specs.declared.ops.CompareOp.TheVariants.{Lt, Eq}
+use Rattle.sqlite_sql.specs.declared.ops.BinaryOp.TheVariants.{Compare}
+use Rattle.sqlite_sql.specs.declared.ops.CompareOp.TheVariants.{Eq}
 use Rattle.sqlite.specs.Listing.{understood, reads_listing}
 use Rattle.sqlite.specs.Collation.TheVariants.{Binary}
 use Rattle.sqlite_value.specs.Keys.{ascending}
@@ -22,7 +21,7 @@ use Rattle.sqlite_schema.specs.declared.schema.Index.{Index}
 use Rattle.sqlite_schema.specs.declared.schema.View.{View}
 use Rattle.sqlite_schema.specs.declared.schema.Column.{Column}
 use Rattle.custody_store.specs.Schema.{meta_schema, first_schema, record_schema, meta_table, registry_table, part_table, notice_table, handover_table, hold_table}
-use Rattle.custody_store.specs.Statements.{insert_meta_text, insert_registry_text, insert_part_text, insert_notice_text, insert_handover_text, insert_hold_text, drop_due_text, lift_text, set_schema_text}
+use Rattle.custody_store.specs.Statements.{insert_meta_text, insert_registry_text, insert_part_text, insert_notice_text, insert_handover_text, insert_hold_text, drop_bytes_text, lift_text, set_schema_text}
 use Rattle.custody_store.proofs.ModeLemmas.{is_change_text}
 use Rattle.custody_store.proofs.QueryLemmas.{is_query_text}
 
@@ -141,10 +140,10 @@ select_hold_is others indexes views = record { is = refl; plain = (refl, refl); 
 
 -- ---- those that change rows
 
--- what each row of one table that passes the tests shows, where other tables may be counted beside it
-abbrev pub picked : Join → List Term → List Term → Query
-picked from tests project = record {
-  from = from;
+-- what each row of one table that passes the tests shows
+abbrev pub picked : ℕ → List Term → List Term → Query
+picked tree tests project = record {
+  from = inner tree end;
   filter = tests;
   group = None;
   project = project;
@@ -156,28 +155,21 @@ picked from tests project = record {
 }
 
 -- the program of an UPDATE, which shows the rowid of the row that goes, and then the row that comes
-abbrev pub updating : Join → List Term → List Term → Program
-updating from tests project = record { lets = []; body = picked from tests project }
+abbrev pub updating : ℕ → List Term → List Term → Program
+updating tree tests project = record { lets = []; body = picked tree tests project }
 
--- a hold of the part's registry and day that is not lifted
-abbrev pub hold_tests : List Term
-hold_tests = op2 (Compare Eq Binary) (col 2 2) (col 1 1) ∷ op2 (Compare Eq Binary) (col 2 3) (col 1 2) ∷ op2 (Is Binary) (col 2 5) (lit Null) ∷ []
-
-abbrev pub parts_and_holds : Join
-parts_and_holds = inner 3 (counted 1 (inner 9 end) hold_tests end)
-
-abbrev pub due_tests : List Term
-due_tests = op1 Not (op2 (Is Binary) (col 1 10) (lit Null)) ∷ op2 (Compare Lt Binary) (col 1 7) (col 0 0) ∷ op1 Not (col 2 0) ∷ []
+abbrev pub drop_bytes_tests : List Term
+drop_bytes_tests = op2 (Compare Eq Binary) (col 1 1) (col 0 0) ∷ op2 (Compare Eq Binary) (col 1 2) (col 0 1) ∷ op2 (Compare Eq Binary) (col 1 3) (col 0 2) ∷ op2 (Compare Eq Binary) (col 1 4) (col 0 3) ∷ []
 
 abbrev pub dropped_places : List Term
 dropped_places = col 1 0 ∷ columns_from 1 0 10 ++ lit Null ∷ []
 
-abbrev pub drop_due_program : Program
-drop_due_program = updating parts_and_holds due_tests dropped_places
+abbrev pub drop_bytes_program : Program
+drop_bytes_program = updating 3 drop_bytes_tests dropped_places
 
-pub drop_due_is : IsMeaning record_schema.tables drop_due_text (Update 2 drop_due_program)
+pub drop_bytes_is : IsMeaning record_schema.tables drop_bytes_text (Update 2 drop_bytes_program)
 unfolding understood everything
-drop_due_is others indexes views = record { is = refl; plain = (refl, refl); changes = refl }
+drop_bytes_is others indexes views = record { is = refl; plain = (refl, refl); changes = refl }
 
 abbrev pub lift_tests : List Term
 lift_tests = op2 (Compare Eq Binary) (col 1 1) (col 0 0) ∷ []
@@ -186,7 +178,7 @@ abbrev pub lifted_places : List Term
 lifted_places = col 1 0 ∷ columns_from 1 0 5 ++ col 0 1 ∷ []
 
 abbrev pub lift_program : Program
-lift_program = updating (inner 9 end) lift_tests lifted_places
+lift_program = updating 9 lift_tests lifted_places
 
 pub lift_is : IsMeaning record_schema.tables lift_text (Update 5 lift_program)
 unfolding understood everything
@@ -197,7 +189,7 @@ abbrev pub set_schema_places : List Term
 set_schema_places = col 1 0 ∷ col 1 0 ∷ lit Null ∷ lit (Int (pos 2)) ∷ col 1 3 ∷ col 1 4 ∷ []
 
 abbrev pub set_schema_program : Program
-set_schema_program = updating (inner 0 end) [] set_schema_places
+set_schema_program = updating 0 [] set_schema_places
 
 pub set_schema_is : IsMeaning record_schema.tables set_schema_text (Update 0 set_schema_program)
 unfolding understood everything

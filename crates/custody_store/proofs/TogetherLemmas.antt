@@ -13,14 +13,20 @@ use Rattle.sqlite.proofs.Callers.{survives_begin}
 use Rattle.custody_store.specs.Calls.{SqlStatement, AreRun, RunsTogether}
 
 -- the next statement, after which those that are left make a run of all
-pub run_next : {S X : Type 0} (g : Ghosts S) (f : X → SqlStatement) (others : List SqlStatement) (xs : List X) (i : ℕ) (x : X) (old mid new last : Held S) → i < length xs → ((last : Held S) → AreRun g (map f (drop i xs) ++ others) mid last → AreRun g (map f xs ++ others) old last)
-    → (count : ℕ) → ExecutesInside 0 (f (get_or xs i x)).0 (f (get_or xs i x)).1 (state g mid) (state g new) (Ok count) → AreRun g (map f (drop (i + 1) xs) ++ others) new last → AreRun g (map f xs ++ others) old last
-run_next g f others xs i x old mid new last low before count executes ran = before last (subst (λ l. AreRun g (map f l ++ others) mid last) (sym (drop_more xs i x low)) (count, new, executes, ran))
+pub run_next : {S X : Type 0} (g : Ghosts S) (xs : List X) (f : X → SqlStatement) (run : List X → List SqlStatement) → ((x : X) (more : List X) → run (x ∷ more) ≡ f x ∷ run more)
+    → (i : ℕ) (x : X) (old mid new last : Held S) → i < length xs → ((last : Held S) → AreRun g (run (drop i xs)) mid last → AreRun g (run xs) old last)
+    → (count : ℕ) → ExecutesInside 0 (f (get_or xs i x)).0 (f (get_or xs i x)).1 (state g mid) (state g new) (Ok count) → AreRun g (run (drop (i + 1) xs)) new last → AreRun g (run xs) old last
+run_next g xs f run next i x old mid new last low before count executes ran =
+    before last (subst (λ l. AreRun g l mid last) (sym (ap run (drop_more xs i x low) ∙ next (get_or xs i x) (drop (i + 1) xs))) (count, new, executes, ran))
 
 -- and the last, after all those
 pub run_last : {S X : Type 0} (g : Ghosts S) (f : X → SqlStatement) (it : SqlStatement) (xs : List X) (i : ℕ) (old mid new : Held S) → length xs ≤ i → ((last : Held S) → AreRun g (map f (drop i xs) ++ it ∷ []) mid last → AreRun g (map f xs ++ it ∷ []) old last)
     → (count : ℕ) → ExecutesInside 0 it.0 it.1 (state g mid) (state g new) (Ok count) → AreRun g (map f xs ++ it ∷ []) old new
 run_last g f it xs i old mid new all before count executes = before new (subst (λ l. AreRun g (map f l ++ it ∷ []) mid new) (sym (drop_all i xs all)) (count, new, executes, refl))
+
+-- and none is left
+pub run_whole : {S X : Type 0} (g : Ghosts S) (f : X → SqlStatement) (xs : List X) (i : ℕ) (old new : Held S) → length xs ≤ i → ((last : Held S) → AreRun g (map f (drop i xs)) new last → AreRun g (map f xs) old last) → AreRun g (map f xs) old new
+run_whole g f xs i old new all before = before new (subst (λ l. AreRun g (map f l) new new) (sym (drop_all i xs all)) refl)
 
 -- inside a transaction it stays so
 pub still_inside : {S : Type 0} (g : Ghosts S) (statements : List SqlStatement) (old new : Held S) → IsTrue old.in_transaction → AreRun g statements old new → IsTrue new.in_transaction

@@ -1,7 +1,8 @@
 -- The statements of the calls that write, and the values that each is given.
-use Rattle.std.specs.Prelude.{ℕ, List, [], ◌∷◌, ◌++◌, codes, pos}
+use Rattle.std.specs.Prelude.{ℕ, List, [], ◌∷◌, ◌++◌, codes, map, pos}
 use Rattle.sqlite.specs.declared.types.Value.TheVariants.{Int, Text, Blob}
 use Rattle.sqlite.specs.Order.{Row}
+use Rattle.custody_records.specs.Keys.{PartKey}
 use Rattle.custody_records.specs.Rows.{RegistryRow, PartRow, NoticeRow, HandoverRow, HoldRow}
 use Rattle.custody_store.specs.Calls.{SqlStatement}
 use Rattle.custody_store.specs.Reading.{bytes_or_null, integer_or_null}
@@ -88,8 +89,12 @@ lift_text = codes "UPDATE hold SET lifted = ?2 WHERE reference = ?1"
 abbrev pub lift_values : List ℕ → ℕ → Row
 lift_values reference at = Text reference ∷ Int (pos at) ∷ []
 
-abbrev pub drop_due_text : List ℕ
-drop_due_text = codes "UPDATE part SET extents = NULL WHERE extents IS NOT NULL AND keep_day < ?1 AND NOT EXISTS (SELECT 1 FROM hold WHERE hold.tld = part.tld AND hold.day = part.day AND hold.lifted IS NULL)"
+abbrev pub drop_bytes_text : List ℕ
+drop_bytes_text = codes "UPDATE part SET extents = NULL WHERE tld = ?1 AND day = ?2 AND rev = ?3 AND part = ?4"
 
-abbrev pub drop_due_values : ℕ → Row
-drop_due_values today = Int (pos today) ∷ []
+abbrev pub drop_bytes_values : PartKey → Row
+drop_bytes_values key = Text key.tld ∷ Int (pos key.day) ∷ Int (pos key.rev) ∷ Int (pos key.part) ∷ []
+
+-- those of `drop_bytes`: one for each part
+abbrev pub drop_bytes_statements : List PartKey → List SqlStatement
+drop_bytes_statements keys = map (λ key. (drop_bytes_text, drop_bytes_values key)) keys

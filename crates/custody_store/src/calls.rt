@@ -1,6 +1,5 @@
 //! The two kinds of call of the database, a statement alone and a query.
-ghost use Rattle.std.specs.Prelude.{◌≡◌, Ok, IfOk, IfErr};
-ghost use Rattle.sqlite.specs.State.{HasCleanDisk, Executes};
+ghost use Rattle.std.specs.Prelude.{◌≡◌, IfErr};
 ghost use Rattle.sqlite.specs.Held.{state};
 ghost use Rattle.sqlite.specs.Values.{bound};
 ghost use Rattle.custody_store.specs.Calls.{RunsStatement, RunsQuery, row_items};
@@ -20,22 +19,6 @@ pub fn run<S: Alter>(
 {
     match db.execute(sql, params) {
         Ok(_) => Ok(()),
-        Err(_) => Err(StoreFault::Failed),
-    }
-}
-
-/// Runs one statement that is no query, and answers how many rows it changed.
-pub fn change<S: Alter>(
-    db: &mut Connection<S>,
-    sql: &str,
-    params: &[ValueRef<'_>],
-) -> Result<u64, StoreFault>
-    ensures runs { RunsStatement sql.now (bound params.now) (state S.Store db.old) (state S.Store db.new) result }
-    ensures count { HasCleanDisk (state S.Store db.new) → IfOk result (λ count. Executes sql.now (bound params.now) (state S.Store db.old) (state S.Store db.new) (Ok count)) }
-    ensures kind { IfErr result (λ e. e ≡ StoreFault.Failed) }
-{
-    match db.execute(sql, params) {
-        Ok(count) => Ok(count as u64),
         Err(_) => Err(StoreFault::Failed),
     }
 }

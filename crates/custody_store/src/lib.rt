@@ -4,6 +4,7 @@
 mod calls;
 mod columns;
 mod creating;
+mod dropping;
 mod faults;
 mod holds;
 mod loading;

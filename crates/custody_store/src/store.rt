@@ -1,7 +1,6 @@
 //! The store: a connection with the tables of the records.
-ghost use Rattle.std.specs.Prelude.{◌≡◌, ◌^◌, ◌<◌, ◌≤◌, true, false, pos, Ok, Err, IfOk, IfErr, MatchResult};
+ghost use Rattle.std.specs.Prelude.{◌≡◌, ◌^◌, ◌<◌, ◌≤◌, true, false, pos, Err, IfOk, IfErr, MatchResult};
 ghost use Rattle.sqlite.specs.Held.{state};
-ghost use Rattle.sqlite.specs.State.{HasCleanDisk, Executes};
 ghost use Rattle.std.specs.Int.{IsInRange};
 ghost use Rattle.schedule.specs.Schedule.{IsDay, IsMoment};
 ghost use Rattle.deposit_name.specs.Identifiers.{IsTld};
@@ -13,13 +12,14 @@ ghost use Rattle.custody_records.specs.declared.damage.RowDamage.TheVariants as 
 ghost use Rattle.custody_records.specs.RowsOfRecords.{digits_of, row_of_registry, IsNotice, IsRelease, IsHold};
 ghost use Rattle.custody_records.specs.TypedRecords.{notice_key, notice_value, release_key, release_value, hold_key, hold_value};
 ghost use Rattle.custody_store.specs.Calls.{RunsStatement, RunsTogether};
-ghost use Rattle.custody_store.specs.Statements.{create_statements, migrate_statements, insert_registry_text, insert_registry_values, insert_part_text, insert_part_values, insert_notice_text, insert_notice_values, insert_handover_text, insert_handover_values, insert_hold_text, insert_hold_values, lift_text, lift_values, drop_due_text, drop_due_values};
-ghost use Rattle.custody_store.specs.Dropping.{rows_without_due, count_due_rows};
+ghost use Rattle.custody_store.specs.Statements.{create_statements, migrate_statements, insert_registry_text, insert_registry_values, insert_part_text, insert_part_values, insert_notice_text, insert_notice_values, insert_handover_text, insert_handover_values, insert_hold_text, insert_hold_values, lift_text, lift_values, drop_bytes_statements};
+ghost use Rattle.custody_store.specs.Dropping.{rows_without_bytes};
 ghost use Rattle.custody_store.specs.TypedRows.{staged_row, typed_notice_row, typed_release_row, typed_hold_row};
 ghost use Rattle.custody_store.specs.StoreState.{store_state, Commits, CreatesTables, Migrates, ChangesNothing, has_any_table, has_all_tables};
 
-use crate::calls::{change, run};
+use crate::calls::run;
 use crate::creating::create_all;
+use crate::dropping::drop_all;
 use crate::faults::StoreFault;
 use crate::loading::{read_all, select_all, volume_in};
 use crate::meta::select_meta;
@@ -30,10 +30,12 @@ use crate::tables::{has_all_tables, has_any_table, has_table};
 use crate::values::{
     blob, day, keep_day_value, large, moment, moment_or_null, number, small, text,
 };
-use custody_records::{Hold, Records, Registry, Release, RowDamage, write_blob, write_number};
+use custody_records::{
+    Hold, PartKey, Records, Registry, Release, RowDamage, write_blob, write_number,
+};
 use deposit_name::{DepositName, Reference};
 use desk::Notice;
-use schedule::{Day, Sec};
+use schedule::Sec;
 use sqlite::{Alter, Connection};
 use std::alloc::Global;
 use std::marker::Model;
@@ -233,20 +235,13 @@ impl<S: Alter> Store<S> {
         )
     }
 
-    /// Drops the bytes of the parts whose last day of keeping is before today and whose day is not on
-    /// hold, and commits it. It answers how many they were. Their records stay.
-    pub fn drop_bytes(&mut self, today: Day) -> Result<u64, StoreFault>
-        ensures commits { Commits (store_state S.Store self.old) (store_state S.Store self.new) (rows_without_due today (store_state S.Store self.old).rows) result }
-        ensures runs { RunsStatement drop_due_text (drop_due_values today) (state S.Store self.old) (state S.Store self.new) result }
-        ensures changed { HasCleanDisk (state S.Store self.new) → IfOk result (λ count. Executes drop_due_text (drop_due_values today) (state S.Store self.old) (state S.Store self.new) (Ok count)) }
-        ensures count { (store_state S.Store self.new).IsHonest → (store_state S.Store self.old).IsReady → IfOk result (λ count. count ≡ count_due_rows today (store_state S.Store self.old).rows) }
+    /// Drops the bytes of the parts with these keys, and commits it, whole or not at all. Their records stay.
+    pub fn drop_bytes(&mut self, keys: &[PartKey]) -> Result<(), StoreFault>
+        ensures commits { Commits (store_state S.Store self.old) (store_state S.Store self.new) (rows_without_bytes keys.now (store_state S.Store self.old).rows) result }
+        ensures runs { RunsTogether S.Store (drop_bytes_statements keys.now) self.old self.new result }
         ensures kind { IfErr result (λ e. e ≡ StoreFault.Failed) }
     {
-        change(
-            &mut self.db,
-            "UPDATE part SET extents = NULL WHERE extents IS NOT NULL AND keep_day < ?1 AND NOT EXISTS (SELECT 1 FROM hold WHERE hold.tld = part.tld AND hold.day = part.day AND hold.lifted IS NULL)",
-            &[day(today)],
-        )
+        drop_all(&mut self.db, keys)
     }
 
     /// The records, where meta has a row. It fails where meta has none.

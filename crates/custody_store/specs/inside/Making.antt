@@ -15,7 +15,7 @@ use Rattle.sqlite.specs.State.{State, text_of}
 use Rattle.custody_records.specs.Rows.{Rows}
 use Rattle.custody_store.specs.Reading.{rows_in}
 use Rattle.custody_store.specs.Schema.{record_schema}
-use Rattle.custody_store.specs.StoreState.{HasOnlyTables}
+use Rattle.custody_store.specs.StoreState.{HasOnlyTables, HasTablesAmongOthers}
 use Rattle.sqlite_resolve.specs.declared.compiled.Compiled.{Compiled}
 use Rattle.sqlite_resolve.specs.declared.error.CompileError.{CompileError}
 use Rattle.std.specs.Prelude.{Result, Err}
@@ -49,4 +49,10 @@ pub record HasMadeTables (rows : Rows) (first : Database) (s : State) : Type 0 w
   pub inside : IsTrue s.in_transaction
   pub committed : s.committed ≡ first
   pub tables : HasOnlyTables record_schema s.now
+  pub rows_are : rows_in s.now.trees ≡ rows
+
+-- the tables of schema 2 come first in this schema, and have these rows
+pub record HasRows (schema : Schema) (rows : Rows) (s : State) : Type 0 where
+  pub schema_is : s.now.schema ≡ schema
+  pub tables : HasTablesAmongOthers record_schema.tables s.now
   pub rows_are : rows_in s.now.trees ≡ rows

@@ -1,6 +1,7 @@
-use Rattle.std.proofs.Common.{arith, rules}
+use Rattle.std.proofs.Common.{◌∷◌, ◌++◌, [], map, refl, arith, rules}
 use Rattle.sqlite.specs.State.{HasCleanDisk}
 use Rattle.sqlite.specs.Held.{state}
+use Rattle.sqlite.specs.Values.{bound}
 use Rattle.custody_store.proofs.TogetherLemmas.{run_next, run_last}
 use Rattle.custody_store.proofs.together.run_all.Goals as goal
 
@@ -14,7 +15,7 @@ loop-text-preserved g c =
       inside = λ clean inside. (c.in_ok-execute.ensures.runs clean (c.loop-text.invariant.inside (before clean) inside)).1.mode;
       rest = λ clean inside last more.
           let ran = c.in_ok-execute.ensures.runs clean (c.loop-text.invariant.inside (before clean) inside) in
-          run_next g.S.Store _ _ c.args.texts.now c.loop-text.text-index _ c.args.tx.now.conn.now c.loop-text.tx.conn.now c.execute.new.self.conn.now last c.loop-text-test.true (c.loop-text.invariant.rest (before clean) inside) _ ran more;
+          run_next g.S.Store c.args.texts.now (λ t. (t.now, [])) (λ texts. map (λ t. (t.now, [])) texts ++ (c.args.sql.now, bound c.args.params.now) ∷ []) (λ _ _. refl) c.loop-text.text-index _ c.args.tx.now.conn.now c.loop-text.tx.conn.now c.execute.new.self.conn.now last c.loop-text-test.true (c.loop-text.invariant.rest (before clean) inside) _ ran more;
     }
 
 pub returns-clause-runs : goal.returns-clause-runs
