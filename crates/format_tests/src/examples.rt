@@ -54,7 +54,7 @@ fn notices(rt: HostRuntime) -> Result<(), Fail> {
     assert_eq!(rt; out.as_slice(), line.as_slice());
 
     // Fewer than five deposits failed or are absent.
-    assert!(rt; !ground_stands(Ground::FiveFailed, &[receipt], receipt.at));
+    assert!(rt; !ground_stands(rt.alloc(), Ground::FiveFailed, &[receipt], receipt.at));
     Ok(())
 }
 

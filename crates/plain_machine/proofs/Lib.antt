@@ -1,3 +1,4 @@
+pub mod EachChanged
 pub mod HoldRows
 pub mod NoticeRows
 pub mod PlainChains

@@ -39,7 +39,7 @@ impl PlainState {
         ensures { IfOk result (λ stands. stands ≡ has_ground (state_view self.now) tld.now reason now) }
     {
         let notices = self.notices.of(alloc, tld)?;
-        Ok(ground_stands(reason, &notices, now))
+        Ok(ground_stands(alloc, reason, &notices, now))
     }
 
     // The refusals of a release: of a reference that is used, or of a new one.

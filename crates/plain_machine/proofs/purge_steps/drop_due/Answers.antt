@@ -1,5 +1,5 @@
 use Rattle.std.proofs.Common.{◌≡◌, ◌<◌, length, arith}
-use Rattle.custody_records.proofs.EachChanged.{done_next, rest_next}
+use Rattle.plain_machine.proofs.EachChanged.{done_next, rest_next}
 use Rattle.plain_machine.specs.Plain.{entry_after_purge, holds_view, plain_part_entry}
 use Rattle.plain_machine.proofs.purge_steps.drop_due.Goals as goal
 
