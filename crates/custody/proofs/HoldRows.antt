@@ -21,7 +21,7 @@ use Rattle.custody_machine.proofs.MapValues.{get-map_keyed}
 use Rattle.custody.proofs.Gathered.{gathered_changed}
 
 -- the hold of a row in form
-pub row_holds : (row : HoldRow) (entry : List ℕ × Hold) → hold_in row ≡ Some entry → (is_hold row ≡ true) × ((row.reference, hold_of_row row) ≡ entry)
+row_holds : (row : HoldRow) (entry : List ℕ × Hold) → hold_in row ≡ Some entry → (is_hold row ≡ true) × ((row.reference, hold_of_row row) ≡ entry)
 row_holds row entry e = by (is_hold row) refl e
   where
     by : (form : Bool) → is_hold row ≡ form → cond form (Some (row.reference, hold_of_row row)) None ≡ Some entry → (is_hold row ≡ true) × ((row.reference, hold_of_row row) ≡ entry)

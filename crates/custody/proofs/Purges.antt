@@ -1,6 +1,7 @@
 -- Bytes that are dropped, as one change of the records.
-use Rattle.std.proofs.Common.{◌≡◌, ℕ, List, [], ◌∷◌, false, inl, inr, refl, sym, ◌∙◌, ap, subst, Err}
-use Rattle.std.specs.FinMap.{entries, same_entries_map}
+use Rattle.std.proofs.Common.{◌≡◌, ℕ, List, [], ◌∷◌, Option, Some, None, false, cond, inl, inr, refl, sym, ◌∙◌, ap, subst, Err}
+use Rattle.std.specs.Option.{option_map}
+use Rattle.std.specs.FinMap.{FinMap, get, same_map}
 use Rattle.std.specs.Prelude.{All}
 use Rattle.std.proofs.lemmas.List.Elements.{All-nil, All-cons, All-head, All-tail}
 use Rattle.schedule.specs.Schedule.{day_of}
@@ -16,20 +17,21 @@ use Rattle.vault_volume.specs.Image.{DiffersOnlyIn}
 use Rattle.vault_volume.proofs.ImageLemmas.{same_in}
 use Rattle.vault_volume.proofs.Moments.{nothing_yet}
 use Rattle.custody_records.specs.declared.records.Records as held
-use Rattle.custody_records.specs.Keys.{part_cmp}
-use Rattle.custody_records.specs.inside.Orders.{part_exact}
-use Rattle.custody_records.specs.Purge.{dropped_if_due, entries_without_due}
-use Rattle.custody_records.specs.Records.{Records}
+use Rattle.custody_records.specs.Keys.{PartKey, part_cmp}
+use Rattle.custody_records.specs.inside.Orders.{part_exact, part_total}
+use Rattle.custody_records.specs.Purge.{dropped as without_bytes, dropped_if_among, dropped_if_due}
+use Rattle.custody_records.specs.Records.{PartRecord, Records}
 use Rattle.custody_machine.specs.declared.answers.Failure.TheVariants.{NoMemory}
 use Rattle.custody_machine.specs.Machine as machine
 use Rattle.custody_machine.specs.Machine.{Purge, OfPurge, Accept, step}
 use Rattle.custody_machine.specs.StoredState.{AreWholeOnVolume, IsVolumeOf, state_in}
 use Rattle.custody_machine.specs.MapValues.{map_keyed}
-use Rattle.custody_machine.specs.Purge.{IsDueBlock, count_due_records, records_without_due}
+use Rattle.custody_machine.specs.Purge.{IsDueBlock, count_due_records, due_keys, records_without_due}
 use Rattle.custody_machine.specs.Custody.{IsInOrder}
 use Rattle.custody_machine.specs.Rulings.{DropsBytes, GoRuling, Decides}
-use Rattle.custody_machine.proofs.MapValues.{entries-map_keyed}
+use Rattle.custody_machine.proofs.MapValues.{get-map_keyed}
 use Rattle.custody_machine.proofs.Composed.{IsChange, nothing_in}
+use Rattle.custody_machine.proofs.DueKeys.{among_due}
 use Rattle.custody_machine.proofs.Purged.{due_used, purged_in_order, purge_accepted, purge_changes}
 use Rattle.custody.specs.declared.answers.Refused.TheVariants as refused
 use Rattle.custody.specs.declared.open_custody.OpenCustody.{OpenCustody}
@@ -37,10 +39,16 @@ use Rattle.custody.specs.OpenCustody.{current_records, image_of, failures_of, Ma
 use Rattle.custody.proofs.OpenCustodyLemmas.{stays_still}
 use Rattle.custody.proofs.Done.{IsOneChange, GoesOn, no_memory_done}
 
--- the records, after the bytes were dropped in memory
-pub dropped_records : (today : ℕ) (old new : Records) → entries new.parts ≡ entries_without_due old.holds today (entries old.parts) → new ≡ record old { parts = new.parts } → new ≡ records_without_due today old
-dropped_records today old new parts others =
-    others ∙ ap (λ m. record old { parts = m }) (same_entries_map new.parts (map_keyed (dropped_if_due old.holds today) old.parts) (parts ∙ sym (entries-map_keyed part_cmp part_exact (dropped_if_due old.holds today) old.parts)))
+-- the records where the bytes of the parts that are due were dropped by their keys
+pub dropped_records : (today : ℕ) (records : Records) (parts : FinMap part_cmp PartRecord) → ((key : PartKey) → get parts key ≡ option_map (dropped_if_among (due_keys today records) key) (get records.parts key))
+    → record records { parts = parts } ≡ records_without_due today records
+dropped_records today records parts dropped =
+    ap (λ m. record records { parts = m }) (same_map part_total part_exact parts (map_keyed (dropped_if_due records.holds today) records.parts)
+    (λ key. dropped key ∙ by key (get records.parts key) refl ∙ sym (get-map_keyed part_cmp part_exact (dropped_if_due records.holds today) records.parts key)))
+  where
+    by : (key : PartKey) (there : Option PartRecord) → get records.parts key ≡ there → option_map (dropped_if_among (due_keys today records) key) there ≡ option_map (dropped_if_due records.holds today key) there
+    by key None at = refl
+    by key (Some part) at = ap (λ b. Some (cond b (without_bytes part) part)) (among_due today records key part at)
 
 module _ {V S : Type 0} {g : volume.Ghosts V} (database : Ghosts S) (old : OpenCustody V S g) (order : KeepsOrder old) (now : ℕ) (d : Decides (GoRuling DropsBytes) (current_records old) Purge now) where
   abbrev pub records_then : Records

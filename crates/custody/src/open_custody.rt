@@ -19,7 +19,7 @@ use crate::verifying::verify_stated;
 use crate::{Record, Refused, Reply};
 use custody_machine::{Command, Statement};
 use custody_records::{Hold, Part, Records, Registry, Release};
-use custody_rules::{Change, Ruling, count_due, due_extents, held_names, judge, next_number};
+use custody_rules::{Change, Ruling, due_parts, held_names, judge, next_number};
 use custody_store::Store;
 use deposit_name::{DepositName, Reference, Tld};
 use deposit_verify::Verdict;
@@ -52,7 +52,7 @@ impl<V: Volume, S: Alter> OpenCustody<V, S> {
         if let Command::Receive(name, bytes) = command {
             return self.receive(alloc, name, bytes, now);
         }
-        match judge(&self.records, command, now) {
+        match judge(alloc, &self.records, command, now) {
             Ruling::Refuse(refusal) => Err(Refused::Refusal(refusal)),
             Ruling::Kept(kept) => Ok(Reply {
                 record: Record::of_kept(alloc, &kept)?,
@@ -261,12 +261,11 @@ impl<V: Volume, S: Alter> OpenCustody<V, S> {
         requires ruled { Decides (GoRuling DropsBytes) (current_records self.old) machine.Purge now }
         ensures { HasExecuted S.Store self.old machine.Purge now result self.new }
     {
-        let today = now.day();
-        let count = count_due(&self.records, today);
-        let due = due_extents(alloc, &self.records, today)?;
-        self.store.drop_bytes(today)?;
-        self.records.drop_due(today);
-        self.vault.give_back(&due);
+        let due = due_parts(alloc, &self.records, now.day())?;
+        self.store.drop_bytes(&due.keys)?;
+        self.records.drop_bytes(&due.keys);
+        self.vault.give_back(&due.extents);
+        let count = due.keys.len();
         Ok(Reply {
             record: Record::Purge { count },
             is_repeat: false,

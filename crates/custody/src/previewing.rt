@@ -40,7 +40,7 @@ pub(crate) fn preview_notice<V: Volume>(
     ensures failed { stays_open result ≡ false → V.failures (volume_of vault.new) ≡ V.failures (volume_of vault.old) + 1 }
     ensures not_failed { stays_open result ≡ true → V.failures (volume_of vault.new) ≡ V.failures (volume_of vault.old) }
 {
-    match judge(records, &Command::Statement(*statement), now) {
+    match judge(alloc, records, &Command::Statement(*statement), now) {
         Ruling::Refuse(refusal) => Err(Refused::Refusal(refusal)),
         Ruling::Kept(kept) => Ok(kept_notice(&kept)),
         Ruling::Compare(..) => unreachable!(),

@@ -21,7 +21,8 @@ use Rattle.custody_machine.specs.State.{State, Part, has_notice, is_notice_of}
 use Rattle.custody_machine.specs.StoredState.{part_of, state_in}
 use Rattle.custody_machine.specs.MapValues.{map_entries}
 use Rattle.custody_machine.proofs.MapValues.{entries-map_values}
-use Rattle.custody_rules.specs.inside.Chains.{is_first_of_passed_by}
+use Rattle.custody_rules.specs.declared.chain.PassedRevision.{PassedRevision}
+use Rattle.custody_rules.specs.inside.Chains.{has_passed_by, revision_of_name}
 use Rattle.custody_rules.specs.Explaining.{AreNoticesOf}
 use Rattle.custody_rules.specs.Judging.{has_dropped_part_in}
 use Rattle.custody_rules.proofs.Judged.{dropped_in_state}
@@ -70,21 +71,22 @@ module _ (records : Records) (tld : List ℕ) (image : List ℕ) where
       by true rest = ap (λ (l : List Name). name_in e ∷ l) rest
       by false rest = rest
 
-  -- the rows of a registry's notices tell what those of the records do
-  by_notices : (notices : List desk.Notice) → AreNoticesOf records tld notices → (name : Name) → is_first_of_passed_by notices tld name ≡ is_first name
-  by_notices notices told name =
-      ap (λ b. name.part == 1 && b) (some_of_registry records tld notices told (is_notice_of tld name.day (is_receipt_of name.rev)) (λ e passed. (and_parts (bytes_eq e.0.tld tld) _ passed).0))
+  module _ (notices : List desk.Notice) (told : AreNoticesOf records tld notices) where
+    -- the rows of a registry's notices tell what those of the records do
+    by_notices : (revision : PassedRevision) → has_passed_by notices tld revision ≡ has_notice records.notices tld revision.day (is_receipt_of revision.rev)
+    by_notices revision = some_of_registry records tld notices told (is_notice_of tld revision.day (is_receipt_of revision.rev)) (λ e passed. (and_parts (bytes_eq e.0.tld tld) _ passed).0)
 
-  -- the rows of a registry's parts and notices tell which of its deposits passed
-  pub passed_in_state : (notices : List desk.Notice) → AreNoticesOf records tld notices → (rows : List typed.Part) → row_entries key_of_part part_value rows ≡ parts_of records tld
-      → map (λ (p : typed.Part). p.name) (filter (λ (p : typed.Part). is_first_of_passed_by notices tld p.name) rows) ≡ passed_first_names (state_in records image) tld
-  passed_in_state notices told rows is =
-      (λ i. map (λ (p : typed.Part). p.name) (filter (λ (p : typed.Part). by_notices notices told p.name i) rows))
-      ∙ names_as_entries (filter (λ (p : typed.Part). is_first p.name) rows)
-      ∙ ap (map name_in) (sym (filter_entries key_of_part part_value leads rows) ∙ ap (filter leads) is ∙ filter_both (λ (e : PartKey × PartRecord). is_eq (text_cmp e.0.tld tld)) leads (entries records.parts))
-      ∙ (λ i. map name_in (filter (λ (e : PartKey × PartRecord). is_eq-slice_cmp e.0.tld tld i && leads e) (entries records.parts)))
-      ∙ in_state (entries records.parts)
-      ∙ ap (λ (es : List (PartKey × Part)). map (λ (e : PartKey × Part). name_of e.0 e.1.kind) (filter (machine.is_first_of_passed (state_in records image) tld) es)) (sym (entries-map_values part_cmp (part_of image) records.parts))
+    -- the rows of a registry's parts and notices tell which of its deposits passed
+    pub passed_in_state : (passed : PassedRevision → Bool) → ((revision : PassedRevision) → passed revision ≡ has_passed_by notices tld revision)
+        → (rows : List typed.Part) → row_entries key_of_part part_value rows ≡ parts_of records tld
+        → map (λ (p : typed.Part). p.name) (filter (λ (p : typed.Part). p.name.part == 1 && passed (revision_of_name p.name)) rows) ≡ passed_first_names (state_in records image) tld
+    passed_in_state passed gathered rows is =
+        (λ i. map (λ (p : typed.Part). p.name) (filter (λ (p : typed.Part). p.name.part == 1 && (gathered (revision_of_name p.name) ∙ by_notices (revision_of_name p.name)) i) rows))
+        ∙ names_as_entries (filter (λ (p : typed.Part). is_first p.name) rows)
+        ∙ ap (map name_in) (sym (filter_entries key_of_part part_value leads rows) ∙ ap (filter leads) is ∙ filter_both (λ (e : PartKey × PartRecord). is_eq (text_cmp e.0.tld tld)) leads (entries records.parts))
+        ∙ (λ i. map name_in (filter (λ (e : PartKey × PartRecord). is_eq-slice_cmp e.0.tld tld i && leads e) (entries records.parts)))
+        ∙ in_state (entries records.parts)
+        ∙ ap (λ (es : List (PartKey × Part)). map (λ (e : PartKey × Part). name_of e.0 e.1.kind) (filter (machine.is_first_of_passed (state_in records image) tld) es)) (sym (entries-map_values part_cmp (part_of image) records.parts))
 
 -- the bytes of a part of a chain are dropped, by the records as in their state
 pub any_dropped : (records : Records) (image : List ℕ) (names : List Name)

@@ -1,5 +1,6 @@
 pub mod Apart
 pub mod Chains
+pub mod DaysOnHold
 pub mod DueDays
 pub mod Explained
 pub mod Fetched

@@ -21,7 +21,7 @@ use Rattle.custody_machine.specs.Machine.{is_absence, is_failure_of}
 use Rattle.custody_machine.specs.StoredState.{AreLinked, AreOfOneDay, revision_of}
 use Rattle.custody_machine.proofs.SameValues.{text_decides}
 use Rattle.custody_rules.specs.declared.unique_keys.Subject.{Subject}
-use Rattle.custody_rules.specs.declared.unique_keys.ReceivedDay.{ReceivedDay}
+use Rattle.custody_rules.specs.declared.unique_keys.RegistryDay.{RegistryDay}
 use Rattle.custody_rules.specs.declared.unique_keys.FailedRevision.{FailedRevision}
 use Rattle.custody_rules.specs.inside.UniqueKeys.{HaveNoRivals, HaveUniqueKeys, IsKeyAmong, subject_of, day_if_receipt, received_day_of, revision_if_failure, failed_revision_of}
 use Rattle.custody_rules.proofs.Tables.{table_has_row, row_in_table, keys_differ, any_rows}
@@ -35,8 +35,8 @@ receipt_of_day : (tld : List ℕ) (day : ℕ) (kind : NoticeKind) → is_receipt
 receipt_of_day tld day (Receipt _ _) e = refl
 receipt_of_day tld day _ e = cc
 
-day_of_receipt : (tld : List ℕ) (day : ℕ) (kind : NoticeKind) (t : ReceivedDay) → day_if_receipt tld day kind ≡ Some t → (is_receipt kind ≡ true) × (tld ≡ t.tld) × (day ≡ t.day)
-day_of_receipt tld day (Receipt _ _) t e = let same = some_is (record { tld = tld; day = day }) t e in (refl, ap (λ (d : ReceivedDay). d.tld) same, ap (λ (d : ReceivedDay). d.day) same)
+day_of_receipt : (tld : List ℕ) (day : ℕ) (kind : NoticeKind) (t : RegistryDay) → day_if_receipt tld day kind ≡ Some t → (is_receipt kind ≡ true) × (tld ≡ t.tld) × (day ≡ t.day)
+day_of_receipt tld day (Receipt _ _) t e = let same = some_is (record { tld = tld; day = day }) t e in (refl, ap (λ (d : RegistryDay). d.tld) same, ap (λ (d : RegistryDay). d.day) same)
 day_of_receipt tld day _ t e = cc
 
 absence_has_none : (kind : NoticeKind) → is_absence kind ≡ true → revision_of kind ≡ None

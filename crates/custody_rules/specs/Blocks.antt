@@ -1,15 +1,12 @@
 -- The blocks that parts name, and a map of blocks.
-use Rattle.std.specs.Prelude.{◌≡◌, ℕ, List, [], Option, None, Some, if◌then◌else◌}
+use Rattle.std.specs.Prelude.{◌≡◌, ℕ, List, [], Option, None, Some}
 use Rattle.std.specs.List.{flat_map}
 use Rattle.extent_map.specs.declared.extent.Extent.{Extent}
 use Rattle.custody_records.specs.declared.parts.Part.{Part}
-use Rattle.custody_records.specs.TypedRecords.{key_of_part, part_value}
+use Rattle.custody_records.specs.TypedRecords.{part_value}
 use Rattle.extent_map.specs.Map.{IsFree, size_of}
 use Rattle.extent_map.specs.declared.map.ExtentMap.{ExtentMap}
-use Rattle.std.specs.FinMap.{FinMap}
-use Rattle.custody_records.specs.Keys.{text_cmp}
-use Rattle.custody_records.specs.Purge.{is_due}
-use Rattle.custody_records.specs.Records.{Hold, Records}
+use Rattle.custody_records.specs.Records.{Records}
 use Rattle.custody_machine.specs.StoredState.{ForExtents, AreExtents}
 use Rattle.custody_machine.specs.Custody.{IsPlaceable}
 
@@ -29,14 +26,6 @@ part_extents part = held_extents (part_value part).extents
 -- the extents of all the parts, one after the other
 abbrev pub extents_of_all : List Part → List Extent
 extents_of_all parts = flat_map part_extents parts
-
--- the extents of a part that is due, none of any other
-abbrev pub due_part_extents : FinMap text_cmp Hold → ℕ → Part → List Extent
-due_part_extents holds today part = if is_due holds today (key_of_part part) (part_value part) then part_extents part else []
-
--- the extents of all the parts that are due, one after the other
-abbrev pub due_extents : FinMap text_cmp Hold → ℕ → List Part → List Extent
-due_extents holds today parts = flat_map (due_part_extents holds today) parts
 
 -- ---- the map of a volume
 

@@ -1,4 +1,5 @@
 pub mod Chains
+pub mod DaysOnHold
 pub mod Holds
 pub mod Links
 pub mod Orders

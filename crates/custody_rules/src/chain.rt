@@ -1,5 +1,6 @@
 //! The deposits that a stated one follows.
-ghost use Rattle.std.specs.Prelude.{◌≡◌, List, ℕ, IfOk};
+ghost use Rattle.std.specs.Prelude.{◌≡◌, ◌==◌, ◌&&◌, List, ℕ, IfOk};
+ghost use Rattle.std.specs.BTreeSet.{contains};
 ghost use Rattle.std.specs.FinMap.{FinMap};
 ghost use Rattle.std.specs.List.{list_any};
 ghost use Rattle.custody_records.specs.MemoryRecords.{records_of};
@@ -11,16 +12,25 @@ ghost use Rattle.custody_machine.specs.StoredState.{state_in};
 ghost use Rattle.custody_rules.specs.Judging.{has_dropped_part_in};
 ghost use Rattle.custody_machine.specs.Explaining.{with_notices};
 ghost use Rattle.custody_rules.specs.Explaining.{AreNoticesOf};
-ghost use Rattle.custody_rules.specs.inside.Chains.{is_first_of_passed_by};
+ghost use Rattle.custody_rules.specs.declared.chain.PassedRevision.{PassedRevision};
+ghost use Rattle.custody_rules.specs.inside.Chains.{has_passed_by, passed_revision_of, revision_of_name};
+ghost use Rattle.custody_rules.specs.inside.Orders.{passed_revision_cmp};
 
-use crate::days::{Sought, has_notice_among};
 use crate::revision::has_dropped_part;
 use custody_machine::Statement;
 use custody_records::{PartKey, Records};
 use deposit_name::{DepositName, Kind, Tld};
-use desk::Notice;
+use desk::{Notice, NoticeKind};
 use schedule::Day;
 use std::alloc::{AllocError, Global};
+use std::collections::BTreeSet;
+
+/// A revision of a day's deposit that passed.
+#[derive(Clone, Copy, Debug, PartialEq, Eq, PartialOrd, Ord)]
+struct PassedRevision {
+    day: Day,
+    rev: u8,
+}
 
 /// The deposits that a stated one follows by some notices of its registry, oldest first, each by the name
 /// of its first part, where all their parts are held: of a differential one the latest full one that passed
@@ -62,19 +72,56 @@ fn passed_first_names(
     ensures { IfOk result (λ names. (told : FinMap notice_cmp recorded.Notice) (image : List ℕ) → AreNoticesOf (with_notices (records_of records.now) told) tld.now notices.now
         → names.items ≡ passed_first_names (state_in (with_notices (records_of records.now) told) image) tld.now) }
 {
+    let passed = passed_revisions(alloc, notices, tld)?;
     records
         .parts_of(tld)
         .iter()
-        .filter(|part| is_first_of_passed(notices, tld, &part.name))
+        .filter(|part| is_first_of_passed(&passed, &part.name))
         .map(|part| part.name)
         .collect(alloc)
 }
 
-/// Whether a name is that of the first part of a deposit that passed.
-fn is_first_of_passed(notices: &[Notice], tld: &Tld, name: &DepositName) -> bool
-    ensures { result ≡ is_first_of_passed_by notices.now tld.now name.now }
+/// Whether a name is that of the first part of one of these revisions.
+fn is_first_of_passed(passed: &BTreeSet<PassedRevision>, name: &DepositName) -> bool
+    ensures { result ≡ (name.now.part == 1 && contains passed_revision_cmp passed.now (revision_of_name name.now)) }
 {
-    name.part == 1 && has_notice_among(notices, tld, name.day, Sought::ReceiptOf(name.rev))
+    let revision = PassedRevision {
+        day: name.day,
+        rev: name.rev,
+    };
+    name.part == 1 && passed.contains(&revision)
+}
+
+/// The revisions of a registry that passed by these notices.
+fn passed_revisions(
+    alloc: Global,
+    notices: &[Notice],
+    tld: &Tld,
+) -> Result<BTreeSet<PassedRevision>, AllocError>
+    ensures { IfOk result (λ passed. (revision : PassedRevision) → contains passed_revision_cmp passed revision ≡ has_passed_by notices.now tld.now revision) }
+{
+    let mut passed = BTreeSet::new(alloc);
+    for notice in notices {
+        if notice.tld == *tld {
+            if let Some(revision) = passed_revision_of(notice) {
+                passed.insert(revision)?;
+            }
+        }
+    }
+    Ok(passed)
+}
+
+/// The revision that passed by a notice.
+fn passed_revision_of(notice: &Notice) -> Option<PassedRevision>
+    ensures { result ≡ passed_revision_of notice.now }
+{
+    match notice.kind {
+        NoticeKind::Receipt { rev, .. } => Some(PassedRevision {
+            day: notice.day,
+            rev: rev.number(),
+        }),
+        NoticeKind::Failure { .. } | NoticeKind::Absence => None,
+    }
 }
 
 /// Of the deposits that passed those that one of a kind follows.

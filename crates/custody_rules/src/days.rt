@@ -1,7 +1,6 @@
 //! A day: whether it is in range, and its notices.
 ghost use Rattle.std.specs.Prelude.{◌≡◌, ◌||◌, nat_lt, find, option_copied, option_map};
 ghost use Rattle.std.specs.FinMap.{entries};
-ghost use Rattle.std.specs.List.{list_any};
 ghost use Rattle.schedule.specs.Schedule.{day_of};
 ghost use Rattle.custody_records.specs.MemoryRecords.{records_of};
 ghost use Rattle.custody_records.specs.TypedRecords.{notice_entry};
@@ -25,8 +24,6 @@ pub(crate) fn is_day_outside(first_day: Day, day: Day, now: Sec) -> bool
 pub(crate) enum Sought {
     /// That a revision has passed.
     Receipt,
-    /// That this revision has passed.
-    ReceiptOf(u8),
     /// That this revision has failed.
     FailureOf(u8),
     /// That a revision has passed or failed.
@@ -56,14 +53,8 @@ pub(crate) fn notice_of<'a>(
 pub(crate) fn has_notice(records: &Records, tld: &Tld, day: Day, sought: Sought) -> bool
     ensures { result ≡ has_notice (records_of records.now).notices tld.now day (is_sought sought) }
 {
-    has_notice_among(records.notices_of(tld), tld, day, sought)
-}
-
-/// Whether one of these notices is of a day, and tells it.
-pub(crate) fn has_notice_among(notices: &[Notice], tld: &Tld, day: Day, sought: Sought) -> bool
-    ensures { result ≡ list_any (λ notice. is_notice_of tld.now day (is_sought sought) (notice_entry notice)) notices.now }
-{
-    notices
+    records
+        .notices_of(tld)
         .iter()
         .any(|notice| is_notice_of(notice, tld, day, sought))
 }
@@ -80,13 +71,13 @@ fn is_sought(kind: &NoticeKind, sought: Sought) -> bool
     match kind {
         NoticeKind::Receipt { rev, .. } => match sought {
             Sought::Receipt | Sought::Verdict => true,
-            Sought::ReceiptOf(of) | Sought::VerdictOf(of) => rev.number() == of,
+            Sought::VerdictOf(of) => rev.number() == of,
             Sought::FailureOf(_) | Sought::Absence => false,
         },
         NoticeKind::Failure { rev, .. } => match sought {
             Sought::Verdict => true,
             Sought::FailureOf(of) | Sought::VerdictOf(of) => rev.number() == of,
-            Sought::Receipt | Sought::ReceiptOf(_) | Sought::Absence => false,
+            Sought::Receipt | Sought::Absence => false,
         },
         NoticeKind::Absence => matches!(sought, Sought::Absence),
     }

@@ -25,11 +25,12 @@ use custody_records::{Part, PartKey, Records, Registry};
 use deposit_name::{DepositName, Kind, Tld};
 use desk::{Notice, NoticeKind};
 use schedule::{Day, Sec};
+use std::alloc::Global;
 use vault_volume::MAX_PART_LEN;
 
 /// Judges a command by the records: the least refusal that they decide, the record that answers a
 /// repeat, the part whose bytes decide, or the one change that is to be made.
-pub fn judge<'a>(records: &'a Records, command: &Command<'_>, now: Sec) -> Ruling<'a>
+pub fn judge<'a>(alloc: Global, records: &'a Records, command: &Command<'_>, now: Sec) -> Ruling<'a>
     ensures { Decides (ruling_of result) (records_of records.now) (command_of command.now) now }
 {
     match command {
@@ -38,7 +39,7 @@ pub fn judge<'a>(records: &'a Records, command: &Command<'_>, now: Sec) -> Rulin
         Command::Statement(statement) => judge_statement(records, statement, now),
         Command::Check(tld, day) => judge_check(records, *tld, *day, now),
         Command::Release(reference, tld, reason) => {
-            judge_release(records, *reference, *tld, *reason, now)
+            judge_release(alloc, records, *reference, *tld, *reason, now)
         }
         Command::Hold(reference, tld, day) => judge_hold(records, *reference, *tld, *day, now),
         Command::Lift(reference) => judge_lift(records, *reference),

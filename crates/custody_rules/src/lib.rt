@@ -29,6 +29,6 @@ pub use explaining::{StatedFailure, find_failure, notices_before};
 pub use fetching::find_released;
 pub use judging::{judge, judge_part};
 pub use passed_deposits::{known_about, next_number, passed_day};
-pub use purging::{count_due, due_extents};
+pub use purging::{DueParts, due_parts};
 pub use release_rules::held_names;
 pub use ruling::{Change, KeptRecord, Ruling};

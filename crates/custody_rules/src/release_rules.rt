@@ -20,6 +20,7 @@ use std::alloc::{AllocError, Global};
 /// Judges a release: it is refused; the release that was made on the same request answers it; or one is
 /// to be made.
 pub(crate) fn judge_release(
+    alloc: Global,
     records: &Records,
     reference: Reference,
     tld: Tld,
@@ -36,7 +37,7 @@ pub(crate) fn judge_release(
             Ruling::Kept(KeptRecord::Release(release))
         }
         Some(_) => Ruling::Refuse(Refusal::ReferenceUsed),
-        None if has_ground(records, &tld, reason, now) => {
+        None if has_ground(alloc, records, &tld, reason, now) => {
             Ruling::Go(Change::Release(reference, tld, reason))
         }
         None => Ruling::Refuse(Refusal::GroundDoesNotStand),
@@ -51,10 +52,10 @@ fn is_on_ground(release: &Release, tld: &Tld, reason: Ground) -> bool
 }
 
 /// Whether the ground stands by the notices of the registry.
-fn has_ground(records: &Records, tld: &Tld, reason: Ground, now: Sec) -> bool
+fn has_ground(alloc: Global, records: &Records, tld: &Tld, reason: Ground, now: Sec) -> bool
     ensures { result ≡ ground_stands reason (notices_told_to (records_of records.now).notices tld.now) now }
 {
-    ground_stands(reason, records.notices_of(tld), now)
+    ground_stands(alloc, reason, records.notices_of(tld), now)
 }
 
 /// The names of the parts of a registry whose bytes are held, by day, revision and place in the series.

@@ -6,7 +6,7 @@ ghost use Rattle.desk.specs.declared.notices.Notice.{Notice};
 ghost use Rattle.custody_rules.specs.declared.unique_keys.FailedRevision.{FailedRevision};
 ghost use Rattle.custody_rules.specs.inside.UniqueKeys.{HaveNoRivals, HaveUniqueKeys, IsKeyAmong, subject_of, received_day_of, failed_revision_of};
 ghost use Rattle.custody_machine.specs.StoredState.{revision_of};
-ghost use Rattle.custody_rules.specs.inside.Orders.{exact_subjects, exact_received_days, exact_failed_revisions, failed_revision_cmp};
+ghost use Rattle.custody_rules.specs.inside.Orders.{exact_subjects, exact_registry_days, exact_failed_revisions, failed_revision_cmp};
 
 use deposit_name::Tld;
 use desk::{Notice, NoticeKind};
@@ -33,11 +33,11 @@ pub(crate) struct Subject {
     rev: Option<u8>,
 }
 
-/// A day whose deposit was received and verified.
+/// A day of a registry: one whose deposit was received and verified, or one that is on hold.
 #[derive(Clone, Copy, Debug, PartialEq, Eq, PartialOrd, Ord)]
-pub(crate) struct ReceivedDay {
-    tld: Tld,
-    day: Day,
+pub(crate) struct RegistryDay {
+    pub(crate) tld: Tld,
+    pub(crate) day: Day,
 }
 
 /// A revision of a day's deposit that failed.
@@ -62,14 +62,14 @@ impl UniqueKey for Subject {
     }
 }
 
-impl UniqueKey for ReceivedDay {
+impl UniqueKey for RegistryDay {
     ghost unique_key_of = { received_day_of };
 
-    ghost exact = { exact_received_days };
+    ghost exact = { exact_registry_days };
 
-    fn of(notice: &Notice) -> Option<ReceivedDay> {
+    fn of(notice: &Notice) -> Option<RegistryDay> {
         match notice.kind {
-            NoticeKind::Receipt { .. } => Some(ReceivedDay {
+            NoticeKind::Receipt { .. } => Some(RegistryDay {
                 tld: notice.tld,
                 day: notice.day,
             }),
@@ -136,7 +136,7 @@ pub(crate) fn failed_revisions(
     ensures twice { IfOk result (λ found. IfNone found (¬ HaveNoRivals notices.now)) }
 {
     if collect_keys::<Subject>(alloc, notices)?.is_none()
-        || collect_keys::<ReceivedDay>(alloc, notices)?.is_none()
+        || collect_keys::<RegistryDay>(alloc, notices)?.is_none()
     {
         return Ok(None);
     }

@@ -6,7 +6,7 @@ use Rattle.desk.specs.declared.notices.NoticeKind.{NoticeKind}
 use Rattle.desk.specs.declared.notices.NoticeKind.TheVariants.{Receipt, Failure}
 use Rattle.custody_machine.specs.StoredState.{revision_of}
 use Rattle.custody_rules.specs.declared.unique_keys.Subject.{Subject}
-use Rattle.custody_rules.specs.declared.unique_keys.ReceivedDay.{ReceivedDay}
+use Rattle.custody_rules.specs.declared.unique_keys.RegistryDay.{RegistryDay}
 use Rattle.custody_rules.specs.declared.unique_keys.FailedRevision.{FailedRevision}
 
 -- what a notice is about
@@ -14,12 +14,12 @@ abbrev pub subject_of : Notice → Option Subject
 subject_of notice = Some (record { tld = notice.tld; day = notice.day; rev = revision_of notice.kind })
 
 -- a day, where a notice of this kind is its receipt
-abbrev pub day_if_receipt : List ℕ → ℕ → NoticeKind → Option ReceivedDay
+abbrev pub day_if_receipt : List ℕ → ℕ → NoticeKind → Option RegistryDay
 day_if_receipt tld day (Receipt _ _) = Some (record { tld = tld; day = day })
 day_if_receipt tld day _ = None
 
 -- the day that a notice is the receipt of
-abbrev pub received_day_of : Notice → Option ReceivedDay
+abbrev pub received_day_of : Notice → Option RegistryDay
 received_day_of notice = day_if_receipt notice.tld notice.day notice.kind
 
 -- a revision of a day, where a notice of this kind tells its failure
