@@ -92,6 +92,8 @@ enum Ending {
     Whole,
     /// A call of its volume fails.
     Broken,
+    /// Its rows are lost: the transaction that they are in is rolled back.
+    Lost,
 }
 
 /// Begins a vault over a new database, and does the steps, broken off in each of these ways in turn:
@@ -164,7 +166,7 @@ fn lose<S: Alter + Drop>(
     let mut apart = Plain::new(alloc);
     apart.leave();
     machine.db.execute_batch("BEGIN")?;
-    let mut machine = session(alloc, step, Ending::Whole, machine, &mut apart, seen)?;
+    let mut machine = session(alloc, step, Ending::Lost, machine, &mut apart, seen)?;
     machine.db.execute_batch("ROLLBACK")?;
     Ok(machine)
 }
@@ -185,7 +187,7 @@ fn session<S: Alter + Drop>(
             Ok(Machine::closed(custody))
         }
         Err((fault, volume, db)) => {
-            if ending == Ending::Whole || fault != Failure::VolumeFailed {
+            if ending != Ending::Broken || fault != Failure::VolumeFailed {
                 seen.differs(Difference::Opening(fault));
             }
             Ok(Machine { volume, db })
@@ -203,7 +205,11 @@ fn serve<V: Volume, S: Alter>(
     seen: &mut Seen,
 ) -> Result<(), ScriptFault> {
     seen.trace.commits.clear();
-    let mut wanted = Failure::VolumeFailed;
+    let mut wanted = match ending {
+        // Within the transaction that is open then, a purge cannot begin its own.
+        Ending::Lost => Failure::StoreFailed,
+        Ending::Whole | Ending::Broken => Failure::VolumeFailed,
+    };
     for (number, step) in steps.iter().enumerate() {
         let Some((command, now)) = step.command(alloc) else {
             return Err(ScriptFault::Line);
