@@ -269,8 +269,12 @@ def recorder(name: str) -> Iterator[int]:
             asked = line.rpartition(b" ")[0]
             self.wfile.write(b"HTTP/1.0 200 OK\r\nContent-Type: text/plain\r\n\r\n" + name.encode() + b" " + asked + b"\n")
 
+    class Recorder(socketserver.ThreadingTCPServer):
+        # A connection that has closed may still have the port.
+        allow_reuse_address = True
+
     port = free_port()
-    with socketserver.ThreadingTCPServer(("127.0.0.1", port), Handler) as server:
+    with Recorder(("127.0.0.1", port), Handler) as server:
         threading.Thread(target=server.serve_forever, args=(0.05,)).start()
         try:
             yield port
