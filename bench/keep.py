@@ -39,6 +39,7 @@ NEEDS = {
     "audit": (("escrow",), ("sha256sum", "/usr/bin/time")),
     "chain": (("escrow", "deposit"), ()),
     "map": (("bench_tools",), ()),
+    "notices": (("escrow", "deposit"), ()),
     "pack": (("escrow", "deposit"), ()),
     "purge": (("escrow",), ()),
     "release": (("escrow",), ("/usr/bin/time",)),
@@ -194,7 +195,7 @@ def minutes(clock):
 
 
 # The minutes of the processor from which on a crate's proof is a row of its own.
-SHOWN = 4
+SHOWN = 5.0
 
 
 def prove(log):

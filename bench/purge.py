@@ -1,10 +1,10 @@
 #!/usr/bin/env python3
-"""Times a purge of half the parts of a vault, beside the opening of the same vault; then purges with more and more holds,
-none of them of a day of these parts.
+"""Times a purge of half the parts of a vault, beside the opening of the same vault; then purges with more and more holds:
+those that stand are of days behind all parts, and those that were lifted are of days of the parts.
 
     bench/purge.py [PROGRAM]
 
-It takes about three minutes. It needs the program that `rt run` builds in crates/escrow.
+It takes about two minutes. It needs the program that `rt run` builds in crates/escrow.
 """
 import datetime
 import hashlib
@@ -19,8 +19,9 @@ FIRST_DAY = datetime.date(2000, 1, 1)
 EARLY = datetime.date(2100, 1, 1)
 LATE = datetime.date(2400, 1, 1)
 NOW = datetime.date(2300, 1, 1)
-SIZES = (50_000, 100_000, 200_000)
-HOLDS = (0, 10, 100, 1_000)
+SIZES = (50_000, 200_000)
+# How many holds stand, and how many were lifted.
+HOLDS = ((0, 0), (1_000, 0), (1_000, 10_000), (10_000, 10_000))
 RUNS = 5
 SHA = hashlib.sha256(bytes(5)).digest()
 
@@ -43,13 +44,15 @@ def new_vault(escrow, folder, count):
     db.close()
 
 
-def with_holds(folder, count):
-    """A copy of the vault with so many holds of days behind all parts."""
-    copy = folder.with_name(f"h{count}")
+def with_holds(folder, standing, lifted):
+    """A copy of the vault with so many holds."""
+    copy = folder.with_name(f"h{standing}-{lifted}")
     shutil.copytree(folder, copy)
+    moment = number(LATE) * 86400
+    rows = [(f"H-{i}", "example", number(LATE) + i, moment, None) for i in range(standing)]
+    rows += [(f"L-{i}", "example", number(FIRST_DAY) + i // 2, moment, moment) for i in range(lifted)]
     db = sqlite3.connect(copy / "custody.db")
-    held = ((f"H-{i}", "example", number(LATE) + i, number(LATE) * 86400, None) for i in range(count))
-    db.executemany("INSERT INTO hold VALUES (?, ?, ?, ?, ?)", held)
+    db.executemany("INSERT INTO hold VALUES (?, ?, ?, ?, ?)", rows)
     db.commit()
     db.close()
     return copy
@@ -81,15 +84,15 @@ def main():
 
 def show_holds(escrow, folder, count):
     """What a purge of the vault takes with more and more holds."""
-    print("\n| holds | time (×) |")
-    print("|---|---|")
+    print("\n| holds | lifted | time (×) |")
+    print("|---|---|---|")
     first = None
-    for holds in HOLDS:
-        held = with_holds(folder, holds)
+    for standing, lifted in HOLDS:
+        held = with_holds(folder, standing, lifted)
         time = min(purged(escrow, held, count) for _ in range(RUNS))
         shutil.rmtree(held)
         first = first or time
-        print(f"| {holds:,} | {time / first:.1f} |", flush=True)
+        print(f"| {standing:,} | {lifted:,} | {time / first:.2f} |", flush=True)
 
 
 if __name__ == "__main__":
