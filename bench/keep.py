@@ -195,7 +195,7 @@ def minutes(clock):
 
 
 # The minutes of the processor from which on a crate's proof is a row of its own.
-SHOWN = 5.0
+SHOWN = 5
 
 
 def prove(log):

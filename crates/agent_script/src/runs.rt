@@ -92,8 +92,8 @@ enum Ending {
     Whole,
     /// A call of its volume fails.
     Broken,
-    /// Its rows are lost: the transaction that they are in is rolled back.
-    Lost,
+    /// Its purge fails, since it cannot begin a transaction within the one that is open.
+    LostPurge,
 }
 
 /// Begins a vault over a new database, and does the steps, broken off in each of these ways in turn:
@@ -165,10 +165,18 @@ fn lose<S: Alter + Drop>(
     let mut machine = machine;
     let mut apart = Plain::new(alloc);
     apart.leave();
+    let ending = match step {
+        [step] if is_purge(alloc, step) => Ending::LostPurge,
+        _ => Ending::Whole,
+    };
     machine.db.execute_batch("BEGIN")?;
-    let mut machine = session(alloc, step, Ending::Lost, machine, &mut apart, seen)?;
+    let mut machine = session(alloc, step, ending, machine, &mut apart, seen)?;
     machine.db.execute_batch("ROLLBACK")?;
     Ok(machine)
+}
+
+fn is_purge(alloc: Global, step: &Step<'_>) -> bool {
+    matches!(step.command(alloc), Some((Command::Purge, _)))
 }
 
 /// A session of some steps.
@@ -206,8 +214,7 @@ fn serve<V: Volume, S: Alter>(
 ) -> Result<(), ScriptFault> {
     seen.trace.commits.clear();
     let mut wanted = match ending {
-        // Within the transaction that is open then, a purge cannot begin its own.
-        Ending::Lost => Failure::StoreFailed,
+        Ending::LostPurge => Failure::StoreFailed,
         Ending::Whole | Ending::Broken => Failure::VolumeFailed,
     };
     for (number, step) in steps.iter().enumerate() {
@@ -232,7 +239,7 @@ fn serve<V: Volume, S: Alter>(
         if !is_closed(alloc, custody)? {
             seen.differs(Difference::NotClosed);
         }
-    } else if ending == Ending::Broken {
+    } else if ending != Ending::Whole {
         seen.differs(Difference::Unbroken);
     }
     Ok(())

@@ -15,7 +15,7 @@ use Rattle.custody_records.specs.inside.Orders.{part_total, part_exact}
 use Rattle.custody_records.specs.Records.{PartRecord, Records}
 use Rattle.custody_records.specs.Rows.{PartRow, Rows}
 use Rattle.custody_records.specs.Form.{natural, is_within, is_deposit_day, is_part, kind_in, extents_in, part_key, part_in, form_of, InForm}
-use Rattle.custody_records.specs.Purge.{dropped, dropped_if_among, is_among}
+use Rattle.custody_records.specs.Purge.{dropped_if_among, is_among, record_without_bytes}
 use Rattle.custody_records.proofs.FormLemmas.{in_form_has, parts_changed}
 use Rattle.custody_store.specs.Dropping.{dropped_row, is_row_of, is_same_number, row_dropped_if_among, rows_without_bytes}
 use Rattle.custody_machine.specs.MapValues.{map_keyed}
@@ -81,8 +81,8 @@ row_means keys r entry e =
     without : part_in (dropped_row r) ≡ Some (stands_for r read.kind None)
     without = λ i. cond (read.form i) (option_map (λ (kind : Kind). stands_for r kind None) (read.kind_is i)) None
 
-    by : (b : Bool) → part_in (cond b (dropped_row r) r) ≡ Some (entry.0, cond b (dropped entry.1) entry.1)
-    by true = without ∙ ap (λ (it : PartKey × PartRecord). Some (it.0, dropped it.1)) (sym read.is)
+    by : (b : Bool) → part_in (cond b (dropped_row r) r) ≡ Some (entry.0, cond b (record_without_bytes entry.1) entry.1)
+    by true = without ∙ ap (λ (it : PartKey × PartRecord). Some (it.0, record_without_bytes it.1)) (sym read.is)
     by false = e
 
 -- What the rows stand for after it is what they stood for, without the bytes that were due.

@@ -19,7 +19,7 @@ use Rattle.vault_volume.proofs.Moments.{nothing_yet}
 use Rattle.custody_records.specs.declared.records.Records as held
 use Rattle.custody_records.specs.Keys.{PartKey, part_cmp}
 use Rattle.custody_records.specs.inside.Orders.{part_exact, part_total}
-use Rattle.custody_records.specs.Purge.{dropped as without_bytes, dropped_if_among, dropped_if_due}
+use Rattle.custody_records.specs.Purge.{dropped_if_among, dropped_if_due, record_without_bytes}
 use Rattle.custody_records.specs.Records.{PartRecord, Records}
 use Rattle.custody_machine.specs.declared.answers.Failure.TheVariants.{NoMemory}
 use Rattle.custody_machine.specs.Machine as machine
@@ -48,7 +48,7 @@ dropped_records today records parts dropped =
   where
     by : (key : PartKey) (there : Option PartRecord) → get records.parts key ≡ there → option_map (dropped_if_among (due_keys today records) key) there ≡ option_map (dropped_if_due records.holds today key) there
     by key None at = refl
-    by key (Some part) at = ap (λ b. Some (cond b (without_bytes part) part)) (among_due today records key part at)
+    by key (Some part) at = ap (λ b. Some (cond b (record_without_bytes part) part)) (among_due today records key part at)
 
 module _ {V S : Type 0} {g : volume.Ghosts V} (database : Ghosts S) (old : OpenCustody V S g) (order : KeepsOrder old) (now : ℕ) (d : Decides (GoRuling DropsBytes) (current_records old) Purge now) where
   abbrev pub records_then : Records

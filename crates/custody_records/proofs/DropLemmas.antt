@@ -9,7 +9,7 @@ use Rattle.std.proofs.lemmas.Bool.{cases_Bool}
 use Rattle.std.proofs.lemmas.List.Folds.{list_any-append}
 use Rattle.custody_records.specs.Keys.{PartKey, part_cmp}
 use Rattle.custody_records.specs.inside.Orders.{part_exact, part_total}
-use Rattle.custody_records.specs.Purge.{dropped, dropped_if_among, is_among}
+use Rattle.custody_records.specs.Purge.{dropped_if_among, is_among, record_without_bytes}
 use Rattle.custody_records.specs.Records.{PartRecord}
 
 -- these parts lost their bytes, and nothing else changed
@@ -45,9 +45,9 @@ module _ (old : FinMap part_cmp PartRecord) (sought : PartKey) where
     | inr other ↦ other_key key other
   ]
 
-  pub one_dropped : (part : PartRecord) → get old sought ≡ Some part → AreDropped (sought ∷ []) old (insert old sought (dropped part))
+  pub one_dropped : (part : PartRecord) → get old sought ≡ Some part → AreDropped (sought ∷ []) old (insert old sought (record_without_bytes part))
   one_dropped part there key =
-      get-insert part_total old sought (dropped part) key
+      get-insert part_total old sought (record_without_bytes part) key
       ∙ elim (cases_Bool (eq_by_cmp part_cmp key sought)) [
         | inl is ↦ let found : get old key ≡ Some part = ap (get old) (same_key key sought is) ∙ there in rw (found, is) refl
         | inr other ↦ rw other (other_key key other)
@@ -57,7 +57,7 @@ module _ (old : FinMap part_cmp PartRecord) (sought : PartKey) where
 pub then_dropped : (keys : List PartKey) (last : PartKey) (old mid new : FinMap part_cmp PartRecord) → AreDropped keys old mid → AreDropped (last ∷ []) mid new → AreDropped (keys ++ last ∷ []) old new
 then_dropped keys last old mid new before then key = then key ∙ ap (option_map (dropped_if_among (last ∷ []) key)) (before key) ∙ by (get old key)
   where
-    both : (a b : Bool) (part : PartRecord) → cond b (dropped (cond a (dropped part) part)) (cond a (dropped part) part) ≡ cond (a || b) (dropped part) part
+    both : (a b : Bool) (part : PartRecord) → cond b (record_without_bytes (cond a (record_without_bytes part) part)) (cond a (record_without_bytes part) part) ≡ cond (a || b) (record_without_bytes part) part
     both true true part = refl
     both true false part = refl
     both false true part = refl
@@ -67,4 +67,4 @@ then_dropped keys last old mid new before then key = then key ∙ ap (option_map
     by None = refl
     by (Some part) =
         ap Some (both (is_among keys key) (is_among (last ∷ []) key) part
-        ∙ ap (λ b. cond b (dropped part) part) (sym (list_any-append (eq_by_cmp part_cmp key) keys (last ∷ []))))
+        ∙ ap (λ b. cond b (record_without_bytes part) part) (sym (list_any-append (eq_by_cmp part_cmp key) keys (last ∷ []))))

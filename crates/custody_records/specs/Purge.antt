@@ -21,15 +21,15 @@ abbrev pub is_due : FinMap text_cmp Hold → ℕ → PartKey → PartRecord → 
 is_due holds today key part = is_some part.extents && (nat_lt (year_after (day_of part.received)) today && not (is_on_hold holds key))
 
 -- the record stays, without its bytes
-abbrev pub dropped : PartRecord → PartRecord
-dropped part = record part { extents = None }
+abbrev pub record_without_bytes : PartRecord → PartRecord
+record_without_bytes part = record part { extents = None }
 
 abbrev pub dropped_if_due : FinMap text_cmp Hold → ℕ → PartKey → PartRecord → PartRecord
-dropped_if_due holds today key part = if is_due holds today key part then dropped part else part
+dropped_if_due holds today key part = if is_due holds today key part then record_without_bytes part else part
 
 -- the key is one of these
 abbrev pub is_among : List PartKey → PartKey → Bool
 is_among keys key = list_any (eq_by_cmp part_cmp key) keys
 
 abbrev pub dropped_if_among : List PartKey → PartKey → PartRecord → PartRecord
-dropped_if_among keys key part = if is_among keys key then dropped part else part
+dropped_if_among keys key part = if is_among keys key then record_without_bytes part else part
