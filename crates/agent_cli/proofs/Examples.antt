@@ -54,6 +54,7 @@ words_give_orders = record {
   of_digests = inl (_, inl (codes "example", (refl, example_is_tld), refl), inl (None, refl, refl));
   of_state = inl (_, refl, inl (None, refl, refl));
   of_audit = inl (_, refl, inl (None, refl, refl));
+  of_batch = inl (_, refl, inl (None, refl, refl));
   of_serve = inl (_, refl, inl (Some 1_785_664_800, (omega arith, refl), refl));
   of_serve_now = inl (_, refl, inl (None, refl, refl));
   of_serve_until_closed = inl (_, refl, inl (None, refl, refl));

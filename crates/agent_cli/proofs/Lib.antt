@@ -3,7 +3,8 @@ pub mod Examples
 pub mod FoldLemmas
 pub mod FormLemmas
 mod HelpLemmas
-pub mod OneReading
+pub mod LineLemmas
+mod OneReading
 pub mod PathLemmas
 pub mod Readings
 mod ReadLemmas

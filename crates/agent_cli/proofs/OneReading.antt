@@ -92,6 +92,7 @@ deed_one subcommand.Explain rows = value_one _ _ _ (text_one _ _) (λ tld. value
 deed_one subcommand.Digests rows = value_one _ _ _ (text_one _ _) (λ tld. only_one _)
 deed_one subcommand.State rows = only_one _
 deed_one subcommand.Audit rows = only_one _
+deed_one subcommand.Batch rows = only_one _
 deed_one subcommand.Serve rows = only_one _
 
 order_one : (subcommand : Subcommand) (rows : List Row) → IsOne (OrderReading subcommand rows)

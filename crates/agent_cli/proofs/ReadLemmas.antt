@@ -34,4 +34,5 @@ module _ {V S : Type 0} {g : volume.Ghosts V} {database : Ghosts S} (old new : C
   reading_leaves_alone (deed.Put file) bytes now status output errors reads works acts = cc
   reading_leaves_alone (deed.Do command) bytes now status output errors reads works acts = cc
   reading_leaves_alone (deed.Sweep at_most) bytes now status output errors reads works acts = cc
+  reading_leaves_alone deed.Batch bytes now status output errors reads works acts = cc
   reading_leaves_alone (deed.Serve port requests until_closed) bytes now status output errors reads works acts = cc

@@ -157,4 +157,5 @@ module _ {V S : Type 0} {g : volume.Ghosts V} {database : Ghosts S} where
   Acts (deed.Digests tld) bytes now old new status output errors = (new ≡ old) × IsExitStatus status × PrintsOfRegistry digests_text old tld status output errors
   Acts deed.State bytes now old new status output errors = (new ≡ old) × IsExitStatus status × PrintsState old status output errors
   Acts deed.Audit bytes now old new status output errors = IsExitStatus status × Audits old new status output errors
+  Acts deed.Batch bytes now old new status output errors = (new ≡ old) × (status ≡ 0) × IsUnused output × IsUnused errors
   Acts (deed.Serve port requests until_closed) bytes now old new status output errors = (new ≡ old) × (status ≡ 0) × IsUnused output × IsUnused errors

@@ -4,7 +4,7 @@ use Rattle.clap.specs.Words.{Text}
 use Rattle.deposit_name.specs.declared.kinds.Kind.TheVariants.{Full, Incr}
 use Rattle.desk.specs.declared.grounds.Ground.TheVariants.{Operator}
 use Rattle.custody_machine.specs.Machine.{Register, Statement, Release, Hold, Lift, Purge}
-use Rattle.agent_cli.specs.Order.{ReadsWords, DeedMeaning, Init, Put, Preview, Do, Due, Sweep, Fetch, Report, Explain, Digests, State, Audit, Serve}
+use Rattle.agent_cli.specs.Order.{ReadsWords, DeedMeaning, Init, Put, Preview, Do, Due, Sweep, Fetch, Report, Explain, Digests, State, Audit, Batch, Serve}
 
 -- these words, behind the name of the program, ask for this, in the folder `vault` and at a moment that they may name
 abbrev pub GivesOrder : List Text → Option ℕ → DeedMeaning → Type 0
@@ -45,6 +45,7 @@ pub record WordsGiveOrders : Type 0 where
   pub of_digests : GivesOrder (codes "digests" ∷ codes "vault" ∷ codes "example" ∷ []) None (Digests (codes "example"))
   pub of_state : GivesOrder (codes "state" ∷ codes "vault" ∷ []) None State
   pub of_audit : GivesOrder (codes "audit" ∷ codes "vault" ∷ []) None Audit
+  pub of_batch : GivesOrder (codes "batch" ∷ codes "vault" ∷ []) None Batch
   pub of_serve : GivesOrder (codes "serve" ∷ codes "vault" ∷ codes "--port" ∷ codes "8080" ∷ codes "--requests" ∷ codes "2" ∷ codes "--now" ∷ codes "2026-08-02T10:00:00Z" ∷ []) (Some 1_785_664_800) (Serve 8080 2 false)
   pub of_serve_now : GivesOrder (codes "serve" ∷ codes "vault" ∷ codes "--port" ∷ codes "8080" ∷ codes "--requests" ∷ codes "2" ∷ []) None (Serve 8080 2 false)
   pub of_serve_until_closed : GivesOrder (codes "serve" ∷ codes "vault" ∷ codes "--port" ∷ codes "8080" ∷ codes "--requests" ∷ codes "2" ∷ codes "--until-closed" ∷ []) None (Serve 8080 2 true)

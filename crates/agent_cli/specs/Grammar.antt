@@ -7,7 +7,7 @@ use Rattle.clap.specs.declared.builder.action.ArgAction.TheVariants.{SetTrue}
 use Rattle.agent_cli.specs.declared.subcommands.WordForm.{WordForm}
 use Rattle.agent_cli.specs.declared.subcommands.WordForm.TheVariants.{Place, Option, Count, Flag}
 use Rattle.agent_cli.specs.declared.subcommands.Subcommand.{Subcommand}
-use Rattle.agent_cli.specs.declared.subcommands.Subcommand.TheVariants.{Init, Register, Put, Preview, Verify, Due, Sweep, Purge, Hold, Lift, Release, Fetch, Report, Explain, Digests, State, Audit, Serve}
+use Rattle.agent_cli.specs.declared.subcommands.Subcommand.TheVariants.{Init, Register, Put, Preview, Verify, Due, Sweep, Purge, Hold, Lift, Release, Fetch, Report, Explain, Digests, State, Audit, Batch, Serve}
 use Rattle.agent_cli.specs.declared.subcommands.Word.{Word}
 use Rattle.extent_map.specs.Limits.{fewest_blocks, most_blocks}
 
@@ -90,11 +90,13 @@ words_of Digests = (codes "digests", folder_rule ∷ tld_rule ∷ [])
 words_of State = (codes "state", folder_rule ∷ [])
 -- `audit DIR`
 words_of Audit = (codes "audit", folder_rule ∷ [])
+-- `batch DIR`
+words_of Batch = (codes "batch", folder_rule ∷ [])
 -- `serve DIR --port P --requests N [--until-closed] [--now MOMENT]`
 words_of Serve = (codes "serve", folder_rule ∷ count_rule (codes "port") 1 65_535 true ∷ count_rule (codes "requests") 1 1_000_000 true ∷ flag_rule (codes "until-closed") ∷ now_rule ∷ [])
 
 abbrev pub subcommands : List Subcommand
-subcommands = Init ∷ Register ∷ Put ∷ Preview ∷ Verify ∷ Due ∷ Sweep ∷ Purge ∷ Hold ∷ Lift ∷ Release ∷ Fetch ∷ Report ∷ Explain ∷ Digests ∷ State ∷ Audit ∷ Serve ∷ []
+subcommands = Init ∷ Register ∷ Put ∷ Preview ∷ Verify ∷ Due ∷ Sweep ∷ Purge ∷ Hold ∷ Lift ∷ Release ∷ Fetch ∷ Report ∷ Explain ∷ Digests ∷ State ∷ Audit ∷ Batch ∷ Serve ∷ []
 
 abbrev pub is_named : Text → Subcommand → Bool
 is_named name subcommand = bytes_eq (words_of subcommand).0 name

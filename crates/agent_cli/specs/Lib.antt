@@ -1,4 +1,5 @@
 pub mod Acts
+pub mod BatchLines
 pub mod DueSwept
 pub mod Examples
 pub mod Faults

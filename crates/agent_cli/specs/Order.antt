@@ -36,6 +36,7 @@ pub data DeedMeaning : Type 0 where
   Digests : (tld : List ℕ) → DeedMeaning
   State : DeedMeaning
   Audit : DeedMeaning
+  Batch : DeedMeaning
   Serve : (port requests : ℕ) → (until_closed : Bool) → DeedMeaning
 
 -- a folder, the moment that the words name, and what is to be done there
@@ -119,6 +120,7 @@ DeedReading subcommand.Digests rows r =
     r ≡ Ok (Digests tld)) r
 DeedReading subcommand.State rows r = r ≡ Ok State
 DeedReading subcommand.Audit rows r = r ≡ Ok Audit
+DeedReading subcommand.Batch rows r = r ≡ Ok Batch
 DeedReading subcommand.Serve rows r =
     r ≡ Ok (Serve (count_of (codes "port") 65_535 rows) (count_of (codes "requests") 1_000_000 rows) (is_given (codes "until-closed") rows))
 
@@ -166,6 +168,7 @@ deed_meaning (deed.Explain tld day rev) = Explain tld day rev
 deed_meaning (deed.Digests tld) = Digests tld
 deed_meaning deed.State = State
 deed_meaning deed.Audit = Audit
+deed_meaning deed.Batch = Batch
 deed_meaning (deed.Serve port requests until_closed) = Serve port requests until_closed
 
 -- what an order says

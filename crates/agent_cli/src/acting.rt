@@ -19,8 +19,8 @@ use std::io::Write;
 use vault_volume::Volume;
 
 /// Does a deed, prints its lines and answers the exit status. `file` holds the bytes of the file that
-/// a `put` names, and `now` is the moment. An `init` is refused, since the vault is there, and a
-/// `serve` does nothing here, where no socket is. A sweep says to `progress` how many days it has
+/// a `put` names, and `now` is the moment. An `init` is refused, since the vault is there. A `batch` and
+/// a `serve` do nothing here, where neither lines nor a socket are. A sweep says to `progress` how many days it has
 /// checked, and an audit how many blocks it has read.
 pub fn act<V: Volume, S: Alter, W: Write, E: Write, P: Progress>(
     alloc: Global,
@@ -54,7 +54,7 @@ pub fn act<V: Volume, S: Alter, W: Write, E: Write, P: Progress>(
         Deed::Digests { tld } => list_digests(custody, tld, out, err),
         Deed::State => show(custody, out, err),
         Deed::Audit => audit(alloc, custody, out, err, progress),
-        Deed::Serve { .. } => ExitStatus::Done.number(),
+        Deed::Batch | Deed::Serve { .. } => ExitStatus::Done.number(),
     }
 }
 

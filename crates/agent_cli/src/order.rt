@@ -1,5 +1,6 @@
 //! What a command line asks for.
 ghost use Rattle.std.specs.Prelude.{◌≡◌, Some};
+ghost use Rattle.agent_cli.specs.BatchLines.{is_whole_call};
 ghost use Rattle.agent_cli.specs.Faults.{IsStatusOf, argument_text, word_fault_text};
 ghost use Rattle.agent_cli.specs.Reads.{only_reads};
 ghost use Rattle.agent_cli.specs.declared.order.WordFault.TheVariants.{NoMemory};
@@ -63,6 +64,8 @@ pub enum Deed<'a> {
     },
     State,
     Audit,
+    /// The orders of lines are done, in their turn.
+    Batch,
     Serve {
         port: u16,
         /// How many connections are served.
@@ -90,8 +93,18 @@ impl Deed<'_> {
             | Deed::Put { .. }
             | Deed::Do(_)
             | Deed::Sweep { .. }
+            | Deed::Batch
             | Deed::Serve { .. } => false,
         }
+    }
+}
+
+impl Deed<'_> {
+    /// Whether it is a whole call, and so no order of a batch.
+    pub fn is_whole_call(&self) -> bool
+        ensures { result ≡ is_whole_call self.now }
+    {
+        matches!(self, Deed::Batch | Deed::Serve { .. })
     }
 }
 

@@ -24,11 +24,12 @@ pub(crate) enum Subcommand {
     Digests,
     State,
     Audit,
+    Batch,
     Serve,
 }
 
 /// All of them, in the order in which help shows them.
-pub(crate) const SUBCOMMANDS: [Subcommand; 18] = [
+pub(crate) const SUBCOMMANDS: [Subcommand; 19] = [
     Subcommand::Init,
     Subcommand::Register,
     Subcommand::Put,
@@ -46,6 +47,7 @@ pub(crate) const SUBCOMMANDS: [Subcommand; 18] = [
     Subcommand::Digests,
     Subcommand::State,
     Subcommand::Audit,
+    Subcommand::Batch,
     Subcommand::Serve,
 ];
 
@@ -476,6 +478,17 @@ static AUDIT: Row<'static> = Row {
     words: &[DIR],
 };
 
+static BATCH: Row<'static> = Row {
+    name: "batch",
+    about: "Does the commands that standard input lists, on a vault that it opens once",
+    after: "Line: a command without escrow and DIR, such as put FILE; white space parts its words\n\
+            Prints: what each command prints, before it reads the next line\n\
+            Ends: with 2 at a line that is no command, or one with batch or serve;\n      \
+            with 3 once C2 or C3 closes the vault; else with the highest status of its commands\n\
+            Example: ls *.ryde | sed 's/^/put /' | escrow batch vault",
+    words: &[DIR],
+};
+
 static SERVE: Row<'static> = Row {
     name: "serve",
     about: "Serves requests over HTTP on 127.0.0.1, one connection at a time",
@@ -542,6 +555,7 @@ impl Subcommand {
             Subcommand::Digests => &DIGESTS,
             Subcommand::State => &STATE,
             Subcommand::Audit => &AUDIT,
+            Subcommand::Batch => &BATCH,
             Subcommand::Serve => &SERVE,
         }
     }

@@ -50,6 +50,7 @@ fn deed_in<'a>(subcommand: Subcommand, matches: &ArgMatches<'a>) -> Result<Deed<
         }),
         Subcommand::State => Ok(Deed::State),
         Subcommand::Audit => Ok(Deed::Audit),
+        Subcommand::Batch => Ok(Deed::Batch),
         Subcommand::Serve => Ok(Deed::Serve {
             port: port_in(matches),
             requests: count_in(matches, "requests", 1_000_000),
