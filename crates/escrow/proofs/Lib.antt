@@ -1,3 +1,4 @@
+mod BatchLemmas
 mod CopyLemmas
 mod ErrorLemmas
 mod FolderLemmas

@@ -27,7 +27,9 @@ module _ {R : Type 0} (g : volume.Ghosts FileVolume) (remaining : R → Option (
     pub output : Writer
     pub errors : Writer
     pub part : Option R
-    pub done : HasEnded g output errors (IsPartRead remaining part) order ended
+    -- what standard input tells of its bytes
+    pub lines : Option (List ℕ)
+    pub done : HasEnded g output errors (IsPartRead remaining part) lines order ended
     pub status_is : status ≡ end_status ended
 
   -- The words ask for an order, which was done. Or they are none, or there is no memory to read them: then the status is

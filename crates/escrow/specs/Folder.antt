@@ -1,5 +1,6 @@
 -- What an order does over the two files of a folder.
 use Rattle.std.specs.Prelude.{◌≡◌, ℕ, Bool, List, [], Option, None, Some, true, false, take, IfSome, MatchOption}
+use Rattle.clap.specs.Words.{Text}
 use Rattle.vault_volume.specs.declared.volume.Volume as volume
 use Rattle.vault_volume.specs.declared.file.FileVolume.{FileVolume}
 use Rattle.vault_volume.specs.File.{is_new_file}
@@ -16,7 +17,7 @@ use Rattle.escrow.specs.declared.files.FolderCallEnd.{FolderCallEnd}
 use Rattle.escrow.specs.declared.files.FolderCallEnd.TheVariants as end
 use Rattle.escrow.specs.declared.files.OpenFolder.{OpenFolder}
 use Rattle.escrow.specs.declared.files.ReadOnlyFolder.{ReadOnlyFolder}
-use Rattle.escrow.specs.VaultCalls.{HasServedConnections, HasPrintedReady, IsCarriedOut, HasPrintedInitError, HasPrintedOpenFailure}
+use Rattle.escrow.specs.VaultCalls.{HasDoneBatch, HasServedConnections, HasPrintedReady, IsCarriedOut, HasPrintedInitError, HasPrintedOpenFailure}
 
 -- a database has no table, no index and no view
 abbrev pub ListsNothing : State → Type 0
@@ -42,18 +43,24 @@ module _ {S : Type 0} (g : volume.Ghosts FileVolume) (database : Ghosts S) (volu
     pub moment : IfSome order.now (λ named. now ≡ named)
     pub ends : MatchOption vault (HasPrintedOpenFailure g database volume db status output errors) (λ v. IsCarriedOut g database volume db order.deed bytes now status v.0 v.1 output errors)
 
+  -- the files were found, and the orders of these lines were done over them, or no agent was opened
+  pub record BatchesFolder (folder : Text) (lines : Option (List ℕ)) : Type 0 where
+    pub found : is_new_file volume ≡ false
+    pub ends : MatchOption vault (HasPrintedOpenFailure g database volume db status output errors) (λ v. HasDoneBatch g database volume db folder lines status v.0 v.1 output errors)
+
   -- the files were found, and so many connections at most were answered at this port, or no agent was opened
   pub record ServesFolder (port requests : ℕ) (until_closed : Bool) (given : Option ℕ) : Type 0 where
     pub found : is_new_file volume ≡ false
     pub ends : MatchOption vault (HasPrintedOpenFailure g database volume db status output errors) (λ v. HasServedConnections g database volume db port given requests until_closed status v.0 v.1 output)
 
-  -- each order does its own; the bytes of a `put` are those that were read
-  abbrev pub IsOrderDone : (List ℕ → Type 0) → Order → Type 0
-  IsOrderDone IsRead order = by order.deed
+  -- each order does its own; the bytes of a `put` are those that were read, and the lines of a batch those of these bytes
+  abbrev pub IsOrderDone : (List ℕ → Type 0) → (lines : Option (List ℕ)) → Order → Type 0
+  IsOrderDone IsRead lines order = by order.deed
     where
       by : Deed → Type 0
       by (deed.Init blocks number) = InitsFolder blocks number
       by (deed.Put file) = (bytes : List ℕ) × IsRead bytes × ActsInFolder order bytes
+      by deed.Batch = BatchesFolder order.folder.now lines
       by (deed.Serve port requests until_closed) = ServesFolder port requests until_closed order.now
       by other = ActsInFolder order []
 
@@ -73,5 +80,5 @@ module _ (g : volume.Ghosts FileVolume) (output errors : Writer) where
   HasActed order bytes = IsOverFolder (λ S database volume db status vault. ActsInFolder g database volume db status vault output errors order bytes) order
 
   -- an order was done over a folder
-  abbrev pub HasEnded : (List ℕ → Type 0) → Order → FolderCallEnd → Type 0
-  HasEnded IsRead order = IsOverFolder (λ S database volume db status vault. IsOrderDone g database volume db status vault output errors IsRead order) order
+  abbrev pub HasEnded : (List ℕ → Type 0) → (lines : Option (List ℕ)) → Order → FolderCallEnd → Type 0
+  HasEnded IsRead lines order = IsOverFolder (λ S database volume db status vault. IsOrderDone g database volume db status vault output errors IsRead lines order) order

@@ -1,5 +1,6 @@
 -- What a call does over a volume and a database.
 use Rattle.std.specs.Prelude.{◌≡◌, ℕ, ◌≤◌, List, Option, Bool, true}
+use Rattle.clap.specs.Words.{Text}
 use Rattle.vault_volume.specs.declared.volume.Volume as volume
 use Rattle.vault_volume.specs.Vault.{volume_of}
 use Rattle.sqlite.specs.Store.{Ghosts}
@@ -17,6 +18,7 @@ use Rattle.answer_lines.specs.Statuses.{IsStatusAfter, init_status}
 use Rattle.answer_lines.specs.declared.lines.Line.TheVariants.{Listening, Ready}
 use Rattle.agent_cli.specs.Acts.{Acts}
 use Rattle.agent_cli.specs.declared.order.Deed.{Deed}
+use Rattle.escrow.specs.Batch.{AreLinesDone}
 use Rattle.http_api.specs.Connections.{AreConnections, socket_state}
 
 module _ {V S : Type 0} (g : volume.Ghosts V) (database : Ghosts S) (volume : V) (db : Held S) where
@@ -27,6 +29,16 @@ module _ {V S : Type 0} (g : volume.Ghosts V) (database : Ghosts S) (volume : V)
     pub opened : IsOpened g database volume db old
     pub loaded : IsLoaded g database volume db old
     pub acts : Acts deed bytes now old new status output errors
+    pub volume_is : later ≡ volume_of (open_custody_of new).vault
+    pub store_is : then ≡ (open_custody_of new).store
+
+  -- an agent was opened, and the orders that lines ask for were done on it in their turn; the lines are those of these bytes, where they are known
+  pub record HasDoneBatch (folder : Text) (lines : Option (List ℕ)) (status : ℕ) (later : V) (then : Held S) (output errors : Writer) : Type 0 where
+    pub old : Custody V S g database
+    pub new : Custody V S g database
+    pub opened : IsOpened g database volume db old
+    pub loaded : IsLoaded g database volume db old
+    pub done : AreLinesDone folder lines old new status output errors
     pub volume_is : later ≡ volume_of (open_custody_of new).vault
     pub store_is : then ≡ (open_custody_of new).store
 

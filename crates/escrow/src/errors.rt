@@ -1,12 +1,15 @@
 //! Why an order is not carried out.
-ghost use Rattle.std.specs.Prelude.{◌≡◌, IfSome, codes};
+ghost use Rattle.std.specs.Prelude.{◌≡◌, IfSome, OnOk, codes};
+ghost use Rattle.std.specs.Io.KnownBytes.{Appends};
 ghost use Rattle.std.specs.IoError.{error_kind};
-ghost use Rattle.escrow.specs.Errors.{IsFileError, IsOfFile, IsOfVault, error_status};
+ghost use Rattle.answer_lines.specs.Printing.{WritesBeginning};
+ghost use Rattle.escrow.specs.Errors.{IsErrorPrinted, IsFileError, IsOfFile, IsOfVault, error_line, error_status};
 
+use answer_lines::{WriteFailed, failure_bytes, write_whole};
 use custody_machine::{ExitStatus, Failure};
 use std::alloc::{AllocError, Global};
 use std::fmt;
-use std::io::{self, ErrorKind};
+use std::io::{self, ErrorKind, Write};
 
 /// What is said of a file that is not there.
 pub const MISSING: &str = "file missing";
@@ -72,5 +75,28 @@ impl From<AllocError> for ProgramError {
 
     fn from(_error: AllocError) -> ProgramError {
         ProgramError::Failure(Failure::NoMemory)
+    }
+}
+
+/// Writes the line of an error.
+fn write_error<E: Write>(error: &ProgramError, err: &mut E) -> Result<(), WriteFailed>
+    ensures whole { OnOk result (Appends (E.contents err.old) (E.contents err.new) (error_line error.now)) }
+    ensures begun { WritesBeginning (record { before = E.contents err.old; after = E.contents err.new }) (error_line error.now) }
+{
+    match error {
+        ProgramError::Words => write_whole(b"error: an argument is no text\n", err),
+        ProgramError::File(line) => write_whole(line.as_bytes(), err),
+        ProgramError::Clock => write_whole(b"clock failed\n", err),
+        ProgramError::Failure(failure) => write_whole(&failure_bytes(failure), err),
+    }
+}
+
+/// Prints the line of an error, and answers the status.
+pub fn tell_error<E: Write>(error: &ProgramError, err: &mut E) -> u8
+    ensures { IsErrorPrinted error.now result (record { before = E.contents err.old; after = E.contents err.new }) }
+{
+    match write_error(error, err) {
+        Ok(()) => error.status(),
+        Err(WriteFailed) => ExitStatus::Failed.number(),
     }
 }

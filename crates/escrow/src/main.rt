@@ -11,6 +11,7 @@ ghost use Rattle.escrow.specs.Calls.{AskFor, EndsCall, IsObeyed};
 ghost use Rattle.escrow.specs.Errors.{IsProgramFailure, IsErrorPrinted, error_line};
 ghost use Rattle.escrow.specs.Folder.{HasActed, HasEnded, IsPartRead};
 
+mod batch;
 mod clock;
 mod copies;
 mod errors;
@@ -21,21 +22,19 @@ mod terminal;
 mod vault_calls;
 
 use agent_cli::{Deed, Order, WordFault, order_of};
-use answer_lines::{WriteFailed, failure_bytes, write_whole};
 use custody_machine::{ExitStatus, Failure};
-use errors::ProgramError;
+use errors::{ProgramError, tell_error};
 use files::{
     FolderCallEnd, close, create_folder, is_read_only, open_folder, open_folder_to_read, open_part,
     read_part,
 };
 use output::Output;
-use schedule::Sec;
 use std::env;
 use std::io::{self, BufWriter, Read, Write};
 use std::process::ExitCode;
 use streams::hold_streams;
 use terminal::Terminal;
-use vault_calls::{init_vault, open_and_act, serve};
+use vault_calls::{batch, init_vault, open_and_act, serve};
 use vault_volume::{FileVolume, Volume};
 
 /// What is said where standard output does not take all that is printed.
@@ -58,41 +57,6 @@ fn tell_words(rt: &HostRuntime, fault: &WordFault) -> u8
     }
 }
 
-/// Writes the line of an error.
-fn write_error<E: Write>(error: &ProgramError, err: &mut E) -> Result<(), WriteFailed>
-    ensures whole { OnOk result (Appends (E.contents err.old) (E.contents err.new) (error_line error.now)) }
-    ensures begun { WritesBeginning (record { before = E.contents err.old; after = E.contents err.new }) (error_line error.now) }
-{
-    match error {
-        ProgramError::Words => write_whole(b"error: an argument is no text\n", err),
-        ProgramError::File(line) => write_whole(line.as_bytes(), err),
-        ProgramError::Clock => write_whole(b"clock failed\n", err),
-        ProgramError::Failure(failure) => write_whole(&failure_bytes(failure), err),
-    }
-}
-
-/// Prints the line of an error, and answers the status.
-fn tell_error<E: Write>(error: &ProgramError, err: &mut E) -> u8
-    ensures { IsErrorPrinted error.now result (record { before = E.contents err.old; after = E.contents err.new }) }
-{
-    match write_error(error, err) {
-        Ok(()) => error.status(),
-        Err(WriteFailed) => ExitStatus::Failed.number(),
-    }
-}
-
-/// The moment that the words name, or else that of the clock.
-fn moment_of(rt: &HostRuntime, order: &Order<'_>) -> Result<Sec, ProgramError>
-    ensures named { IfSome order.entry.now.now (λ now. result ≡ Ok now) }
-    ensures found { IfOk result (λ now. IfSome order.entry.now.now (λ moment. now ≡ moment)) }
-    ensures error { IfErr result (λ error. error ≡ ProgramError.Clock) }
-{
-    match order.now {
-        Some(now) => Ok(now),
-        None => clock::now(rt),
-    }
-}
-
 /// Carries out an order on the vault of a folder, at its moment.
 fn act_in_folder<W: Write, E: Write>(
     rt: &HostRuntime,
@@ -104,7 +68,7 @@ fn act_in_folder<W: Write, E: Write>(
     ensures done { IfOk result (HasActed ⟦<FileVolume as Volume>⟧ (record { before = W.contents out.old; after = W.contents out.new }) (record { before = E.contents err.old; after = E.contents err.new }) order.entry.now file.now) }
     ensures error { IfErr result IsProgramFailure }
 {
-    let now = moment_of(rt, order)?;
+    let now = clock::moment_of(rt, order)?;
     let alloc = rt.alloc();
     let deed = &order.deed;
     let mut progress = Terminal::of(rt, deed);
@@ -121,15 +85,16 @@ fn act_in_folder<W: Write, E: Write>(
 }
 
 /// Carries out an order over the files of its folder, which are to be closed then. `part` is the file that
-/// a `put` names.
-fn carry_out<R: Read + Drop, W: Write, E: Write>(
+/// a `put` names, and `lines` are those of a batch.
+fn carry_out<R: Read + Drop, L: Read + Drop, W: Write, E: Write>(
     rt: &HostRuntime,
     order: &Order<'_>,
     part: Option<R>,
+    lines: L,
     out: &mut W,
     err: &mut E,
 ) -> Result<FolderCallEnd, ProgramError>
-    ensures done { IfOk result (HasEnded ⟦<FileVolume as Volume>⟧ (record { before = W.contents out.old; after = W.contents out.new }) (record { before = E.contents err.old; after = E.contents err.new }) (IsPartRead R.remaining part) order.entry.now) }
+    ensures done { IfOk result (HasEnded ⟦<FileVolume as Volume>⟧ (record { before = W.contents out.old; after = W.contents out.new }) (record { before = E.contents err.old; after = E.contents err.new }) (IsPartRead R.remaining part) (L.remaining lines) order.entry.now) }
     ensures error { IfErr result IsProgramFailure }
 {
     match order.deed {
@@ -141,6 +106,11 @@ fn carry_out<R: Read + Drop, W: Write, E: Write>(
         Deed::Put { file } => {
             let bytes = read_part(rt.alloc(), file, part)?;
             act_in_folder(rt, order, &bytes, out, err)
+        }
+        Deed::Batch => {
+            let found = open_folder(rt, order.folder)?;
+            let files = (found.volume, found.db);
+            Ok(FolderCallEnd::Open(batch(rt, files, order.folder, lines, out, err)))
         }
         Deed::Serve {
             port,
@@ -184,7 +154,7 @@ fn obey(rt: &HostRuntime, order: &Order<'_>) -> Result<u8, ProgramError>
         Failure::NoMemory,
     ))?;
     let mut out = Output::new(buffered);
-    let ended = carry_out(rt, order, part, &mut out, &mut rt.stderr())?;
+    let ended = carry_out(rt, order, part, rt.stdin(), &mut out, &mut rt.stderr())?;
     if out.has_failed() {
         let _ = eprintln!(rt; "{OUTPUT_FAILED}");
     }

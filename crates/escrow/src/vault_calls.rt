@@ -4,9 +4,10 @@ ghost use Rattle.custody.specs.Custody.{is_open};
 ghost use Rattle.answer_lines.specs.Lines.{line_text};
 ghost use Rattle.answer_lines.specs.Printing.{WritesWholeAt, as_line};
 ghost use Rattle.answer_lines.specs.Statuses.{IsStatusAfter};
-ghost use Rattle.escrow.specs.VaultCalls.{HasServedConnections, HasPrintedReady, IsCarriedOut, HasPrintedInitError, HasPrintedOpenFailure};
+ghost use Rattle.escrow.specs.VaultCalls.{HasServedConnections, HasPrintedReady, HasDoneBatch, IsCarriedOut, HasPrintedInitError, HasPrintedOpenFailure};
 ghost use Rattle.http_api.specs.Connections.{AreConnections, socket_state};
 
+use crate::batch::do_lines;
 use agent_cli::{Deed, act};
 use answer_lines::{Line, VolumeNumber, print_line, tell, tell_init};
 use custody::{Custody, Progress};
@@ -15,7 +16,7 @@ use http_api::{Api, Listener, ServiceError, serve_connections};
 use schedule::Sec;
 use sqlite::{Alter, Connection};
 use std::alloc::Global;
-use std::io::Write;
+use std::io::{Read, Write};
 use vault_volume::Volume;
 
 /// How a call ended: the exit status, and what is to be closed where there is a vault.
@@ -79,6 +80,37 @@ pub fn open_and_act<V: Volume, S: Alter + Drop, W: Write, E: Write, P: Progress>
         }
     };
     let status = act(alloc, &mut custody, deed, file, now, out, err, progress);
+    CallEnd {
+        status,
+        vault: Some(custody.close()),
+    }
+}
+
+/// Opens a vault, and does the orders that lines ask for, in their turn.
+pub fn batch<V: Volume, S: Alter + Drop, L: Read + Drop, W: Write, E: Write>(
+    rt: &HostRuntime,
+    files: (V, Connection<S>),
+    folder: &str,
+    lines: L,
+    out: &mut W,
+    err: &mut E,
+) -> CallEnd<V, S>
+    requires { V.failures files.0 < 2 ^ 64 - 1 }
+    ensures { MatchOption result.vault
+        (HasPrintedOpenFailure V.Volume S.Store files.0 files.1 result.status (record { before = W.contents out.old; after = W.contents out.new }) (record { before = E.contents err.old; after = E.contents err.new }))
+        (λ v. HasDoneBatch V.Volume S.Store files.0 files.1 folder.now (L.remaining lines) result.status v.0 v.1 (record { before = W.contents out.old; after = W.contents out.new }) (record { before = E.contents err.old; after = E.contents err.new })) }
+{
+    let (volume, db) = files;
+    let mut custody = match Custody::open(rt.alloc(), volume, db) {
+        Ok(custody) => custody,
+        Err((failure, _, _)) => {
+            return CallEnd {
+                status: tell(&failure, err),
+                vault: None,
+            };
+        }
+    };
+    let status = do_lines(rt, &mut custody, folder, lines, out, err);
     CallEnd {
         status,
         vault: Some(custody.close()),

@@ -23,10 +23,20 @@ returns-in_ok-found-in-Serve-clause-done g c =
       },
     )
 
+pub returns-in_ok-found-in-Batch-clause-done : goal.returns-in_ok-found-in-Batch-clause-done
+returns-in_ok-found-in-Batch-clause-done g c =
+    rw c.in-Batch.is (
+      c.in_ok-found-in-Batch.found,
+      record {
+        found = c.in_ok-found-in-Batch.ensures.found;
+        ends = c.batch.ensures;
+      },
+    )
+
 pub returns-in_ok-bytes-in-Put-clause-done : goal.returns-in_ok-bytes-in-Put-clause-done
 returns-in_ok-bytes-in-Put-clause-done g c =
-    IfOk-acted _ _ _ c.args.order.now _ (IsPartRead g.R.Read.remaining c.args.part) _ c.act_in_folder.ensures.done (λ S database volume db status vault works. search rules)
+    IfOk-acted _ _ _ c.args.order.now _ (IsPartRead g.R.Read.remaining c.args.part) _ _ c.act_in_folder.ensures.done (λ S database volume db status vault works. search rules)
 
 pub returns-in-Preview-clause-done : goal.returns-in-Preview-clause-done
 returns-in-Preview-clause-done g c =
-    IfOk-acted _ _ _ c.args.order.now _ (IsPartRead g.R.Read.remaining c.args.part) _ c.act_in_folder-in-Preview.ensures.done (λ S database volume db status vault works. search rules)
+    IfOk-acted _ _ _ c.args.order.now _ (IsPartRead g.R.Read.remaining c.args.part) _ _ c.act_in_folder-in-Preview.ensures.done (λ S database volume db status vault works. search rules)

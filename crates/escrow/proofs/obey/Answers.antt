@@ -6,6 +6,7 @@ returns-clause-done c = record {
   output = _;
   errors = _;
   part = c.in_ok-part.part;
+  lines = _;
   done = c.in_ok-ended.ensures.done;
   status_is = c.close.ensures;
 }

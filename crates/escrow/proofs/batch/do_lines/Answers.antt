@@ -1,0 +1,17 @@
+use Rattle.std.proofs.Common.{refl, subst}
+use Rattle.escrow.specs.Batch.{AreLinesDone}
+use Rattle.escrow.proofs.BatchLemmas.{buffered, ends_lost}
+use Rattle.escrow.proofs.batch.do_lines.Goals as goal
+
+-- the buffer gives what the reader gives
+pub returns-in-Ok : goal.returns-in-Ok
+returns-in-Ok g c =
+    subst (λ bytes. AreLinesDone c.args.folder.now bytes c.args.custody.now c.do_each_line.new.custody c.do_each_line.result (record { before = g.W.Write.contents c.args.out.now; after = g.W.Write.contents c.do_each_line.new.out })
+    (record { before = g.E.Write.contents c.args.err.now; after = g.E.Write.contents c.do_each_line.new.err }))
+    (buffered g.R.Read.remaining c.in-Ok.lines c.args.lines c.in-Ok.ensures.inner c.in-Ok.ensures.empty c.in-Ok.ensures.capacity) c.do_each_line.ensures
+
+-- there is no memory for the buffer, and so no line is read
+pub returns-in-Err : goal.returns-in-Err
+returns-in-Err g c =
+    ends_lost c.args.folder.now 0 c.args.custody.now c.args.custody.now c.tell.result (record { before = g.W.Write.contents c.args.out.now; after = g.W.Write.contents c.args.out.now })
+    (record { before = g.E.Write.contents c.args.err.now; after = g.E.Write.contents c.tell.new.err }) (g.R.Read.remaining c.args.lines) (refl, c.tell.ensures.status, refl)
