@@ -37,6 +37,7 @@ PATIENCE = 1800
 NEEDS = {
     "agent": (("escrow",), ("cp", "sync", "sqlite3")),
     "audit": (("escrow",), ("sha256sum", "/usr/bin/time")),
+    "batch": (("escrow",), ()),
     "chain": (("escrow", "deposit"), ()),
     "map": (("bench_tools",), ()),
     "notices": (("escrow", "deposit"), ()),

@@ -84,6 +84,7 @@ PRINTED = {
         "damaged NAME": f"{SPOILED}escrow audit d",
         "bad value for X": "escrow lift d H_1",
         "error: TEXT": "escrow state",
+        "batch ended at line N": "printf 'state\nstat\n' | escrow batch d",
         "C2 volume failed":
             f"vault e 300; truncate -s 1M {PART}; trap '' XFSZ; ulimit -f 700; escrow put e {PART} --now {TEN}",
         "C3 store failed": "mkdir e; trap '' XFSZ; ulimit -f 8; escrow init e --blocks 8 --number 0000000000000001",
