@@ -18,6 +18,7 @@ declare -gA _escrow_options=(
     [digests]=''
     [state]=''
     [audit]=''
+    [batch]=''
     [serve]='--port=N --requests=N --until-closed --now=MOMENT'
 )
 declare -gA _escrow_places=(
@@ -38,6 +39,7 @@ declare -gA _escrow_places=(
     [digests]='DIR TLD'
     [state]='DIR'
     [audit]='DIR'
+    [batch]='DIR'
     [serve]='DIR'
 )
 declare -gA _escrow_values=(
