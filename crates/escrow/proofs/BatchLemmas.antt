@@ -19,7 +19,7 @@ use Rattle.agent_cli.specs.declared.order.WordFault.TheVariants as fault
 use Rattle.escrow.specs.declared.errors.ProgramError.{ProgramError}
 use Rattle.escrow.specs.declared.errors.ProgramError.TheVariants as error
 use Rattle.escrow.specs.Errors.{IsErrorPrinted, IsOfVault}
-use Rattle.escrow.specs.Batch.{EndsAt, HasDoneOrder, IsBatch, IsInputLost, LineAsksFor}
+use Rattle.escrow.specs.Batch.{AreAny, EndsAt, HasDoneOrder, IsBatch, IsInputLost, LineAsksFor}
 
 -- words that are no order make the line that gives them no order
 pub no_order : (folder : Text) (text : List ℕ) (words : List Text) (why : LineFault) → GivesCall folder text words → AskNoOrder words why → IsNoOrder folder text why
@@ -98,16 +98,22 @@ are_known : (bytes : Option (List ℕ)) → IfSome bytes (λ all. known_lines by
 are_known None = tt
 are_known (Some bytes) = refl
 
+-- bytes of which something is known are bytes
+pub any_bytes : {V S : Type 0} {g : volume.Ghosts V} {database : Ghosts S} (IsRead : List ℕ → Type 0) (order : Order) (old new : Custody V S g database) (status : ℕ) (output errors : Writer)
+    → HasDoneOrder IsRead order old new status output errors → HasDoneOrder AreAny order old new status output errors
+any_bytes IsRead order old new status output errors (inl (bytes, now, read, moment, acts)) = inl (bytes, now, tt, moment, acts)
+any_bytes IsRead order old new status output errors (inr failed) = inr failed
+
 module _ {V S : Type 0} {g : volume.Ghosts V} {database : Ghosts S} (folder : Text) (highest : ℕ) (old new : Custody V S g database) (status : ℕ) (output errors : Writer) where
   abbrev pub IsBatchOf : Option (List ℕ) → Type 0
   IsBatchOf bytes = (lines : List (List ℕ)) × IfSome bytes (λ all. lines ≡ batch_lines all) × IsBatch folder lines highest old new status output errors
 
-  lost_of : (lines : List (List ℕ)) → IsInputLost old new status output → IsBatch folder lines highest old new status output errors
+  lost_of : (lines : List (List ℕ)) → IsInputLost old new status output errors → IsBatch folder lines highest old new status output errors
   lost_of [] lost = inl lost
   lost_of (first ∷ others) lost = inl lost
 
   -- the next line could not be read
-  pub ends_lost : (bytes : Option (List ℕ)) → IsInputLost old new status output → IsBatchOf bytes
+  pub ends_lost : (bytes : Option (List ℕ)) → IsInputLost old new status output errors → IsBatchOf bytes
   ends_lost bytes lost = (known_lines bytes, are_known bytes, lost_of (known_lines bytes) lost)
 
   -- no line was left
@@ -130,7 +136,7 @@ module _ {V S : Type 0} {g : volume.Ghosts V} {database : Ghosts S} (folder : Te
 
   -- the order of the line closed the agent
   pub ends_closed : (bytes : Option (List ℕ)) (text : List ℕ) (left : Option (List ℕ)) → ReadsLine bytes (Some text) left → (order : Order) → LineAsksFor folder text order
-      → HasDoneOrder order old new status output errors → is_open new ≡ false → IsBatchOf bytes
+      → HasDoneOrder AreAny order old new status output errors → is_open new ≡ false → IsBatchOf bytes
   ends_closed bytes text left reads order asks done closed = (
     text ∷ known_lines left,
     read_first bytes text left (known_lines left) asks.1.fits reads (are_known left),
@@ -140,7 +146,7 @@ module _ {V S : Type 0} {g : volume.Ghosts V} {database : Ghosts S} (folder : Te
   -- the order of the line was done, and those of the others after it
   pub goes_on : (bytes : Option (List ℕ)) (text : List ℕ) (left : Option (List ℕ)) → ReadsLine bytes (Some text) left → (order : Order) → LineAsksFor folder text order
       → (later : Custody V S g database) (told : ℕ) (out err : Option (List ℕ))
-      → HasDoneOrder order old later told (record { before = output.before; after = out }) (record { before = errors.before; after = err }) → is_open later ≡ true
+      → HasDoneOrder AreAny order old later told (record { before = output.before; after = out }) (record { before = errors.before; after = err }) → is_open later ≡ true
       → (lines : List (List ℕ)) → IfSome left (λ rest. lines ≡ batch_lines rest)
       → IsBatch folder lines (max highest told) later new status (record { before = out; after = output.after }) (record { before = err; after = errors.after }) → IsBatchOf bytes
   goes_on bytes text left reads order asks later told out err done works lines known others = (

@@ -5,36 +5,34 @@ use Rattle.sqlite.specs.Store.{Ghosts}
 use Rattle.clap.specs.Words.{Text}
 use Rattle.custody.specs.declared.custody.Custody.{Custody}
 use Rattle.custody.specs.Custody.{is_open}
-use Rattle.answer_lines.specs.Printing.{IsUnused, Writer}
+use Rattle.answer_lines.specs.Printing.{IsUnused, Writer, WritesBeginning}
 use Rattle.answer_lines.specs.Statuses.{IsStatusAfter}
 use Rattle.agent_cli.specs.Acts.{Acts}
 use Rattle.agent_cli.specs.BatchLines.{AskInBatch, IsNoOrder, GivesCall, batch_lines, line_fault_status}
 use Rattle.agent_cli.specs.declared.lines.LineFault.{LineFault}
-use Rattle.agent_cli.specs.declared.order.Deed.{Deed}
-use Rattle.agent_cli.specs.declared.order.Deed.TheVariants as deed
 use Rattle.agent_cli.specs.declared.order.Order.{Order}
 use Rattle.escrow.specs.declared.errors.ProgramError.{ProgramError}
-use Rattle.escrow.specs.Errors.{IsErrorPrinted, IsProgramFailure}
+use Rattle.escrow.specs.Errors.{IsErrorPrinted, IsOfFile, IsProgramFailure, error_line}
 
 -- a line asks for this order of a batch
 abbrev pub LineAsksFor : (folder : Text) → List ℕ → Order → Type 0
 LineAsksFor folder line order = (words : List Text) × GivesCall folder line words × AskInBatch words order
 
--- a `put` has the bytes of its part, and no other order has any
-abbrev pub MayHaveBytes : Deed → List ℕ → Type 0
-MayHaveBytes (deed.Put file) bytes = Unit {0}
-MayHaveBytes other bytes = bytes ≡ []
+-- bytes of which nothing is known, as of a file of the host
+abbrev pub AreAny : List ℕ → Type 0
+AreAny bytes = Unit {0}
 
 module _ {V S : Type 0} {g : volume.Ghosts V} {database : Ghosts S} where
-  -- An order was done on the agent, at the moment that it names. Or its part or the clock failed, which the line of that says.
-  abbrev pub HasDoneOrder : Order → Custody V S g database → Custody V S g database → ℕ → Writer → Writer → Type 0
-  HasDoneOrder order old new status output errors =
-      ((bytes : List ℕ) × (now : ℕ) × MayHaveBytes order.deed bytes × IfSome order.now (λ named. now ≡ named) × Acts order.deed bytes now old new status output errors)
+  -- An order was done on the agent, at the moment that it names, with the bytes that were read. Or its part or the clock failed, which the line of that says.
+  abbrev pub HasDoneOrder : (List ℕ → Type 0) → Order → Custody V S g database → Custody V S g database → ℕ → Writer → Writer → Type 0
+  HasDoneOrder IsRead order old new status output errors =
+      ((bytes : List ℕ) × (now : ℕ) × IsRead bytes × IfSome order.now (λ named. now ≡ named) × Acts order.deed bytes now old new status output errors)
       ⊎ ((error : ProgramError) × IsProgramFailure error × (new ≡ old) × IsErrorPrinted error status errors × IsUnused output)
 
-  -- the next line could not be read
-  abbrev pub IsInputLost : Custody V S g database → Custody V S g database → ℕ → Writer → Type 0
-  IsInputLost old new status output = (new ≡ old) × (status ≡ 3) × IsUnused output
+  -- the next line could not be read, which an error of a file says, or want of memory
+  abbrev pub IsInputLost : Custody V S g database → Custody V S g database → ℕ → Writer → Writer → Type 0
+  IsInputLost old new status output errors =
+      (error : ProgramError) × IsOfFile error × (new ≡ old) × (status ≡ 3) × IsUnused output × WritesBeginning errors (error_line error)
 
   -- a line was no order, which its fault says
   abbrev pub EndsAt : (folder : Text) → List ℕ → Custody V S g database → Custody V S g database → ℕ → Writer → Type 0
@@ -42,11 +40,11 @@ module _ {V S : Type 0} {g : volume.Ghosts V} {database : Ghosts S} where
 
   -- The orders of these lines were done in their turn, up to a line that is no order, or one that closes the agent. Where none does, the status is the highest that came.
   abbrev pub IsBatch : (folder : Text) → List (List ℕ) → (highest : ℕ) → Custody V S g database → Custody V S g database → ℕ → Writer → Writer → Type 0
-  IsBatch folder [] highest old new status output errors = IsInputLost old new status output ⊎ ((new ≡ old) × (status ≡ highest) × IsUnused output × IsUnused errors)
-  IsBatch folder (line ∷ lines) highest old new status output errors = IsInputLost old new status output
+  IsBatch folder [] highest old new status output errors = IsInputLost old new status output errors ⊎ ((new ≡ old) × (status ≡ highest) × IsUnused output × IsUnused errors)
+  IsBatch folder (line ∷ lines) highest old new status output errors = IsInputLost old new status output errors
       ⊎ (EndsAt folder line old new status output
       ⊎ ((order : Order) × LineAsksFor folder line order × ((then : Custody V S g database) × (told : ℕ) × (out err : Option (List ℕ))
-      × HasDoneOrder order old then told (record { before = output.before; after = out }) (record { before = errors.before; after = err })
+      × HasDoneOrder AreAny order old then told (record { before = output.before; after = out }) (record { before = errors.before; after = err })
       × (is_open then ≡ true → IsBatch folder lines (max highest told) then new status (record { before = out; after = output.after }) (record { before = err; after = errors.after }))
       × (is_open then ≡ false → (new ≡ then) × (status ≡ told) × (output.after ≡ out) × (errors.after ≡ err)))))
 

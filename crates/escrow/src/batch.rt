@@ -1,21 +1,23 @@
 //! A batch: the orders of lines, each done in its turn on the agent that is open.
 ghost use Rattle.std.specs.Prelude.{◌≡◌, IfErr, IfOk, IfSome, MatchResult};
 ghost use Rattle.agent_cli.specs.BatchLines.{IsNoOrder, line_fault_status};
-ghost use Rattle.answer_lines.specs.Printing.{IsUnused};
+ghost use Rattle.answer_lines.specs.Printing.{IsUnused, WritesBeginning};
 ghost use Rattle.answer_lines.specs.Statuses.{IsStatusAfter};
-ghost use Rattle.escrow.specs.Batch.{AreLinesDone, HasDoneOrder, LineAsksFor, MayHaveBytes};
-ghost use Rattle.escrow.specs.Errors.{IsProgramFailure};
+ghost use Rattle.escrow.specs.Batch.{AreAny, AreLinesDone, HasDoneOrder, LineAsksFor};
+ghost use Rattle.escrow.specs.Errors.{IsOfFile, IsProgramFailure, error_line};
+ghost use Rattle.escrow.specs.Folder.{IsPartRead};
 
 use crate::clock::moment_of;
 use crate::errors::{ProgramError, tell_error};
-use crate::files::bytes_of;
+use crate::files::{open_part, read_part};
 use crate::terminal::Terminal;
-use agent_cli::{LineFault, Order, act, line_words, next_line, order_in_batch, tell};
+use agent_cli::{Deed, LineFault, Order, act, line_words, next_line, order_in_batch, tell};
 use custody::Custody;
 use custody_machine::{ExitStatus, Failure};
 use schedule::Sec;
 use sqlite::Alter;
-use std::io::{BufReader, Read, Write};
+use std::alloc::Global;
+use std::io::{self, BufReader, ErrorKind, Read, Write};
 use vault_volume::Volume;
 
 /// What is said of the lines where they cannot be read.
@@ -55,9 +57,7 @@ fn do_each_line<V: Volume, S: Alter, R: Read, W: Write, E: Write>(
         let line = match next_line(rt.alloc(), lines) {
             Ok(Some(line)) => line,
             Ok(None) => return highest,
-            Err(error) => {
-                return tell_error(&ProgramError::by_file(rt.alloc(), INPUT, error), err);
-            }
+            Err(cause) => return tell_lost(rt.alloc(), cause, err),
         };
         let status = match do_line(rt, custody, folder, &line, out, err) {
             Ok(status) => status,
@@ -68,7 +68,7 @@ fn do_each_line<V: Volume, S: Alter, R: Read, W: Write, E: Write>(
         }
         highest = highest.max(status);
     }
-    ExitStatus::Failed.number()
+    tell_lost(rt.alloc(), io::Error::from(ErrorKind::TimedOut), err)
 }
 
 /// Does the order of a line, and answers its status, or why it is none.
@@ -81,7 +81,7 @@ fn do_line<V: Volume, S: Alter, W: Write, E: Write>(
     err: &mut E,
 ) -> Result<u8, LineFault>
     ensures done { MatchResult result
-        (λ status. (order : Order) × LineAsksFor folder.now line.now order × HasDoneOrder order custody.old custody.new status (record { before = W.contents out.old; after = W.contents out.new }) (record { before = E.contents err.old; after = E.contents err.new }))
+        (λ status. (order : Order) × LineAsksFor folder.now line.now order × HasDoneOrder AreAny order custody.old custody.new status (record { before = W.contents out.old; after = W.contents out.new }) (record { before = E.contents err.old; after = E.contents err.new }))
         (λ fault. IsNoOrder folder.now line.now fault × (custody.new ≡ custody.old) × IsUnused (record { before = W.contents out.old; after = W.contents out.new }) × IsUnused (record { before = E.contents err.old; after = E.contents err.new })) }
 {
     let words = line_words(rt.alloc(), folder, line)?;
@@ -89,7 +89,7 @@ fn do_line<V: Volume, S: Alter, W: Write, E: Write>(
     Ok(do_order(rt, custody, &order, out, err))
 }
 
-/// Does an order at its moment, and answers the status. An error of its part or of the clock is a line.
+/// Does an order, and answers the status. An error of the part that it puts is a line.
 fn do_order<V: Volume, S: Alter, W: Write, E: Write>(
     rt: &HostRuntime,
     custody: &mut Custody<V, S>,
@@ -97,9 +97,26 @@ fn do_order<V: Volume, S: Alter, W: Write, E: Write>(
     out: &mut W,
     err: &mut E,
 ) -> u8
-    ensures { HasDoneOrder order.entry.now custody.old custody.new result (record { before = W.contents out.old; after = W.contents out.new }) (record { before = E.contents err.old; after = E.contents err.new }) }
+    ensures { HasDoneOrder AreAny order.entry.now custody.old custody.new result (record { before = W.contents out.old; after = W.contents out.new }) (record { before = E.contents err.old; after = E.contents err.new }) }
 {
-    match read_order(rt, order) {
+    match open_part(rt, order) {
+        Ok(part) => do_with_part(rt, custody, order, part, out, err),
+        Err(error) => tell_error(&error, err),
+    }
+}
+
+/// Does an order at its moment, with the part that it puts, and answers the status.
+fn do_with_part<V: Volume, S: Alter, R: Read + Drop, W: Write, E: Write>(
+    rt: &HostRuntime,
+    custody: &mut Custody<V, S>,
+    order: &Order<'_>,
+    part: Option<R>,
+    out: &mut W,
+    err: &mut E,
+) -> u8
+    ensures { HasDoneOrder (IsPartRead R.remaining part) order.entry.now custody.old custody.new result (record { before = W.contents out.old; after = W.contents out.new }) (record { before = E.contents err.old; after = E.contents err.new }) }
+{
+    match read_order(rt, order, part) {
         Ok((file, now)) => {
             let mut progress = Terminal::of(rt, &order.deed);
             act(
@@ -117,14 +134,29 @@ fn do_order<V: Volume, S: Alter, W: Write, E: Write>(
     }
 }
 
-/// The bytes that an order puts, and its moment.
-fn read_order(rt: &HostRuntime, order: &Order<'_>) -> Result<(Vec<u8>, Sec), ProgramError>
-    ensures bytes { IfOk result (λ read. MayHaveBytes order.entry.now.deed read.0.items) }
+/// The bytes of the part that an order puts, and its moment.
+fn read_order<R: Read + Drop>(
+    rt: &HostRuntime,
+    order: &Order<'_>,
+    part: Option<R>,
+) -> Result<(Vec<u8>, Sec), ProgramError>
+    ensures bytes { IfOk result (λ read. IsPartRead R.remaining part read.0.items) }
     ensures moment { IfOk result (λ read. IfSome order.entry.now.now (λ named. read.1 ≡ named)) }
     ensures error { IfErr result IsProgramFailure }
 {
-    let file = bytes_of(rt, order)?;
+    let path = match order.deed {
+        Deed::Put { file } => file,
+        _ => "",
+    };
+    let file = read_part(rt.alloc(), path, part)?;
     Ok((file, moment_of(rt, order)?))
+}
+
+/// Prints that the lines cannot be read, and why, and answers the status.
+fn tell_lost<E: Write>(alloc: Global, cause: io::Error, err: &mut E) -> u8
+    ensures { (error : ProgramError) × IsOfFile error × (result ≡ 3) × WritesBeginning (record { before = E.contents err.old; after = E.contents err.new }) (error_line error) }
+{
+    tell_error(&ProgramError::by_file(alloc, INPUT, cause), err)
 }
 
 /// Prints why a line is no order, and which it is, and answers the status.

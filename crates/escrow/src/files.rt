@@ -5,7 +5,6 @@ ghost use Rattle.vault_volume.specs.File.{is_new_file};
 ghost use Rattle.sqlite.specs.Held.{state};
 ghost use Rattle.custody_store.specs.StoreState.{store_state, HasMetaOrNone, has_any_table};
 ghost use Rattle.custody.specs.Opening.{HasNoRecord};
-ghost use Rattle.escrow.specs.Batch.{MayHaveBytes};
 ghost use Rattle.escrow.specs.Errors.{IsOfVault, IsOpenError};
 ghost use Rattle.escrow.specs.Folder.{IsPartRead, ListsNothing, end_status};
 
@@ -64,18 +63,6 @@ pub fn open_part(rt: &HostRuntime, order: &Order<'_>) -> Result<Option<fs::File>
         Ok(part) => Ok(Some(part)),
         Err(error) => Err(ProgramError::by_file(rt.alloc(), file, error)),
     }
-}
-
-/// The bytes of the part that an order puts; those of any other order are none.
-pub fn bytes_of(rt: &HostRuntime, order: &Order<'_>) -> Result<Vec<u8>, ProgramError>
-    ensures bytes { IfOk result (λ bytes. MayHaveBytes order.entry.now.deed bytes.items) }
-    ensures error { IfErr result IsOfVault }
-{
-    let Deed::Put { file } = order.deed else {
-        return Ok(Vec::new(rt.alloc()));
-    };
-    let part = open_part(rt, order)?;
-    read_part(rt.alloc(), file, part)
 }
 
 /// Reads the bytes of the file that a `put` names: all of them, or one more than a part may have.

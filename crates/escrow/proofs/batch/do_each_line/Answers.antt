@@ -1,9 +1,8 @@
 use Rattle.std.proofs.Common.{◌∙◌, Some, ap, refl, subst, sym}
 use Rattle.std.specs.Prelude.{is_none}
-use Rattle.answer_lines.specs.Printing.{Writer}
 use Rattle.agent_cli.specs.BatchLines.{ReadsLine}
 use Rattle.escrow.specs.Batch.{IsBatch}
-use Rattle.escrow.proofs.BatchLemmas.{ends_at, ends_closed, ends_done, ends_lost, goes_on, none_of_none, none_of_some, vault_status}
+use Rattle.escrow.proofs.BatchLemmas.{ends_at, ends_closed, ends_done, ends_lost, goes_on, none_of_none, none_of_some}
 use Rattle.escrow.proofs.batch.do_each_line.Goals as goal
 
 -- all lines are left
@@ -23,10 +22,11 @@ returns-in-Ok-None g c =
 pub returns-in-Err : goal.returns-in-Err
 returns-in-Err g c =
     let out = g.W.Write.contents c.loop-number.out in
-    let errors : Writer = record { before = g.E.Write.contents c.loop-number.err; after = g.E.Write.contents c.tell_error.new.err } in
-    c.loop-number.invariant c.loop-number.custody c.tell_error.result out (g.E.Write.contents c.tell_error.new.err)
-    (ends_lost c.args.folder.now c.loop-number.highest c.loop-number.custody c.loop-number.custody c.tell_error.result (record { before = out; after = out }) errors (g.R.Read.remaining c.loop-number.lines)
-    (refl, vault_status c.by_file.result c.tell_error.result errors c.by_file.ensures.vault c.tell_error.ensures, refl))
+    let err = g.E.Write.contents c.tell_lost.new.err in
+    let lost = c.tell_lost.ensures in
+    c.loop-number.invariant c.loop-number.custody c.tell_lost.result out err
+    (ends_lost c.args.folder.now c.loop-number.highest c.loop-number.custody c.loop-number.custody c.tell_lost.result (record { before = out; after = out }) (record { before = g.E.Write.contents c.loop-number.err; after = err })
+    (g.R.Read.remaining c.loop-number.lines) (lost.0, lost.1, refl, lost.2, refl, lost.3))
 
 -- the line is no order
 pub returns-in-Err-do_line : goal.returns-in-Err-do_line
@@ -78,7 +78,8 @@ loop-number-preserved g c = λ new status out err rest.
 pub returns : goal.returns
 returns g c =
     let out = g.W.Write.contents c.loop-number.out in
-    let err = g.E.Write.contents c.loop-number.err in
-    c.loop-number.invariant c.loop-number.custody c.number.result out err
-    (ends_lost c.args.folder.now c.loop-number.highest c.loop-number.custody c.loop-number.custody c.number.result (record { before = out; after = out }) (record { before = err; after = err }) (g.R.Read.remaining c.loop-number.lines)
-    (refl, c.number.ensures, refl))
+    let err = g.E.Write.contents c.tell_lost-2.new.err in
+    let lost = c.tell_lost-2.ensures in
+    c.loop-number.invariant c.loop-number.custody c.tell_lost-2.result out err
+    (ends_lost c.args.folder.now c.loop-number.highest c.loop-number.custody c.loop-number.custody c.tell_lost-2.result (record { before = out; after = out }) (record { before = g.E.Write.contents c.loop-number.err; after = err })
+    (g.R.Read.remaining c.loop-number.lines) (lost.0, lost.1, refl, lost.2, refl, lost.3))

@@ -1,4 +1,6 @@
 use Rattle.std.proofs.Common.{refl, subst}
+use Rattle.custody_machine.specs.declared.answers.Failure.TheVariants.{NoMemory}
+use Rattle.escrow.specs.declared.errors.ProgramError.TheVariants as error
 use Rattle.escrow.specs.Batch.{AreLinesDone}
 use Rattle.escrow.proofs.BatchLemmas.{buffered, ends_lost}
 use Rattle.escrow.proofs.batch.do_lines.Goals as goal
@@ -14,4 +16,4 @@ returns-in-Ok g c =
 pub returns-in-Err : goal.returns-in-Err
 returns-in-Err g c =
     ends_lost c.args.folder.now 0 c.args.custody.now c.args.custody.now c.tell.result (record { before = g.W.Write.contents c.args.out.now; after = g.W.Write.contents c.args.out.now })
-    (record { before = g.E.Write.contents c.args.err.now; after = g.E.Write.contents c.tell.new.err }) (g.R.Read.remaining c.args.lines) (refl, c.tell.ensures.status, refl)
+    (record { before = g.E.Write.contents c.args.err.now; after = g.E.Write.contents c.tell.new.err }) (g.R.Read.remaining c.args.lines) (error.Failure NoMemory, refl, refl, c.tell.ensures.status, refl, c.tell.ensures.begun)
