@@ -9,13 +9,12 @@ First all lines are sent at once, from a file. The time is then that of the whol
 process for each put is compared too. Then each line is sent when the one before it is answered. What is compared is done by
 turns, in one run, on one disk. The parts' files are made before. Each answer is checked, and that the vaults are alike.
 """
-import pathlib
 import subprocess
 import tempfile
 import time
 
 from serve import NOW, OneProcess, milliseconds, new_vault, part_name, rates
-from vaults import seconds, with_program
+from vaults import program_and_folder, seconds
 
 CONTENT = b"bytes"
 MOMENT = f"{NOW}T00:00:00Z"
@@ -138,12 +137,7 @@ def in_turn(escrow, top):
 
 
 def main():
-    words = with_program(__doc__)
-    words.add_argument("folder", nargs="?", type=pathlib.Path, default=".", metavar="FOLDER")
-    asked = words.parse_args()
-    escrow = asked.program.resolve()
-    with tempfile.TemporaryDirectory(dir=asked.folder.resolve()) as name:
-        top = pathlib.Path(name)
+    with program_and_folder(__doc__) as (escrow, top):
         for i in range(PUTS):
             (top / part_name(i)).write_bytes(CONTENT)
         at_once(escrow, top)

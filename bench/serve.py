@@ -23,7 +23,7 @@ import subprocess
 import tempfile
 import time
 
-from vaults import number, seconds, with_program
+from vaults import number, program_and_folder, seconds
 
 MIB = 1 << 20
 BLOCK = 4096
@@ -333,12 +333,7 @@ def memory(escrow, top):
 
 
 def main():
-    words = with_program(__doc__)
-    words.add_argument("folder", nargs="?", type=pathlib.Path, default=".", metavar="FOLDER")
-    asked = words.parse_args()
-    escrow = asked.program.resolve()
-    with tempfile.TemporaryDirectory(dir=asked.folder.resolve()) as name:
-        top = pathlib.Path(name)
+    with program_and_folder(__doc__) as (escrow, top):
         puts(escrow, top)
         calls(escrow, top)
         gets(escrow, top)

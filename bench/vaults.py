@@ -1,8 +1,10 @@
 """What the benches share: the words of a call, days as numbers, a call with its time, and tables that are packed."""
 import argparse
+import contextlib
 import datetime
 import pathlib
 import subprocess
+import tempfile
 import time
 
 CRATES = pathlib.Path(__file__).resolve().parent.parent / "crates"
@@ -25,6 +27,16 @@ def with_program(text):
 def program(text):
     """The program that is named in the call of a script with this text at its head."""
     return with_program(text).parse_args().program.resolve()
+
+
+@contextlib.contextmanager
+def program_and_folder(text):
+    """Such a program, and a new folder in the one that is named behind it, or else in the current folder."""
+    words = with_program(text)
+    words.add_argument("folder", nargs="?", type=pathlib.Path, default=".", metavar="FOLDER")
+    asked = words.parse_args()
+    with tempfile.TemporaryDirectory(dir=asked.folder.resolve()) as name:
+        yield asked.program.resolve(), pathlib.Path(name)
 
 
 def number(day):
