@@ -1,14 +1,17 @@
 -- What the rows of meta say, and the rows of a table as records of new keys.
-use Rattle.std.proofs.Common.{◌≡◌, inl, inr, ℕ, ◌+◌, ◌<◌, ◌≤◌, Bool, true, false, cond, List, [], ◌∷◌, length, map, drop, get_or, Option, Some, None, refl, sym, ap, ◌∙◌, arith}
-use Rattle.std.specs.Prelude.{option_map, slice_get, is_some, not, ◌&&◌, Result, Ok, Err, MatchResult}
+use Rattle.std.proofs.Common.{◌≡◌, inl, inr, ℕ, ◌<◌, ◌≤◌, Bool, true, false, cond, List, [], ◌∷◌, ◌++◌, length, map, Option, Some, None, refl, sym, ap, ◌∙◌, arith}
+use Rattle.std.specs.Prelude.{option_map, slice_get, is_some, not, ◌&&◌, Result, Ok, Err, IfErr, MatchResult}
 use Rattle.std.specs.Option.{option_and_then}
+use Rattle.std.specs.Result.{IsErrAnd}
 use Rattle.std.specs.declared.cmp.Ordering.{Ordering}
 use Rattle.std.specs.FinMap.{FinMap}
 use Rattle.std.proofs.Math.Bool.{and-false}
 use Rattle.std.proofs.lemmas.Bool.{false≢true, cases_Bool}
-use Rattle.std.proofs.lemmas.List.{drop_more}
+use Rattle.std.proofs.lemmas.List.{map-append}
 use Rattle.custody_records.specs.declared.damage.RowDamage.{RowDamage}
 use Rattle.custody_records.specs.declared.damage.RowDamage.TheVariants as damage
+use Rattle.custody_records.specs.declared.errors.RowError.{RowError}
+use Rattle.custody_records.specs.declared.errors.RowError.TheVariants as row_error
 use Rattle.custody_records.specs.declared.meta.Meta.{Meta}
 use Rattle.custody_records.specs.declared.records.Records.{Records as Held}
 use Rattle.custody_records.specs.MemoryRecords.{records_of}
@@ -17,6 +20,7 @@ use Rattle.custody_records.specs.Records.{PartRecord, Notice, Release}
 use Rattle.custody_records.specs.Rows.{MetaRow, HoldRow, Rows}
 use Rattle.custody_records.specs.TypedRecords.{meta_of, meta_volume}
 use Rattle.custody_records.specs.Form.{natural, number_in, is_schema, has_holds, holds_in, is_meta, is_known, are_none, gather, gathered_table, all_records, registry_in, part_in, notice_in, release_in, records_in, in_form_or, Form, InForm, OutOfForm, form_after, form_of}
+use Rattle.custody_store.specs.inside.Loading.{fault_of, IsFormFault}
 use Rattle.custody_store.specs.declared.faults.StoreFault.{StoreFault}
 use Rattle.custody_store.specs.declared.faults.StoreFault.TheVariants.{Damaged}
 use Rattle.custody_records.proofs.Gathered.{gather_append}
@@ -74,24 +78,28 @@ pub form_is : (metas : List MetaRow) (rows : Rows) → rows.meta ≡ Some metas 
 unfolding form_of
 form_is metas rows is = rw is refl
 
--- what all rows stand for, where the rows but meta were read
-pub read_form : (form : Form) (read : Rows → Form) (rows : Rows) (r : Result Held StoreFault) → form ≡ read rows
-    → MatchResult r (λ records. (rest : Rows) → read rest ≡ InForm (records_of records)) (λ e. (why : RowDamage) → e ≡ Damaged why → (rest : Rows) → read rest ≡ OutOfForm why)
-    → MatchResult r (λ records. form ≡ InForm (records_of records)) (λ e. (why : RowDamage) → e ≡ Damaged why → form ≡ OutOfForm why)
-read_form form read rows (Ok records) is h = is ∙ h rows
-read_form form read rows (Err e) is h = λ why same. is ∙ h why same rows
+-- what all rows stand for, where those but meta were read, and are the same as before
+pub loaded_form : (form : Form) (with_holds : Bool) (number blocks : ℕ) (rows read : Rows) (r : Result Held StoreFault) → form ≡ in_form_or damage.Form (records_in with_holds number blocks rows) → read ≡ rows
+    → MatchResult r (λ records. records_in with_holds number blocks read ≡ Some (records_of records)) (λ e. e ≡ Damaged damage.Form → records_in with_holds number blocks read ≡ None)
+    → IfErr r IsFormFault → MatchResult r (λ records. form ≡ InForm (records_of records)) (λ e. (why : RowDamage) → e ≡ Damaged why → form ≡ OutOfForm why)
+loaded_form form with_holds number blocks rows read (Ok records) is same found kind = is ∙ ap (in_form_or damage.Form) (ap (records_in with_holds number blocks) (sym same) ∙ found)
+loaded_form form with_holds number blocks rows read (Err e) is same found (inl failed) = λ why told. absurd (let clash = sym failed ∙ told in cc)
+loaded_form form with_holds number blocks rows read (Err e) is same found (inr bad) = λ why told.
+    let one : damage.Form ≡ why = (let both = sym bad ∙ told in cc) in
+    is ∙ ap (in_form_or damage.Form) (ap (records_in with_holds number blocks) (sym same) ∙ found bad) ∙ ap OutOfForm one
 
 -- ---- the rows in turn
 
-module _ {X Y K R : Type 0} {order : K → K → Ordering} (read : X → Option (K × R)) (f : Y → X) (start : FinMap order R) (ys : List Y) (cur : FinMap order R) (i : ℕ) (y : Y) (at : y ≡ get_or ys i y) (low : i < length ys)
-    (before : gather read start (map f ys) ≡ gather read cur (map f (drop i ys))) where
-  here : gather read start (map f ys) ≡ option_and_then (λ (m : FinMap order R). gather read m (map f (drop (i + 1) ys))) (gather read cur (f y ∷ []))
-  here =
-      before ∙ ap (λ l. gather read cur (map f l)) (drop_more ys i y low) ∙ gather_append read cur (f (get_or ys i y) ∷ []) (map f (drop (i + 1) ys))
-      ∙ ap (λ z. option_and_then (λ (m : FinMap order R). gather read m (map f (drop (i + 1) ys))) (gather read cur (f z ∷ []))) (sym at)
+module _ {X Y K R : Type 0} {order : K → K → Ordering} (read : X → Option (K × R)) (f : Y → X) (start : FinMap order R) (ys : List Y) (y : Y) (cur : FinMap order R) (before : gather read start (map f ys) ≡ Some cur) where
+  -- one more row
+  pub gather_next : gather read start (map f (ys ++ y ∷ [])) ≡ gather read cur (f y ∷ [])
+  gather_next = ap (gather read start) (map-append f ys (y ∷ [])) ∙ gather_append read start (map f ys) (f y ∷ []) ∙ ap (option_and_then (λ (m : FinMap order R). gather read m (f y ∷ []))) before
 
-  pub gather_next : (new : FinMap order R) → gather read cur (f y ∷ []) ≡ Some new → gather read start (map f ys) ≡ gather read new (map f (drop (i + 1) ys))
-  gather_next new step = here ∙ ap (option_and_then (λ (m : FinMap order R). gather read m (map f (drop (i + 1) ys)))) step
+-- a fault of form comes of a row out of form alone
+form_fault : (error : RowError) → fault_of error ≡ Damaged damage.Form → error ≡ row_error.OutOfForm
+form_fault row_error.OutOfForm told = refl
+form_fault row_error.NoMemory told = absurd (let clash = told in cc)
 
-  pub gather_stops : gather read cur (f y ∷ []) ≡ None → gather read start (map f ys) ≡ None
-  gather_stops step = here ∙ ap (option_and_then (λ (m : FinMap order R). gather read m (map f (drop (i + 1) ys)))) step
+pub on_fault : {A : Type 0} (P : A → Type 0) (Q : Type 0) (r : Result A StoreFault) (error : RowError) → IsErrAnd r (λ fault. fault ≡ fault_of error) → (error ≡ row_error.OutOfForm → Q) → MatchResult r P (λ fault. fault ≡ Damaged damage.Form → Q)
+on_fault P Q (Ok x) error is q = absurd is
+on_fault P Q (Err fault) error is q = λ told. q (form_fault error (sym is ∙ told))

@@ -1,8 +1,9 @@
 -- A query commits nothing, whatever the schema.
-use Rattle.std.proofs.Common.{◌≡◌, ℕ, List, Bool, true, false, Option, None, Some, Ok, refl, subst}
+use Rattle.std.proofs.Common.{◌≡◌, ℕ, List, Bool, true, false, Option, None, Some, Ok, Err, Result, refl, sym, subst}
 use Rattle.std.specs.Prelude.{is_none, IsSome}
 use Rattle.std.proofs.lemmas.Bool.{false≢true}
 use Rattle.sqlite.specs.Order.{Row}
+use Rattle.sqlite.specs.Given.{Returns}
 use Rattle.sqlite.specs.Listing.{understood}
 use Rattle.sqlite.specs.State.{State, CommitsShowing}
 use Rattle.sqlite.specs.Tree.{Trees}
@@ -13,6 +14,7 @@ use Rattle.sqlite_schema.specs.declared.command.Command.{Command}
 use Rattle.sqlite_schema.specs.declared.command.Returning.{Returning}
 use Rattle.sqlite_syntax.specs.declared.statement.Parsed.{Parsed}
 use Rattle.sqlite_resolve.specs.declared.compiled.Compiled.{Compiled}
+use Rattle.sqlite_resolve.specs.declared.error.CompileError.{CompileError}
 use Rattle.sqlite_resolve.specs.Lowering.{Checked}
 use Rattle.sqlite_resolve.specs.Compile.{first, meaning, returning, command}
 use Rattle.custody_store.proofs.ModeLemmas.{OnChecked, any_then, such_then, of_parsed, understood_passes}
@@ -51,6 +53,23 @@ none_is_some : {X : Type 0} (o : Option X) → o ≡ None → IsSome o → ⊥
 none_is_some None is some = absurd (false≢true some)
 none_is_some (Some x) is some = absurd (let none = is in cc)
 
-pub query_commits_nothing : (sql : List ℕ) (params : Row) (s : State) (db : Trees) → is_query_text sql ≡ true → ¬ CommitsShowing sql params s db
+-- so it never gives rows of a write
+pub query_never_returns : (sql : List ℕ) (schema : Schema) → is_query_text sql ≡ true → ¬ Returns (understood schema sql)
+query_never_returns sql schema is = by (understood schema sql) refl
+  where
+    by : (r : Result Compiled CompileError) → understood schema sql ≡ r → ¬ Returns r
+    by (Ok c) known some = none_is_some c.returning (query_returns_none sql schema is c known) some
+    by (Err e) known some = some
+
+-- ---- a text that never gives rows of a write
+
+some_or_none : {X : Type 0} (o : Option X) → ¬ IsSome o → o ≡ None
+some_or_none None silent = refl
+some_or_none (Some x) silent = absurd (silent refl)
+
+pub silent_returns_none : (sql : List ℕ) (schema : Schema) → ¬ Returns (understood schema sql) → (c : Compiled) → understood schema sql ≡ Ok c → c.returning ≡ None
+silent_returns_none sql schema silent c known = some_or_none c.returning (λ some. silent (subst Returns (sym known) some))
+
+pub silent_commits_nothing : (sql : List ℕ) (params : Row) (s : State) (db : Trees) → ¬ Returns (understood s.now.schema sql) → ¬ CommitsShowing sql params s db
 unfolding CommitsShowing
-query_commits_nothing sql params s db is h = none_is_some h.0.returning (query_returns_none sql s.now.schema is h.0 h.1.is) h.2
+silent_commits_nothing sql params s db silent h = silent (subst Returns (sym h.1.is) h.2)

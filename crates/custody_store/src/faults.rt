@@ -1,6 +1,6 @@
 ghost use Rattle.std.specs.Prelude.{◌≡◌};
 
-use custody_records::RowDamage;
+use custody_records::{RowDamage, RowError};
 use sqlite::Error;
 
 /// Why a call of the store gave no answer.
@@ -19,5 +19,18 @@ impl From<Error> for StoreFault {
 
     fn from(_: Error) -> StoreFault {
         StoreFault::Failed
+    }
+}
+
+impl From<RowError> for StoreFault {
+    ghost use Rattle.custody_store.specs.inside.Loading.{fault_of};
+
+    ghost from_gives = { λ error fault. fault ≡ fault_of error };
+
+    fn from(error: RowError) -> StoreFault {
+        match error {
+            RowError::OutOfForm => StoreFault::Damaged(RowDamage::Form),
+            RowError::NoMemory => StoreFault::Failed,
+        }
     }
 }

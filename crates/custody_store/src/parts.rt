@@ -1,16 +1,18 @@
 //! The rows of parts.
-ghost use Rattle.std.specs.Prelude.{◌≡◌, refl};
+ghost use Rattle.std.specs.Prelude.{◌≡◌, refl, IfErr, OnOk};
 ghost use Rattle.custody_records.specs.Form.{part_in};
 ghost use Rattle.custody_records.specs.Keys.{PartKey, part_cmp};
 ghost use Rattle.custody_records.specs.Records.{PartRecord};
 ghost use Rattle.custody_records.specs.Rows.{PartRow};
 ghost use Rattle.custody_records.specs.TypedRecords.{part_row};
+ghost use Rattle.custody_records.specs.MemoryRecords.{records_of};
 ghost use Rattle.custody_store.specs.Reading.{answered_part};
+ghost use Rattle.custody_store.specs.StoreState.{store_state, ChangesNothing};
+ghost use Rattle.custody_store.specs.inside.Loading.{AddsRows, IsFormFault};
 
-use crate::calls::ask;
 use crate::columns::{bytes_at, bytes_or_null_at, integer_at};
 use crate::faults::StoreFault;
-use crate::stored_rows::Stored;
+use crate::stored_rows::{Stored, load_rows};
 use custody_records::{Part, PartColumns, Records, RowError};
 use sqlite::{Alter, Connection, Row};
 use std::alloc::Global;
@@ -41,10 +43,6 @@ impl Stored for Part {
 
     ghost order = { part_cmp };
 
-    ghost IsThere = { λ s. s.HasSchemaTablesFirst };
-
-    ghost rows_of = { λ rows. rows.parts };
-
     ghost answered = { answered_part };
 
     ghost read = { part_in };
@@ -52,13 +50,6 @@ impl Stored for Part {
     ghost map_of = { λ records. records.parts };
 
     ghost with_map = { λ records parts. record records { parts = parts } };
-
-    fn select<S: Alter>(db: &mut Connection<S>) -> Result<Vec<Row>, StoreFault> {
-        ask(
-            db,
-            "SELECT tld, day, rev, part, kind, received, keep_day, len, sha, extents FROM part ORDER BY rowid",
-        )
-    }
 
     fn add_row(records: &mut Records, alloc: Global, row: &Row) -> Result<(), RowError> {
         let part = part_columns(row).read(alloc)?;
@@ -68,4 +59,23 @@ impl Stored for Part {
     ghost kept = { λ _ _ _. refl };
 
     ghost same = { λ _. refl };
+}
+
+/// Adds the records of the parts, in the order in which they were recorded.
+pub fn load_parts<S: Alter>(
+    db: &mut Connection<S>,
+    records: &mut Records,
+    alloc: Global,
+) -> Result<(), StoreFault>
+    ensures found { (store_state S.Store db.new).IsHonest → (store_state S.Store db.old).HasSchemaTablesFirst → AddsRows part_in (store_state S.Store db.old).rows.parts (records_of records.old).parts (records_of records.new).parts result }
+    ensures others { OnOk result (records_of records.new ≡ record (records_of records.old) { parts = (records_of records.new).parts }) }
+    ensures reads { ChangesNothing (store_state S.Store db.old) (store_state S.Store db.new) result }
+    ensures kind { IfErr result IsFormFault }
+{
+    load_rows::<Part, S>(
+        db,
+        "SELECT tld, day, rev, part, kind, received, keep_day, len, sha, extents FROM part ORDER BY rowid",
+        records,
+        alloc,
+    )
 }

@@ -1,17 +1,19 @@
 //! The rows of releases.
-ghost use Rattle.std.specs.Prelude.{◌≡◌, ℕ, List, refl};
+ghost use Rattle.std.specs.Prelude.{◌≡◌, ℕ, List, refl, IfErr, OnOk};
 ghost use Rattle.custody_records.specs.Form.{release_in};
 ghost use Rattle.custody_records.specs.Keys.{text_cmp};
 ghost use Rattle.custody_records.specs.Records as specs;
 ghost use Rattle.custody_records.specs.Rows.{HandoverRow};
 ghost use Rattle.custody_records.specs.TypedRecords.{handover_row};
+ghost use Rattle.custody_records.specs.MemoryRecords.{records_of};
 ghost use Rattle.custody_store.specs.Reading.{answered_handover};
 ghost use Rattle.desk.specs.Grounds.{ground_text};
+ghost use Rattle.custody_store.specs.StoreState.{store_state, ChangesNothing};
+ghost use Rattle.custody_store.specs.inside.Loading.{AddsRows, IsFormFault};
 
-use crate::calls::ask;
 use crate::columns::{bytes_at, integer_at};
 use crate::faults::StoreFault;
-use crate::stored_rows::Stored;
+use crate::stored_rows::{Stored, load_rows};
 use custody_records::{Records, Release, ReleaseColumns, RowError};
 use desk::Ground;
 use sqlite::{Alter, Connection, Row};
@@ -45,10 +47,6 @@ impl Stored for Release {
 
     ghost order = { text_cmp };
 
-    ghost IsThere = { λ s. s.HasSchemaTablesFirst };
-
-    ghost rows_of = { λ rows. rows.handovers };
-
     ghost answered = { answered_handover };
 
     ghost read = { release_in };
@@ -56,13 +54,6 @@ impl Stored for Release {
     ghost map_of = { λ records. records.releases };
 
     ghost with_map = { λ records releases. record records { releases = releases } };
-
-    fn select<S: Alter>(db: &mut Connection<S>) -> Result<Vec<Row>, StoreFault> {
-        ask(
-            db,
-            "SELECT reference, tld, ground, at, names FROM handover ORDER BY rowid",
-        )
-    }
 
     fn add_row(records: &mut Records, alloc: Global, row: &Row) -> Result<(), RowError> {
         let release = release_columns(row).read(alloc)?;
@@ -72,4 +63,23 @@ impl Stored for Release {
     ghost kept = { λ _ _ _. refl };
 
     ghost same = { λ _. refl };
+}
+
+/// Adds the records of releases, in the order in which they were recorded.
+pub fn load_releases<S: Alter>(
+    db: &mut Connection<S>,
+    records: &mut Records,
+    alloc: Global,
+) -> Result<(), StoreFault>
+    ensures found { (store_state S.Store db.new).IsHonest → (store_state S.Store db.old).HasSchemaTablesFirst → AddsRows release_in (store_state S.Store db.old).rows.handovers (records_of records.old).releases (records_of records.new).releases result }
+    ensures others { OnOk result (records_of records.new ≡ record (records_of records.old) { releases = (records_of records.new).releases }) }
+    ensures reads { ChangesNothing (store_state S.Store db.old) (store_state S.Store db.new) result }
+    ensures kind { IfErr result IsFormFault }
+{
+    load_rows::<Release, S>(
+        db,
+        "SELECT reference, tld, ground, at, names FROM handover ORDER BY rowid",
+        records,
+        alloc,
+    )
 }

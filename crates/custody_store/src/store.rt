@@ -21,7 +21,7 @@ use crate::calls::run;
 use crate::creating::create_all;
 use crate::dropping::drop_all;
 use crate::faults::StoreFault;
-use crate::loading::{read_all, select_all, volume_in};
+use crate::loading::{load_records, volume_in};
 use crate::meta::select_meta;
 use crate::migrating::migrate_tables;
 use crate::notices::kind_columns;
@@ -259,7 +259,6 @@ impl<S: Alter> Store<S> {
         let meta = select_meta(&mut self.db)?;
         let has_holds = has_table(self.db.schema(), "hold");
         let volume = volume_in(&meta, has_holds)?;
-        let rows = select_all(&mut self.db, has_holds)?;
-        read_all(alloc, volume, &rows)
+        load_records(&mut self.db, has_holds, volume, alloc)
     }
 }

@@ -1,14 +1,19 @@
 //! Records as rows of tables, and the one way to read a table.
-ghost use Rattle.std.specs.Prelude.{◌≡◌, List, [], ◌∷◌, Option, None, Some, map, IfOk, IfErr, OnOk, IsErrOf};
+ghost use Rattle.std.specs.Prelude.{◌≡◌, [], ◌∷◌, Option, None, Some, IfErr, OnOk, IsErrOf, MatchResult};
 ghost use Rattle.std.specs.FinMap.{FinMap};
 ghost use Rattle.std.specs.declared.cmp.Ordering.{Ordering};
+ghost use Rattle.sqlite.specs.Given.{Returns};
+ghost use Rattle.sqlite.specs.Held.{state};
+ghost use Rattle.sqlite.specs.Listing.{understood};
 ghost use Rattle.sqlite.specs.Order as sql;
+ghost use Rattle.sqlite.specs.State.{HasCleanDisk};
 ghost use Rattle.custody_records.specs.Form.{gather};
 ghost use Rattle.custody_records.specs.MemoryRecords.{records_of};
 ghost use Rattle.custody_records.specs.Records as specs;
-ghost use Rattle.custody_records.specs.Rows.{Rows};
+ghost use Rattle.custody_records.specs.declared.damage.RowDamage.TheVariants as damage;
 ghost use Rattle.custody_records.specs.declared.errors.RowError.TheVariants.{OutOfForm};
-ghost use Rattle.custody_store.specs.StoreState.{StoreState, store_state, ChangesNothing};
+ghost use Rattle.custody_store.specs.StoreState.{store_state, ChangesNothing};
+ghost use Rattle.custody_store.specs.inside.Loading.{GathersAnswer, GathersNoAnswer, IsFormFault};
 
 use crate::faults::StoreFault;
 use custody_records::{Records, RowError};
@@ -26,12 +31,7 @@ pub trait Stored {
 
     ghost order: { Key → Key → Ordering };
 
-    // The table is there, as it is made, and first are those that are made before it.
-    ghost IsThere: { StoreState → Type 0 };
-
-    // The table among all rows, and a row of it as a query answers it.
-    ghost rows_of: { Rows → Option (List Columns) };
-
+    // A row as a query answers it.
     ghost answered: { sql.Row → Columns };
 
     // What a row in form stands for.
@@ -41,13 +41,6 @@ pub trait Stored {
     ghost map_of: { specs.Records → FinMap order Value };
 
     ghost with_map: { specs.Records → FinMap order Value → specs.Records };
-
-    /// The rows of the table, in the order in which they were added.
-    fn select<S: Alter>(db: &mut Connection<S>) -> Result<Vec<Row>, StoreFault>
-        ensures found { (store_state S.Store db.new).IsHonest → IsThere (store_state S.Store db.old)
-            → IfOk result (λ rows. rows_of (store_state S.Store db.old).rows ≡ Some (map answered rows.items)) }
-        ensures reads { ChangesNothing (store_state S.Store db.old) (store_state S.Store db.new) result }
-        ensures kind { IfErr result (λ e. e ≡ StoreFault.Failed) };
 
     /// Adds the record of a row, where its fields are in form and its key is new.
     fn add_row(records: &mut Records, alloc: Global, row: &Row) -> Result<(), RowError>
@@ -61,14 +54,28 @@ pub trait Stored {
     ghost same: { (records : specs.Records) → with_map records (map_of records) ≡ records };
 }
 
-/// Adds the records of the rows in turn.
-pub fn gather<T: Stored>(records: &mut Records, alloc: Global, rows: &[Row]) -> Result<(), RowError>
-    ensures gathered { OnOk result (gather T.read (T.map_of (records_of records.old)) (map T.answered rows.now) ≡ Some (T.map_of (records_of records.new))) }
+/// Asks one query, and adds the record of each row before the next is read.
+pub fn load_rows<T: Stored, S: Alter>(
+    db: &mut Connection<S>,
+    sql: &str,
+    records: &mut Records,
+    alloc: Global,
+) -> Result<(), StoreFault>
+    requires { ¬ Returns (understood db.old.schema sql.now) }
+    ensures gathered { HasCleanDisk (state S.Store db.new) → MatchResult result
+        (λ _. GathersAnswer T.read T.answered sql.now (state S.Store db.old) (state S.Store db.new) (T.map_of (records_of records.old)) (T.map_of (records_of records.new)))
+        (λ e. e ≡ StoreFault.Damaged damage.Form → GathersNoAnswer T.read T.answered sql.now (state S.Store db.old) (T.map_of (records_of records.old))) }
     ensures others { OnOk result (records_of records.new ≡ T.with_map (records_of records.old) (T.map_of (records_of records.new))) }
-    ensures refused { IsErrOf result OutOfForm → gather T.read (T.map_of (records_of records.old)) (map T.answered rows.now) ≡ None }
+    ensures reads { ChangesNothing (store_state S.Store db.old) (store_state S.Store db.new) result }
+    ensures kind { IfErr result IsFormFault }
 {
-    for row in rows {
+    let mut rows = db.query(sql, &[])?;
+    'rows: for _ in 0..u64::MAX {
+        rows.advance()?;
+        let Some(row) = rows.get() else {
+            return Ok(());
+        };
         T::add_row(records, alloc, row)?;
     }
-    Ok(())
+    Err(StoreFault::Failed)
 }

@@ -1,13 +1,10 @@
 use Rattle.std.proofs.Common.{◌≡◌, map, codes, Err, sym, ap, ◌∙◌, rules}
 use Rattle.std.specs.Prelude.{is_some}
 use Rattle.sqlite.specs.Held.{state}
-use Rattle.custody_records.specs.declared.damage.RowDamage.TheVariants as damage
-use Rattle.custody_records.specs.Form.{in_form_or, records_in}
 use Rattle.custody_records.specs.Rows.{Rows}
-use Rattle.custody_store.specs.inside.Loading.{answered_rows}
 use Rattle.custody_store.specs.Reading.{answered_meta, rows_in, has_table}
 use Rattle.custody_store.specs.StoreState.{as_store_state}
-use Rattle.custody_store.proofs.FormLemmas.{form_is, read_form}
+use Rattle.custody_store.proofs.FormLemmas.{form_is, loaded_form}
 use Rattle.custody_store.proofs.MissingLemmas.{holds_there}
 use Rattle.custody_store.proofs.ReadLemmas.{reads_none, reads_err, reads_answers, reads_then, still, all_there, meta_of_first}
 use Rattle.custody_store.proofs.store.Store.load.Goals as goal
@@ -39,27 +36,18 @@ returns-in_err-volume-clause-found g c =
     form_is (map answered_meta c.in_ok-meta.meta.items) rows (c.in_ok-meta.ensures.found clean (meta_of_first s0 first))
     ∙ (rw c.deref.ensures.value at c.in_err-volume.ensures) why told rows there))
 
-pub returns-in_err-rows-clause-reads : goal.returns-in_err-rows-clause-reads
-returns-in_err-rows-clause-reads g c = rw (← c.self.view_is) (reads_err _ _ _ _ c.from_residual-in_err-rows.ensures.0 (reads_then _ _ _ _ _ c.in_ok-meta.ensures.reads c.in_err-rows.ensures.reads))
-
 pub returns-clause-found : goal.returns-clause-found
 returns-clause-found g c =
     let s0 = state g.S.Store c.self.inside.db in
     let s1 = state g.S.Store c.select_meta.new.db in
     let rows = rows_in s0.now.trees in
-    let t = c.in_ok-rows.rows in
     let v = c.in_ok-volume.volume in
     let same : has_table (codes "hold") s1.now.schema ≡ c.has_table-has_holds.result = search rules in
-    let read = λ (rest : Rows). in_form_or damage.Form (records_in (is_some t.holds) v.0 v.1 (answered_rows t rest)) in
     rw (← c.self.view_is) (λ clean first.
-    let early = c.in_ok-rows.ensures.reads.trust clean in
+    let early = c.load_records.ensures.reads.trust clean in
     let stands = still (as_store_state s0) (as_store_state s1) _ c.in_ok-meta.ensures.reads early first.0.rest in
-    let answered = sym stands.rows ∙ c.in_ok-rows.ensures.found clean (stands.first_tables first) same ∙ ap (answered_rows t) stands.rows in
-    let is = form_is (map answered_meta c.in_ok-meta.meta.items) rows (c.in_ok-meta.ensures.found early (meta_of_first s0 first))
-    ∙ (rw c.deref.ensures.value at c.in_ok-volume.ensures) rows
-    ∙ ap (λ h. in_form_or damage.Form (records_in h v.0 v.1 rows)) (sym c.in_ok-rows.ensures.asked)
-    ∙ ap (λ r. in_form_or damage.Form (records_in (is_some t.holds) v.0 v.1 r)) answered in
-    read_form _ read rows c.read_all.result is c.read_all.ensures)
+    let is = form_is (map answered_meta c.in_ok-meta.meta.items) rows (c.in_ok-meta.ensures.found early (meta_of_first s0 first)) ∙ (rw c.deref.ensures.value at c.in_ok-volume.ensures) rows in
+    loaded_form _ c.has_table-has_holds.result v.0 v.1 rows (rows_in s1.now.trees) c.load_records.result is stands.rows (c.load_records.ensures.found clean (stands.first_tables first) same) c.load_records.ensures.kind)
 
 pub returns-clause-reads : goal.returns-clause-reads
-returns-clause-reads g c = rw (← c.self.view_is) (reads_answers _ _ _ _ (reads_then _ _ _ _ _ c.in_ok-meta.ensures.reads c.in_ok-rows.ensures.reads))
+returns-clause-reads g c = rw (← c.self.view_is) (reads_then _ _ _ _ _ c.in_ok-meta.ensures.reads c.load_records.ensures.reads)
