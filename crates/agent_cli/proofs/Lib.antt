@@ -9,3 +9,4 @@ pub mod PathLemmas
 pub mod Readings
 mod ReadLemmas
 mod SweepLemmas
+pub mod NamedLemmas

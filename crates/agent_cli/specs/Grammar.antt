@@ -1,7 +1,7 @@
 -- The command `escrow`, as clap's builders make it. Help and the names of values are no part of it.
-use Rattle.std.specs.Prelude.{ℕ, Bool, true, false, List, [], ◌∷◌, Some, unwrap_or, codes, fold, map, pos}
+use Rattle.std.specs.Prelude.{◌≡◌, ℕ, Bool, true, false, List, [], ◌∷◌, Some, unwrap_or, codes, fold, map, pos}
 use Rattle.std.specs.Str.{bytes_eq}
-use Rattle.clap.specs.Words.{App, Row, Rule, Shape, Text, first_of, new_app, new_rule, with_rule, with_subcommand}
+use Rattle.clap.specs.Words.{App, Row, Rule, Shape, Text, fault_of, first_of, is_simple_and_free, new_app, new_rule, subcommand_of, with_rule, with_subcommand}
 use Rattle.clap.specs.declared.builder.ValueParser.TheVariants.{Signed}
 use Rattle.clap.specs.declared.builder.action.ArgAction.TheVariants.{SetTrue}
 use Rattle.agent_cli.specs.declared.subcommands.WordForm.{WordForm}
@@ -116,6 +116,13 @@ bare_app = record (new_app (codes "escrow")) {
 
 abbrev pub escrow_app : App
 escrow_app = fold with_subcommand bare_app (map shape subcommands)
+
+-- a command that takes and refuses these words as the whole one does
+pub record ReadsAlike (app : App) (words : List Text) : Type 0 where
+  pub top : app.top ≡ escrow_app.top
+  pub simple : is_simple_and_free app ≡ true
+  pub fault : fault_of app words ≡ fault_of escrow_app words
+  pub met : subcommand_of app words ≡ subcommand_of escrow_app words
 
 -- the first value of an argument, and the empty text where it has none
 abbrev pub text_in : Text → List Row → Text

@@ -1,10 +1,12 @@
 //! The grammar of the words: the command `escrow` of `clap` and its subcommands, by their table.
-ghost use Rattle.std.specs.Prelude.{◌≡◌, IfOk, false, map};
+ghost use Rattle.std.specs.Prelude.{◌≡◌, IfOk, IfSome, IsSomeAnd, Some, false, map, slice_get};
+ghost use Rattle.std.specs.String.{string_bytes};
 ghost use Rattle.clap.specs.Words.{app_of, rule_of, shape_of};
 ghost use Rattle.clap.specs.declared.builder.Command.TheViews.{out-Command};
-ghost use Rattle.agent_cli.specs.Grammar.{bare_app, escrow_app, rule_in, shape_in};
+ghost use Rattle.agent_cli.specs.Grammar.{ReadsAlike, bare_app, escrow_app, rule_in, shape_in};
+ghost use Rattle.agent_cli.specs.Order.{subcommand_named};
 
-use crate::subcommands::{Row, SUBCOMMANDS, Word, WordForm};
+use crate::subcommands::{Row, SUBCOMMANDS, Subcommand, Word, WordForm};
 use clap::builder::ValueParser;
 use clap::{Arg, ArgAction, Command};
 use std::alloc::{AllocError, Global};
@@ -70,7 +72,8 @@ fn bare_command<'a>(alloc: Global) -> Command<'a>
         .subcommand_required(true)
 }
 
-pub(crate) fn escrow_command<'a>(alloc: Global) -> Result<Command<'a>, AllocError>
+/// The command with all its subcommands.
+fn escrow_command<'a>(alloc: Global) -> Result<Command<'a>, AllocError>
     ensures { IfOk result (λ c. app_of c ≡ escrow_app) }
 {
     let mut command = bare_command(alloc);
@@ -78,4 +81,24 @@ pub(crate) fn escrow_command<'a>(alloc: Global) -> Result<Command<'a>, AllocErro
         command = command.subcommand(subcommand(alloc, named.row())?)?;
     }
     Ok(command)
+}
+
+/// The command of a call's words: with the one subcommand that they name, or else with all.
+pub(crate) fn command_of<'a>(alloc: Global, words: &[String]) -> Result<Command<'a>, AllocError>
+    ensures { IfOk result (λ c. ReadsAlike (app_of c) (map string_bytes words.now)) }
+{
+    match named_in(words) {
+        Some(named) => bare_command(alloc).subcommand(subcommand(alloc, named.row())?),
+        None => escrow_command(alloc),
+    }
+}
+
+/// The subcommand that the first word after the program's name names.
+fn named_in(words: &[String]) -> Option<Subcommand>
+    ensures { IfSome result (λ named. IsSomeAnd (slice_get words.now 1) (λ word. subcommand_named (string_bytes word) ≡ Some named)) }
+{
+    match words.get(1) {
+        Some(word) => Subcommand::named(word),
+        None => None,
+    }
 }

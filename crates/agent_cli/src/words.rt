@@ -4,7 +4,7 @@ ghost use Rattle.std.specs.String.{string_bytes};
 ghost use Rattle.clap.specs.Words.{found_of, rows_of};
 ghost use Rattle.agent_cli.specs.Order.{AnswersAsRead, AnswersReading, DeedReading, IsFaultFrom, OrderReading, ReadsWords, StatementReading, deed_meaning, meaning};
 
-use crate::grammar::escrow_command;
+use crate::grammar::command_of;
 use crate::subcommands::{MOST_ABSENCES, Subcommand};
 use crate::values::{
     count_if_given, count_in, date_in, first_in, ground_in, id_in, is_given, kind_in, now_in,
@@ -145,7 +145,7 @@ fn fault_from(error: clap::Error) -> WordFault
 pub fn order_of<'a>(alloc: Global, words: &'a [String]) -> Result<Order<'a>, WordFault>
     ensures { AnswersReading (ReadsWords (map string_bytes words.now)) result }
 {
-    let command = escrow_command(alloc)?;
+    let command = command_of(alloc, words)?;
     let matches = match command.try_get_matches_from(words) {
         Ok(matches) => matches,
         Err(error) => return Err(fault_from(error)),
