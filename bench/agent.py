@@ -1,9 +1,10 @@
 #!/usr/bin/env python3
-"""Times the program `escrow`: putting parts, opening vaults of many parts, and a thousand puts into one vault.
+"""Times the program `escrow`: putting parts, opening vaults of many parts, and a thousand puts into one vault. It also
+measures the peak memory of the openings: the bytes a part are those above the first opening.
 
     bench/agent.py [PROGRAM]
 
-It takes about two minutes. It needs the program that `rt run` builds in crates/escrow, cp, sync and sqlite3.
+It takes about two minutes. It needs the program that `rt run` builds in crates/escrow, cp, sync, sqlite3 and GNU time.
 
 Each time is the least of several, since whatever else the machine does only adds to it.
 """
@@ -18,6 +19,7 @@ import tempfile
 import time
 
 import vaults
+from release import call
 
 PROGRAM = vaults.program(__doc__)
 NUMBER = "0000000000000001"
@@ -28,7 +30,8 @@ KEEP_DAY = datetime.date(2401, 1, 1)
 EPOCH = datetime.date(1970, 1, 1)
 PUTS = 100
 OPENINGS = 25
-SIZES = (10, 1_000, 10_000, 50_000)
+PEAKS = 5
+SIZES = (10, 1_000, 10_000, 64_000)
 MANY = 1_000
 EDGE = 100
 
@@ -144,16 +147,18 @@ def check_by_sqlite(folder):
 
 
 def openings(top):
-    print("\n| parts | `state` (×) | of it the database | `state` / `sqlite3` |")
-    print("|---|---|---|---|")
-    least = None
+    print("\n| parts | `state` (×) | of it the database | `state` / `sqlite3` | MiB | bytes a part |")
+    print("|---|---|---|---|---|---|")
+    least = fewest = None
     for count in SIZES:
         folder = top / "vault"
         filled_vault(folder, count)
         taken = [(seconds(state, folder), seconds(look, folder), seconds(check_by_sqlite, folder)) for _ in range(OPENINGS)]
         whole, database, check = (min(column) for column in zip(*taken))
-        least = least or whole
-        print(f"| {count:,} | {whole / least:.1f} | {database / whole:.0%} | {whole / check:.1f} |")
+        peak = min(call(PROGRAM, "state", folder)[0][1] for _ in range(PEAKS))
+        least, fewest = least or whole, fewest or peak
+        each = f"{(peak - fewest) * 1048576 / (count - SIZES[0]):,.0f}" if count > SIZES[0] else ""
+        print(f"| {count:,} | {whole / least:.1f} | {database / whole:.0%} | {whole / check:.1f} | {peak:.1f} | {each} |")
 
 
 def many(top):

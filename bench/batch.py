@@ -5,9 +5,10 @@
 
 It takes some two minutes. It needs the program that `rt run` builds in crates/escrow.
 
-First all lines are sent at once, from a file. The time is then that of the whole process, its opening included, and a
-process for each put is compared too. Then each line is sent when the one before it is answered. What is compared is done by
-turns, in one run, on one disk. The parts' files are made before. Each answer is checked, and that the vaults are alike.
+First all lines are sent at once, from a file. The time is then that of the whole process, its opening included. It is
+compared with a process for each put, and with lines that are refused, which are read and answered and do nothing. Then each
+line is sent when the one before it is answered. What is compared is done by turns, in one run, on one disk. The parts'
+files are made before. Each answer is checked, and that the vaults are alike.
 """
 import subprocess
 import tempfile
@@ -21,6 +22,7 @@ MOMENT = f"{NOW}T00:00:00Z"
 PUTS = 1_000
 ROUNDS = 3
 CALLS = "write, sync, insert"
+LIFT = f"lift H-1 --now {MOMENT}\n".encode()
 
 
 def put_line(i):
@@ -48,6 +50,18 @@ def batch(escrow, vault):
         taken = time.perf_counter() - start
         printed.seek(0)
         assert printed.read() == lines(answer)
+    return taken
+
+
+def refused(escrow, vault):
+    """As many lines that change nothing: each lifts a hold that is not there."""
+    with tempfile.TemporaryFile(dir=vault.parent) as sent:
+        sent.write(LIFT * PUTS)
+        sent.seek(0)
+        start = time.perf_counter()
+        done = subprocess.run([escrow, "batch", vault], stdin=sent, stderr=subprocess.PIPE)
+        taken = time.perf_counter() - start
+        assert (done.returncode, done.stderr) == (1, b"Q21 hold unknown\n" * PUTS), done
     return taken
 
 
@@ -97,17 +111,18 @@ def row(name, other, ours, theirs):
 
 def at_once(escrow, top):
     """The times of all puts by each way, round by round, divided by how many they are."""
-    ways = batch, calls, processes
+    ways = batch, calls, processes, refused
     taken = [[] for _ in ways]
     for number in range(ROUNDS):
         vaults = new_vaults(escrow, top, *(f"{way.__name__}{number}" for way in ways))
         for way, vault, times in zip(ways, vaults, taken):
             times.append(way(escrow, vault) / PUTS)
-        assert len({records(escrow, vault) for vault in vaults}) == 1
-    ours, plain, each = taken
+        assert len({records(escrow, vault) for vault in vaults[:3]}) == 1
+    ours, plain, each, told = taken
     heading("ms a put")
     row("all lines at once", CALLS, ours, plain)
     row("all lines at once", "a process each", ours, each)
+    row("refused lines at once", "puts at once", told, ours)
 
 
 def in_turn(escrow, top):

@@ -1,7 +1,7 @@
 #!/usr/bin/env python3
 """Times the statement of a differential deposit that follows a full one of 8 MiB and thirty differential ones of 100 KiB,
-through the program `escrow`, against a Python program that reads the same files and makes the same sets of keys. It also
-measures the peak memory of both.
+through the program `escrow`, against a Python program that reads the same files and makes the same sets of keys; and an
+audit of the same vault, which reads and compares the same bytes, and no keys. It also measures the peak memory of each.
 
     bench/chain.py [PROGRAM]
 
@@ -132,20 +132,24 @@ def main():
         deposits, vault = list(packed(top)), top / "vault"
         vault.mkdir()
         words = fill(program, vault, deposits)
-        ours, theirs = [], []
+        ours, audits, theirs = [], [], []
         for _ in range(RUNS):
             took, printed = vaults.seconds(program, "verify", copied(vault), *words)
             assert b" RECEIPT " in printed, printed
             ours.append(took)
+            took, printed = vaults.seconds(program, "audit", vault)
+            assert printed.startswith(b"sound "), printed
+            audits.append(took)
             start = time.perf_counter()
             assert counts_of(top / "parts")
             theirs.append(time.perf_counter() - start)
         memory = peak(program, "verify", copied(vault), *words)
+        reading = peak(program, "audit", vault)
         other = peak(sys.executable, __file__, "--counts", top / "parts")
         size = sum(part.stat().st_size for part in deposits[0].parts)
         print("| program | time | memory | / full deposit |")
         print("|---|---|---|---|")
-        for name, taken, mib in (("`verify`", min(ours), memory), ("Python", min(theirs), other)):
+        for name, taken, mib in (("`verify`", min(ours), memory), ("`audit`", min(audits), reading), ("Python", min(theirs), other)):
             print(f"| {name} | {taken * 1000:,.0f} ms | {mib:.0f} MiB | {mib * 1024 * 1024 / size:.1f} |")
 
 

@@ -35,7 +35,7 @@ PATIENCE = 1800
 
 # What each measurement needs: programs of crates, and tools.
 NEEDS = {
-    "agent": (("escrow",), ("cp", "sync", "sqlite3")),
+    "agent": (("escrow",), ("cp", "sync", "sqlite3", "/usr/bin/time")),
     "audit": (("escrow",), ("sha256sum", "/usr/bin/time")),
     "batch": (("escrow",), ()),
     "chain": (("escrow", "deposit"), ()),
