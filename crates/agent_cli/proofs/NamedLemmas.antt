@@ -5,6 +5,7 @@ use Rattle.std.specs.Str.{bytes_eq}
 use Rattle.std.specs.Option.{option_or}
 use Rattle.std.proofs.lemmas.List.Folds.{find-append}
 use Rattle.std.proofs.lemmas.Slice.Eq.{bytes_eq-Decides}
+use Rattle.custody_records.proofs.FieldLemmas.{find_passes}
 use Rattle.clap.specs.Words.{AddsSubcommand, App, Rule, Shape, Text, app_of, built, is_simple_and_free, new_app, shape_of, with_rule, with_subcommand}
 use Rattle.clap.specs.declared.builder.Command.{Command}
 use Rattle.clap.specs.declared.builder.Command.TheViews.{out-Command}
@@ -74,14 +75,6 @@ answers above name it = ap (answers_to name) (label above it) ∙ no_other (byte
     no_other true = refl
     no_other false = refl
 
-found_holds : {X : Type 0} (p : X → Bool) (xs : List X) (x : X) → find p xs ≡ Some x → p x ≡ true
-found_holds p [] x e = absurd (let clash = e in cc)
-found_holds p (y ∷ ys) x e = by (found_holds p ys x) (p y) refl e
-  where
-    by : (find p ys ≡ Some x → p x ≡ true) → (b : Bool) → p y ≡ b → cond b (Some y) (find p ys) ≡ Some x → p x ≡ true
-    by later true is first = let same : y ≡ x = cc in subst (λ z. p z ≡ true) same is
-    by later false is rest = later rest
-
 module _ (above : Shape) (its : List Subcommand) (name : Text) (it : Subcommand) (named : find (is_named name) its ≡ Some it) where
   same_test : (λ (x : Subcommand). answers_to name (label_of (built_in above x))) ≡ is_named name
   same_test = λ i x. answers above name x i
@@ -92,7 +85,7 @@ module _ (above : Shape) (its : List Subcommand) (name : Text) (it : Subcommand)
       ∙ ap (λ o. option_or o (find (λ s. answers_to name (label_of s)) more)) (sym (find-map (λ (s : Shape). answers_to name (label_of s)) (built_in above) its) ∙ ap (λ p. option_map (built_in above) (find p its)) same_test ∙ ap (option_map (built_in above)) named)
 
   is_name : (words_of it).0 ≡ name
-  is_name = (bytes_eq-Decides (words_of it).0 name).0 (found_holds (is_named name) its it named)
+  is_name = (bytes_eq-Decides (words_of it).0 name).0 (find_passes (is_named name) its it named)
 
   met_among : (more : List Shape) → subcommand_met (map label_of (map (built_in above) its ++ more)) idle name ≡ Some name
   met_among more =
@@ -106,15 +99,6 @@ only it = with_subcommand bare_app (shape it)
 
 abbrev above_all : Shape
 above_all = with_leaf_noted (marked_built escrow_app.top)
-
-whole_subs : (built escrow_app).subs ≡ map (built_in above_all) subcommands ++ built_leaf help_shape ∷ []
-whole_subs = refl
-
-only_subs : (it : Subcommand) → (built (only it)).subs ≡ map (built_in above_all) (it ∷ []) ++ built_leaf help_shape ∷ []
-only_subs it = refl
-
-same_top : (it : Subcommand) → (built (only it)).top ≡ (built escrow_app).top
-same_top it = refl
 
 only_simple : (it : Subcommand) → is_simple_and_free (only it) ≡ true
 only_simple Init = refl

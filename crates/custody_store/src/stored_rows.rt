@@ -70,7 +70,7 @@ pub fn load_rows<T: Stored, S: Alter>(
     ensures kind { IfErr result IsFormFault }
 {
     let mut rows = db.query(sql, &[])?;
-    'rows: for _ in 0..u64::MAX {
+    for _ in 0..u64::MAX {
         rows.advance()?;
         let Some(row) = rows.get() else {
             return Ok(());

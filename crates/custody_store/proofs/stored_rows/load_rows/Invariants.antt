@@ -7,8 +7,8 @@ use Rattle.custody_records.specs.Form.{gather}
 use Rattle.custody_records.specs.MemoryRecords.{records_of}
 use Rattle.custody_store.proofs.stored_rows.load_rows.Given as goal
 
-abbrev pub invariant-rows : goal.invariant-rows
-invariant-rows g l =
+abbrev pub invariant-loop : goal.invariant-loop
+invariant-loop g l =
     let old = state g.S.Store l.fn.db in
     let now = state g.S.Store l.rows.conn.now in
     let t = g.T.Stored in
