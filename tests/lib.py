@@ -34,9 +34,9 @@ PACKER = TOP / "crates/deposit/out/deposit"
 # Seconds for a command to end, or a server to listen.
 LIMIT = 120
 # The tools that some tests need, each with its Debian package.
-PACKAGES = {"curl": "curl", "fallocate": "util-linux", "flock": "util-linux", "groff": "groff-base", "ip": "iproute2",
-            "nginx": "nginx", "nsenter": "util-linux", "openssl": "openssl", "prlimit": "util-linux", "script": "bsdutils",
-            "setpriv": "util-linux", "sqlite3": "sqlite3", "strace": "strace", "systemctl": "systemd",
+PACKAGES = {"chromium": "chromium", "curl": "curl", "fallocate": "util-linux", "flock": "util-linux", "groff": "groff-base",
+            "ip": "iproute2", "nginx": "nginx", "nsenter": "util-linux", "openssl": "openssl", "prlimit": "util-linux",
+            "script": "bsdutils", "setpriv": "util-linux", "sqlite3": "sqlite3", "strace": "strace", "systemctl": "systemd",
             "systemd-analyze": "systemd", "unshare": "util-linux"}
 
 

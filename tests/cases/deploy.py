@@ -164,6 +164,7 @@ FILES = {
     "usr/share/bash-completion/completions/escrow": ("644", "docs/escrow.bash"),
     "usr/local/share/escrow/damage.sql": ("644", "docs/damage.sql"),
     "usr/local/share/escrow/nginx.conf": ("644", "deploy/nginx.conf"),
+    **{f"usr/local/share/escrow/desk/{it.name}": ("644", f"deploy/desk/{it.name}") for it in (DEPLOY / "desk").iterdir()},
     "etc/sysusers.d/escrow.conf": ("644", "deploy/escrow.sysusers"),
     **{f"etc/systemd/system/{it.name}": ("644", f"deploy/{it.name}") for it in UNITS}}
 FOLDERS = {"etc/escrow": "750", "var/lib/escrow": "755", "var/lib/escrow-audit": "755"}

@@ -93,14 +93,14 @@ def nginx(room: Room) -> list[str]:
 
 
 @contextlib.contextmanager
-def gateway(room: Room, port: int, second: int = 0) -> Iterator[Ask]:
+def gateway(room: Room, port: int, second: int = 0, *places: tuple[str, int, str]) -> Iterator[Ask]:
     """nginx in front of the port of the first vault, `archive`, and, where there is one, of that of `second`, which has the
-    registry `other`: for it the lines behind `#` in the table are taken."""
+    registry `other`: for it the lines behind `#` in the table are taken. Further places are those of `configuration`."""
     tls = free_port()
     lines = [(f"# {it}8081;", 1, f"{it}{second};") for it in ("/vaults/second    ", "other             ")]
     certificates(room)
     configuration(room, ("listen 443 ssl;", 1, f"listen 127.0.0.1:{tls} ssl;"), (" 8080;", 2, f" {port};"),
-                  *(lines if second else ()))
+                  *(lines if second else ()), *places)
     for name, body in BODIES.items():
         room.file(name, body)
 
@@ -222,6 +222,23 @@ def the_operator_may_ask_everything(room: Room) -> None:
         fetched = ask("operator", f"$url/releases/R-1/{PART}")
         room.true(fetched == (BODIES["large"] + "200 application/octet-stream").encode(), "the part is not as it was sent")
     kept(room, 43, LARGE_HELD, FAILURE, f"release R-1 example operator {FIVE} 1")
+
+
+@case(TOOLS)
+def a_browser_may_only_read(room: Room) -> None:
+    room.vault("d")
+    fields = [f"-H 'Sec-Fetch-Site: {it}'" for it in ("cross-site", "same-site", "same-origin", "none")]
+    fields += [f"-H 'Origin: {it}'" for it in ("null", "https://elsewhere.example", "https://127.0.0.1")]
+    changes = (("operator", "-d '' $url/purges"), ("operator", "-X PUT -d @ground $url/releases/R-1"),
+               ("operator", f"-d '' $url/vaults/archive/checks/example/{DAY}"), ("operator", "-X DELETE $url/purges"),
+               ("example", f"-T hello $url/deposits/{PART}"))
+    # What is stopped does not reach the server, which is there for the other requests alone.
+    with room.serve("d", len(fields) + 2, FIVE) as server, gateway(room, server.port) as ask:
+        for field in fields:
+            asks(room, ask, (*((caller, 403, None, f"{field} {words}") for caller, words in changes),
+                             ("operator", 200, state(7), f"{field} $url/state")))
+        asks(room, ask, (("operator", 200, "dropped 0", "-d '' $url/purges"),
+                         ("operator", 200, "dropped 0", "-d '' -H 'Origin;' -H 'Sec-Fetch-Site;' $url/purges")))
 
 
 @case(TOOLS, seconds=12)

@@ -82,8 +82,8 @@ def the_code_has_what_a_page_quotes(room: Room, page: str) -> None:
 # ---- the scripts
 
 # Everything that a person may run, and the modules that these import.
-FORMS = (".ci/run", "demo", "prove", "tests/run", "tests/*.py", "tests/demo/*.py", "bench/*.py", "deploy/*")
-FILES = [it for form in FORMS for it in sorted(TOP.glob(form))]
+FORMS = (".ci/run", "demo", "prove", "tests/run", "tests/*.py", "tests/demo/*.py", "tests/page/*.py", "bench/*.py", "deploy/*")
+FILES = [it for form in FORMS for it in sorted(TOP.glob(form)) if it.is_file()]
 SCRIPTS = [it for it in FILES if it.read_bytes().startswith(b"#!")]
 
 
