@@ -5,7 +5,6 @@ from browser import Page
 from desks import Desk, check
 from looks import TROUBLE, close_day, show_day, sorts, whole_page
 
-
 CONTRASTS = """(() => {
     const canvas = Object.assign(document.createElement("canvas"), {width: 1, height: 1});
     const pen = canvas.getContext("2d", {willReadFrequently: true}), known = new Map();

@@ -11,7 +11,6 @@ from lib import Wrong, part_name
 from looks import GROUNDS, again, answered, close_day, days_are_as_told, show_day, sorts
 from vaults import back
 
-
 COMMANDS = "[...document.querySelectorAll('%s code.command')].map((it) => it.textContent)"
 
 

@@ -11,7 +11,6 @@ from lib import part_name, response
 from looks import OPENED, TODO, TROUBLE, again, answered, close_day, days_are_as_told
 from vaults import back
 
-
 ALL_DAYS = "[...document.querySelectorAll('section.registry button[data-day]')].map((it) => it.outerHTML)"
 
 

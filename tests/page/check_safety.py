@@ -12,7 +12,6 @@ from lib import response
 from looks import DAY_SHOWN, OPENED, ORDER, again, answered, close_day, days_are_as_told, open_by_fragment, show_day
 from vaults import back, weekday
 
-
 EVIL = "<img src=x onerror=window.evil=1><script>window.evil=1</script>"
 
 
@@ -102,6 +101,8 @@ def the_policy_of_the_page_lets_nothing_else_in_or_out(desk: Desk) -> None:
     desk.room.true(policy and "unsafe" not in policy[1], f"the policy: {policy and policy[1]}")
     for name in ("x-content-type-options: nosniff", "referrer-policy: no-referrer"):
         desk.room.true(name in head.lower(), f"the head of the page lacks {name}")
+    _, head = desk.curl("-i $url/state")
+    desk.room.true("x-content-type-options: nosniff" in head.lower(), "an answer of the agent may be taken for a script")
     other = f"http://127.0.0.1:{desk.standin.port}"
     desk.standin.asked.clear()
     with desk.page(complains=True) as page:
