@@ -1,7 +1,7 @@
 // The agent's answers, read from their lines: docs/FORMATS.md, "Words and lines of the programs".
 //
-// The state of a large vault has a million lines. `readState` reads those that are of no registry. A registry surveys its
-// own for the overview, and reads each of them when its days are shown.
+// The state of a large vault has a million lines. It is taken in pieces as they come: a registry surveys its lines for the
+// overview as soon as it is whole, and reads a line when its day is shown.
 
 const DAY = "\\d{4}-\\d{2}-\\d{2}";
 const MOMENT = `${DAY}T\\d{2}:\\d{2}:\\d{2}Z`;
@@ -101,20 +101,16 @@ function glance(text, start, end, tld) {
   };
 }
 
-/** The offset behind each place of a text in another. */
-function* places(text, word) {
-  for (let at = text.indexOf(word); at >= 0; at = text.indexOf(word, at + 1)) yield at + word.length;
-}
-
 /** A registry: the line that names it, those of its parts by day, and those of its notices by number. */
 class Registry {
   #lines;
   #days;
+  #survey;
 
   /** @param {string} text the lines, each with its line feed */
   constructor(text) {
     const end = text.indexOf("\n");
-    Object.assign(this, fields(REGISTRY, text.slice(0, end)));
+    Object.assign(this, fields(REGISTRY, text.slice(0, end)), { text });
     this.#lines = text.slice(end);
   }
 
@@ -141,6 +137,10 @@ class Registry {
    * revision that no notice is about, with that revision.
    */
   survey() {
+    return this.#survey ??= this.#glances();
+  }
+
+  #glances() {
     const text = this.#lines, losses = [], held = [], lost = new Set(), revisions = new Map();
     // The last receipt; the day of the first held part, and the last day that is lost: they spare most look-ups.
     let receipt = null, earliest = "~", latest = "";
@@ -198,9 +198,9 @@ function tailOf(text) {
   }
 }
 
-/** The answer of GET /state. It ends with the line of the free blocks, so that one that was cut is no answer. */
-export function readState(text) {
-  const tail = tailOf(text), lines = linesOf(text.slice(tail));
+/** The releases, the holds and the free blocks, by the lines behind the registries, of which the last has the blocks. */
+function readTail(text) {
+  const lines = linesOf(text);
   if (!lines.length || !lines.at(-1).startsWith("free ")) throw new AnswerError("the answer has been cut");
   const { free, total } = fields(FREE, lines.pop());
   const releases = lines.filter((line) => line.startsWith("release ")).map((line) => {
@@ -211,8 +211,52 @@ export function readState(text) {
     const { lifted = null, ...hold } = fields(HOLD, line);
     return { ...hold, lifted };
   });
-  const others = [...places(text.slice(0, tail), "\nregistry ")].map((at) => at - "registry ".length);
-  const starts = tail === 0 ? [] : [0, ...others];
-  const registries = starts.map((start, place) => new Registry(text.slice(start, starts[place + 1] ?? tail)));
-  return { registries, releases, holds, free: Number(free), total: Number(total) };
+  return { releases, holds, free: Number(free), total: Number(total) };
+}
+
+// Where a registry ends, but for the first character.
+const NEXT = "\nregistry ";
+
+/** Reads the answer of GET /state from its pieces. Its last line has the free blocks: without it the answer was cut. */
+export class StateReader {
+  #registries = [];
+  // The pieces of the registry that has not ended, and what may be the beginning of the end.
+  #pieces = [];
+  #carry = "";
+
+  take(piece) {
+    const text = this.#carry + piece;
+    let from = 0;
+    for (let at = text.indexOf(NEXT); at >= 0; at = text.indexOf(NEXT, at + 1)) {
+      this.#end(text.slice(from, at + 1));
+      from = at + 1;
+    }
+    const whole = Math.max(from, text.length - NEXT.length + 1);
+    this.#pieces.push(text.slice(from, whole));
+    this.#carry = text.slice(whole);
+  }
+
+  /** The state, with the texts that it was read from. */
+  end() {
+    const rest = this.#pieces.join("") + this.#carry, tail = tailOf(rest);
+    this.#pieces = [];
+    if (tail > 0) this.#end(rest.slice(0, tail));
+    const registries = this.#registries, last = rest.slice(tail);
+    return { registries, ...readTail(last), texts: [...registries.map(({ text }) => text), last] };
+  }
+
+  /** Ends a registry with the last piece of its text. */
+  #end(piece) {
+    const registry = new Registry(this.#pieces.join("") + piece);
+    registry.survey();
+    this.#registries.push(registry);
+    this.#pieces = [];
+  }
+}
+
+/** The answer of GET /state. */
+export function readState(text) {
+  const reader = new StateReader();
+  reader.take(text);
+  return reader.end();
 }

@@ -15,14 +15,25 @@ async function get(path) {
   return { response, moment: moment.toISOString().replace(/\.\d+/, "") };
 }
 
+/** Asks by GET, and hands over the pieces of the agent's answer as they come. Gives the moment of the answer. */
+export async function askInPieces(path, take) {
+  const { response, moment } = await get(path);
+  const cut = () => { throw new AskError(`GET /${path}: the answer did not come whole`); };
+  const isAgent = response.headers.get("Content-Type") === "text/plain";
+  if (!response.ok) {
+    const text = isAgent ? (await response.text().catch(cut)).trim() : "of the gateway";
+    throw new AskError(`GET /${path}: ${response.status} ${text}`);
+  }
+  if (!isAgent) throw new AskError(`GET /${path}: this is no answer of the agent`);
+  const reader = response.body.pipeThrough(new TextDecoderStream()).getReader();
+  for (let it = await reader.read().catch(cut); !it.done; it = await reader.read().catch(cut)) take(it.value);
+  return moment;
+}
+
 /** The agent's answer to GET, and its moment. */
 export async function ask(path) {
-  const { response, moment } = await get(path);
-  const text = await response.text().catch(() => { throw new AskError(`GET /${path}: the answer did not come whole`); });
-  const isAgent = response.headers.get("Content-Type") === "text/plain";
-  if (!response.ok) throw new AskError(`GET /${path}: ${response.status} ${isAgent ? text.trim() : "of the gateway"}`);
-  if (!isAgent) throw new AskError(`GET /${path}: this is no answer of the agent`);
-  return { text, moment };
+  const pieces = [], moment = await askInPieces(path, (piece) => pieces.push(piece));
+  return { text: pieces.join(""), moment };
 }
 
 /** Whether a release lists a part: yes, no or unknown. Of the part's bytes nothing is read. */

@@ -1,6 +1,6 @@
 // The desk's page: asks for the state and the days due, and shows them; asks again every minute.
-import { readDue, readState } from "./answers.js";
-import { AGENT, AskError, ask } from "./asking.js";
+import { StateReader, readDue } from "./answers.js";
+import { AGENT, AskError, ask, askInPieces } from "./asking.js";
 import { calendar, focusOn } from "./calendar.js";
 import * as commands from "./commands.js";
 import { closeDay, openDay } from "./day.js";
@@ -12,7 +12,7 @@ const TEN_SECONDS = 10_000;
 const MOST_DAYS = 100;
 const page = document.documentElement;
 const at = (id) => document.getElementById(id);
-// What the page shows: the texts of the last answers, and what they say as of their moment.
+// What the page shows: the last answers, and what they say as of their moment.
 let shown = null;
 let timer = 0;
 
@@ -48,7 +48,9 @@ function showCalendars() {
   const sections = shown.registries.map(registry);
   fills.disconnect();
   at("registries").replaceChildren(...(sections.length ? sections : [element("p", {}, "No registry is registered.")]));
-  for (const it of sections) fills.observe(it);
+  // The first ones are painted with the page.
+  for (const it of sections.slice(0, 2)) fill(it);
+  for (const it of sections.slice(2)) fills.observe(it);
 }
 
 // ---- above them
@@ -94,22 +96,36 @@ function showYears({ registries, now }) {
 
 // ---- answers
 
-/** What an answer says; if it is none, the error names its request. */
-function read(path, reader, text) {
+/** What reading an answer gives; if it is none, the error names its request. */
+function reading(path, read) {
   try {
-    return reader(text);
+    return read();
   } catch (error) {
     throw new AskError(`GET /${path}: ${error.message}`);
   }
 }
 
+/** The state, read as it comes, and its moment. */
+async function askState() {
+  const reader = new StateReader();
+  const moment = await askInPieces("state", (piece) => reading("state", () => reader.take(piece)));
+  return { state: reading("state", () => reader.end()), moment };
+}
+
+/** The days due, with the text that they were read from. */
+async function askDue() {
+  const { text } = await ask("due");
+  return { ...reading("due", () => readDue(text)), texts: [text] };
+}
+
+/** Whether two answers have the same texts. */
+const isSame = (a, b) => a.texts.length === b.texts.length && a.texts.every((text, place) => text === b.texts[place]);
+
 /** Shows answers. The calendars stay where the answers and the day are as before. */
-function show(texts, now) {
-  const isSame = shown && texts.every((text, place) => text === shown.texts[place]);
-  const state = isSame ? shown.state : read("state", readState, texts[0]);
-  const due = isSame ? shown.due : read("due", readDue, texts[1]);
-  const isAsBefore = isSame && dayOf(now) === dayOf(shown.now);
-  shown = { texts, state, due, ...overview(state, due, now) };
+function show(state, due, now) {
+  const isAsBefore = shown && isSame(state, shown.state) && isSame(due, shown.due) && dayOf(now) === dayOf(shown.now);
+  const answers = isAsBefore ? { state: shown.state, due: shown.due } : { state, due };
+  shown = { ...answers, ...overview(answers.state, answers.due, now) };
   showRoom(shown);
   showTodo(shown.registries);
   showGrounds(shown.registries);
@@ -143,8 +159,8 @@ async function refresh() {
   const slow = setTimeout(() => keep(new AskError("The agent has not answered for ten seconds")), TEN_SECONDS);
   try {
     // The days due first: if a notice comes between the two, the state has it.
-    const due = await ask("due"), state = await ask("state");
-    show([state.text, due.text], state.moment);
+    const due = await askDue(), { state, moment } = await askState();
+    show(state, due, moment);
   } catch (error) {
     keep(error);
   }

@@ -197,3 +197,27 @@ def an_answer_that_is_cut_or_changed_is_refused(desk: Desk) -> None:
     desk.room.equal([], taken, "texts that are no answers")
     silent = [it for (_, text), it in zip(tried, came) if text.startswith("registry") and len(it) < 15]
     desk.room.equal([], silent, "errors that say nothing")
+
+
+# Of which of these lengths are the pieces by which a state is read otherwise than as a whole.
+PIECES = """(async (text, lengths) => {
+    const { StateReader, readState } = await import("/desk/answers.js");
+    const told = (it) => JSON.stringify([it, it.registries.map((one) =>
+        [one.parts(), one.notices(), one.survey(), [...one.survey().waiting], [...one.survey().lost]])]);
+    const whole = told(readState(text));
+    return lengths.filter((length) => {
+        const reader = new StateReader();
+        for (let at = 0; at < text.length; at += length) reader.take(text.slice(at, at + length));
+        return told(reader.end()) !== whole;
+    });
+})"""
+
+
+@check
+def a_state_is_read_alike_in_pieces_of_any_length(desk: Desk) -> None:
+    lengths = [*range(1, 40), 1000, 4096, 65_536]
+    with desk.page() as page:
+        text = desk.get("/state")
+        desk.room.equal(3, text.count("registry "), "the registries")
+        differ = page.evaluate(f"{PIECES}({json.dumps(text)}, {lengths})")
+        desk.room.equal([], differ, "the lengths of pieces by which the state is read otherwise")
