@@ -1,6 +1,6 @@
 // The calendar of a registry: a column a week, a row a weekday, a button a day.
+import { element, long, month, short } from "./elements.js";
 import { after, span, stateOf, weekday } from "./facts.js";
-import { element, long, link, month, short } from "./elements.js";
 import { letters, words } from "./words.js";
 
 const WEEKDAYS = ["Monday", "Tuesday", "Wednesday", "Thursday", "Friday", "Saturday", "Sunday"];
