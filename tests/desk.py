@@ -8,10 +8,10 @@ TLS by deploy/nginx.conf. Between nginx and the browser is a tunnel that has the
 which registries come first, which grounds stand and how long the room lasts is worked out here, of the answers of /state and
 /due alone.
 
-Each check is a function in tests/page, named as what it shows, and counts as one. For one that fails its name is printed, and what
-is wrong: with `-` what was wanted, with `+` what came. `--pictures` also writes docs/desk-320.png, desk-1280.png and
-desk-2560.png. It needs chromium, curl, nginx and openssl, and the programs that `rt run` builds in crates/escrow and
-crates/deposit. It takes a minute or two.
+Each check is a function in tests/page, named as what it shows, and counts as one. For one that fails its name is printed,
+and what is wrong: with `-` what was wanted, with `+` what came. `--pictures` also writes docs/desk-320.png, desk-1280.png
+and desk-2560.png. It needs chromium, curl, nginx and openssl, and the programs that `rt run` builds in crates/escrow and
+crates/deposit. Without one of the tools it says which checks are left out. It takes three minutes.
 """
 from __future__ import annotations
 
