@@ -467,10 +467,11 @@ PUTS, KILLS = 200, 6
 
 
 def killed(room: Room, r: random.Random) -> list[str]:
-    """What a batch prints that is killed at a moment in the midst of its lines."""
+    """What a batch prints that is killed in the midst of its lines. They do not end before, so that it is still there."""
     printed, wanted = b"", r.randrange(PUTS * 3 // 4)
-    with open(room.folder / "sent", "rb") as sent, begin(
-            [room.program, "batch", "d"], cwd=room.folder, stdin=sent, stdout=subprocess.PIPE) as process:
+    with begin([room.program, "batch", "d"], cwd=room.folder, stdin=subprocess.PIPE, stdout=subprocess.PIPE) as process:
+        process.stdin.write((room.folder / "sent").read_bytes())
+        process.stdin.flush()
         while printed.count(b"\n") < wanted and (piece := os.read(process.stdout.fileno(), 4096)):
             printed += piece
         time.sleep(r.uniform(0, 0.004))
