@@ -498,6 +498,18 @@ class Room:
                 self.equal(response(status, answer), self.curl(server, *line.split(), body, *words), line)
 
 
+@contextlib.contextmanager
+def room_of(program: Path) -> Iterator[Room]:
+    """A room below a folder of its own, which is taken away in the end."""
+    with tempfile.TemporaryDirectory(ignore_cleanup_errors=True) as top:
+        for name in ("bin", "work"):
+            Path(top, name).mkdir()
+        os.chmod(top, 0o755)
+        Path(top, "bin/escrow").symlink_to(program)
+        Path(top, "bin/deposit").symlink_to(PACKER)
+        yield Room(program, Path(top, "work"))
+
+
 # ---- cases
 
 @dataclass(frozen=True)
@@ -517,15 +529,9 @@ class Case:
         lacking = [it for it in self.needs if not shutil.which(it)]
         if lacking:
             return 0, "", f"no {' and no '.join(lacking)}"
-        with tempfile.TemporaryDirectory(ignore_cleanup_errors=True) as top:
-            for name in ("bin", "work"):
-                Path(top, name).mkdir()
-            os.chmod(top, 0o755)
-            Path(top, "bin/escrow").symlink_to(program)
-            Path(top, "bin/deposit").symlink_to(PACKER)
-            room = Room(program, Path(top, "work"))
+        with room_of(program) as room:
             try:
-                Path(top, "full").write_bytes(packed())
+                (room.folder.parent / "full").write_bytes(packed())
                 self.run(room)
                 return room.checks, "", ""
             except Skip as why:

@@ -87,6 +87,11 @@ export function readReason(text) {
   return { check: Number(check), text: reason, line: lines[0] };
 }
 
+/** Whether a release lists a part, by the line that refuses its bytes: those of a part that it lists may be dropped. */
+export function readListing(line) {
+  return line.startsWith("Q6 ") ? "yes" : line.startsWith("Q18 ") ? "no" : "unknown";
+}
+
 // How far before the end of its line a part's `held` begins, and a notice's kind, without the top-level domain.
 const HELD = "held 2026-08-02T10:05:00Z".length;
 const KIND = "RECEIPT    2026-08-02 R00 20260802001   2026-08-02T10:05:00Z ".length;

@@ -1,4 +1,5 @@
 // Requests to the agent, through the gateway that served this page. Each is a GET.
+import { readListing } from "./answers.js";
 
 /** Where the agent answers: the page is in the folder `desk/` of it, or of one of its vaults. */
 export const AGENT = new URL("..", location.href).href;
@@ -44,8 +45,7 @@ export async function lists(reference, name) {
       await response.body.cancel();
       return "yes";
     }
-    const refusal = (await response.text()).slice(0, 4);
-    return { "Q6 d": "yes", "Q18 ": "no" }[refusal] ?? "unknown";
+    return readListing(await response.text());
   } catch {
     return "unknown";
   }

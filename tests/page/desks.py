@@ -8,7 +8,6 @@ import select
 import socket
 import socketserver
 import ssl
-import tempfile
 import threading
 from collections.abc import Callable, Iterable, Iterator
 from dataclasses import dataclass, field
@@ -16,7 +15,7 @@ from pathlib import Path
 
 import gateway
 from browser import Browser, Page
-from lib import LIMIT, PACKER, TOP, Room, Server, Wrong, free_port, response
+from lib import LIMIT, TOP, Room, Server, Wrong, free_port, response, room_of
 from shown import Told
 from vaults import make_vaults
 
@@ -179,13 +178,7 @@ def is_in_phase(name: str) -> str:
 def desks(program: Path, pictures: bool) -> Iterator[Desk]:
     """Makes the vaults, and serves them."""
     with contextlib.ExitStack() as stack:
-        top = Path(stack.enter_context(tempfile.TemporaryDirectory(prefix="desk", ignore_cleanup_errors=True)))
-        top.chmod(0o755)
-        for name in ("bin", "work"):
-            (top / name).mkdir()
-        (top / "bin/escrow").symlink_to(program)
-        (top / "bin/deposit").symlink_to(PACKER)
-        room = Room(program, top / "work")
+        room = stack.enter_context(room_of(program))
         make_vaults(room)
         server, second = (stack.enter_context(contextlib.closing(Server(program, room.folder / name)))
                           for name in ("archive", "second"))

@@ -10,7 +10,6 @@ from browser import Page
 from desks import Desk, is_in_phase
 from shown import Told, moment_of
 
-
 # Of a registry the button of each day: day, state, failures, check of a failure, hold and text.
 BUTTONS = """[...document.querySelectorAll(`section.registry[data-tld="%s"] button[data-day]`)].map((it) => [
     it.dataset.day, it.dataset.state, it.dataset.failures ?? "0", it.dataset.state === "failure" ? it.dataset.check : "",
@@ -54,9 +53,8 @@ def days_are_as_told(desk: Desk, page: Page, told: Told, years: Iterable[str]) -
 
 TODO = """[...document.querySelectorAll('#todo li > a')].map((it) =>
     [...it.getAttribute('href').slice(1).split('/'), it.dataset.state])"""
-
-
 GROUNDS = "[...document.querySelectorAll('#grounds li')].map((it) => [it.dataset.tld, it.dataset.ground])"
+
 
 def again(page: Page, phase: str = "shown") -> None:
     """Has the page ask again, and waits for what comes of it: newer answers, or, where there were answers, that it fails."""
@@ -77,8 +75,9 @@ def next_moment(page: Page) -> None:
     """Waits until newer answers have another moment: it has whole seconds."""
     if before := page.evaluate("window.before = document.querySelector('#answered').dateTime"):
         time.sleep(max(0.0, moment_of(before).replace(tzinfo=datetime.UTC).timestamp() + 1.1 - time.time()))
-TROUBLE = "(() => { const it = document.querySelector('#trouble'); return it.checkVisibility() ? it.textContent : null; })()"
 
+
+TROUBLE = "(() => { const it = document.querySelector('#trouble'); return it.checkVisibility() ? it.textContent : null; })()"
 OPENED = "(() => { const it = document.querySelector('dialog#day'); return it.open && it.dataset.phase === 'shown'; })()"
 DAY_SHOWN = """(() => {
     const all = (what) => [...document.querySelectorAll(`dialog#day ${what}`)], text = (it) => it.textContent.trim();
