@@ -13,10 +13,10 @@ mod serving;
 pub mod sessions;
 
 pub use client_laws::{law_clients, law_requests, law_responses};
+pub use custody::{law_histories, law_retries};
 pub use custody_laws::{
     law_at_rest, law_digests, law_rest, law_run, law_sessions, law_shown, law_stop,
 };
-pub use custody_machine::{law_histories, law_retries};
 pub use explanation_laws::law_explained;
 pub use life_laws::{law_begun, law_calls, law_lives, law_opened, open_custody};
 pub use reading_laws::law_reading;
