@@ -1,11 +1,12 @@
 -- The JSON value of an envelope in form is read as the envelope.
-use Rattle.std.proofs.Common.{◌≡◌, ℕ, ◌≤◌, Bool, true, cond, List, [], ◌∷◌, ◌++◌, length, take, get_or, map, codes, Option, Some, None, option_map, option_and_then, refl, ap, ◌∙◌, arith, IsTrue, le-leb}
+use Rattle.std.proofs.Common.{◌≡◌, ℕ, ◌≤◌, Bool, true, cond, List, [], ◌∷◌, ◌++◌, length, take, get_or, map, codes, Option, Some, None, option_map, option_and_then, refl, ap, subst, ◌∙◌, arith, IsTrue, le-leb}
 use Rattle.std.specs.Prelude.{IfSome, All, is_none}
 use Rattle.std.specs.List.{list_all}
 use Rattle.std.specs.Result.{result_ok}
 use Rattle.std.proofs.lemmas.List.Elements.{All-head, All-tail}
 use Rattle.std.proofs.lemmas.List.{take_at}
 use Rattle.std.proofs.lemmas.Bool.Decides.{Decides-by_and}
+use Rattle.std.proofs.lemmas.Option.{option_and_then_some, same_Some}
 use Rattle.hex.specs.Hex.{encode_lower}
 use Rattle.hex.proofs.HexLemmas.{decode_sized-encode_lower}
 use Rattle.schedule.specs.Reading.{day_at}
@@ -173,7 +174,38 @@ env_again v h =
     let r = members_again v h in
     rw (r.contents, r.kind, r.deletes, r.count, r.tld, r.id, r.prev_id, r.object_uris, r.resend, r.watermark) refl
 
+in_form : (v : Env) (d : Data) → IsReadAs v d → first_out_of_form d ≡ None
+in_form v d r = rw (r.contents, r.kind, r.deletes, r.count, r.tld, r.id, r.prev_id, r.object_uris, r.resend, r.watermark) refl
+
 pub in_form_again : (v : Env) → IsEnvelope v → first_out_of_form (env_data v) ≡ None
-in_form_again v h =
-    let r = members_again v h in
-    rw (r.contents, r.kind, r.deletes, r.count, r.tld, r.id, r.prev_id, r.object_uris, r.resend, r.watermark) refl
+in_form_again v h = in_form v (env_data v) (members_again v h)
+
+read_as : (v : Env) (d : Data) → env_at d ≡ Some v → IsReadAs v d
+unfolding env_at
+read_as v d e =
+    option_and_then_some _ (contents_at d) v e (λ contents contents_is e1.
+    option_and_then_some _ (type_at d) v e1 (λ kind kind_is e2.
+    option_and_then_some _ (deletes_at kind d) v e2 (λ deletes deletes_is e3.
+    option_and_then_some _ (count_in_header d) v e3 (λ count count_is e4.
+    option_and_then_some _ (tld_in_header d) v e4 (λ tld tld_is e5.
+    option_and_then_some _ (id_at (codes "id") d) v e5 (λ id id_is e6.
+    option_and_then_some _ (prev_id_at d) v e6 (λ prev_id prev_id_is e7.
+    option_and_then_some _ (uris_in_menu d) v e7 (λ object_uris object_uris_is e8.
+    option_and_then_some _ (resend_at d) v e8 (λ resend resend_is e9.
+    option_and_then_some _ (watermark_at d) v e9 (λ watermark watermark_is e10.
+    subst (λ w. IsReadAs w d) (same_Some _ v e10) (record {
+      contents = contents_is;
+      kind = kind_is;
+      deletes = deletes_is;
+      count = count_is;
+      tld = tld_is;
+      id = id_is;
+      prev_id = prev_id_is;
+      object_uris = object_uris_is;
+      resend = resend_is;
+      watermark = watermark_is;
+    })))))))))))
+
+-- of what an envelope is read from, each member is in form
+pub in_form_if_read : (v : Env) (d : Data) → env_at d ≡ Some v → first_out_of_form d ≡ None
+in_form_if_read v d e = in_form v d (read_as v d e)

@@ -10,4 +10,5 @@ pub mod Lengths
 pub mod FormDecided
 pub mod TextReading
 pub mod Faults
+pub mod OneFault
 pub mod Places

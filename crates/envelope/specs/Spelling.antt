@@ -1,5 +1,5 @@
 -- Where a text parts from the one text of an envelope (RFC 8259 for JSON, RFC 8909, section 5.1, for the envelope).
-use Rattle.std.specs.Prelude.{◌≡◌, ◌≢◌, ◌<◌, ℕ, Bool, List, [], ◌∷◌, codes, length, take, slice_get, Option, Some, None, is_some, not, IsUtf8}
+use Rattle.std.specs.Prelude.{◌≡◌, ◌≢◌, ◌<◌, ◌≤◌, ℕ, Bool, List, [], ◌∷◌, codes, length, take, slice_get, Option, Some, None, is_some, not, IsUtf8}
 use Rattle.std.specs.List.{find}
 use Rattle.std.specs.Str.{IsValidUpTo}
 use Rattle.serde_json.specs.Data.{Data}
@@ -48,14 +48,23 @@ pub record PartsAt (offset : ℕ) (byte : Option ℕ) (t wanted : List ℕ) : Ty
   pub wanted_there : slice_get wanted offset ≡ byte
   pub other_there : slice_get t offset ≢ byte
 
--- the fault is one of the text
+-- the text has no more bytes than an envelope may have
+abbrev pub IsShort : List ℕ → Type 0
+IsShort t = length t ≤ text_max
+
+-- the fault is one of the text; a text of more bytes has no fault but its length
 abbrev pub HasSpellingFault : SpellingFault → List ℕ → Type 0
 HasSpellingFault fault.Long t = text_max < length t
-HasSpellingFault (fault.NotUtf8 offset) t = IsValidUpTo t offset
-HasSpellingFault (fault.NotJson line column) t = IsUtf8 t × (read t ≡ None)
-HasSpellingFault (fault.Member m) t = (value : Data) × IsJson t value × (first_out_of_form value ≡ Some m)
+HasSpellingFault (fault.NotUtf8 offset) t = IsShort t × IsValidUpTo t offset
+HasSpellingFault (fault.NotJson line column) t = IsShort t × IsUtf8 t × (read t ≡ None)
+HasSpellingFault (fault.Member m) t = IsShort t × (value : Data) × IsJson t value × (first_out_of_form value ≡ Some m)
 HasSpellingFault (fault.Byte offset byte) t =
-    (value : Data) × (v : Env) × IsJson t value × (env_at value ≡ Some v) × IsEnvelope v × PartsAt offset byte t (env_text v)
+    IsShort t × (value : Data) × (v : Env) × IsJson t value × (env_at value ≡ Some v) × IsEnvelope v × PartsAt offset byte t (env_text v)
+
+-- the faults are the same, but for the place in a text that is no JSON
+abbrev pub IsSameFault : SpellingFault → SpellingFault → Type 0
+IsSameFault (fault.NotJson line column) (fault.NotJson other_line other_column) = Unit {0}
+IsSameFault f g = f ≡ g
 
 -- a text of no envelope in form
 abbrev pub IsNoEnvelope : List ℕ → Type 0

@@ -13,7 +13,7 @@ ghost use Rattle.envelope.specs.declared.errors.EnvError.TheVariants.{Memory, Sp
 ghost use Rattle.envelope.specs.declared.errors.Member.TheVariants as member;
 ghost use Rattle.envelope.specs.declared.errors.SpellingFault.TheVariants.{Long};
 ghost use Rattle.envelope.specs.JsonReading.{GivesReading, number_at, text_at, file_at, uri_at, each_at, counts_of, files_at, uris_at, counts_at, kind_at, type_at, contents_at, deletes_at, id_at, prev_id_at, watermark_at, count_at, count_in_header, tld_in_header, uris_in_menu, resend_at, env_at};
-ghost use Rattle.envelope.specs.Spelling.{IsJson, NamesMember, RefusesEnvelope, TellsFault};
+ghost use Rattle.envelope.specs.Spelling.{IsJson, IsShort, NamesMember, RefusesEnvelope, TellsFault};
 
 use crate::envelope::{Count, Envelope, FileEntry, Header, Menu};
 use crate::errors::{EnvError, Member, SpellingFault};
@@ -337,6 +337,7 @@ pub fn read_envelope(alloc: Global, t: &[u8]) -> Result<Envelope, EnvError>
 
 // The JSON value of a text.
 fn value_of(alloc: Global, t: &[u8]) -> Result<Value, EnvError>
+    requires { IsShort t.now }
     ensures { MatchResult result (λ value. IsJson t.now (json.view value)) (λ error. TellsFault error t.now) }
 {
     let text = match str::from_utf8(t) {
