@@ -13,7 +13,7 @@ use vault_volume::Volume;
 
 /// A clock that fails: the moment of each client is given.
 #[derive(Drop)]
-struct NoClock;
+pub struct NoClock;
 
 impl Clock for NoClock {
     fn monotonic(&self) -> io::Result<Duration> {
@@ -76,6 +76,11 @@ fn print_turns<'r, V: Volume, S: Alter, W: Write>(
     if let Err(fault) = served {
         writeln!(out, "{fault}")?;
     }
+    Ok(print_responses(&clients, out)?)
+}
+
+/// Prints what each client has taken.
+pub fn print_responses<W: Write>(clients: &MemClients<'_>, out: &mut W) -> io::Result<()> {
     for response in clients.responses() {
         writeln!(out, "{}", response.as_slice().escape_ascii())?;
     }

@@ -1,20 +1,28 @@
 //! Sessions, and openings over what a stop has left of them: the calls that the headline is about.
+use crate::clients::{NoClock, print_responses};
 use crate::fault::ScriptFault;
 use crate::stopping::BLOCK;
 use custody::{Custody, Refused, Reply};
 use custody_machine::Command;
 use deposit_name::Tld;
 use desk::NoticeKind;
+use http_api::{Api, MemClients};
 use schedule::{Day, Sec, read_day, read_moment};
 use sqlite::{Alter, Connection};
 use std::alloc::Global;
 use std::io::{self, Write};
+use theorems::begin_and_serve;
 use theorems::sessions::{begin_run_and_reopen, live_once, new_database, open_run_and_reopen};
 use vault_volume::{MemVolume, Volume};
 
 const BLOCKS: u32 = 8;
 
 const NAME: &[u8] = b"example_2026-08-02_full_S1_R0.ryde";
+
+const REGISTRATION: &[u8] =
+    b"PUT /registries/example HTTP/1.1\r\nContent-Length: 22\r\n\r\n{\"first\":\"2026-08-02\"}";
+
+const CUT_OFF: &[u8] = b"PUT /dep";
 
 /// A registry with its first day, and a moment.
 fn registry() -> Option<(Tld, Day, Sec)> {
@@ -119,6 +127,21 @@ fn show_life<W: Write>(alloc: Global, out: &mut W) -> Result<(), ScriptFault> {
     Ok(shown?)
 }
 
+/// A service of three turns: a registration, a request whose head is cut off, and nobody.
+fn show_service<W: Write>(alloc: Global, out: &mut W) -> Result<(), ScriptFault> {
+    let api = Api::new(alloc)?;
+    let requests = [REGISTRATION, CUT_OFF];
+    let mut clients = MemClients::new(alloc, &requests)?;
+    let volume = MemVolume::new(alloc, BLOCKS, 64, 16)?;
+    let now = read_moment(b"2026-08-02T09:00:00Z");
+    writeln!(out, "a service:")?;
+    let served = begin_and_serve(alloc, &NoClock, &api, &mut clients, volume, 1, 3, now);
+    if let Err(error) = served {
+        writeln!(out, "{error}")?;
+    }
+    Ok(print_responses(&clients, out)?)
+}
+
 /// Prints the sessions. A beginning makes two calls, an opening one and a part two.
 pub fn show_sessions<W: Write>(alloc: Global, out: &mut W) -> Result<(), ScriptFault> {
     writeln!(out, "! sessions")?;
@@ -133,6 +156,7 @@ pub fn show_sessions<W: Write>(alloc: Global, out: &mut W) -> Result<(), ScriptF
     )?;
     show_whole(alloc, out)?;
     show_life(alloc, out)?;
+    show_service(alloc, out)?;
     writeln!(out)?;
     Ok(())
 }

@@ -11,7 +11,7 @@ use Rattle.custody_machine.specs.State.{State, empty}
 use Rattle.custody_machine.specs.Machine.{Command, Register, OfRegistry, Record, Reply, Accepted, Accept, TimedCommand, step}
 use Rattle.custody_machine.specs.History as history
 use Rattle.custody_machine.specs.History.{Answered, AnsweredOtherCall, StoppedAtRest, StoppedWithin, OpenedWith, Opened, Pair, none_found, FoundCommands, found_after, is_step_to}
-use Rattle.custody_machine.specs.Moves.{Place, Left}
+use Rattle.custody_machine.specs.Moves.{Place, Left, IsBegun}
 use Rattle.custody_machine.specs.FetchResult.{fetch_result}
 use Rattle.custody_machine.specs.Examples.{pair_of}
 use Rattle.custody_machine.specs.ExampleLife.{clock_moment, example_tld, new_reply, CustodyLives}
@@ -86,10 +86,10 @@ module _ (state : State) (parts : Parts) (here : AreIn state parts) where
 with_hello : (state : State) → state.parts ≡ one_part_of example_part → AreIn state (one_part held_record)
 with_hello state is = record { digests = held_digests; on_volume = held_on_volume ∙ sym is }
 
-abbrev bare_place : Place
+abbrev pub bare_place : Place
 bare_place = place_at empty no_parts
 
-abbrev registry_place : Place
+abbrev pub registry_place : Place
 registry_place = place_at state_of_registry no_parts
 
 abbrev place_with_hello : State → Place
@@ -97,6 +97,10 @@ place_with_hello state = place_at state (one_part held_record)
 
 no_parts_in : AreIn empty no_parts
 no_parts_in = record { digests = none_digests; on_volume = none_on_volume }
+
+-- nothing is there at the beginning
+pub begun_bare : IsBegun empty bare_place
+begun_bare = (state_at empty no_parts none_on_volume, none_digests)
 
 module _ (stated checked released on_hold lifted purged : State) (are : AreStates stated checked released on_hold lifted purged) where
   stated_in : AreIn stated (one_part held_record)
@@ -183,7 +187,7 @@ module _ (lives : CustodyLives) where
   rest_along = let all = states lives in later_along all.stated all.checked all.released all.on_hold all.lifted all.purged all.are
 
   -- the registration, and the part without its last bytes
-  registration_move : ServiceMoves bare_place (Exchanged (accepted_exchange registration_request (Register example_tld 20_667) (clock_moment 20_667 9 0) (new_reply (OfRegistry example_tld 20_667)))) registry_place
+  pub registration_move : ServiceMoves bare_place (Exchanged (accepted_exchange registration_request (Register example_tld 20_667) (clock_moment 20_667 9 0) (new_reply (OfRegistry example_tld 20_667)))) registry_place
   registration_move = served empty no_parts no_parts_in _ _ _ _ state_of_registry no_parts registration_asks registry_left.here (none_kept no_parts) (registering lives).accepts
 
   begun_move : ServiceMoves registry_place (Exchanged (whole_exchange (part_request (codes "he")) (clock_moment 20_667 9 58) (Some AnsweredOtherCall) (fault_response fault.BodyShort))) registry_place
@@ -247,7 +251,7 @@ module _ (lives : CustodyLives) where
   )
 
   history_of : (part : ClientRequest) → ServiceMovesAlong bare_place (example_service part) last_place → IsServiceHistory empty (example_service part)
-  history_of part along = record { start = bare_place; end = last_place; begun = (state_at empty no_parts none_on_volume, none_digests); along = along }
+  history_of part along = record { start = bare_place; end = last_place; begun = begun_bare; along = along }
 
 -- ---- the client
 

@@ -27,3 +27,8 @@ pub mod ExampleStates
 pub mod ExampleRequests
 pub mod ExampleReasons
 pub mod ExampleHistory
+pub mod HonestLemmas
+pub mod ConnectionLemmas
+pub mod DeedLemmas
+pub mod ExampleConnections
+pub mod ExampleDeeds

@@ -69,7 +69,7 @@ same_status bytes reply = ap (λ s. if reply.is_repeat then Done else s) (by rep
 
 -- ---- places and texts
 
-abbrev exchange : List ℕ → ℕ → Option history.Event → HttpResponse → List ℕ → Exchange
+abbrev pub exchange : List ℕ → ℕ → Option history.Event → HttpResponse → List ℕ → Exchange
 exchange input now did answer written = record { input = input; now = now; did = did; answer = answer; written = written }
 
 sends : (b : Bool) (input : List ℕ) → SendsPart input → IsNoCommandEvent input (Some (other_call_event b))
@@ -77,7 +77,7 @@ sends true input part = part
 sends false input part = part
 
 module _ {V S : Type 0} {g : volume.Ghosts V} {database : Ghosts S} where
-  is_up : (custody : Custody V S g database) (place : Place) → IsCustodyAt database custody place → IsUp place
+  pub is_up : (custody : Custody V S g database) (place : Place) → IsCustodyAt database custody place → IsUp place
   is_up custody (Serving records image) h = tt
   is_up custody (Shut records image doubt) h = tt
   is_up custody (Left rows image) h = none (is_open custody) h.is_at
@@ -101,11 +101,11 @@ module _ {V S : Type 0} {g : volume.Ghosts V} {database : Ghosts S} (tells : g.t
   -- ---- from a place
 
   -- it has gone from its place by what it did, and a stop at any moment of it is one within the request
-  record Went (old new : Custody V S g database) (place : Place) (input : List ℕ) (now : ℕ) (did : Option history.Event) : Type 0 where
-    next : Place
-    goes : MovesIfAny place did next
-    there : IsCustodyAt database new next
-    stops : (rows : Rows) (image : List ℕ) (pair : Pair) → (store_state_of database (open_custody_of old)).may_leave rows → MayLeaveImageSince (open_custody_of old) (open_custody_of new) image → Finds rows image pair
+  pub record Went (old new : Custody V S g database) (place : Place) (input : List ℕ) (now : ℕ) (did : Option history.Event) : Type 0 where
+    pub next : Place
+    pub goes : MovesIfAny place did next
+    pub there : IsCustodyAt database new next
+    pub stops : (rows : Rows) (image : List ℕ) (pair : Pair) → (store_state_of database (open_custody_of old)).may_leave rows → MayLeaveImageSince (open_custody_of old) (open_custody_of new) image → Finds rows image pair
         → (stop : history.Event) × IsStopWithin input now stop × Moves place stop (Left rows image)
 
   -- a custody that stays as it was
@@ -153,19 +153,19 @@ module _ {V S : Type 0} {g : volume.Ghosts V} {database : Ghosts S} (tells : g.t
   -- ---- from any place on
 
   -- what a request did, and its answer
-  record Response (old new : Custody V S g database) (place : Place) (input : List ℕ) (now : ℕ) (answer : HttpResponse) : Type 0 where
-    did : Option history.Event
-    responds : (written : List ℕ) → Responds place (exchange input now did answer written)
-    went : Went old new place input now did
+  pub record Response (old new : Custody V S g database) (place : Place) (input : List ℕ) (now : ℕ) (answer : HttpResponse) : Type 0 where
+    pub did : Option history.Event
+    pub responds : (written : List ℕ) → Responds place (exchange input now did answer written)
+    pub went : Went old new place input now did
 
   -- no command was did
-  record Nothing (old new : Custody V S g database) (place : Place) (input : List ℕ) (now : ℕ) : Type 0 where
-    did : Option history.Event
-    no_command : IsNoCommandEvent input did
-    went : Went old new place input now did
+  pub record Nothing (old new : Custody V S g database) (place : Place) (input : List ℕ) (now : ℕ) : Type 0 where
+    pub did : Option history.Event
+    pub no_command : IsNoCommandEvent input did
+    pub went : Went old new place input now did
 
   module _ (old new : Custody V S g database) (honest : (store_state_of database (open_custody_of new)).IsHonest) (input : List ℕ) (now : ℕ) where
-    nothing : (place : Place) → IsCustodyAt database old place → served.IsNoCommand (Some input) old new → Nothing old new place input now
+    pub nothing : (place : Place) → IsCustodyAt database old place → served.IsNoCommand (Some input) old new → Nothing old new place input now
     nothing place h (inl same) = record { did = None; no_command = tt; went = stays old new place input now h same None refl }
     nothing place h (inr ended) = by (is_open old) refl
       where
@@ -257,7 +257,7 @@ module _ {V S : Type 0} {g : volume.Ghosts V} {database : Ghosts S} (tells : g.t
     given place h (bad found) answer asks g = faulty place h found answer asks g.0 g.1
     given place h (asks_for wanted) answer asks g = does place h wanted answer asks g
 
-    responds_so : (place : Place) → IsCustodyAt database old place → (answer : HttpResponse) → IsServed (Some input) now old answer new → Response old new place input now answer
+    pub responds_so : (place : Place) → IsCustodyAt database old place → (answer : HttpResponse) → IsServed (Some input) now old answer new → Response old new place input now answer
     responds_so place h answer (inl r) = given place h r.0 answer r.1 r.2
     responds_so place h answer (inr none) = unmoved place h none.1 answer (λ written. inr (refl, none.0))
 

@@ -11,3 +11,7 @@ pub mod CustodyCalls
 pub mod Lives
 pub mod Explained
 pub mod ExampleService
+pub mod Connections
+pub mod Deeds
+pub mod ExampleConnections
+pub mod ExampleDeeds
