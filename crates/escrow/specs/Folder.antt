@@ -1,5 +1,5 @@
 -- What an order does over the two files of a folder.
-use Rattle.std.specs.Prelude.{◌≡◌, ℕ, Bool, List, [], Option, None, Some, true, false, take, IfSome, MatchOption}
+use Rattle.std.specs.Prelude.{◌≡◌, ℕ, Bool, List, [], Option, None, Some, true, false, take, IfSome, MatchBool}
 use Rattle.clap.specs.Words.{Text}
 use Rattle.vault_volume.specs.declared.volume.Volume as volume
 use Rattle.vault_volume.specs.declared.file.FileVolume.{FileVolume}
@@ -7,7 +7,11 @@ use Rattle.vault_volume.specs.File.{is_new_file}
 use Rattle.sqlite.specs.Files.{over_files}
 use Rattle.sqlite.specs.Store.{Ghosts}
 use Rattle.sqlite.specs.Held.{Held}
-use Rattle.sqlite.specs.State.{State}
+use Rattle.custody_records.specs.Rows.{Rows}
+use Rattle.custody_store.specs.StoreState.{StoreState, store_state, has_any_table, HasMetaOrNone}
+use Rattle.custody_machine.specs.declared.damage.Damage.TheVariants.{NoRecord}
+use Rattle.custody_machine.specs.Damage.{IsDamaged}
+use Rattle.custody.specs.Opening.{HasNoRecord}
 use Rattle.answer_lines.specs.Printing.{Writer}
 use Rattle.agent_cli.specs.declared.order.Deed.{Deed}
 use Rattle.agent_cli.specs.declared.order.Deed.TheVariants as deed
@@ -19,39 +23,46 @@ use Rattle.escrow.specs.declared.files.OpenFolder.{OpenFolder}
 use Rattle.escrow.specs.declared.files.ReadOnlyFolder.{ReadOnlyFolder}
 use Rattle.escrow.specs.VaultCalls.{HasDoneBatch, HasServedConnections, HasPrintedReady, IsCarriedOut, HasPrintedInitError, HasPrintedOpenFailure}
 
--- a database has no table, no index and no view
-abbrev pub ListsNothing : State → Type 0
-ListsNothing s = (s.now.schema.tables ≡ []) × (s.now.schema.indexes ≡ []) × (s.now.schema.views ≡ [])
+-- a database has no table, no index and no view; and none of the six tables is there, which is not among its tables where an index on it is none that can be read
+abbrev pub ListsNothing : StoreState → Type 0
+ListsNothing s = (has_any_table s ≡ false) × (s.schema.tables ≡ []) × (s.schema.indexes ≡ []) × (s.schema.views ≡ [])
 
 -- what is read of the file that a `put` names: its first bytes, where it tells them, and of no file nothing
 abbrev pub IsPartRead : {R : Type 0} → (R → Option (List ℕ)) → Option R → List ℕ → Type 0
 IsPartRead remaining None bytes = bytes ≡ []
 IsPartRead remaining (Some file) bytes = IfSome (remaining file) (λ all. bytes ≡ take 1048577 all)
 
--- Over the volume and the database of a folder: the status of an order, what is to be closed where there is a vault, and
--- what is printed.
-module _ {S : Type 0} (g : volume.Ghosts FileVolume) (database : Ghosts S) (volume : FileVolume) (db : Held S) (status : ℕ) (vault : Option (FileVolume × Held S)) (output errors : Writer) where
-  -- the files were made, a new volume with so many blocks, and an agent with this number was begun over them, or none
+-- Over the volume and the database of a folder: the status of an order, whether there is a vault, volume and database as
+-- they are handed back, and what is printed.
+module _ {S : Type 0} (g : volume.Ghosts FileVolume) (database : Ghosts S) (volume : FileVolume) (db : Held S) (status : ℕ) (has_vault : Bool) (later : FileVolume) (then : Held S) (output errors : Writer) where
+  -- the files were made, and an agent with this number was begun over them, or none
   pub record InitsFolder (blocks number : ℕ) : Type 0 where
+    -- a new volume has so many blocks
     pub size : is_new_file volume ≡ true → g.size volume ≡ blocks
-    pub ends : MatchOption vault (HasPrintedInitError g database volume db status output errors) (λ v. HasPrintedReady g database volume db blocks number status v.0 v.1 output errors)
+    -- one is made only where nothing is listed
+    pub bare : is_new_file volume ≡ true → ListsNothing (store_state database db)
+    -- so there was no record
+    pub unrecorded : is_new_file volume ≡ true → HasMetaOrNone (store_state database db) → (store_state database db).IsHonest → HasNoRecord (store_state database db).rows
+    -- where there was none, a stop before the commit leaves none
+    pub within : (store_state database db).IsAtRest → HasNoRecord (store_state database db).rows → (rows : Rows) (image : List ℕ) → (store_state database db).may_leave rows → IsDamaged NoRecord rows image
+    pub ends : MatchBool has_vault (HasPrintedReady g database volume db blocks number status later then output errors) (HasPrintedInitError g database volume db number status later then output errors)
 
   -- the files were found, and the order was carried out over them at its moment, or no agent was opened
   pub record ActsInFolder (order : Order) (bytes : List ℕ) : Type 0 where
     pub now : ℕ
     pub found : is_new_file volume ≡ false
     pub moment : IfSome order.now (λ named. now ≡ named)
-    pub ends : MatchOption vault (HasPrintedOpenFailure g database volume db status output errors) (λ v. IsCarriedOut g database volume db order.deed bytes now status v.0 v.1 output errors)
+    pub ends : MatchBool has_vault (IsCarriedOut g database volume db order.deed bytes now status later then output errors) (HasPrintedOpenFailure g database volume db status later then output errors)
 
   -- the files were found, and the orders of these lines were done over them, or no agent was opened
   pub record BatchesFolder (folder : Text) (lines : Option (List ℕ)) : Type 0 where
     pub found : is_new_file volume ≡ false
-    pub ends : MatchOption vault (HasPrintedOpenFailure g database volume db status output errors) (λ v. HasDoneBatch g database volume db folder lines status v.0 v.1 output errors)
+    pub ends : MatchBool has_vault (HasDoneBatch g database volume db folder lines status later then output errors) (HasPrintedOpenFailure g database volume db status later then output errors)
 
   -- the files were found, and so many connections at most were answered at this port, or no agent was opened
   pub record ServesFolder (port requests : ℕ) (until_closed : Bool) (given : Option ℕ) : Type 0 where
     pub found : is_new_file volume ≡ false
-    pub ends : MatchOption vault (HasPrintedOpenFailure g database volume db status output errors) (λ v. HasServedConnections g database volume db port given requests until_closed status v.0 v.1 output)
+    pub ends : MatchBool has_vault (HasServedConnections g database volume db port given requests until_closed status later then output) (HasPrintedOpenFailure g database volume db status later then output errors)
 
   -- each order does its own; the bytes of a `put` are those that were read, and the lines of a batch those of these bytes
   abbrev pub IsOrderDone : (List ℕ → Type 0) → (lines : Option (List ℕ)) → Order → Type 0
@@ -69,16 +80,21 @@ abbrev pub end_status : FolderCallEnd → ℕ
 end_status (end.Open ended) = ended.status
 end_status (end.ReadOnly ended) = ended.status
 
--- What is said of a volume and a database, a status and what is to be closed, holds of the files of a folder: of those that were opened, or, for an order that only reads, of the volume that may not be written and a copy of the database.
-abbrev pub IsOverFolder : ((S : Type 0) → Ghosts S → FileVolume → Held S → ℕ → Option (FileVolume × Held S) → Type 0) → Order → FolderCallEnd → Type 0
-IsOverFolder P order (end.Open ended) = (files : OpenFolder) × P _ over_files files.volume files.db ended.status ended.vault
-IsOverFolder P order (end.ReadOnly ended) = (only_reads order.deed ≡ true) × ((files : ReadOnlyFolder) × P _ over_files files.volume files.db ended.status ended.vault)
+-- the volume as it was handed back then
+abbrev pub end_volume : FolderCallEnd → FileVolume
+end_volume (end.Open ended) = ended.volume
+end_volume (end.ReadOnly ended) = ended.volume
+
+-- What is said of a volume and a database, and of how a call over them ended, holds of the files of a folder: of those that were opened, or, for an order that only reads, of the volume that may not be written and a copy of the database.
+abbrev pub IsOverFolder : ((S : Type 0) → Ghosts S → FileVolume → Held S → ℕ → Bool → FileVolume → Held S → Type 0) → Order → FolderCallEnd → Type 0
+IsOverFolder P order (end.Open ended) = (files : OpenFolder) × P _ over_files files.volume files.db ended.status ended.has_vault ended.volume ended.db
+IsOverFolder P order (end.ReadOnly ended) = (only_reads order.deed ≡ true) × ((files : ReadOnlyFolder) × P _ over_files files.volume files.db ended.status ended.has_vault ended.volume ended.db)
 
 module _ (g : volume.Ghosts FileVolume) (output errors : Writer) where
   -- an order that acts was done over a folder
   abbrev pub HasActed : Order → List ℕ → FolderCallEnd → Type 0
-  HasActed order bytes = IsOverFolder (λ S database volume db status vault. ActsInFolder g database volume db status vault output errors order bytes) order
+  HasActed order bytes = IsOverFolder (λ S database volume db status has_vault later then. ActsInFolder g database volume db status has_vault later then output errors order bytes) order
 
   -- an order was done over a folder
   abbrev pub HasEnded : (List ℕ → Type 0) → (lines : Option (List ℕ)) → Order → FolderCallEnd → Type 0
-  HasEnded IsRead lines order = IsOverFolder (λ S database volume db status vault. IsOrderDone g database volume db status vault output errors IsRead lines order) order
+  HasEnded IsRead lines order = IsOverFolder (λ S database volume db status has_vault later then. IsOrderDone g database volume db status has_vault later then output errors IsRead lines order) order

@@ -2,11 +2,11 @@
 ghost use Rattle.std.specs.Prelude.{◌≡◌, ◌++◌, true, false, codes, string_bytes, IfErr, IfOk};
 ghost use Rattle.vault_volume.specs.declared.file.FileVolume.{FileVolume};
 ghost use Rattle.vault_volume.specs.File.{is_new_file};
-ghost use Rattle.sqlite.specs.Held.{state};
-ghost use Rattle.custody_store.specs.StoreState.{store_state, HasMetaOrNone, has_any_table};
+ghost use Rattle.sqlite.specs.Files.{over_files};
+ghost use Rattle.custody_store.specs.StoreState.{store_state, HasMetaOrNone};
 ghost use Rattle.custody.specs.Opening.{HasNoRecord};
 ghost use Rattle.escrow.specs.Errors.{IsOfVault, IsOpenError};
-ghost use Rattle.escrow.specs.Folder.{IsPartRead, ListsNothing, end_status};
+ghost use Rattle.escrow.specs.Folder.{IsPartRead, ListsNothing, end_status, end_volume};
 
 use crate::copies::{DatabaseCopy, copy_database};
 use crate::errors::ProgramError;
@@ -15,15 +15,15 @@ use agent_cli::{Deed, Order};
 use custody::has_record;
 use custody_machine::Failure;
 use custody_store::has_any_table;
-use sqlite::{Alter, Connection, Error, ErrorCode, File, FileStore};
+use sqlite::{Alter, Connection, Error, ErrorCode, FileFrom, FileStore, Wary};
 use sqlite_disk::Memory;
 use std::alloc::{AllocError, Global};
 use std::fs::{self, OpenOptions};
 use std::io::{self, Read};
 use vault_volume::{Access, FileVolume, Volume};
 
-/// The database in a file.
-pub type Database = Connection<FileStore<File>>;
+/// The database in a file. It supposes nothing of a torn write, so each commit syncs twice.
+pub type Database = Connection<FileStore<FileFrom<Wary>>>;
 
 /// The two files of a vault's folder, open.
 #[derive(Drop)]
@@ -42,8 +42,20 @@ pub struct ReadOnlyFolder {
 /// How an order over a folder ended.
 #[derive(Drop)]
 pub enum FolderCallEnd {
-    Open(CallEnd<FileVolume, FileStore<File>>),
+    Open(CallEnd<FileVolume, FileStore<FileFrom<Wary>>>),
     ReadOnly(CallEnd<FileVolume, FileStore<Memory>>),
+}
+
+impl FolderCallEnd {
+    /// The exit status.
+    pub fn status(&self) -> u8
+        ensures { result ≡ end_status self.now }
+    {
+        match self {
+            FolderCallEnd::Open(ended) => ended.status,
+            FolderCallEnd::ReadOnly(ended) => ended.status,
+        }
+    }
 }
 
 /// What is said of a database whose files are not those of one.
@@ -153,6 +165,11 @@ pub fn create_folder(
 ) -> Result<OpenFolder, ProgramError>
     ensures failures { IfOk result (λ files. ⟦<FileVolume as Volume>⟧.failures files.volume ≡ 0) }
     ensures size { IfOk result (λ files. is_new_file files.volume ≡ true → ⟦<FileVolume as Volume>⟧.size files.volume ≡ blocks) }
+    // A volume is made anew only where nothing is listed.
+    ensures bare { IfOk result (λ files. is_new_file files.volume ≡ true → ListsNothing (store_state over_files files.db)) }
+    // So the database has no record of one.
+    ensures unrecorded { IfOk result (λ files. is_new_file files.volume ≡ true → HasMetaOrNone (store_state over_files files.db) → (store_state over_files files.db).IsHonest
+        → HasNoRecord (store_state over_files files.db).rows) }
     ensures error { IfErr result IsOfVault }
 {
     find_folder(rt, folder)?;
@@ -186,17 +203,14 @@ fn with_volume<S: Alter + Drop>(
     db: Connection<S>,
 ) -> Result<(FileVolume, Connection<S>), ProgramError>
     ensures failures { IfOk result (λ files. ⟦<FileVolume as Volume>⟧.failures files.0 ≡ 0) }
-    // A volume is made anew only where none of the six tables is there, and nothing else is listed.
-    ensures new { IfOk result (λ files. is_new_file files.0 ≡ true → has_any_table (store_state S.Store db) ≡ false) }
-    ensures bare { IfOk result (λ files. is_new_file files.0 ≡ true → ListsNothing (state S.Store db)) }
-    // So it has no record of one.
-    ensures made { HasMetaOrNone (store_state S.Store db) → IfOk result (λ files. (store_state S.Store files.1).IsHonest
-        → is_new_file files.0 ≡ true → HasNoRecord (store_state S.Store db).rows) }
+    ensures bare { IfOk result (λ files. is_new_file files.0 ≡ true → ListsNothing (store_state S.Store files.1)) }
+    ensures unrecorded { IfOk result (λ files. is_new_file files.0 ≡ true → HasMetaOrNone (store_state S.Store files.1) → (store_state S.Store files.1).IsHonest
+        → HasNoRecord (store_state S.Store files.1).rows) }
     ensures size { IfOk result (λ files. is_new_file files.0 ≡ true → ⟦<FileVolume as Volume>⟧.size files.0 ≡ blocks) }
     ensures error { IfErr result IsOfVault }
 {
     let mut db = db;
-    let is_new = is_empty(&db) && !has_any_table(&db);
+    let is_new = lists_nothing(&db);
     let volume = match has_record(&mut db) {
         Ok(true) => open_volume(rt, folder, Access::ReadAndWrite)?,
         Ok(false) if is_new => create_volume(rt, folder, blocks)?,
@@ -208,30 +222,36 @@ fn with_volume<S: Alter + Drop>(
 
 /// Whether nothing is listed in a database. (A table is not among its tables where an index or a trigger
 /// on it is none that the database reads.)
-fn is_empty<S: Alter>(db: &Connection<S>) -> bool
-    ensures { result ≡ true → ListsNothing (state S.Store db.now) }
+fn lists_nothing<S: Alter>(db: &Connection<S>) -> bool
+    ensures { result ≡ true → ListsNothing (store_state S.Store db.now) }
 {
     let schema = db.schema();
     let tables = schema.tables.as_slice().len();
     let indexes = schema.indexes.as_slice().len();
     let views = schema.views.as_slice().len();
-    tables == 0 && indexes == 0 && views == 0
+    tables == 0 && indexes == 0 && views == 0 && !has_any_table(db)
 }
 
-/// Closes the files of a vault, and answers the exit status. What was acknowledged is kept also where
-/// the database's log cannot be copied.
-pub fn close(ended: FolderCallEnd) -> u8
-    ensures { result ≡ end_status ended }
+/// Closes the database of a vault, and hands the volume back, whose lock is held until then. What was
+/// acknowledged is kept also where the database's log cannot be copied.
+pub fn close_database(ended: FolderCallEnd) -> FileVolume
+    ensures { result ≡ end_volume ended }
 {
     match ended {
-        FolderCallEnd::Open(CallEnd { status, vault }) => {
-            if let Some((volume, db)) = vault {
+        FolderCallEnd::Open(
+            CallEnd {
+                has_vault,
+                volume,
+                db,
+                ..
+            },
+        ) => {
+            if has_vault {
                 let _ = db.close();
-                drop(volume);
             }
-            status
+            volume
         }
-        FolderCallEnd::ReadOnly(ended) => ended.status,
+        FolderCallEnd::ReadOnly(CallEnd { volume, .. }) => volume,
     }
 }
 
@@ -324,9 +344,9 @@ fn create_volume(rt: &HostRuntime, folder: &str, blocks: u32) -> Result<FileVolu
 fn open_database(rt: &HostRuntime, path: &str) -> Result<Database, ProgramError>
     ensures { IfErr result IsOfVault }
 {
-    match Connection::open(rt, path) {
+    match Connection::open_from(rt, path, false, Wary) {
         Ok(db) => Ok(db),
-        Err(error) => {
+        Err((error, _)) => {
             if let Error::SqliteFailure(ErrorCode::CannotOpen) = error {
                 find_log(rt, path)?;
             }

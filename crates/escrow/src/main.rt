@@ -16,6 +16,7 @@ mod clock;
 mod copies;
 mod errors;
 mod files;
+mod laws;
 mod output;
 mod streams;
 mod terminal;
@@ -25,8 +26,8 @@ use agent_cli::{Deed, Order, WordFault, order_of};
 use custody_machine::{ExitStatus, Failure};
 use errors::{ProgramError, tell_error};
 use files::{
-    FolderCallEnd, close, create_folder, is_read_only, open_folder, open_folder_to_read, open_part,
-    read_part,
+    FolderCallEnd, close_database, create_folder, is_read_only, open_folder, open_folder_to_read,
+    open_part, read_part,
 };
 use output::Output;
 use std::env;
@@ -158,7 +159,9 @@ fn obey(rt: &HostRuntime, order: &Order<'_>) -> Result<u8, ProgramError>
     if out.has_failed() {
         let _ = eprintln!(rt; "{OUTPUT_FAILED}");
     }
-    Ok(close(ended))
+    let status = ended.status();
+    drop(close_database(ended));
+    Ok(status)
 }
 
 /// Does what the words of a call ask for, and answers the status. The first of them is the program's name.

@@ -1,11 +1,18 @@
 //! What a call does over a volume and a database, of whatever kinds they are.
-ghost use Rattle.std.specs.Prelude.{◌≡◌, ◌-◌, ◌^◌, ◌<◌, ◌≤◌, ℕ, true, MatchOption};
-ghost use Rattle.custody.specs.Custody.{is_open};
+ghost use Rattle.std.specs.Prelude.{◌≡◌, ◌-◌, ◌^◌, ◌<◌, ◌≤◌, ℕ, List, Ok, true, false, IfErr, IfOk, MatchBool};
+ghost use Rattle.vault_volume.specs.Vault.{volume_of};
+ghost use Rattle.custody_records.specs.Rows.{Rows};
+ghost use Rattle.custody_store.specs.StoreState.{store_state};
+ghost use Rattle.custody_machine.specs.declared.damage.Damage.TheVariants.{NoRecord};
+ghost use Rattle.custody_machine.specs.Damage.{IsDamaged};
+ghost use Rattle.custody.specs.Custody.{is_open, open_custody_of};
+ghost use Rattle.custody.specs.Opening.{HasNoRecord};
 ghost use Rattle.answer_lines.specs.Lines.{line_text};
-ghost use Rattle.answer_lines.specs.Printing.{WritesWholeAt, as_line};
+ghost use Rattle.answer_lines.specs.Printing.{IsUnused, WritesWholeAt, Writer, as_line};
 ghost use Rattle.answer_lines.specs.Statuses.{IsStatusAfter};
 ghost use Rattle.escrow.specs.VaultCalls.{HasServedConnections, HasPrintedReady, HasDoneBatch, IsCarriedOut, HasPrintedInitError, HasPrintedOpenFailure};
 ghost use Rattle.http_api.specs.Connections.{AreConnections, socket_state};
+ghost use Rattle.theorems.specs.Lives.{HasOpened};
 
 use crate::batch::do_lines;
 use agent_cli::{Deed, act};
@@ -19,11 +26,32 @@ use std::alloc::Global;
 use std::io::{Read, Write};
 use vault_volume::Volume;
 
-/// How a call ended: the exit status, and what is to be closed where there is a vault.
+/// How a call over a volume and a database ended: the exit status, and both as it left them.
 #[derive(Drop)]
 pub struct CallEnd<V: Volume, S: Alter> {
     pub status: u8,
-    pub vault: Option<(V, Connection<S>)>,
+    /// Whether they are a vault's, which is to be closed.
+    pub has_vault: bool,
+    pub volume: V,
+    pub db: Connection<S>,
+}
+
+impl<V: Volume, S: Alter + Drop> CallEnd<V, S> {
+    /// The end of a call that has a vault.
+    fn with_vault(status: u8, custody: Custody<V, S>) -> CallEnd<V, S>
+        ensures status { result.status ≡ status }
+        ensures vault { result.has_vault ≡ true }
+        ensures volume { result.volume ≡ volume_of (open_custody_of custody).vault }
+        ensures store { result.db ≡ (open_custody_of custody).store }
+    {
+        let (volume, db) = custody.close();
+        CallEnd {
+            status,
+            has_vault: true,
+            volume,
+            db,
+        }
+    }
 }
 
 /// Makes a vault, and prints that it stands.
@@ -36,20 +64,48 @@ pub fn init_vault<V: Volume, S: Alter + Drop, W: Write, E: Write>(
     err: &mut E,
 ) -> CallEnd<V, S>
     requires { V.failures files.0 < 2 ^ 64 - 1 }
-    ensures { MatchOption result.vault
-        (HasPrintedInitError V.Volume S.Store files.0 files.1 result.status (record { before = W.contents out.old; after = W.contents out.new }) (record { before = E.contents err.old; after = E.contents err.new }))
-        (λ v. HasPrintedReady V.Volume S.Store files.0 files.1 blocks number result.status v.0 v.1 (record { before = W.contents out.old; after = W.contents out.new }) (record { before = E.contents err.old; after = E.contents err.new })) }
+    ensures ends { MatchBool result.has_vault
+        (HasPrintedReady V.Volume S.Store files.0 files.1 blocks number result.status result.volume result.db (record { before = W.contents out.old; after = W.contents out.new }) (record { before = E.contents err.old; after = E.contents err.new }))
+        (HasPrintedInitError V.Volume S.Store files.0 files.1 number result.status result.volume result.db (record { before = W.contents out.old; after = W.contents out.new }) (record { before = E.contents err.old; after = E.contents err.new })) }
+    // Where there was no record, a stop before the commit leaves none.
+    ensures within { (store_state S.Store files.1).IsAtRest → HasNoRecord (store_state S.Store files.1).rows
+        → (rows : Rows) (image : List ℕ) → (store_state S.Store files.1).may_leave rows → IsDamaged NoRecord rows image }
 {
     let (volume, db) = files;
     match Custody::init(alloc, volume, db, number.get()) {
-        Ok(custody) => CallEnd {
-            status: print_line(&Line::Ready { blocks, number }, out),
-            vault: Some(custody.close()),
-        },
-        Err((error, _, _)) => CallEnd {
+        Ok(custody) => {
+            let status = print_line(&Line::Ready { blocks, number }, out);
+            CallEnd::with_vault(status, custody)
+        }
+        Err((error, volume, db)) => CallEnd {
             status: tell_init(&error, err),
-            vault: None,
+            has_vault: false,
+            volume,
+            db,
         },
+    }
+}
+
+/// Opens a vault, or prints why it does not open.
+fn open_vault<V: Volume, S: Alter + Drop, E: Write>(
+    alloc: Global,
+    files: (V, Connection<S>),
+    err: &mut E,
+) -> Result<Custody<V, S>, CallEnd<V, S>>
+    requires { V.failures files.0 < 2 ^ 64 - 1 }
+    ensures opened { IfOk result (λ custody. HasOpened V.Volume S.Store files.0 files.1 (Ok custody) × IsUnused (record { before = E.contents err.old; after = E.contents err.new })) }
+    ensures not_opened { IfErr result (λ ended. (ended.has_vault ≡ false) × ((output : Writer) → IsUnused output
+        → HasPrintedOpenFailure V.Volume S.Store files.0 files.1 ended.status ended.volume ended.db output (record { before = E.contents err.old; after = E.contents err.new }))) }
+{
+    let (volume, db) = files;
+    match Custody::open(alloc, volume, db) {
+        Ok(custody) => Ok(custody),
+        Err((failure, volume, db)) => Err(CallEnd {
+            status: tell(&failure, err),
+            has_vault: false,
+            volume,
+            db,
+        }),
     }
 }
 
@@ -65,25 +121,16 @@ pub fn open_and_act<V: Volume, S: Alter + Drop, W: Write, E: Write, P: Progress>
     progress: &mut P,
 ) -> CallEnd<V, S>
     requires { V.failures files.0 < 2 ^ 64 - 1 }
-    ensures { MatchOption result.vault
-        (HasPrintedOpenFailure V.Volume S.Store files.0 files.1 result.status (record { before = W.contents out.old; after = W.contents out.new }) (record { before = E.contents err.old; after = E.contents err.new }))
-        (λ v. IsCarriedOut V.Volume S.Store files.0 files.1 deed.now file.now now result.status v.0 v.1 (record { before = W.contents out.old; after = W.contents out.new }) (record { before = E.contents err.old; after = E.contents err.new })) }
+    ensures { MatchBool result.has_vault
+        (IsCarriedOut V.Volume S.Store files.0 files.1 deed.now file.now now result.status result.volume result.db (record { before = W.contents out.old; after = W.contents out.new }) (record { before = E.contents err.old; after = E.contents err.new }))
+        (HasPrintedOpenFailure V.Volume S.Store files.0 files.1 result.status result.volume result.db (record { before = W.contents out.old; after = W.contents out.new }) (record { before = E.contents err.old; after = E.contents err.new })) }
 {
-    let (volume, db) = files;
-    let mut custody = match Custody::open(alloc, volume, db) {
+    let mut custody = match open_vault(alloc, files, err) {
         Ok(custody) => custody,
-        Err((failure, _, _)) => {
-            return CallEnd {
-                status: tell(&failure, err),
-                vault: None,
-            };
-        }
+        Err(ended) => return ended,
     };
     let status = act(alloc, &mut custody, deed, file, now, out, err, progress);
-    CallEnd {
-        status,
-        vault: Some(custody.close()),
-    }
+    CallEnd::with_vault(status, custody)
 }
 
 /// Opens a vault, and does the orders that lines ask for, in their turn.
@@ -96,25 +143,16 @@ pub fn batch<V: Volume, S: Alter + Drop, L: Read + Drop, W: Write, E: Write>(
     err: &mut E,
 ) -> CallEnd<V, S>
     requires { V.failures files.0 < 2 ^ 64 - 1 }
-    ensures { MatchOption result.vault
-        (HasPrintedOpenFailure V.Volume S.Store files.0 files.1 result.status (record { before = W.contents out.old; after = W.contents out.new }) (record { before = E.contents err.old; after = E.contents err.new }))
-        (λ v. HasDoneBatch V.Volume S.Store files.0 files.1 folder.now (L.remaining lines) result.status v.0 v.1 (record { before = W.contents out.old; after = W.contents out.new }) (record { before = E.contents err.old; after = E.contents err.new })) }
+    ensures { MatchBool result.has_vault
+        (HasDoneBatch V.Volume S.Store files.0 files.1 folder.now (L.remaining lines) result.status result.volume result.db (record { before = W.contents out.old; after = W.contents out.new }) (record { before = E.contents err.old; after = E.contents err.new }))
+        (HasPrintedOpenFailure V.Volume S.Store files.0 files.1 result.status result.volume result.db (record { before = W.contents out.old; after = W.contents out.new }) (record { before = E.contents err.old; after = E.contents err.new })) }
 {
-    let (volume, db) = files;
-    let mut custody = match Custody::open(rt.alloc(), volume, db) {
+    let mut custody = match open_vault(rt.alloc(), files, err) {
         Ok(custody) => custody,
-        Err((failure, _, _)) => {
-            return CallEnd {
-                status: tell(&failure, err),
-                vault: None,
-            };
-        }
+        Err(ended) => return ended,
     };
     let status = do_lines(rt, &mut custody, folder, lines, out, err);
-    CallEnd {
-        status,
-        vault: Some(custody.close()),
-    }
+    CallEnd::with_vault(status, custody)
 }
 
 /// Opens a vault, and answers so many connections at a port of the host itself.
@@ -129,19 +167,13 @@ pub fn serve<V: Volume, S: Alter + Drop, W: Write, E: Write>(
     err: &mut E,
 ) -> CallEnd<V, S>
     requires { V.failures files.0 < 2 ^ 64 - 1 }
-    ensures { MatchOption result.vault
-        (HasPrintedOpenFailure V.Volume S.Store files.0 files.1 result.status (record { before = W.contents out.old; after = W.contents out.new }) (record { before = E.contents err.old; after = E.contents err.new }))
-        (λ v. HasServedConnections V.Volume S.Store files.0 files.1 port now requests until_closed result.status v.0 v.1 (record { before = W.contents out.old; after = W.contents out.new })) }
+    ensures { MatchBool result.has_vault
+        (HasServedConnections V.Volume S.Store files.0 files.1 port now requests until_closed result.status result.volume result.db (record { before = W.contents out.old; after = W.contents out.new }))
+        (HasPrintedOpenFailure V.Volume S.Store files.0 files.1 result.status result.volume result.db (record { before = W.contents out.old; after = W.contents out.new }) (record { before = E.contents err.old; after = E.contents err.new })) }
 {
-    let (volume, db) = files;
-    let mut custody = match Custody::open(rt.alloc(), volume, db) {
+    let mut custody = match open_vault(rt.alloc(), files, err) {
         Ok(custody) => custody,
-        Err((failure, _, _)) => {
-            return CallEnd {
-                status: tell(&failure, err),
-                vault: None,
-            };
-        }
+        Err(ended) => return ended,
     };
     let status = answer_connections(
         rt,
@@ -153,10 +185,7 @@ pub fn serve<V: Volume, S: Alter + Drop, W: Write, E: Write>(
         out,
         err,
     );
-    CallEnd {
-        status,
-        vault: Some(custody.close()),
-    }
+    CallEnd::with_vault(status, custody)
 }
 
 /// Answers so many connections at a port, prints where it listens, and answers the status.

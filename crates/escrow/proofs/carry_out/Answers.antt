@@ -9,7 +9,10 @@ returns-in_ok-made-in-Init-clause-done g c =
       c.in_ok-made-in-Init.made,
       record {
         size = c.in_ok-made-in-Init.ensures.size;
-        ends = c.init_vault.ensures;
+        bare = c.in_ok-made-in-Init.ensures.bare;
+        unrecorded = c.in_ok-made-in-Init.ensures.unrecorded;
+        within = c.init_vault.ensures.within;
+        ends = c.init_vault.ensures.ends;
       },
     )
 
@@ -35,8 +38,8 @@ returns-in_ok-found-in-Batch-clause-done g c =
 
 pub returns-in_ok-bytes-in-Put-clause-done : goal.returns-in_ok-bytes-in-Put-clause-done
 returns-in_ok-bytes-in-Put-clause-done g c =
-    IfOk-acted _ _ _ c.args.order.now _ (IsPartRead g.R.Read.remaining c.args.part) _ _ c.act_in_folder.ensures.done (λ S database volume db status vault works. search rules)
+    IfOk-acted _ _ _ c.args.order.now _ (IsPartRead g.R.Read.remaining c.args.part) _ _ c.act_in_folder.ensures.done (λ S database volume db status has_vault later then works. search rules)
 
 pub returns-in-Preview-clause-done : goal.returns-in-Preview-clause-done
 returns-in-Preview-clause-done g c =
-    IfOk-acted _ _ _ c.args.order.now _ (IsPartRead g.R.Read.remaining c.args.part) _ _ c.act_in_folder-in-Preview.ensures.done (λ S database volume db status vault works. search rules)
+    IfOk-acted _ _ _ c.args.order.now _ (IsPartRead g.R.Read.remaining c.args.part) _ _ c.act_in_folder-in-Preview.ensures.done (λ S database volume db status has_vault later then works. search rules)

@@ -8,5 +8,5 @@ returns-clause-done c = record {
   part = c.in_ok-part.part;
   lines = _;
   done = c.in_ok-ended.ensures.done;
-  status_is = c.close.ensures;
+  status_is = c.status-status.ensures;
 }

@@ -1,0 +1,57 @@
+-- A batch is calls of a custody.
+use Rattle.std.proofs.Common.{◌≡◌, ◌++◌, ◌∷◌, [], ℕ, max, List, Option, IfSome, Bool, true, false, inl, inr, refl}
+use Rattle.vault_volume.specs.declared.volume.Volume as volume
+use Rattle.sqlite.specs.Store.{Ghosts}
+use Rattle.clap.specs.Words.{Text}
+use Rattle.custody.specs.declared.custody.Custody.{Custody}
+use Rattle.custody.specs.OpenCustody.{current_records}
+use Rattle.custody.specs.Custody.{is_open, open_custody_of}
+use Rattle.answer_lines.specs.Printing.{Writer}
+use Rattle.agent_cli.specs.declared.order.Order.{Order}
+use Rattle.theorems.specs.CustodyCalls.{CustodyCall}
+use Rattle.theorems.specs.Deeds.{AreDeedCalls, HasMadeCalls}
+use Rattle.theorems.proofs.DeedLemmas.{calls_join, deeds_are_calls, honest_before, no_calls}
+use Rattle.theorems.proofs.HonestLemmas.{IsHonestIn}
+use Rattle.escrow.specs.Batch.{AreAny, HasDoneOrder, IsBatch, LineAsksFor}
+use Rattle.escrow.specs.BatchCalls.{AreBatchCalls, AreOrderCalls, BatchesAreCalls}
+
+no_batch : (folder : Text) (lines : List (List ℕ)) → AreBatchCalls folder lines []
+no_batch folder [] = refl
+no_batch folder (line ∷ lines) = inl refl
+
+module _ {V S : Type 0} {g : volume.Ghosts V} {database : Ghosts S} where
+  of_order : (order : Order) (old new : Custody V S g database) (bytes : List ℕ) (now : ℕ) → HasMadeCalls (AreDeedCalls order.deed bytes now (current_records (open_custody_of old))) database old new
+      → IfSome order.now (λ named. now ≡ named) → HasMadeCalls (AreOrderCalls order) database old new
+  of_order order old new bytes now made moment = record {
+    calls = made.calls;
+    are_calls = inr (bytes, now, current_records (open_custody_of old), moment, made.are_calls);
+    goes = made.goes;
+  }
+
+  order_calls : (order : Order) (old new : Custody V S g database) (status : ℕ) (output errors : Writer) → HasDoneOrder AreAny order old new status output errors → IsHonestIn new
+      → HasMadeCalls (AreOrderCalls order) database old new
+  order_calls order old new status output errors (inl (bytes, now, read, moment, acts)) honest =
+      of_order order old new bytes now (deeds_are_calls old new order.deed bytes now status output errors acts honest) moment
+  order_calls order old new status output errors (inr (error, kind, same, printed, unused)) honest = no_calls (AreOrderCalls order) old new (inl refl) same
+
+  batch_calls : (folder : Text) (lines : List (List ℕ)) (highest : ℕ) (old new : Custody V S g database) (status : ℕ) (output errors : Writer) → IsBatch folder lines highest old new status output errors → IsHonestIn new
+      → HasMadeCalls (AreBatchCalls folder lines) database old new
+  batch_calls folder [] highest old new status output errors (inl (error, kind, same, failed, unused, told)) honest = no_calls (AreBatchCalls folder []) old new refl same
+  batch_calls folder [] highest old new status output errors (inr (same, highest_is, unused, quiet)) honest = no_calls (AreBatchCalls folder []) old new refl same
+  batch_calls folder (line ∷ lines) highest old new status output errors (inl (error, kind, same, failed, unused, told)) honest = no_calls (AreBatchCalls folder (line ∷ lines)) old new (inl refl) same
+  batch_calls folder (line ∷ lines) highest old new status output errors (inr (inl (fault, none, same, after, unused))) honest = no_calls (AreBatchCalls folder (line ∷ lines)) old new (inl refl) same
+  batch_calls folder (line ∷ lines) highest old new status output errors (inr (inr (order, asks, (mid, told, out, err, did, goes_on, closed)))) honest =
+      by (λ works. batch_calls folder lines (max highest told) mid new status (record { before = out; after = output.after }) (record { before = err; after = errors.after }) (goes_on works) honest) (is_open mid) refl
+    where
+      -- the order's calls, and then those of the other lines
+      and_then : HasMadeCalls (AreBatchCalls folder lines) database mid new → HasMadeCalls (AreBatchCalls folder (line ∷ lines)) database old new
+      and_then others =
+          let first = order_calls order old mid told (record { before = output.before; after = out }) (record { before = errors.before; after = err }) did (honest_before (AreBatchCalls folder lines) mid new others honest) in
+          calls_join (AreOrderCalls order) (AreBatchCalls folder lines) (AreBatchCalls folder (line ∷ lines)) old mid new (λ xs ys are then. inr (order, xs, ys, asks, are, then, refl)) first others
+
+      by : (is_open mid ≡ true → HasMadeCalls (AreBatchCalls folder lines) database mid new) → (b : Bool) → is_open mid ≡ b → HasMadeCalls (AreBatchCalls folder (line ∷ lines)) database old new
+      by others true works = and_then (others works)
+      by others false shut = and_then (no_calls (AreBatchCalls folder lines) mid new (no_batch folder lines) (closed shut).0)
+
+  pub batches_are_calls : (old new : Custody V S g database) → BatchesAreCalls database old new
+  batches_are_calls old new folder bytes status output errors (lines, known, done) honest = (lines, known, batch_calls folder lines 0 old new status output errors done honest)
