@@ -99,6 +99,7 @@ PRINTED = {
     "deposit": {
         "Un TEXT": f"{FULL} --previous X1",
         "FAILURE-nn TEXT": f"printf x >> {PART}; deposit check {PART}",
+        "Q4 PATH: N bytes, 1 to 1048576 are wanted": f": > {PART}; deposit check {PART}",
         "NAME: it does not continue a full deposit and those since":
             f"cp {PART} {AGAIN}; deposit check {PART} --after {PART} {AGAIN}",
         "bad value for --X": f"{FULL} --previous X_1",

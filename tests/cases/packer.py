@@ -1,5 +1,7 @@
 """What a registry packs with `deposit`: which tables, and which files."""
-from lib import DAY, DIGEST, PART, RECEIPT, TEN, notice, number_of, part_name, stated, transcripts
+from lib import (
+    DAY, DIGEST, PART, RECEIPT, TEN, Room, case, envelope_text, framed, notice, number_of, packed, part_name, stated,
+    taken_apart, transcripts)
 
 MONDAY, TUESDAY = "2026-08-03", "2026-08-04"
 ID, NEXT, LAST = map(number_of, (DAY, MONDAY, TUESDAY))
@@ -81,6 +83,32 @@ $ cp ../full {PART}; printf x >> {PART}
 $ deposit unpack {PART} --out out -> FAILURE-09 the files have 0 bytes, says the envelope, and 1 are there
 !1
 $ ls -> {PART}
+== a part of a size that the agent refuses is refused
+$ vault d
+$ : > {PART}; escrow put d {PART} --now {TEN} -> !1 Q4 size
+$ deposit check {PART} -> !1 Q4 {PART}: 0 bytes, 1 to 1048576 are wanted
+$ deposit unpack {PART} --out out -> !1 Q4 {PART}: 0 bytes, 1 to 1048576 are wanted
+$ cp ../full {part_name(MONDAY)}; deposit check {part_name(MONDAY)} --after {PART} -> !1 Q4 {PART}: 0 bytes, 1 to 1048576 are wanted
+$ truncate -s 1048577 {PART}; escrow put d {PART} --now {TEN} -> !1 Q4 size
+$ deposit check {PART} -> !1 Q4 {PART}: 1048577 bytes, 1 to 1048576 are wanted
+$ truncate -s 1048576 {PART}; escrow put d {PART} --now {TEN} -> !1 Q11 volume full
+$ deposit check {PART} -> FAILURE-01 F1: it does not begin with RDE1 and a space
+!1
+$ cp ../full {PART}; : > {part_name(part=2)}; deposit check {PART} {part_name(part=2)} -> !1 Q4 {part_name(part=2)}: 0 bytes, 1 to 1048576 are wanted
+$ ls -> d
+{PART}
+{part_name(part=2)}
+{part_name(MONDAY)}
+== broken quotes are packed as they are read
+{TABLES}
+$ printf 'R1,"Bob" Smith,292,ok\\nR2,"Exa"mple,292,ok\\nR3,Bob "B" Smith,292,ok\\nR4,Four,292,"ok' > tables/registrar.csv
+$ deposit pack tables {FULL} --out parts > printed; deposit unpack parts/{PART} --out out > printed
+$ cat out/registrar.csv -> R1,Bob Smith,292,ok
+R2,Example,292,ok
+R3,"Bob ""B"" Smith",292,ok
+R4,Four,292,ok
+$ printf 'R1,"Bob,292,ok\\nR2,Two,292,ok\\n' > tables/registrar.csv
+$ deposit pack tables {FULL} --out other -> !1 U5 registrar.csv row 1: 2 fields, 4 are wanted
 == a disk that takes no more leaves no part
 {TABLES}
 $ mkdir parts; trap '' XFSZ; ulimit -f 1; deposit pack tables {FULL} --out parts
@@ -119,3 +147,17 @@ $ script -qec 'deposit check parts/{PART} > printed' /dev/null | tr -d '\\r' | s
 $ script -qec 'deposit check nothing' /dev/null | tr -d '\\r' | sed 's/\\x1b\\[K/|/g' -> |error: nothing: N1 is no name of a part
 !2
 """, "script")
+
+
+@case()
+def a_differential_deposit_that_names_no_other_fails(room: Room) -> None:
+    """Whatever is known of other deposits."""
+    envelope, files = taken_apart(packed("diff", MONDAY, after=[packed()], previous=ID))
+    del envelope["prevId"]
+    name = part_name(MONDAY, "diff")
+    room.file(name, framed(envelope_text(envelope), files))
+    room.plays(f"""
+        $ deposit check {name} -> FAILURE-06 prevId is nothing, no deposit has passed
+        !1
+        $ cp ../full {PART}; deposit check {name} --after {PART} -> FAILURE-06 prevId is nothing, {ID} is wanted
+        !1""")

@@ -3,7 +3,7 @@ use crate::errors::ProgramError;
 use crate::files::{file_name, read_file};
 use crate::steps::{show_file, show_step};
 use deposit_name::{DepositName, Kind};
-use deposit_pack::Chain;
+use deposit_pack::{Chain, PART_LENGTH_MAX};
 use deposit_verify::Base;
 use schedule::Day;
 use std::alloc::Global;
@@ -50,6 +50,19 @@ fn part_files(alloc: Global, paths: &[&str]) -> Result<Vec<PartFile>, ProgramErr
     Ok(parts)
 }
 
+// The bytes of a part. One that the agent refuses for its size is refused.
+fn read_part(rt: &HostRuntime, path: &str) -> Result<Vec<u8>, ProgramError> {
+    let bytes = read_file(rt, path)?;
+    let length = bytes.len();
+    if length == 0 || length > PART_LENGTH_MAX {
+        let line = format!(in rt.alloc();
+            "Q4 {path}: {length} bytes, 1 to {PART_LENGTH_MAX} are wanted"
+        )?;
+        return Err(ProgramError::Refused(line));
+    }
+    Ok(bytes)
+}
+
 // Adds a part to the last deposit, or begins a new one with it.
 fn add_part(
     rt: &HostRuntime,
@@ -66,7 +79,7 @@ fn add_part(
         let line = format!(in alloc; "{path}: part {wanted} is wanted")?;
         return Err(ProgramError::misused(alloc, line));
     }
-    let bytes = read_file(rt, path)?;
+    let bytes = read_part(rt, path)?;
     match deposits.last_mut() {
         Some(last) if wanted > 1 => {
             last.bytes.extend_from_slice(&bytes)?;

@@ -10,7 +10,7 @@ pub enum ProgramError {
     Words(clap::Error),
     /// The value of this argument is out of form, or the files do not belong together: the line that says it.
     Misused(String),
-    /// The tables cannot be a deposit, or a deposit is not unpacked: the line that says why.
+    /// The tables cannot be a deposit, or the parts are none that an agent would receive: the line that says why.
     Refused(String),
     /// A file or a folder fails: the line that says which, and why.
     File(String),

@@ -48,7 +48,11 @@ fn several<'w>(argument: Arg<'w>) -> Arg<'w> {
 }
 
 fn files<'w>(alloc: Global) -> Arg<'w> {
-    several(place(alloc, "FILE", "Parts of one deposit"))
+    several(place(
+        alloc,
+        "FILE",
+        "Parts of one deposit, each of 1 to 1048576 bytes",
+    ))
 }
 
 fn previous<'w>(alloc: Global) -> Arg<'w> {
@@ -135,9 +139,11 @@ fn check_command<'w>(alloc: Global) -> Result<Command<'w>, AllocError> {
     Command::new(alloc, "check")
         .about("Says what an agent will say of a deposit")
         .after_help(
-            "Without --after it leaves out check 7, and for a diff or an incr also 6 and 11\n\
-             Prints: PASS TYPE ID DATE, then each table and the number of its rows,\n        \
-             or FAILURE-NN and why, with status 1\n\
+            "Without --after it leaves out check 7, and for a diff or an incr also 6 and 11,\n        \
+             but a diff without prevId fails check 6\n\
+             With --after it compares the id with those of these deposits alone (check 7)\n\
+             Prints: PASS TYPE ID DATE and which checks it leaves out,\n        \
+             then each table and the number of its rows, or FAILURE-NN and why, with status 1\n\
              Example: deposit check parts/example_2026-08-02_full_S1_R0.ryde",
         )
         .arg(files(alloc))?

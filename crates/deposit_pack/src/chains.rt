@@ -93,8 +93,8 @@ fn about_of(alloc: Global, name: &DepositName, envelope: &Envelope, chain: Optio
 }
 
 /// Why the agent would refuse a deposit under this name that is stated by its own id, after the deposits of a chain:
-/// none where it passes. Without a chain it leaves out what other deposits decide: whether it follows the right one,
-/// whether its id is new, and, where it is not full, its counts.
+/// none where it passes. Without a chain it leaves out what other deposits decide: whether it follows the right one
+/// (a differential one without `prevId` follows none), whether its id is new, and, where it is not full, its counts.
 ///
 /// # Errors
 ///

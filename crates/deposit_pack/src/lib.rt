@@ -18,5 +18,5 @@ pub use laws::{law_packed, law_packing, law_refusals};
 pub use pack_error::PackError;
 pub use packing::pack;
 pub use source::{Attributes, Source, TableFile};
-pub use splitting::{Part, split};
+pub use splitting::{PART_LENGTH_MAX, Part, split};
 pub use unpacking::{Unpacked, unpack};

@@ -5,8 +5,8 @@ ghost use Rattle.deposit_pack.specs.Parts.{ArePartsOf, FitsInParts, part_length_
 use deposit_name::DepositName;
 use std::alloc::{AllocError, Global};
 
-/// In bytes: 1 MiB.
-const PART_LENGTH_MAX: usize = 1_048_576;
+/// The most bytes of a part: 1 MiB.
+pub const PART_LENGTH_MAX: usize = 1_048_576;
 
 const PARTS_MAX: usize = 8;
 
