@@ -6,13 +6,22 @@ from lib import DAY, PART, PASSED, RECEIPT, TEN, TOP, Room, each, state
 STATE = f"$ escrow state d -> {state(6, f'part {PART} 1422 held {TEN}', RECEIPT)}"
 # What the page's questions to the records list. Of a table that is missing sqlite3 reports an error, and goes on.
 LISTED = f"sqlite3 -readonly d/custody.db < '{TOP}/docs/damage.sql' 2> errors"
+# The ways to open a vault, and to make one.
+OPENINGS = ("escrow state d", "escrow audit d", "echo state | escrow batch d",
+            "timeout 60 escrow serve d --port 20001 --requests 1")
+INIT = "escrow init d --blocks 8 --number 0000000000000001"
 SOUND = f"{STATE}\n$ escrow audit d -> sound 1\n$ {LISTED}"
 
 
-def damaged(number: str) -> str:
-    """What is reported of this damage, and listed first."""
+def reported(number: str) -> str:
+    """What is reported of this damage by an order, a batch and a server, and listed first."""
     listed = f"$ ({LISTED}; true) | sed '1!d; s/|.*//' -> {number}" if number not in ("H1", "H2") else ""
-    return f"$ escrow state d -> !3 C5 damaged {number}\n$ escrow audit d -> !3 C5 damaged {number}\n{listed}"
+    return "".join(f"$ {words} -> !3 C5 damaged {number}\n" for words in OPENINGS) + listed
+
+
+def damaged(number: str) -> str:
+    """The same, and what `init` says: there is a record, or only tables without one."""
+    return f"{reported(number)}\n$ {INIT} -> {'!3 C3 store failed' if number == 'H0' else '!1 I1 already initialised'}"
 
 
 # ---- edits
@@ -43,7 +52,6 @@ def hold(day: int, lifted: str) -> str:
 DAMAGED = (
     ("H0 without a row of meta", "DELETE FROM meta"),
     ("H0 without meta", "DROP TABLE meta"),
-    ("H0 without a table", f"{BUT_META}; DROP TABLE meta"),
     ("H0 with a table of somebody else alone", f"{BUT_META}; DROP TABLE meta; {TABLE}"),
     ("H1 of block 0 before the number", NUMBER, "printf '\\0' | dd of=d/vault.vol bs=1 conv=notrunc status=none"),
     ("H2 of the number", NUMBER),
@@ -77,16 +85,16 @@ DAMAGED = (
     ("H7 without a first notice in schema 1", f"{BACK}; UPDATE notice SET number = 2"),
     ("H7 of a revision after the receipt", one_more(1, 1, 2, bytes(10))))
 INDEX = "CREATE INDEX more ON meta (lower(number))"
-NO_INIT = "$ escrow state d -> !3 C5 damaged H0\n$ escrow init d --blocks 8 --number 0000000000000001 -> !3 C3 store failed"
 
 
 @each((
     *((title, sql, damaged(title[:2]), *command) for title, sql, *command in DAMAGED),
+    # (Here `init` makes a vault anew.)
+    ("H0 without a table", f"{BUT_META}; DROP TABLE meta", reported("H0")),
     ("C3 as parts refer to no registry", "DROP TABLE registry", "$ escrow state d -> !3 C3 store failed"),
     ("C3 as notices refer to none", "DROP TABLE part; DROP TABLE registry", "$ escrow state d -> !3 C3 store failed"),
-    ("init leaves a vault without a row of meta", "DELETE FROM meta", NO_INIT),
-    ("init leaves a vault without meta", "DROP TABLE meta", NO_INIT),
-    ("init leaves a vault whose meta an index hides", INDEX, f"""{NO_INIT}
+    ("init leaves a vault whose meta an index hides", INDEX, f"""$ escrow state d -> !3 C5 damaged H0
+$ {INIT} -> !3 C3 store failed
 $ sqlite3 d/custody.db 'DROP INDEX more'
 $ escrow audit d -> sound 1
 $ sqlite3 d/custody.db '{INDEX}'"""),

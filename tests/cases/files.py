@@ -25,21 +25,30 @@ $ rm d/custody.db*
 $ escrow state d -> !3 file failed: d/custody.db: file missing
 $ ls -A d -> vault.vol
 == a database alone gets no volume
-$ vault d
-$ rm d/vault.vol
+{VAULT}
+$ mv d/vault.vol kept
 $ escrow state d -> !3 file failed: d/vault.vol: file missing
 $ escrow init d {INIT} -> !3 file failed: d/vault.vol: file missing
-$ test ! -e d/vault.vol
+$ test ! -e d/vault.vol; mv kept d/vault.vol
+$ sha256sum -c --quiet digests
+$ escrow state d -> {STATE}
 == a second init changes nothing
 {VAULT}
 $ escrow init d --blocks 8 --number 0000000000000002 -> !1 I1 already initialised
 $ escrow init d --blocks 9 --number 0000000000000001 -> !1 I1 already initialised
-$ sha256sum -c --quiet digests
+$ escrow init d {INIT} > printed -> !1 I1 already initialised
+$ test ! -s printed; sha256sum -c --quiet digests
+$ escrow state d -> {STATE}
+$ escrow audit d -> sound 1
 == an init that was cut short is done again
 $ mkdir cut; touch cut/custody.db; head -c 5000 /dev/urandom > cut/vault.vol
 $ escrow state cut -> !3 file failed: cut/vault.vol: 5000 bytes are no whole number of blocks
 $ escrow init cut {INIT} -> ready 8 0000000000000001
 $ escrow state cut -> free 7 of 7
+$ mkdir sooner; touch sooner/custody.db; escrow state sooner -> !3 file failed: sooner/vault.vol: file missing
+$ escrow init sooner {INIT} -> ready 8 0000000000000001
+$ mkdir later; touch later/custody.db; truncate -s 32768 later/vault.vol; escrow state later -> !3 C5 damaged H0
+$ escrow init later {INIT} -> ready 8 0000000000000001
 == a volume of another length is refused
 {VAULT}
 $ truncate -s 16384 d/vault.vol

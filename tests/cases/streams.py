@@ -47,6 +47,11 @@ transcripts(__name__, f"""
 == a command whose output is lost says so and can be made again
 $ mkdir d; cp ../full {PART}
 {LOST}
+== a reply is in a file or a pipe once the command has ended
+$ vault d; echo -n hello > {PART}
+$ escrow put d {PART} --now {TEN} > printed; cat printed -> received {PART} 5 {TEN}
+$ escrow put d {PART} --now {FIVE} | cat -> received {PART} 5 {TEN}
+$ escrow hold d H-1 example --date {DAY} --now {TEN} > printed; cat printed -> held {HELD}
 == help that is lost is a failure
 {HELP}
 == a refusal needs no output
