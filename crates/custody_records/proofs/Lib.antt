@@ -9,3 +9,4 @@ pub mod GroupLemmas
 pub mod LineLemmas
 pub mod Elements
 pub mod DropLemmas
+pub mod KeyedLemmas

@@ -31,7 +31,7 @@ pub any_entries : {Row K X : Type 0} (key : Row → K) (value : Row → X) (test
 any_entries key value test [] = refl
 any_entries key value test (row ∷ rows) = ap (λ b. test (key row, value row) || b) (any_entries key value test rows)
 
-less_is : (o : Ordering) → is_lt o ≡ true → o ≡ Less
+pub less_is : (o : Ordering) → is_lt o ≡ true → o ≡ Less
 less_is o e = grind arith
 
 T_true : (b : Bool) → T b → b ≡ true

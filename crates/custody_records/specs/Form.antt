@@ -64,6 +64,10 @@ gather read so_far [] = Some so_far
 gather {X = X} {K = K} {R = R} {order = order} read so_far (row ∷ rows) =
     option_and_then (λ (entry : K × R). if is_some (get so_far entry.0) then None else gather {X = X} {K = K} {R = R} {order = order} read (insert so_far entry.0 entry.1) rows) (read row)
 
+-- the same of records in any order
+abbrev pub keyed_map : {T K X : Type 0} (order : K → K → Ordering) → (T → K) → (T → X) → List T → Option (FinMap order X)
+keyed_map {T} {K} {X} order key value = gather {X = T} {K = K} {R = X} {order = order} (λ it. Some (key it, value it)) empty
+
 -- ---- registries
 
 abbrev pub registry_in : RegistryRow → Option (List ℕ × ℕ)

@@ -29,6 +29,6 @@ pub use meta::{Meta, read_number, write_number};
 pub use names::Names;
 pub use notices::NoticeColumns;
 pub use parts::{Part, PartColumns};
-pub use records::Records;
+pub use records::{RecordLists, Records};
 pub use registries::{Registry, read_registry};
 pub use releases::{Release, ReleaseColumns};

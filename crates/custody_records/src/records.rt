@@ -1,5 +1,5 @@
 //! The records of a custody in memory.
-ghost use Rattle.std.specs.Prelude.{◌≡◌, true, None, IsSome, IfSome, OnOk, OnErr, IsErrOf, option_map, option_copied};
+ghost use Rattle.std.specs.Prelude.{◌≡◌, true, None, IsSome, IfSome, OnOk, OnErr, option_map, option_copied};
 ghost use Rattle.std.specs.FinMap.{get};
 ghost use Rattle.custody_records.specs.Keys as by;
 ghost use Rattle.custody_records.specs.Purge.{dropped_if_among};
@@ -8,11 +8,21 @@ ghost use Rattle.custody_records.specs.Tables.{row_entries, is_rising, table_map
 ghost use Rattle.custody_records.specs.TypedRecords.{registry_key, registry_value, key_of_part, part_value, notice_key, notice_value, release_key, release_value, hold_key, hold_value};
 
 use crate::tables::SortedRows;
-use crate::{Hold, NoticeKey, Part, PartKey, Registry, Release, RowError};
+use crate::{Hold, NoticeKey, Part, PartKey, Registry, Release};
 use deposit_name::{DepositName, Reference, Tld};
 use desk::{Notice, NoticeKind};
 use schedule::{Day, Sec};
 use std::alloc::{AllocError, Global};
+
+/// Records in any order.
+#[derive(Debug, Drop)]
+pub struct RecordLists {
+    pub registries: Vec<Registry>,
+    pub parts: Vec<Part>,
+    pub notices: Vec<Notice>,
+    pub releases: Vec<Release>,
+    pub holds: Vec<Hold>,
+}
 
 /// The records of a custody, and the number and the blocks of the volume that they belong to.
 #[derive(Debug, Drop)]
@@ -42,15 +52,12 @@ impl Records {
     };
     ghost use Rattle.custody_records.specs.MemoryRecords.{
       records_of,
+      records_of_lists,
       HasRegistryRoom,
       HasPartRoom,
       HasNoticeRoom,
       HasReleaseRoom,
       HasHoldRoom,
-    };
-    ghost use Rattle.custody_records.specs.declared.errors.RowError.TheVariants.{
-      OutOfForm,
-      NoMemory,
     };
 
     /// No records yet, for a volume of this number and so many blocks.
@@ -66,6 +73,22 @@ impl Records {
             releases: SortedRows::new(alloc),
             holds: SortedRows::new(alloc),
         }
+    }
+
+    /// The records of these lists, for a volume of this number and so many blocks; none where two records of a list have
+    /// one key.
+    pub fn of_lists(number: u64, blocks: u32, lists: RecordLists) -> Option<Records>
+        ensures { option_map (λ records. records_of records) result ≡ records_of_lists number blocks lists }
+    {
+        Some(Records {
+            number,
+            blocks,
+            registries: SortedRows::of_list(lists.registries)?,
+            parts: SortedRows::of_list(lists.parts)?,
+            notices: SortedRows::of_list(lists.notices)?,
+            releases: SortedRows::of_list(lists.releases)?,
+            holds: SortedRows::of_list(lists.holds)?,
+        })
     }
 
     /// The number of the volume.
@@ -148,17 +171,6 @@ impl Records {
         self.registries.add(registry);
     }
 
-    /// Adds a registry, or refuses one that is there.
-    pub fn try_add_registry(&mut self, registry: Registry) -> Result<(), RowError>
-        ensures added { OnOk result (records_of self.new ≡ with_registry (records_of self.old) (registry_key registry) (registry_value registry)) }
-        ensures new { OnOk result (get (records_of self.old).registries (registry_key registry) ≡ None) }
-        ensures taken { IsErrOf result OutOfForm → IsSome (get (records_of self.old).registries (registry_key registry)) }
-        ensures no_memory { IsErrOf result NoMemory → (get (records_of self.old).registries (registry_key registry) ≡ None) × ¬ HasRegistryRoom self.old }
-        ensures same { OnErr result (records_of self.new ≡ records_of self.old) }
-    {
-        self.registries.try_add(registry)
-    }
-
     /// The parts, by registry, day, revision and place.
     pub fn parts(&self) -> &[Part]
         ensures all { (records_of self.now).parts ≡ table_map part_cmp key_of_part part_value result.now }
@@ -214,17 +226,6 @@ impl Records {
         self.parts.drop_bytes(keys);
     }
 
-    /// Adds a part, or refuses one that is there.
-    pub fn try_add_part(&mut self, part: Part) -> Result<(), RowError>
-        ensures added { OnOk result (records_of self.new ≡ with_part (records_of self.old) (key_of_part part) (part_value part)) }
-        ensures new { OnOk result (get (records_of self.old).parts (key_of_part part) ≡ None) }
-        ensures taken { IsErrOf result OutOfForm → IsSome (get (records_of self.old).parts (key_of_part part)) }
-        ensures no_memory { IsErrOf result NoMemory → (get (records_of self.old).parts (key_of_part part) ≡ None) × ¬ HasPartRoom self.old }
-        ensures same { OnErr result (records_of self.new ≡ records_of self.old) }
-    {
-        self.parts.try_add(part)
-    }
-
     /// The notices, by registry and number.
     pub fn notices(&self) -> &[Notice]
         ensures all { (records_of self.now).notices ≡ table_map notice_cmp notice_key notice_value result.now }
@@ -259,18 +260,6 @@ impl Records {
         self.notices.add(Notice { kind, ..*notice });
     }
 
-    /// Adds a notice, or refuses one that is there.
-    pub fn try_add_notice(&mut self, notice: &Notice) -> Result<(), RowError>
-        ensures added { OnOk result (records_of self.new ≡ with_notice (records_of self.old) (notice_key notice.now) (notice_value notice.now)) }
-        ensures new { OnOk result (get (records_of self.old).notices (notice_key notice.now) ≡ None) }
-        ensures taken { IsErrOf result OutOfForm → IsSome (get (records_of self.old).notices (notice_key notice.now)) }
-        ensures no_memory { IsErrOf result NoMemory → (get (records_of self.old).notices (notice_key notice.now) ≡ None) × ¬ HasNoticeRoom self.old }
-        ensures same { OnErr result (records_of self.new ≡ records_of self.old) }
-    {
-        let kind: NoticeKind = notice.kind;
-        self.notices.try_add(Notice { kind, ..*notice })
-    }
-
     /// The releases, by their references.
     pub fn releases(&self) -> &[Release]
         ensures all { (records_of self.now).releases ≡ table_map text_cmp release_key release_value result.now }
@@ -297,16 +286,6 @@ impl Records {
         self.releases.add(release);
     }
 
-    /// Adds a release, or refuses one that is there.
-    pub fn try_add_release(&mut self, release: Release) -> Result<(), RowError>
-        ensures added { OnOk result (records_of self.new ≡ with_release (records_of self.old) (release_key release) (release_value release)) }
-        ensures new { OnOk result (get (records_of self.old).releases (release_key release) ≡ None) }
-        ensures taken { IsErrOf result OutOfForm → IsSome (get (records_of self.old).releases (release_key release)) }
-        ensures no_memory { IsErrOf result NoMemory → (get (records_of self.old).releases (release_key release) ≡ None) × ¬ HasReleaseRoom self.old }
-        ensures same { OnErr result (records_of self.new ≡ records_of self.old) }
-    {
-        self.releases.try_add(release)
-    }
     /// The holds, by their references.
     pub fn holds(&self) -> &[Hold]
         ensures all { (records_of self.now).holds ≡ table_map text_cmp hold_key hold_value result.now }
@@ -332,18 +311,6 @@ impl Records {
     {
         let lifted: Option<Sec> = hold.lifted;
         self.holds.add(Hold { lifted, ..*hold });
-    }
-
-    /// Adds a hold, or refuses one that is there.
-    pub fn try_add_hold(&mut self, hold: &Hold) -> Result<(), RowError>
-        ensures added { OnOk result (records_of self.new ≡ with_hold (records_of self.old) (hold_key hold.now) (hold_value hold.now)) }
-        ensures new { OnOk result (get (records_of self.old).holds (hold_key hold.now) ≡ None) }
-        ensures taken { IsErrOf result OutOfForm → IsSome (get (records_of self.old).holds (hold_key hold.now)) }
-        ensures no_memory { IsErrOf result NoMemory → (get (records_of self.old).holds (hold_key hold.now) ≡ None) × ¬ HasHoldRoom self.old }
-        ensures same { OnErr result (records_of self.new ≡ records_of self.old) }
-    {
-        let lifted: Option<Sec> = hold.lifted;
-        self.holds.try_add(Hold { lifted, ..*hold })
     }
 
     /// Lifts a hold that is there, without taking memory.

@@ -1,5 +1,5 @@
 //! A table in memory: rows in the order of their keys, each key once.
-ghost use Rattle.std.specs.Prelude.{◌≡◌, ◌≤◌, length, true, None, IsSome, IfSome, OnOk, OnErr, IsErrOf, option_map, option_copied};
+ghost use Rattle.std.specs.Prelude.{◌≡◌, ◌≤◌, length, true, None, IsSome, IfSome, OnOk, OnErr, option_map, option_copied};
 ghost use Rattle.std.specs.Cmp.{IsTotalOrder};
 ghost use Rattle.std.specs.FinMap.{IsAntisymmetric, empty, entries, get, insert};
 ghost use Rattle.std.specs.List.{filter};
@@ -7,10 +7,9 @@ ghost use Rattle.std.specs.List.Sorted.{IsSearchInRange, IsBinarySearchResult};
 ghost use Rattle.std.specs.Ordering.{is_eq, ordering_index};
 ghost use Rattle.std.specs.declared.cmp.Ordering.{Ordering};
 ghost use Rattle.std.specs.declared.cmp.Ordering.TheVariants.{Less};
+ghost use Rattle.custody_records.specs.Form.{keyed_map};
 ghost use Rattle.custody_records.specs.Tables.{HasRoom, row_entries, is_rising, table_map};
-ghost use Rattle.custody_records.specs.declared.errors.RowError.TheVariants.{OutOfForm, NoMemory};
 
-use crate::RowError;
 use std::alloc::{AllocError, Global};
 use std::cmp::Ordering;
 
@@ -69,6 +68,19 @@ impl<T: Keyed> SortedRows<T> {
         }
     }
 
+    /// The table of these rows, which stand in any order; none where two have one key.
+    pub(crate) fn of_list(rows: Vec<T>) -> Option<SortedRows<T>>
+        ensures { option_map (λ table. table_map T.order T.key_of T.value_of table.rows.items) result ≡ keyed_map T.order T.key_of T.value_of rows.items }
+    {
+        let mut rows = rows;
+        rows.sort_unstable_by(|one, other| one.compare(&other.key()));
+        if rows.is_sorted_by(|one, other| one.compare(&other.key()).is_lt()) {
+            Some(SortedRows { rows })
+        } else {
+            None
+        }
+    }
+
     /// The rows, by their keys.
     pub(crate) fn rows(&self) -> &[T]
         ensures all { result.now ≡ self.now.rows.items }
@@ -121,7 +133,12 @@ impl<T: Keyed> SortedRows<T> {
         requires new { get (table_map T.order T.key_of T.value_of self.old.rows.items) (T.key_of row) ≡ None }
         ensures { table_map T.order T.key_of T.value_of self.new.rows.items ≡ insert (table_map T.order T.key_of T.value_of self.old.rows.items) (T.key_of row) (T.value_of row) }
     {
-        let _ = self.try_add(row);
+        match self.place_of(&row.key()) {
+            Err(place) => {
+                let _ = self.rows.insert(place, row);
+            }
+            Ok(_) => unreachable!(),
+        }
     }
 
     /// Puts a row in the place of the one that has its key.
@@ -132,20 +149,6 @@ impl<T: Keyed> SortedRows<T> {
         match self.place_of(&row.key()) {
             Ok(place) => self.rows[place] = row,
             Err(_) => unreachable!(),
-        }
-    }
-
-    /// Adds a row, or refuses one whose key is there.
-    pub(crate) fn try_add(&mut self, row: T) -> Result<(), RowError>
-        ensures added { OnOk result (table_map T.order T.key_of T.value_of self.new.rows.items ≡ insert (table_map T.order T.key_of T.value_of self.old.rows.items) (T.key_of row) (T.value_of row)) }
-        ensures new { OnOk result (get (table_map T.order T.key_of T.value_of self.old.rows.items) (T.key_of row) ≡ None) }
-        ensures taken { IsErrOf result OutOfForm → IsSome (get (table_map T.order T.key_of T.value_of self.old.rows.items) (T.key_of row)) }
-        ensures no_memory { IsErrOf result NoMemory → (get (table_map T.order T.key_of T.value_of self.old.rows.items) (T.key_of row) ≡ None) × ¬ HasRoom self.old.rows }
-        ensures same { OnErr result (self.new.rows.items ≡ self.old.rows.items) }
-    {
-        match self.place_of(&row.key()) {
-            Err(place) => Ok(self.rows.insert(place, row)?),
-            Ok(_) => Err(RowError::OutOfForm),
         }
     }
 }

@@ -1,9 +1,8 @@
 -- SELECT answers the rows of its table, in their order.
-use Rattle.std.proofs.Common.{◌≡◌, ℕ, List, [], ◌++◌, map, None, Some, Ok, Err, Option, Result, IfOk, MatchResult, Vec, sym, ap, ◌∙◌}
-use Rattle.std.specs.FinMap.{FinMap}
-use Rattle.std.specs.Option.{option_and_then}
+use Rattle.std.proofs.Common.{◌≡◌, ℕ, List, [], ◌∷◌, ◌++◌, map, None, Some, Ok, Err, Option, Result, IfOk, MatchResult, Vec, sym, ap, ◌∙◌}
+use Rattle.std.specs.FinMap.{empty}
 use Rattle.std.specs.declared.cmp.Ordering.{Ordering}
-use Rattle.std.proofs.lemmas.List.{map-append}
+use Rattle.std.proofs.lemmas.List.{append_assoc, map-append}
 use Rattle.std.specs.declared.alloc.Global.{Global}
 use Rattle.sqlite.specs.Order.{Row}
 use Rattle.sqlite.specs.Term.{Term}
@@ -12,14 +11,14 @@ use Rattle.sqlite.specs.Program.{overlay}
 use Rattle.sqlite.specs.State.{State, HasCleanDisk, Begins, Shown as Answered}
 use Rattle.sqlite.specs.Table.{Table}
 use Rattle.sqlite.specs.Schema.{Schema}
-use Rattle.custody_records.specs.Form.{gather}
+use Rattle.custody_records.specs.Form.{gathered_table, keyed_map}
 use Rattle.custody_records.specs.Rows.{Rows}
-use Rattle.custody_records.proofs.Gathered.{gather_append}
+use Rattle.custody_records.proofs.Gathered.{gather_alike, gather_bad}
 use Rattle.custody_store.specs.Reading.{rows_in}
 use Rattle.custody_store.specs.Schema.{first_schema}
 use Rattle.custody_store.specs.StoreState.{HasFirstTables, as_store_state, ChangesNothing}
 use Rattle.custody_store.specs.Calls.{RunsQuery, row_items}
-use Rattle.custody_store.specs.inside.Loading.{GathersAnswer, GathersNoAnswer}
+use Rattle.custody_store.specs.inside.Loading.{ReadsAnswer, ReadsNoAnswer}
 use Rattle.custody_store.proofs.TableLemmas.{held_beside, rows_first}
 use Rattle.custody_store.proofs.SelectLemmas.{finds, projected, reads, selects, then_map, whole_answer}
 use Rattle.custody_store.proofs.StatementLemmas.{in_order, IsSelection, IsSelectionOver}
@@ -42,15 +41,17 @@ module _ {X : Type 0} {first : List Table} {sql : List ℕ} {tree : ℕ} {projec
       let whole = whole_answer sql old rows (in_order tree project) names at.rest.is_open (selects first sql tree project names means old at) it in
       (whole.0, found old (rows ++ whole.0) whole.1 ∙ ap Some (map-append answered rows whole.0))
 
-  -- so is what is gathered of them
-  pub loads : {K R E : Type 0} {order : K → K → Ordering} (read : X → Option (K × R)) (new : State) (before after : FinMap order R) (bad : E → Type 0) (r : Result Unit E)
-      → MatchResult r (λ _. GathersAnswer read answered sql old new before after) (λ e. bad e → GathersNoAnswer read answered sql old before)
-      → MatchResult r (λ _. option_and_then (gather read before) (field (rows_in old.now.trees)) ≡ Some after) (λ e. bad e → option_and_then (gather read before) (field (rows_in old.now.trees)) ≡ None)
-  loads read new before after bad (Ok x) it = ap (option_and_then (gather read before)) (found new it.0 it.1) ∙ it.2
-  loads read new before after bad (Err e) it = λ is_bad.
-      let front = it is_bad in
-      let all = begins front.0 front.1 in
-      ap (option_and_then (gather read before)) all.1 ∙ gather_append read before (map answered front.0) (map answered all.0) ∙ ap (option_and_then (λ m. gather read m (map answered all.0))) front.2
+  -- so are the records of them
+  pub loads : {T K R E : Type 0} (order : K → K → Ordering) (read : X → Option (K × R)) (key : T → K) (value : T → R) (new : State) (bad : E → Type 0) (r : Result (Vec T Global) E)
+      → MatchResult r (λ list. ReadsAnswer read key value answered sql old new list.items) (λ e. bad e → ReadsNoAnswer read key value answered sql old)
+      → MatchResult r (λ list. gathered_table {order = order} read (field (rows_in old.now.trees)) ≡ keyed_map order key value list.items) (λ e. bad e → gathered_table {order = order} read (field (rows_in old.now.trees)) ≡ None)
+  loads order read key value new bad (Ok list) (rows, shown, same) =
+      ap (gathered_table {order = order} read) (found new rows shown) ∙ gather_alike {order = order} read (λ it. Some (key it, value it)) empty (map answered rows) list.items (then_map answered read rows ∙ same)
+  loads order read key value new bad (Err e) it = λ is_bad.
+      let (rows, row, begin, out) = it is_bad in
+      let (tail, all) = begins (rows ++ row ∷ []) begin in
+      ap (gathered_table {order = order} read) (all ∙ ap Some (ap (λ l. l ++ map answered tail) (map-append answered rows (row ∷ [])) ∙ append_assoc (map answered rows) (answered row ∷ []) (map answered tail)))
+      ∙ gather_bad {order = order} read empty (map answered rows) (answered row) (map answered tail) out
 
 -- and the query changes nothing
 pub only_reads : {E : Type 0} {schema : Schema} {sql : List ℕ} {tree : ℕ} {project : List Term} {names : List (List ℕ)} → IsSelectionOver schema sql tree project names → (old new : State) (r : Result (Vec Row Global) E)

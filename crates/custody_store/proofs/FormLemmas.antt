@@ -1,13 +1,10 @@
 -- What the rows of meta say, and the rows of a table as records of new keys.
-use Rattle.std.proofs.Common.{◌≡◌, inl, inr, ℕ, ◌<◌, ◌≤◌, Bool, true, false, cond, List, [], ◌∷◌, ◌++◌, length, map, Option, Some, None, refl, sym, ap, ◌∙◌, arith}
+use Rattle.std.proofs.Common.{◌≡◌, inl, inr, ℕ, ◌<◌, ◌≤◌, Bool, true, false, cond, List, [], ◌∷◌, length, Option, Some, None, refl, sym, ap, ◌∙◌, arith}
 use Rattle.std.specs.Prelude.{option_map, slice_get, is_some, not, ◌&&◌, Result, Ok, Err, IfErr, MatchResult}
-use Rattle.std.specs.Option.{option_and_then}
 use Rattle.std.specs.Result.{IsErrAnd}
-use Rattle.std.specs.declared.cmp.Ordering.{Ordering}
 use Rattle.std.specs.FinMap.{FinMap}
 use Rattle.std.proofs.Math.Bool.{and-false}
 use Rattle.std.proofs.lemmas.Bool.{false≢true, cases_Bool}
-use Rattle.std.proofs.lemmas.List.{map-append}
 use Rattle.custody_records.specs.declared.damage.RowDamage.{RowDamage}
 use Rattle.custody_records.specs.declared.damage.RowDamage.TheVariants as damage
 use Rattle.custody_records.specs.declared.errors.RowError.{RowError}
@@ -19,11 +16,10 @@ use Rattle.custody_records.specs.Keys.{text_cmp, part_cmp, notice_cmp}
 use Rattle.custody_records.specs.Records.{PartRecord, Notice, Release}
 use Rattle.custody_records.specs.Rows.{MetaRow, HoldRow, Rows}
 use Rattle.custody_records.specs.TypedRecords.{meta_of, meta_volume}
-use Rattle.custody_records.specs.Form.{natural, number_in, is_schema, has_holds, holds_in, is_meta, is_known, are_none, gather, gathered_table, all_records, registry_in, part_in, notice_in, release_in, records_in, in_form_or, Form, InForm, OutOfForm, form_after, form_of}
+use Rattle.custody_records.specs.Form.{natural, number_in, is_schema, has_holds, holds_in, is_meta, is_known, are_none, gathered_table, all_records, registry_in, part_in, notice_in, release_in, records_in, in_form_or, Form, InForm, OutOfForm, form_after, form_of}
 use Rattle.custody_store.specs.inside.Loading.{fault_of, IsFormFault}
 use Rattle.custody_store.specs.declared.faults.StoreFault.{StoreFault}
 use Rattle.custody_store.specs.declared.faults.StoreFault.TheVariants.{Damaged}
-use Rattle.custody_records.proofs.Gathered.{gather_append}
 use Rattle.custody_records.proofs.ReadLemmas.{some_same}
 use Rattle.custody_records.proofs.MetaLemmas.{volume_of-meta_of}
 
@@ -39,7 +35,7 @@ many (meta ∷ []) m rest first good more = absurd (omega arith)
 many (meta ∷ (other ∷ others)) m rest first good more =
     let known : is_known meta ≡ true = ap (λ (x : Meta). is_schema x.schema_no) (some_same (meta_of meta) m first) ∙ good in rw (known, and-false (is_meta meta)) refl
 
-no_holds : (number blocks : ℕ) (r : Option (FinMap text_cmp ℕ)) (p : Option (FinMap part_cmp PartRecord)) (n : Option (FinMap notice_cmp Notice)) (o : Option (FinMap text_cmp Release)) → all_records number blocks r p n o None ≡ None
+pub no_holds : (number blocks : ℕ) (r : Option (FinMap text_cmp ℕ)) (p : Option (FinMap part_cmp PartRecord)) (n : Option (FinMap notice_cmp Notice)) (o : Option (FinMap text_cmp Release)) → all_records number blocks r p n o None ≡ None
 no_holds number blocks None p n o = refl
 no_holds number blocks (Some r) None n o = refl
 no_holds number blocks (Some r) (Some p) None o = refl
@@ -88,13 +84,6 @@ loaded_form form with_holds number blocks rows read (Err e) is same found (inr b
     let one : damage.Form ≡ why = (let both = sym bad ∙ told in cc) in
     is ∙ ap (in_form_or damage.Form) (ap (records_in with_holds number blocks) (sym same) ∙ found bad) ∙ ap OutOfForm one
 
--- ---- the rows in turn
-
-module _ {X Y K R : Type 0} {order : K → K → Ordering} (read : X → Option (K × R)) (f : Y → X) (start : FinMap order R) (ys : List Y) (y : Y) (cur : FinMap order R) (before : gather read start (map f ys) ≡ Some cur) where
-  -- one more row
-  pub gather_next : gather read start (map f (ys ++ y ∷ [])) ≡ gather read cur (f y ∷ [])
-  gather_next = ap (gather read start) (map-append f ys (y ∷ [])) ∙ gather_append read start (map f ys) (f y ∷ []) ∙ ap (option_and_then (λ (m : FinMap order R). gather read m (f y ∷ []))) before
-
 -- a fault of form comes of a row out of form alone
 form_fault : (error : RowError) → fault_of error ≡ Damaged damage.Form → error ≡ row_error.OutOfForm
 form_fault row_error.OutOfForm told = refl
@@ -103,3 +92,8 @@ form_fault row_error.NoMemory told = absurd (let clash = told in cc)
 pub on_fault : {A : Type 0} (P : A → Type 0) (Q : Type 0) (r : Result A StoreFault) (error : RowError) → IsErrAnd r (λ fault. fault ≡ fault_of error) → (error ≡ row_error.OutOfForm → Q) → MatchResult r P (λ fault. fault ≡ Damaged damage.Form → Q)
 on_fault P Q (Ok x) error is q = absurd is
 on_fault P Q (Err fault) error is q = λ told. q (form_fault error (sym is ∙ told))
+
+-- a fault that is passed on
+pub same_fault : {A : Type 0} (P : A → Type 0) (Q : Type 0) (r : Result A StoreFault) (error : StoreFault) → IsErrAnd r (λ fault. fault ≡ error) → (error ≡ Damaged damage.Form → Q) → MatchResult r P (λ fault. fault ≡ Damaged damage.Form → Q)
+same_fault P Q (Ok x) error is q = absurd is
+same_fault P Q (Err fault) error is q = λ told. q (sym is ∙ told)

@@ -47,16 +47,16 @@ not_there trees schema name sound none = named name trees ∙ not_listed name _ 
 
 -- ---- a table without rows
 
-no_parts : (number blocks : ℕ) (r : Option (FinMap text_cmp ℕ)) (n : Option (FinMap notice_cmp Notice)) (o : Option (FinMap text_cmp Release)) (h : Option (FinMap text_cmp Hold)) → all_records number blocks r None n o h ≡ None
+pub no_parts : (number blocks : ℕ) (r : Option (FinMap text_cmp ℕ)) (n : Option (FinMap notice_cmp Notice)) (o : Option (FinMap text_cmp Release)) (h : Option (FinMap text_cmp Hold)) → all_records number blocks r None n o h ≡ None
 no_parts number blocks None n o h = refl
 no_parts number blocks (Some r) n o h = refl
 
-no_notices : (number blocks : ℕ) (r : Option (FinMap text_cmp ℕ)) (p : Option (FinMap part_cmp PartRecord)) (o : Option (FinMap text_cmp Release)) (h : Option (FinMap text_cmp Hold)) → all_records number blocks r p None o h ≡ None
+pub no_notices : (number blocks : ℕ) (r : Option (FinMap text_cmp ℕ)) (p : Option (FinMap part_cmp PartRecord)) (o : Option (FinMap text_cmp Release)) (h : Option (FinMap text_cmp Hold)) → all_records number blocks r p None o h ≡ None
 no_notices number blocks None p o h = refl
 no_notices number blocks (Some r) None o h = refl
 no_notices number blocks (Some r) (Some p) o h = refl
 
-no_releases : (number blocks : ℕ) (r : Option (FinMap text_cmp ℕ)) (p : Option (FinMap part_cmp PartRecord)) (n : Option (FinMap notice_cmp Notice)) (h : Option (FinMap text_cmp Hold)) → all_records number blocks r p n None h ≡ None
+pub no_releases : (number blocks : ℕ) (r : Option (FinMap text_cmp ℕ)) (p : Option (FinMap part_cmp PartRecord)) (n : Option (FinMap notice_cmp Notice)) (h : Option (FinMap text_cmp Hold)) → all_records number blocks r p n None h ≡ None
 no_releases number blocks None p n h = refl
 no_releases number blocks (Some r) None n h = refl
 no_releases number blocks (Some r) (Some p) None h = refl

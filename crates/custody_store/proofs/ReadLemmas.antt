@@ -27,7 +27,7 @@ reads_none s r = record {
 }
 
 -- two calls, one after the other
-stands_then : (a b c : StoreState) → SameTablesAndRows a b → SameTablesAndRows b c → SameTablesAndRows a c
+pub stands_then : (a b c : StoreState) → SameTablesAndRows a b → SameTablesAndRows b c → SameTablesAndRows a c
 stands_then a b c p q = record {
   rows = q.rows ∙ p.rows;
   schema = q.schema ∙ p.schema;

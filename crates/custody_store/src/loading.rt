@@ -1,8 +1,7 @@
 //! The records of all rows.
-ghost use Rattle.std.specs.Prelude.{◌≡◌, codes, map, Some, None, is_some, IfErr, MatchResult};
+ghost use Rattle.std.specs.Prelude.{◌≡◌, ℕ, codes, map, Some, None, is_some, IfErr, MatchResult};
 ghost use Rattle.custody_records.specs.Form.{form_after, in_form_or, records_in, OutOfForm};
-ghost use Rattle.custody_records.specs.MemoryRecords.{records_of};
-ghost use Rattle.custody_records.specs.Records.{new_records};
+ghost use Rattle.custody_records.specs.MemoryRecords.{records_of, records_of_lists};
 ghost use Rattle.custody_records.specs.Rows.{Rows};
 ghost use Rattle.custody_records.specs.declared.damage.RowDamage.{RowDamage};
 ghost use Rattle.custody_records.specs.declared.damage.RowDamage.TheVariants as damage;
@@ -11,13 +10,13 @@ ghost use Rattle.custody_store.specs.Reading.{answered_meta};
 ghost use Rattle.custody_store.specs.StoreState.{store_state, ChangesNothing};
 
 use crate::faults::StoreFault;
-use crate::holds::load_holds;
+use crate::holds::load_holds_if;
 use crate::meta::first_of;
 use crate::notices::load_notices;
 use crate::parts::load_parts;
 use crate::registries::load_registries;
 use crate::releases::load_releases;
-use custody_records::{Records, RowDamage};
+use custody_records::{RecordLists, Records, RowDamage};
 use sqlite::{Alter, Connection, Row};
 use std::alloc::Global;
 
@@ -46,29 +45,30 @@ pub fn volume_in(rows: &[Row], has_holds: bool) -> Result<(u64, u32), StoreFault
     }
 }
 
-/// Adds the records of all rows to those of a new volume; the table of holds is there or not.
-fn load_all<S: Alter>(
+/// The records of all rows, where each is in form; the table of holds is there or not.
+fn load_lists<S: Alter>(
     db: &mut Connection<S>,
     has_holds: bool,
-    records: &mut Records,
     alloc: Global,
-) -> Result<(), StoreFault>
-    requires { records_of records.old ≡ new_records (records_of records.old).number (records_of records.old).blocks }
-    ensures found { (store_state S.Store db.new).IsHonest → (store_state S.Store db.old).HasSchemaTablesFirst → (store_state S.Store db.old).has_table (codes "hold") ≡ has_holds → MatchResult result
-        (λ _. records_in has_holds (records_of records.old).number (records_of records.old).blocks (store_state S.Store db.old).rows ≡ Some (records_of records.new))
-        (λ e. e ≡ StoreFault.Damaged damage.Form → records_in has_holds (records_of records.old).number (records_of records.old).blocks (store_state S.Store db.old).rows ≡ None) }
+) -> Result<RecordLists, StoreFault>
+    ensures found { (store_state S.Store db.new).IsHonest → (store_state S.Store db.old).HasSchemaTablesFirst → (store_state S.Store db.old).has_table (codes "hold") ≡ has_holds → (number blocks : ℕ) → MatchResult result
+        (λ lists. records_in has_holds number blocks (store_state S.Store db.old).rows ≡ records_of_lists number blocks lists)
+        (λ e. e ≡ StoreFault.Damaged damage.Form → records_in has_holds number blocks (store_state S.Store db.old).rows ≡ None) }
     ensures reads { ChangesNothing (store_state S.Store db.old) (store_state S.Store db.new) result }
     ensures kind { IfErr result IsFormFault }
 {
-    load_registries(db, records, alloc)?;
-    load_parts(db, records, alloc)?;
-    load_notices(db, records, alloc)?;
-    load_releases(db, records, alloc)?;
-    if has_holds {
-        load_holds(db, records, alloc)
-    } else {
-        Ok(())
-    }
+    let registries = load_registries(db, alloc)?;
+    let parts = load_parts(db, alloc)?;
+    let notices = load_notices(db, alloc)?;
+    let releases = load_releases(db, alloc)?;
+    let holds = load_holds_if(db, has_holds, alloc)?;
+    Ok(RecordLists {
+        registries,
+        parts,
+        notices,
+        releases,
+        holds,
+    })
 }
 
 /// The records of all rows, for a volume of this number and so many blocks, where all are in form.
@@ -85,7 +85,6 @@ pub fn load_records<S: Alter>(
     ensures kind { IfErr result IsFormFault }
 {
     let (number, blocks) = volume;
-    let mut records = Records::new(alloc, number, blocks);
-    load_all(db, has_holds, &mut records, alloc)?;
-    Ok(records)
+    let lists = load_lists(db, has_holds, alloc)?;
+    Records::of_lists(number, blocks, lists).ok_or(StoreFault::Damaged(RowDamage::Form))
 }

@@ -1,20 +1,19 @@
 //! The rows of notices.
-ghost use Rattle.std.specs.Prelude.{◌≡◌, refl, IfErr, OnOk};
+ghost use Rattle.std.specs.Prelude.{◌≡◌, IfErr};
 ghost use Rattle.custody_records.specs.Form.{notice_in};
 ghost use Rattle.custody_records.specs.Keys.{NoticeKey, notice_cmp};
 ghost use Rattle.custody_records.specs.Records as specs;
 ghost use Rattle.custody_records.specs.Rows.{NoticeRow};
-ghost use Rattle.custody_records.specs.TypedRecords.{notice_row};
+ghost use Rattle.custody_records.specs.TypedRecords.{notice_key, notice_row, notice_value};
 ghost use Rattle.custody_records.specs.RowsOfRecords.{IsNoticeKind, kind_number, kind_rev, kind_id};
-ghost use Rattle.custody_records.specs.MemoryRecords.{records_of};
 ghost use Rattle.custody_store.specs.Reading.{answered_notice};
 ghost use Rattle.custody_store.specs.StoreState.{store_state, ChangesNothing};
-ghost use Rattle.custody_store.specs.inside.Loading.{AddsRows, IsFormFault};
+ghost use Rattle.custody_store.specs.inside.Loading.{ReadsTable, IsFormFault};
 
 use crate::columns::{bytes_at, integer_at};
 use crate::faults::StoreFault;
 use crate::stored_rows::{Stored, load_rows};
-use custody_records::{NoticeColumns, Records, RowError};
+use custody_records::{NoticeColumns, RowError};
 use desk::{Notice, NoticeKind};
 use sqlite::{Alter, Connection, Row};
 use std::alloc::Global;
@@ -55,43 +54,34 @@ impl Stored for Notice {
 
     ghost Value = { specs.Notice };
 
-    ghost order = { notice_cmp };
-
     ghost answered = { answered_notice };
 
     ghost read = { notice_in };
 
-    ghost map_of = { λ records. records.notices };
+    ghost key_of = { notice_key };
 
-    ghost with_map = { λ records notices. record records { notices = notices } };
+    ghost value_of = { notice_value };
 
-    fn add_row(records: &mut Records, _alloc: Global, row: &Row) -> Result<(), RowError> {
+    fn of_row(_alloc: Global, row: &Row) -> Result<Notice, RowError> {
         match notice_columns(row).read() {
-            Some(notice) => records.try_add_notice(&notice),
+            Some(notice) => Ok(notice),
             None => Err(RowError::OutOfForm),
         }
     }
-
-    ghost kept = { λ _ _ _. refl };
-
-    ghost same = { λ _. refl };
 }
 
-/// Adds the records of notices, in the order in which they were recorded.
+/// The records of notices, in the order in which they were recorded.
 pub fn load_notices<S: Alter>(
     db: &mut Connection<S>,
-    records: &mut Records,
     alloc: Global,
-) -> Result<(), StoreFault>
-    ensures found { (store_state S.Store db.new).IsHonest → (store_state S.Store db.old).HasSchemaTablesFirst → AddsRows notice_in (store_state S.Store db.old).rows.notices (records_of records.old).notices (records_of records.new).notices result }
-    ensures others { OnOk result (records_of records.new ≡ record (records_of records.old) { notices = (records_of records.new).notices }) }
+) -> Result<Vec<Notice>, StoreFault>
+    ensures found { (store_state S.Store db.new).IsHonest → (store_state S.Store db.old).HasSchemaTablesFirst → ReadsTable notice_cmp notice_in notice_key notice_value (store_state S.Store db.old).rows.notices result }
     ensures reads { ChangesNothing (store_state S.Store db.old) (store_state S.Store db.new) result }
     ensures kind { IfErr result IsFormFault }
 {
     load_rows::<Notice, S>(
         db,
         "SELECT tld, number, kind, day, rev, id, at FROM notice ORDER BY rowid",
-        records,
         alloc,
     )
 }

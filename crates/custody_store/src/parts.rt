@@ -1,19 +1,18 @@
 //! The rows of parts.
-ghost use Rattle.std.specs.Prelude.{◌≡◌, refl, IfErr, OnOk};
+ghost use Rattle.std.specs.Prelude.{◌≡◌, IfErr};
 ghost use Rattle.custody_records.specs.Form.{part_in};
 ghost use Rattle.custody_records.specs.Keys.{PartKey, part_cmp};
 ghost use Rattle.custody_records.specs.Records.{PartRecord};
 ghost use Rattle.custody_records.specs.Rows.{PartRow};
-ghost use Rattle.custody_records.specs.TypedRecords.{part_row};
-ghost use Rattle.custody_records.specs.MemoryRecords.{records_of};
+ghost use Rattle.custody_records.specs.TypedRecords.{key_of_part, part_row, part_value};
 ghost use Rattle.custody_store.specs.Reading.{answered_part};
 ghost use Rattle.custody_store.specs.StoreState.{store_state, ChangesNothing};
-ghost use Rattle.custody_store.specs.inside.Loading.{AddsRows, IsFormFault};
+ghost use Rattle.custody_store.specs.inside.Loading.{ReadsTable, IsFormFault};
 
 use crate::columns::{bytes_at, bytes_or_null_at, integer_at};
 use crate::faults::StoreFault;
 use crate::stored_rows::{Stored, load_rows};
-use custody_records::{Part, PartColumns, Records, RowError};
+use custody_records::{Part, PartColumns, RowError};
 use sqlite::{Alter, Connection, Row};
 use std::alloc::Global;
 
@@ -41,41 +40,28 @@ impl Stored for Part {
 
     ghost Value = { PartRecord };
 
-    ghost order = { part_cmp };
-
     ghost answered = { answered_part };
 
     ghost read = { part_in };
 
-    ghost map_of = { λ records. records.parts };
+    ghost key_of = { key_of_part };
 
-    ghost with_map = { λ records parts. record records { parts = parts } };
+    ghost value_of = { part_value };
 
-    fn add_row(records: &mut Records, alloc: Global, row: &Row) -> Result<(), RowError> {
-        let part = part_columns(row).read(alloc)?;
-        records.try_add_part(part)
+    fn of_row(alloc: Global, row: &Row) -> Result<Part, RowError> {
+        part_columns(row).read(alloc)
     }
-
-    ghost kept = { λ _ _ _. refl };
-
-    ghost same = { λ _. refl };
 }
 
-/// Adds the records of the parts, in the order in which they were recorded.
-pub fn load_parts<S: Alter>(
-    db: &mut Connection<S>,
-    records: &mut Records,
-    alloc: Global,
-) -> Result<(), StoreFault>
-    ensures found { (store_state S.Store db.new).IsHonest → (store_state S.Store db.old).HasSchemaTablesFirst → AddsRows part_in (store_state S.Store db.old).rows.parts (records_of records.old).parts (records_of records.new).parts result }
-    ensures others { OnOk result (records_of records.new ≡ record (records_of records.old) { parts = (records_of records.new).parts }) }
+/// The records of parts, in the order in which they were recorded.
+pub fn load_parts<S: Alter>(db: &mut Connection<S>, alloc: Global) -> Result<Vec<Part>, StoreFault>
+    ensures found { (store_state S.Store db.new).IsHonest → (store_state S.Store db.old).HasSchemaTablesFirst → ReadsTable part_cmp part_in key_of_part part_value (store_state S.Store db.old).rows.parts result }
     ensures reads { ChangesNothing (store_state S.Store db.old) (store_state S.Store db.new) result }
     ensures kind { IfErr result IsFormFault }
 {
     load_rows::<Part, S>(
         db,
         "SELECT tld, day, rev, part, kind, received, keep_day, len, sha, extents FROM part ORDER BY rowid",
-        records,
         alloc,
     )
 }

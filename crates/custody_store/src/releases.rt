@@ -1,20 +1,19 @@
 //! The rows of releases.
-ghost use Rattle.std.specs.Prelude.{◌≡◌, ℕ, List, refl, IfErr, OnOk};
+ghost use Rattle.std.specs.Prelude.{◌≡◌, ℕ, List, IfErr};
 ghost use Rattle.custody_records.specs.Form.{release_in};
 ghost use Rattle.custody_records.specs.Keys.{text_cmp};
 ghost use Rattle.custody_records.specs.Records as specs;
 ghost use Rattle.custody_records.specs.Rows.{HandoverRow};
-ghost use Rattle.custody_records.specs.TypedRecords.{handover_row};
-ghost use Rattle.custody_records.specs.MemoryRecords.{records_of};
+ghost use Rattle.custody_records.specs.TypedRecords.{handover_row, release_key, release_value};
 ghost use Rattle.custody_store.specs.Reading.{answered_handover};
 ghost use Rattle.desk.specs.Grounds.{ground_text};
 ghost use Rattle.custody_store.specs.StoreState.{store_state, ChangesNothing};
-ghost use Rattle.custody_store.specs.inside.Loading.{AddsRows, IsFormFault};
+ghost use Rattle.custody_store.specs.inside.Loading.{ReadsTable, IsFormFault};
 
 use crate::columns::{bytes_at, integer_at};
 use crate::faults::StoreFault;
 use crate::stored_rows::{Stored, load_rows};
-use custody_records::{Records, Release, ReleaseColumns, RowError};
+use custody_records::{Release, ReleaseColumns, RowError};
 use desk::Ground;
 use sqlite::{Alter, Connection, Row};
 use std::alloc::Global;
@@ -45,41 +44,31 @@ impl Stored for Release {
 
     ghost Value = { specs.Release };
 
-    ghost order = { text_cmp };
-
     ghost answered = { answered_handover };
 
     ghost read = { release_in };
 
-    ghost map_of = { λ records. records.releases };
+    ghost key_of = { release_key };
 
-    ghost with_map = { λ records releases. record records { releases = releases } };
+    ghost value_of = { release_value };
 
-    fn add_row(records: &mut Records, alloc: Global, row: &Row) -> Result<(), RowError> {
-        let release = release_columns(row).read(alloc)?;
-        records.try_add_release(release)
+    fn of_row(alloc: Global, row: &Row) -> Result<Release, RowError> {
+        release_columns(row).read(alloc)
     }
-
-    ghost kept = { λ _ _ _. refl };
-
-    ghost same = { λ _. refl };
 }
 
-/// Adds the records of releases, in the order in which they were recorded.
+/// The records of releases, in the order in which they were recorded.
 pub fn load_releases<S: Alter>(
     db: &mut Connection<S>,
-    records: &mut Records,
     alloc: Global,
-) -> Result<(), StoreFault>
-    ensures found { (store_state S.Store db.new).IsHonest → (store_state S.Store db.old).HasSchemaTablesFirst → AddsRows release_in (store_state S.Store db.old).rows.handovers (records_of records.old).releases (records_of records.new).releases result }
-    ensures others { OnOk result (records_of records.new ≡ record (records_of records.old) { releases = (records_of records.new).releases }) }
+) -> Result<Vec<Release>, StoreFault>
+    ensures found { (store_state S.Store db.new).IsHonest → (store_state S.Store db.old).HasSchemaTablesFirst → ReadsTable text_cmp release_in release_key release_value (store_state S.Store db.old).rows.handovers result }
     ensures reads { ChangesNothing (store_state S.Store db.old) (store_state S.Store db.new) result }
     ensures kind { IfErr result IsFormFault }
 {
     load_rows::<Release, S>(
         db,
         "SELECT reference, tld, ground, at, names FROM handover ORDER BY rowid",
-        records,
         alloc,
     )
 }

@@ -14,4 +14,4 @@ pub returns-clause-found : goal.returns-clause-found
 returns-clause-found g c clean first there =
     let old = state g.S.Store c.args.db.now in
     let at = first.1 there in
-    loads select_hold_is (λ rows. rows.holds) stored_hold_row answered_hold old at refl at.ordered.1.1.1.1.1.0.0 (holds_first old.now.trees old.now.schema at.begins at.sound) refl _ _ _ _ _ _ (c.load_rows.ensures.gathered clean)
+    loads select_hold_is (λ rows. rows.holds) stored_hold_row answered_hold old at refl at.ordered.1.1.1.1.1.0.0 (holds_first old.now.trees old.now.schema at.begins at.sound) refl _ _ _ _ _ _ _ (c.load_rows.ensures.found clean)

@@ -12,4 +12,4 @@ load_rows-requires g c = query_never_returns _ _ (select_notice_is [] [] []).que
 pub returns-clause-found : goal.returns-clause-found
 returns-clause-found g c clean at =
     let old = state g.S.Store c.args.db.now in
-    loads select_notice_is (λ rows. rows.notices) stored_notice_row answered_notice old at.0 refl at.0.ordered.1.1.1.0.0 (field_in_both (λ rows. rows.notices) 5 stored_notice_row old at.0 refl) refl _ _ _ _ _ _ (c.load_rows.ensures.gathered clean)
+    loads select_notice_is (λ rows. rows.notices) stored_notice_row answered_notice old at.0 refl at.0.ordered.1.1.1.0.0 (field_in_both (λ rows. rows.notices) 5 stored_notice_row old at.0 refl) refl _ _ _ _ _ _ _ (c.load_rows.ensures.found clean)

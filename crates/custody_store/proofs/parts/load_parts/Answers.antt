@@ -12,4 +12,4 @@ load_rows-requires g c = query_never_returns _ _ (select_part_is [] [] []).query
 pub returns-clause-found : goal.returns-clause-found
 returns-clause-found g c clean at =
     let old = state g.S.Store c.args.db.now in
-    loads select_part_is (λ rows. rows.parts) stored_part_row answered_part old at.0 refl at.0.ordered.1.1.0.0 (field_in_both (λ rows. rows.parts) 3 stored_part_row old at.0 refl) refl _ _ _ _ _ _ (c.load_rows.ensures.gathered clean)
+    loads select_part_is (λ rows. rows.parts) stored_part_row answered_part old at.0 refl at.0.ordered.1.1.0.0 (field_in_both (λ rows. rows.parts) 3 stored_part_row old at.0 refl) refl _ _ _ _ _ _ _ (c.load_rows.ensures.found clean)

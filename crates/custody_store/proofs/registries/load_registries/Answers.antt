@@ -12,4 +12,4 @@ load_rows-requires g c = query_never_returns _ _ (select_registry_is [] [] []).q
 pub returns-clause-found : goal.returns-clause-found
 returns-clause-found g c clean at =
     let old = state g.S.Store c.args.db.now in
-    loads select_registry_is (λ rows. rows.registries) stored_registry_row answered_registry old at.0 refl at.0.ordered.1.0.0 (field_in_both (λ rows. rows.registries) 1 stored_registry_row old at.0 refl) refl _ _ _ _ _ _ (c.load_rows.ensures.gathered clean)
+    loads select_registry_is (λ rows. rows.registries) stored_registry_row answered_registry old at.0 refl at.0.ordered.1.0.0 (field_in_both (λ rows. rows.registries) 1 stored_registry_row old at.0 refl) refl _ _ _ _ _ _ _ (c.load_rows.ensures.found clean)
