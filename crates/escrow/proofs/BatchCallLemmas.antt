@@ -1,5 +1,5 @@
 -- A batch is calls of a custody.
-use Rattle.std.proofs.Common.{◌≡◌, ◌++◌, ◌∷◌, [], ℕ, max, List, Option, IfSome, Bool, true, false, inl, inr, refl}
+use Rattle.std.proofs.Common.{◌≡◌, ◌∷◌, [], ℕ, max, List, IfSome, Bool, true, false, inl, inr, refl}
 use Rattle.vault_volume.specs.declared.volume.Volume as volume
 use Rattle.sqlite.specs.Store.{Ghosts}
 use Rattle.clap.specs.Words.{Text}
@@ -8,11 +8,10 @@ use Rattle.custody.specs.OpenCustody.{current_records}
 use Rattle.custody.specs.Custody.{is_open, open_custody_of}
 use Rattle.answer_lines.specs.Printing.{Writer}
 use Rattle.agent_cli.specs.declared.order.Order.{Order}
-use Rattle.theorems.specs.CustodyCalls.{CustodyCall}
 use Rattle.theorems.specs.Deeds.{AreDeedCalls, HasMadeCalls}
 use Rattle.theorems.proofs.DeedLemmas.{calls_join, deeds_are_calls, honest_before, no_calls}
 use Rattle.theorems.proofs.HonestLemmas.{IsHonestIn}
-use Rattle.escrow.specs.Batch.{AreAny, HasDoneOrder, IsBatch, LineAsksFor}
+use Rattle.escrow.specs.Batch.{AreAny, HasDoneOrder, IsBatch}
 use Rattle.escrow.specs.BatchCalls.{AreBatchCalls, AreOrderCalls, BatchesAreCalls}
 
 no_batch : (folder : Text) (lines : List (List ℕ)) → AreBatchCalls folder lines []

@@ -95,6 +95,18 @@ module _ (g : volume.Ghosts FileVolume) (output errors : Writer) where
   abbrev pub HasActed : Order → List ℕ → FolderCallEnd → Type 0
   HasActed order bytes = IsOverFolder (λ S database volume db status has_vault later then. ActsInFolder g database volume db status has_vault later then output errors order bytes) order
 
+  -- an agent was begun over a folder
+  abbrev pub HasBegunInFolder : Order → (blocks number : ℕ) → FolderCallEnd → Type 0
+  HasBegunInFolder order blocks number = IsOverFolder (λ S database volume db status has_vault later then. InitsFolder g database volume db status has_vault later then output errors blocks number) order
+
+  -- the orders of lines were done over a folder
+  abbrev pub HasBatchedInFolder : Order → (lines : Option (List ℕ)) → FolderCallEnd → Type 0
+  HasBatchedInFolder order lines = IsOverFolder (λ S database volume db status has_vault later then. BatchesFolder g database volume db status has_vault later then output errors order.folder.now lines) order
+
+  -- connections were answered over a folder
+  abbrev pub HasServedInFolder : Order → (port requests : ℕ) → (until_closed : Bool) → FolderCallEnd → Type 0
+  HasServedInFolder order port requests until_closed = IsOverFolder (λ S database volume db status has_vault later then. ServesFolder g database volume db status has_vault later then output errors port requests until_closed order.now) order
+
   -- an order was done over a folder
   abbrev pub HasEnded : (List ℕ → Type 0) → (lines : Option (List ℕ)) → Order → FolderCallEnd → Type 0
   HasEnded IsRead lines order = IsOverFolder (λ S database volume db status has_vault later then. IsOrderDone g database volume db status has_vault later then output errors IsRead lines order) order

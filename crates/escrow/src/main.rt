@@ -9,7 +9,7 @@ ghost use Rattle.agent_cli.specs.Faults.{IsStatusOf};
 ghost use Rattle.agent_cli.specs.declared.order.Order.{Order};
 ghost use Rattle.escrow.specs.Calls.{AskFor, EndsCall, IsObeyed};
 ghost use Rattle.escrow.specs.Errors.{IsProgramFailure, IsErrorPrinted, error_line};
-ghost use Rattle.escrow.specs.Folder.{HasActed, HasEnded, IsPartRead};
+ghost use Rattle.escrow.specs.Folder.{HasActed, HasBatchedInFolder, HasBegunInFolder, HasEnded, HasServedInFolder, IsPartRead};
 
 mod batch;
 mod clock;
@@ -23,6 +23,7 @@ mod terminal;
 mod vault_calls;
 
 use agent_cli::{Deed, Order, WordFault, order_of};
+use answer_lines::VolumeNumber;
 use custody_machine::{ExitStatus, Failure};
 use errors::{ProgramError, tell_error};
 use files::{
@@ -85,6 +86,58 @@ fn act_in_folder<W: Write, E: Write>(
     Ok(FolderCallEnd::Open(ended))
 }
 
+/// Makes the files of a folder, and begins a vault over them.
+fn begin_in_folder<W: Write, E: Write>(
+    rt: &HostRuntime,
+    order: &Order<'_>,
+    blocks: u32,
+    number: VolumeNumber,
+    out: &mut W,
+    err: &mut E,
+) -> Result<FolderCallEnd, ProgramError>
+    ensures done { IfOk result (HasBegunInFolder ⟦<FileVolume as Volume>⟧ (record { before = W.contents out.old; after = W.contents out.new }) (record { before = E.contents err.old; after = E.contents err.new }) order.entry.now blocks number) }
+    ensures error { IfErr result IsProgramFailure }
+{
+    let made = create_folder(rt, order.folder, blocks)?;
+    let files = (made.volume, made.db);
+    Ok(FolderCallEnd::Open(init_vault(rt.alloc(), files, blocks, number, out, err)))
+}
+
+/// Does the orders of lines on the vault of a folder.
+fn batch_in_folder<L: Read + Drop, W: Write, E: Write>(
+    rt: &HostRuntime,
+    order: &Order<'_>,
+    lines: L,
+    out: &mut W,
+    err: &mut E,
+) -> Result<FolderCallEnd, ProgramError>
+    ensures done { IfOk result (HasBatchedInFolder ⟦<FileVolume as Volume>⟧ (record { before = W.contents out.old; after = W.contents out.new }) (record { before = E.contents err.old; after = E.contents err.new }) order.entry.now (L.remaining lines)) }
+    ensures error { IfErr result IsProgramFailure }
+{
+    let found = open_folder(rt, order.folder)?;
+    let files = (found.volume, found.db);
+    Ok(FolderCallEnd::Open(batch(rt, files, order.folder, lines, out, err)))
+}
+
+/// Answers connections over the vault of a folder.
+fn serve_in_folder<W: Write, E: Write>(
+    rt: &HostRuntime,
+    order: &Order<'_>,
+    port: u16,
+    requests: u32,
+    until_closed: bool,
+    out: &mut W,
+    err: &mut E,
+) -> Result<FolderCallEnd, ProgramError>
+    ensures done { IfOk result (HasServedInFolder ⟦<FileVolume as Volume>⟧ (record { before = W.contents out.old; after = W.contents out.new }) (record { before = E.contents err.old; after = E.contents err.new }) order.entry.now port requests until_closed) }
+    ensures error { IfErr result IsProgramFailure }
+{
+    let found = open_folder(rt, order.folder)?;
+    let files = (found.volume, found.db);
+    let now = order.now;
+    Ok(FolderCallEnd::Open(serve(rt, files, port, requests, until_closed, now, out, err)))
+}
+
 /// Carries out an order over the files of its folder, which are to be closed then. `part` is the file that
 /// a `put` names, and `lines` are those of a batch.
 fn carry_out<R: Read + Drop, L: Read + Drop, W: Write, E: Write>(
@@ -99,38 +152,17 @@ fn carry_out<R: Read + Drop, L: Read + Drop, W: Write, E: Write>(
     ensures error { IfErr result IsProgramFailure }
 {
     match order.deed {
-        Deed::Init { blocks, number } => {
-            let made = create_folder(rt, order.folder, blocks)?;
-            let files = (made.volume, made.db);
-            Ok(FolderCallEnd::Open(init_vault(rt.alloc(), files, blocks, number, out, err)))
-        }
+        Deed::Init { blocks, number } => begin_in_folder(rt, order, blocks, number, out, err),
         Deed::Put { file } => {
             let bytes = read_part(rt.alloc(), file, part)?;
             act_in_folder(rt, order, &bytes, out, err)
         }
-        Deed::Batch => {
-            let found = open_folder(rt, order.folder)?;
-            let files = (found.volume, found.db);
-            Ok(FolderCallEnd::Open(batch(rt, files, order.folder, lines, out, err)))
-        }
+        Deed::Batch => batch_in_folder(rt, order, lines, out, err),
         Deed::Serve {
             port,
             requests,
             until_closed,
-        } => {
-            let found = open_folder(rt, order.folder)?;
-            let files = (found.volume, found.db);
-            Ok(FolderCallEnd::Open(serve(
-                rt,
-                files,
-                port,
-                requests,
-                until_closed,
-                order.now,
-                out,
-                err,
-            )))
-        }
+        } => serve_in_folder(rt, order, port, requests, until_closed, out, err),
         Deed::Preview(_)
         | Deed::Do(_)
         | Deed::Due
