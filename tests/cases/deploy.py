@@ -159,7 +159,7 @@ $ {DEPLOY}/sweep {words} -> !2 sweep: {what}: see sweep --help""" for words, wha
 # Each file that is installed, its mode, and where it is in the repository.
 FILES = {
     "usr/local/bin/escrow": ("755", ""),
-    **{f"usr/local/lib/escrow/{it}": ("755", f"deploy/{it}") for it in ("backup", "check-health", "sweep")},
+    **{f"usr/local/lib/escrow/{it}": ("755", f"deploy/{it}") for it in ("backup", "check-health", "check-start", "sweep")},
     "usr/local/share/man/man1/escrow.1": ("644", "docs/escrow.1"),
     "usr/share/bash-completion/completions/escrow": ("644", "docs/escrow.bash"),
     "usr/local/share/escrow/damage.sql": ("644", "docs/damage.sql"),
@@ -225,7 +225,7 @@ def an_installation_says_what_is_missing(room: Room) -> None:
         ! install: no flock, which the units and scripts need""")
 
 
-@each(((f"{it} has help", it) for it in ("install", "sweep")))
+@each(((f"{it} has help", it) for it in ("check-start", "install", "sweep")))
 def a_script_has_help(room: Room, script: str) -> None:
     done = room.run(f"{DEPLOY}/{script} --help")
     room.equal((0, b""), (done.status, done.err), script)
@@ -380,14 +380,14 @@ def the_units_ask_no_proxy_of_systemd_s_environment(room: Room) -> None:
 
 
 @case(f"{TOOLS} curl")
-def a_service_that_does_not_start_says_why_and_nothing_else(room: Room) -> None:
+def a_service_that_does_not_start_says_why(room: Room) -> None:
     with serving(room) as on:
         on.plays("""
             $ systemctl stop escrow@archive; truncate -s 8192 /var/lib/escrow/archive/vault.vol
             $ systemctl start escrow@archive 2> said -> !1
             $ systemctl stop escrow@archive
             $ journalctl -qo cat -t escrow | tail -n 1 -> C5 damaged H2
-            $ journalctl -qo cat -t sh""")
+            $ journalctl -qo cat -t check-start | uniq -> check-start: the service has ended""")
 
 
 @case(f"{TOOLS} curl")
