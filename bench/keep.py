@@ -92,6 +92,10 @@ def today():
 # ---- tables
 
 
+# A Markdown table.
+TABLE = r"(?:^\|.*\n)+"
+
+
 def rows_of(table):
     """The cells of a Markdown table, row by row."""
     lines = [line.strip().removeprefix("|").removesuffix("|").replace("`", "") for line in table.splitlines()]
@@ -129,7 +133,7 @@ def output(*words):
 def bench(name):
     """The tables that a bench prints."""
     text, _ = output(sys.executable, TOP / "bench" / f"{name}.py")
-    tables = re.findall(r"(?:^\|.*\n)+", text, re.MULTILINE)
+    tables = re.findall(TABLE, text, re.MULTILINE)
     if not tables:
         raise NotMeasured(f"it prints no table\n{text[-500:]}")
     return list(map(rows_of, tables))
@@ -195,8 +199,8 @@ def minutes(clock):
     return int(whole) + int(seconds) / 60
 
 
-# The minutes of the processor from which on a crate's proof is a row of its own.
-SHOWN = 5
+# The minutes from which on a crate's proof is a row of its own, and a step of the gate.
+SHOWN, SHOWN_STEP = 5, 1
 
 
 def prove(log):
@@ -217,14 +221,20 @@ def prove(log):
 
 
 def gate(log):
-    """Keeps the time of the gate, from a log of `.ci/run`."""
+    """Keeps the minutes of the longest steps and proofs of the gate, from a log of `.ci/run`."""
     text = log.read_text(errors="replace")
-    form = r"^(\d+) minutes by the clock; of the processor:\n\S+ \S+\n(\d+)m[\d.]+s (\d+)m[\d.]+s\s*\Z"
-    found = re.search(form, text, re.MULTILINE)
-    if not found or re.search("^FAILED: ", text, re.MULTILINE):
+    tables = re.findall(TABLE, text, re.MULTILINE)[-2:]
+    if len(tables) < 2 or not re.search(r"^[1-9]\d* passed, 0 failed, 0 skipped\s*\Z", text, re.MULTILINE):
         raise NotMeasured(f"{log} does not end with a gate that has passed")
-    first = heading(datetime.date.fromtimestamp(log.stat().st_mtime), "the whole gate")
-    keep("gate", first, [("minutes by the clock", "of the processor"), (found[1], str(int(found[2]) + int(found[3])))])
+    ok = r"^rt: ok;.* must-fail edits: (\d+) refused.*; every proof and must-fail edit was done"
+    edits = re.search(ok, text, re.MULTILINE)
+    if not edits:
+        raise NotMeasured(f"{log} is of a gate that began with proofs of earlier runs")
+    (heads, *steps), (others, *crates) = map(rows_of, tables)
+    steps = [it for it in steps if float(it[1]) >= SHOWN_STEP or it[0] == "all"]
+    crates = [it[:3] for it in crates if float(it[2]) >= SHOWN]
+    first = heading(datetime.date.fromtimestamp(log.stat().st_mtime), f"the whole gate, of {edits[1]} edits")
+    keep("gate", first, [heads, *steps], [others[:3], *crates])
 
 
 # ---- the call

@@ -79,11 +79,11 @@ def main() -> int:
     words.add_argument("--lanes", type=int, default=2 * (os.cpu_count() or 1))
     asked = words.parse_args()
     cases = named(asked.names)
+    if asked.install:
+        install()
     if asked.list:
         print(*(it.name for it in cases), sep="\n")
         return 0
-    if asked.install:
-        install()
     lib.built(lib.PACKER)
     program, began, checks, failed, skipped = lib.built(asked.program), time.monotonic(), 0, 0, 0
     with concurrent.futures.ThreadPoolExecutor(asked.lanes) as pool:

@@ -1,0 +1,72 @@
+"""The gate over stubs of `rt` and of the scripts: what begins, what fails, and what a stop ends."""
+import os
+import re
+import shlex
+import shutil
+import signal
+import subprocess
+import time
+from collections.abc import Callable
+from pathlib import Path
+
+from gate import SCRIPTS
+from lib import LIMIT, TOP, Room, case, each
+
+CRATES = ("deposit", "bench_tools", "escrow", "agent_script")
+
+
+def stub(room: Room, name: str, text: str) -> None:
+    room.file(name, f"#!/bin/sh\n{text}\n").chmod(0o755)
+
+
+def prepare(room: Room, rt: str, broken: str = "") -> None:
+    """Makes a repository of the gate and stubs. The script `broken` fails."""
+    for it in ("tests/gate.py", "tests/blocks.py", "tests/lib.py", "crates.txt"):
+        shutil.copy(TOP / it, room.file(it, ""))
+    stub(room, "rt", rt)
+    for name in {shlex.split(it.command)[0] for it in SCRIPTS}:
+        stub(room, name, "exit 1" if name == broken else "echo it ran")
+
+
+def commands(*crates: str) -> list[str]:
+    """The commands of the scripts that run the programs of these crates."""
+    return [it.command for it in SCRIPTS if set(crates) & set(it.needs.split())]
+
+
+def comes(holds: Callable[[], bool]) -> bool:
+    """Whether something holds before long."""
+    end = time.monotonic() + LIMIT
+    while not holds() and time.monotonic() < end:
+        time.sleep(0.05)
+    return holds()
+
+
+@each([
+    ("passes", "", "", []),
+    ("fails with a script", "", "tests/power.py", ["tests/power.py"]),
+    ("fails with each script whose program is not there", "agent_script", "", ["rt ci", *commands("agent_script")]),
+    ("fails with a crate below", "escrow agent_script", "", ["rt ci", *commands("escrow", "agent_script")]),
+], seconds=10)
+def the_gate(room: Room, lost: str, broken: str, failed: list[str]) -> None:
+    says = [f"echo 'rt: {it} {'NOT PROVED' if it in lost.split() else 'proved'}'" for it in CRATES]
+    prepare(room, "\n".join([*says, f"exit {len(lost.split())}"]), broken)
+    for how in ("", " --beside"):
+        done = room.run(f"PATH=$PWD:$PATH python3 tests/gate.py{how}")
+        said = done.out.decode()
+        room.equal(failed, re.findall(r"^FAILED: ([^:]*):", said, re.MULTILINE), f"what failed in\n{said}")
+        room.equal(bool(failed), bool(done.status), "the status")
+        room.true(f"\n{len(SCRIPTS) + 1 - len(failed)} passed, {len(failed)} failed, 0 skipped\n" in said, said)
+        room.equal(len(SCRIPTS) - len({*failed} - {"rt ci"}), said.count("\nit ran\n"), f"the scripts that ran in\n{said}")
+
+
+@case(seconds=2)
+def the_gate_ends_what_it_began(room: Room) -> None:
+    prepare(room, "sleep 1000 & echo $! > began; setsid sleep 1000 & echo $! >> began; echo > whole; wait")
+    path = f"{room.folder}:{os.environ['PATH']}"
+    how = {"cwd": room.folder, "env": os.environ | {"PATH": path}, "stdout": subprocess.DEVNULL}
+    gate = subprocess.Popen(["python3", "tests/gate.py"], **how)
+    room.true(comes(lambda: (room.folder / "whole").exists()), "`rt ci` does not begin")
+    gate.send_signal(signal.SIGTERM)
+    room.equal(128 + signal.SIGTERM, gate.wait(LIMIT), "the status")
+    began = (room.folder / "began").read_text().split()
+    room.true(comes(lambda: not any(Path(f"/proc/{it}").exists() for it in began)), "what it began still runs")
