@@ -10,15 +10,13 @@ Each number is the least of several.
 """
 import datetime
 import hashlib
-import os
 import pathlib
-import shutil
 import sqlite3
 import subprocess
 import tempfile
 import time
 
-from vaults import number, program, seconds
+from vaults import copied, number, program, seconds
 
 FIRST_DAY = datetime.date(2000, 1, 1)
 RECEIVED = datetime.date(2400, 1, 1)
@@ -63,16 +61,6 @@ def call(*words):
     taken = time.perf_counter() - start
     assert done.returncode == 0, (words, done.stderr)
     return (taken, int(done.stderr) / 1024), done.stdout
-
-
-def copied(folder):
-    """A copy of a vault: its records, and the same volume, which neither a release nor a fetch writes."""
-    copy = folder.with_name("copy")
-    shutil.rmtree(copy, ignore_errors=True)
-    copy.mkdir()
-    shutil.copy(folder / "custody.db", copy)
-    os.link(folder / "vault.vol", copy / "vault.vol")
-    return copy
 
 
 def opening(escrow, folder):

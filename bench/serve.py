@@ -91,8 +91,8 @@ def part_name(i):
     return f"example_{FIRST_DAY + datetime.timedelta(days=i)}_full_S1_R0.ryde"
 
 
-def put_request(i, content):
-    head = f"PUT /deposits/{part_name(i)} HTTP/1.1\r\nHost: 127.0.0.1\r\nContent-Length: {len(content)}\r\n\r\n"
+def put_request(name, content):
+    head = f"PUT /deposits/{name} HTTP/1.1\r\nHost: 127.0.0.1\r\nContent-Length: {len(content)}\r\n\r\n"
     return head.encode() + content
 
 
@@ -199,7 +199,7 @@ def times_of_puts(escrow, top, content):
     buffer, taken = new_buffer(), ([], [], [])
     with serving(escrow, folders[0], PUTS) as (port, _):
         for i in range(PUTS):
-            taken[0].append(answered(port, put_request(i, content), buffer, 201))
+            taken[0].append(answered(port, put_request(part_name(i), content), buffer, 201))
             taken[1].append(plain.put(i, content))
             taken[2].append(digested.put(i, content))
     plain.close()
@@ -240,7 +240,7 @@ def traced(escrow, folder, content, count, *words):
     told = folder / "told"
     buffer = new_buffer()
     with serving(escrow, folder, count, "strace", "-f", "-c", "-w", "-o", told, *words) as (port, _):
-        taken = sum(answered(port, put_request(i, content), buffer, 201) for i in range(count))
+        taken = sum(answered(port, put_request(part_name(i), content), buffer, 201) for i in range(count))
     rows = re.findall(r"^ *[\d.]+ +([\d.]+) +\d+ +(\d+) +(?:\d+ +)?(\w+)$", told.read_text(), re.MULTILINE)
     return {name: (int(calls), float(total)) for total, calls, name in rows if name != "total"}, taken
 
@@ -280,7 +280,7 @@ def times_of_gets(escrow, top):
     part = get_request(f"/releases/R-1/{part_name(0)}")
     file = get_request(f"/{part_name(0)}")
     with serving(escrow, vault, GETS + 2) as (port, _), nginx(files) as other:
-        answered(port, put_request(0, content), buffer, 201)
+        answered(port, put_request(part_name(0), content), buffer, 201)
         answered(port, release, buffer, 201)
         for _ in range(GETS):
             taken[0].append(answered(port, part, buffer, 200, content))
@@ -313,7 +313,7 @@ def peaks(escrow, vault, content):
         answered(port, SMALL, buffer, 200)
         idle, added = peak_kib(process), []
         for i in range(PARTS[-1]):
-            answered(port, put_request(i, content), buffer, 201)
+            answered(port, put_request(part_name(i), content), buffer, 201)
             if i + 1 in PARTS:
                 added.append(peak_kib(process) - idle)
         answered(port, SMALL, buffer, 200)

@@ -1,72 +1,75 @@
 #!/usr/bin/env python3
-"""Times a sweep of many registries, and a second sweep, which finds nothing.
+"""Times a sweep of many registries that missed ten days, with and without a year of parts and receipts before; and a second
+sweep, which finds nothing: it opens the vault and looks at each day.
 
     bench/sweep.py [PROGRAM]
 
-It takes some minutes. It needs the program that `rt run` builds in crates/escrow.
+It takes about two minutes. It needs the program that `rt run` builds in crates/escrow.
+
+A sweep without the second is the work for the absences. It is compared with as many rows that sqlite3 commits one by one.
+What is compared is done by turns, and each number is the least of several.
 """
 import datetime
 import pathlib
+import shutil
 import sqlite3
 import tempfile
 import time
 
-from vaults import number, program, seconds
+from vaults import FIRST_DAY, YEAR, copied, lived_vault, part_rows, program, receipt_rows, seconds
 
-FIRST_DAY = datetime.date(2026, 8, 1)
-DAYS = 10
-SIZES = (1_000, 2_000, 4_000)
-
-
-def new_vault(escrow, folder, count):
-    """A vault of so many registries. Their rows are written by sqlite3."""
-    folder.mkdir()
-    seconds(escrow, "init", folder, "--blocks", "8", "--number", "0000000000000001")
-    db = sqlite3.connect(folder / "custody.db")
-    first = number(FIRST_DAY)
-    db.executemany("INSERT INTO registry VALUES (?, ?)", ((f"r{i:05}", first) for i in range(count)))
-    db.commit()
-    db.close()
+MISSED = 10
+# Registries, and days that they sent their deposits.
+SIZES = ((50, 0), (500, 0), (500, YEAR))
+RUNS = 3
 
 
-def sweep(escrow, folder):
-    """How long a sweep takes, and how many notices it prints."""
-    moment = FIRST_DAY + datetime.timedelta(days=DAYS)
-    taken, out = seconds(escrow, "sweep", folder, "--now", f"{moment.isoformat()}T00:00:00Z")
+def sweep(escrow, vault, days):
+    """How long a sweep takes at the end of so many days, and how many notices it prints."""
+    moment = FIRST_DAY + datetime.timedelta(days)
+    taken, out = seconds(escrow, "sweep", vault, "--now", f"{moment}T00:00:00Z")
     return taken, out.count(b"\n")
 
 
-def inserts(path, count):
+def inserts(path, registries):
     """How long as many notices take, each committed by itself, by the sqlite3 of this machine."""
     start = time.perf_counter()
     db = sqlite3.connect(path, isolation_level=None)
     db.execute("PRAGMA journal_mode = WAL")
     db.execute("PRAGMA synchronous = FULL")
     db.execute("CREATE TABLE notice (tld TEXT, number INTEGER, day INTEGER, at INTEGER, PRIMARY KEY (tld, number)) STRICT")
-    for i in range(count):
-        for day in range(DAYS):
-            db.execute("INSERT INTO notice VALUES (?, ?, ?, ?)", (f"r{i:05}", day + 1, day, 0))
+    for i in range(registries):
+        for day in range(MISSED):
+            db.execute("INSERT INTO notice VALUES (?, ?, ?, ?)", (f"r{i:03}", day + 1, day, 0))
     db.close()
     return time.perf_counter() - start
 
 
+def measured(escrow, vault, registries, days):
+    """The seconds of a sweep of a copy of the vault, of a second one, and of the inserts."""
+    copy = copied(vault)
+    taken, lines = sweep(escrow, copy, days + MISSED)
+    assert lines == registries * MISSED, lines
+    again, lines = sweep(escrow, copy, days + MISSED)
+    assert lines == 0, lines
+    database = vault.with_name("plain.db")
+    plain = inserts(database, registries)
+    database.unlink()
+    return taken, again, plain
+
+
 def main():
     escrow = program(__doc__)
-    print("| registries | `sweep` (×) | `sweep` / inserts | second / first |")
-    print("|---|---|---|---|")
-    least = None
+    print("| registries | receipts before | absences | `sweep` | second | without the second / inserts |")
+    print("|---|---|---|---|---|---|")
     with tempfile.TemporaryDirectory(dir=".") as name:
-        top = pathlib.Path(name).resolve()
-        for count in SIZES:
-            folder = top / f"v{count}"
-            new_vault(escrow, folder, count)
-            taken, lines = sweep(escrow, folder)
-            assert lines == count * DAYS, lines
-            again, lines = sweep(escrow, folder)
-            assert lines == 0, lines
-            plain = inserts(top / f"plain{count}.db", count)
-            least = least or taken
-            print(f"| {count:,} | {taken / least:.1f} | {taken / plain:.1f} | {again / taken:.1%} |", flush=True)
+        vault = pathlib.Path(name).resolve() / "vault"
+        for registries, days in SIZES:
+            lived_vault(escrow, vault, registries, part=part_rows(registries, days), notice=receipt_rows(registries, days))
+            taken, again, plain = map(min, zip(*(measured(escrow, vault, registries, days) for _ in range(RUNS))))
+            shutil.rmtree(vault)
+            counts = f"{registries} | {registries * days:,} | {registries * MISSED:,}"
+            print(f"| {counts} | {taken:.2f} s | {again:.2f} s | {(taken - again) / plain:.1f} |", flush=True)
 
 
 if __name__ == "__main__":
