@@ -104,7 +104,7 @@ impl Plain {
         !self.is_beside
             || are_registries(records, &self.state.registries)
                 && are_parts(records, &self.state.parts)
-                && records.notices() == self.state.notices.rows()
+                && records.notices().eq(self.state.notices.rows())
                 && are_releases(records, &self.state.releases)
                 && records.holds() == self.state.holds.rows()
     }
@@ -215,7 +215,8 @@ fn has_release(records: &Records, plain: &Release) -> bool {
 }
 
 fn are_parts(records: &Records, kept: &[PlainPart]) -> bool {
-    records.parts().len() == kept.len() && kept.iter().all(|part| has_part(records, part))
+    records.parts().take(kept.len() + 1).count() == kept.len()
+        && kept.iter().all(|part| has_part(records, part))
 }
 
 fn has_part(records: &Records, plain: &PlainPart) -> bool {

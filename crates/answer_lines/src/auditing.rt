@@ -1,9 +1,8 @@
 //! What an audit has found, as it is printed. What a writer took before it failed is a beginning of it.
-ghost use Rattle.std.specs.Prelude.{◌≡◌, OnOk, count_by, is_some, map};
+ghost use Rattle.std.specs.Prelude.{◌≡◌, IfSome, OnOk, map};
 ghost use Rattle.std.specs.Io.KnownBytes.{Appends};
 ghost use Rattle.desk.specs.Lines.{AppendsBeginning};
 ghost use Rattle.custody_records.specs.MemoryRecords.{records_of};
-ghost use Rattle.custody_records.specs.declared.parts.Part.{Part};
 ghost use Rattle.custody_machine.specs.Codes.{exit_number};
 ghost use Rattle.answer_lines.specs.Auditing.{audit_status, audit_text, count_held_parts};
 ghost use Rattle.answer_lines.specs.State.{lines_text};
@@ -12,7 +11,7 @@ ghost use Rattle.answer_lines.specs.declared.lines.Line.TheVariants.{Damaged};
 use crate::writing::{flush, write_line};
 use crate::{Line, WriteFailed};
 use custody_machine::ExitStatus;
-use custody_records::{Part, Records};
+use custody_records::Records;
 use deposit_name::DepositName;
 use std::io::Write;
 
@@ -39,10 +38,8 @@ fn write_audit_lines<W: Write>(
     ensures begun { AppendsBeginning (W.contents out.old) (W.contents out.new) (audit_text damaged.now (records_of records.now)) }
 {
     if damaged.is_empty() {
-        let line = Line::Sound {
-            count: count_held_parts(records),
-        };
-        return write_line(&line, out);
+        let count = count_held_parts(records).ok_or(WriteFailed)?;
+        return write_line(&Line::Sound { count }, out);
     }
     write_damaged(damaged, out)
 }
@@ -69,15 +66,15 @@ fn write_damaged<W: Write>(damaged: &[DepositName], out: &mut W) -> Result<(), W
     Ok(())
 }
 
-/// How many parts are held.
-fn count_held_parts(records: &Records) -> usize
-    ensures { result ≡ count_held_parts (records_of records.now) }
+/// How many parts are held; none where that is no `usize`.
+fn count_held_parts(records: &Records) -> Option<usize>
+    ensures { IfSome result (λ count. count ≡ count_held_parts (records_of records.now)) }
 {
-    count_held_in(records.parts())
-}
-
-fn count_held_in(parts: &[Part]) -> usize
-    ensures { result ≡ count_by (λ (part : Part). is_some part.extents) parts.now }
-{
-    parts.iter().filter(|part| part.extents.is_some()).count()
+    let mut count: usize = 0;
+    for part in records.parts() {
+        if part.extents.is_some() {
+            count = count.checked_add(1)?;
+        }
+    }
+    Some(count)
 }

@@ -1,10 +1,10 @@
 -- Parts that are looked at one after the other, and the names of those that are picked.
-use Rattle.std.proofs.Common.{◌≡◌, ◌⊎◌, inl, inr, ℕ, zero, suc, ◌+◌, ◌<◌, List, [], ◌∷◌, ◌++◌, length, take, get_or, Contains, Option, Some, None, Bool, true, false, ◌&&◌, refl, sym, ◌∙◌, ap, subst, arith}
+use Rattle.std.proofs.Common.{◌≡◌, ◌⊎◌, inl, inr, ℕ, zero, suc, ◌<◌, List, [], ◌∷◌, ◌++◌, length, map, get_or, Bor, Contains, Option, Some, None, Bool, true, false, ◌&&◌, refl, sym, ◌∙◌, ap, subst, arith}
 use Rattle.std.specs.Prelude.{IsSome}
 use Rattle.std.specs.FinMap.{get}
 use Rattle.std.specs.Ordering.{is_lt}
 use Rattle.std.proofs.lemmas.Bool.{and_parts}
-use Rattle.std.proofs.lemmas.List.{take_more}
+use Rattle.std.proofs.lemmas.List.{map-append}
 use Rattle.std.proofs.lemmas.Slice.Eq.{bytes_eq-Decides}
 use Rattle.deposit_name.specs.Name.{Name}
 use Rattle.extent_map.specs.declared.extent.Extent.{Extent}
@@ -40,15 +40,15 @@ module _ (P Q : Part → Type 0) where
   picked (first ∷ rows) names row p (inr h) = inr (h.0 ++ row.name ∷ [], ap (λ l. l ++ row.name ∷ []) h.1, h.2, picked rows h.0 row p h.3)
 
   -- one row more is looked at
-  module _ (rows : List Part) (i : ℕ) (row : Part) (low : i < length rows) (is : row ≡ get_or rows i row) (names : List Name) where
-    one_more : take (i + 1) rows ≡ take i rows ++ row ∷ []
-    one_more = take_more rows i row low ∙ ap (λ r. take i rows ++ r ∷ []) (sym is)
+  module _ (seen : List (Bor Part)) (part : Bor Part) (names : List Name) where
+    one_more : map (λ p. p.now) (seen ++ part ∷ []) ≡ map (λ p. p.now) seen ++ part.now ∷ []
+    one_more = map-append (λ (p : Bor Part). p.now) seen (part ∷ [])
 
-    pub passed_on : Q row → IsPicked (take i rows) names → IsPicked (take (i + 1) rows) names
-    passed_on q h = subst (λ l. IsPicked l names) (sym one_more) (passed (take i rows) names row q h)
+    pub passed_on : Q part.now → IsPicked (map (λ p. p.now) seen) names → IsPicked (map (λ p. p.now) (seen ++ part ∷ [])) names
+    passed_on q h = subst (λ l. IsPicked l names) (sym one_more) (passed (map (λ p. p.now) seen) names part.now q h)
 
-    pub picked_on : P row → IsPicked (take i rows) names → IsPicked (take (i + 1) rows) (names ++ row.name ∷ [])
-    picked_on p h = subst (λ l. IsPicked l (names ++ row.name ∷ [])) (sym one_more) (picked (take i rows) names row p h)
+    pub picked_on : P part.now → IsPicked (map (λ p. p.now) seen) names → IsPicked (map (λ p. p.now) (seen ++ part ∷ [])) (names ++ part.now.name ∷ [])
+    picked_on p h = subst (λ l. IsPicked l (names ++ part.now.name ∷ [])) (sym one_more) (picked (map (λ p. p.now) seen) names part.now p h)
 
   -- they are in the order of the rows
   below : (low : PartKey) (rows : List Part) (names : List Name) → is_below_all part_cmp key_of_part low rows ≡ true → IsPicked rows names → is_below_all part_cmp key_of low names ≡ true

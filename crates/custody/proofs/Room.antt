@@ -13,10 +13,14 @@ use Rattle.vault_volume.specs.Vault.{volume_of, IsFree}
 use Rattle.vault_volume.specs.declared.volume.Volume as volume
 use Rattle.vault_volume.proofs.FreeLemmas.{counted_in}
 use Rattle.custody_records.specs.declared.parts.Part.{Part}
+use Rattle.custody_records.specs.declared.records.Records as held
 use Rattle.custody_records.specs.Keys.{PartKey, part_cmp}
 use Rattle.custody_records.specs.Records.{PartRecord, Records, key_of}
+use Rattle.custody_records.specs.RegistryRows.{all_rows}
 use Rattle.custody_records.specs.Tables.{row_entries, is_rising, table_map}
 use Rattle.custody_records.specs.TypedRecords.{key_of_part, part_value}
+use Rattle.custody_records.specs.inside.Orders.{part_by_registry, part_exact, part_total}
+use Rattle.custody_records.proofs.RegistryLemmas.{flat_rising}
 use Rattle.custody_records.proofs.TableLemmas.{entries-table_map}
 use Rattle.custody_machine.specs.Machine.{Command, Receive}
 use Rattle.custody_machine.specs.StoredState.{ForExtents, AreExtents, AreWhole}
@@ -61,6 +65,11 @@ blocks_of_rows blocks (row ∷ rows) each =
     ∙ ap (λ n. n + blocks_of (extents_of_all rows)) (blocks_of_row blocks row.len (part_value row).extents (All-head (IsInRange blocks) row rows each))
     ∙ ap (λ n. blocks_of_part row + n) (blocks_of_rows blocks rows (All-tail (IsInRange blocks) row rows each))
     ∙ sym (sum_by-cons blocks_of_part row rows)
+
+-- the parts in memory stand in the order of their keys
+pub rows_rise : (records : held.Records) → is_rising part_cmp key_of_part (all_rows records.parts) ≡ true
+rows_rise records =
+    flat_rising part_cmp key_of_part part_value part_total part_exact (λ r. r.tld) (λ r. r.rows.rows.items) (λ (key : PartKey). key.tld) (λ r. r.rows.rising) (λ r. r.own) part_by_registry records.parts.registries.items records.parts.rising
 
 -- the free blocks are all but block 0 and those of the parts that are held
 pub free_count : (records : Records) (rows : List Part) → records.parts ≡ table_map part_cmp key_of_part part_value rows → is_rising part_cmp key_of_part rows ≡ true

@@ -92,7 +92,7 @@ module _ {V S : Type 0} {g : volume.Ghosts V} where
       pub decides : DecidesPart (GoRuling (AddsPart w.name)) (current_records s.start) s.text s.len s.now
       pub records : current_records new ≡ current_records s.start
       pub store : new.store ≡ s.start.store
-      pub room : HasPartRoom new.records
+      pub room : HasPartRoom w.name.tld new.records
       pub empty : vec_len w.room ≡ 0
       pub extents : vec_capacity w.room ≡ 256
       pub written : IsWritten s.start.vault new.vault s.len w.opened sent

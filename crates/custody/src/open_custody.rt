@@ -80,7 +80,7 @@ impl<V: Volume, S: Alter> OpenCustody<V, S> {
             Change::Registry(registry) => self.keep_registry(registry),
             Change::Part(_) => unreachable!(),
             Change::Verdict(statement) => self.keep_verdict(alloc, &statement, now),
-            Change::Absence(tld, day) => self.keep_absence(tld, day, now),
+            Change::Absence(tld, day) => self.keep_absence(alloc, tld, day, now),
             Change::Release(reference, tld, reason) => {
                 self.keep_release(alloc, reference, tld, reason, now)
             }
@@ -113,7 +113,7 @@ impl<V: Volume, S: Alter> OpenCustody<V, S> {
         room: Vec<Extent>,
         now: Sec,
     ) -> Result<Reply, Refused>
-        requires part { HasPartRoom self.old.records }
+        requires part { HasPartRoom name.now.tld self.old.records }
         requires new { get (current_records self.old).parts (key_of name.now) ≡ None }
         requires empty { vec_len room ≡ 0 }
         requires extents { vec_capacity room ≡ 256 }
@@ -152,7 +152,7 @@ impl<V: Volume, S: Alter> OpenCustody<V, S> {
         requires ruled { Decides (GoRuling (AddsVerdict statement.now)) (current_records self.old) (machine.Statement statement.now) now }
         ensures { HasExecuted S.Store self.old (machine.Statement statement.now) now result self.new }
     {
-        let number = reserve_number(&mut self.records, &statement.tld)?;
+        let number = reserve_number(alloc, &mut self.records, &statement.tld)?;
         let verdict = verify_stated(alloc, &mut self.vault, &self.records, statement)?;
         let notice = notice_of(statement, verdict, number, now);
         self.store.insert_notice(&notice)?;
@@ -164,12 +164,18 @@ impl<V: Volume, S: Alter> OpenCustody<V, S> {
     }
 
     /// Records that the deposit of a day was not received.
-    fn keep_absence(&mut self, tld: Tld, day: Day, now: Sec) -> Result<Reply, Refused>
+    fn keep_absence(
+        &mut self,
+        alloc: Global,
+        tld: Tld,
+        day: Day,
+        now: Sec,
+    ) -> Result<Reply, Refused>
         requires order { KeepsOrder self.old }
         requires ruled { Decides (GoRuling (AddsAbsence tld day)) (current_records self.old) (machine.Check tld day) now }
         ensures { HasExecuted S.Store self.old (machine.Check tld day) now result self.new }
     {
-        let number = reserve_number(&mut self.records, &tld)?;
+        let number = reserve_number(alloc, &mut self.records, &tld)?;
         let notice = Notice {
             number,
             tld,
@@ -275,13 +281,13 @@ impl<V: Volume, S: Alter> OpenCustody<V, S> {
 
 /// The number of a registry's next notice, where there is memory for the notice, and a row can hold
 /// its number.
-fn reserve_number(records: &mut Records, tld: &Tld) -> Result<u64, AllocError>
+fn reserve_number(alloc: Global, records: &mut Records, tld: &Tld) -> Result<u64, AllocError>
     ensures same { records_of records.new ≡ records_of records.old }
-    ensures room { OnOk result (HasNoticeRoom records.new) }
+    ensures room { OnOk result (HasNoticeRoom tld.now records.new) }
     ensures next { IfOk result (λ number. number ≡ next_number (records_of records.old).notices tld.now) }
     ensures small { IfOk result (λ number. number ≤ greatest_integer) }
 {
-    records.reserve_notice()?;
+    records.reserve_notice(alloc, tld)?;
     match next_number(records, tld) {
         Some(number) if number <= i64::MAX as u64 => Ok(number),
         _ => Err(AllocError),
@@ -336,15 +342,19 @@ fn list_release(
     Ok((release, told))
 }
 
-/// Takes the memory for one more part, and for its extents in a reply.
-pub(crate) fn make_room(alloc: Global, records: &mut Records) -> Result<Vec<Extent>, AllocError>
+/// Takes the memory for one more part of a registry, and for its extents in a reply.
+pub(crate) fn make_room(
+    alloc: Global,
+    records: &mut Records,
+    tld: &Tld,
+) -> Result<Vec<Extent>, AllocError>
     ensures same { records_of records.new ≡ records_of records.old }
-    ensures part { OnOk result (HasPartRoom records.new) }
+    ensures part { OnOk result (HasPartRoom tld.now records.new) }
     ensures empty { IfOk result (λ room. vec_len room ≡ 0) }
     ensures extents { IfOk result (λ room. vec_capacity room ≡ 256) }
 {
     let room = Vec::with_capacity(alloc, MAX_EXTENTS)?;
-    records.reserve_part()?;
+    records.reserve_part(alloc, tld)?;
     Ok(room)
 }
 

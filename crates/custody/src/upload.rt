@@ -164,7 +164,7 @@ impl<V: Volume, S: Alter> OpenCustody<V, S> {
         requires { MayOpenPart self.old name len }
         ensures { OpensPart S.Store self.old name len self.new result }
     {
-        let Ok(room) = make_room(alloc, &mut self.records) else {
+        let Ok(room) = make_room(alloc, &mut self.records, &name.tld) else {
             return Upload::Answered(Err(Refused::Failure(Failure::NoMemory)));
         };
         match self.vault.begin(alloc, len as u32) {

@@ -10,3 +10,6 @@ pub mod LineLemmas
 pub mod Elements
 pub mod DropLemmas
 pub mod KeyedLemmas
+pub mod RegistryLemmas
+pub mod RegistryTables
+pub mod SortedLemmas

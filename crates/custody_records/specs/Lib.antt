@@ -7,6 +7,7 @@ pub mod Form
 pub mod RowsOfRecords
 pub mod Purge
 pub mod Tables
+pub mod RegistryRows
 pub mod TypedRecords
 pub mod MemoryRecords
 pub mod inside

@@ -1,10 +1,11 @@
 -- The records in memory, seen as records.
-use Rattle.std.specs.Prelude.{ℕ, Option}
+use Rattle.std.specs.Prelude.{ℕ, List, Option}
 use Rattle.custody_records.specs.declared.records.Records as held
 use Rattle.custody_records.specs.declared.records.RecordLists.{RecordLists}
 use Rattle.custody_records.specs.Form.{all_records, keyed_map}
 use Rattle.custody_records.specs.Keys.{text_cmp, part_cmp, notice_cmp}
 use Rattle.custody_records.specs.Records.{Records}
+use Rattle.custody_records.specs.RegistryRows.{all_rows, HasRoomOf}
 use Rattle.custody_records.specs.Tables.{HasRoom, table_map}
 use Rattle.custody_records.specs.TypedRecords.{registry_key, registry_value, key_of_part, part_value, notice_key, notice_value, release_key, release_value, hold_key, hold_value}
 
@@ -13,8 +14,8 @@ records_of r = record {
   number = r.number;
   blocks = r.blocks;
   registries = table_map text_cmp registry_key registry_value r.registries.rows.items;
-  parts = table_map part_cmp key_of_part part_value r.parts.rows.items;
-  notices = table_map notice_cmp notice_key notice_value r.notices.rows.items;
+  parts = table_map part_cmp key_of_part part_value (all_rows r.parts);
+  notices = table_map notice_cmp notice_key notice_value (all_rows r.notices);
   releases = table_map text_cmp release_key release_value r.releases.rows.items;
   holds = table_map text_cmp hold_key hold_value r.holds.rows.items;
 }
@@ -30,11 +31,11 @@ records_of_lists number blocks lists =
 abbrev pub HasRegistryRoom : held.Records → Type 0
 HasRegistryRoom r = HasRoom r.registries.rows
 
-abbrev pub HasPartRoom : held.Records → Type 0
-HasPartRoom r = HasRoom r.parts.rows
+abbrev pub HasPartRoom : List ℕ → held.Records → Type 0
+HasPartRoom tld r = HasRoomOf tld r.parts
 
-abbrev pub HasNoticeRoom : held.Records → Type 0
-HasNoticeRoom r = HasRoom r.notices.rows
+abbrev pub HasNoticeRoom : List ℕ → held.Records → Type 0
+HasNoticeRoom tld r = HasRoomOf tld r.notices
 
 abbrev pub HasReleaseRoom : held.Records → Type 0
 HasReleaseRoom r = HasRoom r.releases.rows

@@ -16,6 +16,7 @@ mod parts;
 mod purging;
 mod records;
 mod registries;
+mod registry_rows;
 mod releases;
 mod tables;
 
@@ -31,4 +32,5 @@ pub use notices::NoticeColumns;
 pub use parts::{Part, PartColumns};
 pub use records::{RecordLists, Records};
 pub use registries::{Registry, read_registry};
+pub use registry_rows::AllRows;
 pub use releases::{Release, ReleaseColumns};

@@ -2,13 +2,13 @@
 ghost use Rattle.std.specs.Prelude.{◌≡◌, None, Some, if◌then◌else◌, option_map};
 ghost use Rattle.custody_records.specs.Form.{check_in, is_within, natural, notice_in, notice_kind_in};
 ghost use Rattle.custody_records.specs.Keys.{notice_cmp, text_cmp};
-ghost use Rattle.custody_records.specs.inside.Orders.{notice_exact, notice_registries_ascend, notice_total};
+ghost use Rattle.custody_records.specs.inside.Orders.{notice_by_registry, notice_exact, notice_of_registry, notice_registries_ascend, notice_total};
 ghost use Rattle.custody_records.specs.Records as records;
 ghost use Rattle.custody_records.specs.TypedRecords.{notice_entry, notice_key, notice_row, notice_value};
 
 use crate::NoticeKey;
 use crate::fields::number_within;
-use crate::tables::{Group, Keyed};
+use crate::tables::{Group, Keyed, OfRegistry};
 use deposit_name::{DepositId, Tld};
 use desk::{Check, Notice, NoticeKind, Revision};
 use schedule::{Day, Sec};
@@ -112,13 +112,31 @@ impl Keyed for Notice {
     }
 }
 
+impl OfRegistry for Notice {
+    ghost registry_of = { λ key. key.tld };
+
+    ghost by_registry = { notice_by_registry };
+
+    fn registry(key: &NoticeKey) -> Tld {
+        key.tld
+    }
+}
+
 /// The notices of a registry.
 impl Group<Notice> for Tld {
     ghost place = { λ tld key. text_cmp key.tld tld };
 
+    ghost group_registry = { λ tld. tld };
+
     ghost ascends = { notice_registries_ascend };
+
+    ghost of_one = { notice_of_registry };
 
     fn compare(&self, notice: &Notice) -> Ordering {
         notice.tld.as_bytes().cmp(self.as_bytes())
+    }
+
+    fn registry(&self) -> Tld {
+        *self
     }
 }

@@ -2,14 +2,14 @@
 ghost use Rattle.std.specs.Prelude.{◌≡◌, MatchResult};
 ghost use Rattle.custody_records.specs.Form.{part_in};
 ghost use Rattle.custody_records.specs.Keys.{day_cmp, part_cmp, revision_cmp, text_cmp};
-ghost use Rattle.custody_records.specs.inside.Orders.{part_days_ascend, part_exact, part_registries_ascend, part_revisions_ascend, part_total};
+ghost use Rattle.custody_records.specs.inside.Orders.{part_by_registry, part_days_ascend, part_exact, part_of_day, part_of_registry, part_of_revision, part_registries_ascend, part_revisions_ascend, part_total};
 ghost use Rattle.custody_records.specs.Records.{PartRecord, key_of};
 ghost use Rattle.custody_records.specs.TypedRecords.{part_entry, key_of_part, part_row, part_value, name_in, received_in};
 ghost use Rattle.custody_records.specs.declared.errors.RowError.TheVariants.{OutOfForm};
 
 use crate::extents::read_extents;
 use crate::fields::{digest_of, number_within};
-use crate::tables::{Group, Keyed};
+use crate::tables::{Group, Keyed, OfRegistry};
 use crate::{PartKey, RowError};
 use deposit_name::{DepositName, Kind, Tld};
 use extent_map::{Extent, MAX_PART_LEN};
@@ -120,14 +120,32 @@ impl Keyed for Part {
     }
 }
 
+impl OfRegistry for Part {
+    ghost registry_of = { λ key. key.tld };
+
+    ghost by_registry = { part_by_registry };
+
+    fn registry(key: &PartKey) -> Tld {
+        key.tld
+    }
+}
+
 /// The parts of a registry.
 impl Group<Part> for Tld {
     ghost place = { λ tld key. text_cmp key.tld tld };
 
+    ghost group_registry = { λ tld. tld };
+
     ghost ascends = { part_registries_ascend };
+
+    ghost of_one = { part_of_registry };
 
     fn compare(&self, part: &Part) -> Ordering {
         part.name.tld.as_bytes().cmp(self.as_bytes())
+    }
+
+    fn registry(&self) -> Tld {
+        *self
     }
 }
 
@@ -135,11 +153,19 @@ impl Group<Part> for Tld {
 impl Group<Part> for (Tld, Day) {
     ghost place = { λ day key. day_cmp (key.tld, key.day) day };
 
+    ghost group_registry = { λ day. day.0 };
+
     ghost ascends = { part_days_ascend };
+
+    ghost of_one = { part_of_day };
 
     fn compare(&self, part: &Part) -> Ordering {
         let registries = part.name.tld.as_bytes().cmp(self.0.as_bytes());
         registries.then(part.name.day.cmp(&self.1))
+    }
+
+    fn registry(&self) -> Tld {
+        self.0
     }
 }
 
@@ -147,7 +173,11 @@ impl Group<Part> for (Tld, Day) {
 impl Group<Part> for DepositName {
     ghost place = { λ name key. revision_cmp key (key_of name) };
 
+    ghost group_registry = { λ name. name.tld };
+
     ghost ascends = { λ name. part_revisions_ascend (key_of name) };
+
+    ghost of_one = { λ name. part_of_revision (key_of name) };
 
     fn compare(&self, part: &Part) -> Ordering {
         let name = &part.name;
@@ -155,5 +185,9 @@ impl Group<Part> for DepositName {
         let days = name.day.cmp(&self.day);
         let revisions = name.rev.cmp(&self.rev);
         registries.then(days.then(revisions))
+    }
+
+    fn registry(&self) -> Tld {
+        self.tld
     }
 }

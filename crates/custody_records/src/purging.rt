@@ -7,14 +7,16 @@ ghost use Rattle.custody_records.specs.Purge.{dropped_if_among};
 ghost use Rattle.custody_records.specs.Tables.{table_map};
 ghost use Rattle.custody_records.specs.TypedRecords.{key_of_part, part_value};
 
-use crate::tables::SortedRows;
+use crate::registry_rows::RowsByRegistry;
 use crate::{Part, PartKey};
 
-impl SortedRows<Part> {
+impl RowsByRegistry<Part> {
+    ghost use Rattle.custody_records.specs.RegistryRows.{all_rows};
+
     /// Drops the bytes of the parts with these keys.
     pub(crate) fn drop_bytes(&mut self, keys: &[PartKey])
-        ensures { (key : by.PartKey) → get (table_map part_cmp key_of_part part_value self.new.rows.items) key
-            ≡ option_map (dropped_if_among keys.now key) (get (table_map part_cmp key_of_part part_value self.old.rows.items) key) }
+        ensures { (key : by.PartKey) → get (table_map part_cmp key_of_part part_value (all_rows self.new)) key
+            ≡ option_map (dropped_if_among keys.now key) (get (table_map part_cmp key_of_part part_value (all_rows self.old)) key) }
     {
         for key in keys {
             self.drop_bytes_of(key);
@@ -22,8 +24,8 @@ impl SortedRows<Part> {
     }
 
     fn drop_bytes_of(&mut self, sought: &PartKey)
-        ensures { (key : by.PartKey) → get (table_map part_cmp key_of_part part_value self.new.rows.items) key
-            ≡ option_map (dropped_if_among (sought.now ∷ []) key) (get (table_map part_cmp key_of_part part_value self.old.rows.items) key) }
+        ensures { (key : by.PartKey) → get (table_map part_cmp key_of_part part_value (all_rows self.new)) key
+            ≡ option_map (dropped_if_among (sought.now ∷ []) key) (get (table_map part_cmp key_of_part part_value (all_rows self.old)) key) }
     {
         if let Some(part) = self.find(sought) {
             let part = Part {

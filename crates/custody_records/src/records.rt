@@ -1,5 +1,5 @@
 //! The records of a custody in memory.
-ghost use Rattle.std.specs.Prelude.{◌≡◌, true, None, IsSome, IfSome, OnOk, OnErr, option_map, option_copied};
+ghost use Rattle.std.specs.Prelude.{◌≡◌, true, None, IsSome, IfSome, IfOk, OnOk, OnErr, option_map, option_copied};
 ghost use Rattle.std.specs.FinMap.{get};
 ghost use Rattle.custody_records.specs.Keys as by;
 ghost use Rattle.custody_records.specs.Purge.{dropped_if_among};
@@ -7,6 +7,7 @@ ghost use Rattle.custody_records.specs.Keys.{text_cmp, part_cmp, notice_cmp};
 ghost use Rattle.custody_records.specs.Tables.{row_entries, is_rising, table_map};
 ghost use Rattle.custody_records.specs.TypedRecords.{registry_key, registry_value, key_of_part, part_value, notice_key, notice_value, release_key, release_value, hold_key, hold_value};
 
+use crate::registry_rows::{AllRows, RowsByRegistry};
 use crate::tables::SortedRows;
 use crate::{Hold, NoticeKey, Part, PartKey, Registry, Release};
 use deposit_name::{DepositName, Reference, Tld};
@@ -30,13 +31,14 @@ pub struct Records {
     number: u64,
     blocks: u32,
     registries: SortedRows<Registry>,
-    parts: SortedRows<Part>,
-    notices: SortedRows<Notice>,
+    parts: RowsByRegistry<Part>,
+    notices: RowsByRegistry<Notice>,
     releases: SortedRows<Release>,
     holds: SortedRows<Hold>,
 }
 
 impl Records {
+    ghost use Rattle.custody_records.specs.RegistryRows.{rows_left};
     ghost use Rattle.custody_records.specs.Records.{
       new_records,
       notices_of,
@@ -68,8 +70,8 @@ impl Records {
             number,
             blocks,
             registries: SortedRows::new(alloc),
-            parts: SortedRows::new(alloc),
-            notices: SortedRows::new(alloc),
+            parts: RowsByRegistry::new(alloc),
+            notices: RowsByRegistry::new(alloc),
             releases: SortedRows::new(alloc),
             holds: SortedRows::new(alloc),
         }
@@ -77,18 +79,32 @@ impl Records {
 
     /// The records of these lists, for a volume of this number and so many blocks; none where two records of a list have
     /// one key.
-    pub fn of_lists(number: u64, blocks: u32, lists: RecordLists) -> Option<Records>
-        ensures { option_map (λ records. records_of records) result ≡ records_of_lists number blocks lists }
+    pub fn of_lists(
+        alloc: Global,
+        number: u64,
+        blocks: u32,
+        lists: RecordLists,
+    ) -> Result<Option<Records>, AllocError>
+        ensures { IfOk result (λ found. option_map (λ records. records_of records) found ≡ records_of_lists number blocks lists) }
     {
-        Some(Records {
+        let (Some(registries), Some(parts), Some(notices), Some(releases), Some(holds)) = (
+            SortedRows::of_list(lists.registries),
+            RowsByRegistry::of_list(alloc, lists.parts)?,
+            RowsByRegistry::of_list(alloc, lists.notices)?,
+            SortedRows::of_list(lists.releases),
+            SortedRows::of_list(lists.holds),
+        ) else {
+            return Ok(None);
+        };
+        Ok(Some(Records {
             number,
             blocks,
-            registries: SortedRows::of_list(lists.registries)?,
-            parts: SortedRows::of_list(lists.parts)?,
-            notices: SortedRows::of_list(lists.notices)?,
-            releases: SortedRows::of_list(lists.releases)?,
-            holds: SortedRows::of_list(lists.holds)?,
-        })
+            registries,
+            parts,
+            notices,
+            releases,
+            holds,
+        }))
     }
 
     /// The number of the volume.
@@ -172,11 +188,11 @@ impl Records {
     }
 
     /// The parts, by registry, day, revision and place.
-    pub fn parts(&self) -> &[Part]
-        ensures all { (records_of self.now).parts ≡ table_map part_cmp key_of_part part_value result.now }
-        ensures rising { is_rising part_cmp key_of_part result.now ≡ true }
+    pub fn parts(&self) -> AllRows<'_, Part>
+        ensures all { (records_of self.now).parts ≡ table_map part_cmp key_of_part part_value (rows_left result) }
+        ensures rising { is_rising part_cmp key_of_part (rows_left result) ≡ true }
     {
-        self.parts.rows()
+        self.parts.all()
     }
 
     /// The parts of a registry, by day, revision and place.
@@ -200,18 +216,18 @@ impl Records {
         self.parts.group(name)
     }
 
-    /// Makes room for one more part.
-    pub fn reserve_part(&mut self) -> Result<(), AllocError>
+    /// Makes room for one more part of a registry.
+    pub fn reserve_part(&mut self, alloc: Global, tld: &Tld) -> Result<(), AllocError>
         ensures same { records_of self.new ≡ records_of self.old }
-        ensures room { OnOk result (HasPartRoom self.new) }
-        ensures no_memory { OnErr result (¬ HasPartRoom self.old) }
+        ensures room { OnOk result (HasPartRoom tld.now self.new) }
+        ensures no_memory { OnErr result (¬ HasPartRoom tld.now self.old) }
     {
-        self.parts.try_reserve()
+        self.parts.try_reserve(alloc, tld)
     }
 
     /// Adds a part that is not there, without taking memory.
     pub fn add_part(&mut self, part: Part)
-        requires room { HasPartRoom self.old }
+        requires room { HasPartRoom (key_of_part part).tld self.old }
         requires new { get (records_of self.old).parts (key_of_part part) ≡ None }
         ensures { records_of self.new ≡ with_part (records_of self.old) (key_of_part part) (part_value part) }
     {
@@ -227,11 +243,11 @@ impl Records {
     }
 
     /// The notices, by registry and number.
-    pub fn notices(&self) -> &[Notice]
-        ensures all { (records_of self.now).notices ≡ table_map notice_cmp notice_key notice_value result.now }
-        ensures rising { is_rising notice_cmp notice_key result.now ≡ true }
+    pub fn notices(&self) -> AllRows<'_, Notice>
+        ensures all { (records_of self.now).notices ≡ table_map notice_cmp notice_key notice_value (rows_left result) }
+        ensures rising { is_rising notice_cmp notice_key (rows_left result) ≡ true }
     {
-        self.notices.rows()
+        self.notices.all()
     }
 
     /// The notices of a registry, by number.
@@ -241,18 +257,18 @@ impl Records {
         self.notices.group(tld)
     }
 
-    /// Makes room for one more notice.
-    pub fn reserve_notice(&mut self) -> Result<(), AllocError>
+    /// Makes room for one more notice of a registry.
+    pub fn reserve_notice(&mut self, alloc: Global, tld: &Tld) -> Result<(), AllocError>
         ensures same { records_of self.new ≡ records_of self.old }
-        ensures room { OnOk result (HasNoticeRoom self.new) }
-        ensures no_memory { OnErr result (¬ HasNoticeRoom self.old) }
+        ensures room { OnOk result (HasNoticeRoom tld.now self.new) }
+        ensures no_memory { OnErr result (¬ HasNoticeRoom tld.now self.old) }
     {
-        self.notices.try_reserve()
+        self.notices.try_reserve(alloc, tld)
     }
 
     /// Adds a notice that is not there, without taking memory.
     pub fn add_notice(&mut self, notice: &Notice)
-        requires room { HasNoticeRoom self.old }
+        requires room { HasNoticeRoom (notice_key notice.now).tld self.old }
         requires new { get (records_of self.old).notices (notice_key notice.now) ≡ None }
         ensures { records_of self.new ≡ with_notice (records_of self.old) (notice_key notice.now) (notice_value notice.now) }
     {

@@ -1,20 +1,22 @@
 //! A table in memory: rows in the order of their keys, each key once.
-ghost use Rattle.std.specs.Prelude.{◌≡◌, ◌≤◌, length, true, None, IsSome, IfSome, OnOk, OnErr, option_map, option_copied};
+ghost use Rattle.std.specs.Prelude.{◌≡◌, ◌≤◌, ℕ, List, length, true, None, IsSome, IfSome, OnOk, OnErr, option_map, option_copied};
 ghost use Rattle.std.specs.Cmp.{IsTotalOrder};
 ghost use Rattle.std.specs.FinMap.{IsAntisymmetric, empty, entries, get, insert};
 ghost use Rattle.std.specs.List.{filter};
 ghost use Rattle.std.specs.List.Sorted.{IsSearchInRange, IsBinarySearchResult};
 ghost use Rattle.std.specs.Ordering.{is_eq, ordering_index};
 ghost use Rattle.std.specs.declared.cmp.Ordering.{Ordering};
-ghost use Rattle.std.specs.declared.cmp.Ordering.TheVariants.{Less};
+ghost use Rattle.std.specs.declared.cmp.Ordering.TheVariants.{Equal, Less};
 ghost use Rattle.custody_records.specs.Form.{keyed_map};
+ghost use Rattle.custody_records.specs.Keys.{text_cmp};
 ghost use Rattle.custody_records.specs.Tables.{HasRoom, row_entries, is_rising, table_map};
 
+use deposit_name::Tld;
 use std::alloc::{AllocError, Global};
 use std::cmp::Ordering;
 
 /// A row that is found by its key.
-pub(crate) trait Keyed: Drop {
+pub trait Keyed: Drop {
     type Key: Drop;
 
     ghost key_of: { Self → Self.Key };
@@ -39,21 +41,40 @@ pub(crate) trait Keyed: Drop {
     ghost exact: { IsAntisymmetric order };
 }
 
-/// A group of rows that stand together in their table: those whose keys begin with the same fields.
-pub(crate) trait Group<T: Keyed> {
+/// A row of a registry. The order of the rows is first that of their registries.
+pub trait OfRegistry: Keyed {
+    ghost registry_of: { Self.Key → List ℕ };
+
+    /// The registry of the rows of that key.
+    fn registry(key: &Self::Key) -> Tld
+        ensures { result ≡ registry_of key.now };
+
+    ghost by_registry: { (a b : Self.Key) → text_cmp (registry_of a) (registry_of b) ≡ Less → Self.order a b ≡ Less };
+}
+
+/// A group of rows that stand together in their table: those of a registry whose keys begin with the same fields.
+pub trait Group<T: OfRegistry> {
     ghost place: { Self → T.Key → Ordering };
+
+    ghost group_registry: { Self → List ℕ };
 
     /// Whether the row stands before the group, in it or behind it.
     fn compare(&self, row: &T) -> Ordering
         ensures { result ≡ place self.now (T.key_of row.now) };
 
+    /// The registry of the rows.
+    fn registry(&self) -> Tld
+        ensures { result ≡ group_registry self.now };
+
     // A row stands no further behind the group than the rows behind it.
     ghost ascends: { (group : Self) (a b : T.Key) → T.order a b ≡ Less → ordering_index (place group a) ≤ ordering_index (place group b) };
+
+    ghost of_one: { (group : Self) (key : T.Key) → place group key ≡ Equal → T.registry_of key ≡ group_registry group };
 }
 
 /// Rows in the order of their keys, each key once.
 #[derive(Debug, Drop)]
-pub(crate) struct SortedRows<T: Keyed> {
+pub struct SortedRows<T: Keyed> {
     pub(crate) rows: Vec<T>,
     ghost rising: { is_rising T.order T.key_of rows.items ≡ true },
 }
@@ -108,16 +129,6 @@ impl<T: Keyed> SortedRows<T> {
         }
     }
 
-    /// The rows of a group, which stand together.
-    pub(crate) fn group<G: Group<T>>(&self, group: &G) -> &[T]
-        ensures { row_entries T.key_of T.value_of result.now ≡ filter (λ e. is_eq (G.place group.now e.0)) (entries (table_map T.order T.key_of T.value_of self.now.rows.items)) }
-    {
-        let start = self.rows.partition_point(|row| group.compare(row).is_lt());
-        let rest = &self.rows[start..];
-        let count = rest.partition_point(|row| group.compare(row).is_le());
-        &rest[..count]
-    }
-
     /// Makes room for one more row.
     pub(crate) fn try_reserve(&mut self) -> Result<(), AllocError>
         ensures same { self.new.rows.items ≡ self.old.rows.items }
@@ -150,5 +161,17 @@ impl<T: Keyed> SortedRows<T> {
             Ok(place) => self.rows[place] = row,
             Err(_) => unreachable!(),
         }
+    }
+}
+
+impl<T: OfRegistry> SortedRows<T> {
+    /// The rows of a group, which stand together.
+    pub(crate) fn group<G: Group<T>>(&self, group: &G) -> &[T]
+        ensures { row_entries T.key_of T.value_of result.now ≡ filter (λ e. is_eq (G.place group.now e.0)) (entries (table_map T.order T.key_of T.value_of self.now.rows.items)) }
+    {
+        let start = self.rows.partition_point(|row| group.compare(row).is_lt());
+        let rest = &self.rows[start..];
+        let count = rest.partition_point(|row| group.compare(row).is_le());
+        &rest[..count]
     }
 }

@@ -5,20 +5,15 @@ use Rattle.std.specs.Bool.{Decides}
 use Rattle.std.specs.List.{list_all}
 use Rattle.std.specs.FinMap.{get}
 use Rattle.std.proofs.lemmas.Bool.Decides.{Decides-and, nat_tests}
-use Rattle.desk.specs.declared.notices.Notice as desk
-use Rattle.custody_records.specs.Keys.{PartKey, NoticeKey, notice_cmp}
+use Rattle.custody_records.specs.Keys.{PartKey, NoticeKey}
 use Rattle.custody_records.specs.inside.Orders.{text_total, text_exact, part_total, part_exact, notice_total, notice_exact}
 use Rattle.custody_records.specs.Records.{PartRecord, Notice, Release, Hold, Records}
-use Rattle.custody_records.specs.Tables.{is_rising, table_map}
-use Rattle.custody_records.specs.TypedRecords.{notice_key, notice_value}
 use Rattle.custody_machine.specs.NameReading.{read_name}
 use Rattle.custody_machine.specs.State.{key_with_part, has_notice}
 use Rattle.custody_machine.specs.Machine.{is_failure_of}
 use Rattle.custody_machine.specs.StoredState.{AreLinked, is_part_of, is_name_of_part, revision_of}
-use Rattle.custody_rules.specs.declared.unique_keys.FailedRevision.{FailedRevision}
 use Rattle.custody_rules.specs.inside.Links.{is_part_linked, has_parts, is_notice_linked, is_release_linked, is_hold_linked, each_passes}
-use Rattle.custody_rules.specs.inside.UniqueKeys.{HaveNoRivals}
-use Rattle.custody_rules.proofs.Rivals.{one_verdict, one_receipt, one_absence}
+use Rattle.custody_rules.specs.inside.UniqueKeys.{HaveNoRivals, has_failed}
 use Rattle.custody_rules.proofs.Tables.{each_decides}
 
 itself : (b : Bool) → Decides b (b ≡ true)
@@ -43,10 +38,6 @@ above_zero_decides : (n : ℕ) (b : Bool) → Decides (n == 0 || b) (0 < n → b
 above_zero_decides zero b = (λ h above. absurd (omega arith), λ h. refl)
 above_zero_decides (suc n) b = (λ h above. sym (ap (λ t. t || b) (above_zero n)) ∙ h, λ h. ap (λ t. t || b) (above_zero n) ∙ h (omega arith))
 
--- a notice tells that the revision has failed
-abbrev pub has_failed : Records → FailedRevision → Bool
-has_failed records t = has_notice records.notices t.tld t.day (is_failure_of t.rev)
-
 module _ (records : Records) where
   -- ---- parts
 
@@ -56,7 +47,7 @@ module _ (records : Records) where
       × (((n : ℕ) → key.part ≡ suc (suc n) → is_part_of part.kind (get records.parts (key_with_part key (suc n))) ≡ true)
       × (0 < key.rev → has_notice records.notices key.tld key.day (is_failure_of (key.rev - 1)) ≡ true))
 
-  part_decides : (key : PartKey) (part : PartRecord) → Decides (is_part_linked records (has_failed records) key part) (PartLinks key part)
+  part_decides : (key : PartKey) (part : PartRecord) → Decides (is_part_linked records (has_failed records.notices) key part) (PartLinks key part)
   part_decides key part =
       Decides-and _ _ (itself _) (Decides-and _ _ (before_decides key.part (λ n. is_part_of part.kind (get records.parts (key_with_part key n)))) (above_zero_decides key.rev _))
 
@@ -109,7 +100,7 @@ module _ (records : Records) where
   -- ---- the tests of them
 
   abbrev pub parts_test : Bool
-  parts_test = each_passes (is_part_linked records (has_failed records)) records.parts
+  parts_test = each_passes (is_part_linked records (has_failed records.notices)) records.parts
 
   abbrev pub notices_test : Bool
   notices_test = each_passes (is_notice_linked records) records.notices
@@ -129,7 +120,7 @@ module _ (records : Records) where
   -- each record finds among the others what it has to
   each_linked : Decides passes Links
   each_linked =
-      Decides-and _ _ (each_decides part_total part_exact (is_part_linked records (has_failed records)) PartLinks part_decides records.parts)
+      Decides-and _ _ (each_decides part_total part_exact (is_part_linked records (has_failed records.notices)) PartLinks part_decides records.parts)
       (Decides-and _ _ (each_decides notice_total notice_exact (is_notice_linked records) NoticeLinks notice_decides records.notices)
       (Decides-and _ _ (each_decides text_total text_exact (λ (_ : List ℕ). is_release_linked records) ReleaseLinks release_decides records.releases)
       (each_decides text_total text_exact (λ (_ : List ℕ). is_hold_linked records) HoldLinks (λ reference hold. itself _) records.holds)))
@@ -137,9 +128,8 @@ module _ (records : Records) where
   pub some_broken : passes ≡ false → ¬ AreLinked records
   some_broken some linked = let all = each_linked.1 (are_links linked) in cc
 
-module _ (records : Records) (rows : List desk.Notice) (is : records.notices ≡ table_map notice_cmp notice_key notice_value rows) (rising : is_rising notice_cmp notice_key rows ≡ true) where
   -- where no day has two notices of which it has one at most
-  links_are : HaveNoRivals rows → Links records → AreLinked records
+  links_are : HaveNoRivals records.notices → Links → AreLinked records
   links_are only h = record {
     part_registry = λ key part at. (h.0 key part at).0;
     notice_registry = λ key notice at. (h.1.0 key notice at).0;
@@ -149,11 +139,14 @@ module _ (records : Records) (rows : List desk.Notice) (is : records.notices ≡
     series = λ key part at. (h.0 key part at).1.0;
     numbers = λ key notice at. (h.1.0 key notice at).1.0;
     verdict_parts = λ key notice rev at. (h.1.0 key notice at).1.1 rev;
-    one_verdict = one_verdict records rows is rising only;
+    one_verdict = only.one_verdict;
     due = λ key part at. (h.0 key part at).1.1;
-    one_receipt = one_receipt records rows is rising only;
-    one_absence = one_absence records rows is rising only;
+    one_receipt = only.one_receipt;
+    one_absence = only.one_absence;
   }
 
-  pub all_linked : HaveNoRivals rows → passes records ≡ true → AreLinked records
-  all_linked only all = links_are only ((each_linked records).0 all)
+  pub all_linked : HaveNoRivals records.notices → passes ≡ true → AreLinked records
+  all_linked only all = links_are only (each_linked.0 all)
+
+  pub linked_only : AreLinked records → HaveNoRivals records.notices
+  linked_only linked = record { one_verdict = linked.one_verdict; one_receipt = linked.one_receipt; one_absence = linked.one_absence }

@@ -3,7 +3,7 @@ use Rattle.std.specs.Prelude.{bytes_eq}
 use Rattle.std.proofs.Common.{◌≡◌, ◌↔◌, ℕ, ◌<◌, List, get_or, Bool, true, false, ◌&&◌, ◌==◌, Option, Some, None, refl, sym, ◌∙◌, ap, subst, arith}
 use Rattle.std.specs.Bool.{Decides}
 use Rattle.std.specs.List.{list_any, slice_get}
-use Rattle.std.specs.FinMap.{get}
+use Rattle.std.specs.FinMap.{FinMap, get}
 use Rattle.std.proofs.lemmas.Bool.Decides.{Decides-eqb, Decides-and, Decides-like, same_from_decides}
 use Rattle.std.proofs.lemmas.List.Folds.{Any-from_list_any, list_any_at}
 use Rattle.std.proofs.lemmas.Option.{slice_get-get_or, slice_get_within, get_or_from_slice_get}
@@ -13,17 +13,16 @@ use Rattle.desk.specs.declared.notices.NoticeKind.TheVariants.{Receipt, Failure,
 use Rattle.desk.specs.declared.notices.Notice as desk
 use Rattle.custody_records.specs.Keys.{NoticeKey, notice_cmp}
 use Rattle.custody_records.specs.inside.Orders.{notice_total, notice_exact}
-use Rattle.custody_records.specs.Records.{Notice, Records}
+use Rattle.custody_records.specs.Records.{Notice}
 use Rattle.custody_records.specs.Tables.{is_rising, table_map}
 use Rattle.custody_records.specs.TypedRecords.{notice_key, notice_value}
-use Rattle.custody_machine.specs.State.{has_notice}
 use Rattle.custody_machine.specs.Machine.{is_absence, is_failure_of}
-use Rattle.custody_machine.specs.StoredState.{AreLinked, AreOfOneDay, revision_of}
+use Rattle.custody_machine.specs.StoredState.{AreOfOneDay, revision_of}
 use Rattle.custody_machine.proofs.SameValues.{text_decides}
 use Rattle.custody_rules.specs.declared.unique_keys.Subject.{Subject}
 use Rattle.custody_rules.specs.declared.unique_keys.RegistryDay.{RegistryDay}
 use Rattle.custody_rules.specs.declared.unique_keys.FailedRevision.{FailedRevision}
-use Rattle.custody_rules.specs.inside.UniqueKeys.{HaveNoRivals, HaveUniqueKeys, IsKeyAmong, subject_of, day_if_receipt, received_day_of, revision_if_failure, failed_revision_of}
+use Rattle.custody_rules.specs.inside.UniqueKeys.{HaveNoRivals, HaveUniqueKeys, IsKeyAmong, has_failed, subject_of, day_if_receipt, received_day_of, revision_if_failure, failed_revision_of}
 use Rattle.custody_rules.proofs.Tables.{table_has_row, row_in_table, keys_differ, any_rows}
 
 -- ---- what one notice tells
@@ -80,10 +79,10 @@ fails_decides n t =
 
 -- ---- what all of them tell
 
-module _ (records : Records) (rows : List desk.Notice) (is : records.notices ≡ table_map notice_cmp notice_key notice_value rows) (rising : is_rising notice_cmp notice_key rows ≡ true) where
+module _ (notices : FinMap notice_cmp Notice) (rows : List desk.Notice) (is : notices ≡ table_map notice_cmp notice_key notice_value rows) (rising : is_rising notice_cmp notice_key rows ≡ true) where
   -- the revisions whose failure they tell are those that have failed
-  pub failures_are : (has : FailedRevision → Bool) → ((t : FailedRevision) → (has t ≡ true) ↔ IsKeyAmong failed_revision_of rows t) → (t : FailedRevision) → has t ≡ has_notice records.notices t.tld t.day (is_failure_of t.rev)
-  failures_are has tell t = same_from_decides (has t) (list_any fails rows) (tell t) (there, back) ∙ any_rows notice_cmp notice_key notice_value rows records.notices is rising (λ (e : NoticeKey × Notice). bytes_eq e.0.tld t.tld && (e.1.day == t.day && is_failure_of t.rev e.1.kind))
+  pub failures_are : (has : FailedRevision → Bool) → ((t : FailedRevision) → (has t ≡ true) ↔ IsKeyAmong failed_revision_of rows t) → (t : FailedRevision) → has t ≡ has_failed notices t
+  failures_are has tell t = same_from_decides (has t) (list_any fails rows) (tell t) (there, back) ∙ any_rows notice_cmp notice_key notice_value rows notices is rising (λ (e : NoticeKey × Notice). bytes_eq e.0.tld t.tld && (e.1.day == t.day && is_failure_of t.rev e.1.kind))
     where
       fails : desk.Notice → Bool
       fails n = bytes_eq n.tld t.tld && (n.day == t.day && is_failure_of t.rev n.kind)
@@ -104,10 +103,10 @@ module _ (records : Records) (rows : List desk.Notice) (is : records.notices ≡
 
   -- two notices of the records that tell the same are one
   module _ {T : Type 0} (unique_key_of : desk.Notice → Option T) (once : HaveUniqueKeys unique_key_of rows) (t : T) where
-    one_key : (j k : NoticeKey) (m n : Notice) → get records.notices j ≡ Some m → get records.notices k ≡ Some n → Tells unique_key_of t j m → Tells unique_key_of t k n → j ≡ k
+    one_key : (j k : NoticeKey) (m n : Notice) → get notices j ≡ Some m → get notices k ≡ Some n → Tells unique_key_of t j m → Tells unique_key_of t k n → j ≡ k
     one_key j k m n at_j at_k tells_m tells_n =
-        let first = table_has_row notice_cmp notice_key notice_value notice_exact rows rising j m (ap (λ notices. get notices j) (sym is) ∙ at_j) in
-        let second = table_has_row notice_cmp notice_key notice_value notice_exact rows rising k n (ap (λ notices. get notices k) (sym is) ∙ at_k) in
+        let first = table_has_row notice_cmp notice_key notice_value notice_exact rows rising j m (ap (λ (all : FinMap notice_cmp Notice). get all j) (sym is) ∙ at_j) in
+        let second = table_has_row notice_cmp notice_key notice_value notice_exact rows rising k n (ap (λ (all : FinMap notice_cmp Notice). get all k) (sym is) ∙ at_k) in
         let at_first = slice_get-get_or rows first.place first.row first.within ∙ ap Some (first.at first.row) in
         let at_second = slice_get-get_or rows second.place second.row second.within ∙ ap Some (second.at second.row) in
         let place = once first.place second.place first.row second.row t at_first at_second (tells_m first.row first.key_is first.value_is) (tells_n second.row second.key_is second.value_is) in
@@ -125,28 +124,29 @@ module _ (records : Records) (rows : List desk.Notice) (is : records.notices ≡
   received tld day key notice at on of n key_is value_is =
       (λ i. day_if_receipt ((ap (λ (k : NoticeKey). k.tld) key_is ∙ at) i) ((ap (λ (v : Notice). v.day) value_is ∙ on) i) (value_is i).kind) ∙ receipt_of_day tld day notice.kind of
 
-  module _ (only : HaveNoRivals rows) where
-    pub one_verdict : (j k : NoticeKey) (m n : Notice) (rev : ℕ) → get records.notices j ≡ Some m → get records.notices k ≡ Some n → AreOfOneDay j m k n → revision_of m.kind ≡ Some rev → revision_of n.kind ≡ Some rev → j ≡ k
+  module _ (once : HaveUniqueKeys subject_of rows) where
+    pub one_verdict : (j k : NoticeKey) (m n : Notice) (rev : ℕ) → get notices j ≡ Some m → get notices k ≡ Some n → AreOfOneDay j m k n → revision_of m.kind ≡ Some rev → revision_of n.kind ≡ Some rev → j ≡ k
     one_verdict j k m n rev at_j at_k day of_m of_n =
-        one_key subject_of only.subjects (record { tld = k.tld; day = n.day; rev = Some rev }) j k m n at_j at_k
+        one_key subject_of once (record { tld = k.tld; day = n.day; rev = Some rev }) j k m n at_j at_k
         (about k.tld n.day (Some rev) j m day.0 day.1 of_m) (about k.tld n.day (Some rev) k n refl refl of_n)
 
-    pub one_receipt : (j k : NoticeKey) (m n : Notice) → get records.notices j ≡ Some m → get records.notices k ≡ Some n → AreOfOneDay j m k n → is_receipt m.kind ≡ true → is_receipt n.kind ≡ true → j ≡ k
-    one_receipt j k m n at_j at_k day of_m of_n =
-        one_key received_day_of only.received_days (record { tld = k.tld; day = n.day }) j k m n at_j at_k
-        (received k.tld n.day j m day.0 day.1 of_m) (received k.tld n.day k n refl refl of_n)
-
-    pub one_absence : (j k : NoticeKey) (m n : Notice) → get records.notices j ≡ Some m → get records.notices k ≡ Some n → AreOfOneDay j m k n → is_absence m.kind ≡ true → is_absence n.kind ≡ true → j ≡ k
+    pub one_absence : (j k : NoticeKey) (m n : Notice) → get notices j ≡ Some m → get notices k ≡ Some n → AreOfOneDay j m k n → is_absence m.kind ≡ true → is_absence n.kind ≡ true → j ≡ k
     one_absence j k m n at_j at_k day of_m of_n =
-        one_key subject_of only.subjects (record { tld = k.tld; day = n.day; rev = None }) j k m n at_j at_k
+        one_key subject_of once (record { tld = k.tld; day = n.day; rev = None }) j k m n at_j at_k
         (about k.tld n.day None j m day.0 day.1 (absence_has_none m.kind of_m)) (about k.tld n.day None k n refl refl (absence_has_none n.kind of_n))
 
-  -- where records belong together, each of these stands once
-  module _ (linked : AreLinked records) where
-    recorded : (i : ℕ) (n : desk.Notice) → slice_get rows i ≡ Some n → get records.notices (notice_key n) ≡ Some (notice_value n)
+  module _ (once : HaveUniqueKeys received_day_of rows) where
+    pub one_receipt : (j k : NoticeKey) (m n : Notice) → get notices j ≡ Some m → get notices k ≡ Some n → AreOfOneDay j m k n → is_receipt m.kind ≡ true → is_receipt n.kind ≡ true → j ≡ k
+    one_receipt j k m n at_j at_k day of_m of_n =
+        one_key received_day_of once (record { tld = k.tld; day = n.day }) j k m n at_j at_k
+        (received k.tld n.day j m day.0 day.1 of_m) (received k.tld n.day k n refl refl of_n)
+
+  -- where no day has two notices of which it has one at most, each of these stands once
+  module _ (only : HaveNoRivals notices) where
+    recorded : (i : ℕ) (n : desk.Notice) → slice_get rows i ≡ Some n → get notices (notice_key n) ≡ Some (notice_value n)
     recorded i n at =
         let here = get_or_from_slice_get rows i n n at in
-        ap (λ notices. get notices (notice_key n)) is
+        ap (λ (all : FinMap notice_cmp Notice). get all (notice_key n)) is
         ∙ subst (λ (r : desk.Notice). get (table_map notice_cmp notice_key notice_value rows) (notice_key r) ≡ Some (notice_value r)) here
         (row_in_table notice_cmp notice_key notice_value notice_total rows rising i n (slice_get_within rows i n at))
 
@@ -166,7 +166,7 @@ module _ (records : Records) (rows : List desk.Notice) (is : records.notices ≡
         by true e = (Decides-eqb i j).0 e
         by false e = grind (arith, first, second)
 
-    subjects : HaveUniqueKeys subject_of rows
+    pub subjects : HaveUniqueKeys subject_of rows
     subjects i j m n t at_i at_j tells_m tells_n = one_place i j m n at_i at_j (by (revision_of m.kind) refl)
       where
         same : ◌≡◌ {A = Subject} (record { tld = m.tld; day = m.day; rev = revision_of m.kind }) (record { tld = n.tld; day = n.day; rev = revision_of n.kind })
@@ -178,17 +178,14 @@ module _ (records : Records) (rows : List desk.Notice) (is : records.notices ≡
         by : (rev : Option ℕ) → revision_of m.kind ≡ rev → notice_key m ≡ notice_key n
         by None none =
             let other : revision_of n.kind ≡ None = sym (ap (λ (s : Subject). s.rev) same) ∙ none in
-            linked.one_absence (notice_key m) (notice_key n) (notice_value m) (notice_value n) (recorded i m at_i) (recorded j n at_j) day (none_is_absence m.kind none) (none_is_absence n.kind other)
+            only.one_absence (notice_key m) (notice_key n) (notice_value m) (notice_value n) (recorded i m at_i) (recorded j n at_j) day (none_is_absence m.kind none) (none_is_absence n.kind other)
         by (Some rev) of =
             let other : revision_of n.kind ≡ Some rev = sym (ap (λ (s : Subject). s.rev) same) ∙ of in
-            linked.one_verdict (notice_key m) (notice_key n) (notice_value m) (notice_value n) rev (recorded i m at_i) (recorded j n at_j) day of other
+            only.one_verdict (notice_key m) (notice_key n) (notice_value m) (notice_value n) rev (recorded i m at_i) (recorded j n at_j) day of other
 
-    received_days : HaveUniqueKeys received_day_of rows
+    pub received_days : HaveUniqueKeys received_day_of rows
     received_days i j m n t at_i at_j tells_m tells_n =
         let of_m = day_of_receipt m.tld m.day m.kind t tells_m in
         let of_n = day_of_receipt n.tld n.day n.kind t tells_n in
         one_place i j m n at_i at_j
-        (linked.one_receipt (notice_key m) (notice_key n) (notice_value m) (notice_value n) (recorded i m at_i) (recorded j n at_j) (of_m.1 ∙ sym of_n.1, of_m.2 ∙ sym of_n.2) of_m.0 of_n.0)
-
-    pub linked_only : HaveNoRivals rows
-    linked_only = record { subjects = subjects; received_days = received_days }
+        (only.one_receipt (notice_key m) (notice_key n) (notice_value m) (notice_value n) (recorded i m at_i) (recorded j n at_j) (of_m.1 ∙ sym of_n.1, of_m.2 ∙ sym of_n.2) of_m.0 of_n.0)

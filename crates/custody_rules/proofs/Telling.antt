@@ -1,15 +1,27 @@
 -- What notices tell, as it is gathered from the first of them on.
-use Rattle.std.proofs.Common.{◌≡◌, ◌↔◌, ◌⊎◌, inl, inr, ℕ, ◌+◌, ◌<◌, ◌≤◌, List, length, Bool, true, false, cond, Option, Some, None, refl, sym, ◌∙◌, ap, arith}
+use Rattle.std.proofs.Common.{◌≡◌, ◌↔◌, ◌⊎◌, inl, inr, ℕ, ◌+◌, ◌<◌, ◌≤◌, List, length, Bool, true, false, cond, Option, Some, None, Bor, refl, sym, ◌∙◌, ap, arith}
+use Rattle.std.specs.Iterator.{Yields, YieldsFirstRef}
 use Rattle.std.specs.List.{slice_get}
 use Rattle.std.specs.Cmp.{IsTotalOrder, Equal-is}
 use Rattle.std.proofs.Math.Nat.{eq-or-lt_of_le}
 use Rattle.std.specs.declared.cmp.Ordering.{Ordering}
 use Rattle.std.specs.BTreeMap.{is_at}
 use Rattle.std.proofs.lemmas.Cmp.{tied_itself}
+use Rattle.std.proofs.lemmas.Iterator.Consumers.{YieldsList-from_first, YieldsList-turn, YieldsList-end}
 use Rattle.std.proofs.lemmas.Map.Lookups.{CmpEqualImpliesEq}
-use Rattle.std.proofs.lemmas.Option.{slice_get_within}
+use Rattle.std.proofs.lemmas.Option.{slice_get_read, slice_get_within}
 use Rattle.desk.specs.declared.notices.Notice.{Notice}
 use Rattle.custody_rules.specs.inside.UniqueKeys.{IsKeyAmong, HaveUniqueKeys}
+
+-- the place of what an iterator gives among all that it had, and that it ends at the last
+module _ {S A : Type 0} (rest : S → List A) (all : List A) {s : S} (began : rest s ≡ all) (yielded : List (Bor A)) (t : S) (given : Yields (YieldsFirstRef rest) s yielded t) (r : Option (Bor A)) (u : S) (steps : YieldsFirstRef rest t r u) where
+  pub next_stands : (x : Bor A) → r ≡ Some x → slice_get all (length yielded) ≡ Some x.now
+  next_stands x is =
+      let turn = YieldsList-turn (YieldsList-from_first (λ y. y.now) rest all began) yielded t given r u x is steps in
+      slice_get_read all (length all) (length yielded) x.now refl turn.0 turn.1
+
+  pub none_stands : r ≡ None → length yielded ≡ length all
+  none_stands is = (YieldsList-end (YieldsList-from_first (λ y. y.now) rest all began) yielded t given r u is steps).1
 
 -- one of the first so many notices tells it
 pub record IsToldEarly {T : Type 0} (unique_key_of : Notice → Option T) (notices : List Notice) (count : ℕ) (t : T) : Type 0 where

@@ -1,13 +1,14 @@
 //! Blocks of parts: whether none is named twice, and which are free.
 ghost use Rattle.std.specs.Prelude.{◌≡◌, IfOk, IfErr};
 ghost use Rattle.custody_records.specs.MemoryRecords.{records_of};
+ghost use Rattle.custody_records.specs.RegistryRows.{rows_left};
 ghost use Rattle.custody_machine.specs.StoredState.{HaveExtentsInRange, HaveBlocksOnce};
 ghost use Rattle.custody_rules.specs.Blocks.{IsMapOf, extents_of_all};
 ghost use Rattle.custody_rules.specs.Breaks.{ReportsBreak};
 
 use crate::extents::part_extents;
 use custody_machine::{Damage, Failure};
-use custody_records::{Part, Records};
+use custody_records::{AllRows, Part, Records};
 use std::alloc::{AllocError, Global};
 use vault_volume::{Extent, ExtentMap, MapError};
 
@@ -30,8 +31,8 @@ pub(crate) fn map_of(alloc: Global, records: &Records) -> Result<ExtentMap, Fail
 }
 
 /// The extents of all parts, one after the other.
-fn extents_of_all(alloc: Global, parts: &[Part]) -> Result<Vec<Extent>, AllocError>
-    ensures { IfOk result (λ all. all.items ≡ extents_of_all parts.now) }
+fn extents_of_all(alloc: Global, parts: AllRows<'_, Part>) -> Result<Vec<Extent>, AllocError>
+    ensures { IfOk result (λ all. all.items ≡ extents_of_all (rows_left parts.entry)) }
 {
     let mut all = Vec::new(alloc);
     for part in parts {

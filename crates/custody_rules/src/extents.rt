@@ -2,10 +2,11 @@
 ghost use Rattle.std.specs.Prelude.{◌≡◌, ◌↔◌, IsTrue, All, true, false};
 ghost use Rattle.vault_volume.specs.Extents.{blocks_of};
 ghost use Rattle.custody_records.specs.MemoryRecords.{records_of};
+ghost use Rattle.custody_records.specs.RegistryRows.{rows_left};
 ghost use Rattle.custody_machine.specs.StoredState.{HaveExtentsInRange, AreExtents};
 ghost use Rattle.custody_rules.specs.Blocks.{IsInRange, part_extents};
 
-use custody_records::{Part, Records};
+use custody_records::{AllRows, Part, Records};
 use vault_volume::{Extent, blocks_for};
 
 /// Whether the extents of each part lie in the volume, are not empty, have not block 0, and have as
@@ -17,10 +18,10 @@ pub(crate) fn are_in_range(records: &Records) -> bool
     all_in_range(records.parts(), records.blocks())
 }
 
-fn all_in_range(parts: &[Part], blocks: u32) -> bool
-    ensures { IsTrue result ↔ All (IsInRange blocks) parts.now }
+fn all_in_range(mut parts: AllRows<'_, Part>, blocks: u32) -> bool
+    ensures { IsTrue result ↔ All (IsInRange blocks) (rows_left parts.entry) }
 {
-    parts.iter().all(|part| is_in_range(part, blocks))
+    parts.all(|part| is_in_range(part, blocks))
 }
 
 fn is_in_range(part: &Part, blocks: u32) -> bool

@@ -5,13 +5,14 @@ ghost use Rattle.std.specs.List.{list_all};
 ghost use Rattle.custody_machine.specs.NameReading.{read_name};
 ghost use Rattle.custody_machine.specs.StoredState.{AreLinked, is_name_of_part, revision_of};
 ghost use Rattle.custody_records.specs.MemoryRecords.{records_of};
+ghost use Rattle.custody_records.specs.RegistryRows.{rows_left};
 ghost use Rattle.custody_records.specs.TypedRecords.{notice_key, notice_value, key_of_part, part_value, release_value, hold_value};
 ghost use Rattle.custody_rules.specs.inside.Orders.{failed_revision_cmp};
 ghost use Rattle.custody_rules.specs.inside.Links.{has_parts, is_revision_due, is_in_series, has_registry, is_notice_linked, is_numbered, is_part_linked, is_release_linked, is_hold_linked, each_passes};
 
 use crate::revision::has_part_of;
 use crate::unique_keys::{FailedRevision, failed_revisions, revision_of};
-use custody_records::{Hold, Names, NoticeKey, Part, PartKey, Records, Release};
+use custody_records::{AllRows, Hold, Names, NoticeKey, Part, PartKey, Records, Release};
 use deposit_name::{DepositName, Kind, Tld};
 use desk::{Notice, NoticeKind};
 use schedule::Day;
@@ -23,7 +24,7 @@ pub(crate) fn are_linked(alloc: Global, records: &Records) -> Result<bool, Alloc
     ensures linked { IfOk result (λ linked. linked ≡ true → AreLinked (records_of records.now)) }
     ensures broken { IfOk result (λ linked. linked ≡ false → ¬ AreLinked (records_of records.now)) }
 {
-    let Some(failed) = failed_revisions(alloc, records.notices())? else {
+    let Some(failed) = failed_revisions(alloc, records)? else {
         return Ok(false);
     };
     Ok(
@@ -33,20 +34,20 @@ pub(crate) fn are_linked(alloc: Global, records: &Records) -> Result<bool, Alloc
     )
 }
 
-fn parts_are_linked(records: &Records, failed: &BTreeSet<FailedRevision>, parts: &[Part]) -> bool
-    ensures { result ≡ list_all (λ p. is_part_linked (records_of records.now) (contains failed_revision_cmp failed.now) (key_of_part p) (part_value p)) parts.now }
+fn parts_are_linked(
+    records: &Records,
+    failed: &BTreeSet<FailedRevision>,
+    mut parts: AllRows<'_, Part>,
+) -> bool
+    ensures { result ≡ list_all (λ p. is_part_linked (records_of records.now) (contains failed_revision_cmp failed.now) (key_of_part p) (part_value p)) (rows_left parts.entry) }
 {
-    parts
-        .iter()
-        .all(|part| part_is_linked(records, failed, part))
+    parts.all(|part| part_is_linked(records, failed, part))
 }
 
-fn notices_are_linked(records: &Records, notices: &[Notice]) -> bool
-    ensures { result ≡ list_all (λ n. is_notice_linked (records_of records.now) (notice_key n) (notice_value n)) notices.now }
+fn notices_are_linked(records: &Records, mut notices: AllRows<'_, Notice>) -> bool
+    ensures { result ≡ list_all (λ n. is_notice_linked (records_of records.now) (notice_key n) (notice_value n)) (rows_left notices.entry) }
 {
-    notices
-        .iter()
-        .all(|notice| notice_is_linked(records, notice))
+    notices.all(|notice| notice_is_linked(records, notice))
 }
 
 fn releases_are_linked(records: &Records, releases: &[Release]) -> bool

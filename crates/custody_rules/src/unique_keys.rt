@@ -3,11 +3,14 @@ ghost use Rattle.std.specs.Prelude.{◌≡◌, ◌↔◌, Option, Some, true, If
 ghost use Rattle.std.specs.BTreeSet.{contains};
 ghost use Rattle.std.proofs.lemmas.Map.Lookups.{CmpEqualImpliesEq};
 ghost use Rattle.desk.specs.declared.notices.Notice.{Notice};
+ghost use Rattle.custody_records.specs.MemoryRecords.{records_of};
+ghost use Rattle.custody_records.specs.RegistryRows.{rows_left};
 ghost use Rattle.custody_rules.specs.declared.unique_keys.FailedRevision.{FailedRevision};
-ghost use Rattle.custody_rules.specs.inside.UniqueKeys.{HaveNoRivals, HaveUniqueKeys, IsKeyAmong, subject_of, received_day_of, failed_revision_of};
+ghost use Rattle.custody_rules.specs.inside.UniqueKeys.{HaveNoRivals, HaveUniqueKeys, IsKeyAmong, has_failed, subject_of, received_day_of, failed_revision_of};
 ghost use Rattle.custody_machine.specs.StoredState.{revision_of};
 ghost use Rattle.custody_rules.specs.inside.Orders.{exact_subjects, exact_registry_days, exact_failed_revisions, failed_revision_cmp};
 
+use custody_records::{AllRows, Records};
 use deposit_name::Tld;
 use desk::{Notice, NoticeKind};
 use schedule::Day;
@@ -108,11 +111,11 @@ pub(crate) fn revision_of(kind: &NoticeKind) -> Option<u8>
 /// All that the notices tell of one kind, or `None` where two of them tell the same.
 pub(crate) fn collect_keys<T: UniqueKey>(
     alloc: Global,
-    notices: &[Notice],
+    notices: AllRows<'_, Notice>,
 ) -> Result<Option<BTreeSet<T>>, AllocError>
-    ensures all { IfOk result (λ told. IfSome told (λ all. (t : T) → (contains T.cmp all t ≡ true) ↔ IsKeyAmong T.unique_key_of notices.now t)) }
-    ensures once { IfOk result (λ told. IfSome told (λ _. HaveUniqueKeys T.unique_key_of notices.now)) }
-    ensures twice { IfOk result (λ told. IfNone told (¬ HaveUniqueKeys T.unique_key_of notices.now)) }
+    ensures all { IfOk result (λ told. IfSome told (λ all. (t : T) → (contains T.cmp all t ≡ true) ↔ IsKeyAmong T.unique_key_of (rows_left notices.entry) t)) }
+    ensures once { IfOk result (λ told. IfSome told (λ _. HaveUniqueKeys T.unique_key_of (rows_left notices.entry))) }
+    ensures twice { IfOk result (λ told. IfNone told (¬ HaveUniqueKeys T.unique_key_of (rows_left notices.entry))) }
 {
     let mut all = BTreeSet::new(alloc);
     for notice in notices {
@@ -129,16 +132,16 @@ pub(crate) fn collect_keys<T: UniqueKey>(
 /// or two absences.
 pub(crate) fn failed_revisions(
     alloc: Global,
-    notices: &[Notice],
+    records: &Records,
 ) -> Result<Option<BTreeSet<FailedRevision>>, AllocError>
-    ensures failed { IfOk result (λ found. IfSome found (λ failed. (t : FailedRevision) → (contains failed_revision_cmp failed t ≡ true) ↔ IsKeyAmong failed_revision_of notices.now t)) }
-    ensures once { IfOk result (λ found. IfSome found (λ _. HaveNoRivals notices.now)) }
-    ensures twice { IfOk result (λ found. IfNone found (¬ HaveNoRivals notices.now)) }
+    ensures failed { IfOk result (λ found. IfSome found (λ failed. (t : FailedRevision) → contains failed_revision_cmp failed t ≡ has_failed (records_of records.now).notices t)) }
+    ensures once { IfOk result (λ found. IfSome found (λ _. HaveNoRivals (records_of records.now).notices)) }
+    ensures twice { IfOk result (λ found. IfNone found (¬ HaveNoRivals (records_of records.now).notices)) }
 {
-    if collect_keys::<Subject>(alloc, notices)?.is_none()
-        || collect_keys::<RegistryDay>(alloc, notices)?.is_none()
+    if collect_keys::<Subject>(alloc, records.notices())?.is_none()
+        || collect_keys::<RegistryDay>(alloc, records.notices())?.is_none()
     {
         return Ok(None);
     }
-    collect_keys(alloc, notices)
+    collect_keys(alloc, records.notices())
 }

@@ -86,5 +86,9 @@ pub fn load_records<S: Alter>(
 {
     let (number, blocks) = volume;
     let lists = load_lists(db, has_holds, alloc)?;
-    Records::of_lists(number, blocks, lists).ok_or(StoreFault::Damaged(RowDamage::Form))
+    match Records::of_lists(alloc, number, blocks, lists) {
+        Ok(Some(records)) => Ok(records),
+        Ok(None) => Err(StoreFault::Damaged(RowDamage::Form)),
+        Err(_) => Err(StoreFault::Failed),
+    }
 }

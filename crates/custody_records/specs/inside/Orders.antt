@@ -74,3 +74,29 @@ revision_total = then_total (on_total (λ (k : PartKey). k.tld) nat_list_cmp_tot
 pub part_revisions_ascend : (place a b : PartKey) → part_cmp a b ≡ Less → ordering_index (revision_cmp a place) ≤ ordering_index (revision_cmp b place)
 part_revisions_ascend place a b less =
     ascends revision_total a b place (three_in_order (text_cmp a.tld b.tld) (nat_cmp a.day b.day) (nat_cmp a.rev b.rev) (nat_cmp a.part b.part) less)
+
+-- ---- the first of the fields is the registry
+
+first_less : (o rest : Ordering) → o ≡ Less → ordering_then o rest ≡ Less
+first_less o rest e = grind arith
+
+first_equal : (o rest : Ordering) → ordering_then o rest ≡ Equal → o ≡ Equal
+first_equal o rest e = grind arith
+
+pub part_by_registry : (a b : PartKey) → text_cmp a.tld b.tld ≡ Less → part_cmp a b ≡ Less
+part_by_registry a b less = first_less (text_cmp a.tld b.tld) _ less
+
+pub notice_by_registry : (a b : NoticeKey) → text_cmp a.tld b.tld ≡ Less → notice_cmp a b ≡ Less
+notice_by_registry a b less = first_less (text_cmp a.tld b.tld) _ less
+
+pub part_of_registry : (tld : List ℕ) (key : PartKey) → text_cmp key.tld tld ≡ Equal → key.tld ≡ tld
+part_of_registry tld key same = text_exact key.tld tld same
+
+pub notice_of_registry : (tld : List ℕ) (key : NoticeKey) → text_cmp key.tld tld ≡ Equal → key.tld ≡ tld
+notice_of_registry tld key same = text_exact key.tld tld same
+
+pub part_of_day : (place : List ℕ × ℕ) (key : PartKey) → day_cmp (key.tld, key.day) place ≡ Equal → key.tld ≡ place.0
+part_of_day place key same = text_exact key.tld place.0 (first_equal (text_cmp key.tld place.0) _ same)
+
+pub part_of_revision : (place key : PartKey) → revision_cmp key place ≡ Equal → key.tld ≡ place.tld
+part_of_revision place key same = text_exact key.tld place.tld (first_equal (text_cmp key.tld place.tld) _ same)

@@ -1,4 +1,4 @@
-use Rattle.std.proofs.Common.{◌≡◌, take}
+use Rattle.std.proofs.Common.{◌≡◌, map}
 use Rattle.vault_volume.specs.Vault.{volume_of}
 use Rattle.custody.specs.Reading.{ReadsVault}
 use Rattle.custody.proofs.AuditLemmas.{IsPicked, IsPicking, IsPassing}
@@ -10,5 +10,5 @@ invariant-loop-part g l =
     record {
       read : ReadsVault l.fn.vault l.vault;
       failures : g.V.Volume.failures (volume_of l.vault) ≡ g.V.Volume.failures (volume_of l.fn.vault);
-      picked : IsPicked (IsPicking g.V.Volume.tells image) (IsPassing g.V.Volume.tells image) (take l.part-index l.part-items) l.damaged.items;
+      picked : IsPicked (IsPicking g.V.Volume.tells image) (IsPassing g.V.Volume.tells image) (map (λ part. part.now) l.yielded) l.damaged.items;
     }

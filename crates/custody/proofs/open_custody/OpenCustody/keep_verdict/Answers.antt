@@ -1,6 +1,6 @@
 use Rattle.std.proofs.Common.{false, ◌≡◌, ◌≤◌, refl, sym, ◌∙◌, ap, subst, Ok, Err, inl, inr}
 use Rattle.std.specs.FinMap.{get}
-use Rattle.custody_records.specs.MemoryRecords.{records_of}
+use Rattle.custody_records.specs.MemoryRecords.{records_of, HasNoticeRoom}
 use Rattle.custody_records.specs.inside.Orders.{notice_total}
 use Rattle.custody_records.specs.Records.{Records, with_notice}
 use Rattle.custody_records.specs.Rows.{greatest_integer}
@@ -55,6 +55,9 @@ returns-in_err-insert_notice g c =
     ))
     c.in_err-insert_notice.ensures.kind c.from_residual-in_err-insert_notice.ensures.1
     (GoRuling (AddsVerdict stated), c.requires.ruled, inr (inr (inl refl)))
+
+pub add_notice-requires-clause-room : goal.add_notice-requires-clause-room
+add_notice-requires-clause-room g c = subst (λ (k : NoticeKey). HasNoticeRoom k.tld c.reserve_number.new.records) (sym c.notice_of-notice.ensures.key) c.in_ok-number.ensures.room
 
 pub add_notice-requires-clause-new : goal.add_notice-requires-clause-new
 add_notice-requires-clause-new g c =

@@ -1,9 +1,11 @@
-use Rattle.std.proofs.Common.{◌≡◌, inl, ℕ, false, refl, sym, ap, subst, arith, Err}
+use Rattle.std.proofs.Common.{◌≡◌, inl, ℕ, false, refl, sym, ap, subst, arith, rules, Err}
 use Rattle.vault_volume.specs.Extents.{HasFewer, block_count}
 use Rattle.vault_volume.specs.Image.{DiffersOnlyIn}
 use Rattle.vault_volume.specs.Disk.{LeavesOnly}
 use Rattle.vault_volume.specs.Vault.{volume_of, IsFree}
 use Rattle.vault_volume.proofs.ImageLemmas.{same_in}
+use Rattle.deposit_name.specs.Name.{Name}
+use Rattle.custody_records.specs.MemoryRecords.{HasPartRoom}
 use Rattle.custody_machine.specs.Machine.{Receive}
 use Rattle.custody_machine.specs.Rulings.{AddsPart, GoRuling}
 use Rattle.custody.specs.declared.open_custody.OpenCustody.{OpenCustody}
@@ -46,3 +48,15 @@ returns-in-Err g c = λ text now order decides.
           (λ tells kept. subst (λ v. LeavesOnly g.V.Volume.moment g.V.Volume.left_at (volume_of old.vault) v (DiffersOnlyIn free (image_of old))) (sym h.volume)
           (nothing_yet g.V.Volume.moment g.V.Volume.left_at (volume_of old.vault) _ kept.elsewhere)) (Err c.from.result) (ap Err c.from.ensures);
     }
+
+pub returns-in-Ok-begin : goal.returns-in-Ok-begin
+returns-in-Ok-begin g c = λ text now order decides. record {
+  order = order;
+  decides = decides;
+  records = c.make_room.ensures.same;
+  store = refl;
+  room = subst (λ (n : Name). HasPartRoom n.tld c.make_room.new.records) c.name.view_is c.in-Ok.ensures.part;
+  empty = c.in-Ok.ensures.empty;
+  extents = c.in-Ok.ensures.extents;
+  written = search rules;
+}
