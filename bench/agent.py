@@ -6,9 +6,9 @@
 It takes about two minutes. It needs the program that `rt run` builds in crates/escrow, cp, sync, sqlite3 and GNU time.
 
 The rows of the vaults stand in the order in which deposits come, day by day. `by day / in order` compares an opening with
-that of the same rows in the order of their keys. Time and memory of a part are those above the first opening; memory is a
-peak. What is compared is done by turns, and each number is the least of several, since whatever else the machine does only
-adds to it.
+that of the same rows in the order of their keys, and `the database alone` compares what of the two is the database's. Time
+and memory of a part are those above the first opening; memory is a peak. What is compared is done by turns, and each number
+is the least of several, since whatever else the machine does only adds to it.
 """
 import contextlib
 import datetime
@@ -151,25 +151,28 @@ def two_orders(top, registries, days):
 
 
 def measured(by_day, in_order):
-    """The seconds of an opening and its peak memory, and the seconds of the same rows in order, of the database and of
-    sqlite3."""
-    return *opening(by_day), opening(in_order)[0], seconds(look, by_day), seconds(check_by_sqlite, by_day)
+    """The seconds of an opening and its peak memory, and the seconds of the same rows in order, of the database with each
+    of the two, and of sqlite3."""
+    alone = seconds(look, by_day), seconds(look, in_order)
+    return *opening(by_day), opening(in_order)[0], *alone, seconds(check_by_sqlite, by_day)
 
 
 def openings(top):
-    print("\n| parts | registries | ms | by day / in order | of it the database | / `sqlite3` | a part (×) | MiB | bytes a part |")
-    print("|---|---|---|---|---|---|---|---|---|")
+    heads = "parts", "registries", "ms", "by day / in order", "the database alone", "of it the database", "/ `sqlite3`"
+    print(f"\n| {' | '.join(heads)} | a part (×) | MiB | bytes a part |")
+    print("|---|---|---|---|---|---|---|---|---|---|")
     first = unit = None
     for registries, days in SIZES:
         count = registries * days
         with two_orders(top, registries, days) as (by_day, in_order):
             taken = [measured(by_day, in_order) for _ in range(runs(count))]
-        ours, peak, sorted_rows, database, check = map(min, zip(*taken))
+        ours, peak, sorted_rows, database, sorted_database, check = map(min, zip(*taken))
         first = first or (ours, peak, count)
         each = (ours - first[0]) / (count - first[2]) if count > first[2] else 0
         unit = each if count == UNIT else unit
         memory = f"{(peak - first[1]) * 1048576 / (count - first[2]):,.0f}" if each else ""
-        shown = f"{ours / sorted_rows:.2f} | {database / ours:.0%} | {ours / check:.1f} | {f'{each / unit:.2f}' if unit else ''}"
+        orders = f"{ours / sorted_rows:.2f} | {database / sorted_database:.2f}"
+        shown = f"{orders} | {database / ours:.0%} | {ours / check:.1f} | {f'{each / unit:.2f}' if unit else ''}"
         print(f"| {count:,} | {registries} | {ours * 1000:,.0f} | {shown} | {peak:.1f} | {memory} |", flush=True)
 
 
