@@ -1,8 +1,8 @@
 #!/usr/bin/env python3
-"""Times `deposit pack`, `check` and `unpack` of a full deposit of 8 MiB, and `pack` and `check` of a differential one of
-100 KiB behind it and thirty others. They are compared with `escrow preview` of the same deposits, and with a Python program
-that packs the same tables and checks nothing: it has to make the same bytes. The peak memory of each call is a multiple of
-the full deposit.
+"""Times `deposit pack`, `check`, `unpack` and `restore` of a full deposit of 8 MiB, and `pack`, `check` and `restore` of a
+differential one of 100 KiB behind it and thirty others. They are compared with `escrow preview` of the same deposits, and
+with Python programs that pack the same tables and restore the same deposits, and check nothing: they have to make the same
+bytes. The peak memory of each call is a multiple of the full deposit.
 
     bench/pack.py [PROGRAM]
 
@@ -103,6 +103,29 @@ def pack_by_hand(words):
         (out / name).write_bytes(data[at : at + PART])
 
 
+# ---- restoring by hand
+
+OWNERS = {"domainContacts": "domain", "domainStatuses": "domain", "domainNameServers": "domain", "hostAddresses": "host"}
+
+
+def restore_by_hand(out, *parts):
+    """Does what `deposit restore` does with these parts, by day, and checks nothing."""
+    tables = {table: {} for table in TABLES}
+    for contents, deletes in deposits_in(b"".join(pathlib.Path(part).read_bytes() for part in parts)):
+        for table, found in tables.items():
+            owner = OWNERS.get(table, table)
+            for rows in contents.get(table, ()), contents.get(owner, ()), deletes.get(owner, ()):
+                for row in rows:
+                    found.pop(row[0], None)
+        for table, rows in contents.items():
+            for row in rows:
+                tables[table].setdefault(row[0], []).append(row)
+    pathlib.Path(out).mkdir()
+    for table, found in tables.items():
+        rows = sorted((row for rows in found.values() for row in rows), key=lambda row: [field.encode() for field in row])
+        pathlib.Path(out, f"{table}.csv").write_bytes(spelled(rows))
+
+
 # ---- the comparison
 
 
@@ -110,12 +133,15 @@ def calls_for(program, vault, deposits, out):
     """What is timed for the last of these deposits, by names: the words of each call."""
     vault.mkdir()
     stated, last = chain.fill(program, vault, deposits), deposits[-1]
+    parts = [part for deposit in deposits for part in deposit.parts]
     calls = {
         "`preview`": [program, "preview", vault, *stated],
         "`pack`": [vaults.DEPOSIT, "pack", last.tables, *last.packing, "--out", out],
         "`check`": [vaults.DEPOSIT, "check", *last.parts, *last.after],
         "`unpack`": [vaults.DEPOSIT, "unpack", *last.parts, "--out", out],
         "Python": [sys.executable, __file__, "--by-hand", last.tables, *last.packing, "--out", out],
+        "`restore`": [vaults.DEPOSIT, "restore", *parts, "--out", out],
+        "Python's": [sys.executable, __file__, "--restore-by-hand", out, *parts],
     }
     return {name: words for name, words in calls.items() if name != "`unpack`" or not last.after}
 
@@ -139,6 +165,7 @@ def agree(calls, deposit, out):
     assert " RECEIPT " in printed["`preview`"], printed
     assert printed["`check`"].startswith("PASS "), printed
     assert made["`pack`"] == made["Python"] == {pathlib.Path(it.name): it.read_bytes() for it in deposit.parts}
+    assert made["`restore`"] == made["Python's"]
     if "`unpack`" in made:
         del made["`unpack`"][pathlib.Path("envelope.json")]
         assert made["`unpack`"] == files_of(deposit.tables)
@@ -182,5 +209,7 @@ def main():
 if __name__ == "__main__":
     if sys.argv[1:2] == ["--by-hand"]:
         pack_by_hand(sys.argv[2:])
+    elif sys.argv[1:2] == ["--restore-by-hand"]:
+        restore_by_hand(*sys.argv[2:])
     else:
         main()

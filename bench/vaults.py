@@ -159,4 +159,4 @@ def packing(day, kind, *rest):
 def packed(tables, words, out):
     """Packs the tables of a folder: the paths of the parts, and the words that state the deposit."""
     *lines, call, _ = seconds(DEPOSIT, "pack", tables, *words, "--out", out)[1].decode().splitlines()
-    return [out / line.split()[0] for line in lines], call.split()[3:]
+    return [out / line.split()[0] for line in lines if ".ryde " in line], call.split()[3:]

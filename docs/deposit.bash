@@ -4,11 +4,13 @@ declare -gA _deposit_options=(
     [pack]='--tld=TLD --date=DATE --kind=KIND --revision=N --id=ID --previous=ID --after=FILE... --header --out=FOLDER'
     [check]='--after=FILE...'
     [unpack]='--out=FOLDER'
+    [restore]='--header --out=FOLDER'
 )
 declare -gA _deposit_places=(
     [pack]='TABLES'
     [check]='FILE...'
     [unpack]='FILE...'
+    [restore]='FILE...'
 )
 declare -gA _deposit_values=(
     [pack KIND]='full diff incr'

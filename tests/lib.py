@@ -123,14 +123,17 @@ def packed(kind: str = "full", day: str = DAY, *, tables: Mapping[str, str] = {}
 
     A `full` one has all eight tables, empty but for those that are given. A `diff` or `incr` one has just those, and the keys
     that it deletes; its counts are those behind the deposits that it follows, which come `after`. The number is that of the
-    day, unless another one is given.
+    day, unless another one is given. What is given as `previous` need not be the deposit that it follows.
     """
     if kind == "full":
         tables = dict.fromkeys(TABLES, "") | dict(tables)
     files = {f"{table}.csv": text for table, text in tables.items()}
     files |= {f"deletes/{table}.csv": text for table, text in deletes.items()}
     words = ["--tld", "example", "--date", day, "--kind", kind, "--revision", str(revision), "--id", number or number_of(day)]
-    return _packed((*words, *(["--previous", previous] if previous else [])), tuple(files.items()), tuple(after))
+    if previous and not after:
+        words += ["--previous", previous]
+    made = _packed(tuple(words), tuple(files.items()), tuple(after))
+    return changed(made, prevId=previous) if previous else made
 
 
 @functools.cache

@@ -6,8 +6,8 @@
 - `texts` runs `bench_tools texts`, each line of which is an answer. If an allocation is refused, each line has to be the one
   that is printed if none is; but one line may end in a want of memory. It does not refuse the allocations for the program's
   own words, as many as a run makes that only prints its usage.
-- `packing` runs `deposit` over a small deposit: `pack`, `check` and `unpack`. It has to print what it prints, and to make
-  the files that it makes, if none is refused; or it ends with status 3, and makes all files or none.
+- `packing` runs `deposit` over a small deposit: `pack`, `check`, `unpack` and `restore`. It has to print what it prints, and
+  to make the files that it makes, if none is refused; or it ends with status 3, and makes all files or none.
 - `calls` runs `agent_script` over each of its worked examples that repeats a call after a want of memory (`! insist`,
   `! resend`). It has to print what it prints if none is refused; or the script itself, and not the agent, finds no memory,
   and the program ends with status 1 and the beginning of that.
@@ -124,7 +124,7 @@ def try_all(title: str, program: Program, given: str, every: int, judge: Callabl
 
 
 def try_packing(every: int) -> Counter:
-    """Packs, checks and unpacks the deposit of a registry of some rows."""
+    """Packs, checks, unpacks and restores the deposit of a registry of some rows."""
     counts = Counter()
     with tempfile.TemporaryDirectory() as folder:
         write_tables(Path(folder))
@@ -132,7 +132,8 @@ def try_packing(every: int) -> Counter:
         _, packed = run_once(program_of("deposit", "pack", f"{folder}/tables", *words, "--out", "out"), "", {})
         part = Path(folder, PART)
         part.write_bytes(packed.files[f"out/{PART}"])
-        for call in ("pack", f"{folder}/tables", *words, "--out", "out"), ("check", str(part)), ("unpack", str(part), "--out", "out"):
+        for call in (("pack", f"{folder}/tables", *words, "--out", "out"), ("check", str(part)),
+                     ("unpack", str(part), "--out", "out"), ("restore", str(part), "--out", "out")):
             counts += try_all(f"deposit {call[0]}", program_of("deposit", *call), "", every, faults_of_packing,
                               "as without in {} runs, ended with status 3 in {}", Counter())
     return counts

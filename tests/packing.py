@@ -6,8 +6,8 @@
 A case is a registry of some rows and its deposits: a full one, and then differential and incremental ones after changes to
 its tables. Each file is spelled at random: with needless quotes, CR LF, blank lines, a byte order mark, a header, or no line
 end behind its last row. `deposit pack` has to write the parts that this script makes, `deposit check` to let them pass
-with their rows, and `deposit unpack` to give each table in its one spelling. The script knows the formats from
-docs/FORMATS.md. A case depends on the seed and its number alone; `--only K` runs that one, and leaves its files in
+with their rows, `deposit unpack` to give each table in its one spelling, and `deposit restore` to give the tables after all
+of them. The script knows the formats from docs/FORMATS.md. A case depends on the seed and its number alone; `--only K` runs that one, and leaves its files in
 `packing.K`.
 
 200 cases take ten seconds. It needs the program that `rt run` builds in crates/deposit.
@@ -58,6 +58,45 @@ def same(wanted: object, got: object, what: str) -> None:
         raise Wrong(f"{what}\n- {wanted!r}\n+ {got!r}"[:2000])
 
 
+def rows_told(contents: dict[str, Rows], deletes: dict[str, Rows]) -> list[str]:
+    """What `deposit` prints of tables and of deleted keys."""
+    return [*(f"{table} {len(rows)}" for table, rows in contents.items()),
+            *(f"deletes/{table} {len(rows)}" for table, rows in deletes.items())]
+
+
+# Of each table, whose rows it has: those of the objects of this table.
+OWNERS = {"domain": "domain", "domainContacts": "domain", "domainStatuses": "domain", "domainNameServers": "domain",
+          "host": "host", "hostAddresses": "host", "contact": "contact", "registrar": "registrar"}
+# The columns that name objects, and their tables.
+NAMES = {"domain": {2: "contact", 3: "registrar"}, "host": {2: "registrar"}, "contact": {2: "registrar"},
+         "domainContacts": {0: "domain", 2: "contact"}, "domainStatuses": {0: "domain"},
+         "domainNameServers": {0: "domain", 1: "host"}, "hostAddresses": {0: "host"}, "registrar": {}}
+# The tables and the deleted keys of a deposit.
+Sent = tuple[dict[str, Rows], dict[str, Rows]]
+
+
+def restored(chain: list[Sent]) -> dict[str, Rows]:
+    """The tables after these deposits: the rows that each has, unless a later one renews their object's rows of the table."""
+    found: dict[str, Rows] = {table: [] for table in TABLES}
+    for place, (contents, _) in enumerate(chain):
+        for table, rows in contents.items():
+            found[table] += [row for row in rows if not any(renews(later, table, row[0]) for later in chain[place + 1:])]
+    return {table: sorted(rows, key=lambda row: [field.encode() for field in row]) for table, rows in found.items()}
+
+
+def renews(sent: Sent, table: str, key: str) -> bool:
+    contents, deletes = sent
+    owner = OWNERS[table]
+    return any(row[0] == key for rows in (contents.get(table, ()), contents.get(owner, ()), deletes.get(owner, ())) for row in rows)
+
+
+def is_whole(tables: dict[str, Rows]) -> bool:
+    """Whether each object that a row names is there."""
+    keys = {table: {row[0] for row in tables[table]} for table in DELETED}
+    return all(row[column] in keys[of] or (table, column, row[column]) == ("domain", 2, "")
+               for table, rows in tables.items() for row in rows for column, of in NAMES[table].items())
+
+
 @dataclass
 class Registry:
     """A registry: its rows, the keys after its last deposits, and the parts and ids that it has sent."""
@@ -70,6 +109,8 @@ class Registry:
     # The parts of the full deposit, and those of the differential ones since.
     full_parts: list[Path] = field(default_factory=list)
     later_parts: list[Path] = field(default_factory=list)
+    # What they have.
+    chain: list[Sent] = field(default_factory=list)
     ids: list[str] = field(default_factory=list)
     day: int = 1
 
@@ -95,14 +136,20 @@ class Registry:
                  *(["--previous", *previous] if previous else []), *(["--header"] if headers else []),
                  *(["--after", *self.dice.sample(after, len(after))] if after else [])]
         printed = ran("pack", tables, *words, "--out", out)
-        self.compare(kind, wanted, out, day, number, printed)
+        rows = rows_told(contents, deletes)
+        self.compare(kind, wanted, out, rows, day, number, printed)
         parts = sorted(out.iterdir())
-        self.checks(kind, contents, deletes, parts, after, f"{kind.upper()} {number} {day}")
+        self.checks(kind, rows, parts, after, f"{kind.upper()} {number} {day}")
         self.unpacks(contents, deletes, parts)
+        sent = contents, deletes
         if kind == "full":
-            self.full_parts = parts
+            self.full_parts, self.chain = parts, [sent]
         elif kind == "diff":
             self.later_parts += parts
+            self.chain.append(sent)
+        with_later = kind == "incr" and set(self.later_parts) <= set(after)
+        incremental = self.chain[:None if with_later else 1] + [sent]
+        self.restores(incremental if kind == "incr" else self.chain, [*after, *parts])
         if kind != "incr":
             self.ids.append(number)
 
@@ -120,17 +167,15 @@ class Registry:
         made.join()
         return made.joined
 
-    def compare(self, kind: str, wanted: bytes, out: Path, day: str, number: str, printed: str) -> None:
+    def compare(self, kind: str, wanted: bytes, out: Path, rows: list[str], day: str, number: str, printed: str) -> None:
         parts = parts_of(wanted)
         same(parts, {it.name: it.read_bytes() for it in out.iterdir()}, f"parts of {day}")
         lines = [f"{name} {len(part)}" for name, part in parts.items()]
         stated = f"example --date {day} --kind {kind} --revision 0 --parts {len(parts)} --id {number}"
         body = f'{{"date":"{day}","id":"{number}","kind":"{kind}","parts":{len(parts)},"revision":0,"tld":"example"}}'
-        same([*lines, f"escrow verify VAULT {stated}", body], printed.splitlines(), "what pack prints")
+        same([*rows, *lines, f"escrow verify VAULT {stated}", body], printed.splitlines(), "what pack prints")
 
-    def checks(self, kind: str, contents: dict[str, Rows], deletes: dict[str, Rows], parts: list[Path], after: list[Path], line: str) -> None:
-        rows = [f"{table} {len(rows)}" for table, rows in contents.items()]
-        rows += [f"deletes/{table} {len(rows)}" for table, rows in deletes.items()]
+    def checks(self, kind: str, rows: list[str], parts: list[Path], after: list[Path], line: str) -> None:
         left_out = ", without check 7" if kind == "full" else ", without checks 6, 7 and 11"
         same([f"PASS {line}{left_out}", *rows], ran("check", *parts).splitlines(), "check")
         if after:
@@ -145,6 +190,18 @@ class Registry:
         text = found.pop("envelope.json")
         same({name: "".join(map(spelled, rows)).encode() for name, rows in wanted.items()}, found, "unpack")
         same(True, text in b"".join(it.read_bytes() for it in parts), "envelope.json")
+
+    def restores(self, chain: list[Sent], parts: list[Path]) -> None:
+        folder, wanted, headers = self.folder / f"restored{self.day}", restored(chain), self.dice.random() < 0.5
+        parts = self.dice.sample(parts, len(parts))
+        done = run("restore", *parts, *(["--header"] if headers else []), "--out", folder)
+        files = {table: "".join(map(spelled, [*([COLUMNS[table]] if headers else []), *rows])).encode() for table, rows in wanted.items()}
+        told = [*(f"{table} {len(rows)}" for table, rows in wanted.items()),
+                *(f"{folder}/{table}.csv {len(text)}" for table, text in files.items())]
+        printed = done.stdout.decode().splitlines()
+        same((0, len(chain), told), (done.returncode, sum(line.startswith("PASS ") for line in printed), printed[-len(told):]), "restore")
+        same({f"{table}.csv": text for table, text in files.items()}, {it.name: it.read_bytes() for it in folder.iterdir()}, "the tables")
+        same(is_whole(wanted), not done.stderr, f"the note {done.stderr.decode()!r}")
 
     def full(self) -> None:
         self.keys = {table: {row[0] for row in self.rows[table]} for table in DELETED}

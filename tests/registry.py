@@ -8,9 +8,9 @@ rows, CR LF, needless quotes. Each day its objects change, come and go, and name
 among them, it packs a full deposit, on other days a differential one of what differs from yesterday. A server of that day
 takes the parts by curl and then the line that `deposit pack` printed last: the answer has to be a receipt.
 
-After so many days (30) the agent releases the parts. The last full deposit and those since are fetched and unpacked. Each
-file has to have the bytes that this script spells with Python's csv module, and all of them together have to make up the
-tables of the last day. `deposit check` has to pass the last deposit behind those before it.
+After so many days (30) the agent releases the parts. The last full deposit and those since are fetched and unpacked: each
+file has to have the bytes that this script spells with Python's csv module. `deposit restore` has to make up the tables of
+the last day, byte for byte, and `deposit check` to pass the last deposit behind those before it.
 
 What the registry does depends on the seed. A domain takes some 80 bytes, so that 100,000 fit into the 8 MiB of a deposit.
 It needs curl, and the programs that `rt run` builds in crates/deposit and crates/escrow. The last line counts the days and,
@@ -32,7 +32,7 @@ import time
 from collections.abc import Iterable, Sequence
 from pathlib import Path
 
-from lib import ESCROW, PACKER, TABLES, Room, Wrong, answer_of, built, notice, parser, part_name, response, tell
+from lib import ESCROW, PACKER, TABLES, Room, Wrong, answer_of, built, lines_of, notice, parser, part_name, response, tell
 from reasons import COLUMNS, COUNTED, DELETED
 
 TLD, FIRST = "zz", datetime.date(2026, 8, 2)
@@ -199,20 +199,6 @@ def differences(before: Objects, now: Objects) -> tuple[dict[str, Rows], dict[st
     return tuple({name: rows for name, rows in tables.items() if rows} for tables in (tables_of(new), gone))
 
 
-def after(objects: Objects, contents: dict[str, Rows], deletes: dict[str, Rows]) -> Objects:
-    """The objects after a differential deposit: the whole of each whose key it has is replaced, or gone."""
-    made = {kind: dict(there) for kind, there in objects.items()}
-    for kind, keys in deletes.items():
-        for [key] in keys:
-            made[kind].pop(key, None)
-    for kind, tables in TABLES_OF.items():
-        made[kind] |= {row[0]: tuple([] for _ in tables) for row in contents.get(kind, ())}
-        for place, table in enumerate(tables):
-            for row in contents.get(table, ()):
-                made[kind][row[0]][place].append(row)
-    return made
-
-
 # ---- spelling
 
 def exported(dice: random.Random, header: Row, rows: Rows) -> bytes:
@@ -231,16 +217,12 @@ def spelled(rows: Iterable[Row]) -> bytes:
     return text.getvalue().encode()
 
 
-def read(path: Path) -> Rows:
-    return list(csv.reader(io.StringIO(path.read_bytes().decode(), newline="")))
-
-
-def ran(*words: str | Path) -> list[str]:
-    """The lines that a program prints where it does what it is asked."""
+def ran(*words: str | Path, notes: Sequence[str] = ()) -> list[str]:
+    """The lines that a program prints where it does what it is asked, with these notes."""
     done = answer_of(words, seconds=600)
-    if done.status or done.err:
+    if done.status or lines_of(done.err) != [*notes]:
         raise Wrong("\n".join([" ".join(map(str, words))[:400], *done.lines()[:20]]))
-    return done.lines()
+    return lines_of(done.out)
 
 
 # ---- the month
@@ -256,7 +238,8 @@ class Month:
     def __init__(self, room: Room, packer: Path, registry: Registry, days: int):
         self.room, self.packer, self.registry = room, packer, registry
         self.notices, self.names = 0, []
-        # The parts of the last full deposit and of those since, and the tables and deleted keys of each.
+        # All parts, those of the last full deposit and of those since, and the tables and deleted keys of each of these.
+        self.parts: list[Path] = []
         self.chain: list[list[Path]] = []
         self.sent: list[tuple[dict[str, Rows], dict[str, Rows]]] = []
         self.seconds: dict[str, list[tuple[int, float, float]]] = {"full": [], "diff": []}
@@ -278,6 +261,7 @@ class Month:
         packed = time.monotonic()
         self.send(parts, body)
         self.seconds[kind].append((sum(part.stat().st_size for part in parts), packed - began, time.monotonic() - packed))
+        self.parts += parts
         self.chain.append(parts)
         self.sent.append((contents, deletes))
         self.counts(parts[0])
@@ -294,11 +278,13 @@ class Month:
     def pack(self, kind: str) -> tuple[list[Path], str]:
         """The parts of a deposit, and what states it."""
         today, out = str(self.registry.today), self.folder() / "parts"
-        earlier = [part for parts in self.chain for part in parts]
-        yesterday = number_of(self.registry.today - datetime.timedelta(days=1))
+        behind = ["--after", *self.parts] if kind == "diff" else []
+        past = len(self.parts) - sum(map(len, self.chain))
+        notes = [f"note: left out {past} parts of days before the latest full deposit"] if behind and past else []
         *lines, _, body = ran(self.packer, "pack", self.folder(), "--tld", TLD, "--date", today, "--kind", kind,
-                              "--revision", "0", "--id", number_of(self.registry.today), "--header",
-                              *(["--previous", yesterday, "--after", *earlier] if earlier else []), "--out", out)
+                              "--revision", "0", "--id", number_of(self.registry.today), "--header", *behind, "--out", out,
+                              notes=notes)
+        lines = [line for line in lines if ".ryde " in line]
         parts = [out / part_name(today, kind, place + 1, tld=TLD) for place in range(len(lines))]
         self.room.equal([f"{part.name} {part.stat().st_size}" for part in parts], lines, f"the parts of {today}")
         return parts, body
@@ -340,8 +326,7 @@ class Month:
         return [[folder / part.name for part in parts] for parts in self.chain]
 
     def rebuild(self, released: list[list[Path]]) -> None:
-        """Unpacks these deposits, and makes up the tables of the registry."""
-        objects: Objects = {kind: {} for kind in TABLES_OF}
+        """Unpacks these deposits, and restores the tables of the registry from all of them."""
         for parts, (contents, deletes) in zip(released, self.sent):
             out = self.room.folder / "unpacked" / parts[0].stem
             ran(self.packer, "unpack", *parts, "--out", out)
@@ -351,10 +336,11 @@ class Month:
             self.room.equal(sorted(wanted), sorted(found), f"the files of {parts[0].name}")
             for name, rows in wanted.items():
                 self.room.equal(spelled(rows), (out / name).read_bytes(), f"{name} of {parts[0].name}")
-            objects = after(objects, *({it.stem: read(it) for it in place.glob("*.csv")} for place in (out, out / "deletes")))
-        last = tables_of(self.registry.objects)
-        for table, rows in tables_of(objects).items():
-            self.room.equal(sorted(last[table]), sorted(rows), f"{table} of the last day")
+        restored = self.room.folder / "restored"
+        ran(self.packer, "restore", *(part for parts in released for part in parts), "--out", restored)
+        for table, rows in tables_of(self.registry.objects).items():
+            ascending = sorted(rows, key=lambda row: [field.encode() for field in row])
+            self.room.equal(spelled(ascending), (restored / f"{table}.csv").read_bytes(), f"{table} of the last day")
 
     def check(self, released: list[list[Path]]) -> None:
         """The last deposit passes behind those before it."""

@@ -22,7 +22,7 @@ OFFERED = {
     "escrow release --now 2026-08-03T12:00:00Z vault R-1 example o": "operator order",
     "escrow serve --until-closed v": "vault",
     "escrow verify vault example --id ''": "",
-    "deposit ''": "--help --version check help pack unpack",
+    "deposit ''": "--help --version check help pack restore unpack",
     "deposit pack ''": "tables vault",
     "deposit pack tables ''": OPTIONS,
     "deposit pack tables --kind d": "diff",
@@ -33,6 +33,7 @@ OFFERED = {
     "deposit check part.ryde --": "--after --help",
     "deposit check part.ryde --after other.ryde e": PART,
     "deposit check part.ryde --after other.ryde --": "--after --help",
+    "deposit restore part.ryde --": "--header --help --out",
     "deposit unpack part.ryde --out tables e": PART}
 
 

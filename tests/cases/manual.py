@@ -70,7 +70,12 @@ def has_the_words_of_help(room: Room, program: str) -> None:
 
 SPOILED = f"echo hello > {PART}; escrow put d {PART} --now {TEN}; sed -i s/hello/hellx/ d/vault.vol; "
 FULL = f"deposit pack tables --tld example --date {DAY} --kind full --revision 0 --id 20260802001 --out parts"
-AGAIN = part_name(revision=1)
+AGAIN, STRANGE = part_name(revision=1), part_name(tld="other")
+# A deposit of the next day, of a status without its domain.
+CHILD = (f"{FULL}; mkdir changes; echo one.example,ok > changes/domainStatuses.csv; "
+         + FULL.replace("tables", "changes").replace("-02", "-03").replace("02001", "03001").replace("full", "diff") + f" --after {PART}")
+# Of the day before, under a name that its bytes do not have, and under that of another kind.
+EARLIER, OTHER = (part_name("2026-08-01", kind) for kind in ("full", "diff"))
 # What is there before them: a vault, or tables without a row and a deposit that passes.
 BEFORE = {"escrow": "$ vault d", "deposit": f"$ cp ../full {PART}; mkdir tables; cd tables; touch {'.csv '.join(TABLES)}.csv"}
 # Words that make a program print a line.
@@ -100,12 +105,21 @@ PRINTED = {
         "Un TEXT": f"{FULL} --previous X1",
         "FAILURE-nn TEXT": f"printf x >> {PART}; deposit check {PART}",
         "Q4 PATH: N bytes, 1 to 1048576 are wanted": f": > {PART}; deposit check {PART}",
+        "note: left out N TEXT": f"deposit check {PART} --after {PART}",
+        "note: TABLE.csv row N COLUMN: no TABLE: KEY": f"{CHILD}; deposit restore parts/* --out restored",
         "NAME: it does not continue a full deposit and those since":
-            f"cp {PART} {AGAIN}; deposit check {PART} --after {PART} {AGAIN}",
+            f"cp {PART} {EARLIER}; deposit check {PART} --after {EARLIER}",
         "bad value for --X": f"{FULL} --previous X_1",
         "error: PATH: Nn is no name of a part": "deposit check tables/host.csv",
         "error: PATH: part N is wanted": f"deposit check {part_name(part=2)}",
         "error: these are parts of several deposits": f"cp {PART} {AGAIN}; deposit check {PART} {AGAIN}",
+        "error: PATH: this part is named twice": f"deposit check {PART} {PART}",
+        "error: PATH: not of the top-level domain TLD": f"cp {PART} {STRANGE}; deposit check {PART} --after {STRANGE}",
+        "error: PATH: the revision has parts of another kind":
+            f"cp {PART} {EARLIER}; cp {PART} {OTHER}; deposit check {PART} --after {EARLIER} {OTHER}",
+        "error: --previous ID: by --after it is ID":
+            f"{FULL.replace(DAY, '2026-08-03').replace('full', 'diff')} --previous X1 --after {PART}",
+        "error: PATH: no folder of this name is read": f"mkdir tables/delete; {FULL}",
         "error: PATH: no table has this name": f"touch tables/hosts.csv; {FULL}",
         "error: TEXT": "deposit check",
         "file failed: PATH: file is there already": f"{FULL}; {FULL}",
@@ -199,7 +213,7 @@ def the_examples_of_deposit_are_carried_out(room: Room) -> None:
     room.plays(f"{BEFORE['deposit']}\n$ mkdir changes")
     came = room.run(f"set -e; {plain(''.join(shown))}")
     room.equal((0, b""), (came.status, came.err), "the status and the errors of the examples")
-    room.equal(3, came.out.count(b"PASS "), "how many deposits pass")
+    room.equal(4, came.out.count(b"PASS "), "how many deposits pass")
 
 
 # ---- its form

@@ -11,11 +11,16 @@ TABLES = f"$ mkdir tables; cd tables; {MADE}"
 FULL = f"--tld example --date {DAY} --kind full --revision 0 --id {ID}"
 DIFF = f"--tld example --date {MONDAY} --kind diff --revision 0 --id {NEXT} --previous {ID}"
 INCR = f"--tld example --date {TUESDAY} --kind incr --revision 0 --id {LAST}"
+# A revision that is sent again, the deposit of the next day, a full one a week later, and one of the day behind it.
+AGAIN = f"--tld example --date {MONDAY} --kind diff --revision 1 --id {NEXT}"
+NEXT_DAY = f"--tld example --date {TUESDAY} --kind diff --revision 0 --id {LAST}"
+SUNDAY = f"--tld example --date 2026-08-09 --kind full --revision 0 --id {number_of('2026-08-09')}"
+AFTER_SUNDAY = f"--tld example --date 2026-08-10 --kind diff --revision 0 --id {number_of('2026-08-10')}"
 BODY = f'{{"date":"{DAY}","id":"{ID}","kind":"full","parts":1,"revision":0,"tld":"example"}}'
 VERIFY = f"escrow verify VAULT example --date {DAY} --kind full --revision 0 --parts 1 --id {ID}"
-PACKED = f"{PART} 1422\n{VERIFY}\n{BODY}"
 EMPTY = "\n".join(f"{name} 0" for name in ("domain", "domainContacts", "domainStatuses", "domainNameServers", "host",
                                            "hostAddresses", "contact", "registrar"))
+PACKED = f"{EMPTY}\n{PART} 1422\n{VERIFY}\n{BODY}"
 
 transcripts(__name__, f"""
 == a full deposit is packed, received and unpacked
@@ -71,13 +76,90 @@ deletes/registrar 1
 $ deposit check parts/{part_name(MONDAY, 'diff')} --after parts/{PART} -> PASS DIFF {NEXT} {MONDAY}
 registrar 1
 deletes/registrar 1
-$ deposit check parts/{PART} --after parts/{PART} -> FAILURE-07 id {ID} has passed before
+$ deposit pack changes {DIFF.replace(f"--id {NEXT}", f"--id {ID}")} --after parts/{PART} --out again > printed
+$ deposit check again/{part_name(MONDAY, 'diff')} --after parts/{PART} -> FAILURE-07 id {ID} has passed before
 !1
-$ deposit pack changes {DIFF.replace(f" --previous {ID}", "")} --after parts/{PART} --out other -> !1 U2 a differential deposit follows the latest that passed
+$ deposit pack changes {DIFF.replace(f" --previous {ID}", "")} --out other -> !1 U2 a differential deposit follows the latest that passed
+$ deposit pack changes {DIFF.replace(f" --previous {ID}", " --previous X1")} --after parts/{PART} --out other -> !2 error: --previous X1: by --after it is {ID}
+$ deposit pack changes {DIFF.replace(f" --previous {ID}", "")} --after parts/{PART} --out derived > printed; diff -r derived/{part_name(MONDAY, 'diff')} parts/{part_name(MONDAY, 'diff')}
 $ deposit pack tables {FULL} --previous X1 --out other -> !1 U2 a full deposit follows none
 $ deposit pack changes {DIFF.replace(MONDAY, "2026-08-09")} --after parts/{PART} --out other -> !1 U1 2026-08-09 is a Sunday, and the deposit is not full
-$ deposit pack changes {DIFF} --after parts/{part_name(MONDAY, 'diff')} --out other -> !1 {part_name(MONDAY, 'diff')}: it does not continue a full deposit and those since
+$ deposit pack changes {DIFF} --after parts/{part_name(MONDAY, 'diff')} --out other -> !1 note: left out 1 part of the deposit itself
+! U8 the deposits that it follows are wanted
+$ deposit pack changes {DIFF.replace(MONDAY, TUESDAY)} --after parts/{part_name(MONDAY, 'diff')} --out other -> !1 {part_name(MONDAY, 'diff')}: it does not continue a full deposit and those since
 $ test -e other -> !1
+== behind --after stand all parts that are there
+{TABLES}
+$ printf 'R1,Example,,ok\\n' > tables/registrar.csv; deposit pack tables {FULL} --out parts > printed
+$ mkdir changes; printf 'R2,Second,,ok\\n' > changes/registrar.csv; deposit pack changes {DIFF} --after parts/* --out parts > printed
+$ deposit pack changes {AGAIN} --after parts/* --out parts -> registrar 1
+{part_name(MONDAY, 'diff', revision=1)} 705
+escrow verify VAULT example --date {MONDAY} --kind diff --revision 1 --parts 1 --id {NEXT}
+{{"date":"{MONDAY}","id":"{NEXT}","kind":"diff","parts":1,"revision":1,"tld":"example"}}
+!0 note: left out 1 part of {MONDAY} or later
+$ deposit check parts/{part_name(MONDAY, 'diff', revision=1)} --after parts/* -> PASS DIFF {NEXT} {MONDAY}
+registrar 1
+!0 note: left out 1 part of the deposit itself
+! note: left out 1 part of {MONDAY} or later
+$ printf 'R3,Third,,ok\\n' > changes/registrar.csv; deposit pack changes {NEXT_DAY} --after parts/* --out parts > printed 2> notes; cat notes -> note: left out 1 part of revisions that were sent again
+== a week later the parts before the full deposit are left out
+{TABLES}
+$ printf 'R1,Example,,ok\\n' > tables/registrar.csv; deposit pack tables {FULL} --out parts > printed
+$ mkdir changes; printf 'R2,Second,,ok\\n' > changes/registrar.csv; deposit pack changes {DIFF} --after parts/* --out parts > printed
+$ deposit pack tables {SUNDAY} --out parts > printed
+$ deposit pack changes {AFTER_SUNDAY} --after parts/* --out parts > printed 2> notes; cat notes -> note: left out 2 parts of days before the latest full deposit
+$ deposit check parts/*2026-08-10* --after parts/*2026-08-09* -> PASS DIFF {number_of("2026-08-10")} 2026-08-10
+registrar 1
+$ deposit check parts/*2026-08-09* --after parts/* -> PASS FULL {number_of("2026-08-09")} 2026-08-09
+{EMPTY.replace("registrar 0", "registrar 1")}
+!0 note: left out 1 part of the deposit itself
+! note: left out 1 part of 2026-08-09 or later
+== the tables after the latest deposit are restored
+{TABLES}
+$ printf 'R1,Example,,ok\\nR2,Second,,ok\\n' > tables/registrar.csv; printf 'C1,C1-EX,R1,2020-01-01T00:00:00Z\\n' > tables/contact.csv
+$ for it in b a; do echo $it.example,$it-EX,C1,R1,2020-01-01T00:00:00Z,2030-01-01T00:00:00Z; done > tables/domain.csv
+$ printf 'a.example,ok\\nb.example,ok\\nb.example,clientHold\\n' > tables/domainStatuses.csv; deposit pack tables {FULL} --out parts > printed
+$ mkdir -p changes/deletes; printf 'b.example,inactive\\n' > changes/domainStatuses.csv; printf 'C1\\n' > changes/deletes/contact.csv
+$ printf 'a.example\\n' > changes/deletes/domain.csv; deposit pack changes {DIFF} --after parts/* --out parts > printed
+$ deposit restore parts/* --header --out restored | tail -n 16 -> domain 1
+domainContacts 0
+domainStatuses 1
+domainNameServers 0
+host 0
+hostAddresses 0
+contact 0
+registrar 2
+restored/domain.csv 109
+restored/domainContacts.csv 23
+restored/domainStatuses.csv 33
+restored/domainNameServers.csv 16
+restored/host.csv 26
+restored/hostAddresses.csv 25
+restored/contact.csv 24
+restored/registrar.csv 54
+!0 note: domain.csv row 1 fRegistrant: no contact: C1
+$ cat restored/domain.csv restored/domainStatuses.csv -> fName,fRoid,fRegistrant,fClID,fCrDate,fExDate
+b.example,b-EX,C1,R1,2020-01-01T00:00:00Z,2030-01-01T00:00:00Z
+fName,fStatus
+b.example,inactive
+$ deposit restore parts/*full* --out full > printed; head -n 1 printed -> PASS FULL {ID} {DAY}, without check 7
+$ cat full/domain.csv | cut -d , -f 1 -> a.example
+b.example
+$ deposit restore parts/* --out restored > printed 2> errors -> !3
+$ cat errors -> file failed: restored/domain.csv: file is there already
+$ cp parts/{part_name(MONDAY, 'diff')} kept; printf x >> parts/{part_name(MONDAY, 'diff')}
+$ deposit restore parts/* --out other > printed -> !1
+$ tail -n 1 printed; ls -d other -> FAILURE-09 the files have 32 bytes, says the envelope, and 33 are there
+!2 ls: cannot access 'other': No such file or directory
+$ mv kept parts/{part_name(MONDAY, 'diff')}; deposit restore parts/*diff* --out other > printed -> !1 {part_name(MONDAY, 'diff')}: it does not continue a full deposit and those since
+== parts that do not belong together are refused
+$ cp ../full {PART}; mkdir other; cp ../full other/{PART}; cp ../full other_{DAY}_full_S1_R0.ryde; cp ../full {part_name(DAY, "diff")}
+$ deposit check {PART} other/{PART} -> !2 error: other/{PART}: this part is named twice
+$ deposit check {part_name(MONDAY)} --after {PART} other/{PART} -> !3 file failed: {part_name(MONDAY)}: file missing
+$ cp ../full {part_name(MONDAY)}; deposit check {part_name(MONDAY)} --after {PART} other/{PART} -> !2 error: other/{PART}: this part is named twice
+$ deposit check {part_name(MONDAY)} --after {PART} other_{DAY}_full_S1_R0.ryde -> !2 error: other_{DAY}_full_S1_R0.ryde: not of the top-level domain example
+$ deposit check {part_name(MONDAY)} --after {PART} {part_name(DAY, "diff")} -> !2 error: {part_name(DAY, "diff")}: the revision has parts of another kind
+$ cp ../full {part_name("2026-08-01")}; deposit check {PART} --after {part_name("2026-08-01")} -> !1 {part_name("2026-08-01")}: it does not continue a full deposit and those since
 == what is broken is not unpacked
 $ cp ../full {PART}; printf x >> {PART}
 $ deposit unpack {PART} --out out -> FAILURE-09 the files have 0 bytes, says the envelope, and 1 are there
@@ -129,6 +211,9 @@ $ escrow verify d {stated(TUESDAY, 'incr')} -> {notice(3, "RECEIPT", TUESDAY, f"
 {TABLES}
 $ touch tables/domains.csv
 $ deposit pack tables {FULL} --out parts -> !2 error: tables/domains.csv: no table has this name
+$ mv tables/domains.csv tables/domain.CSV; deposit pack tables {FULL} --out parts -> !2 error: tables/domain.CSV: no table has this name
+$ rm tables/domain.CSV; mkdir tables/delete; deposit pack tables {FULL} --out parts -> !2 error: tables/delete: no folder of this name is read
+$ mv tables/delete tables/deletes; touch tables/README; deposit pack tables {FULL} --out parts -> {PACKED}
 == the words of deposit
 $ deposit pack tables {FULL.replace("example", "Example")} --out parts -> !2 bad value for --tld
 $ deposit pack tables {FULL.replace(DAY, "2026-02-29")} --out parts -> !2 bad value for --date

@@ -3,7 +3,7 @@ use crate::deposits::{JoinedDeposit, read_chain, read_deposit};
 use crate::errors::ProgramError;
 use crate::steps::{clear_step, show_step};
 use deposit_name::{DepositId, Kind};
-use deposit_pack::{Chain, TableFile, Unpacked, check, unpack};
+use deposit_pack::{Chain, TableFile, check, unpack};
 use deposit_verify::{FoundEnvelope, Reason, find_envelope};
 use dnrd_csv::{read_keys, read_table};
 use envelope::type_text;
@@ -56,14 +56,22 @@ fn print_deletes(rt: &HostRuntime, files: &[TableFile<'_>]) -> Result<(), Progra
     Ok(())
 }
 
-// Prints that a deposit passes, and how many rows each of its tables has.
+/// Prints how many rows each table of a deposit that passes has, and how many keys it deletes.
+pub fn print_rows(rt: &HostRuntime, joined: &[u8]) -> Result<(), ProgramError> {
+    let Ok(files) = unpack(rt.alloc(), joined)? else {
+        return Err(ProgramError::Memory);
+    };
+    print_tables(rt, &files.contents)?;
+    print_deletes(rt, &files.deletes)
+}
+
+// Prints that a deposit passes, and its tables.
 fn print_pass(
     rt: &HostRuntime,
     deposit: &JoinedDeposit,
     has_chain: bool,
 ) -> Result<(), ProgramError> {
-    let alloc = rt.alloc();
-    let (Some(id), Ok(files)) = (id_of(alloc, deposit), unpack(alloc, &deposit.bytes)?) else {
+    let Some(id) = id_of(rt.alloc(), deposit) else {
         return Err(ProgramError::Memory);
     };
     let kind = deposit.name.kind;
@@ -73,28 +81,27 @@ fn print_pass(
         type_text(kind),
         left_out(kind, has_chain)
     ))?;
-    print_tables(rt, &files.contents)?;
-    print_deletes(rt, &files.deletes)
+    print_rows(rt, &deposit.bytes)
 }
 
-/// Prints what an agent would say of a deposit, and answers whether it passes.
+/// Prints what an agent would say of a deposit after a chain, and answers whether it passes; and the chain again.
 pub fn print_check(
     rt: &HostRuntime,
     deposit: &JoinedDeposit,
     chain: Option<Chain>,
-) -> Result<bool, ProgramError> {
+) -> Result<(bool, Option<Chain>), ProgramError> {
     let has_chain = chain.is_some();
     show_step(rt, "checking");
-    let found = check(rt.alloc(), &deposit.name, &deposit.bytes, chain)?;
+    let (found, chain) = check(rt.alloc(), &deposit.name, &deposit.bytes, chain)?;
     clear_step(rt);
     match found {
         None => {
             print_pass(rt, deposit, has_chain)?;
-            Ok(true)
+            Ok((true, chain))
         }
         Some(reason) => {
             output(println!(rt; "FAILURE-{:02} {reason}", reason.check().number()))?;
-            Ok(false)
+            Ok((false, chain))
         }
     }
 }
@@ -102,6 +109,7 @@ pub fn print_check(
 /// Checks the deposit whose parts these are, after the deposits whose parts those are. It answers whether it passes.
 pub fn check_files(rt: &HostRuntime, files: &[&str], after: &[&str]) -> Result<bool, ProgramError> {
     let deposit = read_deposit(rt, files)?;
-    let chain = read_chain(rt, after, deposit.name.kind)?;
-    print_check(rt, &deposit, chain)
+    let chain = read_chain(rt, after, &deposit.name)?;
+    let (passes, _) = print_check(rt, &deposit, chain)?;
+    Ok(passes)
 }

@@ -1,12 +1,11 @@
 //! Deposits in files.
 use crate::errors::ProgramError;
 use crate::files::{file_name, read_file};
-use crate::steps::{show_file, show_step};
-use deposit_name::{DepositName, Kind};
-use deposit_pack::{Chain, PART_LENGTH_MAX};
-use deposit_verify::Base;
+use crate::steps::{clear_step, show_file, show_step};
+use deposit_name::{DepositName, Kind, Tld};
+use deposit_pack::{Chain, ChainFault, LeftOut, NamedDeposit, PART_LENGTH_MAX, left_out};
 use schedule::Day;
-use std::alloc::Global;
+use std::alloc::{AllocError, Global};
 use std::fmt;
 
 /// The name of a part, and the place of its path among those that were named.
@@ -24,17 +23,48 @@ pub struct JoinedDeposit {
     pub bytes: Vec<u8>,
 }
 
-// Where a deposit stands among those that follow one another: a full one first, and then by day.
-fn order_of(part: &PartFile) -> (bool, Day, u8, u8) {
+impl JoinedDeposit {
+    /// The deposit under its name.
+    pub fn named(&self) -> NamedDeposit<'_> {
+        NamedDeposit {
+            name: self.name,
+            joined: &self.bytes,
+        }
+    }
+}
+
+// Where a part stands: by day, and within a day by revision.
+fn order_of(part: &PartFile) -> (Day, u8, Kind, u8) {
     let name = &part.name;
-    (name.kind != Kind::Full, name.day, name.rev, name.part)
+    (name.day, name.rev, name.kind, name.part)
 }
 
 fn is_same_deposit(one: &DepositName, other: &DepositName) -> bool {
     one.tld == other.tld && one.day == other.day && one.kind == other.kind && one.rev == other.rev
 }
 
-// The parts that these paths name, those of one deposit beside each other.
+// The name of the first part of a deposit.
+fn first_name(name: &DepositName) -> DepositName {
+    let mut first = *name;
+    first.part = 1;
+    first
+}
+
+// The error of a part, by its path and what is wrong with it.
+fn misnamed<D: fmt::Display + Drop>(
+    alloc: Global,
+    paths: &[&str],
+    part: &PartFile,
+    cause: D,
+) -> ProgramError {
+    let path = paths.get(part.place).copied().unwrap_or_default();
+    match format!(in alloc; "{path}: {cause}") {
+        Ok(line) => ProgramError::misused(alloc, line),
+        Err(_) => ProgramError::Memory,
+    }
+}
+
+// The parts that these paths name, by day, those of one deposit beside each other.
 fn part_files(alloc: Global, paths: &[&str]) -> Result<Vec<PartFile>, ProgramError> {
     let mut parts = Vec::with_capacity(alloc, paths.len())?;
     for (place, path) in paths.iter().enumerate() {
@@ -94,13 +124,16 @@ fn add_part(
     Ok(())
 }
 
-/// The deposits whose parts these paths name: a full one first, and then by day.
-pub fn read_deposits(rt: &HostRuntime, paths: &[&str]) -> Result<Vec<JoinedDeposit>, ProgramError> {
-    let alloc = rt.alloc();
-    let mut deposits = Vec::new(alloc);
-    for (i, PartFile { name, place }) in part_files(alloc, paths)?.iter().enumerate() {
+// The deposits that have these parts, which are some of those that the paths name.
+fn read_deposits(
+    rt: &HostRuntime,
+    paths: &[&str],
+    parts: &[PartFile],
+) -> Result<Vec<JoinedDeposit>, ProgramError> {
+    let mut deposits = Vec::new(rt.alloc());
+    for (i, PartFile { name, place }) in parts.iter().enumerate() {
         if let Some(path) = paths.get(*place) {
-            show_file(rt, "reading", path, i, paths.len());
+            show_file(rt, "reading", path, i, parts.len());
             add_part(rt, *name, path, &mut deposits)?;
         }
     }
@@ -110,7 +143,9 @@ pub fn read_deposits(rt: &HostRuntime, paths: &[&str]) -> Result<Vec<JoinedDepos
 /// The one deposit whose parts these paths name.
 pub fn read_deposit(rt: &HostRuntime, paths: &[&str]) -> Result<JoinedDeposit, ProgramError> {
     let alloc = rt.alloc();
-    let mut deposits = read_deposits(rt, paths)?;
+    let parts = part_files(alloc, paths)?;
+    find_no_repeat(alloc, paths, &parts)?;
+    let mut deposits = read_deposits(rt, paths, &parts)?;
     if deposits.len() > 1 {
         return Err(ProgramError::misused(alloc, "these are parts of several deposits"));
     }
@@ -120,7 +155,130 @@ pub fn read_deposit(rt: &HostRuntime, paths: &[&str]) -> Result<JoinedDeposit, P
     }
 }
 
-fn broken_at(alloc: Global, deposit: Option<&JoinedDeposit>) -> ProgramError {
+// Refuses a part that is named twice.
+fn find_no_repeat(alloc: Global, paths: &[&str], parts: &[PartFile]) -> Result<(), ProgramError> {
+    for i in 1..parts.len() {
+        if parts[i - 1].name == parts[i].name {
+            return Err(misnamed(alloc, paths, &parts[i], "this part is named twice"));
+        }
+    }
+    Ok(())
+}
+
+// Refuses parts of another registry, and those of two kinds in one revision.
+fn find_no_stranger(
+    alloc: Global,
+    paths: &[&str],
+    parts: &[PartFile],
+    tld: &Tld,
+) -> Result<(), ProgramError> {
+    for i in 0..parts.len() {
+        let part = &parts[i];
+        if part.name.tld != *tld {
+            let cause = format!(in alloc; "not of the top-level domain {tld}")?;
+            return Err(misnamed(alloc, paths, part, cause));
+        }
+        if i > 0 && is_other_kind(&parts[i - 1].name, &part.name) {
+            let cause = "the revision has parts of another kind";
+            return Err(misnamed(alloc, paths, part, cause));
+        }
+    }
+    find_no_repeat(alloc, paths, parts)
+}
+
+fn is_other_kind(one: &DepositName, other: &DepositName) -> bool {
+    one.day == other.day && one.rev == other.rev && one.kind != other.kind
+}
+
+// Prints of each reason how many parts were left out for it.
+fn print_left_out(rt: &HostRuntime, name: &DepositName, reasons: &[Option<LeftOut>]) {
+    for reason in [
+        LeftOut::Itself,
+        LeftOut::NotEarlier,
+        LeftOut::Replaced,
+        LeftOut::BeforeFull,
+    ] {
+        let count = reasons.iter().filter(|it| **it == Some(reason)).count();
+        if count > 0 {
+            clear_step(rt);
+            let _ = eprintln!(rt;
+                "note: left out {}",
+                LeftOutParts {
+                    count,
+                    reason,
+                    day: name.day
+                }
+            );
+        }
+    }
+}
+
+// What is said of parts that were left out.
+#[derive(Clone, Copy)]
+struct LeftOutParts {
+    count: usize,
+    reason: LeftOut,
+    day: Day,
+}
+
+impl fmt::Display for LeftOutParts {
+    fn fmt<W: fmt::Write>(&self, f: &mut fmt::Formatter<W>) -> fmt::Result {
+        let noun = if self.count == 1 { "part" } else { "parts" };
+        write!(f, "{} {noun} of ", self.count)?;
+        match self.reason {
+            LeftOut::Itself => f.write_str("the deposit itself"),
+            LeftOut::NotEarlier => write!(f, "{} or later", self.day),
+            LeftOut::Replaced => f.write_str("revisions that were sent again"),
+            LeftOut::BeforeFull => f.write_str("days before the latest full deposit"),
+        }
+    }
+}
+
+// Why a deposit is left out of those that give the tables after the one of this name.
+fn left_out_before(
+    names: &[DepositName],
+    name: &DepositName,
+    one: &DepositName,
+) -> Option<LeftOut> {
+    match left_out(names, name, one) {
+        Some(LeftOut::Itself) => None,
+        None if name.kind == Kind::Full => Some(LeftOut::BeforeFull),
+        reason => reason,
+    }
+}
+
+// Of these parts those of deposits that one of this name follows, and its own `with_itself`. It prints how many it leaves
+// out, and why.
+fn followed_parts(
+    rt: &HostRuntime,
+    name: &DepositName,
+    parts: &[PartFile],
+    with_itself: bool,
+) -> Result<Vec<PartFile>, ProgramError> {
+    let alloc = rt.alloc();
+    let mut names = Vec::with_capacity(alloc, parts.len())?;
+    for part in parts {
+        names.push(first_name(&part.name))?;
+    }
+    let mut reasons = Vec::with_capacity(alloc, parts.len())?;
+    let mut followed = Vec::with_capacity(alloc, parts.len())?;
+    for (part, first) in parts.iter().zip(&names) {
+        let reason = if with_itself {
+            left_out_before(&names, name, first)
+        } else {
+            left_out(&names, name, first)
+        };
+        if reason.is_none() {
+            followed.push(*part)?;
+        }
+        reasons.push(reason)?;
+    }
+    print_left_out(rt, name, &reasons);
+    Ok(followed)
+}
+
+/// The error of a deposit that breaks the chain.
+pub fn broken_at(alloc: Global, deposit: Option<&JoinedDeposit>) -> ProgramError {
     match deposit {
         Some(JoinedDeposit { name, .. }) => { ProgramError::refused(alloc, Broken { name: *name }) }
         None => ProgramError::Memory,
@@ -143,36 +301,60 @@ impl fmt::Display for Broken {
     }
 }
 
-// The chain as a deposit of a kind follows it: an incremental one adds to the keys of the full one alone.
-fn chain_for(alloc: Global, kind: Kind, full: &[u8], chain: Chain) -> Result<Chain, ProgramError> {
-    if kind != Kind::Incr || chain.ids.len() < 2 {
-        return Ok(chain);
-    }
-    let Some(base) = Base::of_full(alloc, full)? else {
-        return Err(ProgramError::Memory);
-    };
-    let ids = chain.ids;
-    Ok(Chain { ids, base })
+fn named_deposits<'d>(
+    alloc: Global,
+    deposits: &'d [JoinedDeposit],
+) -> Result<Vec<NamedDeposit<'d>>, AllocError> {
+    deposits
+        .iter()
+        .map(|deposit| deposit.named())
+        .collect(alloc)
 }
 
-/// The chain of the deposits whose parts these paths name, as one of this kind follows it: none where there are none.
+/// Of the deposits whose parts these paths name, the chain that a deposit of this name follows: none where it follows none
+/// of them.
 pub fn read_chain(
     rt: &HostRuntime,
     paths: &[&str],
-    kind: Kind,
+    name: &DepositName,
 ) -> Result<Option<Chain>, ProgramError> {
     let alloc = rt.alloc();
-    let deposits = read_deposits(rt, paths)?;
-    let mut joined: Vec<&[u8]> = Vec::with_capacity(alloc, deposits.len())?;
-    for deposit in &deposits {
-        joined.push(&deposit.bytes)?;
-    }
-    let Some((first, later)) = joined.split_first() else {
+    let parts = part_files(alloc, paths)?;
+    find_no_stranger(alloc, paths, &parts, &name.tld)?;
+    let followed = followed_parts(rt, name, &parts, false)?;
+    if followed.is_empty() {
         return Ok(None);
-    };
+    }
+    let deposits = read_deposits(rt, paths, &followed)?;
     show_step(rt, "reading the keys");
-    match Chain::of(alloc, first, later)? {
-        Ok(chain) => Ok(Some(chain_for(alloc, kind, first, chain)?)),
-        Err(place) => Err(broken_at(alloc, deposits.get(place))),
+    chain_of(alloc, name, &deposits)
+}
+
+/// Of the deposits whose parts these paths name, the latest and those that it follows, by day.
+pub fn read_latest(rt: &HostRuntime, paths: &[&str]) -> Result<Vec<JoinedDeposit>, ProgramError> {
+    let alloc = rt.alloc();
+    let parts = part_files(alloc, paths)?;
+    let Some(last) = parts.last() else {
+        return Err(ProgramError::misused(alloc, "no part is named"));
+    };
+    let latest = first_name(&last.name);
+    find_no_stranger(alloc, paths, &parts, &latest.tld)?;
+    let followed = followed_parts(rt, &latest, &parts, true)?;
+    read_deposits(rt, paths, &followed)
+}
+
+/// The chain that a deposit of this name follows, of deposits in their order: none where there are none.
+pub fn chain_of(
+    alloc: Global,
+    name: &DepositName,
+    deposits: &[JoinedDeposit],
+) -> Result<Option<Chain>, ProgramError> {
+    match Chain::of(alloc, name, &named_deposits(alloc, deposits)?)? {
+        Ok(chain) => Ok(Some(chain)),
+        Err(ChainFault::Missing) => Ok(None),
+        Err(ChainFault::Order) => {
+            Err(ProgramError::misused(alloc, "these deposits do not follow one another"))
+        }
+        Err(ChainFault::Deposit(place)) => Err(broken_at(alloc, deposits.get(place))),
     }
 }

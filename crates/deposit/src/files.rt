@@ -80,6 +80,14 @@ pub fn is_there(rt: &HostRuntime, path: &str) -> bool {
     fs::symlink_metadata(rt, path).is_ok()
 }
 
+/// Whether there is a folder at a path.
+pub fn is_folder(rt: &HostRuntime, path: &str) -> bool {
+    match fs::metadata(rt, path) {
+        Ok(found) => found.is_dir(),
+        Err(_) => false,
+    }
+}
+
 fn find_none(rt: &HostRuntime, files: &[NewFile<'_>]) -> Result<(), ProgramError> {
     for file in files {
         if is_there(rt, &file.path) {

@@ -6,6 +6,7 @@ mod deposits;
 mod errors;
 mod files;
 mod packing;
+mod restoring;
 mod steps;
 mod unpacking;
 mod words;
@@ -14,6 +15,7 @@ use checking::check_files;
 use clap::ArgMatches;
 use errors::ProgramError;
 use packing::pack_tables;
+use restoring::restore_files;
 use std::env;
 use std::io::ErrorKind;
 use std::process::ExitCode;
@@ -32,6 +34,12 @@ fn obey(rt: &HostRuntime, matches: &ArgMatches<'_>) -> Result<bool, ProgramError
         Some(("unpack", inner)) => {
             unpack_files(rt, texts_in(inner, "FILE"), text_in(inner, "out"))
         }
+        Some(("restore", inner)) => restore_files(
+            rt,
+            texts_in(inner, "FILE"),
+            text_in(inner, "out"),
+            inner.get_flag("header"),
+        ),
         Some((_, inner)) => check_files(rt, texts_in(inner, "FILE"), texts_in(inner, "after")),
         None => Ok(false),
     }

@@ -1,13 +1,19 @@
 //! Packing the tables of a folder.
+use crate::checking::print_rows;
 use crate::deposits::read_chain;
 use crate::errors::ProgramError;
-use crate::files::{NewFile, is_there, list_files, make_files, read_file, read_if_there};
+use crate::files::{
+    NewFile, is_folder, is_there, list_files, make_files, read_file, read_if_there,
+};
 use crate::steps::{clear_step, show_step};
 use crate::words::PackOrder;
 use deposit_name::{Kind, TableName};
-use deposit_pack::{Attributes, PackError, Part, Source, TableFile, pack, split};
+use deposit_pack::{Attributes, Chain, PackError, Part, Source, TableFile, pack, split};
 use deposit_verify::wanted_table;
 use std::alloc::Global;
+
+// The folder of deleted keys within that of the tables.
+const DELETES: &str = "deletes";
 
 // A table's name, and the text of its file.
 #[derive(Drop)]
@@ -16,25 +22,50 @@ struct TableText {
     text: Vec<u8>,
 }
 
-// Refuses a file of CSV in a folder whose name is that of no table.
-fn find_no_other(rt: &HostRuntime, folder: &str) -> Result<(), ProgramError> {
+// Whether a name ends as that of a file of CSV, in any case.
+fn is_csv(name: &str) -> bool {
+    let bytes = name.as_bytes();
+    let start = bytes.len().saturating_sub(4);
+    bytes[start..].eq_ignore_ascii_case(b".csv")
+}
+
+fn is_table(name: &str) -> bool {
+    match name.strip_suffix(".csv") {
+        Some(table) => TableName::parse(table).is_some(),
+        None => false,
+    }
+}
+
+// Refuses files of CSV in a folder whose names are those of no table, and folders that are not read.
+fn find_no_other(rt: &HostRuntime, folder: &str, inner: Option<&str>) -> Result<(), ProgramError> {
     let alloc = rt.alloc();
     for name in &list_files(rt, folder)? {
-        let Some(table) = name.strip_suffix(".csv") else {
+        let path = format!(in alloc; "{folder}/{name}")?;
+        if is_table(name) || inner == Some(name.as_str()) {
+            continue;
+        }
+        let cause = if is_csv(name) {
+            "no table has this name"
+        } else if is_folder(rt, &path) {
+            "no folder of this name is read"
+        } else {
             continue;
         };
-        if TableName::parse(table).is_none() {
-            let line = format!(in alloc; "{folder}/{name}: no table has this name")?;
-            return Err(ProgramError::misused(alloc, line));
-        }
+        let line = format!(in alloc; "{path}: {cause}")?;
+        return Err(ProgramError::misused(alloc, line));
     }
     Ok(())
 }
 
-// The tables of a folder: all eight, or those that are there.
-fn read_tables(rt: &HostRuntime, folder: &str, all: bool) -> Result<Vec<TableText>, ProgramError> {
+// The tables of a folder: all eight, or those that are there. It may have one folder in it, of deleted keys.
+fn read_tables(
+    rt: &HostRuntime,
+    folder: &str,
+    inner: Option<&str>,
+    all: bool,
+) -> Result<Vec<TableText>, ProgramError> {
     let alloc = rt.alloc();
-    find_no_other(rt, folder)?;
+    find_no_other(rt, folder, inner)?;
     let mut tables = Vec::new(alloc);
     for place in 0..8 {
         let Some(name) = wanted_table(place) else {
@@ -54,9 +85,9 @@ fn read_tables(rt: &HostRuntime, folder: &str, all: bool) -> Result<Vec<TableTex
 // The deleted keys of a folder, in the folder `deletes` in it.
 fn read_deletes(rt: &HostRuntime, folder: &str) -> Result<Vec<TableText>, ProgramError> {
     let alloc = rt.alloc();
-    let deletes = format!(in alloc; "{folder}/deletes")?;
+    let deletes = format!(in alloc; "{folder}/{DELETES}")?;
     if is_there(rt, &deletes) {
-        read_tables(rt, &deletes, false)
+        read_tables(rt, &deletes, None, false)
     } else {
         Ok(Vec::new(alloc))
     }
@@ -75,6 +106,28 @@ fn table_files<'t>(
     Ok(files)
 }
 
+// The attributes of a deposit that follows a chain: a differential one names the last deposit of it.
+fn attributes_after(
+    alloc: Global,
+    attributes: &Attributes,
+    chain: Option<&Chain>,
+) -> Result<Attributes, ProgramError> {
+    let mut attributes = *attributes;
+    let kind = attributes.name.kind;
+    let Some(previous) = chain.and_then(|chain| chain.previous_id(kind)) else {
+        return Ok(attributes);
+    };
+    match attributes.prev_id {
+        Some(given) if given != previous => {
+            let line = format!(in alloc; "--previous {given}: by --after it is {previous}")?;
+            return Err(ProgramError::misused(alloc, line));
+        }
+        None if kind == Kind::Diff => attributes.prev_id = Some(previous),
+        _ => {}
+    }
+    Ok(attributes)
+}
+
 // The bytes of the deposit.
 fn packed(
     rt: &HostRuntime,
@@ -83,8 +136,9 @@ fn packed(
 ) -> Result<Vec<u8>, ProgramError> {
     let alloc = rt.alloc();
     let kind = order.attributes.name.kind;
-    let chain = read_chain(rt, after, kind)?;
-    let tables = read_tables(rt, order.tables, kind == Kind::Full)?;
+    let chain = read_chain(rt, after, &order.attributes.name)?;
+    let attributes = attributes_after(alloc, &order.attributes, chain.as_ref())?;
+    let tables = read_tables(rt, order.tables, Some(DELETES), kind == Kind::Full)?;
     let keys = read_deletes(rt, order.tables)?;
     let contents = table_files(alloc, &tables)?;
     let deletes = table_files(alloc, &keys)?;
@@ -95,7 +149,7 @@ fn packed(
     };
     show_step(rt, "packing");
     let base = chain.as_ref().map(|chain| &chain.base);
-    match pack(alloc, &order.attributes, &source, base) {
+    match pack(alloc, &attributes, &source, base) {
         Ok(bytes) => Ok(bytes),
         Err(PackError::Memory) => Err(ProgramError::Memory),
         Err(error) => Err(ProgramError::refused(alloc, error)),
@@ -150,6 +204,7 @@ pub fn pack_tables(
     let files = new_files(alloc, order.folder, &parts)?;
     make_files(rt, &[order.folder], &files)?;
     clear_step(rt);
+    print_rows(rt, &bytes)?;
     match print_parts(rt, &order.attributes, &parts) {
         Ok(()) => Ok(()),
         Err(_) => Err(ProgramError::Output),

@@ -51,7 +51,7 @@ fn print_files(rt: &HostRuntime, files: &[NewFile<'_>]) -> Result<(), ProgramErr
 pub fn unpack_files(rt: &HostRuntime, paths: &[&str], folder: &str) -> Result<bool, ProgramError> {
     let alloc = rt.alloc();
     let deposit = read_deposit(rt, paths)?;
-    let passes = print_check(rt, &deposit, None)?;
+    let (passes, _) = print_check(rt, &deposit, None)?;
     let Ok(unpacked) = unpack(alloc, &deposit.bytes)? else {
         return Ok(false);
     };

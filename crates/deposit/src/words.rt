@@ -60,7 +60,7 @@ fn previous<'w>(alloc: Global) -> Arg<'w> {
         alloc,
         "previous",
         "ID",
-        "Id of the latest deposit that passed; for an incr that of the latest full one",
+        "Id of the latest deposit that passed, if --after does not tell it; for an incr that of the latest full one",
     )
 }
 
@@ -69,7 +69,7 @@ fn after<'w>(alloc: Global) -> Arg<'w> {
         alloc,
         "after",
         "FILE",
-        "Parts of the latest full deposit that passed; for a diff also of those since",
+        "Parts of deposits that passed; those that the deposit does not follow are left out",
     ))
 }
 
@@ -100,7 +100,8 @@ fn pack_command<'w>(alloc: Global) -> Result<Command<'w>, AllocError> {
              hostAddresses.csv, contact.csv and registrar.csv\n\
              Deletes: the keys that are gone, in deletes/TABLE.csv, TABLE domain, host, contact or registrar\n\
              A full deposit has all eight tables and no deletes, any other has those with changes\n\
-             Prints: each part and its length, then how to state the deposit\n\
+             Prints: each table and the number of its rows, then each part and its length,\n        \
+             then how to state the deposit\n\
              Example: deposit pack tables --tld example --date 2026-08-02 --kind full --revision 0 \
              --id 20260802001 --out parts",
         )
@@ -162,22 +163,48 @@ fn unpack_command<'w>(alloc: Global) -> Result<Command<'w>, AllocError> {
         .arg(out(alloc))
 }
 
+fn restore_command<'w>(alloc: Global) -> Result<Command<'w>, AllocError> {
+    Command::new(alloc, "restore")
+        .about("Writes the tables of a registry after its latest deposit")
+        .after_help(
+            "Of the parts named it reads those of the latest deposit and of those that it follows,\n        \
+             and says how many others it leaves out\n\
+             Writes nothing if one of them does not pass, and all eight tables else, their rows in ascending order\n\
+             Prints: what check prints of each deposit, then each table and the number of its rows,\n        \
+             and each file and its length\n\
+             Example: deposit restore parts/*.ryde --out tables",
+        )
+        .arg(several(place(
+            alloc,
+            "FILE",
+            "Parts of a full deposit, and of those behind it",
+        )))?
+        .arg(flag(
+            alloc,
+            "header",
+            "Writes the names of the columns as the first row of each file",
+        ))?
+        .arg(out(alloc))
+}
+
 fn deposit_command<'w>(alloc: Global) -> Result<Command<'w>, AllocError> {
     Command::new(alloc, "deposit")
-        .about("Packs, checks and unpacks escrow deposits of registries")
+        .about("Packs, checks, unpacks and restores escrow deposits of registries")
         .after_help(
             "First steps:\n  \
              deposit pack tables --tld example --date 2026-08-02 --kind full --revision 0 \
              --id 20260802001 --out parts\n  \
              deposit check parts/example_2026-08-02_full_S1_R0.ryde\n  \
-             deposit unpack parts/example_2026-08-02_full_S1_R0.ryde --out unpacked\n\n\
+             deposit unpack parts/example_2026-08-02_full_S1_R0.ryde --out unpacked\n  \
+             deposit restore parts/*.ryde --out restored\n\n\
              Exit status: 0 done, 1 refused, 2 bad arguments, 3 failed",
         )
         .version("0.1.0")
         .subcommand_required(true)
         .subcommand(pack_command(alloc)?)?
         .subcommand(check_command(alloc)?)?
-        .subcommand(unpack_command(alloc)?)
+        .subcommand(unpack_command(alloc)?)?
+        .subcommand(restore_command(alloc)?)
 }
 
 /// The texts of an argument that may stand several times, or not at all.

@@ -8,6 +8,7 @@ pub mod Refusals
 pub mod EnvelopeLemmas
 pub mod PackLemmas
 pub mod ChainSteps
+pub mod FollowedLemmas
 pub mod PartLemmas
 pub mod PackedMenu
 pub mod UnpackingLaw

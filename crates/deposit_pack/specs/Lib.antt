@@ -4,5 +4,6 @@ pub mod PackErrors
 pub mod PackErrorText
 pub mod Parts
 pub mod Unpacking
+pub mod Followed
 pub mod Chains
 pub mod inside

@@ -4,6 +4,7 @@
 
 mod chains;
 mod envelopes;
+mod followed;
 mod laws;
 mod pack_error;
 mod packing;
@@ -13,7 +14,8 @@ mod splitting;
 mod unpacking;
 mod writing;
 
-pub use chains::{Chain, check};
+pub use chains::{Chain, ChainFault, NamedDeposit, check};
+pub use followed::{LeftOut, left_out};
 pub use laws::{law_packed, law_packing, law_refusals};
 pub use pack_error::PackError;
 pub use packing::pack;

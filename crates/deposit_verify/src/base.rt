@@ -36,11 +36,11 @@ pub struct Base {
     registrars: KeySet,
 }
 
-// A deposit that is read whole.
+/// A deposit that is read whole.
 #[derive(Drop)]
-struct WholeDeposit {
-    envelope: Envelope,
-    files: FilesRead,
+pub struct WholeDeposit {
+    pub envelope: Envelope,
+    pub files: FilesRead,
 }
 
 fn is_full(envelope: &Envelope) -> bool
@@ -52,8 +52,13 @@ fn is_full(envelope: &Envelope) -> bool
     }
 }
 
-// Reads a deposit, where it is read.
-fn read_whole(alloc: Global, joined: &[u8]) -> Result<Option<WholeDeposit>, AllocError>
+/// Reads a deposit, from its parts, joined in order: `None` where it fails the check of its frame, envelope, menu, files,
+/// tables or deleted keys.
+///
+/// # Errors
+///
+/// Want of memory, and nothing else.
+pub fn read_whole(alloc: Global, joined: &[u8]) -> Result<Option<WholeDeposit>, AllocError>
     ensures value { IfOk result (λ read. option_map
         (λ whole. reading_of (env_of whole.envelope) whole.files.tables.items whole.files.deleted.items) read
         ≡ reading_at joined.now) }

@@ -26,9 +26,9 @@ mod verdict;
 mod verification;
 
 pub use about::About;
-pub use base::Base;
+pub use base::{Base, WholeDeposit, read_whole};
 pub use counts::{missing_key, row_counts};
-pub use files_read::{FilesRead, envelope_files};
+pub use files_read::{FilesRead, deletes_of, envelope_files};
 pub use files_reason::{FileList, FilePlace, FilesReason, NoTable, ReadFault};
 pub use found_envelope::{FoundEnvelope, find_envelope};
 pub use header_reason::{HeaderReason, MenuReason, OtherName};
@@ -37,6 +37,7 @@ pub use laws::{
     law_reference_rules, law_verdict,
 };
 pub use menu::{menu_reason, wanted_table, wanted_uri};
+pub use named_keys::{contained_keys, deleted_keys};
 pub use reason::Reason;
 pub use reason_text::{MissingKeyText, TableFaultText};
 pub use tables_reason::{NoKey, TablesReason, WrongCount};

@@ -1,6 +1,5 @@
 //! The keys that a deposit names.
 ghost use Rattle.std.specs.Prelude.{◌≡◌, ◌<◌, ℕ, List, [], All, IfNone, IfOk, IfSome, get_or, length, map};
-ghost use Rattle.dnrd_csv.specs.inside.RowKeys.{borrowed_texts};
 ghost use Rattle.dnrd_csv.specs.Text.{key_rows};
 ghost use Rattle.deposit_verify.specs.References.{column};
 ghost use Rattle.deposit_verify.specs.Rows.{rows_under};
@@ -36,7 +35,7 @@ pub fn contained_keys<'t>(
 ) -> Result<Vec<&'t [u8]>, AllocError>
     requires count { length tables.now ≡ length entries.now }
     requires fields { All (λ rows. All (λ row. 0 < length row) rows) tables.now }
-    ensures { IfOk result (λ keys. borrowed_texts keys.items ≡ column 0 (rows_under entries.now tables.now name)) }
+    ensures { IfOk result (λ keys. map (λ key. key.now) keys.items ≡ column 0 (rows_under entries.now tables.now name)) }
 {
     match place_of(entries, name) {
         Some(i) => first_fields(alloc, &tables[i]),
@@ -52,7 +51,7 @@ pub fn deleted_keys<'t>(
     name: TableName,
 ) -> Result<Vec<&'t [u8]>, AllocError>
     requires { length deleted.now ≡ length entries.now }
-    ensures { IfOk result (λ keys. borrowed_texts keys.items
+    ensures { IfOk result (λ keys. map (λ key. key.now) keys.items
         ≡ column 0 (rows_under entries.now (map key_rows deleted.now) name)) }
 {
     match place_of(entries, name) {

@@ -1,9 +1,9 @@
 //! Deposits that are packed from tables in any spelling of CSV, and what is not packed.
 use crate::deposits::{DIFF, FULL, framed};
-use deposit_name::{DepositId, DepositName, TableName};
+use deposit_name::{DepositId, DepositName, Kind, TableName};
 use deposit_pack::{
-    Attributes, Chain, PackError, Source, TableFile, check, law_packed, law_packing, law_refusals,
-    pack, split, unpack,
+    Attributes, Chain, ChainFault, LeftOut, NamedDeposit, PackError, Source, TableFile, check,
+    law_packed, law_packing, law_refusals, left_out, pack, split, unpack,
 };
 use deposit_verify::Base;
 use std::alloc::{AllocError, Global};
@@ -190,7 +190,8 @@ fn packs_what_passes(rt: HostRuntime) -> Result<(), Fail> {
         has_headers: true,
     };
     let deposit = pack(alloc, &attributes, &source, None)?;
-    assert!(rt; check(alloc, &attributes.name, &deposit, None)?.is_none());
+    let (reason, _) = check(alloc, &attributes.name, &deposit, None)?;
+    assert!(rt; reason.is_none());
 
     // One part holds it.
     let parts = split(alloc, &attributes.name, &deposit)?.ok_or("eight parts")?;
@@ -259,21 +260,36 @@ fn unpacks_no_other_bytes(rt: HostRuntime) -> Result<(), Fail> {
     Ok(())
 }
 
+const NEXT_NAME: &[u8] = b"example_2026-08-04_diff_S1_R0.ryde";
+
+/// The chain of a full deposit of 2026-08-02, for one of the next day.
+fn chain_of_full(alloc: Global, full: &[u8]) -> Result<Chain, Fail> {
+    let name = DepositName::parse(DIFF_NAME)?;
+    let first = NamedDeposit {
+        name: DepositName::parse(FULL_NAME)?,
+        joined: full,
+    };
+    Ok(Chain::of(alloc, &name, &[first])?.map_err(|_| "a chain")?)
+}
+
 #[test]
 fn counts_the_keys_after_a_chain(rt: HostRuntime) -> Result<(), Fail> {
     let alloc = rt.alloc();
     let full = packed_full(alloc)?;
-    let chain = Chain::of(alloc, &full, &[])?.map_err(|_| "a chain")?;
+    let chain = chain_of_full(alloc, &full)?;
     let diff = packed_diff(alloc, &chain.base)?;
     let name = DepositName::parse(DIFF_NAME)?;
-    assert!(rt; check(alloc, &name, &diff, Some(chain))?.is_none());
+    let (reason, chain) = check(alloc, &name, &diff, Some(chain))?;
+    assert!(rt; reason.is_none());
+    assert_eq!(rt; chain.ok_or("the chain")?.ids.len(), 1);
 
     // It counts the keys after another deposit, which only the chain tells.
     let base = no_keys(alloc)?;
     let other = packed_diff(alloc, &base)?;
-    assert!(rt; check(alloc, &name, &other, None)?.is_none());
-    let chain = Chain::of(alloc, &full, &[])?.map_err(|_| "a chain")?;
-    let reason = check(alloc, &name, &other, Some(chain))?.ok_or("a reason")?;
+    assert!(rt; check(alloc, &name, &other, None)?.0.is_none());
+    let chain = chain_of_full(alloc, &full)?;
+    let (reason, _) = check(alloc, &name, &other, Some(chain))?;
+    let reason = reason.ok_or("a reason")?;
     let line = format!(in alloc; "{reason}")?;
     assert_eq!(rt;
         line.as_str(),
@@ -283,15 +299,100 @@ fn counts_the_keys_after_a_chain(rt: HostRuntime) -> Result<(), Fail> {
 }
 
 #[test]
+fn chains_two_deposits(rt: HostRuntime) -> Result<(), Fail> {
+    let alloc = rt.alloc();
+    let mut bytes = packed_full(alloc)?;
+    let chain = chain_of_full(alloc, &bytes)?;
+    let diff = packed_diff(alloc, &chain.base)?;
+    let length = bytes.len();
+    bytes.extend_from_slice(&diff)?;
+    let (full, diff) = bytes.split_at(length);
+    let given = [
+        NamedDeposit {
+            name: DepositName::parse(FULL_NAME)?,
+            joined: full,
+        },
+        NamedDeposit {
+            name: DepositName::parse(DIFF_NAME)?,
+            joined: diff,
+        },
+    ];
+    let name = DepositName::parse(b"example_2026-08-05_diff_S1_R0.ryde")?;
+    let chain = Chain::of(alloc, &name, &given)?.map_err(|_| "a chain")?;
+    assert_eq!(rt; chain.ids.len(), 2);
+    assert!(rt; chain.previous_id(Kind::Diff) == DepositId::parse(DIFF_ID));
+    assert!(rt; chain.previous_id(Kind::Incr) == DepositId::parse(FULL_ID));
+    assert!(rt; chain.previous_id(Kind::Full).is_none());
+    Ok(())
+}
+
+/// Why deposits are no chain for one of a name.
+fn fault(alloc: Global, name: &[u8], given: &[NamedDeposit]) -> Result<Option<ChainFault>, Fail> {
+    let name = DepositName::parse(name)?;
+    Ok(Chain::of(alloc, &name, given)?.err())
+}
+
+#[test]
 fn tells_where_a_chain_breaks(rt: HostRuntime) -> Result<(), Fail> {
     let alloc = rt.alloc();
     let full = packed_full(alloc)?;
-    let chain = Chain::of(alloc, &full, &[])?.map_err(|_| "a chain")?;
-    let diff = packed_diff(alloc, &chain.base)?;
-    let chain = Chain::of(alloc, &full, &[&diff])?.map_err(|_| "a chain")?;
-    assert_eq!(rt; chain.ids.len(), 2);
-    assert_eq!(rt; Chain::of(alloc, &diff, &[])?.err(), Some(0));
-    assert_eq!(rt; Chain::of(alloc, &full, &[&diff, &full])?.err(), Some(2));
+    let given = [
+        NamedDeposit {
+            name: DepositName::parse(FULL_NAME)?,
+            joined: &full,
+        },
+        NamedDeposit {
+            name: DepositName::parse(DIFF_NAME)?,
+            joined: &full,
+        },
+    ];
+    let given = &given[..];
+    let broken = fault(alloc, NEXT_NAME, given)?;
+    assert_eq!(rt; broken, Some(ChainFault::Deposit(1)));
+    let broken = fault(alloc, NEXT_NAME, &given[1..])?;
+    assert_eq!(rt; broken, Some(ChainFault::Deposit(0)));
+    let broken = fault(alloc, DIFF_NAME, given)?;
+    assert_eq!(rt; broken, Some(ChainFault::Order));
+    let broken = fault(alloc, NEXT_NAME, &given[..0])?;
+    assert_eq!(rt; broken, Some(ChainFault::Missing));
+    Ok(())
+}
+
+/// The names of deposits, and why the differential one of 2026-08-05 follows none of them.
+const GIVEN: [(&[u8], Option<LeftOut>); 8] = [
+    (
+        b"example_2026-07-26_full_S1_R0.ryde",
+        Some(LeftOut::BeforeFull),
+    ),
+    (
+        b"example_2026-07-27_diff_S1_R0.ryde",
+        Some(LeftOut::BeforeFull),
+    ),
+    (FULL_NAME, Some(LeftOut::Replaced)),
+    (b"example_2026-08-02_full_S1_R1.ryde", None),
+    (DIFF_NAME, None),
+    (b"example_2026-08-05_diff_S1_R0.ryde", Some(LeftOut::Itself)),
+    (
+        b"example_2026-08-05_diff_S1_R1.ryde",
+        Some(LeftOut::NotEarlier),
+    ),
+    (
+        b"example_2026-08-09_full_S1_R0.ryde",
+        Some(LeftOut::NotEarlier),
+    ),
+];
+
+#[test]
+fn follows_the_deposits_since_the_latest_full_one(rt: HostRuntime) -> Result<(), Fail> {
+    let alloc = rt.alloc();
+    let mut names = Vec::new(alloc);
+    for (name, _) in &GIVEN {
+        names.push(DepositName::parse(name)?)?;
+    }
+    let name = DepositName::parse(b"example_2026-08-05_diff_S1_R0.ryde")?;
+    for (one, (_, reason)) in names.iter().zip(&GIVEN) {
+        assert!(rt; left_out(&names, &name, one) == *reason);
+    }
     Ok(())
 }
 

@@ -1,0 +1,17 @@
+pub mod ChainRows
+pub mod Decisions
+pub mod Brought
+pub mod Ascending
+pub mod RowReadings
+pub mod RestoredForm
+pub mod PackedChanges
+pub mod Deposited
+pub mod Passed
+pub mod RowsCopied
+pub mod RowsKept
+pub mod RowsOrdered
+pub mod SortedOnce
+pub mod Computed
+pub mod RenewedKeys
+pub mod TablesThen
+pub mod ChainTables

@@ -1,0 +1,13 @@
+use Rattle.std.proofs.Common.{◌∷◌, All, map, take}
+use Rattle.deposit_verify.specs.Chain.{IsFirstOfChain, IsLaterOfChain}
+use Rattle.deposit_verify.specs.Tables.{AreAllTables, table_of}
+use Rattle.deposit_tables.specs.Restored.{HasRowsOf}
+use Rattle.deposit_tables.proofs.restoring.tables_of_chain.Given as goal
+
+abbrev pub invariant-loop-joined : goal.invariant-loop-joined
+invariant-loop-joined l = record {
+  first : IsFirstOfChain l.first;
+  all : AreAllTables l.tables.items;
+  rows : HasRowsOf (l.first ∷ take l.joined-index (map (λ d. d.now) l.later)) (table_of l.tables.items);
+  links : All IsLaterOfChain (take l.joined-index (map (λ d. d.now) l.later));
+}
