@@ -1,11 +1,11 @@
 #!/usr/bin/env python3
 """Keeps measurements in bench/results/NAME.txt. tests/made.py copies them into the pages.
 
-    bench/keep.py [--prove LOG] [--gate LOG] [NAME ..]
+    bench/keep.py [--gate LOG] [NAME ..]
 
 A NAME is a script of this folder (`agent`, `audit`, ..) or `runs`, which times `tests/run stops`, tests/faults.py and
-tests/memory.py; `all` makes them all, in about half an hour. `--prove LOG` reads the output of `./prove` and keeps
-`prove`. `--gate LOG` reads that of `.ci/run` and keeps `gate`. Both must have begun with nothing proved.
+tests/memory.py; `all` makes them all, in about half an hour. `--gate LOG` reads the output of `.ci/run`, which must have
+begun with nothing proved, and keeps `gate`.
 
 It needs the programs that `rt run` builds in crates/escrow, deposit, bench_tools and agent_script, and GNU time, nginx,
 sqlite3 and strace. If one measurement fails, its result stays as it was, the others go on, and the status is 1.
@@ -194,30 +194,8 @@ def runs():
 # ---- logs
 
 
-def minutes(clock):
-    whole, seconds = clock.split(":")
-    return int(whole) + int(seconds) / 60
-
-
 # The minutes from which on a crate's proof is a row of its own, and a step of the gate.
 SHOWN, SHOWN_STEP = 5, 1
-
-
-def prove(log):
-    """Keeps the times of the longest proofs and of all, from a log of `./prove`."""
-    text = log.read_text(errors="replace")
-    lanes = re.search(r"^.*\d+ crates, at most (\d+) side by side$", text, re.MULTILINE)
-    proved = re.findall(r"(\w+) is proved, in (\d+:\d\d), ([\d.]+) minutes of the processor", text)
-    whole = re.findall(r"(\d+:\d\d)  \d+ proved, 0 not\s*$", text, re.MULTILINE)
-    if not (lanes and proved and whole):
-        raise NotMeasured(f"{log} does not end with all crates proved")
-    found = sorted(((name, minutes(clock), float(worked)) for name, clock, worked in proved), key=lambda it: -it[2])
-    every = ("all", minutes(whole[-1]), sum(worked for *_, worked in found))
-    found = [*(it for it in found if it[2] >= SHOWN), every]
-    rows = [(name, f"{clock:.1f}", f"{worked:.1f}") for name, clock, worked in found]
-    day = datetime.date.fromtimestamp(log.stat().st_mtime)
-    first = heading(day, f"at most {lanes[1]} crates side by side")
-    keep("prove", first, [("crate", "minutes by the clock", "of the processor"), *rows])
 
 
 def gate(log):
@@ -262,21 +240,20 @@ def is_kept(name, make, *words):
 
 def main():
     words = parser(__doc__)
-    words.add_argument("--prove", type=Path, metavar="LOG")
     words.add_argument("--gate", type=Path, metavar="LOG")
     words.add_argument("names", nargs="*", metavar="NAME")
     asked = words.parse_args()
     names = list(NEEDS) if "all" in asked.names else asked.names
     if not set(names) <= set(NEEDS):
         words.error(f"a NAME is all, {', '.join(NEEDS)}")
-    logs = [(name, make, log) for name, make, log in (("prove", prove, asked.prove), ("gate", gate, asked.gate)) if log]
-    if not names and not logs:
+    if not names and not asked.gate:
         words.error("name a measurement or a log")
     for name in names:
         if lacks := lacking(name):
             print(f"{name} will not be measured: there is no {', no '.join(lacks)}", flush=True)
     WORK.mkdir(exist_ok=True)
-    kept = [is_kept(*it) for it in logs] + [is_kept(name, measure, name) for name in names]
+    kept = [is_kept("gate", gate, asked.gate)] if asked.gate else []
+    kept += [is_kept(name, measure, name) for name in names]
     shutil.rmtree(WORK, ignore_errors=True)
     return not all(kept)
 

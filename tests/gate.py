@@ -1,13 +1,13 @@
 #!/usr/bin/env python3
 """Runs the gate: all that a change must pass. No step skips a check.
 
-    .ci/run             an hour or two, where nothing is proved yet
-    .ci/run --beside    the same, where a script begins as soon as its programs are built, beside the proofs that are left
-    .ci/run --list      its steps, each with the crates whose programs it runs
+    .ci/run           an hour or two, where nothing is proved yet
+    .ci/run --list    its steps, each with the crates whose programs it runs
 
 The first step, `rt ci`, proves the crates, tries their edits and runs their programs. The others are scripts, one at a
-time; `--help` of each says what it shows. With `--beside`, `tests/run` alone waits for the end of `rt ci`, since some of its
-cases measure time. A script whose programs are not built by then fails.
+time; `--help` of each says what it shows. A script begins as soon as its programs are built, beside the proofs that are
+left. `tests/run` alone waits for the end of `rt ci`, since some of its cases measure time. A script whose programs are not
+built by then fails.
 
 The output of a step stands in out/gate/N.log while it runs, and is printed when it ends. Then come two tables, which
 `bench/keep.py --gate` keeps: the minutes of each step, and the minute at which `rt ci` had proved each crate. The last
@@ -193,8 +193,8 @@ class Crates:
 class Gate:
     """One run: the steps that run, those that are left, and those that have ended."""
 
-    def __init__(self, beside: bool):
-        self.since, self.beside, self.left, self.running, self.ended = time.monotonic(), beside, [*SCRIPTS], [], []
+    def __init__(self) -> None:
+        self.since, self.left, self.running, self.ended = time.monotonic(), [*SCRIPTS], [], []
         self.free = free_memory()
 
     def say(self, text: str) -> None:
@@ -218,7 +218,7 @@ class Gate:
         """Begins the next script, if none runs. When `rt ci` has ended, those that lack a program fail."""
         if any(it is not self.proofs for it in self.running):
             return
-        ready = [it for it in self.left if not self.lacks(it) and not (self.is_proving() and (it.waits or not self.beside))]
+        ready = [it for it in self.left if not self.lacks(it) and not (self.is_proving() and it.waits)]
         if ready:
             self.left.remove(ready[0])
             self.begin(ready[0])
@@ -277,7 +277,6 @@ def stopped(number: int, _: object) -> None:
 
 def main() -> int:
     words = parser(__doc__)
-    words.add_argument("--beside", action="store_true")
     words.add_argument("--list", action="store_true")
     asked = words.parse_args()
     if asked.list:
@@ -285,7 +284,7 @@ def main() -> int:
         return 0
     for it in SIGNALS:
         signal.signal(it, stopped)
-    gate = Gate(asked.beside)
+    gate = Gate()
     try:
         return gate.run()
     finally:

@@ -50,13 +50,12 @@ def comes(holds: Callable[[], bool]) -> bool:
 def the_gate(room: Room, lost: str, broken: str, failed: list[str]) -> None:
     says = [f"echo 'rt: {it} {'NOT PROVED' if it in lost.split() else 'proved'}'" for it in CRATES]
     prepare(room, "\n".join([*says, f"exit {len(lost.split())}"]), broken)
-    for how in ("", " --beside"):
-        done = room.run(f"PATH=$PWD:$PATH python3 tests/gate.py{how}")
-        said = done.out.decode()
-        room.equal(failed, re.findall(r"^FAILED: ([^:]*):", said, re.MULTILINE), f"what failed in\n{said}")
-        room.equal(bool(failed), bool(done.status), "the status")
-        room.true(f"\n{len(SCRIPTS) + 1 - len(failed)} passed, {len(failed)} failed, 0 skipped\n" in said, said)
-        room.equal(len(SCRIPTS) - len({*failed} - {"rt ci"}), said.count("\nit ran\n"), f"the scripts that ran in\n{said}")
+    done = room.run("PATH=$PWD:$PATH python3 tests/gate.py")
+    said = done.out.decode()
+    room.equal(failed, re.findall(r"^FAILED: ([^:]*):", said, re.MULTILINE), f"what failed in\n{said}")
+    room.equal(bool(failed), bool(done.status), "the status")
+    room.true(f"\n{len(SCRIPTS) + 1 - len(failed)} passed, {len(failed)} failed, 0 skipped\n" in said, said)
+    room.equal(len(SCRIPTS) - len({*failed} - {"rt ci"}), said.count("\nit ran\n"), f"the scripts that ran in\n{said}")
 
 
 @case(seconds=2)
