@@ -203,6 +203,9 @@ $ mkdir changes; printf 'R2,Second,,ok\\n' > changes/registrar.csv; deposit pack
 $ printf 'R3,Third,,ok\\n' > changes/registrar.csv; deposit pack changes {INCR} --after parts/* --out parts > printed
 $ deposit check parts/{part_name(TUESDAY, 'incr')} --after parts/*full* parts/*diff* -> PASS INCR {LAST} {TUESDAY}
 registrar 1
+$ deposit restore parts/* --out restored > printed 2> notes; cat notes -> note: left out 1 part of deposits between the full and the incremental one
+$ cat restored/registrar.csv -> R1,Example,,ok
+R3,Third,,ok
 $ vault d; for it in parts/*; do escrow put d $it --now {TUESDAY}T10:00:00Z; done > printed
 $ escrow verify d {stated()} -> {RECEIPT}
 $ escrow verify d {stated(MONDAY, 'diff')} -> {notice(2, "RECEIPT", MONDAY, f"{MONDAY}T10:05:00Z", NEXT)}

@@ -213,6 +213,10 @@ fn print_left_out(rt: &HostRuntime, name: &DepositName, reasons: &[Option<LeftOu
     }
 }
 
+fn noun(count: usize) -> &'static str {
+    if count == 1 { "part" } else { "parts" }
+}
+
 // What is said of parts that were left out.
 #[derive(Clone, Copy)]
 struct LeftOutParts {
@@ -223,8 +227,7 @@ struct LeftOutParts {
 
 impl fmt::Display for LeftOutParts {
     fn fmt<W: fmt::Write>(&self, f: &mut fmt::Formatter<W>) -> fmt::Result {
-        let noun = if self.count == 1 { "part" } else { "parts" };
-        write!(f, "{} {noun} of ", self.count)?;
+        write!(f, "{} {} of ", self.count, noun(self.count))?;
         match self.reason {
             LeftOut::Itself => f.write_str("the deposit itself"),
             LeftOut::NotEarlier => write!(f, "{} or later", self.day),
@@ -275,6 +278,31 @@ fn followed_parts(
     }
     print_left_out(rt, name, &reasons);
     Ok(followed)
+}
+
+// Of these parts those of an incremental deposit and of the full one, which alone it follows. It prints how many others
+// there are.
+fn incremental_parts(
+    rt: &HostRuntime,
+    name: &DepositName,
+    parts: &[PartFile],
+) -> Result<Vec<PartFile>, ProgramError> {
+    let alloc = rt.alloc();
+    let mut own = Vec::with_capacity(alloc, parts.len())?;
+    for part in parts {
+        if part.name.kind == Kind::Full || first_name(&part.name) == *name {
+            own.push(*part)?;
+        }
+    }
+    let count = parts.len().saturating_sub(own.len());
+    if count > 0 {
+        clear_step(rt);
+        let noun = noun(count);
+        let _ = eprintln!(rt;
+            "note: left out {count} {noun} of deposits between the full and the incremental one"
+        );
+    }
+    Ok(own)
 }
 
 /// The error of a deposit that breaks the chain.
@@ -340,6 +368,10 @@ pub fn read_latest(rt: &HostRuntime, paths: &[&str]) -> Result<Vec<JoinedDeposit
     let latest = first_name(&last.name);
     find_no_stranger(alloc, paths, &parts, &latest.tld)?;
     let followed = followed_parts(rt, &latest, &parts, true)?;
+    if latest.kind == Kind::Incr {
+        let parts = incremental_parts(rt, &latest, &followed)?;
+        return read_deposits(rt, paths, &parts);
+    }
     read_deposits(rt, paths, &followed)
 }
 

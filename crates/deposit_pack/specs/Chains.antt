@@ -1,5 +1,5 @@
 -- What the agent knows of a deposit by the deposits that it follows (RFC 8909, section 2).
-use Rattle.std.specs.Prelude.{◌≡◌, ◌⊎◌, ◌+◌, ◌<◌, ℕ, List, [], ◌∷◌, IsSome, IsSomeAnd, Option, Some, None, length, map, option_map, slice_get, take, unwrap_or}
+use Rattle.std.specs.Prelude.{◌≡◌, ◌⊎◌, ◌+◌, ◌++◌, ◌<◌, ℕ, List, [], ◌∷◌, IsSome, IsSomeAnd, Option, Some, None, length, map, option_map, slice_get, take, unwrap_or}
 use Rattle.std.specs.List.{AllZip}
 use Rattle.deposit_name.specs.Name.{Name}
 use Rattle.deposit_name.specs.declared.kinds.Kind.{Kind}
@@ -38,6 +38,10 @@ HasId d id = HasEnvelope d.joined.now (λ v rest. (v.id ≡ id) × AgreesWithNam
 pub record IsChainOf (deposits : List NamedDeposit) (chain : Chain) : Type 0 where
   pub keys : base_at (joined_of deposits) ≡ Some chain.base
   pub ids : AllZip HasId deposits chain.ids.items
+
+-- with the deposit behind them these are no chain: it is not the one that its name tells, or not one that a chain may end with
+abbrev pub IsBrokenBy : List NamedDeposit → NamedDeposit → Type 0
+IsBrokenBy deposits d = ((id : List ℕ) → ¬ HasId d id) ⊎ (base_at (joined_of (deposits ++ d ∷ [])) ≡ None)
 
 -- its ids and its keys
 abbrev pub chain_parts : Option Chain → Option (List (List ℕ) × Base)

@@ -6,7 +6,7 @@ ghost use Rattle.deposit_verify.specs.Checks.{AgreesWithName, IsVerdict};
 ghost use Rattle.deposit_verify.specs.Known.{Known, known_in};
 ghost use Rattle.deposit_verify.specs.Reasons.{IsReason, verdict_for};
 ghost use Rattle.envelope.specs.Envelope.{env_of};
-ghost use Rattle.deposit_pack.specs.Chains.{BreaksAt, HasId, IsChainBefore, IsChainFault, IsChainOf, IsKnownOf, IsMisnamed, chain_parts, counted_from, joined_of, known_by_chain, names_of, previous_id};
+ghost use Rattle.deposit_pack.specs.Chains.{BreaksAt, HasId, IsBrokenBy, IsChainBefore, IsChainFault, IsChainOf, IsKnownOf, IsMisnamed, chain_parts, counted_from, joined_of, known_by_chain, names_of, previous_id};
 
 use crate::followed::are_followed;
 use deposit_name::{DepositId, DepositName, Kind};
@@ -80,7 +80,8 @@ impl Chain {
     ///
     /// Want of memory, and nothing else.
     pub fn then(&mut self, alloc: Global, deposit: &NamedDeposit<'_>) -> Result<bool, AllocError>
-        ensures { IfOk result (λ is. IsTrue is → (deposits : List NamedDeposit) → IsChainOf deposits self.old → IsChainOf (deposits ++ deposit.now ∷ []) self.new) }
+        ensures continues { IfOk result (λ is. IsTrue is → (deposits : List NamedDeposit) → IsChainOf deposits self.old → IsChainOf (deposits ++ deposit.now ∷ []) self.new) }
+        ensures broken { IfOk result (λ is. ¬ IsTrue is → (deposits : List NamedDeposit) → IsChainOf deposits self.old → IsBrokenBy deposits deposit.now) }
     {
         let Some(id) = id_of(alloc, deposit)? else {
             return Ok(false);
