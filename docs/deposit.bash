@@ -1,7 +1,7 @@
 # Completions of bash for deposit. The tables are made by tests/made.py from the words of its commands.
 # Source this file, or copy it to /usr/share/bash-completion/completions/deposit
 declare -gA _deposit_options=(
-    [pack]='--tld=TLD --date=DATE --kind=KIND --revision=N --id=ID --previous=ID --after=FILE... --header --out=FOLDER'
+    [pack]='--tld=TLD --date=DATE --kind=KIND --revision=N --id=ID --whole --previous=ID --after=FILE... --header --all --out=FOLDER'
     [check]='--after=FILE...'
     [unpack]='--out=FOLDER'
     [restore]='--header --out=FOLDER'

@@ -31,6 +31,8 @@ from allocations import Program, Run, lacking
 from demo.console import write_tables
 from lib import DAY, PART, TOP, built, number_of, parser, tell
 
+# The day behind the first deposit.
+NEXT_DAY = "2026-08-03"
 CRATES, WANTS = TOP / "crates", (": K6", ": E2")
 
 
@@ -132,8 +134,11 @@ def try_packing(every: int) -> Counter:
         _, packed = run_once(program_of("deposit", "pack", f"{folder}/tables", *words, "--out", "out"), "", {})
         part = Path(folder, PART)
         part.write_bytes(packed.files[f"out/{PART}"])
-        for call in (("pack", f"{folder}/tables", *words, "--out", "out"), ("check", str(part)),
-                     ("unpack", str(part), "--out", "out"), ("restore", str(part), "--out", "out")):
+        later = ["--tld", "example", "--date", NEXT_DAY, "--kind", "diff", "--revision", "0", "--id", number_of(NEXT_DAY)]
+        for call in (("pack", f"{folder}/tables", *words, "--out", "out"),
+                     ("pack", f"{folder}/tables", *words, "--all", "--out", "out"),
+                     ("pack", f"{folder}/tables", *later, "--whole", "--after", str(part), "--out", "out"),
+                     ("check", str(part)), ("unpack", str(part), "--out", "out"), ("restore", str(part), "--out", "out")):
             counts += try_all(f"deposit {call[0]}", program_of("deposit", *call), "", every, faults_of_packing,
                               "as without in {} runs, ended with status 3 in {}", Counter())
     return counts

@@ -4,7 +4,7 @@ import re
 from lib import PART, TOP, Room, each
 
 PROGRAMS = ("escrow", "deposit")
-OPTIONS = "--after --date --header --help --id --kind --out --previous --revision --tld"
+OPTIONS = "--after --all --date --header --help --id --kind --out --previous --revision --tld --whole"
 # Lines, and what is offered where the folder has a part, another file and the folders `tables` and `vault`.
 OFFERED = {
     "escrow re": "register release report",

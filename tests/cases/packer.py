@@ -3,7 +3,7 @@ from lib import (
     DAY, DIGEST, PART, RECEIPT, TEN, Room, case, envelope_text, framed, notice, number_of, packed, part_name, stated,
     taken_apart, transcripts)
 
-MONDAY, TUESDAY = "2026-08-03", "2026-08-04"
+MONDAY, TUESDAY, WEDNESDAY = "2026-08-03", "2026-08-04", "2026-08-05"
 ID, NEXT, LAST = map(number_of, (DAY, MONDAY, TUESDAY))
 MADE = "for t in domain domainContacts domainStatuses domainNameServers host hostAddresses contact registrar; do : > $t.csv; done"
 # A folder `tables` of eight tables without a row, and the words that pack it.
@@ -16,6 +16,17 @@ AGAIN = f"--tld example --date {MONDAY} --kind diff --revision 1 --id {NEXT}"
 NEXT_DAY = f"--tld example --date {TUESDAY} --kind diff --revision 0 --id {LAST}"
 SUNDAY = f"--tld example --date 2026-08-09 --kind full --revision 0 --id {number_of('2026-08-09')}"
 AFTER_SUNDAY = f"--tld example --date 2026-08-10 --kind diff --revision 0 --id {number_of('2026-08-10')}"
+# The same of whole tables: of Monday and Tuesday, and of Wednesday.
+WHOLE = f"--whole {DIFF.replace(f' --previous {ID}', '')}"
+WHOLE_INCR = f"--whole {INCR}"
+WHOLE_LAST = f"--whole --tld example --date {WEDNESDAY} --kind diff --revision 0 --id {number_of(WEDNESDAY)}"
+# The tables of a registry with two domains and their statuses, and its full deposit.
+REGISTRY = f"""{TABLES}
+$ printf 'R1,Example,,ok\\nR2,Second,,ok\\n' > tables/registrar.csv
+$ printf 'C1,C1-EX,R1,2020-01-01T00:00:00Z\\n' > tables/contact.csv
+$ for it in b a; do echo $it.example,$it-EX,C1,R1,2020-01-01T00:00:00Z,2030-01-01T00:00:00Z; done > tables/domain.csv
+$ printf 'a.example,ok\\nb.example,ok\\nb.example,clientHold\\n' > tables/domainStatuses.csv
+$ deposit pack tables {FULL} --out parts > printed"""
 BODY = f'{{"date":"{DAY}","id":"{ID}","kind":"full","parts":1,"revision":0,"tld":"example"}}'
 VERIFY = f"escrow verify VAULT example --date {DAY} --kind full --revision 0 --parts 1 --id {ID}"
 EMPTY = "\n".join(f"{name} 0" for name in ("domain", "domainContacts", "domainStatuses", "domainNameServers", "host",
@@ -63,6 +74,65 @@ $ deposit pack tables {FULL} --out parts -> !1 U3 deletes/domain.csv: a full dep
 $ rm -r tables/deletes tables/host.csv
 $ deposit pack tables {FULL} --out parts -> !3 file failed: tables/host.csv: file missing
 $ ls -> tables
+== all faults of the files are printed with their lines
+{TABLES}
+$ deposit pack tables {FULL} --all --out parts -> {PACKED}
+$ rm -r parts; printf '\\xef\\xbb\\xbf\\r\\n"R1","Two\\nlines",,ok\\r\\n\\r\\nR2,Second\\r\\nR3,Third,01,o k\\r\\nR1,First,,ok' > tables/registrar.csv
+$ printf 'a.example,A-EX,C1,R9,2020-01-01T00:00:00Z,2020-13-01T00:00:00Z\\nb.example,B-EX,,R2,2020-01-01T00:00:00Z,2030-01-01T00:00:00Z\\n' > tables/domain.csv
+$ printf '\\n\\na.example,ok\\nb.example,ok\\na.example,ok\\nc.example,ok\\nc.example,ok\\n' > tables/domainStatuses.csv; printf 'A.example,ns.example\\n' > tables/domainNameServers.csv
+$ deposit pack tables {FULL} --all --out parts -> !1 tables/domain.csv:1: U7 domain.csv row 1 fRegistrant: no contact: C1
+! tables/domain.csv:1: U7 domain.csv row 1 fClID: no registrar: R9
+! tables/domain.csv:1: U5 domain.csv row 1 fExDate: not a moment: 2020-13-01T00:00:00Z
+! tables/domainStatuses.csv:5: U5 domainStatuses.csv row 3: the key of row 1
+! tables/domainStatuses.csv:6: U7 domainStatuses.csv row 4 fName: no domain: c.example
+! tables/domainStatuses.csv:7: U5 domainStatuses.csv row 5: the key of row 4
+! tables/domainStatuses.csv:7: U7 domainStatuses.csv row 5 fName: no domain: c.example
+! tables/domainNameServers.csv:1: U5 domainNameServers.csv row 1 fName: not a host name: A.example
+! tables/domainNameServers.csv:1: U7 domainNameServers.csv row 1 fHostName: no host: ns.example
+! tables/registrar.csv:5: U5 registrar.csv row 2: 2 fields, 4 are wanted
+! tables/registrar.csv:6: U5 registrar.csv row 3 fGurid: not an IANA ID or empty: 01
+! tables/registrar.csv:6: U5 registrar.csv row 3 fStatus: not a status: o k
+! tables/registrar.csv:7: U5 registrar.csv row 4: the key of row 1
+! 13 faults
+$ deposit pack tables {FULL} --out parts -> !1 U5 domain.csv row 1 fExDate: not a moment: 2020-13-01T00:00:00Z
+$ ls -> tables
+== all faults of files with headers are printed
+{TABLES}
+$ for it in domain:fName,fRoid,fRegistrant,fClID,fCrDate,fExDate domainContacts:fName,fContactType,fId domainStatuses:fName,fStatus domainNameServers:fName,fHostName; do echo ${{it#*:}} > tables/${{it%:*}}.csv; done
+$ for it in host:fName,fRoid,fClID,fCrDate hostAddresses:fName,fAddr,fAddrVersion contact:fId,fRoid,fClID,fCrDate registrar:fId,fName,fGurid,fStatus; do echo ${{it#*:}} > tables/${{it%:*}}.csv; done
+$ deposit pack tables {FULL} --header --all --out parts -> {PACKED}
+$ rm -r parts; printf '\\nhost.example,H-EX,R1,2020-01-01\\n' >> tables/host.csv; printf 'R1,Example,,ok\\nR2,Second,,2\\nR2,Second,,ok\\n' > tables/registrar.csv
+$ deposit pack tables {FULL} --header --all --out parts -> !1 tables/host.csv:3: U5 host.csv row 1 fCrDate: not a moment: 2020-01-01
+! tables/registrar.csv:1: U4 registrar.csv: the first row is not the names of its columns
+! tables/registrar.csv:2: U5 registrar.csv row 1 fStatus: not a status: 2
+! tables/registrar.csv:3: U5 registrar.csv row 2: the key of row 1
+! 4 faults
+$ : > tables/registrar.csv; printf 'fName,fRoid,fClID,fCrDate' > tables/host.csv; deposit pack tables {FULL} --header --all --out parts -> !1 tables/registrar.csv:1: U4 registrar.csv: the first row is not the names of its columns
+! 1 fault
+$ ls -> tables
+== all faults of changes are printed
+{TABLES}
+$ deposit pack tables {FULL} --out parts > printed
+$ mkdir -p changes/deletes; printf 'a.example,D1-EX,C9,R9,2020-01-01T00:00:00Z,2030-01-01\\n' > changes/domain.csv; printf 'a.example,ok\\na.example,ok,ok\\n' > changes/domainStatuses.csv
+$ printf 'a.example\\nA.example\\n\\nb.example\\nb.example\\na.example,b.example\\n' > changes/deletes/domain.csv
+$ deposit pack changes {DIFF} --after parts/{PART} --all --out later -> !1 changes/domain.csv:1: U5 domain.csv row 1 fExDate: not a moment: 2030-01-01
+! changes/domainStatuses.csv:2: U5 domainStatuses.csv row 2: 3 fields, 2 are wanted
+! changes/deletes/domain.csv:2: U5 deletes/domain.csv row 2 fName: not a host name: A.example
+! changes/deletes/domain.csv:5: U5 deletes/domain.csv row 4: the key of row 3
+! changes/deletes/domain.csv:6: U5 deletes/domain.csv row 5: 2 fields, 1 are wanted
+! 5 faults
+$ rm changes/domain.csv changes/domainStatuses.csv; mv changes/deletes/domain.csv changes/deletes/domainStatuses.csv
+$ deposit pack changes {DIFF} --after parts/{PART} --all --out later -> !1 U3 deletes/domainStatuses.csv: only domains, hosts, contacts and registrars are deleted
+$ mv changes/deletes/domainStatuses.csv changes/deletes/domain.csv; printf 'a.example\\n' > changes/deletes/domain.csv
+$ deposit pack changes {DIFF} --all --out later -> !1 U8 the deposits that it follows are wanted
+$ deposit pack changes {DIFF} --after parts/{PART} --all --out later > printed; head -n 1 printed -> deletes/domain 1
+$ printf 'a.example,ok\\n' > tables/domainStatuses.csv; deposit pack tables {NEXT_DAY} --whole --after parts/{PART} --all --out whole -> !1 tables/domainStatuses.csv:1: U12 domainStatuses.csv row 1 fName: no domain: a.example
+! 1 fault
+$ ls -> changes
+later
+parts
+printed
+tables
 == a differential deposit is packed after those it follows
 {TABLES}
 $ printf 'R1,Example,,ok\\n' > tables/registrar.csv; deposit pack tables {FULL} --out parts > printed
@@ -152,6 +222,74 @@ $ deposit restore parts/* --out other > printed -> !1
 $ tail -n 1 printed; ls -d other -> FAILURE-09 the files have 32 bytes, says the envelope, and 33 are there
 !2 ls: cannot access 'other': No such file or directory
 $ mv kept parts/{part_name(MONDAY, 'diff')}; deposit restore parts/*diff* --out other > printed -> !1 {part_name(MONDAY, 'diff')}: it does not continue a full deposit and those since
+== of whole tables an object is packed that has changed, and the key of one that is gone
+{REGISTRY}
+$ cp -r tables sunday; for it in c b; do echo $it.example,$it-EX,C1,R1,2020-01-01T00:00:00Z,2030-01-01T00:00:00Z; done > tables/domain.csv
+$ printf 'b.example,ok\\n' > tables/domainStatuses.csv; printf 'R2,"Second",,"ok"\\r\\nR1,First,,ok' > tables/registrar.csv
+$ deposit pack tables {WHOLE} --after parts/* --out parts -> domain 2
+domainStatuses 1
+registrar 1
+deletes/domain 1
+{part_name(MONDAY, 'diff')} 1179
+escrow verify VAULT example --date {MONDAY} --kind diff --revision 0 --parts 1 --id {NEXT}
+{{"date":"{MONDAY}","id":"{NEXT}","kind":"diff","parts":1,"revision":0,"tld":"example"}}
+$ deposit unpack parts/*diff* --out monday > printed; rm monday/envelope.json; ls monday -> deletes
+domain.csv
+domainStatuses.csv
+registrar.csv
+$ cat monday/*.csv monday/deletes/*.csv -> b.example,b-EX,C1,R1,2020-01-01T00:00:00Z,2030-01-01T00:00:00Z
+c.example,c-EX,C1,R1,2020-01-01T00:00:00Z,2030-01-01T00:00:00Z
+b.example,ok
+R1,First,,ok
+a.example
+$ deposit pack monday {DIFF} --after parts/*full* --out same > printed; diff -r same/{part_name(MONDAY, 'diff')} parts/{part_name(MONDAY, 'diff')}
+# An incremental deposit takes the tables after the full one alone to those of the day, and so those after all since.
+$ deposit pack sunday {WHOLE_INCR} --after parts/* --out parts > printed; head -n 4 printed -> domain 2
+domainStatuses 3
+registrar 1
+deletes/domain 1
+$ deposit unpack parts/*incr* --out tuesday > printed; cat tuesday/domainStatuses.csv tuesday/deletes/domain.csv -> a.example,ok
+b.example,clientHold
+b.example,ok
+c.example
+$ deposit pack tables {WHOLE_LAST} --after parts/* --out parts > printed; head -n 4 printed -> domain 2
+domainStatuses 1
+registrar 1
+deletes/domain 1
+$ deposit check parts/*{WEDNESDAY}* --after parts/*full* parts/*{MONDAY}* parts/*{TUESDAY}* > printed; head -n 1 printed -> PASS DIFF {number_of(WEDNESDAY)} {WEDNESDAY}
+$ vault d; for it in full {MONDAY} {TUESDAY} {WEDNESDAY}; do escrow put d parts/*$it* --now {WEDNESDAY}T10:00:00Z; done > printed
+$ escrow verify d {stated()} -> {RECEIPT}
+$ escrow verify d {stated(MONDAY, 'diff')} -> {notice(2, "RECEIPT", MONDAY, f"{MONDAY}T10:05:00Z", NEXT)}
+$ escrow verify d {stated(TUESDAY, 'incr')} -> {notice(3, "RECEIPT", TUESDAY, f"{TUESDAY}T10:05:00Z", LAST)}
+$ escrow verify d {stated(WEDNESDAY, 'diff')} -> {notice(4, "RECEIPT", WEDNESDAY, f"{WEDNESDAY}T10:05:00Z", number_of(WEDNESDAY))}
+== of whole tables nothing is packed where nothing has changed
+{REGISTRY}
+$ tac tables/domainStatuses.csv > other; mv other tables/domainStatuses.csv
+$ deposit pack tables {WHOLE} --after parts/* --out diff -> {part_name(MONDAY, 'diff')} 583
+escrow verify VAULT example --date {MONDAY} --kind diff --revision 0 --parts 1 --id {NEXT}
+{{"date":"{MONDAY}","id":"{NEXT}","kind":"diff","parts":1,"revision":0,"tld":"example"}}
+$ deposit check diff/* --after parts/* -> PASS DIFF {NEXT} {MONDAY}
+$ deposit pack tables {WHOLE} --previous {ID} --after parts/* --out named > printed; diff -r diff named
+$ deposit pack tables {FULL} --whole --out full > printed; deposit pack tables {FULL} --out tables_alone > printed; diff -r full tables_alone
+== whole tables that are none are refused
+{REGISTRY}
+$ deposit pack tables {WHOLE} --out other -> !1 U8 the deposits that it follows are wanted
+$ deposit pack tables {WHOLE} --previous {ID} --out other -> !1 U8 the deposits that it follows are wanted
+$ deposit pack tables {WHOLE} --previous X1 --after parts/* --out other -> !2 error: --previous X1: by --after it is {ID}
+$ deposit pack tables {WHOLE} --header --after parts/* --out other -> !1 U4 domain.csv: the first row is not the names of its columns
+$ deposit pack tables {WHOLE.replace(MONDAY, "2026-08-09")} --after parts/* --out other -> !1 U1 2026-08-09 is a Sunday, and the deposit is not full
+$ mkdir tables/deletes; deposit pack tables {WHOLE} --after parts/* --out other -> !2 error: tables/deletes: no folder of this name is read
+$ deposit pack tables {FULL} --whole --out other -> !2 error: tables/deletes: no folder of this name is read
+$ rmdir tables/deletes; mv tables/host.csv kept; deposit pack tables {WHOLE} --after parts/* --out other -> !3 file failed: tables/host.csv: file missing
+$ mv kept tables/host.csv; printf 'b.example,ok\\nc.example,ok\\n' > tables/domainStatuses.csv
+$ deposit pack tables {WHOLE} --after parts/* --out other -> !1 U12 domainStatuses.csv row 2 fName: no domain: c.example
+$ printf 'C2,C2-EX,R3,2020-01-01T00:00:00Z\\n' > tables/contact.csv
+$ deposit pack tables {WHOLE} --after parts/* --out other -> !1 U12 domain.csv row 1 fRegistrant: no contact: C1
+$ printf 'C1,C1-EX,R1,2020-01-01\\n' > tables/contact.csv
+$ deposit pack tables {WHOLE} --after parts/* --out other -> !1 U5 contact.csv row 1 fCrDate: not a moment: 2020-01-01
+$ printf 'R1,Example,,ok\\nR1,Example,,ok\\n' > tables/registrar.csv; : > tables/contact.csv
+$ deposit pack tables {WHOLE} --after parts/* --out other -> !1 U5 registrar.csv row 2: the key of row 1
+$ ls -d other -> !2 ls: cannot access 'other': No such file or directory
 == parts that do not belong together are refused
 $ cp ../full {PART}; mkdir other; cp ../full other/{PART}; cp ../full other_{DAY}_full_S1_R0.ryde; cp ../full {part_name(DAY, "diff")}
 $ deposit check {PART} other/{PART} -> !2 error: other/{PART}: this part is named twice

@@ -305,6 +305,17 @@ fn incremental_parts(
     Ok(own)
 }
 
+/// The bytes of deposits.
+pub fn joined_bytes<'d>(
+    alloc: Global,
+    deposits: &'d [JoinedDeposit],
+) -> Result<Vec<&'d [u8]>, AllocError> {
+    deposits
+        .iter()
+        .map(|deposit| deposit.bytes.as_slice())
+        .collect(alloc)
+}
+
 /// The error of a deposit that breaks the chain.
 pub fn broken_at(alloc: Global, deposit: Option<&JoinedDeposit>) -> ProgramError {
     match deposit {
@@ -339,6 +350,19 @@ fn named_deposits<'d>(
         .collect(alloc)
 }
 
+/// Of the deposits whose parts these paths name, those that a deposit of this name follows, by day.
+pub fn read_followed(
+    rt: &HostRuntime,
+    paths: &[&str],
+    name: &DepositName,
+) -> Result<Vec<JoinedDeposit>, ProgramError> {
+    let alloc = rt.alloc();
+    let parts = part_files(alloc, paths)?;
+    find_no_stranger(alloc, paths, &parts, &name.tld)?;
+    let followed = followed_parts(rt, name, &parts, false)?;
+    read_deposits(rt, paths, &followed)
+}
+
 /// Of the deposits whose parts these paths name, the chain that a deposit of this name follows: none where it follows none
 /// of them.
 pub fn read_chain(
@@ -346,16 +370,12 @@ pub fn read_chain(
     paths: &[&str],
     name: &DepositName,
 ) -> Result<Option<Chain>, ProgramError> {
-    let alloc = rt.alloc();
-    let parts = part_files(alloc, paths)?;
-    find_no_stranger(alloc, paths, &parts, &name.tld)?;
-    let followed = followed_parts(rt, name, &parts, false)?;
-    if followed.is_empty() {
+    let deposits = read_followed(rt, paths, name)?;
+    if deposits.is_empty() {
         return Ok(None);
     }
-    let deposits = read_deposits(rt, paths, &followed)?;
     show_step(rt, "reading the keys");
-    chain_of(alloc, name, &deposits)
+    chain_of(rt.alloc(), name, &deposits)
 }
 
 /// Of the deposits whose parts these paths name, the latest and those that it follows, by day.

@@ -4,7 +4,9 @@
 mod checking;
 mod deposits;
 mod errors;
+mod faults;
 mod files;
+mod lined_rows;
 mod packing;
 mod restoring;
 mod steps;

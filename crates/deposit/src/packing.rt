@@ -1,7 +1,8 @@
 //! Packing the tables of a folder.
 use crate::checking::print_rows;
-use crate::deposits::read_chain;
+use crate::deposits::{broken_at, chain_of, joined_bytes, read_chain, read_followed};
 use crate::errors::ProgramError;
+use crate::faults::refuse_faults;
 use crate::files::{
     NewFile, is_folder, is_there, list_files, make_files, read_file, read_if_there,
 };
@@ -9,6 +10,7 @@ use crate::steps::{clear_step, show_step};
 use crate::words::PackOrder;
 use deposit_name::{Kind, TableName};
 use deposit_pack::{Attributes, Chain, PackError, Part, Source, TableFile, pack, split};
+use deposit_tables::{WholeError, pack_whole};
 use deposit_verify::wanted_table;
 use std::alloc::Global;
 
@@ -128,6 +130,56 @@ fn attributes_after(
     Ok(attributes)
 }
 
+// The deposit that takes the tables after those that it follows to the ones of a folder.
+fn packed_changes(
+    rt: &HostRuntime,
+    order: &PackOrder<'_>,
+    source: &Source<'_>,
+    after: &[&str],
+) -> Result<Vec<u8>, ProgramError> {
+    let alloc = rt.alloc();
+    let name = &order.attributes.name;
+    let deposits = read_followed(rt, after, name)?;
+    show_step(rt, "reading the keys");
+    let Some(chain) = chain_of(alloc, name, &deposits)? else {
+        return Err(ProgramError::refused(alloc, PackError::NoBase));
+    };
+    let attributes = attributes_after(alloc, &order.attributes, Some(&chain))?;
+    show_step(rt, "comparing");
+    match pack_whole(
+        alloc,
+        &attributes,
+        source,
+        &joined_bytes(alloc, &deposits)?,
+        &chain.base,
+    ) {
+        Ok(bytes) => Ok(bytes),
+        Err(WholeError::Pack(PackError::Memory)) => Err(ProgramError::Memory),
+        Err(WholeError::Chain) => Err(broken_at(alloc, deposits.first())),
+        Err(error) => Err(ProgramError::refused(alloc, error)),
+    }
+}
+
+// The bytes of a deposit from the tables of a registry.
+fn packed_whole(
+    rt: &HostRuntime,
+    order: &PackOrder<'_>,
+    after: &[&str],
+) -> Result<Vec<u8>, ProgramError> {
+    let alloc = rt.alloc();
+    let tables = read_tables(rt, order.tables, None, true)?;
+    let contents = table_files(alloc, &tables)?;
+    let source = Source {
+        contents: &contents,
+        deletes: &[],
+        has_headers: order.has_headers,
+    };
+    if order.lists_faults {
+        refuse_faults(rt, order, &source)?;
+    }
+    packed_changes(rt, order, &source, after)
+}
+
 // The bytes of the deposit.
 fn packed(
     rt: &HostRuntime,
@@ -138,7 +190,8 @@ fn packed(
     let kind = order.attributes.name.kind;
     let chain = read_chain(rt, after, &order.attributes.name)?;
     let attributes = attributes_after(alloc, &order.attributes, chain.as_ref())?;
-    let tables = read_tables(rt, order.tables, Some(DELETES), kind == Kind::Full)?;
+    let inner = if order.are_whole { None } else { Some(DELETES) };
+    let tables = read_tables(rt, order.tables, inner, kind == Kind::Full)?;
     let keys = read_deletes(rt, order.tables)?;
     let contents = table_files(alloc, &tables)?;
     let deletes = table_files(alloc, &keys)?;
@@ -147,6 +200,9 @@ fn packed(
         deletes: &deletes,
         has_headers: order.has_headers,
     };
+    if order.lists_faults {
+        refuse_faults(rt, order, &source)?;
+    }
     show_step(rt, "packing");
     let base = chain.as_ref().map(|chain| &chain.base);
     match pack(alloc, &attributes, &source, base) {
@@ -197,7 +253,11 @@ pub fn pack_tables(
     after: &[&str],
 ) -> Result<(), ProgramError> {
     let alloc = rt.alloc();
-    let bytes = packed(rt, order, after)?;
+    let bytes = if order.are_whole && order.attributes.name.kind != Kind::Full {
+        packed_whole(rt, order, after)?
+    } else {
+        packed(rt, order, after)?
+    };
     let Some(parts) = split(alloc, &order.attributes.name, &bytes)? else {
         return Err(ProgramError::refused(alloc, PackError::Length));
     };

@@ -3,7 +3,7 @@ ghost use Rattle.std.specs.Prelude.{IfOk};
 ghost use Rattle.deposit_verify.specs.Tables.{AreAllTables};
 
 use crate::checking::print_check;
-use crate::deposits::{JoinedDeposit, broken_at, chain_of, read_latest};
+use crate::deposits::{JoinedDeposit, broken_at, chain_of, joined_bytes, read_latest};
 use crate::errors::ProgramError;
 use crate::files::{NewFile, make_files};
 use crate::steps::{clear_step, show_step};
@@ -65,11 +65,7 @@ fn print_checks(rt: &HostRuntime, deposits: &[JoinedDeposit]) -> Result<bool, Pr
 fn restored(alloc: Global, deposits: &[JoinedDeposit]) -> Result<Vec<Rows>, ProgramError>
     ensures { IfOk result (λ tables. AreAllTables tables.items) }
 {
-    let mut chain: Vec<&[u8]> = Vec::with_capacity(alloc, deposits.len())?;
-    for deposit in deposits {
-        chain.push(&deposit.bytes)?;
-    }
-    match restore(alloc, &chain)? {
+    match restore(alloc, &joined_bytes(alloc, deposits)?)? {
         Some(tables) => Ok(tables),
         None => Err(broken_at(alloc, deposits.first())),
     }
@@ -154,6 +150,7 @@ pub fn restore_files(
     }
     show_step(rt, "restoring");
     let tables = restored(alloc, &deposits)?;
+    drop(deposits);
     let missing = missing_key(alloc, &tables)?;
     let texts = table_texts(alloc, &tables, has_headers)?;
     let files = new_files(alloc, folder, &texts)?;

@@ -14,7 +14,11 @@ pub struct PackOrder<'w> {
     /// The folder of the tables.
     pub tables: &'w str,
     pub attributes: Attributes,
+    /// Whether the tables are those of the registry, and not what has changed in them.
+    pub are_whole: bool,
     pub has_headers: bool,
+    /// Whether all faults of the files are printed, and not the first alone.
+    pub lists_faults: bool,
     /// The folder for its parts.
     pub folder: &'w str,
 }
@@ -100,6 +104,8 @@ fn pack_command<'w>(alloc: Global) -> Result<Command<'w>, AllocError> {
              hostAddresses.csv, contact.csv and registrar.csv\n\
              Deletes: the keys that are gone, in deletes/TABLE.csv, TABLE domain, host, contact or registrar\n\
              A full deposit has all eight tables and no deletes, any other has those with changes\n\
+             With --whole the folder has all eight tables as they are now, and no deletes, for any kind:\n        \
+             it packs each object that is new or changed since the deposits of --after, and deletes those that are gone\n\
              Prints: each table and the number of its rows, then each part and its length,\n        \
              then how to state the deposit\n\
              Example: deposit pack tables --tld example --date 2026-08-02 --kind full --revision 0 \
@@ -126,12 +132,22 @@ fn pack_command<'w>(alloc: Global) -> Result<Command<'w>, AllocError> {
             "ID",
             "Id of the deposit, 1 to 13 letters and digits",
         ))?
+        .arg(flag(
+            alloc,
+            "whole",
+            "The folder has all eight tables as they are now, and not what has changed",
+        ))?
         .arg(previous(alloc))?
         .arg(after(alloc))?
         .arg(flag(
             alloc,
             "header",
             "The first row of each file is the names of its columns",
+        ))?
+        .arg(flag(
+            alloc,
+            "all",
+            "Prints each fault of the files with its line, not the first alone",
         ))?
         .arg(out(alloc))
 }
@@ -271,7 +287,9 @@ pub fn pack_order<'w>(
     Ok(PackOrder {
         tables: text_in(matches, "TABLES"),
         attributes: attributes_in(alloc, matches)?,
+        are_whole: matches.get_flag("whole"),
         has_headers: matches.get_flag("header"),
+        lists_faults: matches.get_flag("all"),
         folder: text_in(matches, "out"),
     })
 }

@@ -20,5 +20,6 @@ pub use laws::{law_packed, law_packing, law_refusals};
 pub use pack_error::PackError;
 pub use packing::pack;
 pub use source::{Attributes, Source, TableFile};
+pub use source_reading::read_contents;
 pub use splitting::{PART_LENGTH_MAX, Part, split};
 pub use unpacking::{Unpacked, unpack};

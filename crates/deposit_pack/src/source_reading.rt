@@ -82,8 +82,12 @@ fn read_keys(
     read_any_keys(alloc, file.name, text, has_headers).map_err(|fault| table_error(file, fault))
 }
 
-// The rows of each table's file.
-fn read_contents(
+/// The rows of the file of each of some tables.
+///
+/// # Errors
+///
+/// One of U4 and U5 that holds, or want of memory.
+pub fn read_contents(
     alloc: Global,
     contents: &[TableFile<'_>],
     has_headers: bool,

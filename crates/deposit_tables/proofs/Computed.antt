@@ -20,7 +20,7 @@ use Rattle.deposit_tables.specs.Owners.{owner_key, owner_table}
 use Rattle.deposit_tables.specs.Restored.{DepositHasRow, DepositRenews, HasRowsOf, IsRowAfter}
 use Rattle.deposit_tables.specs.RowsAfter.{AreTablesAfter, is_kept, renewed_by, deposit_rows, tables_after}
 use Rattle.deposit_tables.proofs.ChainRows.{chain_rows}
-use Rattle.deposit_tables.proofs.Decisions.{Rows, Tables, contains_cases, contains_here, contains_later, nothing}
+use Rattle.deposit_tables.proofs.Decisions.{Tables, contains_cases, contains_here, contains_later, nothing}
 use Rattle.deposit_tables.proofs.RowReadings.{deposit_row}
 
 -- ---- what a filter keeps
@@ -29,7 +29,7 @@ not_true : (b : Bool) → not b ≡ true → b ≡ false
 not_true true e = cc e
 not_true false e = refl
 
-kept_there : (p : List (List ℕ) → Bool) (xs : Rows) (q : List (List ℕ)) → Contains (filter p xs) q → Contains xs q × (p q ≡ true)
+pub kept_there : {X : Type 0} (p : X → Bool) (xs : List X) (q : X) → Contains (filter p xs) q → Contains xs q × (p q ≡ true)
 kept_there p [] q has = absurd (nothing q has)
 kept_there p (x ∷ xs) q has = by (kept_there p xs q) (p x) refl has
   where
@@ -39,25 +39,25 @@ kept_there p (x ∷ xs) q has = by (kept_there p xs q) (p x) refl has
     by : (Contains (filter p xs) q → Contains xs q × (p q ≡ true)) → (b : Bool) → p x ≡ b → Contains (cond b (x ∷ filter p xs) (filter p xs)) q → Contains (x ∷ xs) q × (p q ≡ true)
     by more false passes has = let rest = more has in (contains_later x xs q rest.0, rest.1)
     by more true passes has = elim (contains_cases x (filter p xs) q has) [
-      | inl is ↦ (subst (λ (r : List (List ℕ)). Contains (x ∷ xs) r) is (contains_here x xs), moved is passes)
+      | inl is ↦ (subst (Contains (x ∷ xs)) is (contains_here x xs), moved is passes)
       | inr later ↦ let rest = more later in (contains_later x xs q rest.0, rest.1)
     ]
 
-kept_back : (p : List (List ℕ) → Bool) (xs : Rows) (q : List (List ℕ)) → Contains xs q → p q ≡ true → Contains (filter p xs) q
+pub kept_back : {X : Type 0} (p : X → Bool) (xs : List X) (q : X) → Contains xs q → p q ≡ true → Contains (filter p xs) q
 kept_back p [] q has passes = absurd (nothing q has)
 kept_back p (x ∷ xs) q has passes = by (λ there. kept_back p xs q there passes) (p x) refl (contains_cases x xs q has)
   where
     by : (Contains xs q → Contains (filter p xs) q) → (b : Bool) → p x ≡ b → (x ≡ q) ⊎ Contains xs q → Contains (cond b (x ∷ filter p xs) (filter p xs)) q
-    by more true is (inl same) = subst (λ (r : List (List ℕ)). Contains (x ∷ filter p xs) r) same (contains_here x (filter p xs))
+    by more true is (inl same) = subst (Contains (x ∷ filter p xs)) same (contains_here x (filter p xs))
     by more true is (inr later) = contains_later x (filter p xs) q (more later)
     by more false is (inl same) = let clash : true ≡ false = sym passes ∙ ap p (sym same) ∙ is in cc clash
     by more false is (inr later) = more later
 
 -- a row is kept just where its object is not renewed
-kept_if : (renewed : List (List ℕ)) (row : List (List ℕ)) → is_kept renewed row ≡ true → ¬ Contains renewed (owner_key row)
+pub kept_if : (renewed : List (List ℕ)) (row : List (List ℕ)) → is_kept renewed row ≡ true → ¬ Contains renewed (owner_key row)
 kept_if renewed row kept = not_from_Decides _ (member_decides renewed (owner_key row)) (not_true _ kept)
 
-if_kept : (renewed : List (List ℕ)) (row : List (List ℕ)) → (¬ Contains renewed (owner_key row)) → is_kept renewed row ≡ true
+pub if_kept : (renewed : List (List ℕ)) (row : List (List ℕ)) → (¬ Contains renewed (owner_key row)) → is_kept renewed row ≡ true
 if_kept renewed row none = by (is_member bytes_eq renewed (owner_key row)) refl
   where
     by : (b : Bool) → is_member bytes_eq renewed (owner_key row) ≡ b → not b ≡ true

@@ -73,7 +73,7 @@ deposit_rows (x ∷ xs) new key = elim (deposit_rows xs new key) [
     moved : (x row : List (List ℕ)) → x ≡ row → Contains new x → Contains new row
     moved x row is there = rw (← is) there
 
-same_rows : (old new : Rows) (key : List ℕ) → HasSameRows old new key ⊎ ¬ HasSameRows old new key
+pub same_rows : (old new : Rows) (key : List ℕ) → HasSameRows old new key ⊎ ¬ HasSameRows old new key
 same_rows old new key = elim (deposit_rows old new key) [
   | inr out ↦ inr (λ all. out (λ row same has. (all row same).0 has))
   | inl there ↦ elim (deposit_rows new old key) [
@@ -137,7 +137,7 @@ same_in old new owner key name = elim (same_table (owner_table name) owner) [
   ]
 ]
 
-is_same : (old new : Tables) (owner : TableName) (key : List ℕ) → IsSame old new owner key ⊎ ¬ IsSame old new owner key
+pub is_same : (old new : Tables) (owner : TableName) (key : List ℕ) → IsSame old new owner key ⊎ ¬ IsSame old new owner key
 is_same old new owner key = every_table (λ name. owner_table name ≡ owner → HasSameRows (old name) (new name) key) (same_in old new owner key)
 
 pub is_unchanged : (olds : List Tables) (new : Tables) (owner : TableName) (key : List ℕ) → IsUnchanged olds new owner key ⊎ ¬ IsUnchanged olds new owner key

@@ -10,7 +10,7 @@ use Rattle.deposit_tables.proofs.Decisions.{Tables}
 use Rattle.deposit_tables.proofs.PackedChanges.{changes_restored, packed_row}
 
 module _ (reader : IsTableReader) (one : OneReading) where
-  whole_rows : (first : PackedDeposit) → MayBePacked first → IsWhole first → HasRowsOf (packed_bytes first ∷ []) first.tables
+  pub whole_rows : (first : PackedDeposit) → MayBePacked first → IsWhole first → HasRowsOf (packed_bytes first ∷ []) first.tables
   whole_rows first packable whole name row =
       let chained = chain_rows.one (packed_bytes first) name row in
       let there = packed_row reader one first.attributes first.objects first.before packable name row in

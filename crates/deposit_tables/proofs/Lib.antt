@@ -15,3 +15,14 @@ pub mod Computed
 pub mod RenewedKeys
 pub mod TablesThen
 pub mod ChainTables
+pub mod RowsFound
+pub mod KeysChanged
+pub mod KeysOnce
+pub mod OwnersChanged
+pub mod PackedChains
+pub mod DaysRestored
+pub mod ChangedRows
+pub mod TablesTaken
+pub mod ChangesPacked
+pub mod ChangesInForm
+pub mod AllFiles

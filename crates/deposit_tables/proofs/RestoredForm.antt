@@ -46,7 +46,7 @@ form_in name row (e ∷ es) (f ∷ fs) (inr later) = form_in name row es fs late
 row_form : (chain : List (List ℕ)) (name : TableName) (row : List (List ℕ)) → IsRowAfter chain name row → (length row ≡ length (columns_of name)) × AllZip HasForm (columns_of name) row
 row_form chain name row h = form_in name row h.4.0.contents _ h.4.3.2
 
-begins : (name : TableName) → BeginsWithKey (columns_of name)
+pub begins : (name : TableName) → BeginsWithKey (columns_of name)
 begins Domain = tt
 begins DomainContacts = tt
 begins DomainStatuses = tt
@@ -59,10 +59,10 @@ begins Registrar = tt
 -- ---- one row of a key
 
 -- two places among all are the same, or one is before the other
-tell : (m n : ℕ) → (m < n) ⊎ ((m ≡ n) ⊎ (n < m))
+pub tell : (m n : ℕ) → (m < n) ⊎ ((m ≡ n) ⊎ (n < m))
 tell m n = grind arith
 
-row_at : (rows : Rows) (k : ℕ) (row : List (List ℕ)) → k < length rows → get_or rows k row ≡ row → get_or rows k [] ≡ row
+pub row_at : (rows : Rows) (k : ℕ) (row : List (List ℕ)) → k < length rows → get_or rows k row ≡ row → get_or rows k [] ≡ row
 row_at rows k row inside is = get_or_default rows k [] row inside ∙ is
 
 key_at : (rows : Rows) (k : ℕ) (row : List (List ℕ)) (d : List ℕ) → k < length rows → get_or rows k row ≡ row → get_or (column 0 rows) k d ≡ owner_key row

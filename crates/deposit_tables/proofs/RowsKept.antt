@@ -12,15 +12,15 @@ pub after_wide : (width : ℕ) (before contained : Rows) (renewed : List (List �
 after_wide width before contained renewed wide too =
     All-append (λ (row : List (List ℕ)). length row ≡ width) (filter (is_kept renewed) before) contained (All-filter (is_kept renewed) (λ (row : List (List ℕ)). length row ≡ width) before wide) too
 
--- one row more
-pub kept_more : (renewed : List (List ℕ)) (rows : Rows) (i : ℕ) (before now next : List (List ℕ)) → i < length rows → now ≡ before ++ flat (filter (is_kept renewed) (take i rows))
-    → next ≡ now ++ cond (is_kept renewed (get_or rows i [])) (get_or rows i []) [] → next ≡ before ++ flat (filter (is_kept renewed) (take (i + 1) rows))
-kept_more renewed rows i before now next inside was is =
+-- one row more of those that pass a test
+pub kept_more : (p : List (List ℕ) → Bool) (rows : Rows) (i : ℕ) (before now next : List (List ℕ)) → i < length rows → now ≡ before ++ flat (filter p (take i rows)) → next ≡ now ++ cond (p (get_or rows i [])) (get_or rows i []) []
+    → next ≡ before ++ flat (filter p (take (i + 1) rows))
+kept_more p rows i before now next inside was is =
     let row = get_or rows i [] in
-    let step : flat (filter (is_kept renewed) (take (i + 1) rows)) ≡ flat (filter (is_kept renewed) (take i rows)) ++ flat (cond (is_kept renewed row) (row ∷ []) []) =
-    ap flat (filter_more (is_kept renewed) rows i [] inside) ∙ flat_map-append (λ r. r) (filter (is_kept renewed) (take i rows)) (cond (is_kept renewed row) (row ∷ []) []) in
-    is ∙ ap (λ (t : List (List ℕ)). t ++ cond (is_kept renewed row) row []) was ∙ append_assoc before (flat (filter (is_kept renewed) (take i rows))) (cond (is_kept renewed row) row [])
-    ∙ ap (λ (t : List (List ℕ)). before ++ (flat (filter (is_kept renewed) (take i rows)) ++ t)) (one (is_kept renewed row) row) ∙ ap (λ (t : List (List ℕ)). before ++ t) (sym step)
+    let step : flat (filter p (take (i + 1) rows)) ≡ flat (filter p (take i rows)) ++ flat (cond (p row) (row ∷ []) []) =
+    ap flat (filter_more p rows i [] inside) ∙ flat_map-append (λ r. r) (filter p (take i rows)) (cond (p row) (row ∷ []) []) in
+    is ∙ ap (λ (t : List (List ℕ)). t ++ cond (p row) row []) was ∙ append_assoc before (flat (filter p (take i rows))) (cond (p row) row [])
+    ∙ ap (λ (t : List (List ℕ)). before ++ (flat (filter p (take i rows)) ++ t)) (one (p row) row) ∙ ap (λ (t : List (List ℕ)). before ++ t) (sym step)
   where
     one : (b : Bool) (row : List (List ℕ)) → cond b row [] ≡ flat (cond b (row ∷ []) [])
     one true row = sym (append-nil row)

@@ -57,11 +57,11 @@ apart_if true false e same = cc same
 apart_if false true e same = cc same
 apart_if false false e same = cc e
 
--- this holds of the tables at the places so far, and of one more
-abbrev pub HoldsSoFar : List Rows → (TableName → Rows → Type 0) → ℕ → Type 0
+-- this holds of the tables, or lists of keys, at the places so far, and of one more
+abbrev pub HoldsSoFar : {X : Type 0} → List (List X) → (TableName → List X → Type 0) → ℕ → Type 0
 HoldsSoFar tables P place = (name : TableName) → table_place name < place → P name (get_or tables (table_place name) [])
 
-pub holds_more : (tables : List Rows) (P : TableName → Rows → Type 0) (place : ℕ) (name : TableName) (rows : Rows) → length tables ≡ place → HoldsSoFar tables P place → table_place name ≡ place → P name rows
+pub holds_more : {X : Type 0} (tables : List (List X)) (P : TableName → List X → Type 0) (place : ℕ) (name : TableName) (rows : List X) → length tables ≡ place → HoldsSoFar tables P place → table_place name ≡ place → P name rows
     → HoldsSoFar (tables ++ rows ∷ []) P (place + 1)
 holds_more tables P place name rows size so_far here holds other below = by (tell (table_place other) place)
   where

@@ -1,5 +1,5 @@
 -- What takes the tables of a registry to later ones (RFC 8909, section 2: a deposit that is not full has what is new or changed, and what is gone).
-use Rattle.std.specs.Prelude.{ℕ, List, [], ◌∷◌, ◌++◌, IsTrue, map}
+use Rattle.std.specs.Prelude.{◌≢◌, ℕ, List, [], ◌∷◌, ◌++◌, All, IsTrue, map}
 use Rattle.deposit_name.specs.Tables.{has_deletes}
 use Rattle.deposit_name.specs.declared.table.TableName.{TableName}
 use Rattle.deposit_verify.specs.Rows.{rows_under}
@@ -18,6 +18,11 @@ deletes_rows o name = rows_under (map packed_entry o.deletes) (rows_of o.deletes
 pub record AreChanges (olds : List (TableName → List (List (List ℕ)))) (new : TableName → List (List (List ℕ))) (o : Objects) : Type 0 where
   pub contents : (name : TableName) → AreRows (IsChangedRow olds new name) (contents_rows o name)
   pub deletes : (name : TableName) → IsTrue (has_deletes name) → AreRows (IsGoneKey olds new name) (deletes_rows o name)
+
+-- and no table of them is without a row
+pub record AreSomeChanges (olds : List (TableName → List (List (List ℕ)))) (new : TableName → List (List (List ℕ))) (o : Objects) : Type 0 where
+  pub changes : AreChanges olds new o
+  pub some : All (λ f. f.rows ≢ []) (o.contents ++ o.deletes)
 
 -- A deposit of the changes since some tables brings each chain with one of these to the new ones. (An incremental deposit has two: those of the full deposit, and those before it.)
 abbrev pub AreChangesRestored : Type 0

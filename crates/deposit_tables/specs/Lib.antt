@@ -3,5 +3,7 @@ pub mod Restored
 pub mod Unchanged
 pub mod Changes
 pub mod Deposits
+pub mod Whole
+pub mod Days
 pub mod RowsAfter
 pub mod inside

@@ -1,2 +1,4 @@
+pub mod Changing
+pub mod Packing
 pub mod Places
 pub mod Restoring

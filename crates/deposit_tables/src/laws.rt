@@ -1,5 +1,6 @@
 //! What holds of the tables after a chain.
 ghost use Rattle.deposit_tables.specs.Changes.{AreChangesRestored};
+ghost use Rattle.deposit_tables.specs.Days.{AreDaysRestored};
 ghost use Rattle.deposit_tables.specs.Restored.{AreChainRows, AreRestored};
 ghost use Rattle.deposit_tables.specs.RowsAfter.{AreTablesAfter};
 ghost use Rattle.deposit_tables.specs.Deposits.{AreDepositsRestored, ArePassedRestored};
@@ -37,6 +38,16 @@ pub fn law_deposits()
 {
     law_one_reading();
     law_table_reader();
+}
+
+/// A full deposit, and then those that were packed from the tables of a registry day after day, restore the tables of the
+/// last day.
+pub fn law_days()
+    ensures { AreDaysRestored }
+{
+    law_one_reading();
+    law_table_reader();
+    law_pass();
 }
 
 /// Deposits that pass are chains, and the tables after one have as many rows as its last header counts.

@@ -25,8 +25,8 @@ fn field_at(rows: &Rows, width: usize, place: usize, column: usize) -> &[u8]
     }
 }
 
-// The fields of a row, and empty ones behind them, six in all: no table has more columns.
-fn fields_at(rows: &Rows, width: usize, place: usize) -> [&[u8]; 6]
+/// The fields of a row, and empty ones behind them, six in all: no table has more columns.
+pub(crate) fn fields_at(rows: &Rows, width: usize, place: usize) -> [&[u8]; 6]
     requires { HaveWidth width rows.now }
     ensures { borrowed_texts result ≡ six_fields (get_or rows.now place []) }
 {
@@ -40,12 +40,20 @@ fn fields_at(rows: &Rows, width: usize, place: usize) -> [&[u8]; 6]
     ]
 }
 
+/// How the row at a place compares with six fields.
+pub(crate) fn compare_to(rows: &Rows, width: usize, place: usize, fields: &[&[u8]; 6]) -> Ordering
+    requires { HaveWidth width rows.now }
+    ensures { result ≡ row_cmp (six_fields (get_or rows.now place [])) (borrowed_texts fields.now) }
+{
+    fields_at(rows, width, place).cmp(fields)
+}
+
 // How the rows at two places compare.
 fn compare_at(rows: &Rows, width: usize, one: usize, other: usize) -> Ordering
     requires { HaveWidth width rows.now }
     ensures { result ≡ row_cmp (six_fields (get_or rows.now one [])) (six_fields (get_or rows.now other [])) }
 {
-    fields_at(rows, width, one).cmp(&fields_at(rows, width, other))
+    compare_to(rows, width, one, &fields_at(rows, width, other))
 }
 
 fn places_of(alloc: Global, rows: &Rows) -> Result<Vec<usize>, AllocError>
@@ -58,8 +66,12 @@ fn places_of(alloc: Global, rows: &Rows) -> Result<Vec<usize>, AllocError>
     Ok(places)
 }
 
-// The places of rows, in ascending order of these.
-fn sorted_places(alloc: Global, rows: &Rows, width: usize) -> Result<Vec<usize>, AllocError>
+/// The places of rows, in ascending order of these.
+pub(crate) fn sorted_places(
+    alloc: Global,
+    rows: &Rows,
+    width: usize,
+) -> Result<Vec<usize>, AllocError>
     requires { HaveWidth width rows.now }
     ensures places { IfOk result (λ places. ArePlaces (length rows.now) places.items) }
     ensures sorted { IfOk result (λ places. IsSortedBy (is_below rows.now) places.items) }

@@ -46,15 +46,15 @@ fn is_full(envelope: &Envelope) -> bool
 // where the first is not full, or a later one is.
 fn tables_then(
     alloc: Global,
-    before: &[Rows],
+    before: Vec<Rows>,
     joined: &[u8],
     is_first: bool,
 ) -> Result<Option<Vec<Rows>>, AllocError>
-    requires { AreAllTables before.now }
+    requires { AreAllTables before.items }
     ensures link { IfOk result (λ found. MatchOption found (¬ IsLink is_first joined.now) (λ _. IsLink is_first joined.now)) }
     ensures tables { IfOk result (λ found. IfSome found (λ tables. AreAllTables tables.items)) }
     // They have the rows of the chain that ends with it.
-    ensures rows { IfOk result (λ found. IfSome found (λ tables. (chain : List (List ℕ)) → HasRowsOf chain (table_of before.now)
+    ensures rows { IfOk result (λ found. IfSome found (λ tables. (chain : List (List ℕ)) → HasRowsOf chain (table_of before.items)
         → HasRowsOf (chain ++ joined.now ∷ []) (table_of tables.items))) }
 {
     law_one_reading();
@@ -70,16 +70,16 @@ fn tables_then(
 }
 
 // The tables with their rows in ascending order.
-fn sorted_tables(alloc: Global, tables: &[Rows]) -> Result<Vec<Rows>, AllocError>
-    requires { AreAllTables tables.now }
+fn sorted_tables(alloc: Global, tables: Vec<Rows>) -> Result<Vec<Rows>, AllocError>
+    requires { AreAllTables tables.items }
     ensures all { IfOk result (λ sorted. AreAllTables sorted.items) }
-    ensures sorted { IfOk result (λ sorted. (name : TableName) → AreSorted (table_of tables.now name) (table_of sorted.items name)) }
+    ensures sorted { IfOk result (λ sorted. (name : TableName) → AreSorted (table_of tables.items name) (table_of sorted.items name)) }
 {
-    let mut sorted = Vec::with_capacity(alloc, 8)?;
+    let mut sorted = tables;
     for place in 0..8 {
         let name = table_name_at(place);
         let width = columns(name).len();
-        sorted.push(sorted_rows(alloc, &tables[place], width)?)?;
+        sorted[place] = sorted_rows(alloc, &sorted[place], width)?;
     }
     Ok(sorted)
 }
@@ -95,11 +95,11 @@ fn tables_of_chain(
     ensures rows { IfOk result (λ found. IfSome found (λ tables. HasRowsOf (first.now ∷ map (λ d. d.now) later.now) (table_of tables.items))) }
 {
     let none = no_tables(alloc)?;
-    let Some(mut tables) = tables_then(alloc, &none, first, true)? else {
+    let Some(mut tables) = tables_then(alloc, none, first, true)? else {
         return Ok(None);
     };
     for joined in later {
-        match tables_then(alloc, &tables, joined, false)? {
+        match tables_then(alloc, tables, joined, false)? {
             Some(then) => tables = then,
             None => return Ok(None),
         }
@@ -123,7 +123,7 @@ pub fn restore(alloc: Global, chain: &[&[u8]]) -> Result<Option<Vec<Rows>>, Allo
         return Ok(None);
     };
     match tables_of_chain(alloc, first, later)? {
-        Some(tables) => Ok(Some(sorted_tables(alloc, &tables)?)),
+        Some(tables) => Ok(Some(sorted_tables(alloc, tables)?)),
         None => Ok(None),
     }
 }

@@ -12,8 +12,8 @@ use csv::ByteRecord;
 use dnrd_csv::Rows;
 use std::alloc::{AllocError, Global};
 
-// Whether a text is one of the keys, which ascend.
-fn has_key(keys: &[&[u8]], text: &[u8]) -> bool
+/// Whether a text is one of the keys, which ascend.
+pub(crate) fn has_key(keys: &[&[u8]], text: &[u8]) -> bool
     requires { IsSorted borrowed_text_cmp keys.now }
     ensures { IsTrue result ↔ Contains (borrowed_texts keys.now) text.now }
 {

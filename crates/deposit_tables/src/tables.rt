@@ -84,19 +84,19 @@ fn table_after(
 // All tables after a deposit.
 pub(crate) fn tables_after(
     alloc: Global,
-    before: &[Rows],
+    before: Vec<Rows>,
     whole: &WholeDeposit,
 ) -> Result<Vec<Rows>, AllocError>
     requires files { AreCountable (env_of whole.now.envelope) whole.now.files.tables.items whole.now.files.deleted.items }
-    requires before { AreAllTables before.now }
+    requires before { AreAllTables before.items }
     requires contained { (name : TableName) → HaveWidth (length (columns_of name)) (deposit_rows (reading_in whole.now) name) }
     ensures eight { IfOk result (λ tables. length tables.items ≡ 8) }
-    ensures each { IfOk result (λ tables. (name : TableName) → table_of tables.items name ≡ tables_after (table_of before.now) (reading_in whole.now) name) }
+    ensures each { IfOk result (λ tables. (name : TableName) → table_of tables.items name ≡ tables_after (table_of before.items) (reading_in whole.now) name) }
 {
-    let mut tables = Vec::with_capacity(alloc, 8)?;
+    let mut tables = before;
     for place in 0..8 {
         let name = table_name_at(place);
-        tables.push(table_after(alloc, &before[place], whole, name)?)?;
+        tables[place] = table_after(alloc, &tables[place], whole, name)?;
     }
     Ok(tables)
 }

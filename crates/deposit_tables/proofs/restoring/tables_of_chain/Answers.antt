@@ -8,13 +8,13 @@ loop-joined-init c = record {
   first = rw c.in-Some.is at c.in_ok-tables.ensures.link;
   all = rw c.in-Some.is at c.in_ok-tables.ensures.tables;
   rows =
-      let then = rw (c.in-Some.is, c.deref.ensures.value) at c.in_ok-tables.ensures.rows in
+      let then = rw c.in-Some.is at c.in_ok-tables.ensures.rows in
       then [] (no_rows (table_of c.in_ok-none.none.items) c.in_ok-none.ensures.none);
   links = λ k d inside. absurd (omega (arith, inside));
 }
 
 pub tables_then-requires-in-loop-joined : goal.tables_then-requires-in-loop-joined
-tables_then-requires-in-loop-joined c = rw c.deref-in-loop-joined.ensures.value c.loop-joined.invariant.all
+tables_then-requires-in-loop-joined c = c.loop-joined.invariant.all
 
 pub returns-in-None-clause-chained : goal.returns-in-None-clause-chained
 returns-in-None-clause-chained c = no_chain c.args.first.now c.args.later.now c.loop-joined.joined-index _ c.loop-joined-test.true (rw c.in-None.is at c.in_ok-then.ensures.link)
@@ -24,7 +24,7 @@ loop-joined-preserved c =
     let first = c.args.first.now in
     let later = c.args.later.now in
     let i = c.loop-joined.joined-index in
-    let then = rw (c.in-Some-2.is, c.deref-in-loop-joined.ensures.value) at c.in_ok-then.ensures.rows in
+    let then = rw c.in-Some-2.is at c.in_ok-then.ensures.rows in
     record {
       first = c.loop-joined.invariant.first;
       all = rw c.in-Some-2.is at c.in_ok-then.ensures.tables;

@@ -37,7 +37,7 @@ returns-clause-tables c =
     let one : OneReading = record { envelope = c.law_one_reading.ensures.envelope; frame = c.law_one_reading.ensures.frame } in
     let r = reading_in c.in-Some.whole in
     let at : Some r ≡ reading_at c.args.joined.now = rw c.in-Some.is at c.in_ok-whole.ensures.value in
-    all_after c.law_readers.ensures c.law_table_reader.ensures one c.args.joined.now r (sym at) c.args.before.now c.in_ok-tables_after.field-0.items c.requires c.in_ok-tables_after.ensures.eight
+    all_after c.law_readers.ensures c.law_table_reader.ensures one c.args.joined.now r (sym at) c.args.before.items c.in_ok-tables_after.field-0.items c.requires c.in_ok-tables_after.ensures.eight
     c.in_ok-tables_after.ensures.each
 
 pub returns-clause-rows : goal.returns-clause-rows
@@ -45,5 +45,5 @@ returns-clause-rows c =
     let one : OneReading = record { envelope = c.law_one_reading.ensures.envelope; frame = c.law_one_reading.ensures.frame } in
     let r = reading_in c.in-Some.whole in
     let at : Some r ≡ reading_at c.args.joined.now = rw c.in-Some.is at c.in_ok-whole.ensures.value in
-    rows_of_chain c.law_readers.ensures c.law_table_reader.ensures one c.args.joined.now r (sym at) c.args.before.now c.in_ok-tables_after.field-0.items c.requires c.in_ok-tables_after.ensures.eight
+    rows_of_chain c.law_readers.ensures c.law_table_reader.ensures one c.args.joined.now r (sym at) c.args.before.items c.in_ok-tables_after.field-0.items c.requires c.in_ok-tables_after.ensures.eight
     c.in_ok-tables_after.ensures.each
