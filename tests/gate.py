@@ -58,6 +58,7 @@ SCRIPTS = [
     Step("tests/hostile.py --cases 300 --seed 1 --seconds 600", "deposit escrow"),
     Step("tests/clients.py --seconds 120", "deposit escrow"),
     Step("tests/registry.py", "deposit escrow"),
+    Step("tests/postgres.py", "deposit escrow"),
     Step("tests/desk.py", "deposit escrow"),
     Step("tests/faults.py --only put purge 'go over'", "escrow"),
     Step("tests/power.py", "escrow"),

@@ -35,9 +35,9 @@ PACKER = TOP / "crates/deposit/out/deposit"
 LIMIT = 120
 # The tools that some tests need, each with its Debian package.
 PACKAGES = {"chromium": "chromium", "curl": "curl", "fallocate": "util-linux", "flock": "util-linux", "groff": "groff-base",
-            "ip": "iproute2", "nginx": "nginx", "nsenter": "util-linux", "openssl": "openssl", "prlimit": "util-linux",
-            "script": "bsdutils", "setpriv": "util-linux", "sqlite3": "sqlite3", "strace": "strace", "systemctl": "systemd",
-            "systemd-analyze": "systemd", "unshare": "util-linux"}
+            "ip": "iproute2", "nginx": "nginx", "nsenter": "util-linux", "openssl": "openssl", "pg_ctlcluster": "postgresql",
+            "prlimit": "util-linux", "script": "bsdutils", "setpriv": "util-linux", "sqlite3": "sqlite3", "strace": "strace",
+            "systemctl": "systemd", "systemd-analyze": "systemd", "unshare": "util-linux"}
 
 
 class Wrong(Exception):

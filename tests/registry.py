@@ -5,8 +5,9 @@
 
 A registry has N domains (100,000) with their contacts, hosts and registrars, in tables as a database exports them: header
 rows, CR LF, needless quotes. Each day its objects change, come and go, and names are given again. On Sundays, the first day
-among them, it packs a full deposit, on other days a differential one of what differs from yesterday. A server of that day
-takes the parts by curl and then the line that `deposit pack` printed last: the answer has to be a receipt.
+among them, it packs a full deposit, on other days a differential one of what differs from yesterday: `deposit pack --whole`
+gets all tables, and finds it; on Wednesdays this script does, and hands over the changed rows. A server of that day takes the
+parts by curl and then the line that `deposit pack` printed last: the answer has to be a receipt.
 
 After so many days (30) the agent releases the parts. The last full deposit and those since are fetched and unpacked: each
 file has to have the bytes that this script spells with Python's csv module. `deposit restore` has to make up the tables of
@@ -35,7 +36,7 @@ from pathlib import Path
 from lib import ESCROW, PACKER, TABLES, Room, Wrong, answer_of, built, lines_of, notice, parser, part_name, response, tell
 from reasons import COLUMNS, COUNTED, DELETED
 
-TLD, FIRST = "zz", datetime.date(2026, 8, 2)
+TLD, FIRST, WEDNESDAY, SUNDAY = "zz", datetime.date(2026, 8, 2), 2, 6
 # The tables that have rows of an object of a kind, that with its key first.
 TABLES_OF = {"registrar": ["registrar"], "contact": ["contact"], "host": ["host", "hostAddresses"],
              "domain": ["domain", "domainContacts", "domainStatuses", "domainNameServers"]}
@@ -192,11 +193,22 @@ def tables_of(objects: Objects) -> dict[str, Rows]:
     return tables
 
 
+def ascending(rows: Rows) -> Rows:
+    """The rows by the bytes of their fields."""
+    return sorted(rows, key=lambda row: [field.encode() for field in row])
+
+
+def are_same(one: Object | None, other: Object) -> bool:
+    """Whether an object has the same rows, in any order."""
+    return one == other or one is not None and [*map(ascending, one)] == [*map(ascending, other)]
+
+
 def differences(before: Objects, now: Objects) -> tuple[dict[str, Rows], dict[str, Rows]]:
-    """The rows of the objects that are new or changed, and the keys of those that are gone, where there are any."""
-    new = {kind: {key: it for key, it in made.items() if before[kind].get(key) != it} for kind, made in now.items()}
+    """The rows of the objects that are new or changed, and the keys of those that are gone, ascending, where there are any."""
+    new = {kind: {key: it for key, it in made.items() if not are_same(before[kind].get(key), it)}
+           for kind, made in now.items()}
     gone = {kind: [[key] for key in before[kind] if key not in now[kind]] for kind in DELETED}
-    return tuple({name: rows for name, rows in tables.items() if rows} for tables in (tables_of(new), gone))
+    return tuple({name: ascending(rows) for name, rows in tables.items() if rows} for tables in (tables_of(new), gone))
 
 
 # ---- spelling
@@ -242,7 +254,7 @@ class Month:
         self.parts: list[Path] = []
         self.chain: list[list[Path]] = []
         self.sent: list[tuple[dict[str, Rows], dict[str, Rows]]] = []
-        self.seconds: dict[str, list[tuple[int, float, float]]] = {"full": [], "diff": []}
+        self.seconds: dict[str, list[tuple[int, float, float]]] = {"full": [], "diff": [], "diff by --whole": []}
         vault, blocks = room.folder / "vault", min(262_144, 2048 * (days + 1))
         vault.mkdir()
         ran(room.program, "init", vault, "--blocks", str(blocks), "--number", "0000000000000001")
@@ -250,17 +262,18 @@ class Month:
 
     def day(self, before: Objects) -> None:
         """Sends the deposit of a day, before which these objects were there."""
-        if self.registry.today.weekday() == 6:
-            self.chain, self.sent, kind = [], [], "full"
-            contents, deletes = tables_of(self.registry.objects), {}
-        else:
-            kind, (contents, deletes) = "diff", differences(before, self.registry.objects)
-        self.write(contents, deletes)
+        today, now = self.registry.today.weekday(), self.registry.objects
+        kind, whole = "full" if today == SUNDAY else "diff", today not in (SUNDAY, WEDNESDAY)
+        if kind == "full":
+            self.chain, self.sent = [], []
+        contents, deletes = (tables_of(now), {}) if kind == "full" else differences(before, now)
+        self.write(*((tables_of(now), {}) if whole else (contents, deletes)))
         began = time.monotonic()
-        parts, body = self.pack(kind)
+        parts, body = self.pack(kind, whole)
         packed = time.monotonic()
         self.send(parts, body)
-        self.seconds[kind].append((sum(part.stat().st_size for part in parts), packed - began, time.monotonic() - packed))
+        length, sent = sum(part.stat().st_size for part in parts), time.monotonic()
+        self.seconds[f"{kind} by --whole" if whole else kind].append((length, packed - began, sent - packed))
         self.parts += parts
         self.chain.append(parts)
         self.sent.append((contents, deletes))
@@ -271,19 +284,20 @@ class Month:
 
     def write(self, contents: dict[str, Rows], deletes: dict[str, Rows]) -> None:
         for folder, tables, width in ((self.folder(), contents, None), (self.folder() / "deletes", deletes, 1)):
-            folder.mkdir()
+            if tables or width is None:
+                folder.mkdir()
             for table, rows in tables.items():
                 (folder / f"{table}.csv").write_bytes(exported(self.registry.dice, COLUMNS[table][:width], rows))
 
-    def pack(self, kind: str) -> tuple[list[Path], str]:
+    def pack(self, kind: str, whole: bool) -> tuple[list[Path], str]:
         """The parts of a deposit, and what states it."""
         today, out = str(self.registry.today), self.folder() / "parts"
         behind = ["--after", *self.parts] if kind == "diff" else []
         past = len(self.parts) - sum(map(len, self.chain))
         notes = [f"note: left out {past} parts of days before the latest full deposit"] if behind and past else []
         *lines, _, body = ran(self.packer, "pack", self.folder(), "--tld", TLD, "--date", today, "--kind", kind,
-                              "--revision", "0", "--id", number_of(self.registry.today), "--header", *behind, "--out", out,
-                              notes=notes)
+                              "--revision", "0", "--id", number_of(self.registry.today), "--header", *["--whole"] * whole,
+                              *behind, "--out", out, notes=notes)
         lines = [line for line in lines if ".ryde " in line]
         parts = [out / part_name(today, kind, place + 1, tld=TLD) for place in range(len(lines))]
         self.room.equal([f"{part.name} {part.stat().st_size}" for part in parts], lines, f"the parts of {today}")
@@ -339,8 +353,7 @@ class Month:
         restored = self.room.folder / "restored"
         ran(self.packer, "restore", *(part for parts in released for part in parts), "--out", restored)
         for table, rows in tables_of(self.registry.objects).items():
-            ascending = sorted(rows, key=lambda row: [field.encode() for field in row])
-            self.room.equal(spelled(ascending), (restored / f"{table}.csv").read_bytes(), f"{table} of the last day")
+            self.room.equal(spelled(ascending(rows)), (restored / f"{table}.csv").read_bytes(), f"{table} of the last day")
 
     def check(self, released: list[list[Path]]) -> None:
         """The last deposit passes behind those before it."""
