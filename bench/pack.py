@@ -7,7 +7,7 @@ peak memory of each call is a multiple of the full deposit.
 
     bench/pack.py [PROGRAM]
 
-PROGRAM is `escrow`. It takes less than a minute. It needs the programs that `rt run` builds in crates/escrow and
+PROGRAM is `escrow`. It takes two or three minutes. It needs the programs that `rt run` builds in crates/escrow and
 crates/deposit.
 """
 import argparse
