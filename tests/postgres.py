@@ -37,10 +37,10 @@ from collections.abc import Iterator, Sequence
 from dataclasses import dataclass
 from pathlib import Path
 
-from lib import ESCROW, LIMIT, PACKER, TABLES, TOP, Wrong, answer_of, begin, built, lines_of, notice, parser, part_name, tell
+from lib import LIMIT, TABLES, TOP, Wrong, answer_of, begin, lines_of, notice, part_name, tell
 from packing import left_out, same
 from reasons import COLUMNS
-from registry import FIRST, ran
+from registry import FIRST, ran, words_of
 
 TLD, PAGE = "example", TOP / "docs" / "REGISTRY.md"
 # The user who runs the server where root runs this script: the server does nothing for root.
@@ -433,16 +433,7 @@ def play(month: Month, domains: int, days: int, seed: int) -> int:
 
 
 def main() -> int:
-    words = parser(__doc__)
-    words.add_argument("--domains", type=int, default=20_000, metavar="N")
-    words.add_argument("--days", type=int, default=30, metavar="N")
-    words.add_argument("--seed", type=int, default=1, metavar="S")
-    words.add_argument("--packer", type=Path, default=PACKER)
-    words.add_argument("--program", type=Path, default=ESCROW)
-    asked = words.parse_args()
-    packer, program = built(asked.packer), built(asked.program)
-    # So that the server is ended, and the folder taken away.
-    signal.signal(signal.SIGTERM, lambda *_: sys.exit(1))
+    asked = words_of(__doc__, 20_000)
     programs = server_folder()
     if not programs:
         print("skipped: no server of PostgreSQL")
@@ -453,7 +444,7 @@ def main() -> int:
         folder.chmod(0o755)
         try:
             with database(programs, folder) as server:
-                month = Month(folder, server, packer, program, asked.days)
+                month = Month(folder, server, asked.packer, asked.program, asked.days)
                 passed = play(month, asked.domains, asked.days, asked.seed)
                 month.show()
         except Wrong as wrong:

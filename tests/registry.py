@@ -19,6 +19,7 @@ as one more, what follows them; it ends with the first that fails. A month takes
 """
 from __future__ import annotations
 
+import argparse
 import csv
 import datetime
 import io
@@ -390,23 +391,29 @@ def play(month: Month, days: int) -> int:
         return passed
 
 
-def main() -> int:
-    words = parser(__doc__)
-    words.add_argument("--domains", type=int, default=100_000, metavar="N")
+def words_of(text: str, domains: int) -> argparse.Namespace:
+    """The words of a call that plays the days of a registry of so many domains, and its programs, which are built."""
+    words = parser(text)
+    words.add_argument("--domains", type=int, default=domains, metavar="N")
     words.add_argument("--days", type=int, default=30, metavar="N")
     words.add_argument("--seed", type=int, default=1, metavar="S")
     words.add_argument("--packer", type=Path, default=PACKER)
     words.add_argument("--program", type=Path, default=ESCROW)
     asked = words.parse_args()
-    packer, program = built(asked.packer), built(asked.program)
+    asked.packer, asked.program = built(asked.packer), built(asked.program)
     # So that the server that runs is ended, and the folder taken away.
     signal.signal(signal.SIGTERM, lambda *_: sys.exit(1))
+    return asked
+
+
+def main() -> int:
+    asked = words_of(__doc__, 100_000)
     if not shutil.which("curl"):
         print("skipped: no curl")
         return tell(0, 0, 1)
     with tempfile.TemporaryDirectory(prefix="registry") as folder:
         registry = Registry(random.Random(asked.seed), asked.domains)
-        month = Month(Room(program, Path(folder)), packer, registry, asked.days)
+        month = Month(Room(asked.program, Path(folder)), asked.packer, registry, asked.days)
         passed = play(month, asked.days)
         month.show()
     return tell(passed, int(passed <= asked.days))

@@ -90,6 +90,13 @@ IsPackError a source base (Count table) = IsTooMany table (numbers_of a.name.kin
 IsPackError a source base Length = deposit_length_max < length (packed a (objects_in source) (base_keys base))
 IsPackError a source base Memory = ⊤
 
+-- the error is one of reading the files
+abbrev pub IsFileError : PackError → Type 0
+IsFileError (Header place) = ⊤
+IsFileError (Table t) = ⊤
+IsFileError Memory = ⊤
+IsFileError error = ⊥
+
 -- the error is one of the attributes or of the objects, and not of what the caller has given besides
 abbrev pub IsOfObjects : PackError → Type 0
 IsOfObjects (Header place) = ⊥

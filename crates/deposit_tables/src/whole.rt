@@ -180,8 +180,8 @@ fn tables_before(
 
 /// Packs the deposit of what has changed between a chain of deposits, which it continues, and the tables of a registry's
 /// files: each object that is new or changed, with all its rows, and the key of each that is gone. An incremental deposit
-/// also has what has changed since the full one. The files are those of all eight tables, and `base` is the keys that the
-/// deposit adds to.
+/// also has what has changed since the full one. The files of `source` are those of all eight tables; its deleted keys are
+/// not read. `base` is the keys that the deposit adds to.
 ///
 /// # Errors
 ///

@@ -1,13 +1,18 @@
 use Rattle.deposit_verify.specs.declared.files_reason.FileList.TheVariants.{Contents}
 use Rattle.deposit_pack.specs.Packable.{AreTableRows}
-use Rattle.deposit_pack.specs.PackErrors.{HasOwnHeader, IsPackError}
-use Rattle.deposit_pack.proofs.SourceLemmas.{each_more, error_kept, no_file, right_more, rows_more, source_error}
+use Rattle.deposit_pack.specs.PackErrors.{HasOwnHeader, IsFileError, IsPackError}
+use Rattle.deposit_pack.proofs.SourceLemmas.{each_more, error_kept, no_file, reading_error, right_more, rows_more, source_error}
 use Rattle.deposit_pack.proofs.source_reading.read_contents.Goals as goal
 
 pub returns-in_err-read_rows-clause-refused : goal.returns-in_err-read_rows-clause-refused
 returns-in_err-read_rows-clause-refused c = λ a source base same headed.
     error_kept (IsPackError a source base) c.from_residual-in_err-read_rows.result c.in_err-read_rows.field-0.0 c.from_residual-in_err-read_rows.ensures.1
     (source_error a source base Contents c.args.contents.now c.args.has_headers c.loop-place.place no_file c.in_err-read_rows.field-0.0 same headed c.loop-place-test.true c.in_err-read_rows.ensures.refused)
+
+pub returns-in_err-read_rows-clause-file : goal.returns-in_err-read_rows-clause-file
+returns-in_err-read_rows-clause-file c =
+    error_kept IsFileError c.from_residual-in_err-read_rows.result c.in_err-read_rows.field-0.0 c.from_residual-in_err-read_rows.ensures.1
+    (reading_error c.args.has_headers _ _ c.in_err-read_rows.field-0.0 c.in_err-read_rows.ensures.refused)
 
 pub loop-place-preserved : goal.loop-place-preserved
 loop-place-preserved c =

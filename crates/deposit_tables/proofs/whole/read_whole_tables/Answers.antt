@@ -23,7 +23,7 @@ pub returns-in_err-tables-clause-refused : goal.returns-in_err-tables-clause-ref
 returns-in_err-tables-clause-refused c = λ chain a base.
     let source = c.args.source.now in
     let error = c.in_err-tables.field-0.0 in
-    error_kept (IsWholeError chain a source base) c.from_residual.result (Pack error) c.from_residual.ensures.1 (inl (c.in_err-tables.ensures.refused a source (Some base) refl refl))
+    error_kept (IsWholeError chain a source base) c.from_residual.result (Pack error) c.from_residual.ensures.1 (inl (c.in_err-tables.ensures.file, c.in_err-tables.ensures.refused a source (Some base) refl refl))
 
 pub missing_key-requires : goal.missing_key-requires
 missing_key-requires c =
