@@ -14,7 +14,7 @@ use Rattle.deposit_verify.specs.declared.files_reason.FileList.{FileList}
 use Rattle.deposit_verify.specs.declared.files_reason.FileList.TheVariants.{Contents, Deletes as DeletesList}
 use Rattle.deposit_verify.specs.declared.files_reason.FilePlace.{FilePlace}
 use Rattle.deposit_pack.specs.Packing.{NamedRows, table_names, objects_in, named_rows, rows_of}
-use Rattle.deposit_pack.specs.PackErrors.{IsFileError, IsPackError, LacksHeader, RefusesRowsOf, files_in, rows_listed}
+use Rattle.deposit_pack.specs.PackErrors.{IsReadingError, IsPackError, LacksHeader, RefusesRowsOf, files_in, rows_listed}
 use Rattle.deposit_pack.specs.declared.pack_error.PackError.{PackError}
 use Rattle.deposit_pack.specs.declared.pack_error.PackError.TheVariants.{Sunday, PrevId, Deletes, Header, Table, Menu, Reference, NoBase, Count, Length, Memory}
 use Rattle.deposit_pack.specs.declared.source.Attributes.{Attributes}
@@ -112,7 +112,7 @@ each_more P files i d inside before here =
     subst (λ (n : ℕ). All P (take n files)) next (All-same P _ _ (take-suc files i d inside) (All-push P (take i files) (get_or files i d) before here))
 
 -- what is said of a file is an error of reading it
-pub reading_error : (has_headers : Bool) (file : FilePlace) (text : List ℕ) (error : PackError) → IsSourceError has_headers file text error → IsFileError error
+pub reading_error : (has_headers : Bool) (file : FilePlace) (text : List ℕ) (error : PackError) → IsSourceError has_headers file text error → IsReadingError error
 reading_error h file text (Sunday day) is = is
 reading_error h file text (PrevId kind) is = is
 reading_error h file text (Deletes kind table) is = is

@@ -91,11 +91,11 @@ IsPackError a source base Length = deposit_length_max < length (packed a (object
 IsPackError a source base Memory = ⊤
 
 -- the error is one of reading the files
-abbrev pub IsFileError : PackError → Type 0
-IsFileError (Header place) = ⊤
-IsFileError (Table t) = ⊤
-IsFileError Memory = ⊤
-IsFileError error = ⊥
+abbrev pub IsReadingError : PackError → Type 0
+IsReadingError (Header place) = ⊤
+IsReadingError (Table t) = ⊤
+IsReadingError Memory = ⊤
+IsReadingError error = ⊥
 
 -- the error is one of the attributes or of the objects, and not of what the caller has given besides
 abbrev pub IsOfObjects : PackError → Type 0

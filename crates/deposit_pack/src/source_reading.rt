@@ -7,7 +7,7 @@ ghost use Rattle.deposit_verify.specs.Deposit.{IsKeyFileOf, IsTableOf};
 ghost use Rattle.deposit_verify.specs.declared.base.Base.{Base};
 ghost use Rattle.deposit_verify.specs.declared.files_reason.FileList.TheVariants.{Contents, Deletes};
 ghost use Rattle.deposit_pack.specs.Packable.{AreKeyRows, AreTableRows};
-ghost use Rattle.deposit_pack.specs.PackErrors.{HasOwnHeader, HaveHeaders, IsFileError, IsPackError, RefusesRowsOf, header_of};
+ghost use Rattle.deposit_pack.specs.PackErrors.{HasOwnHeader, HaveHeaders, IsReadingError, IsPackError, RefusesRowsOf, header_of};
 ghost use Rattle.deposit_pack.specs.Packing.{objects_in, named_rows, rows_of};
 ghost use Rattle.deposit_pack.specs.declared.source.Attributes.{Attributes};
 ghost use Rattle.deposit_pack.specs.declared.source.Source.{Source as SourceFiles};
@@ -95,7 +95,7 @@ pub fn read_contents(
     ensures headers { IfOk result (λ _. IsTrue has_headers → All (HasOwnHeader Contents) contents.now) }
     ensures rows { IfOk result (λ tables. tables.items ≡ rows_of (map (named_rows has_headers) contents.now)) }
     ensures right { IfOk result (λ tables. All AreTableRows (map (named_rows has_headers) contents.now)) }
-    ensures file { IfErr result IsFileError }
+    ensures file { IfErr result IsReadingError }
     ensures refused { (a : Attributes) (source : SourceFiles) (base : Option Base) → source.contents.now ≡ contents.now → source.has_headers ≡ has_headers
         → IfErr result (IsPackError a source base) }
 {

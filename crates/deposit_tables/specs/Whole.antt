@@ -12,7 +12,7 @@ use Rattle.deposit_verify.specs.References.{AreReferencesKept}
 use Rattle.deposit_verify.specs.TablesReasons.{IsFirstNoKey}
 use Rattle.deposit_verify.specs.declared.base.Base.{Base}
 use Rattle.deposit_pack.specs.Packable.{IsPackable}
-use Rattle.deposit_pack.specs.PackErrors.{IsFileError, IsPackError}
+use Rattle.deposit_pack.specs.PackErrors.{IsReadingError, IsPackError}
 use Rattle.deposit_pack.specs.PackErrorText.{pack_error_text}
 use Rattle.deposit_pack.specs.Packing.{Objects, contents_rows, objects_in, packed, table_names}
 use Rattle.deposit_pack.specs.declared.source.Attributes.{Attributes}
@@ -54,7 +54,7 @@ tables_in source = contents_rows (objects_in source)
 -- the error is one of reading the files, or of packing what has changed; and it is true
 abbrev pub IsWholeError : List (List ℕ) → Attributes → Source → Base → WholeError → Type 0
 IsWholeError chain a source before (Pack error) =
-    (IsFileError error × IsPackError a source (Some before) error)
+    (IsReadingError error × IsPackError a source (Some before) error)
     ⊎ ((changed : Source) × AreChangesSince (chains_before a.name.kind chain) (tables_in source) (objects_in changed) × IsPackError a changed (Some before) error)
 IsWholeError chain a source before Tables = table_names (objects_in source).contents ≢ all_tables
 IsWholeError chain a source before (Reference missing) = IsFirstNoKey (tables_in source) missing × ¬ AreReferencesKept (tables_in source)

@@ -1,6 +1,6 @@
 use Rattle.deposit_verify.specs.declared.files_reason.FileList.TheVariants.{Contents}
 use Rattle.deposit_pack.specs.Packable.{AreTableRows}
-use Rattle.deposit_pack.specs.PackErrors.{HasOwnHeader, IsFileError, IsPackError}
+use Rattle.deposit_pack.specs.PackErrors.{HasOwnHeader, IsReadingError, IsPackError}
 use Rattle.deposit_pack.proofs.SourceLemmas.{each_more, error_kept, no_file, reading_error, right_more, rows_more, source_error}
 use Rattle.deposit_pack.proofs.source_reading.read_contents.Goals as goal
 
@@ -11,7 +11,7 @@ returns-in_err-read_rows-clause-refused c = λ a source base same headed.
 
 pub returns-in_err-read_rows-clause-file : goal.returns-in_err-read_rows-clause-file
 returns-in_err-read_rows-clause-file c =
-    error_kept IsFileError c.from_residual-in_err-read_rows.result c.in_err-read_rows.field-0.0 c.from_residual-in_err-read_rows.ensures.1
+    error_kept IsReadingError c.from_residual-in_err-read_rows.result c.in_err-read_rows.field-0.0 c.from_residual-in_err-read_rows.ensures.1
     (reading_error c.args.has_headers _ _ c.in_err-read_rows.field-0.0 c.in_err-read_rows.ensures.refused)
 
 pub loop-place-preserved : goal.loop-place-preserved
