@@ -305,21 +305,21 @@ fn incremental_parts(
     Ok(own)
 }
 
-/// The bytes of deposits.
-pub fn joined_bytes<'d>(
+/// The bytes of deposits, taken out of them.
+pub fn joined_bytes(
     alloc: Global,
-    deposits: &'d [JoinedDeposit],
-) -> Result<Vec<&'d [u8]>, AllocError> {
+    deposits: Vec<JoinedDeposit>,
+) -> Result<Vec<Vec<u8>>, AllocError> {
     deposits
-        .iter()
-        .map(|deposit| deposit.bytes.as_slice())
+        .into_iter()
+        .map(|deposit| deposit.bytes)
         .collect(alloc)
 }
 
-/// The error of a deposit that breaks the chain.
-pub fn broken_at(alloc: Global, deposit: Option<&JoinedDeposit>) -> ProgramError {
-    match deposit {
-        Some(JoinedDeposit { name, .. }) => { ProgramError::refused(alloc, Broken { name: *name }) }
+/// The error of a deposit that breaks the chain, by its name.
+pub fn broken_at(alloc: Global, name: Option<DepositName>) -> ProgramError {
+    match name {
+        Some(name) => ProgramError::refused(alloc, Broken { name }),
         None => ProgramError::Memory,
     }
 }
@@ -407,6 +407,9 @@ pub fn chain_of(
         Err(ChainFault::Order) => {
             Err(ProgramError::misused(alloc, "these deposits do not follow one another"))
         }
-        Err(ChainFault::Deposit(place)) => Err(broken_at(alloc, deposits.get(place))),
+        Err(ChainFault::Deposit(place)) => Err(broken_at(
+            alloc,
+            deposits.get(place).map(|deposit| deposit.name),
+        )),
     }
 }

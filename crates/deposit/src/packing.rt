@@ -146,16 +146,12 @@ fn packed_changes(
     };
     let attributes = attributes_after(alloc, &order.attributes, Some(&chain))?;
     show_step(rt, "comparing");
-    match pack_whole(
-        alloc,
-        &attributes,
-        source,
-        &joined_bytes(alloc, &deposits)?,
-        &chain.base,
-    ) {
+    let first = deposits.first().map(|deposit| deposit.name);
+    let joined = joined_bytes(alloc, deposits)?;
+    match pack_whole(alloc, &attributes, source, joined, &chain.base) {
         Ok(bytes) => Ok(bytes),
         Err(WholeError::Pack(PackError::Memory)) => Err(ProgramError::Memory),
-        Err(WholeError::Chain) => Err(broken_at(alloc, deposits.first())),
+        Err(WholeError::Chain) => Err(broken_at(alloc, first)),
         Err(error) => Err(ProgramError::refused(alloc, error)),
     }
 }

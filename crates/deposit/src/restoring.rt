@@ -62,12 +62,13 @@ fn print_checks(rt: &HostRuntime, deposits: &[JoinedDeposit]) -> Result<bool, Pr
     Ok(true)
 }
 
-fn restored(alloc: Global, deposits: &[JoinedDeposit]) -> Result<Vec<Rows>, ProgramError>
+fn restored(alloc: Global, deposits: Vec<JoinedDeposit>) -> Result<Vec<Rows>, ProgramError>
     ensures { IfOk result (λ tables. AreAllTables tables.items) }
 {
-    match restore(alloc, &joined_bytes(alloc, deposits)?)? {
+    let first = deposits.first().map(|deposit| deposit.name);
+    match restore(alloc, joined_bytes(alloc, deposits)?)? {
         Some(tables) => Ok(tables),
-        None => Err(broken_at(alloc, deposits.first())),
+        None => Err(broken_at(alloc, first)),
     }
 }
 
@@ -149,8 +150,7 @@ pub fn restore_files(
         return Ok(false);
     }
     show_step(rt, "restoring");
-    let tables = restored(alloc, &deposits)?;
-    drop(deposits);
+    let tables = restored(alloc, deposits)?;
     let missing = missing_key(alloc, &tables)?;
     let texts = table_texts(alloc, &tables, has_headers)?;
     let files = new_files(alloc, folder, &texts)?;

@@ -56,15 +56,17 @@ under_at (e ∷ es) (t ∷ ts) name (suc i) d inside before same =
     ∙ under_at es ts name i d (omega (arith, inside)) (λ k below. before (suc k) (omega (arith, below))) same
 
 -- of all tables, the rows under a name are those at its place
-pub under_all : (fs : List NamedRows) → table_names fs ≡ all_tables → (name : TableName) → rows_under (map packed_entry fs) (rows_of fs) name ≡ table_of (rows_of fs) name
-under_all fs same name =
-    let named : map (λ (e : FileEntry). e.name) (map packed_entry fs) ≡ all_tables = names_entered fs ∙ same in
-    let eight : length (map packed_entry fs) ≡ 8 = sym (length-map (map packed_entry fs) (λ (e : FileEntry). e.name)) ∙ ap length named in
+pub under_entries : (es : List FileEntry) (ts : List (List (List (List ℕ)))) → map (λ e. e.name) es ≡ all_tables → (name : TableName) → rows_under es ts name ≡ table_of ts name
+under_entries es ts named name =
+    let eight : length es ≡ 8 = sym (length-map es (λ (e : FileEntry). e.name)) ∙ ap length named in
     let place = all_tables_right name Domain in
-    let at : (k : ℕ) → k < 8 → table_place (get_or (map packed_entry fs) k no_entry).name ≡ k = λ k below. listed_at (map packed_entry fs) k no_entry (omega (arith, eight, below)) below named in
-    under_at (map packed_entry fs) (rows_of fs) name (table_place name) no_entry (omega (arith, eight, place.0))
+    let at : (k : ℕ) → k < 8 → table_place (get_or es k no_entry).name ≡ k = λ k below. listed_at es k no_entry (omega (arith, eight, below)) below named in
+    under_at es ts name (table_place name) no_entry (omega (arith, eight, place.0))
     (λ k below is. omega (arith, below, sym (at k (omega (arith, below, place.0))) ∙ is))
     (at (table_place name) place.0)
+
+pub under_all : (fs : List NamedRows) → table_names fs ≡ all_tables → (name : TableName) → rows_under (map packed_entry fs) (rows_of fs) name ≡ table_of (rows_of fs) name
+under_all fs same = under_entries (map packed_entry fs) (rows_of fs) (names_entered fs ∙ same)
 
 -- all eight tables, with their columns
 pub all_eight : (fs : List NamedRows) → table_names fs ≡ all_tables → All AreTableRows fs → AreAllTables (rows_of fs)

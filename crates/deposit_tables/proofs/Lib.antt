@@ -15,6 +15,7 @@ pub mod Computed
 pub mod RenewedKeys
 pub mod TablesThen
 pub mod ChainTables
+pub mod ChainsBefore
 pub mod RowsFound
 pub mod KeysChanged
 pub mod KeysOnce

@@ -1,9 +1,10 @@
 -- All tables after a later deposit of a chain.
-use Rattle.std.proofs.Common.{◌≡◌, ◌⊎◌, ◌<◌, ◌+◌, ◌-◌, ◌++◌, ◌∷◌, ◌∙◌, [], ℕ, Bool, List, Option, Some, None, ap, arith, cond, false, get_or, inl, inr, length, option_and_then, refl, subst, sym, true, ◌==◌}
-use mathlib.Core.Bool.{beq, not}
+use Rattle.std.proofs.Common.{◌≡◌, ◌⊎◌, ◌<◌, ◌+◌, ◌-◌, ◌++◌, ◌∷◌, ◌∙◌, [], ℕ, Bool, List, Option, Some, None, ap, arith, cond, false, get_or, inl, inr, length, map, option_and_then, refl, subst, sym, true, ◌==◌}
 use Rattle.std.specs.Prelude.{MatchOption}
 use Rattle.std.proofs.lemmas.Bool.Decides.{Decides-eqb}
-use Rattle.std.proofs.lemmas.List.{get_or_append_left, get_or-append_right, get_or_default}
+use Rattle.std.proofs.lemmas.List.{get_or_append_left, get_or-append_right, get_or_default, length-map}
+use Rattle.deposit_name.proofs.KindLemmas.{same_kind_decides}
+use Rattle.deposit_name.specs.declared.kinds.Kind.TheVariants.{Full}
 use Rattle.deposit_name.specs.declared.table.TableName.{TableName}
 use Rattle.dnrd_csv.specs.Readers.{IsTableReader}
 use Rattle.dnrd_csv.specs.Table.{HaveWidth, columns_of, key_columns_of}
@@ -12,7 +13,7 @@ use Rattle.envelope.specs.declared.envelope.FileEntry.{FileEntry}
 use Rattle.deposit_verify.specs.Bases.{DepositReading, after_first, after_later, base_after, base_of_first, base_then, no_keys, reading_at}
 use Rattle.deposit_verify.specs.Chain.{IsBase, IsFirstOfChain, IsLaterOfChain}
 use Rattle.deposit_verify.specs.Deposit.{contents_files}
-use Rattle.deposit_verify.specs.Places.{table_place}
+use Rattle.deposit_verify.specs.Places.{all_tables, table_place}
 use Rattle.deposit_verify.specs.Rows.{rows_under}
 use Rattle.deposit_verify.specs.Tables.{AreAllTables, table_of}
 use Rattle.deposit_verify.specs.Verdict.{is_full, rows_at, tables_at}
@@ -22,8 +23,8 @@ use Rattle.deposit_verify.proofs.BaseLemmas.{first_law, reading_found, then_law}
 use Rattle.deposit_verify.proofs.FilesDecided.{each_parts}
 use Rattle.deposit_verify.proofs.HeaderDecided.{same_place}
 use Rattle.deposit_verify.proofs.Judged.{all_tables_right}
+use Rattle.deposit_pack.proofs.EnvelopeLemmas.{all_named, under_entries}
 use Rattle.deposit_tables.specs.Restored.{HasRowsOf}
-use Rattle.deposit_tables.specs.inside.Restoring.{IsLink}
 use Rattle.deposit_tables.specs.RowsAfter.{renewed_by, deposit_rows, tables_after}
 use Rattle.deposit_tables.proofs.Computed.{tables_are}
 use Rattle.deposit_tables.proofs.Decisions.{Rows}
@@ -44,18 +45,6 @@ under_wide reader name (e ∷ es) (f ∷ fs) (t ∷ ts) whole = by (table_place 
         let named : e.name ≡ name = same_place e.name name ((Decides-eqb (table_place e.name) (table_place name)).0 same) in
         subst (λ (n : TableName). HaveWidth (length (columns_of n)) t) named ((reader.some (columns_of e.name) (key_columns_of e.name) f t).0 parts.0).columns_right
     by false same rest = rest
-
-pub same_if : (one other : Bool) → not (beq one other) ≡ false → one ≡ other
-same_if true true e = refl
-same_if true false e = cc e
-same_if false true e = cc e
-same_if false false e = refl
-
-pub apart_if : (one other : Bool) → not (beq one other) ≡ true → one ≡ other → ⊥
-apart_if true true e same = cc e
-apart_if true false e same = cc same
-apart_if false true e same = cc same
-apart_if false false e same = cc e
 
 -- this holds of the tables, or lists of keys, at the places so far, and of one more
 abbrev pub HoldsSoFar : {X : Type 0} → List (List X) → (TableName → List X → Type 0) → ℕ → Type 0
@@ -93,18 +82,14 @@ module _ (readers : AreReaders) (reader : IsTableReader) (one : OneReading) (joi
   base_first : (found : Option Base) → base_of_first joined ≡ found → MatchOption found (¬ IsFirstOfChain joined) (IsBase (joined ∷ []))
   base_first found is = subst (λ (b : Option Base). MatchOption b (¬ IsFirstOfChain joined) (IsBase (joined ∷ []))) is (first_law readers reader one joined)
 
-  not_first : reading_at joined ≡ None → ¬ IsFirstOfChain joined
+  pub not_first : reading_at joined ≡ None → ¬ IsFirstOfChain joined
   not_first none = base_first None (ap (option_and_then after_first) none)
 
-  not_read : reading_at joined ≡ None → ¬ IsLaterOfChain joined
+  pub not_read : reading_at joined ≡ None → ¬ IsLaterOfChain joined
   not_read none later =
       let e : cond false (Some no_keys) None ≡ base_then no_keys joined = sym (ap (option_and_then (after_later no_keys)) none) in
       let law = then_law readers reader one joined no_keys no_keys false e in
       let clash : false ≡ true = law.0.1 later in cc clash
-
-  pub unread_no_link : (first : Bool) → reading_at joined ≡ None → ¬ IsLink first joined
-  unread_no_link true none = not_first none
-  unread_no_link false none = not_read none
 
   module _ (r : DepositReading) (at : reading_at joined ≡ Some r) where
     abbrev kind_full : Bool
@@ -116,39 +101,39 @@ module _ (readers : AreReaders) (reader : IsTableReader) (one : OneReading) (joi
     first_is : (b : Bool) → kind_full ≡ b → base_of_first joined ≡ cond b (Some (base_after no_keys r)) None
     first_is b is = ap (option_and_then after_first) at ∙ ap (λ (f : Bool). cond f (Some (base_after no_keys r)) None) is
 
-    is_first : kind_full ≡ true → IsFirstOfChain joined
+    pub is_first : kind_full ≡ true → IsFirstOfChain joined
     is_first full = (base_first (Some (base_after no_keys r)) (first_is true full)).chained.0
 
-    not_full : kind_full ≡ false → ¬ IsFirstOfChain joined
+    pub not_full : kind_full ≡ false → ¬ IsFirstOfChain joined
     not_full partial = base_first None (first_is false partial)
 
-    not_partial : kind_full ≡ true → ¬ IsLaterOfChain joined
+    pub not_partial : kind_full ≡ true → ¬ IsLaterOfChain joined
     not_partial full later =
         let law = then_law readers reader one joined no_keys no_keys false (sym (then_is true full)) in
         let clash : false ≡ true = law.0.1 later in cc clash
 
-    is_later : kind_full ≡ false → IsLaterOfChain joined
+    pub is_later : kind_full ≡ false → IsLaterOfChain joined
     is_later partial = (then_law readers reader one joined no_keys (base_after no_keys r) true (sym (then_is false partial))).0.0 refl
-
-    -- it is a link of a chain just where it is full as the first is, or not full as the later ones are
-    pub is_link : (first : Bool) → kind_full ≡ first → IsLink first joined
-    is_link true full = is_first full
-    is_link false partial = is_later partial
-
-    pub no_link : (first : Bool) → (kind_full ≡ first → ⊥) → IsLink first joined → ⊥
-    no_link true apart link = by kind_full refl
-      where
-        by : (b : Bool) → kind_full ≡ b → ⊥
-        by true is = apart is
-        by false is = not_full is link
-    no_link false apart link = by kind_full refl
-      where
-        by : (b : Bool) → kind_full ≡ b → ⊥
-        by true is = not_partial is link
-        by false is = apart is
 
     pub wide_in : (name : TableName) → HaveWidth (length (columns_of name)) (deposit_rows r name)
     wide_in name = let h = reading_found readers joined r at in under_wide reader name r.envelope.contents (contents_files r.envelope h.files) r.tables h.tables
+
+    -- the tables of a full deposit are those of contents, at their places
+    module _ (full : kind_full ≡ true) where
+      names : map (λ (e : FileEntry). e.name) r.envelope.contents ≡ all_tables
+      names = all_named r.envelope.kind (map (λ (e : FileEntry). e.name) r.envelope.contents) ((same_kind_decides r.envelope.kind Full).0 full) (reading_found readers joined r at).menu.contents
+
+      there : (name : TableName) → deposit_rows r name ≡ table_of r.tables name
+      there = under_entries r.envelope.contents r.tables names
+
+      pub full_tables : length r.tables ≡ length r.envelope.contents → AreAllTables r.tables
+      full_tables count = record {
+        eight = count ∙ sym (length-map r.envelope.contents (λ (e : FileEntry). e.name)) ∙ ap length names;
+        columns_right = λ name. subst (HaveWidth (length (columns_of name))) (there name) (wide_in name);
+      }
+
+      pub first_rows : HasRowsOf (joined ∷ []) (table_of r.tables)
+      first_rows = let path : deposit_rows r ≡ table_of r.tables = λ i name. there name i in subst (HasRowsOf (joined ∷ [])) path ((tables_are readers reader one).first joined r at)
 
     module _ (before after : List Rows) (all : AreAllTables before) (eight : length after ≡ 8) (each : (name : TableName) → table_of after name ≡ tables_after (table_of before) r name) where
       pub all_after : AreAllTables after

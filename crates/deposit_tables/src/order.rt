@@ -7,8 +7,7 @@ ghost use Rattle.dnrd_csv.specs.inside.RowKeys.{borrowed_texts};
 ghost use Rattle.deposit_tables.specs.Restored.{RowsAscend, row_cmp};
 ghost use Rattle.deposit_tables.specs.inside.Places.{ArePlaces, is_below, six_fields};
 
-use crate::copies::{push_row, rows_of_fields};
-use csv::ByteRecord;
+use crate::copies::{push_row, room_for, rows_of_fields};
 use dnrd_csv::Rows;
 use std::alloc::{AllocError, Global};
 use std::cmp::Ordering;
@@ -100,7 +99,7 @@ pub(crate) fn sorted_rows(alloc: Global, rows: &Rows, width: usize) -> Result<Ro
     ensures same { IfOk result (λ sorted. (row : List (List ℕ)) → Contains sorted row ↔ Contains rows.now row) }
 {
     let places = sorted_places(alloc, rows, width)?;
-    let mut fields = ByteRecord::new(alloc);
+    let mut fields = room_for(alloc, rows, width)?;
     for i in 0..places.len() {
         if !is_repeat(rows, width, &places, i) {
             push_row(rows, places[i], width, &mut fields)?;

@@ -7,7 +7,7 @@ ghost use Rattle.dnrd_csv.specs.inside.RowKeys.{borrowed_texts};
 ghost use Rattle.deposit_verify.specs.inside.SortedKeys.{borrowed_text_cmp};
 ghost use Rattle.deposit_tables.specs.RowsAfter.{is_kept, rows_after};
 
-use crate::copies::{push_row, rows_of_fields};
+use crate::copies::{push_row, room_for_both, rows_of_fields};
 use csv::ByteRecord;
 use dnrd_csv::Rows;
 use std::alloc::{AllocError, Global};
@@ -89,7 +89,7 @@ pub(crate) fn rows_after(
     requires sorted { IsSorted borrowed_text_cmp renewed.now }
     ensures { IfOk result (λ rows. rows ≡ rows_after before.now contained.now (borrowed_texts renewed.now)) }
 {
-    let mut fields = ByteRecord::new(alloc);
+    let mut fields = room_for_both(alloc, before, contained, width)?;
     push_kept(before, width, renewed, &mut fields)?;
     push_kept(contained, width, &[], &mut fields)?;
     Ok(rows_of_fields(fields, width))

@@ -23,7 +23,7 @@ ghost use Rattle.deposit_tables.specs.inside.Packing.{MayBeWritten, ArePackedCha
 use crate::changes::{Changes, changes_since};
 use crate::laws::law_restored;
 use crate::owners::table_name_at;
-use crate::restoring::restore;
+use crate::restoring::{restore, restore_full};
 use crate::whole_error::WholeError;
 use deposit_name::{Kind, TableName};
 use deposit_pack::{Attributes, PackError, Source, TableFile, pack, read_contents};
@@ -158,15 +158,15 @@ fn read_whole_tables(alloc: Global, source: &Source<'_>) -> Result<Vec<Rows>, Wh
 fn tables_before(
     alloc: Global,
     kind: Kind,
-    chain: &[&[u8]],
+    chain: Vec<Vec<u8>>,
 ) -> Result<Option<Vec<Vec<Rows>>>, AllocError>
-    ensures chained { IfOk result (λ found. MatchOption found (¬ IsChain (map (λ d. d.now) chain.now)) (λ _. IsChain (map (λ d. d.now) chain.now))) }
+    ensures chained { IfOk result (λ found. MatchOption found (¬ IsChain (map (λ d. d.items) chain.items)) (λ _. IsChain (map (λ d. d.items) chain.items))) }
     ensures all { IfOk result (λ found. IfSome found (λ olds. All (λ old. AreAllTables old.items) olds.items)) }
-    ensures restored { IfOk result (λ found. IfSome found (λ olds. AllZip AreTablesOf (chains_before kind (map (λ d. d.now) chain.now)) (map (λ old. table_of old.items) olds.items))) }
+    ensures restored { IfOk result (λ found. IfSome found (λ olds. AllZip AreTablesOf (chains_before kind (map (λ d. d.items) chain.items)) (map (λ old. table_of old.items) olds.items))) }
 {
     let mut olds = Vec::with_capacity(alloc, 2)?;
     if kind == Kind::Incr && chain.len() > 1 {
-        match restore(alloc, &chain[..1])? {
+        match restore_full(alloc, &chain[0])? {
             Some(tables) => olds.push(tables)?,
             None => return Ok(None),
         }
@@ -181,7 +181,7 @@ fn tables_before(
 /// Packs the deposit of what has changed between a chain of deposits, which it continues, and the tables of a registry's
 /// files: each object that is new or changed, with all its rows, and the key of each that is gone. An incremental deposit
 /// also has what has changed since the full one. The files of `source` are those of all eight tables; its deleted keys are
-/// not read. `base` is the keys that the deposit adds to.
+/// not read. `base` is the keys that the deposit adds to. The deposits of the chain are freed before the files are read.
 ///
 /// # Errors
 ///
@@ -190,19 +190,19 @@ pub fn pack_whole(
     alloc: Global,
     attributes: &Attributes,
     source: &Source<'_>,
-    chain: &[&[u8]],
+    chain: Vec<Vec<u8>>,
     base: &Base,
 ) -> Result<Vec<u8>, WholeError>
     // It is the deposit of what has changed.
-    ensures packed { IfOk result (λ bytes. IsPackedSince (map (λ d. d.now) chain.now) attributes.now (tables_in source.entry.now) base.now bytes.items) }
+    ensures packed { IfOk result (λ bytes. IsPackedSince (map (λ d. d.items) chain.items) attributes.now (tables_in source.entry.now) base.now bytes.items) }
     ensures length { IfOk result (λ bytes. length bytes.items ≤ deposit_length_max) }
     // The files are those of all tables, each with its header where they have any, and whatever an object names is there.
     ensures named { IfOk result (λ _. table_names (objects_in source.entry.now).contents ≡ all_tables) }
     ensures headers { IfOk result (λ _. IsTrue source.entry.now.has_headers → All (HasOwnHeader Contents) source.entry.now.contents.now) }
     ensures kept { IfOk result (λ _. AreReferencesKept (tables_in source.entry.now)) }
     // The deposits are a chain.
-    ensures chained { IfOk result (λ _. IsChain (map (λ d. d.now) chain.now)) }
-    ensures refused { IfErr result (IsWholeError (map (λ d. d.now) chain.now) attributes.now source.entry.now base.now) }
+    ensures chained { IfOk result (λ _. IsChain (map (λ d. d.items) chain.items)) }
+    ensures refused { IfErr result (IsWholeError (map (λ d. d.items) chain.items) attributes.now source.entry.now base.now) }
 {
     law_restored();
     let Some(olds) = tables_before(alloc, attributes.name.kind, chain)? else {

@@ -12,8 +12,8 @@ loop-i-init c = (
   [],
   none_kept c.args.rows.now c.in_ok-places.places.items,
   λ k d inside. absurd (omega (arith, inside)),
-  c.new-fields.ensures.fields,
-  c.new-fields.ensures.partial,
+  c.in_ok-fields.ensures.fields,
+  c.in_ok-fields.ensures.partial,
   omega arith,
 )
 

@@ -6,8 +6,8 @@ use Rattle.deposit_tables.proofs.restoring.tables_of_chain.Given as goal
 
 abbrev pub invariant-loop-joined : goal.invariant-loop-joined
 invariant-loop-joined l = record {
-  first : IsFirstOfChain l.first;
+  first : IsFirstOfChain l.fn.first.items;
   all : AreAllTables l.tables.items;
-  rows : HasRowsOf (l.first ∷ take l.joined-index (map (λ d. d.now) l.later)) (table_of l.tables.items);
-  links : All IsLaterOfChain (take l.joined-index (map (λ d. d.now) l.later));
+  rows : HasRowsOf (l.fn.first.items ∷ take l.joined-index (map (λ d. d.items) l.later)) (table_of l.tables.items);
+  links : All IsLaterOfChain (take l.joined-index (map (λ d. d.items) l.later));
 }

@@ -11,7 +11,7 @@ rows_of_fields-requires-clause-rows c =
     let renewed = borrowed_texts c.args.renewed.now in (
       rows_after before contained renewed,
       after_wide c.args.width before contained renewed c.requires.before c.requires.contained,
-      after_fields before contained renewed (fields_of c.new-fields.result) (fields_of c.push_kept.new.fields) (fields_of c.push_kept-2.new.fields) c.new-fields.ensures.fields c.in_ok-push_kept.ensures.fields
+      after_fields before contained renewed (fields_of c.in_ok-fields.fields) (fields_of c.push_kept.new.fields) (fields_of c.push_kept-2.new.fields) c.in_ok-fields.ensures.fields c.in_ok-push_kept.ensures.fields
           c.in_ok-push_kept-2.ensures.fields,
     )
 
@@ -21,5 +21,5 @@ returns c =
     let contained = c.args.contained.now in
     let renewed = borrowed_texts c.args.renewed.now in
     c.rows_of_fields.ensures (rows_after before contained renewed) (after_wide c.args.width before contained renewed c.requires.before c.requires.contained)
-    (after_fields before contained renewed (fields_of c.new-fields.result) (fields_of c.push_kept.new.fields) (fields_of c.push_kept-2.new.fields) c.new-fields.ensures.fields c.in_ok-push_kept.ensures.fields
+    (after_fields before contained renewed (fields_of c.in_ok-fields.fields) (fields_of c.push_kept.new.fields) (fields_of c.push_kept-2.new.fields) c.in_ok-fields.ensures.fields c.in_ok-push_kept.ensures.fields
     c.in_ok-push_kept-2.ensures.fields)

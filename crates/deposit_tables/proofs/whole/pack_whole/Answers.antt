@@ -14,7 +14,7 @@ use Rattle.deposit_tables.proofs.whole.pack_whole.Goals as goal
 
 pub pack_changes-requires : goal.pack_changes-requires
 pack_changes-requires c =
-    let chain = map (λ d. d.now) c.args.chain.now in
+    let chain = map (λ d. d.items) c.args.chain.items in
     let a : Attributes = c.args.attributes.now in
     let source = c.args.source.now in
     let new = tables_in source in
@@ -30,13 +30,13 @@ pack_changes-requires c =
 
 pub returns-in_err-new-clause-refused : goal.returns-in_err-new-clause-refused
 returns-in_err-new-clause-refused c =
-    let chain = map (λ d. d.now) c.args.chain.now in
+    let chain = map (λ d. d.items) c.args.chain.items in
     error_kept (IsWholeError chain c.args.attributes.now c.args.source.now c.args.base.now) c.from_residual-in_err-new.result c.in_err-new.field-0.0 c.from_residual-in_err-new.ensures.1
     (c.in_err-new.ensures.refused chain c.args.attributes.now c.args.base.now)
 
 pub returns-in_err-pack_changes-clause-refused : goal.returns-in_err-pack_changes-clause-refused
 returns-in_err-pack_changes-clause-refused c =
-    let chain = map (λ d. d.now) c.args.chain.now in
+    let chain = map (λ d. d.items) c.args.chain.items in
     let a : Attributes = c.args.attributes.now in
     let source = c.args.source.now in
     let new = tables_in source in
@@ -53,7 +53,7 @@ returns-in_err-pack_changes-clause-refused c =
 
 pub returns-clause-packed : goal.returns-clause-packed
 returns-clause-packed c =
-    let chain = map (λ d. d.now) c.args.chain.now in
+    let chain = map (λ d. d.items) c.args.chain.items in
     let a : Attributes = c.args.attributes.now in
     let source = c.args.source.now in
     let new = tables_in source in
